@@ -1,0 +1,39 @@
+-- Keys, items and the weights of a list of items.
+use Rattle.std.specs.Prelude.{ℕ, ◌≤◌, ◌<◌, Bool, cond, List, length, sum_by, EachIndex, slice_index}
+use Rattle.std.specs.declared.cmp.Ordering.{Ordering}
+use Rattle.std.specs.Ordering.{nat_cmp, eq_by_cmp}
+use Rattle.std.specs.Cmp.Lexicographic.{slice_cmp}
+
+-- the bytes of a key
+abbrev pub Bytes : Type 0
+Bytes = List ℕ
+
+-- a key has 1 to 255 bytes
+pub record IsKey (x : Bytes) : Type 0 where
+  pub some : 1 ≤ length x
+  pub few : length x ≤ 255
+  pub bytes : EachIndex x (λ i. slice_index x i < 256)
+
+-- the order of keys: byte by byte, and a proper prefix before the longer key
+abbrev pub key_cmp : Bytes → Bytes → Ordering
+key_cmp x y = slice_cmp nat_cmp x y
+
+-- whether two keys are one
+abbrev pub same_key : Bytes → Bytes → Bool
+same_key x y = eq_by_cmp key_cmp x y
+
+-- a key and a number: an item with its weight, or a counter
+abbrev pub Entry : Type 0
+Entry = Bytes × ℕ
+
+-- what an entry adds at the key x
+abbrev pub at_key : Bytes → Entry → ℕ
+at_key x e = cond (same_key x e.0) e.1 0
+
+-- the sum of the weights at the key x. Of counters, in which no key comes twice, it is x's counter, and 0 where there is none
+abbrev pub weight_of : Bytes → List Entry → ℕ
+weight_of x xs = sum_by (at_key x) xs
+
+-- the sum of all weights, or of all counters
+abbrev pub total_of : List Entry → ℕ
+total_of xs = sum_by (λ e. e.1) xs

@@ -1,0 +1,143 @@
+//! Keys: 1 to 255 bytes.
+
+ghost use Rattle.std.specs.Prelude.{◌≡◌, ◌<◌, ◌≤◌, ◌↔◌, ℕ, length, IsOk, IfOk, IsErrOf, EachIndex, slice_index, refl};
+ghost use Rattle.std.proofs.Common.{ap};
+ghost use Rattle.std.specs.FinMap.{nat_cmp-IsAntisymmetric, slice_cmp-IsAntisymmetric};
+ghost use Rattle.std.specs.Cmp.{partial_equiv_from_equiv, partial_order_from_total, eq_by_cmp_equiv, Equal-is};
+ghost use Rattle.std.specs.Cmp.Lexicographic.{slice_cmp, nat_list_cmp_total};
+ghost use Rattle.std.specs.Ordering.{nat_cmp, as_partial_cmp};
+ghost use Rattle.std.specs.Hash as fed;
+ghost use Rattle.hh_stream.specs.Weights.{IsKey, key_cmp, same_key};
+
+use smallvec::SmallVec;
+use std::alloc::{AllocError, Global};
+use std::cmp::Ordering;
+use std::hash::{Hash, Hasher};
+use std::marker::Model;
+
+/// The most bytes that a key has.
+pub const MAX_KEY_LEN: usize = 255;
+
+/// The most bytes of a key that takes no memory of its own.
+pub const INLINE_LEN: usize = 24;
+
+/// A key: 1 to 255 bytes. Keys are equal, ordered and hashed by their bytes, and a proper prefix
+/// stands before the longer key. A contract sees a key as the list of its bytes.
+///
+/// A key of up to [`INLINE_LEN`] bytes lies in the value itself.
+#[derive(Debug, Drop)]
+pub struct Key {
+    bytes: SmallVec<u8, 24>,
+}
+
+impl Model for Key {
+    ghost use Rattle.hh_stream.specs.Weights.{Bytes, IsKey};
+
+    ghost Value = { Bytes };
+
+    ghost view = { λ key. key.bytes.items };
+
+    ghost invariant = { λ key. IsKey key.bytes.items };
+}
+
+/// Why bytes are no key.
+#[derive(Clone, Copy, Debug, PartialEq, Eq)]
+pub enum KeyFault {
+    /// There are none.
+    Empty,
+    /// There are more than 255.
+    TooLong,
+    /// The allocator had no memory.
+    Memory,
+}
+
+impl Key {
+    /// The key with these bytes, which are copied.
+    pub fn new(alloc: Global, bytes: &[u8]) -> Result<Key, KeyFault>
+        ensures key { IfOk result (λ key. key ≡ bytes.now) }
+        ensures empty { IsErrOf result KeyFault.Empty ↔ (length bytes.now ≡ 0) }
+        ensures too_long { IsErrOf result KeyFault.TooLong ↔ (MAX_KEY_LEN < length bytes.now) }
+
+        // a short key takes no memory
+        ensures short { 0 < length bytes.now → length bytes.now ≤ INLINE_LEN → IsOk result }
+    {
+        if bytes.is_empty() {
+            return Err(KeyFault::Empty);
+        }
+        if bytes.len() > MAX_KEY_LEN {
+            return Err(KeyFault::TooLong);
+        }
+        match SmallVec::from_slice(alloc, bytes) {
+            Ok(bytes) => Ok(Key { bytes }),
+            Err(_) => Err(KeyFault::Memory),
+        }
+    }
+
+    /// The bytes of the key.
+    pub fn bytes(&self) -> &[u8]
+        ensures bytes { result.now ≡ self.now }
+        ensures key { IsKey self.now }
+    {
+        self.bytes.as_slice()
+    }
+
+    /// An equal key.
+    pub fn copy(&self) -> Result<Key, AllocError>
+        ensures equal { IfOk result (λ key. key ≡ self.now) }
+
+        // a short key takes no memory
+        ensures short { length self.now ≤ INLINE_LEN → IsOk result }
+    {
+        Ok(Key {
+            bytes: SmallVec::from_slice(*self.bytes.allocator(), self.bytes.as_slice())?,
+        })
+    }
+}
+
+impl PartialEq for Key {
+    ghost eq = { same_key };
+
+    ghost laws = { partial_equiv_from_equiv (eq_by_cmp_equiv nat_list_cmp_total) };
+
+    fn eq(&self, other: &Key) -> bool {
+        self.bytes() == other.bytes()
+    }
+}
+
+impl Eq for Key {
+    ghost laws = { eq_by_cmp_equiv nat_list_cmp_total };
+}
+
+impl PartialOrd for Key {
+    ghost partial_cmp = { as_partial_cmp key_cmp };
+
+    ghost laws = { partial_order_from_total nat_list_cmp_total };
+
+    fn partial_cmp(&self, other: &Key) -> Option<Ordering> {
+        Some(self.cmp(other))
+    }
+}
+
+impl Ord for Key {
+    ghost cmp = { key_cmp };
+
+    ghost total = { nat_list_cmp_total };
+
+    ghost matches_partial_cmp = { λ x y. refl };
+
+    ghost matches_eq = { λ x y. refl };
+
+    fn cmp(&self, other: &Key) -> Ordering {
+        self.bytes().cmp(other.bytes())
+    }
+}
+
+impl Hash for Key {
+    ghost hash_input = { fed.slice fed.u8 };
+
+    ghost respects_eq = { λ x y e. ap (fed.slice fed.u8) (slice_cmp-IsAntisymmetric nat_cmp-IsAntisymmetric x y ((Equal-is (slice_cmp nat_cmp x y)).0 e)) };
+
+    fn hash<H: Hasher>(&self, state: &mut H) {
+        self.bytes().hash(state);
+    }
+}

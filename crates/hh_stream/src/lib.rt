@@ -1,0 +1,10 @@
+//! Keys, weighted items, and streams of them.
+#![tactic(auto)]
+
+mod key;
+mod stream;
+#[cfg(test)]
+mod tests;
+
+pub use key::{INLINE_LEN, Key, KeyFault, MAX_KEY_LEN};
+pub use stream::{Item, MAX_TOTAL, PushFault, PushRefused, Stream};

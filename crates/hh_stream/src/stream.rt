@@ -1,0 +1,161 @@
+//! Weighted items, and the streams that hold them in order.
+
+ghost use Rattle.std.specs.Prelude.{◌≡◌, ◌+◌, ◌<◌, ◌≤◌, ◌↔◌, ◌++◌, ◌∷◌, [], length, ◌==◌, OnOk, OnErr, IfErr, IsErrAnd};
+ghost use Rattle.hh_stream.specs.Weights.{total_of};
+
+use crate::key::Key;
+use std::alloc::Global;
+use std::marker::Model;
+
+/// The largest total weight of a stream: 2^63 - 1.
+pub const MAX_TOTAL: u64 = 9_223_372_036_854_775_807;
+
+/// A key with a weight of at least 1. A contract sees the pair of the key's bytes and the weight.
+#[derive(Debug, Drop)]
+pub struct Item {
+    key: Key,
+    weight: u64,
+}
+
+impl Model for Item {
+    ghost use Rattle.std.specs.Prelude.{◌<◌};
+    ghost use Rattle.hh_stream.specs.Weights.{Entry};
+
+    ghost Value = { Entry };
+
+    ghost view = { λ item. (item.key, item.weight) };
+
+    ghost invariant = { λ item. 0 < item.weight };
+}
+
+impl Item {
+    /// The key.
+    pub fn key(&self) -> &Key
+        ensures { result.now ≡ self.now.0 }
+    {
+        &self.key
+    }
+
+    /// The weight.
+    pub fn weight(&self) -> u64
+        ensures weight { result ≡ self.now.1 }
+        ensures positive { 0 < result }
+    {
+        self.weight
+    }
+}
+
+/// Items in order, whose weights add up to at most [`MAX_TOTAL`]. A contract sees the list of the
+/// items.
+#[derive(Debug, Drop)]
+pub struct Stream {
+    items: Vec<Item>,
+    total: u64,
+}
+
+impl Model for Stream {
+    ghost use Rattle.std.specs.Prelude.{List, ◌≡◌, ◌<◌, ◌^◌};
+    ghost use Rattle.hh_stream.specs.Weights.{Entry, total_of};
+
+    ghost Value = { List Entry };
+
+    ghost view = { λ stream. stream.items.items };
+
+    ghost invariant = { λ stream. (stream.total ≡ total_of stream.items.items) × (stream.total < 2 ^ 63) };
+}
+
+/// Why an item was not pushed.
+#[derive(Clone, Copy, Debug, PartialEq, Eq)]
+pub enum PushFault {
+    /// The weight is 0.
+    ZeroWeight,
+    /// The total would be above [`MAX_TOTAL`].
+    TotalTooLarge,
+    /// The allocator had no memory.
+    Memory,
+}
+
+/// A push that was refused, with the key handed back.
+#[derive(Debug, Drop)]
+pub struct PushRefused {
+    pub key: Key,
+    pub fault: PushFault,
+}
+
+impl Stream {
+    /// The empty stream.
+    pub fn new(alloc: Global) -> Stream
+        ensures { result ≡ [] }
+    {
+        Stream {
+            items: Vec::new(alloc),
+            total: 0,
+        }
+    }
+
+    /// Puts an item last. After a refusal the stream is as it was.
+    pub fn push(&mut self, key: Key, weight: u64) -> Result<(), PushRefused>
+        ensures pushed { OnOk result (self.new ≡ self.old ++ (key, weight) ∷ []) }
+        ensures unchanged { OnErr result (self.new ≡ self.old) }
+        ensures handed_back { IfErr result (λ refused. refused.key ≡ key) }
+
+        ensures zero_weight { IsErrAnd result (λ refused. refused.fault ≡ PushFault.ZeroWeight) ↔ (weight ≡ 0) }
+        ensures too_large { IsErrAnd result (λ refused. refused.fault ≡ PushFault.TotalTooLarge) ↔ ((0 < weight) × (MAX_TOTAL < total_of self.old + weight)) }
+    {
+        if weight == 0 {
+            return Err(PushRefused {
+                key,
+                fault: PushFault::ZeroWeight,
+            });
+        }
+        if weight > MAX_TOTAL - self.total {
+            return Err(PushRefused {
+                key,
+                fault: PushFault::TotalTooLarge,
+            });
+        }
+        match self.items.push(Item { key, weight }) {
+            Ok(()) => {
+                self.total += weight;
+                Ok(())
+            }
+            Err(failed) => {
+                let Item { key, weight: _ } = failed.value;
+                Err(PushRefused {
+                    key,
+                    fault: PushFault::Memory,
+                })
+            }
+        }
+    }
+
+    /// How many items there are.
+    pub fn len(&self) -> usize
+        ensures { result ≡ length self.now }
+    {
+        self.items.len()
+    }
+
+    /// Whether there is no item.
+    pub fn is_empty(&self) -> bool
+        ensures { result ≡ (length self.now == 0) }
+    {
+        self.items.is_empty()
+    }
+
+    /// The sum of all weights.
+    pub fn total(&self) -> u64
+        ensures total { result ≡ total_of self.now }
+        ensures bounded { result ≤ MAX_TOTAL }
+    {
+        self.total
+    }
+
+    /// The items, in order.
+    pub fn items(&self) -> &[Item]
+        ensures items { result.now ≡ self.now }
+        ensures bounded { total_of self.now ≤ MAX_TOTAL }
+    {
+        self.items.as_slice()
+    }
+}
