@@ -8,10 +8,17 @@ use Rattle.std.specs.Cmp.Lexicographic.{slice_cmp}
 abbrev pub Bytes : Type 0
 Bytes = List ℕ
 
+-- the most bytes of a key, and the largest total weight
+abbrev pub max_key_len : ℕ
+max_key_len = 255
+
+abbrev pub max_total : ℕ
+max_total = 9223372036854775807
+
 -- a key has 1 to 255 bytes
 pub record IsKey (x : Bytes) : Type 0 where
   pub some : 1 ≤ length x
-  pub few : length x ≤ 255
+  pub few : length x ≤ max_key_len
   pub bytes : EachIndex x (λ i. slice_index x i < 256)
 
 -- the order of keys: byte by byte, and a proper prefix before the longer key

@@ -54,14 +54,14 @@ pub struct Stream {
 }
 
 impl Model for Stream {
-    ghost use Rattle.std.specs.Prelude.{List, ◌≡◌, ◌<◌, ◌^◌};
-    ghost use Rattle.hh_stream.specs.Weights.{Entry, total_of};
+    ghost use Rattle.std.specs.Prelude.{List, ◌≡◌, ◌≤◌};
+    ghost use Rattle.hh_stream.specs.Weights.{Entry, max_total, total_of};
 
     ghost Value = { List Entry };
 
     ghost view = { λ stream. stream.items.items };
 
-    ghost invariant = { λ stream. (stream.total ≡ total_of stream.items.items) × (stream.total < 2 ^ 63) };
+    ghost invariant = { λ stream. (stream.total ≡ total_of stream.items.items) × (stream.total ≤ max_total) };
 }
 
 /// Why an item was not pushed.

@@ -1,0 +1,3 @@
+pub mod PartFacts
+pub mod ReadFacts
+pub mod TakeFacts

@@ -1,0 +1,172 @@
+//! Records of keys and weights, read as a stream.
+
+ghost use Rattle.std.specs.Prelude.{◌≡◌, ◌<◌, ◌≤◌, ◌++◌, ◌∷◌, [], false, true, min, Ok, MatchOption, IfOk, IfErr, OnOk, OnErr, IfSome, option_map};
+ghost use Rattle.csv.specs.Records.{fields_of};
+ghost use Rattle.hh_stream.specs.Weights.{Entry, total_of, max_total};
+ghost use Rattle.heavy.specs.Streams.{is_weight, judged, numbered, parts_of, stream_of, value_of, ReadRefused, RecordRefused};
+
+use csv::{ByteRecord, ErrorKind, ReaderBuilder};
+use hh_stream::{Key, KeyFault, PushFault, Stream};
+use std::alloc::Global;
+use std::fmt;
+use std::io::Read;
+
+/// Why a record is refused, in the order of the tests.
+#[derive(Clone, Copy, Debug, PartialEq, Eq)]
+pub enum BadRecordCause {
+    /// There are not one or two fields.
+    FieldCount,
+    /// The first field is empty.
+    EmptyKey,
+    /// The first field has more than 255 bytes.
+    KeyTooLong,
+    /// The second field is not 1 to 20 ASCII digits.
+    BadWeight,
+    /// The weight is 0.
+    ZeroWeight,
+    /// The total with this weight is above 2^63 - 1.
+    TotalTooLarge,
+}
+
+impl fmt::Display for BadRecordCause {
+    fn fmt<W: fmt::Write>(&self, f: &mut fmt::Formatter<W>) -> fmt::Result {
+        f.write_str(match self {
+            BadRecordCause::FieldCount => "wrong number of fields",
+            BadRecordCause::EmptyKey => "empty key",
+            BadRecordCause::KeyTooLong => "key too long",
+            BadRecordCause::BadWeight => "bad weight",
+            BadRecordCause::ZeroWeight => "zero weight",
+            BadRecordCause::TotalTooLarge => "total too large",
+        })
+    }
+}
+
+/// Why a text was not read as a stream.
+#[derive(Clone, Copy, Debug, PartialEq, Eq)]
+pub enum ReadError {
+    /// The reader failed.
+    ReadFault,
+    /// The record with this number, from 1 on, failed a test.
+    BadRecord { number: u64, cause: BadRecordCause },
+    /// The allocator had no memory.
+    Memory,
+}
+
+/// Why a record was not added to a stream.
+#[derive(Clone, Copy)]
+enum RecordFault {
+    Bad(BadRecordCause),
+    Memory,
+}
+
+/// The weight that 1 to 20 digits write, at most the largest `u64`.
+fn weight_in(field: &[u8]) -> Option<u64>
+    ensures { MatchOption result (is_weight field.now ≡ false) (λ weight. (is_weight field.now ≡ true) × (weight ≡ min (value_of field.now) u64.MAX)) }
+{
+    if field.is_empty() || field.len() > 20 {
+        return None;
+    }
+    let mut value = 0u128;
+    for digit in field {
+        if !digit.is_ascii_digit() {
+            return None;
+        }
+        value = value * 10 + u128::from(*digit - b'0');
+    }
+    Some(value.min(u128::from(u64::MAX)) as u64)
+}
+
+/// The key and the weight's field of a record of one or two fields.
+fn parts_of(row: &ByteRecord) -> Option<(&[u8], Option<&[u8]>)>
+    ensures { option_map (λ parts. (parts.0.now, option_map (λ field. field.now) parts.1)) result ≡ parts_of (fields_of row.now) }
+{
+    if row.len() == 0 || row.len() > 2 {
+        return None;
+    }
+    match row.get(0) {
+        Some(key) => Some((key, row.get(1))),
+        None => None,
+    }
+}
+
+/// Adds the item of a record to a stream.
+fn add_record(alloc: Global, stream: &mut Stream, row: &ByteRecord) -> Result<(), RecordFault>
+    ensures added { OnOk result ((item : Entry) × (judged (total_of stream.old) (fields_of row.now) ≡ Ok item) × (stream.new ≡ stream.old ++ item ∷ [])) }
+    ensures grows { OnOk result (total_of stream.old < total_of stream.new) }
+    ensures bounded { OnOk result (total_of stream.new ≤ max_total) }
+    ensures refused { IfErr result (λ fault. RecordRefused (total_of stream.old) (fields_of row.now) fault) }
+{
+    let Some((key, field)) = parts_of(row) else {
+        return Err(RecordFault::Bad(BadRecordCause::FieldCount));
+    };
+    let key = match Key::new(alloc, key) {
+        Ok(key) => key,
+        Err(KeyFault::Empty) => return Err(RecordFault::Bad(BadRecordCause::EmptyKey)),
+        Err(KeyFault::TooLong) => return Err(RecordFault::Bad(BadRecordCause::KeyTooLong)),
+        Err(KeyFault::Memory) => return Err(RecordFault::Memory),
+    };
+    let weight = match field {
+        None => Some(1),
+        Some(digits) => weight_in(digits),
+    };
+    let Some(weight) = weight else {
+        return Err(RecordFault::Bad(BadRecordCause::BadWeight));
+    };
+    match stream.push(key, weight) {
+        Ok(()) => Ok(()),
+        Err(refused) => Err(match refused.fault {
+            PushFault::ZeroWeight => RecordFault::Bad(BadRecordCause::ZeroWeight),
+            PushFault::TotalTooLarge => RecordFault::Bad(BadRecordCause::TotalTooLarge),
+            PushFault::Memory => RecordFault::Memory,
+        }),
+    }
+}
+
+/// The error that tells a record's number with its fault.
+fn numbered(number: u64, fault: RecordFault) -> ReadError
+    ensures { result ≡ numbered number fault }
+{
+    match fault {
+        RecordFault::Bad(cause) => ReadError::BadRecord { number, cause },
+        RecordFault::Memory => ReadError::Memory,
+    }
+}
+
+/// The stream of a text of records, each a key and, after a comma, its weight. A record of one field
+/// has weight 1. Records are what `csv` reads: there is no header row, fields may be quoted, and a key
+/// may be any 1 to 255 bytes.
+///
+/// The first record that fails a test ends the reading: its number, from 1 on, and the cause are told.
+pub fn read_stream<R: Read + Drop>(alloc: Global, reader: R) -> Result<Stream, ReadError>
+    ensures stream { IfOk result (λ stream. IfSome (R.remaining reader) (λ text. stream_of text ≡ Ok stream)) }
+    ensures refused { IfErr result (λ error. ReadRefused (R.remaining reader) error) }
+{
+    let mut records = ReaderBuilder::new()
+        .has_headers(false)
+        .flexible(true)
+        .from_reader(alloc, reader);
+    let mut row = ByteRecord::new(alloc);
+    let mut stream = Stream::new(alloc);
+    let mut number = 0u64;
+    loop {
+        match records.read_byte_record(&mut row) {
+            Ok(true) => {}
+            Ok(false) => return Ok(stream),
+            Err(error) => {
+                return Err(match error.kind() {
+                    ErrorKind::Io(_) => ReadError::ReadFault,
+                    ErrorKind::OutOfMemory => ReadError::Memory,
+                    ErrorKind::UnequalLengths { .. } => unreachable!(),
+                    ErrorKind::Utf8 { .. } => unreachable!(),
+                    ErrorKind::Serialize(_) => unreachable!(),
+                    ErrorKind::Deserialize { .. } => unreachable!(),
+                });
+            }
+        }
+        number += 1;
+        match add_record(alloc, &mut stream, &row) {
+            Ok(()) => {}
+            Err(fault) => return Err(numbered(number, fault)),
+        }
+    }
+}
