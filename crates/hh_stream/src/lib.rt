@@ -1,10 +1,12 @@
 //! Keys, weighted items, and streams of them.
 #![tactic(auto)]
 
+mod cutting;
 mod key;
 mod stream;
 #[cfg(test)]
 mod tests;
 
+pub use cutting::{Cutting, CuttingFault, MAX_PIECES};
 pub use key::{INLINE_LEN, Key, KeyFault, MAX_KEY_LEN};
 pub use stream::{Item, MAX_TOTAL, PushFault, PushRefused, Stream};

@@ -1,7 +1,8 @@
-//! The worked rows on keys, items and streams.
+//! The worked rows on keys, items, streams and cuttings.
 
-use crate::{Key, KeyFault, MAX_TOTAL, PushFault, Stream};
+use crate::{Cutting, CuttingFault, Key, KeyFault, MAX_TOTAL, PushFault, Stream};
 use std::hash::{BuildHasher, BuildHasherDefault, FoldHasher};
+use std::process::Abort;
 use std::test::Fail;
 
 #[test]
@@ -11,9 +12,10 @@ fn keys_have_1_to_255_bytes(rt: HostRuntime) -> Result<(), Fail> {
     assert_eq!(rt; Key::new(alloc, b"").err(), Some(KeyFault::Empty));
     assert_eq!(rt; Key::new(alloc, &long).err(), Some(KeyFault::TooLong));
     for len in [1, 24, 25, 255] {
-        let key = Key::new(alloc, &long[..len])?;
+        let bytes = vec![in alloc; b'x'; len]?;
+        let key = Key::new(alloc, &bytes)?;
         let copy = key.copy()?;
-        assert_eq!(rt; copy.bytes(), &long[..len]);
+        assert_eq!(rt; copy.bytes(), bytes.as_slice());
         assert!(rt; copy == key, "length {len}");
     }
     Ok(())
@@ -64,5 +66,67 @@ fn refused_push_hands_the_key_back(rt: HostRuntime) -> Result<(), Fail> {
     };
     assert_eq!(rt; refused.fault, PushFault::TotalTooLarge);
     assert_eq!(rt; stream.len(), 1);
+    Ok(())
+}
+
+// The lengths of the pieces of a stream of so many items.
+fn lengths_of(rt: &(impl Abort + AllocGlobal), cutting: &Cutting) -> Vec<usize> {
+    let alloc = rt.alloc();
+    let mut stream = Stream::new(alloc);
+    for _ in 0..cutting.len() {
+        let key = Key::new(alloc, b"a").expect(rt, "a key");
+        stream.push(key, 1).expect(rt, "an item");
+    }
+    assert_eq!(rt; cutting.len(), stream.len());
+    let mut lengths = Vec::new(alloc);
+    for i in 0..cutting.count() {
+        lengths
+            .push(cutting.piece(&stream, i).len())
+            .expect(rt, "a length");
+    }
+    lengths
+}
+
+#[test]
+fn even_pieces(rt: HostRuntime) -> Result<(), Fail> {
+    let alloc = rt.alloc();
+    let cutting = Cutting::even(alloc, 10, 4)?;
+    assert_eq!(rt;
+        lengths_of(&rt, &cutting).as_slice(),
+        [3, 3, 2, 2].as_slice()
+    );
+    let cutting = Cutting::even(alloc, 4, 7)?;
+    assert_eq!(rt;
+        lengths_of(&rt, &cutting).as_slice(),
+        [1, 1, 1, 1, 0, 0, 0].as_slice()
+    );
+    assert!(rt; Cutting::even(alloc, 0, 1024)?.is_empty());
+    assert_eq!(rt;
+        Cutting::even(alloc, 4, 0).err(),
+        Some(CuttingFault::NoPieces)
+    );
+    assert_eq!(rt;
+        Cutting::even(alloc, 4, 1025).err(),
+        Some(CuttingFault::TooManyPieces)
+    );
+    Ok(())
+}
+
+#[test]
+fn pieces_by_lengths(rt: HostRuntime) -> Result<(), Fail> {
+    let alloc = rt.alloc();
+    let cutting = Cutting::by_lengths(alloc, 4, &[3, 1])?;
+    assert_eq!(rt; lengths_of(&rt, &cutting).as_slice(), [3, 1].as_slice());
+    let cutting = Cutting::by_lengths(alloc, 0, &[0])?;
+    assert_eq!(rt; lengths_of(&rt, &cutting).as_slice(), [0].as_slice());
+    for (len, lengths, fault) in [
+        (4, [].as_slice(), CuttingFault::NoPieces),
+        (4, [3, 2].as_slice(), CuttingFault::WrongSum),
+        (4, [3].as_slice(), CuttingFault::WrongSum),
+        (4, [usize::MAX, 5].as_slice(), CuttingFault::WrongSum),
+        (0, [0; 1025].as_slice(), CuttingFault::TooManyPieces),
+    ] {
+        assert_eq!(rt; Cutting::by_lengths(alloc, len, lengths).err(), Some(fault));
+    }
     Ok(())
 }

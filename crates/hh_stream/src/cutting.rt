@@ -1,0 +1,167 @@
+//! Cuttings of a stream into consecutive pieces.
+
+ghost use Rattle.std.specs.Prelude.{◌≡◌, ◌≢◌, ◌<◌, ◌≤◌, ◌^◌, ◌⊎◌, ◌↔◌, [], length, sum, slice_index_or, IsTrue, OnOk, OnErr, IfOk, IsErrOf};
+ghost use Rattle.hh_stream.specs.Weights.{max_total, total_of};
+ghost use Rattle.hh_stream.specs.Cuttings.{even_lengths, pieces_of, whole_of};
+
+use crate::stream::{Item, Stream};
+use std::alloc::{AllocError, Global};
+use std::marker::Model;
+
+/// The most pieces of a cutting.
+pub const MAX_PIECES: usize = 1024;
+
+/// A cutting of a stream into 1 to [`MAX_PIECES`] consecutive pieces, some of which may be empty. A
+/// contract sees the list of the pieces' lengths.
+#[derive(Debug, Drop)]
+pub struct Cutting {
+    lengths: Vec<usize>,
+    len: usize,
+}
+
+impl Model for Cutting {
+    ghost use Rattle.std.specs.Prelude.{ℕ, List, ◌≡◌, sum};
+    ghost use Rattle.hh_stream.specs.Cuttings.{IsCutting};
+
+    ghost Value = { List ℕ };
+
+    ghost view = { λ cutting. cutting.lengths.items };
+
+    ghost invariant = { λ cutting. IsCutting cutting.lengths.items × (cutting.len ≡ sum cutting.lengths.items) };
+}
+
+/// Why there is no such cutting.
+#[derive(Clone, Copy, Debug, PartialEq, Eq)]
+pub enum CuttingFault {
+    /// There is no piece.
+    NoPieces,
+    /// There are more than [`MAX_PIECES`] pieces.
+    TooManyPieces,
+    /// The lengths don't add up to the number of items.
+    WrongSum,
+    /// The allocator had no memory.
+    Memory,
+}
+
+/// Whether so many pieces are not too few or too many.
+fn check_count(pieces: usize) -> Result<(), CuttingFault>
+    ensures no_pieces { IsErrOf result CuttingFault.NoPieces ↔ (pieces ≡ 0) }
+    ensures too_many { IsErrOf result CuttingFault.TooManyPieces ↔ (MAX_PIECES < pieces) }
+    ensures right_sum { ¬ IsErrOf result CuttingFault.WrongSum }
+    ensures within { OnOk result ((0 < pieces) × (pieces ≤ MAX_PIECES)) }
+    ensures outside { OnErr result ((pieces ≡ 0) ⊎ (MAX_PIECES < pieces)) }
+{
+    if pieces == 0 {
+        return Err(CuttingFault::NoPieces);
+    }
+    if pieces > MAX_PIECES {
+        return Err(CuttingFault::TooManyPieces);
+    }
+    Ok(())
+}
+
+/// Whether the lengths add up to `len`.
+fn adds_up(lengths: &[usize], len: usize) -> bool
+    ensures { IsTrue result ↔ (sum lengths.now ≡ len) }
+{
+    let mut left = len;
+    for length in lengths {
+        if *length > left {
+            return false;
+        }
+        left -= *length;
+    }
+    left == 0
+}
+
+/// The lengths of so many even pieces of `len` items.
+fn even_lengths(alloc: Global, len: usize, pieces: usize) -> Result<Vec<usize>, AllocError>
+    requires { 0 < pieces }
+    ensures { IfOk result (λ lengths. lengths.items ≡ even_lengths len pieces) }
+{
+    let mut lengths = Vec::new(alloc);
+    for i in 0..pieces {
+        lengths.push(len / pieces + usize::from(i < len % pieces))?;
+    }
+    Ok(lengths)
+}
+
+/// The sum of the lengths.
+fn sum_of(lengths: &[usize]) -> usize
+    requires { sum lengths.now < 2 ^ 64 }
+    ensures { result ≡ sum lengths.now }
+{
+    lengths.iter().sum()
+}
+
+impl Cutting {
+    /// `len` items in so many pieces: each has `len / pieces` items, and one more where its number is
+    /// below `len % pieces`.
+    pub fn even(alloc: Global, len: usize, pieces: usize) -> Result<Cutting, CuttingFault>
+        ensures even { IfOk result (λ cutting. cutting ≡ even_lengths len pieces) }
+        ensures no_pieces { IsErrOf result CuttingFault.NoPieces ↔ (pieces ≡ 0) }
+        ensures too_many { IsErrOf result CuttingFault.TooManyPieces ↔ (MAX_PIECES < pieces) }
+        ensures right_sum { ¬ IsErrOf result CuttingFault.WrongSum }
+    {
+        check_count(pieces)?;
+        match even_lengths(alloc, len, pieces) {
+            Ok(lengths) => Ok(Cutting { lengths, len }),
+            Err(_) => Err(CuttingFault::Memory),
+        }
+    }
+
+    /// `len` items in pieces of these lengths.
+    pub fn by_lengths(alloc: Global, len: usize, lengths: &[usize]) -> Result<Cutting, CuttingFault>
+        ensures lengths { IfOk result (λ cutting. cutting ≡ lengths.now) }
+        ensures adds_up { IfOk result (λ cutting. sum cutting ≡ len) }
+        ensures no_pieces { IsErrOf result CuttingFault.NoPieces ↔ (length lengths.now ≡ 0) }
+        ensures too_many { IsErrOf result CuttingFault.TooManyPieces ↔ (MAX_PIECES < length lengths.now) }
+        ensures wrong_sum { IsErrOf result CuttingFault.WrongSum ↔ ((0 < length lengths.now) × (length lengths.now ≤ MAX_PIECES) × (sum lengths.now ≢ len)) }
+    {
+        check_count(lengths.len())?;
+        if !adds_up(lengths, len) {
+            return Err(CuttingFault::WrongSum);
+        }
+        match lengths.to_vec(alloc) {
+            Ok(lengths) => Ok(Cutting { lengths, len }),
+            Err(_) => Err(CuttingFault::Memory),
+        }
+    }
+
+    /// The number of pieces.
+    pub fn count(&self) -> usize
+        ensures count { result ≡ length self.now }
+        ensures some { 0 < result }
+        ensures few { result ≤ MAX_PIECES }
+    {
+        self.lengths.len()
+    }
+
+    /// The number of items.
+    pub fn len(&self) -> usize
+        ensures { result ≡ sum self.now }
+    {
+        self.len
+    }
+
+    /// Whether there is no item.
+    pub fn is_empty(&self) -> bool
+        ensures { IsTrue result ↔ (sum self.now ≡ 0) }
+    {
+        self.len == 0
+    }
+
+    /// Piece `i` of a stream with as many items, borrowed. The pieces, one after the other, are the
+    /// stream.
+    pub fn piece<'a>(&self, stream: &'a Stream, i: usize) -> &'a [Item]
+        requires same_len { sum self.now ≡ length stream.now }
+        requires within { i < length self.now }
+        ensures piece { result.now ≡ slice_index_or (pieces_of self.now stream.now) i [] }
+        ensures whole { whole_of (pieces_of self.now stream.now) ≡ stream.now }
+        ensures bounded { total_of result.now ≤ max_total }
+    {
+        let start = sum_of(&self.lengths[..i]);
+        let length = self.lengths[i];
+        &stream.items()[start..start + length]
+    }
+}
