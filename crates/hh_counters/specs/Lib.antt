@@ -1,0 +1,3 @@
+pub mod Counters
+pub mod Report
+pub mod Laws
