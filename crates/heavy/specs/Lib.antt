@@ -1,3 +1,5 @@
+pub mod Reports
 pub mod Rows
 pub mod Sinks
+pub mod Status
 pub mod Streams

@@ -1,10 +1,10 @@
 //! The rows of a report.
 
-ghost use Rattle.std.specs.Prelude.{◌≡◌, false, is_err, IfOk, IfErr, OnOk, IsErrOf, Some};
-ghost use Rattle.std.specs.Io.KnownBytes.{Appends, Keeps};
+ghost use Rattle.std.specs.Prelude.{◌≡◌, false, IfOk, IfErr, OnOk, Some};
+ghost use Rattle.std.specs.Io.KnownBytes.{Appends};
 ghost use Rattle.csv.specs.Writing.{text_written};
 ghost use Rattle.heavy.specs.Rows.{IsBetweenRows, row_of, rows_of};
-ghost use Rattle.heavy.specs.Reports.{WriteRefused};
+ghost use Rattle.heavy.specs.Reports.{RowsRefused, is_write_fault};
 
 use crate::sink::{Sink, WriteFault, put};
 use csv::{Writer, WriterBuilder};
@@ -37,5 +37,34 @@ pub fn report_text(alloc: Global, rows: &[Heavy]) -> Result<Vec<u8>, AllocError>
     match writer.into_inner() {
         Ok(text) => Ok(text),
         Err(_) => Err(AllocError),
+    }
+}
+
+/// Why rows were not written.
+#[derive(Clone, Copy, Debug, PartialEq, Eq)]
+pub enum ReportFault {
+    /// The sink took this many bytes, and then failed.
+    WriteFault { written: u64 },
+    /// The allocator had no memory. Nothing was written.
+    Memory,
+}
+
+/// Writes the rows of a report, as [`put`] writes [`report_text`].
+pub fn write_report<S: Sink>(
+    alloc: Global,
+    sink: &mut S,
+    rows: &[Heavy],
+) -> Result<(), ReportFault>
+    requires { S.has_failed sink.old ≡ false }
+    ensures all { OnOk result (Appends (S.taken sink.old) (S.taken sink.new) (rows_of rows.now)) }
+    ensures refused { IfErr result (λ fault. RowsRefused rows.now (S.taken sink.old) (S.taken sink.new) fault) }
+    ensures failed { S.has_failed sink.new ≡ is_write_fault result }
+{
+    let Ok(text) = report_text(alloc, rows) else {
+        return Err(ReportFault::Memory);
+    };
+    match put(sink, text.as_slice()) {
+        Ok(()) => Ok(()),
+        Err(WriteFault { written }) => Err(ReportFault::WriteFault { written }),
     }
 }
