@@ -4,3 +4,4 @@ pub mod Level
 pub mod Summaries
 pub mod Reports
 pub mod Places
+pub mod Counting

@@ -19,7 +19,7 @@ use Rattle.std.proofs.lemmas.Slice.Zip.{get_or-zip, length-zip}
 use Rattle.std.proofs.Math.Nat.{le-div_iff_mul-le}
 use Rattle.hh_stream.specs.Weights.{Bytes, Entry, key_cmp, weight_of, total_of}
 use Rattle.hh_counters.specs.Counters.{Counters, IsCounters, tally, IsHonest, slack}
-use Rattle.hh_counters.specs.Report.{rank_cmp, ranked_in, by_rank, is_heavy, selected, heavy, candidates, has_counter, IsReport}
+use Rattle.hh_counters.specs.Report.{rank_cmp, ranked_in, by_rank, is_heavy, selected, heavy, weights_at, has_counter, IsReport}
 use Rattle.hh_counters.proofs.Weights.{key_total, weight_of-cons, rising-tally, weight_of-tally, weight_first, at_other, key_exact, flipped}
 
 -- ---- members
@@ -321,6 +321,14 @@ pub rising-zip : (p : Entry → Bool) (ks : List Bytes) (ns : List ℕ) → leng
 rising-zip p ks ns e h = rising-filter p (zip ks ns) (subst (IsStrictlySortedBy key_cmp) (sym (keys_of-zip ks ns e)) h)
 
 -- ---- the report from the candidates of counters
+-- each counter's key with its weight in xs
+abbrev candidates : Counters → List Entry → List Entry
+candidates c xs = map (λ e. (e.0, weight_of e.0 xs)) c
+
+zip-weights_at : (c : Counters) (xs : List Entry) → zip (keys_of c) (weights_at (keys_of c) xs) ≡ candidates c xs
+zip-weights_at [] xs = refl
+zip-weights_at (e ∷ c) xs = ap (λ (ds : List Entry). (e.0, weight_of e.0 xs) ∷ ds) (zip-weights_at c xs)
+
 in_candidates : (c : Counters) (xs : List Entry) (x : Entry) → In x (candidates c xs) → (x.1 ≡ weight_of x.0 xs) × In (x.0, 0) (map (λ (e : Entry). (e.0, 0)) c)
 in_candidates [] xs x i = absurd i
 in_candidates (e ∷ c) xs x (inl is) = (sym (ap (λ (y : Entry). y.1) is) ∙ ap (λ (y : Entry). weight_of y.0 xs) is, inl (λ j. ((is j).0, 0)))
@@ -347,7 +355,7 @@ ranked-filter : (p : Entry → Bool) (es : List Entry) → IsStrictlySortedBy ra
 ranked-filter p es h = IsStrictlySortedBy-filter rank_cmp p es h
 
 -- what a second pass over the candidates finds: the heavy keys that have a counter
-pub selected_candidates : (c : Counters) (xs : List Entry) (p q : ℕ) → IsCounters c → selected p q (total_of xs) (candidates c xs) ≡ filter (has_counter c) (heavy xs p q)
+selected_candidates : (c : Counters) (xs : List Entry) (p q : ℕ) → IsCounters c → selected p q (total_of xs) (candidates c xs) ≡ filter (has_counter c) (heavy xs p q)
 selected_candidates c xs p q h =
     let test : Entry → Bool = is_heavy p q (total_of xs) in
     let rises : IsStrictlySortedBy key_cmp (keys_of (candidates c xs)) = subst (IsStrictlySortedBy key_cmp) (sym (keys_of-candidates c xs)) h.rising in
@@ -372,8 +380,11 @@ filter_all : (p : Entry → Bool) (es : List Entry) → ((x : Entry) → In x es
 filter_all p [] h = refl
 filter_all p (e ∷ es) h = ap (λ b. cond b (e ∷ filter p es) (filter p es)) (h e (inl refl)) ∙ ap (λ (ds : List Entry). e ∷ ds) (filter_all p es (λ x i. h x (inr i)))
 
+pub report_with_counters : (c : Counters) (xs : List Entry) (p q : ℕ) → IsCounters c → selected p q (total_of xs) (zip (keys_of c) (weights_at (keys_of c) xs)) ≡ filter (has_counter c) (heavy xs p q)
+report_with_counters c xs p q h = ap (selected p q (total_of xs)) (zip-weights_at c xs) ∙ selected_candidates c xs p q h
+
 -- of honest counters: the whole report
-pub report_from_candidates : (c : Counters) (xs : List Entry) (k p q : ℕ) → IsHonest c (total_of xs) xs k → q ≤ p * (k + 1) → selected p q (total_of xs) (candidates c xs) ≡ heavy xs p q
+pub report_from_candidates : (c : Counters) (xs : List Entry) (k p q : ℕ) → IsHonest c (total_of xs) xs k → q ≤ p * (k + 1) → selected p q (total_of xs) (zip (keys_of c) (weights_at (keys_of c) xs)) ≡ heavy xs p q
 report_from_candidates c xs k p q h le =
-    selected_candidates c xs p q h.counters
+    report_with_counters c xs p q h.counters
     ∙ filter_all (has_counter c) (heavy xs p q) (λ x i. grind (arith, nat_tests, heavy_has_counter c xs k p q h le x (contains_from_in x _ i)))

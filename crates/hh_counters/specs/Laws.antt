@@ -1,8 +1,9 @@
 -- What holds of the definitions.
-use Rattle.std.specs.Prelude.{◌≡◌, ℕ, ◌+◌, ◌-◌, ◌*◌, ◌<◌, ◌≤◌, List, ◌++◌, filter, Contains, IsPermutation}
+use Rattle.std.specs.Prelude.{◌≡◌, ℕ, ◌+◌, ◌-◌, ◌*◌, ◌<◌, ◌≤◌, List, ◌++◌, filter, zip, length, replicate, Contains, IsPermutation}
+use Rattle.std.specs.Map.{keys_of}
 use Rattle.hh_stream.specs.Weights.{Bytes, Entry, weight_of, total_of}
 use Rattle.hh_counters.specs.Counters.{Counters, IsCounters, IsLevel, level, plus, join, misra_gries, IsHonest, slack}
-use Rattle.hh_counters.specs.Report.{heavy, selected, candidates, has_counter, IsReport}
+use Rattle.hh_counters.specs.Report.{heavy, selected, weights_at, counted, has_counter, IsReport}
 
 -- the counters of a stream are honest for it
 abbrev pub MisraGriesIsHonest : Type 0
@@ -60,5 +61,11 @@ ReportIsUnique = (xs : List Entry) (p q : ℕ) (es : List Entry) → IsReport xs
 abbrev pub CandidatesSuffice : Type 0
 CandidatesSuffice =
     (c : Counters) (xs : List Entry) (k p q : ℕ)
-    → (IsCounters c → selected p q (total_of xs) (candidates c xs) ≡ filter (has_counter c) (heavy xs p q))
-    × (IsHonest c (total_of xs) xs k → q ≤ p * (k + 1) → selected p q (total_of xs) (candidates c xs) ≡ heavy xs p q)
+    → (IsCounters c → selected p q (total_of xs) (zip (keys_of c) (weights_at (keys_of c) xs)) ≡ filter (has_counter c) (heavy xs p q))
+    × (IsHonest c (total_of xs) xs k → q ≤ p * (k + 1) → selected p q (total_of xs) (zip (keys_of c) (weights_at (keys_of c) xs)) ≡ heavy xs p q)
+
+-- counting starts at 0, and pieces may be counted one after the other
+abbrev pub CountsAddUp : Type 0
+CountsAddUp =
+    (ks : List Bytes) (xs ys : List Entry) (ns : List ℕ)
+    → (counted ks xs (replicate (length ks) 0) ≡ weights_at ks xs) × (counted ks (xs ++ ys) ns ≡ counted ks ys (counted ks xs ns))

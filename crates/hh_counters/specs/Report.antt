@@ -1,5 +1,5 @@
 -- The heavy keys, in the order of the report.
-use Rattle.std.specs.Prelude.{◌≡◌, ℕ, ◌*◌, ◌<◌, Bool, cond, nat_lt, List, [], ◌∷◌, map, filter, fold, Contains, ◌↔◌}
+use Rattle.std.specs.Prelude.{◌≡◌, ℕ, ◌+◌, ◌*◌, ◌<◌, Bool, cond, nat_lt, List, [], ◌∷◌, map, filter, fold, Contains, ◌↔◌}
 use Rattle.std.specs.List.Sorted.{IsStrictlySortedBy}
 use Rattle.std.specs.declared.cmp.Ordering.{Ordering}
 use Rattle.std.specs.Ordering.{nat_cmp, ordering_then, is_lt}
@@ -30,9 +30,15 @@ selected p q n es = by_rank (filter (is_heavy p q n) es)
 abbrev pub heavy : List Entry → ℕ → ℕ → List Entry
 heavy xs p q = selected p q (total_of xs) (tally xs)
 
--- each counter's key with its weight in xs
-abbrev pub candidates : List Entry → List Entry → List Entry
-candidates c xs = map (λ e. (e.0, weight_of e.0 xs)) c
+-- the weight of each key in xs
+abbrev pub weights_at : List Bytes → List Entry → List ℕ
+weights_at ks xs = map (λ x. weight_of x xs) ks
+
+-- each number, one for each key, with the key's weight in xs added
+abbrev pub counted : List Bytes → List Entry → List ℕ → List ℕ
+counted [] xs ns = ns
+counted (x ∷ ks) xs [] = []
+counted (x ∷ ks) xs (n ∷ ns) = (n + weight_of x xs) ∷ counted ks xs ns
 
 abbrev pub has_counter : List Entry → Entry → Bool
 has_counter c e = nat_lt 0 (weight_of e.0 c)

@@ -1,6 +1,6 @@
 //! Laws of the definitions in `specs/`. Each function does nothing: its contract is the law.
 
-ghost use Rattle.hh_counters.specs.Laws.{MisraGriesIsHonest, JoinOfHonestIsHonest, HeavyKeysHaveCounters, CountersBoundWeights, LevelIsLeast, SumIsByKey, JoinTakesTheLevel, ReportIsExact, ReportIsUnique, HonestIsNear, HonestInAnyOrder, CandidatesSuffice};
+ghost use Rattle.hh_counters.specs.Laws.{MisraGriesIsHonest, JoinOfHonestIsHonest, HeavyKeysHaveCounters, CountersBoundWeights, LevelIsLeast, SumIsByKey, JoinTakesTheLevel, ReportIsExact, ReportIsUnique, HonestIsNear, HonestInAnyOrder, CandidatesSuffice, CountsAddUp};
 
 /// The Misra-Gries counters of a list of items are honest for it (Misra and Gries 1982).
 pub fn misra_gries_is_honest()
@@ -49,4 +49,9 @@ pub fn report_is_exact()
 /// they are the report.
 pub fn candidates_suffice()
     ensures { CandidatesSuffice }
+{}
+
+/// Candidates counted from 0 have their weights, and counting piece by piece is counting all.
+pub fn counts_add_up()
+    ensures { CountsAddUp }
 {}

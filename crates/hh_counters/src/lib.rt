@@ -2,6 +2,7 @@
 //! rows of the report that a second pass makes of their keys.
 #![tactic(auto)]
 
+mod candidates;
 mod entries;
 pub mod laws;
 mod report;
@@ -9,5 +10,6 @@ mod summary;
 #[cfg(test)]
 mod tests;
 
-pub use report::{Heavy, select};
+pub use candidates::Candidates;
+pub use report::Heavy;
 pub use summary::{AddFault, BadK, MAX_K, MergeFault, OfItemsFault, Summary};

@@ -2,7 +2,7 @@
 
 ghost use Rattle.std.specs.Prelude.{◌≡◌, ℕ, ◌+◌, ◌<◌, ◌≤◌, ◌^◌, ◌↔◌, ◌⊎◌, [], ◌≢◌, ◌==◌, IsTrue, IsErr, IsErrOf, IfOk, OnOk, OnErr, length, slice_index_or};
 ghost use Rattle.hh_stream.specs.Weights.{weight_of, total_of};
-ghost use Rattle.hh_counters.specs.Counters.{Fits, Sketch, added, merged, sketch_of, slack};
+ghost use Rattle.hh_counters.specs.Counters.{Fits, IsCounters, Sketch, added, merged, sketch_of, slack};
 
 use crate::entries::{add_entry, are_counters, counter_of, joined, sum_of, sums_within};
 use hh_stream::{Item, Key, MAX_TOTAL};
@@ -128,7 +128,8 @@ impl Summary {
 
     /// The most keys with counters.
     pub fn k(&self) -> u64
-        ensures { result ≡ self.now.k }
+        ensures k { result ≡ self.now.k }
+        ensures fits { Fits self.now.k self.now.total self.now.counters }
     {
         self.k
     }
@@ -145,6 +146,7 @@ impl Summary {
     pub fn len(&self) -> usize
         ensures len { result ≡ length self.now.counters }
         ensures few { result ≤ self.now.k }
+        ensures counters { IsCounters self.now.counters }
     {
         self.entries.len()
     }
