@@ -1,0 +1,10 @@
+//! Claims and sums that threads share without a lock: a claim goes to one seat at most, and who
+//! holds every claim closes with the exact sums of what was added.
+#![tactic(auto)]
+
+mod rule;
+mod sums;
+#[cfg(test)]
+mod tests;
+
+pub use sums::{MAX_CELLS, MAX_CLAIMS, SharedSums, SumSeat};
