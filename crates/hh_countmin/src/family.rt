@@ -1,0 +1,231 @@
+//! Hash families.
+
+ghost use Rattle.std.specs.Prelude.{◌≡◌, ◌+◌, ◌*◌, ◌<◌, ◌≤◌, ◌↔◌, ◌⊎◌, length, IfOk, IsErrOf, IsTrue};
+ghost use Rattle.hh_countmin.specs.Family.{IsDepth, IsWidth, IsFamily, AreCoefficients, IsRow, row_of, fingerprint_of, cell_of, cell_of_fingerprint, drawn_family, factor_of, addend_of, rows_of_words};
+ghost use Rattle.rand_core.specs.Steps.{first_words};
+ghost use Rattle.rand_pcg.specs.Pcg.{pcg64};
+
+use crate::modulus::{MODULUS, multiply_add};
+use hh_stream::Key;
+use rand_core::SeedableRng;
+use rand_core::utils::NextWord;
+use rand_pcg::Pcg64;
+use std::alloc::{AllocError, Global};
+use std::marker::Model;
+
+/// The most rows of a family.
+pub const MAX_DEPTH: u64 = 16;
+
+/// The most cells in a row of a table.
+pub const MAX_WIDTH: u64 = 65_536;
+
+/// A hash family: for each of its 1 to 16 rows, a function from keys to the cells of a row.
+///
+/// A key has one fingerprint, its bytes read as the digits of a number to the base `z`, each raised by
+/// one, modulo [`MODULUS`]; a row with the coefficients (a, b) takes the fingerprint f to the cell
+/// `(a * f + b) mod MODULUS mod width`.
+#[derive(Debug, Drop)]
+pub struct Family {
+    z: u64,
+    rows: Vec<(u64, u64)>,
+}
+
+impl Model for Family {
+    ghost use Rattle.hh_countmin.specs.Family.{Coefficients, IsFamily};
+
+    ghost Value = { Coefficients };
+
+    ghost view = { λ family. record { z = family.z; rows = family.rows.items } };
+
+    ghost invariant = { λ family. IsFamily (record { z = family.z; rows = family.rows.items }) };
+}
+
+/// Why a family was not drawn.
+#[derive(Clone, Copy, Debug, PartialEq, Eq)]
+pub enum DrawFault {
+    /// The depth is not 1 to 16.
+    BadDepth,
+    /// The allocator had no memory.
+    Memory,
+}
+
+/// Why parts are no family.
+#[derive(Clone, Copy, Debug, PartialEq, Eq)]
+pub enum PartsFault {
+    /// There are no rows, or more than 16.
+    BadDepth,
+    /// A multiplier is 0, or a coefficient is not below [`MODULUS`].
+    BadCoefficient,
+    /// The allocator had no memory.
+    Memory,
+}
+
+impl Family {
+    /// The family of a seed: the words of `Pcg64`, seeded by `seed_from_u64`, make z and then the
+    /// coefficients a and b of each row.
+    pub fn draw(alloc: Global, seed: u64, depth: u64) -> Result<Family, DrawFault>
+        ensures drawn { IfOk result (λ family. family ≡ drawn_family seed depth) }
+        ensures bad_depth { IsErrOf result DrawFault.BadDepth ↔ ((depth ≡ 0) ⊎ (MAX_DEPTH < depth)) }
+    {
+        if depth == 0 || depth > MAX_DEPTH {
+            return Err(DrawFault::BadDepth);
+        }
+        let mut generator = Pcg64::seed_from_u64(seed);
+        let z = factor(generator.next_word());
+        match draw_rows(alloc, &mut generator, depth) {
+            Ok(rows) => Ok(Family { z, rows }),
+            Err(_) => Err(DrawFault::Memory),
+        }
+    }
+
+    /// The family with these coefficients: `z`, and a pair (a, b) for each row. `z` and each a are 1 or
+    /// more, and all are below [`MODULUS`].
+    pub fn from_parts(alloc: Global, z: u64, rows: &[(u64, u64)]) -> Result<Family, PartsFault>
+        ensures parts { IfOk result (λ family. family ≡ record { z = z; rows = rows.now }) }
+        ensures bad_depth { IsErrOf result PartsFault.BadDepth ↔ ((length rows.now ≡ 0) ⊎ (MAX_DEPTH < length rows.now)) }
+        ensures bad_coefficient { IsErrOf result PartsFault.BadCoefficient ↔ (IsDepth (length rows.now) × ¬ (AreCoefficients z rows.now)) }
+    {
+        if rows.is_empty() || rows.len() as u64 > MAX_DEPTH {
+            return Err(PartsFault::BadDepth);
+        }
+        if !are_coefficients(z, rows) {
+            return Err(PartsFault::BadCoefficient);
+        }
+        match Vec::from_slice(alloc, rows) {
+            Ok(rows) => Ok(Family { z, rows }),
+            Err(_) => Err(PartsFault::Memory),
+        }
+    }
+
+    /// An equal family.
+    pub fn copy(&self) -> Result<Family, AllocError>
+        ensures { IfOk result (λ family. family ≡ self.now) }
+    {
+        Ok(Family {
+            z: self.z,
+            rows: Vec::from_slice(*self.rows.allocator(), &self.rows)?,
+        })
+    }
+
+    /// How many rows there are.
+    pub fn depth(&self) -> u64
+        ensures depth { result ≡ length self.now.rows }
+        ensures family { IsFamily self.now }
+    {
+        self.rows.len() as u64
+    }
+
+    /// The multiplier of the fingerprint.
+    pub fn z(&self) -> u64
+        ensures { result ≡ self.now.z }
+    {
+        self.z
+    }
+
+    /// The coefficients (a, b) of row `r`.
+    pub fn row(&self, r: u64) -> (u64, u64)
+        requires { r < length self.now.rows }
+        ensures row { result ≡ row_of self.now r }
+        ensures in_range { IsRow result }
+    {
+        self.rows[r as usize]
+    }
+
+    /// The fingerprint of a key, which the cells in all rows are computed from.
+    pub fn fingerprint(&self, key: &Key) -> u64
+        ensures fingerprint { result ≡ fingerprint_of self.now.z key.now }
+        ensures below { result < MODULUS }
+    {
+        let mut fingerprint = 0;
+        for &byte in key.bytes() {
+            fingerprint = multiply_add(fingerprint, self.z, u64::from(byte) + 1);
+        }
+        fingerprint
+    }
+
+    /// The cell of a key in row `r` of a table of this width.
+    pub fn cell(&self, r: u64, key: &Key, width: u64) -> u64
+        requires row { r < length self.now.rows }
+        requires width { IsWidth width }
+        ensures cell { result ≡ cell_of self.now r key.now width }
+        ensures within { result < width }
+    {
+        self.cell_of_fingerprint(r, self.fingerprint(key), width)
+    }
+
+    /// The cell of a key with this fingerprint. Where a key's cells in all rows are wanted, the
+    /// fingerprint is computed once.
+    #[inline]
+    pub fn cell_of_fingerprint(&self, r: u64, fingerprint: u64, width: u64) -> u64
+        requires row { r < length self.now.rows }
+        requires width { IsWidth width }
+        requires fingerprint { fingerprint < MODULUS }
+        ensures cell { result ≡ cell_of_fingerprint (row_of self.now r) fingerprint width }
+        ensures within { result < width }
+    {
+        let (a, b) = self.row(r);
+        multiply_add(a, fingerprint, b) % width
+    }
+}
+
+impl PartialEq for Family {
+    ghost use Rattle.hh_countmin.specs.Family.{same_family};
+    ghost use Rattle.hh_countmin.specs.FamilyEq.{same_family_equiv};
+    ghost use Rattle.std.specs.Cmp.{partial_equiv_from_equiv};
+
+    ghost eq = { same_family };
+
+    ghost laws = { partial_equiv_from_equiv same_family_equiv };
+
+    fn eq(&self, other: &Family) -> bool {
+        self.z == other.z && self.rows.as_slice() == other.rows.as_slice()
+    }
+}
+
+impl Eq for Family {
+    ghost use Rattle.hh_countmin.specs.FamilyEq.{same_family_equiv};
+
+    ghost laws = { same_family_equiv };
+}
+
+// A coefficient that is not 0.
+fn factor(word: u64) -> u64
+    ensures { result ≡ factor_of word }
+{
+    1 + word % (MODULUS - 1)
+}
+
+// The next row that the words make.
+fn draw_row(generator: &mut Pcg64) -> (u64, u64)
+    ensures row { result ≡ (factor_of (pcg64 generator.old).0, addend_of (pcg64 (pcg64 generator.old).1).0) }
+    ensures after { generator.new ≡ (pcg64 (pcg64 generator.old).1).1 }
+{
+    let a = factor(generator.next_word());
+    let b = generator.next_word() % MODULUS;
+    (a, b)
+}
+
+fn draw_rows(
+    alloc: Global,
+    generator: &mut Pcg64,
+    depth: u64,
+) -> Result<Vec<(u64, u64)>, AllocError>
+    ensures { IfOk result (λ rows. rows.items ≡ rows_of_words (first_words pcg64 (2 * depth) generator.old)) }
+{
+    let mut rows = Vec::new(alloc);
+    for _ in 0..depth {
+        rows.push(draw_row(generator))?;
+    }
+    Ok(rows)
+}
+
+// Whether the coefficients are in their ranges.
+fn are_coefficients(z: u64, rows: &[(u64, u64)]) -> bool
+    ensures { IsTrue result ↔ AreCoefficients z rows.now }
+{
+    1 <= z
+        && z < MODULUS
+        && rows
+            .iter()
+            .all(|row| 1 <= row.0 && row.0 < MODULUS && row.1 < MODULUS)
+}

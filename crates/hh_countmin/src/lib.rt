@@ -1,0 +1,11 @@
+//! Count-Min tables (Cormode and Muthukrishnan 2005): hash families, and tables of cells whose
+//! least cell of a key is never below the key's weight.
+#![tactic(auto)]
+
+mod family;
+mod modulus;
+#[cfg(test)]
+mod tests;
+
+pub use family::{DrawFault, Family, MAX_DEPTH, MAX_WIDTH, PartsFault};
+pub use modulus::MODULUS;

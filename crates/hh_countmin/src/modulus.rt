@@ -1,0 +1,23 @@
+//! Arithmetic modulo 2^61 - 1.
+
+ghost use Rattle.std.specs.Prelude.{◌≡◌, ◌+◌, ◌*◌, ◌<◌, ◌≤◌, ◌%◌};
+
+/// Fingerprints and cells are computed modulo 2^61 - 1.
+pub const MODULUS: u64 = 2_305_843_009_213_693_951;
+
+/// `a * b + c` modulo [`MODULUS`], without a division: 2^61 is 1 there, so the bits from the 61st on
+/// are added to those below, and at most one modulus is left over.
+#[inline]
+pub fn multiply_add(a: u64, b: u64, c: u64) -> u64
+    requires a { a < MODULUS }
+    requires b { b < MODULUS }
+    requires c { c < MODULUS }
+    ensures value { result ≡ (a * b + c) % MODULUS }
+    ensures below { result < MODULUS }
+{
+    let wide = u128::from(a) * u128::from(b) + u128::from(c);
+    let low = (wide & u128::from(MODULUS)) as u64;
+    let high = (wide >> 61) as u64;
+    let sum = low + high;
+    if sum < MODULUS { sum } else { sum - MODULUS }
+}
