@@ -2,10 +2,12 @@
 //! of a stream, whose outcome is the same whatever worker does which piece.
 #![tactic(auto)]
 
+mod first;
 mod gate;
 mod options;
 mod pass;
 mod workers;
 
+pub use first::first_pass;
 pub use gate::{Gate, OpenGate};
 pub use options::{MAX_WORKERS, Options, OptionsFault};
