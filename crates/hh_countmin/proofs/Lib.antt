@@ -1,1 +1,6 @@
+pub mod Cells
 pub mod Drawing
+pub mod Estimates
+pub mod Families
+pub mod Raising
+pub mod Tables
