@@ -1,0 +1,153 @@
+-- Candidates counted item by item.
+use Rattle.std.proofs.Common.{◌≡◌, ◌↔◌, ℕ, zero, suc, ◌+◌, ◌<◌, ◌≤◌, Bool, true, false, cond, List, [], ◌∷◌, ◌++◌, length, get_or, take, Option, Some, None, Less, is_eq, is_some, refl, sym, ap, ap₂, ◌∙◌, subst, true≢false, arith}
+use Rattle.std.specs.Prelude.{replicate, position, slice_get, slice_set, Contains, IsSome}
+use Rattle.std.specs.List.{AllByRecursion, list_any}
+use Rattle.std.specs.List.Sorted.{IsStrictlySortedBy}
+use Rattle.std.specs.Cmp.{Equal-is, eq_by_cmp_equiv}
+use Rattle.std.proofs.lemmas.Option.{slice_get-get_or, slice_get_within, get_or_from_slice_get}
+use Rattle.std.proofs.lemmas.List.{get_or_default, get_or-take, length-take, take_more}
+use Rattle.std.proofs.lemmas.List.Folds.{list_any_none}
+use Rattle.std.proofs.lemmas.List.Quantifiers.{position-Some}
+use Rattle.std.proofs.lemmas.Map.Keys.{Less-from_sorted}
+use Rattle.std.proofs.lemmas.Map.Views.{list_any-from_Contains}
+use Rattle.indexmap.specs.IndexSet.{insert_key}
+use Rattle.hh_stream.specs.Weights.{Bytes, Entry, key_cmp, same_key, at_key, weight_of, total_of}
+use Rattle.hh_counters.specs.Report.{weights_at, counted}
+use Rattle.hh_counters.proofs.Weights.{key_total, key_exact, key_self, flipped, weight_of-append, weight_of-cons, total_of-cons, at_other}
+
+pub counted_from_zero : (ks : List Bytes) (xs : List Entry) → counted ks xs (replicate (length ks) 0) ≡ weights_at ks xs
+counted_from_zero [] xs = refl
+counted_from_zero (x ∷ ks) xs = ap₂ (λ n (ns : List ℕ). n ∷ ns) (omega arith) (counted_from_zero ks xs)
+
+pub counted-append : (ks : List Bytes) (xs ys : List Entry) (ns : List ℕ) → counted ks (xs ++ ys) ns ≡ counted ks ys (counted ks xs ns)
+counted-append [] xs ys ns = refl
+counted-append (x ∷ ks) xs ys [] = refl
+counted-append (x ∷ ks) xs ys (n ∷ ns) = ap₂ (λ n (ns : List ℕ). n ∷ ns) (omega (arith, weight_of-append x xs ys)) (counted-append ks xs ys ns)
+
+pub length-counted : (ks : List Bytes) (xs : List Entry) (ns : List ℕ) → length ns ≡ length ks → length (counted ks xs ns) ≡ length ks
+length-counted [] xs ns e = e
+length-counted (x ∷ ks) xs [] e = e
+length-counted (x ∷ ks) xs (n ∷ ns) e = omega (arith, length-counted ks xs ns (omega arith))
+
+-- nothing counted changes nothing
+pub counted_none : (ks : List Bytes) (ns : List ℕ) → length ns ≡ length ks → counted ks [] ns ≡ ns
+counted_none [] ns e = refl
+counted_none (x ∷ ks) [] e = refl
+counted_none (x ∷ ks) (n ∷ ns) e = ap₂ (λ n (ns : List ℕ). n ∷ ns) (omega arith) (counted_none ks ns (omega arith))
+
+-- ---- a look-up
+same_exact : (x y : Bytes) → same_key x y ≡ true → x ≡ y
+same_exact x y e = key_exact x y ((Equal-is (key_cmp x y)).0 e)
+
+found_at : (ks : List Bytes) (x : Bytes) (i : ℕ) → position (same_key x) ks ≡ Some i → slice_get ks i ≡ Some x
+found_at ks x i e =
+    let p = position-Some (same_key x) ks i x e in
+    slice_get-get_or ks i x p.0 ∙ ap Some (sym (same_exact x (get_or ks i x) p.1))
+
+-- rising keys have a key at one place
+one_place : (ks : List Bytes) (x : Bytes) (i j : ℕ) → IsStrictlySortedBy key_cmp ks → slice_get ks i ≡ Some x → slice_get ks j ≡ Some x → i < j → ⊥
+one_place ks x i j h e f l =
+    let less : key_cmp (get_or ks i x) (get_or ks j x) ≡ Less = Less-from_sorted key_cmp ks i j x h l (slice_get_within ks j x f) in
+    cc (less, ap₂ key_cmp (get_or_from_slice_get ks i x x e) (get_or_from_slice_get ks j x x f), key_self x)
+
+-- what a look-up by hash says of rising keys
+pub place_is : (ks : List Bytes) (x : Bytes) (r : Option ℕ) → IsStrictlySortedBy key_cmp ks → r ≡ position (same_key x) ks → is_some r ≡ list_any (same_key x) ks → (i : ℕ) → (r ≡ Some i) ↔ (slice_get ks i ≡ Some x)
+place_is ks x None h e found i = (λ p. absurd (cc p), λ p. absurd (true≢false (sym (list_any-from_Contains (eq_by_cmp_equiv key_total) x ks (i, slice_get_within ks i x p, get_or_from_slice_get ks i x x p)) ∙ sym found)))
+place_is ks x (Some j) h e found i =
+    let at_j = found_at ks x j (sym e) in (
+      λ p. found_at ks x i (sym e ∙ p),
+      λ p. ap Some (same_number i j (one_place ks x i j h p at_j) (one_place ks x j i h at_j p)),
+    )
+  where
+    same_number : (i j : ℕ) → (i < j → ⊥) → (j < i → ⊥) → j ≡ i
+    same_number i j a b = grind (arith, a, b)
+
+pub place_found : (ks : List Bytes) (x : Bytes) (r : Option ℕ) → r ≡ position (same_key x) ks → is_some r ≡ list_any (same_key x) ks → IsSome r ↔ Contains ks x
+place_found ks x None e found = (λ p. absurd (true≢false (sym p)), λ p. absurd (true≢false (sym (list_any-from_Contains (eq_by_cmp_equiv key_total) x ks p) ∙ sym found)))
+place_found ks x (Some j) e found =
+    let at_j = found_at ks x j (sym e) in
+    (λ p. (j, slice_get_within ks j x at_j, get_or_from_slice_get ks j x x at_j), λ p. refl)
+
+-- ---- one more item
+weight_of-one : (x : Bytes) (e : Entry) → weight_of x (e ∷ []) ≡ at_key x e
+weight_of-one x e = omega (arith, weight_of-cons x e [])
+
+unequal : (x : Bytes) (e : Entry) → same_key x e.0 ≡ false → at_key x e ≡ 0
+unequal x e h = ap (λ b. cond b e.1 0) h
+
+-- an item whose key is none of them
+counted_miss : (ks : List Bytes) (ns : List ℕ) (e : Entry) → length ns ≡ length ks → AllByRecursion (λ y. same_key y e.0 ≡ false) ks → counted ks (e ∷ []) ns ≡ ns
+counted_miss [] ns e l h = refl
+counted_miss (k ∷ ks) [] e l h = refl
+counted_miss (k ∷ ks) (n ∷ ns) e l h = ap₂ (λ n (ns : List ℕ). n ∷ ns) (omega (arith, weight_of-one k e, unequal k e h.0)) (counted_miss ks ns e (omega arith) h.1)
+
+above_differ : (x : Bytes) (ks : List Bytes) → AllByRecursion (λ y. key_cmp x y ≡ Less) ks → AllByRecursion (λ y. same_key y x ≡ false) ks
+above_differ x [] h = tt
+above_differ x (k ∷ ks) h = (ap is_eq (flipped x k Less h.0), above_differ x ks h.1)
+
+none_of_them : (ks : List Bytes) (x : Bytes) → ((i : ℕ) → slice_get ks i ≡ Some x → ⊥) → AllByRecursion (λ y. same_key y x ≡ false) ks
+none_of_them [] x h = tt
+none_of_them (k ∷ ks) x h = (by (same_key k x) refl, none_of_them ks x (λ i p. h (suc i) p))
+  where
+    by : (b : Bool) → same_key k x ≡ b → same_key k x ≡ false
+    by true e = absurd (h 0 (ap Some (same_exact k x e)))
+    by false e = e
+
+-- an item whose key is the one at this place
+counted_hit : (ks : List Bytes) (ns : List ℕ) (p : ℕ) (e : Entry) → length ns ≡ length ks → IsStrictlySortedBy key_cmp ks → slice_get ks p ≡ Some e.0 → slice_set ns p (get_or ns p 0 + e.1) ≡ counted ks (e ∷ []) ns
+unfolding IsStrictlySortedBy
+counted_hit [] ns p e l h at = absurd (omega (arith, slice_get_within [] p e.0 at))
+counted_hit (k ∷ ks) [] p e l h at = absurd (omega (arith, l))
+counted_hit (k ∷ ks) (n ∷ ns) zero e l h at =
+    let same : k ≡ e.0 = get_or_from_slice_get (k ∷ ks) 0 e.0 k at in
+    let weight : weight_of k (e ∷ []) ≡ e.1 = weight_of-one k e ∙ ap (λ y. cond (same_key y e.0) e.1 0) same ∙ ap (λ r. cond (is_eq r) e.1 0) (key_self e.0) in
+    let above = subst (λ y. AllByRecursion (λ z. key_cmp y z ≡ Less) ks) same h.0 in
+    ap₂ (λ n (ns : List ℕ). n ∷ ns) (omega (arith, weight)) (sym (counted_miss ks ns e (omega arith) (above_differ e.0 ks above)))
+counted_hit (k ∷ ks) (n ∷ ns) (suc p) e l h at =
+    let less : key_cmp k e.0 ≡ Less = below k e.0 ks p h.0 at in
+    ap₂ (λ n (ns : List ℕ). n ∷ ns) (omega (arith, weight_of-one k e, at_other k e Less less refl)) (counted_hit ks ns p e (omega arith) h.1 at)
+  where
+    below : (k x : Bytes) (ks : List Bytes) (p : ℕ) → AllByRecursion (λ y. key_cmp k y ≡ Less) ks → slice_get ks p ≡ Some x → key_cmp k x ≡ Less
+    below k x [] p h at = absurd (omega (arith, slice_get_within [] p x at))
+    below k x (y ∷ ks) zero h at = ap (key_cmp k) (sym (get_or_from_slice_get (y ∷ ks) 0 x y at)) ∙ h.0
+    below k x (y ∷ ks) (suc p) h at = below k x ks p h.1 at
+
+-- one turn of the count, at a candidate and elsewhere
+pub count_turn : (ks : List Bytes) (xs : List Entry) (ns now new : List ℕ) (i : ℕ) (e : Entry) → i < length xs → e ≡ get_or xs i e → now ≡ counted ks (take i xs) ns → new ≡ counted ks (e ∷ []) now → new ≡ counted ks (take (i + 1) xs) ns
+count_turn ks xs ns now new i e l is before after =
+    after ∙ ap (counted ks (e ∷ [])) before ∙ sym (counted-append ks (take i xs) (e ∷ []) ns)
+    ∙ ap (λ (ys : List Entry). counted ks ys ns) (ap (λ y. take i xs ++ y ∷ []) is ∙ sym (take_more xs i e l))
+
+pub count_hit : (ks : List Bytes) (now : List ℕ) (p : ℕ) (x : Bytes) (w : ℕ) → IsStrictlySortedBy key_cmp ks → length now ≡ length ks → slice_get ks p ≡ Some x → slice_set now p (get_or now p 0 + w) ≡ counted ks ((x, w) ∷ []) now
+count_hit ks now p x w h l at = counted_hit ks now p (x, w) l h at
+
+pub count_miss : (ks : List Bytes) (now : List ℕ) (x : Bytes) (w : ℕ) → length now ≡ length ks → ((i : ℕ) → slice_get ks i ≡ Some x → ⊥) → now ≡ counted ks ((x, w) ∷ []) now
+count_miss ks now x w l h = sym (counted_miss ks now (x, w) l (none_of_them ks x h))
+
+-- ---- no number grows too large
+pub weight_of-le-total_of : (x : Bytes) (xs : List Entry) → weight_of x xs ≤ total_of xs
+weight_of-le-total_of x [] = omega arith
+weight_of-le-total_of x (e ∷ xs) = omega (arith, weight_of-cons x e xs, total_of-cons e xs, at_most (same_key x e.0) e.1, weight_of-le-total_of x xs)
+  where
+    at_most : (b : Bool) (n : ℕ) → cond b n 0 ≤ n
+    at_most true n = omega arith
+    at_most false n = omega arith
+
+pub counted-le : (ks : List Bytes) (xs : List Entry) (ns : List ℕ) (p : ℕ) → length ns ≡ length ks → get_or (counted ks xs ns) p 0 ≤ get_or ns p 0 + total_of xs
+counted-le [] xs ns p l = omega arith
+counted-le (k ∷ ks) xs [] p l = absurd (omega (arith, l))
+counted-le (k ∷ ks) xs (n ∷ ns) zero l = omega (arith, weight_of-le-total_of k xs)
+counted-le (k ∷ ks) xs (n ∷ ns) (suc p) l = counted-le ks xs ns p (omega arith)
+
+-- ---- the keys of a summary
+pub insert_next : (ks : List Bytes) (i : ℕ) (x : Bytes) → IsStrictlySortedBy key_cmp ks → i < length ks → x ≡ get_or ks i x → insert_key same_key (take i ks) x ≡ take (i + 1) ks
+insert_next ks i x h l is =
+    let none : list_any (same_key x) (take i ks) ≡ false = list_any_none (same_key x) (take i ks) (λ j d m. differ j d m) in
+    ap (λ b. cond b (take i ks) (take i ks ++ x ∷ [])) none ∙ ap (λ y. take i ks ++ y ∷ []) is ∙ sym (take_more ks i x l)
+  where
+    differ : (j : ℕ) (d : Bytes) → j < length (take i ks) → same_key x (get_or (take i ks) j d) ≡ false
+    differ j d m =
+        let below : j < i = omega (arith, m, length-take i ks) in
+        let less : key_cmp (get_or ks j d) (get_or ks i d) ≡ Less = Less-from_sorted key_cmp ks j i d h below l in
+        let here : get_or ks i d ≡ x = get_or_default ks i d x l ∙ sym is in
+        ap (same_key x) (get_or-take i ks j d below) ∙ ap is_eq (flipped (get_or ks j d) x Less (ap (key_cmp (get_or ks j d)) (sym here) ∙ less))

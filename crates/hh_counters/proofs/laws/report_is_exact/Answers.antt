@@ -1,0 +1,8 @@
+use Rattle.hh_counters.proofs.laws.report_is_exact.Goals as goal
+use Rattle.hh_counters.proofs.Reports.{heavy_is_report, one_report}
+
+pub returns-clause-exact : goal.returns-clause-exact
+returns-clause-exact c = heavy_is_report
+
+pub returns-clause-unique : goal.returns-clause-unique
+returns-clause-unique c = one_report

@@ -1,0 +1,7 @@
+use Rattle.std.proofs.Common.{◌≡◌, take}
+use Rattle.std.specs.Prelude.{filter, zip}
+use Rattle.hh_counters.specs.Report.{is_heavy}
+use Rattle.hh_counters.proofs.report.heavy_rows.Given as goal
+
+abbrev pub invariant-loop-i : goal.invariant-loop-i
+invariant-loop-i l = l.rows.items ≡ filter (is_heavy l.p l.q l.total) (take l.i (zip l.keys l.numbers))

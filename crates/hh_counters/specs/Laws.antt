@@ -1,0 +1,91 @@
+-- What holds of the definitions.
+use Rattle.std.specs.Prelude.{◌≡◌, ℕ, ◌+◌, ◌-◌, ◌*◌, ◌<◌, ◌≤◌, List, ◌++◌, All, filter, zip, length, replicate, Contains, IsPermutation}
+use Rattle.std.specs.Map.{keys_of}
+use Rattle.hh_stream.specs.Weights.{Bytes, Entry, weight_of, total_of}
+use Rattle.hh_counters.specs.Counters.{Counters, IsCounters, IsLevel, level, plus, join, misra_gries, IsHonest, slack}
+use Rattle.hh_counters.specs.SpaceSaving.{least_of, translate, IsRun, space_saving}
+use Rattle.hh_counters.specs.Report.{heavy, selected, weights_at, counted, has_counter, IsReport}
+
+-- the counters of a stream are honest for it
+abbrev pub MisraGriesIsHonest : Type 0
+MisraGriesIsHonest = (xs : List Entry) (k : ℕ) → IsHonest (misra_gries xs k) (total_of xs) xs k
+
+-- two honest summaries, joined, are honest for both lists together
+abbrev pub JoinOfHonestIsHonest : Type 0
+JoinOfHonestIsHonest =
+    (c d : Counters) (m l : ℕ) (xs ys : List Entry) (k : ℕ) → IsHonest c m xs k → IsHonest d l ys k → IsHonest (join c d k) (m + l) (xs ++ ys) k
+
+-- each key above p/q of the total has a counter
+abbrev pub HeavyKeysHaveCounters : Type 0
+HeavyKeysHaveCounters =
+    (c : Counters) (xs : List Entry) (k p q : ℕ) → IsHonest c (total_of xs) xs k → q ≤ p * (k + 1) → (e : Entry) → Contains (heavy xs p q) e → 0 < weight_of e.0 c
+
+-- a counter is at most its key's weight, and at most the slack below it
+abbrev pub CountersBoundWeights : Type 0
+CountersBoundWeights =
+    (c : Counters) (xs : List Entry) (k : ℕ) → IsHonest c (total_of xs) xs k → (x : Bytes) → (weight_of x c ≤ weight_of x xs) × (weight_of x xs ≤ weight_of x c + slack c (total_of xs) k)
+
+-- the computed level is the least such number, and no other number is
+abbrev pub LevelIsLeast : Type 0
+LevelIsLeast = (c : Counters) (k t : ℕ) → IsLevel c k (level c k) × (IsLevel c k t → t ≡ level c k)
+
+-- the sum is the finite map with both numbers at each key, and no other is
+abbrev pub SumIsByKey : Type 0
+SumIsByKey =
+    (c d : Counters) → IsCounters c → IsCounters d → IsCounters (plus c d) × ((x : Bytes) → weight_of x (plus c d) ≡ weight_of x c + weight_of x d)
+    × ((s : Counters) → IsCounters s → ((x : Bytes) → weight_of x s ≡ weight_of x c + weight_of x d) → s ≡ plus c d)
+
+-- what a join leaves is a finite map with each number less the level
+abbrev pub JoinTakesTheLevel : Type 0
+JoinTakesTheLevel =
+    (c d : Counters) (k : ℕ) → IsCounters (join c d k) × ((x : Bytes) → weight_of x (join c d k) ≡ weight_of x c + weight_of x d - level (plus c d) k)
+
+-- the report is exact and in order
+abbrev pub ReportIsExact : Type 0
+ReportIsExact = (xs : List Entry) (p q : ℕ) → IsReport xs p q (heavy xs p q)
+
+-- what honest counters say, with subtractions that do not stop at 0
+abbrev pub HonestIsNear : Type 0
+HonestIsNear =
+    (c : Counters) (m : ℕ) (xs : List Entry) (k : ℕ) → IsHonest c m xs k
+    → (total_of c ≤ m) × ((x : Bytes) → (k + 1) * (weight_of x xs - weight_of x c) ≤ m - total_of c)
+
+-- only the weights matter, not the order of the items
+abbrev pub HonestInAnyOrder : Type 0
+HonestInAnyOrder = (c : Counters) (m : ℕ) (xs ys : List Entry) (k : ℕ) → IsPermutation xs ys → IsHonest c m xs k → IsHonest c m ys k
+
+-- two lists that say what a report must are one
+abbrev pub ReportIsUnique : Type 0
+ReportIsUnique = (xs : List Entry) (p q : ℕ) (es : List Entry) → IsReport xs p q es → es ≡ heavy xs p q
+
+-- a second pass over the keys of counters finds the heavy keys that have a counter, and of honest counters all of them
+abbrev pub CandidatesSuffice : Type 0
+CandidatesSuffice =
+    (c : Counters) (xs : List Entry) (k p q : ℕ)
+    → (IsCounters c → selected p q (total_of xs) (zip (keys_of c) (weights_at (keys_of c) xs)) ≡ filter (has_counter c) (heavy xs p q))
+    × (IsHonest c (total_of xs) xs k → q ≤ p * (k + 1) → selected p q (total_of xs) (zip (keys_of c) (weights_at (keys_of c) xs)) ≡ heavy xs p q)
+
+-- counting starts at 0, and pieces may be counted one after the other
+abbrev pub CountsAddUp : Type 0
+CountsAddUp =
+    (ks : List Bytes) (xs ys : List Entry) (ns : List ℕ)
+    → (counted ks xs (replicate (length ks) 0) ≡ weights_at ks xs) × (counted ks (xs ++ ys) ns ≡ counted ks ys (counted ks xs ns))
+
+-- the counters of a run add up to the items' total
+abbrev pub RunSumsToTotal : Type 0
+RunSumsToTotal = (xs : List Entry) (k : ℕ) (s : Counters) → All (λ e. 0 < e.1) xs → IsRun xs k s → total_of s ≡ total_of xs
+
+-- a monitored key's counter is at least its weight, and above it by at most the least counter; no other key weighs more than that
+abbrev pub RunBoundsWeights : Type 0
+RunBoundsWeights =
+    (xs : List Entry) (k : ℕ) (s : Counters) → All (λ e. 0 < e.1) xs → IsRun xs k s → (x : Bytes)
+    → (0 < weight_of x s → (weight_of x xs ≤ weight_of x s) × (weight_of x s ≤ weight_of x xs + least_of s k))
+    × (weight_of x s ≡ 0 → weight_of x xs ≤ least_of s k)
+
+-- a run, translated, is Misra-Gries, whichever least keys were dropped
+abbrev pub TranslationIsMisraGries : Type 0
+TranslationIsMisraGries = (xs : List Entry) (k : ℕ) (s : Counters) → All (λ e. 0 < e.1) xs → IsRun xs k s → translate s k ≡ misra_gries xs k
+
+-- the product's steps make a run
+abbrev pub StepsAreARun : Type 0
+StepsAreARun = (xs : List Entry) (k : ℕ) → All (λ e. 0 < e.1) xs → IsRun xs k (space_saving xs k)

@@ -1,0 +1,109 @@
+//! The keys of a summary as candidates for the report.
+
+ghost use Rattle.std.specs.Prelude.{◌≡◌, ℕ, ◌+◌, ◌<◌, ◌≤◌, ◌^◌, ◌↔◌, ◌==◌, All, Contains, IsSome, IfSome, IfOk, Some, length, slice_get, zip};
+ghost use Rattle.std.specs.List.Sorted.{IsStrictlySortedBy};
+ghost use Rattle.std.specs.Map.{keys_of};
+ghost use Rattle.hh_stream.specs.Weights.{key_cmp, total_of};
+ghost use Rattle.hh_counters.specs.Report.{counted, selected};
+
+use crate::report::{Heavy, selected_rows};
+use crate::summary::{MAX_K, Summary};
+use hh_stream::{Item, Key};
+use indexmap::IndexSet;
+use std::alloc::{AllocError, Global};
+use std::marker::Model;
+
+/// The keys of a summary, each at its place by rising key.
+///
+/// Each key that is heavy in the summary's stream is among them, so a second pass over the stream
+/// that counts their weights finds the report. A contract sees the list of the keys.
+#[derive(Debug, Drop)]
+pub struct Candidates {
+    keys: IndexSet<Key>,
+}
+
+impl Model for Candidates {
+    ghost use Rattle.std.specs.Prelude.{List};
+    ghost use Rattle.std.specs.List.Sorted.{IsStrictlySortedBy};
+    ghost use Rattle.hh_stream.specs.Weights.{Bytes, key_cmp};
+
+    ghost Value = { List Bytes };
+
+    ghost view = { λ candidates. candidates.keys.keys };
+
+    ghost invariant = { λ candidates. IsStrictlySortedBy key_cmp candidates.keys.keys };
+}
+
+impl Candidates {
+    /// The keys that have a counter.
+    pub fn of(alloc: Global, summary: &Summary) -> Result<Candidates, AllocError>
+        ensures { IfOk result (λ candidates. candidates ≡ keys_of summary.now.counters) }
+    {
+        let mut keys = IndexSet::with_capacity(alloc, summary.len())?;
+        for i in 0..summary.len() {
+            let (key, _) = summary.entry(i);
+            keys.insert(key.copy()?)?;
+        }
+        Ok(Candidates { keys })
+    }
+
+    /// How many candidates there are.
+    pub fn len(&self) -> usize
+        ensures len { result ≡ length self.now }
+        ensures rising { IsStrictlySortedBy key_cmp self.now }
+    {
+        self.keys.len()
+    }
+
+    /// Whether there is no candidate.
+    pub fn is_empty(&self) -> bool
+        ensures { result ≡ (length self.now == 0) }
+    {
+        self.keys.is_empty()
+    }
+
+    /// The i-th key by rising key.
+    pub fn key(&self, i: usize) -> &Key
+        requires { i < length self.now }
+        ensures { slice_get self.now i ≡ Some result.now }
+    {
+        &self.keys.as_slice()[i]
+    }
+
+    /// Where the key is, if it is a candidate.
+    pub fn place(&self, key: &Key) -> Option<usize>
+        ensures at { (i : ℕ) → (result ≡ Some i) ↔ (slice_get self.now i ≡ Some key.now) }
+        ensures found { IsSome result ↔ Contains self.now key.now }
+        ensures within { IfSome result (λ i. i < length self.now) }
+    {
+        self.keys.get_index_of(key)
+    }
+
+    /// Adds to the number at each place the weight of the place's key in the items.
+    pub fn count_piece(&self, items: &[Item], numbers: &mut [u64])
+        requires lengths { length numbers.old ≡ length self.now }
+        requires bounded { All (λ n. n + total_of items.now < 2 ^ 64) numbers.old }
+        ensures { numbers.new ≡ counted self.now items.now numbers.old }
+    {
+        if self.keys.is_empty() {
+            return;
+        }
+        for item in items {
+            if let Some(place) = self.place(item.key()) {
+                numbers[place] += item.weight();
+            }
+        }
+    }
+
+    /// The rows of the report: the keys whose number is more than the total divided by k + 1, each
+    /// with its number, by falling number and then by rising key.
+    pub fn select(&self, numbers: &[u64], total: u64, k: u64) -> Result<Vec<Heavy>, AllocError>
+        requires lengths { length numbers.now ≡ length self.now }
+        requires some_k { 1 ≤ k }
+        requires bounded_k { k ≤ MAX_K }
+        ensures { IfOk result (λ rows. rows.items ≡ selected 1 (k + 1) total (zip self.now numbers.now)) }
+    {
+        let alloc = *self.keys.allocator();
+        selected_rows(alloc, self.keys.as_slice(), numbers, 1, k + 1, total)
+    }
+}

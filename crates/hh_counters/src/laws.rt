@@ -1,0 +1,71 @@
+//! Laws of the definitions in `specs/`. Each function does nothing: its contract is the law.
+
+ghost use Rattle.hh_counters.specs.Laws.{MisraGriesIsHonest, JoinOfHonestIsHonest, HeavyKeysHaveCounters, CountersBoundWeights, LevelIsLeast, SumIsByKey, JoinTakesTheLevel, ReportIsExact, ReportIsUnique, HonestIsNear, HonestInAnyOrder, CandidatesSuffice, CountsAddUp, RunSumsToTotal, RunBoundsWeights, TranslationIsMisraGries, StepsAreARun};
+
+/// The Misra-Gries counters of a list of items are honest for it (Misra and Gries 1982).
+pub fn misra_gries_is_honest()
+    ensures { MisraGriesIsHonest }
+{}
+
+/// Two honest summaries, joined, are honest for both lists together (Agarwal et al., PODS 2012).
+pub fn join_of_honest_is_honest()
+    ensures { JoinOfHonestIsHonest }
+{}
+
+/// Honest counters have a counter for each heavy key.
+pub fn heavy_keys_have_counters()
+    ensures { HeavyKeysHaveCounters }
+{}
+
+/// An honest counter is never above its key's weight, and at most the slack below it.
+pub fn counters_bound_weights()
+    ensures { CountersBoundWeights }
+{}
+
+/// Honest counters are within the total and near each weight, in whatever order the items come.
+pub fn honest_is_near()
+    ensures near { HonestIsNear }
+    ensures order { HonestInAnyOrder }
+{}
+
+/// The level is the least number that at most k counters exceed.
+pub fn level_is_least()
+    ensures { LevelIsLeast }
+{}
+
+/// A sum of counters is key by key, and a join takes the level from it.
+pub fn sum_is_by_key()
+    ensures sum { SumIsByKey }
+    ensures join { JoinTakesTheLevel }
+{}
+
+/// The report has exactly the heavy keys with their weights, in order, and no other list does.
+pub fn report_is_exact()
+    ensures exact { ReportIsExact }
+    ensures unique { ReportIsUnique }
+{}
+
+/// The keys of honest counters are candidates enough: counted over the whole stream and selected,
+/// they are the report.
+pub fn candidates_suffice()
+    ensures { CandidatesSuffice }
+{}
+
+/// Candidates counted from 0 have their weights, and counting piece by piece is counting all.
+pub fn counts_add_up()
+    ensures { CountsAddUp }
+{}
+
+/// The counters of any run of Space-Saving, whichever least keys were dropped, add up to the total,
+/// and lie above their keys' weights by at most the least counter.
+pub fn space_saving_bounds_weights()
+    ensures total { RunSumsToTotal }
+    ensures bounds { RunBoundsWeights }
+{}
+
+/// Any run of Space-Saving, whichever least keys were dropped, translates to the Misra-Gries
+/// counters (Agarwal et al., PODS 2012). The product's own steps make such a run.
+pub fn translation_is_misra_gries()
+    ensures translation { TranslationIsMisraGries }
+    ensures steps { StepsAreARun }
+{}

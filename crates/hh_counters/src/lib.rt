@@ -1,0 +1,15 @@
+//! Counters for the frequent keys of a weighted stream: Misra-Gries summaries, their merge, and the
+//! rows of the report that a second pass makes of their keys.
+#![tactic(auto)]
+
+mod candidates;
+mod entries;
+pub mod laws;
+mod report;
+mod summary;
+#[cfg(test)]
+mod tests;
+
+pub use candidates::Candidates;
+pub use report::Heavy;
+pub use summary::{AddFault, BadK, MAX_K, MergeFault, OfItemsFault, Summary};

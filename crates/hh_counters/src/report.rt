@@ -1,0 +1,76 @@
+//! The rows of a report, and their choice among candidates.
+
+ghost use Rattle.std.specs.Prelude.{◌≡◌, ◌*◌, nat_lt, IfOk, filter, length, zip};
+ghost use Rattle.std.specs.List.Sorted.{IsStrictlySortedBy};
+ghost use Rattle.hh_stream.specs.Weights.{key_cmp};
+ghost use Rattle.hh_counters.specs.Report.{is_heavy, selected};
+
+use hh_stream::Key;
+use std::alloc::{AllocError, Global};
+use std::marker::Model;
+
+/// A row of a report: a key with its weight in the stream. A contract sees the pair.
+#[derive(Debug, Drop)]
+pub struct Heavy {
+    pub key: Key,
+    pub weight: u64,
+}
+
+impl Model for Heavy {
+    ghost use Rattle.hh_stream.specs.Weights.{Entry};
+
+    ghost Value = { Entry };
+
+    ghost view = { λ a. (a.key, a.weight) };
+}
+
+/// The keys whose number is more than p/q of the total, each with its number, by falling number and
+/// then by rising key. They are sorted in place, with no memory beside the rows.
+pub fn selected_rows(
+    alloc: Global,
+    keys: &[Key],
+    numbers: &[u64],
+    p: u64,
+    q: u64,
+    total: u64,
+) -> Result<Vec<Heavy>, AllocError>
+    requires rising { IsStrictlySortedBy key_cmp keys.now }
+    requires lengths { length numbers.now ≡ length keys.now }
+    ensures { IfOk result (λ rows. rows.items ≡ selected p q total (zip keys.now numbers.now)) }
+{
+    let mut rows = heavy_rows(alloc, keys, numbers, p, q, total)?;
+    rows.sort_unstable_by(|a, b| b.weight.cmp(&a.weight).then(a.key.cmp(&b.key)));
+    Ok(rows)
+}
+
+// The keys whose number is more than p/q of the total, each with its number, by rising key.
+fn heavy_rows(
+    alloc: Global,
+    keys: &[Key],
+    numbers: &[u64],
+    p: u64,
+    q: u64,
+    total: u64,
+) -> Result<Vec<Heavy>, AllocError>
+    requires { length numbers.now ≡ length keys.now }
+    ensures { IfOk result (λ rows. rows.items ≡ filter (is_heavy p q total) (zip keys.now numbers.now)) }
+{
+    let mut rows = Vec::new(alloc);
+    for i in 0..keys.len() {
+        if is_share(numbers[i], p, q, total) {
+            let row = Heavy {
+                key: keys[i].copy()?,
+                weight: numbers[i],
+            };
+            rows.push(row)?;
+        }
+    }
+    Ok(rows)
+}
+
+// Whether the number is more than p/q of the total.
+fn is_share(number: u64, p: u64, q: u64, total: u64) -> bool
+    ensures { result ≡ nat_lt (p * total) (q * number) }
+{
+    u128::from(p) * u128::from(total) < u128::from(q) * u128::from(number)
+}

@@ -1,0 +1,242 @@
+//! Misra-Gries summaries.
+
+ghost use Rattle.std.specs.Prelude.{◌≡◌, ℕ, ◌+◌, ◌<◌, ◌≤◌, ◌^◌, ◌↔◌, ◌⊎◌, [], ◌≢◌, ◌==◌, IsTrue, IsErr, IsErrOf, IfOk, OnOk, OnErr, length, slice_index_or};
+ghost use Rattle.hh_stream.specs.Weights.{weight_of, total_of};
+ghost use Rattle.hh_counters.specs.Counters.{Fits, IsCounters, Sketch, added, merged, sketch_of, slack};
+
+use crate::entries::{add_item, are_counters, counter_of, joined, sum_of, sums_within};
+use hh_stream::{Item, Key, MAX_TOTAL};
+use std::alloc::Global;
+use std::marker::Model;
+
+/// The largest k.
+pub const MAX_K: u64 = 65_535;
+
+/// A summary of a weighted stream: at most k keys with counters, as Misra and Gries keep them
+/// (1982), and the stream's total.
+///
+/// A key's counter is never above its weight in the stream, and at most [`slack`](Summary::slack)
+/// below it, so each key whose weight is more than the total divided by k + 1 has a counter. Merged
+/// summaries keep that promise (Agarwal et al., Mergeable Summaries, PODS 2012). A contract sees k,
+/// the total and the list of counters by rising key.
+#[derive(Debug, Drop)]
+pub struct Summary {
+    k: u64,
+    total: u64,
+    entries: Vec<(Key, u64)>,
+}
+
+impl Model for Summary {
+    ghost use Rattle.hh_counters.specs.Counters.{Sketch, Fits};
+
+    ghost Value = { Sketch };
+
+    ghost view = { λ s. record { k = s.k; total = s.total; counters = s.entries.items } };
+
+    ghost invariant = { λ s. Fits s.k s.total s.entries.items };
+}
+
+/// k is not 1 to [`MAX_K`].
+#[derive(Clone, Copy, Debug, PartialEq, Eq)]
+pub struct BadK;
+
+/// Why an item was not added.
+#[derive(Clone, Copy, Debug, PartialEq, Eq)]
+pub enum AddFault {
+    /// The total would be above [`MAX_TOTAL`].
+    TotalTooLarge,
+    /// The allocator had no memory.
+    Memory,
+}
+
+/// Why a summary was not merged.
+#[derive(Clone, Copy, Debug, PartialEq, Eq)]
+pub enum MergeFault {
+    /// The two summaries have different k.
+    DifferentK,
+    /// The total would be above [`MAX_TOTAL`].
+    TotalTooLarge,
+    /// The allocator had no memory.
+    Memory,
+}
+
+/// Why there is no summary of the items.
+#[derive(Clone, Copy, Debug, PartialEq, Eq)]
+pub enum OfItemsFault {
+    /// k is not 1 to [`MAX_K`].
+    BadK,
+    /// The allocator had no memory.
+    Memory,
+}
+
+impl Summary {
+    /// The summary of no items. It takes no memory.
+    pub fn new(alloc: Global, k: u64) -> Result<Summary, BadK>
+        ensures empty { IfOk result (λ s. s ≡ record { k = k; total = 0; counters = [] }) }
+        ensures bad_k { IsErr result ↔ ((k ≡ 0) ⊎ (MAX_K < k)) }
+    {
+        if k == 0 || k > MAX_K {
+            return Err(BadK);
+        }
+        Ok(Summary {
+            k,
+            total: 0,
+            entries: Vec::new(alloc),
+        })
+    }
+
+    /// The summary of the items, added one by one.
+    pub fn of_items(alloc: Global, k: u64, items: &[Item]) -> Result<Summary, OfItemsFault>
+        requires { total_of items.now ≤ MAX_TOTAL }
+        ensures misra_gries { IfOk result (λ s. s ≡ sketch_of k items.now) }
+        ensures bad_k { IsErrOf result OfItemsFault.BadK ↔ ((k ≡ 0) ⊎ (MAX_K < k)) }
+    {
+        let Ok(mut summary) = Summary::new(alloc, k) else {
+            return Err(OfItemsFault::BadK);
+        };
+        for item in items {
+            match summary.add(item.key(), item.weight()) {
+                Ok(()) => {}
+                Err(AddFault::TotalTooLarge) => unreachable!(),
+                Err(AddFault::Memory) => return Err(OfItemsFault::Memory),
+            }
+        }
+        Ok(summary)
+    }
+
+    /// Whether [`from_entries`](Summary::from_entries) makes a summary of these: k is 1 to
+    /// [`MAX_K`], the total is at most [`MAX_TOTAL`], there are at most k entries, their keys rise,
+    /// and their counters are at least 1 and add up to at most the total.
+    pub fn fits(k: u64, total: u64, entries: &[(Key, u64)]) -> bool
+        ensures { IsTrue result ↔ Fits k total entries.now }
+    {
+        1 <= k
+            && k <= MAX_K
+            && total <= MAX_TOTAL
+            && entries.len() as u64 <= k
+            && are_counters(entries)
+            && sums_within(entries, total)
+    }
+
+    /// The summary with these counters.
+    pub fn from_entries(k: u64, total: u64, entries: Vec<(Key, u64)>) -> Summary
+        requires { Fits k total entries.items }
+        ensures { result ≡ record { k = k; total = total; counters = entries.items } }
+    {
+        Summary { k, total, entries }
+    }
+
+    /// The most keys with counters.
+    pub fn k(&self) -> u64
+        ensures k { result ≡ self.now.k }
+        ensures fits { Fits self.now.k self.now.total self.now.counters }
+    {
+        self.k
+    }
+
+    /// The sum of the weights of all items.
+    pub fn total(&self) -> u64
+        ensures total { result ≡ self.now.total }
+        ensures bounded { result ≤ MAX_TOTAL }
+    {
+        self.total
+    }
+
+    /// How many keys have a counter.
+    pub fn len(&self) -> usize
+        ensures len { result ≡ length self.now.counters }
+        ensures few { result ≤ self.now.k }
+        ensures counters { IsCounters self.now.counters }
+    {
+        self.entries.len()
+    }
+
+    /// Whether no key has a counter.
+    pub fn is_empty(&self) -> bool
+        ensures { result ≡ (length self.now.counters == 0) }
+    {
+        self.entries.is_empty()
+    }
+
+    /// The sum of the counters.
+    pub fn sum(&self) -> u64
+        ensures sum { result ≡ total_of self.now.counters }
+        ensures within { result ≤ self.now.total }
+    {
+        sum_of(&self.entries)
+    }
+
+    /// How far a counter may be below its key's weight: the total less the sum of the counters,
+    /// divided by k + 1 and rounded down.
+    pub fn slack(&self) -> u64
+        ensures { result ≡ slack self.now.counters self.now.total self.now.k }
+    {
+        (self.total - self.sum()) / (self.k + 1)
+    }
+
+    /// The counter of the key, 0 where there is none.
+    pub fn get(&self, key: &Key) -> u64
+        ensures { result ≡ weight_of key.now self.now.counters }
+    {
+        counter_of(&self.entries, key)
+    }
+
+    /// The i-th key by rising key, with its counter.
+    pub fn entry(&self, i: usize) -> (&Key, u64)
+        requires { i < length self.now.counters }
+        ensures { (result.0.now, result.1) ≡ slice_index_or self.now.counters i (result.0.now, result.1) }
+    {
+        let entry = &self.entries[i];
+        (&entry.0, entry.1)
+    }
+
+    /// Adds an item: its key's counter grows by the weight, and where k + 1 keys then have counters,
+    /// the least of them is taken from each. After a refusal the summary is as it was.
+    pub fn add(&mut self, key: &Key, weight: u64) -> Result<(), AddFault>
+        requires { 0 < weight }
+        ensures added { OnOk result (self.new ≡ added self.old (key.now, weight)) }
+        ensures unchanged { OnErr result (self.new ≡ self.old) }
+        ensures too_large { IsErrOf result AddFault.TotalTooLarge ↔ (MAX_TOTAL < self.old.total + weight) }
+    {
+        if weight > MAX_TOTAL - self.total {
+            return Err(AddFault::TotalTooLarge);
+        }
+        match add_item(&mut self.entries, key, weight, self.k) {
+            Ok(()) => {
+                self.total += weight;
+                Ok(())
+            }
+            Err(_) => Err(AddFault::Memory),
+        }
+    }
+
+    /// Merges another summary with the same k: counters are added key by key, and where more than k
+    /// keys then have counters, the (k + 1)-th largest is taken from each. After a refusal the
+    /// summary is as it was.
+    pub fn merge(&mut self, other: &Summary) -> Result<(), MergeFault>
+        ensures merged { OnOk result (self.new ≡ merged self.old other.now) }
+        ensures unchanged { OnErr result (self.new ≡ self.old) }
+        ensures different_k { IsErrOf result MergeFault.DifferentK ↔ (self.old.k ≢ other.now.k) }
+        ensures too_large { IsErrOf result MergeFault.TotalTooLarge ↔ ((self.old.k ≡ other.now.k) × (MAX_TOTAL < self.old.total + other.now.total)) }
+    {
+        if self.k != other.k {
+            return Err(MergeFault::DifferentK);
+        }
+        if other.total > MAX_TOTAL - self.total {
+            return Err(MergeFault::TotalTooLarge);
+        }
+        match joined(
+            *self.entries.allocator(),
+            &self.entries,
+            &other.entries,
+            self.k,
+        ) {
+            Ok(all) => {
+                self.total += other.total;
+                self.entries = all;
+                Ok(())
+            }
+            Err(_) => Err(MergeFault::Memory),
+        }
+    }
+}
