@@ -6,3 +6,6 @@ pub mod Reports
 pub mod Places
 pub mod Counting
 pub mod Summing
+pub mod Lowering
+pub mod Stepping
+pub mod Runs

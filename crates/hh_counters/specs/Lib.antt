@@ -1,3 +1,4 @@
 pub mod Counters
 pub mod Report
+pub mod SpaceSaving
 pub mod Laws
