@@ -5,7 +5,7 @@ use Rattle.std.specs.List.{AllByRecursion, list_any}
 use Rattle.std.specs.List.Sorted.{IsStrictlySortedBy}
 use Rattle.std.specs.Cmp.{Equal-is, eq_by_cmp_equiv}
 use Rattle.std.proofs.lemmas.Option.{slice_get-get_or, slice_get_within, get_or_from_slice_get}
-use Rattle.std.proofs.lemmas.List.{get_or-take, length-take, take_more}
+use Rattle.std.proofs.lemmas.List.{get_or_default, get_or-take, length-take, take_more}
 use Rattle.std.proofs.lemmas.List.Folds.{list_any_none}
 use Rattle.std.proofs.lemmas.List.Quantifiers.{position-Some}
 use Rattle.std.proofs.lemmas.Map.Keys.{Less-from_sorted}
@@ -13,7 +13,6 @@ use Rattle.std.proofs.lemmas.Map.Views.{list_any-from_Contains}
 use Rattle.indexmap.specs.IndexSet.{insert_key}
 use Rattle.hh_stream.specs.Weights.{Bytes, Entry, key_cmp, same_key, at_key, weight_of, total_of}
 use Rattle.hh_counters.specs.Report.{weights_at, counted}
-use Rattle.hh_counters.proofs.Level.{same_at}
 use Rattle.hh_counters.proofs.Weights.{key_total, key_exact, key_self, flipped, weight_of-append, weight_of-cons, total_of-cons, at_other}
 
 pub counted_from_zero : (ks : List Bytes) (xs : List Entry) → counted ks xs (replicate (length ks) 0) ≡ weights_at ks xs
@@ -150,5 +149,5 @@ insert_next ks i x h l is =
     differ j d m =
         let below : j < i = omega (arith, m, length-take i ks) in
         let less : key_cmp (get_or ks j d) (get_or ks i d) ≡ Less = Less-from_sorted key_cmp ks j i d h below l in
-        let here : get_or ks i d ≡ x = same_at ks i d x l ∙ sym is in
+        let here : get_or ks i d ≡ x = get_or_default ks i d x l ∙ sym is in
         ap (same_key x) (get_or-take i ks j d below) ∙ ap is_eq (flipped (get_or ks j d) x Less (ap (key_cmp (get_or ks j d)) (sym here) ∙ less))

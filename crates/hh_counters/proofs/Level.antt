@@ -1,38 +1,40 @@
 -- The level, and what a cut takes.
-use Rattle.std.proofs.Common.{◌≡◌, ℕ, zero, suc, ◌+◌, ◌-◌, ◌*◌, ◌<◌, ◌≤◌, ◌⊎◌, inl, inr, ⊎_elim, Bool, true, false, cond, min, max, leb, List, [], ◌∷◌, length, map, Less, Equal, Greater, refl, sym, ap, ◌∙◌, subst, is_eq, mul-one, mul-zero, mul-add, arith}
-use Rattle.std.specs.Prelude.{filter, nat_lt, nat_le, slice_index_or}
+use Rattle.std.proofs.Common.{◌≡◌, ℕ, suc, ◌+◌, ◌-◌, ◌*◌, ◌<◌, ◌≤◌, ◌⊎◌, inl, inr, ⊎_elim, Bool, true, false, cond, min, max, leb, List, [], ◌∷◌, ◌++◌, length, get_or, map, Less, Equal, Greater, refl, sym, ap, ◌∙◌, subst, is_eq, mul-one, mul-zero, mul-add, arith}
+use Rattle.std.specs.Prelude.{filter, fold, count_by, nat_lt, nat_le, IsPermutation}
 use Rattle.std.specs.List.{AllByRecursion}
-use Rattle.std.specs.List.Sorted.{IsStrictlySortedBy}
+use Rattle.std.specs.List.Sorted.{IsStrictlySortedBy, IsSplitAround}
+use Rattle.std.specs.Ordering.{nat_cmp}
 use Rattle.std.specs.Map.{keys_of, values_of}
-use Rattle.std.proofs.lemmas.List.Sums.{sum_by-cons}
+use Rattle.std.proofs.lemmas.List.Sums.{sum_by-cons, sum_by-append, count_by-le-length}
+use Rattle.std.proofs.lemmas.List.Sorted.{sum_by-IsPermutation}
+use Rattle.std.proofs.lemmas.Map.Keys.{ge_from_not_lt}
 use Rattle.std.proofs.lemmas.Bool.Decides.{nat_tests, leb_tells}
 use Rattle.hh_stream.specs.Weights.{Bytes, Entry, key_cmp, at_key, weight_of, total_of}
-use Rattle.std.proofs.Math.Nat.{eq-or-lt_of_le}
-use Rattle.hh_counters.specs.Counters.{Counters, IsCounters, exceeds, over, IsLevel, less_by, lowest, level, lower}
+use Rattle.hh_counters.specs.Counters.{Counters, IsCounters, exceeds, over, IsLevel, less_by, least_passing, level, lower, least_counter}
 use Rattle.hh_counters.proofs.Weights.{weight_of-cons, total_of-cons, weight_above, at_other, key_exact}
 
 pub over-cons : (e : Entry) (c : Counters) (t : ℕ) → over (e ∷ c) t ≡ cond (nat_lt t e.1) 1 0 + over c t
 over-cons e c t = sum_by-cons (λ d. cond (exceeds t d) 1 0) e c
 
 -- ---- the least that passes
-lowest-le : (p : ℕ → Bool) (d : ℕ) (ns : List ℕ) → lowest p d ns ≤ d
-lowest-le p d [] = omega arith
-lowest-le p d (n ∷ ns) = elim (p n) as (λ b. cond b (min n (lowest p d ns)) (lowest p d ns) ≤ d) [
-  | true ↦ omega (arith, lowest-le p d ns)
-  | false ↦ lowest-le p d ns
+least_passing-le : (p : ℕ → Bool) (d : ℕ) (ns : List ℕ) → least_passing p d ns ≤ d
+least_passing-le p d [] = omega arith
+least_passing-le p d (n ∷ ns) = elim (p n) as (λ b. cond b (min n (least_passing p d ns)) (least_passing p d ns) ≤ d) [
+  | true ↦ omega (arith, least_passing-le p d ns)
+  | false ↦ least_passing-le p d ns
 ]
 
 min_is : (m n : ℕ) → (min m n ≡ m) ⊎ (min m n ≡ n)
 min_is m n = ⊎_elim (λ (h : (leb m n ≡ true) × (m ≤ n)). inl (omega arith)) (λ (h : (leb m n ≡ false) × (n < m)). inr (omega arith)) (leb_tells m n)
 
-lowest_passes : (p : ℕ → Bool) (d : ℕ) (ns : List ℕ) → p d ≡ true → p (lowest p d ns) ≡ true
-lowest_passes p d [] h = h
-lowest_passes p d (n ∷ ns) h = elim (p n) as (λ b. p n ≡ b → p (cond b (min n (lowest p d ns)) (lowest p d ns)) ≡ true) [
+least_passing_passes : (p : ℕ → Bool) (d : ℕ) (ns : List ℕ) → p d ≡ true → p (least_passing p d ns) ≡ true
+least_passing_passes p d [] h = h
+least_passing_passes p d (n ∷ ns) h = elim (p n) as (λ b. p n ≡ b → p (cond b (min n (least_passing p d ns)) (least_passing p d ns)) ≡ true) [
   | true ↦ λ e. ⊎_elim
-      (λ (m : min n (lowest p d ns) ≡ n). ap p m ∙ e)
-      (λ (m : min n (lowest p d ns) ≡ lowest p d ns). ap p m ∙ lowest_passes p d ns h)
-      (min_is n (lowest p d ns))
-  | false ↦ λ e. lowest_passes p d ns h
+      (λ (m : min n (least_passing p d ns) ≡ n). ap p m ∙ e)
+      (λ (m : min n (least_passing p d ns) ≡ least_passing p d ns). ap p m ∙ least_passing_passes p d ns h)
+      (min_is n (least_passing p d ns))
+  | false ↦ λ e. least_passing_passes p d ns h
 ] refl
 
 -- the largest of 0 and those of ns that are at most s
@@ -51,10 +53,10 @@ unfolding floor
 over-floor s [] n h l = refl
 over-floor s (e ∷ c) n h l = grind (arith, nat_tests, over-cons e c n, over-cons e c s, over-floor s c n)
 
-lowest-le-floor : (p : ℕ → Bool) (d s : ℕ) (ns : List ℕ) → p (floor s ns) ≡ true → (lowest p d ns ≤ floor s ns) ⊎ (floor s ns ≡ 0)
+least_passing-le-floor : (p : ℕ → Bool) (d s : ℕ) (ns : List ℕ) → p (floor s ns) ≡ true → (least_passing p d ns ≤ floor s ns) ⊎ (floor s ns ≡ 0)
 unfolding floor
-lowest-le-floor p d s [] h = inr refl
-lowest-le-floor p d s (n ∷ ns) h = grind (arith, nat_tests, lowest-le-floor p d s ns)
+least_passing-le-floor p d s [] h = inr refl
+least_passing-le-floor p d s (n ∷ ns) h = grind (arith, nat_tests, least_passing-le-floor p d s ns)
 
 -- each counter is at most the total, so none exceeds it
 pub over-none : (c : Counters) (t : ℕ) → total_of c ≤ t → over c t ≡ 0
@@ -67,16 +69,16 @@ is_level c k =
     let p : ℕ → Bool = λ t. nat_le (over c t) k in
     let vs : List ℕ = values_of c in
     let top : p (total_of c) ≡ true = grind (arith, nat_tests, over-none c (total_of c)) in
-    let passes : p (lowest p (total_of c) (0 ∷ vs)) ≡ true = lowest_passes p (total_of c) (0 ∷ vs) top in
+    let passes : p (least_passing p (total_of c) (0 ∷ vs)) ≡ true = least_passing_passes p (total_of c) (0 ∷ vs) top in
     record {
       at_most = grind (arith, nat_tests, passes);
       least = λ s h.
           let same : over c (floor s vs) ≡ over c s = over-floor s c (floor s vs) (omega arith) (floor-le s vs) in
           let passes_at : p (floor s vs) ≡ true = grind (arith, nat_tests, same, h) in
           ⊎_elim
-          (λ (l : lowest p (total_of c) vs ≤ floor s vs). grind (arith, nat_tests, l, floor-le s vs))
+          (λ (l : least_passing p (total_of c) vs ≤ floor s vs). grind (arith, nat_tests, l, floor-le s vs))
           (λ (l : floor s vs ≡ 0). let zero_passes : p 0 ≡ true = sym (ap p l) ∙ passes_at in grind (arith, nat_tests, zero_passes))
-          (lowest-le-floor p (total_of c) s vs passes_at);
+          (least_passing-le-floor p (total_of c) s vs passes_at);
     }
 
 pub one_level : (c : Counters) (k s t : ℕ) → IsLevel c k s → IsLevel c k t → s ≡ t
@@ -174,66 +176,79 @@ pub lower_is : (t : ℕ) (c : Counters) → lower t c ≡ map (less_by t) (filte
 unfolding lower
 lower_is t c = refl
 
--- ---- the level by a search among the counters
-floor_at : (s : ℕ) (c : Counters) → (floor s (values_of c) ≡ 0) ⊎ ((j : ℕ) × (j < length c) × ((d : Entry) → (slice_index_or c j d).1 ≡ floor s (values_of c)))
-unfolding floor
-floor_at s [] = inl refl
-floor_at s (e ∷ c) = elim (nat_le e.1 s) as (λ b. (cond b (max e.1 (floor s (values_of c))) (floor s (values_of c)) ≡ 0) ⊎ ((j : ℕ) × (j < length (e ∷ c)) × ((d : Entry) → (slice_index_or (e ∷ c) j d).1 ≡ cond b (max e.1 (floor s (values_of c))) (floor s (values_of c))))) [
-  | true ↦ ⊎_elim
-      (λ (h : (leb e.1 (floor s (values_of c)) ≡ true) × (e.1 ≤ floor s (values_of c))). later (max e.1 (floor s (values_of c))) (omega arith) (floor_at s c))
-      (λ (h : (leb e.1 (floor s (values_of c)) ≡ false) × (floor s (values_of c) < e.1)). inr (0, omega arith, λ d. omega arith))
-      (leb_tells e.1 (floor s (values_of c)))
-  | false ↦ later (floor s (values_of c)) refl (floor_at s c)
-]
-  where
-    later : (n : ℕ) → n ≡ floor s (values_of c) → (floor s (values_of c) ≡ 0) ⊎ ((j : ℕ) × (j < length c) × ((d : Entry) → (slice_index_or c j d).1 ≡ floor s (values_of c))) → (n ≡ 0) ⊎ ((j : ℕ) × (j < length (e ∷ c)) × ((d : Entry) → (slice_index_or (e ∷ c) j d).1 ≡ n))
-    later n same (inl z) = inl (same ∙ z)
-    later n same (inr h) = inr (suc h.0, omega (arith, h.1), λ d. h.2 d ∙ sym same)
+-- ---- the level where few counters, or one too many, are there
+over-le-length : (c : Counters) (t : ℕ) → over c t ≤ length c
+over-le-length c t = count_by-le-length (exceeds t) c
 
-pub level_from_search : (c : Counters) (k t : ℕ) → k < over c 0 → over c t ≤ k → ((j : ℕ) (d : Entry) → j < length c → over c (slice_index_or c j d).1 ≤ k → t ≤ (slice_index_or c j d).1) → t ≡ level c k
-level_from_search c k t many few least = one_level c k t _ (record {
-  at_most = few;
-  least = λ s h.
-      let f : ℕ = floor s (values_of c) in
-      let same : over c f ≡ over c s = over-floor s c f (omega arith) (floor-le s (values_of c)) in
-      ⊎_elim
-      (λ (z : f ≡ 0). absurd (omega (arith, ap (over c) z, same, h, many)))
-      (λ (m : (j : ℕ) × (j < length c) × ((d : Entry) → (slice_index_or c j d).1 ≡ f)).
-      let e : Entry = ([], 0) in
-      omega (arith, least m.0 e m.1 (omega (arith, ap (over c) (m.2 e), same, h)), m.2 e, floor-le s (values_of c)))
-      (floor_at s c);
+pub level_few : (c : Counters) (k : ℕ) → length c ≤ k → level c k ≡ 0
+level_few c k h = one_level c k _ 0 (is_level c k) (record { at_most = omega (arith, over-le-length c 0); least = λ s g. omega arith })
+
+pub over_all : (c : Counters) (t m : ℕ) → AllByRecursion (λ (e : Entry). m ≤ e.1) c → t < m → over c t ≡ length c
+over_all [] t m a h = refl
+over_all (e ∷ c) t m a h = grind (arith, nat_tests, over-cons e c t, a.0, h, over_all c t m a.1 h)
+
+-- with more than k counters, none below m
+pub level_above : (c : Counters) (k m : ℕ) → AllByRecursion (λ (e : Entry). m ≤ e.1) c → k < length c → m ≤ level c k
+level_above c k m a h = ⊎_elim
+    (λ (f : (leb m (level c k) ≡ true) × (m ≤ level c k)). f.1)
+    (λ (f : (leb m (level c k) ≡ false) × (level c k < m)). absurd (omega (arith, over_all c (level c k) m a f.1, (is_level c k).at_most)))
+    (leb_tells m (level c k))
+
+-- ---- the level by selection
+over-values : (c : Counters) (t : ℕ) → over c t ≡ count_by (nat_lt t) (values_of c)
+over-values [] t = refl
+over-values (e ∷ c) t = omega (arith, over-cons e c t, sum_by-cons (λ n. cond (nat_lt t n) 1 0) e.1 (values_of c), over-values c t)
+
+-- how many of the split numbers exceed t
+over_split : (c : Counters) (t x : ℕ) (front back : List ℕ) → IsPermutation (values_of c) (front ++ x ∷ back) → over c t ≡ count_by (nat_lt t) front + (cond (nat_lt t x) 1 0 + count_by (nat_lt t) back)
+over_split c t x front back p =
+    let one : ℕ → ℕ = λ n. cond (nat_lt t n) 1 0 in
+    omega (arith, over-values c t, sum_by-IsPermutation one (values_of c) (front ++ x ∷ back) p, sum_by-append one front (x ∷ back), sum_by-cons one x back)
+
+none_exceed : (t : ℕ) (ns : List ℕ) → ((k d : ℕ) → k < length ns → get_or ns k d ≤ t) → count_by (nat_lt t) ns ≡ 0
+none_exceed t [] h = refl
+none_exceed t (n ∷ ns) h = grind (arith, nat_tests, sum_by-cons (λ n. cond (nat_lt t n) 1 0) n ns, h 0 0 (omega arith), none_exceed t ns (λ k d l. h (suc k) d (omega arith)))
+
+all_exceed : (t : ℕ) (ns : List ℕ) → ((k d : ℕ) → k < length ns → t < get_or ns k d) → count_by (nat_lt t) ns ≡ length ns
+all_exceed t [] h = refl
+all_exceed t (n ∷ ns) h = grind (arith, nat_tests, sum_by-cons (λ n. cond (nat_lt t n) 1 0) n ns, h 0 0 (omega arith), all_exceed t ns (λ k d l. h (suc k) d (omega arith)))
+
+-- the number with k numbers behind it, none of them less, and none before it greater
+pub level_from_split : (c : Counters) (k x : ℕ) (front back : List ℕ) → IsPermutation (values_of c) (front ++ x ∷ back) → length back ≡ k → IsSplitAround nat_cmp front x back → x ≡ level c k
+level_from_split c k x front back p len split = one_level c k x _ (record {
+  at_most =
+      let before = none_exceed x front (λ j d l. ge_from_not_lt x (get_or front j d) (split.0 j d l)) in
+      let here : ◌≡◌ {A = ℕ} (cond (nat_lt x x) 1 0) 0 = grind (arith, nat_tests) in
+      omega (arith, over_split c x x front back p, before, here, count_by-le-length (nat_lt x) back, len);
+  least = λ s few. ⊎_elim
+      (λ (f : (leb x s ≡ true) × (x ≤ s)). f.1)
+      (λ (f : (leb x s ≡ false) × (s < x)).
+      let behind = all_exceed s back (λ j d l. omega (arith, ge_from_not_lt (get_or back j d) x (split.1 j d l), f.1)) in
+      let here : ◌≡◌ {A = ℕ} (cond (nat_lt s x) 1 0) 1 = grind (arith, nat_tests, f.1) in
+      absurd (omega (arith, over_split c s x front back p, behind, here, len, few)))
+      (leb_tells x s);
 }) (is_level c k)
 
-pub level_none : (c : Counters) (k : ℕ) → over c 0 ≤ k → 0 ≡ level c k
-level_none c k h = one_level c k 0 _ (record { at_most = h; least = λ s g. omega arith }) (is_level c k)
+-- ---- the least counter
+min_all : (n : ℕ) (c : Counters) → (fold (λ n (d : Entry). min n d.1) n c ≤ n) × AllByRecursion (λ (e : Entry). fold (λ n (d : Entry). min n d.1) n c ≤ e.1) c
+min_all n [] = (omega arith, tt)
+min_all n (e ∷ c) = let rest = min_all (min n e.1) c in (omega (arith, rest.0), (omega (arith, rest.0), rest.1))
 
--- ---- one more counter in such a search
-pub same_at : {A : Type 0} (c : List A) (i : ℕ) (d e : A) → i < length c → slice_index_or c i d ≡ slice_index_or c i e
-same_at [] i d e l = absurd (omega arith)
-same_at (f ∷ c) zero d e l = refl
-same_at (f ∷ c) (suc i) d e l = same_at c i d e (omega arith)
+pub least_counter-all : (c : Counters) → AllByRecursion (λ (e : Entry). least_counter c ≤ e.1) c
+least_counter-all [] = tt
+least_counter-all (e ∷ c) = min_all e.1 c
 
-abbrev pub Least : Counters → ℕ → ℕ → ℕ → Type 0
-Least c k i t = record { at_most : over c t ≤ k; least : (j : ℕ) (d : Entry) → j < i → over c (slice_index_or c j d).1 ≤ k → t ≤ (slice_index_or c j d).1 }
+over_min : (n : ℕ) (c : Counters) → cond (nat_lt (fold (λ n (d : Entry). min n d.1) n c) n) 1 0 + over c (fold (λ n (d : Entry). min n d.1) n c) ≤ length c
+over_min n [] = grind (arith, nat_tests)
+over_min n (e ∷ c) = grind (arith, nat_tests, over_min (min n e.1) c, over-cons e c (fold (λ n (d : Entry). min n d.1) (min n e.1) c))
 
-pub least_more : (c : Counters) (k i t n : ℕ) (x : Entry) → Least c k i t → i < length c → x ≡ slice_index_or c i x → (over c x.1 ≤ k → n ≡ min t x.1) → (k < over c x.1 → n ≡ t) → Least c k (i + 1) n
-least_more c k i t n x h l is lowers keeps = ⊎_elim
-    (λ (b : (leb (over c x.1) k ≡ true) × (over c x.1 ≤ k)).
-    let e = lowers b.1 in
-    record {
-      at_most = ⊎_elim
-          (λ (m : min t x.1 ≡ t). omega (arith, ap (over c) (e ∙ m), h.at_most))
-          (λ (m : min t x.1 ≡ x.1). omega (arith, ap (over c) (e ∙ m), b.1))
-          (min_is t x.1);
-      least = λ j d m g. ⊎_elim (λ (s : j ≡ i). omega (arith, at j d s, e)) (λ (s : j < i). omega (arith, h.least j d s g, e)) (eq-or-lt_of_le (omega arith));
-    })
-    (λ (b : (leb (over c x.1) k ≡ false) × (k < over c x.1)).
-    let e = keeps b.1 in
-    record {
-      at_most = omega (arith, ap (over c) e, h.at_most);
-      least = λ j d m g. ⊎_elim (λ (s : j ≡ i). absurd (omega (arith, ap (over c) (at j d s), b.1, g))) (λ (s : j < i). omega (arith, h.least j d s g, e)) (eq-or-lt_of_le (omega arith));
-    })
-    (leb_tells (over c x.1) k)
-  where
-    at : (j : ℕ) (d : Entry) → j ≡ i → (slice_index_or c j d).1 ≡ x.1
-    at j d s = ap (λ j. (slice_index_or c j d).1) s ∙ ap (λ (e : Entry). e.1) (same_at c i d x l ∙ sym is)
+over_least : (c : Counters) → 0 < length c → over c (least_counter c) < length c
+over_least [] h = h
+over_least (e ∷ c) h = omega (arith, over-cons e c (least_counter (e ∷ c)), over_min e.1 c)
+
+-- of k + 1 counters the level is the least
+pub level_one_more : (c : Counters) (k : ℕ) → length c ≡ k + 1 → level c k ≡ least_counter c
+level_one_more c k h =
+    let above = level_above c k (least_counter c) (least_counter-all c) (omega arith) in
+    let below = (is_level c k).least (least_counter c) (omega (arith, over_least c (omega arith), h)) in
+    omega (arith, above, below)

@@ -5,3 +5,4 @@ pub mod Summaries
 pub mod Reports
 pub mod Places
 pub mod Counting
+pub mod Summing

@@ -1,18 +1,17 @@
 -- The counters of a stream, and of two summaries joined, are honest.
-use Rattle.std.proofs.Common.{◌≡◌, ℕ, zero, suc, ◌+◌, ◌-◌, ◌*◌, ◌<◌, ◌≤◌, List, [], ◌∷◌, ◌++◌, ◌^◌, Less, Equal, Greater, true, cond, map, ◌⊎◌, ⊎_elim, length, take, get_or, refl, sym, ap, ◌∙◌, subst, append_assoc, append-nil, mul-add, mul_comm, mul-le-mul_left, mul-zero, add-one, arith}
+use Rattle.std.proofs.Common.{◌≡◌, ℕ, zero, suc, ◌+◌, ◌-◌, ◌*◌, ◌<◌, ◌≤◌, List, [], ◌∷◌, ◌++◌, ◌^◌, Less, Equal, Greater, true, cond, map, length, take, get_or, refl, sym, ap, ◌∙◌, subst, append_assoc, append-nil, mul-add, mul_comm, mul-le-mul_left, mul-zero, add-one, arith}
 use Rattle.std.specs.Prelude.{fold, filter, nat_lt, replicate, IsPermutation}
 use Rattle.std.specs.List.{AllByRecursion}
-use Rattle.std.specs.Map.{keys_of}
 use Rattle.std.specs.Ordering.{match_ordering}
 use Rattle.std.proofs.lemmas.Bool.Decides.{nat_tests}
 use Rattle.std.proofs.lemmas.List.{take_more, length-replicate}
 use Rattle.std.proofs.lemmas.List.Sorted.{sum_by-IsPermutation}
-use Rattle.std.proofs.lemmas.List.Sums.{fold_push, count_by-le-length}
+use Rattle.std.proofs.lemmas.List.Sums.{fold_push}
 use Rattle.std.specs.List.Sorted.{IsStrictlySortedBy}
 use Rattle.hh_stream.specs.Weights.{Bytes, Entry, key_cmp, at_key, weight_of, total_of}
 use Rattle.hh_counters.specs.Counters.{Counters, IsCounters, add_at, exceeds, less_by, over, IsLevel, level, lower, plus, join, misra_gries, IsHonest, Fits, added, sketch_of}
-use Rattle.hh_counters.proofs.Weights.{plus_is_fold, rising-add_at, positive-add_at, weight_above, above_first, key_exact, at_other, weight_of-cons, weight_of-append, total_of-append, rising-tally, weight_of-plus, total_of-plus}
-use Rattle.hh_counters.proofs.Level.{is_level, level_none, length-lower, weight_of-lower, total_of-lower, total_of-lower-le, counters-lower}
+use Rattle.hh_counters.proofs.Weights.{plus_is_fold, positive-add_at, key_exact, at_other, weight_of-cons, weight_of-append, total_of-append, rising-tally, weight_of-plus, total_of-plus}
+use Rattle.hh_counters.proofs.Level.{is_level, level_few, length-lower, weight_of-lower, total_of-lower, total_of-lower-le, counters-lower}
 
 -- ---- a join
 pub counters-join : (c d : Counters) (k : ℕ) → IsCounters (join c d k)
@@ -166,37 +165,20 @@ lower_none (e ∷ c) h =
     sub-zero : (n : ℕ) → n - 0 ≡ n
     sub-zero n = omega arith
 
--- with room for the key, an item's counter is joined by adding it
+-- an item's counter is joined by adding it, less the level
+pub join_one : (c : Counters) (e : Entry) (k : ℕ) → IsCounters c → join c (e ∷ []) k ≡ lower (level (add_at c e) k) (add_at c e)
+join_one c e k h = ap (λ (d : Counters). lower (level d k) d) (plus_is_fold c (e ∷ []) h)
+
+-- where there is room, the level is 0
 pub join_room : (c : Counters) (e : Entry) (k : ℕ) → IsCounters c → 0 < e.1 → length (add_at c e) ≤ k → join c (e ∷ []) k ≡ add_at c e
 join_room c e k h p few =
-    let sum : plus c (e ∷ []) ≡ add_at c e = plus_is_fold c (e ∷ []) h in
-    let positive : IsCounters (add_at c e) = record { rising = rising-add_at c e h.rising; positive = positive-add_at c e h.positive p } in
-    let none : level (add_at c e) k ≡ 0 = sym (level_none (add_at c e) k (omega (arith, count_by-le-length (exceeds 0) (add_at c e), few))) in
-    ap (λ (d : Counters). lower (level d k) d) sum ∙ ap (λ t. lower t (add_at c e)) none ∙ lower_none (add_at c e) positive.positive
+    join_one c e k h ∙ ap (λ t. lower t (add_at c e)) (level_few (add_at c e) k few)
+    ∙ lower_none (add_at c e) (positive-add_at c e h.positive p)
 
-length-add_at : (c : Counters) (e : Entry) → length (add_at c e) ≤ length c + 1
+pub length-add_at : (c : Counters) (e : Entry) → length (add_at c e) ≤ length c + 1
 length-add_at [] e = omega arith
 length-add_at (d ∷ c) e = elim (key_cmp e.0 d.0) as (λ r. length (match_ordering r (e ∷ d ∷ c) ((d.0, d.1 + e.1) ∷ c) (d ∷ add_at c e)) ≤ length (d ∷ c) + 1) [
   | Less ↦ omega arith
   | Equal ↦ omega arith
   | Greater ↦ omega (arith, length-add_at c e)
 ]
-
--- a key that has a counter takes no more room
-length-add_again : (c : Counters) (e : Entry) → IsStrictlySortedBy key_cmp (keys_of c) → 0 < weight_of e.0 c → length (add_at c e) ≡ length c
-unfolding IsStrictlySortedBy
-length-add_again [] e h l = absurd (omega arith)
-length-add_again (d ∷ c) e h l = elim (key_cmp e.0 d.0) as (λ r. key_cmp e.0 d.0 ≡ r → length (match_ordering r (e ∷ d ∷ c) ((d.0, d.1 + e.1) ∷ c) (d ∷ add_at c e)) ≡ length (d ∷ c)) [
-  | Less ↦ λ p. absurd (omega (arith, l, weight_above e.0 (d ∷ c) (p, above_first e.0 d.0 (keys_of c) p h.0)))
-  | Equal ↦ λ p. omega arith
-  | Greater ↦ λ p. omega (arith, length-add_again c e h.1 (omega (arith, l, weight_of-cons e.0 d c, at_other e.0 d Greater p refl)))
-] refl
-
-pub fits_room : (c : Counters) (e : Entry) (m k : ℕ) → Fits k m c → 0 < e.1 → m + e.1 < 2 ^ 63 → (0 < weight_of e.0 c) ⊎ (length c < k) → (join c (e ∷ []) k ≡ add_at c e) × Fits k (m + e.1) (add_at c e)
-fits_room c e m k h p b room =
-    let few : length (add_at c e) ≤ k = ⊎_elim
-    (λ (l : 0 < weight_of e.0 c). omega (arith, length-add_again c e h.entries.rising l, h.few))
-    (λ (l : length c < k). omega (arith, length-add_at c e, l))
-    room in
-    let same = join_room c e k h.entries p few in
-    (same, subst (Fits k (m + e.1)) same (fits_join c (e ∷ []) m e.1 k h (omega arith) b))

@@ -39,7 +39,7 @@ weight_of-append x xs ys = sum_by-append (at_key x) xs ys
 pub total_of-append : (xs ys : List Entry) → total_of (xs ++ ys) ≡ total_of xs + total_of ys
 total_of-append xs ys = sum_by-append (λ e. e.1) xs ys
 
-at_both : (b : Bool) (m n : ℕ) → cond b (m + n) 0 ≡ cond b m 0 + cond b n 0
+pub at_both : (b : Bool) (m n : ℕ) → cond b (m + n) 0 ≡ cond b m 0 + cond b n 0
 at_both true m n = refl
 at_both false m n = refl
 

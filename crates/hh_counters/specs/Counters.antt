@@ -40,13 +40,13 @@ pub record IsLevel (c : Counters) (k t : ℕ) : Type 0 where
   pub least : (s : ℕ) → over c s ≤ k → t ≤ s
 
 -- the least of d and those of ns that pass
-abbrev pub lowest : (ℕ → Bool) → ℕ → List ℕ → ℕ
-lowest p d [] = d
-lowest p d (n ∷ ns) = cond (p n) (min n (lowest p d ns)) (lowest p d ns)
+abbrev pub least_passing : (ℕ → Bool) → ℕ → List ℕ → ℕ
+least_passing p d [] = d
+least_passing p d (n ∷ ns) = cond (p n) (min n (least_passing p d ns)) (least_passing p d ns)
 
 -- the level, computed: it is 0 or a counter
 unfoldable pub level : Counters → ℕ → ℕ
-level c k = lowest (λ t. nat_le (over c t) k) (total_of c) (0 ∷ values_of c)
+level c k = least_passing (λ t. nat_le (over c t) k) (total_of c) (0 ∷ values_of c)
 
 abbrev pub less_by : ℕ → Entry → Entry
 less_by t e = (e.0, e.1 - t)
@@ -54,6 +54,11 @@ less_by t e = (e.0, e.1 - t)
 -- each counter less t; only the positive ones are kept
 unfoldable pub lower : ℕ → Counters → Counters
 lower t c = map (less_by t) (filter (exceeds t) c)
+
+-- the least counter, and 0 where there is none
+abbrev pub least_counter : Counters → ℕ
+least_counter [] = 0
+least_counter (e ∷ c) = fold (λ n d. min n d.1) e.1 c
 
 abbrev pub cut : Counters → ℕ → Counters
 cut c k = lower (level c k) c

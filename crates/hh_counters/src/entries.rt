@@ -1,14 +1,16 @@
-//! Work on lists of keys with counters.
-ghost use Rattle.std.specs.Prelude.{◌≡◌, ℕ, ◌+◌, ◌<◌, ◌≤◌, ◌^◌, ◌↔◌, ◌-◌, map, fold, All, OnOk, OnErr, IsTrue, IfOk, IfErr, length, HoldsAt, slice_index_or};
+//! Work on lists of keys with counters, by rising key.
+
+ghost use Rattle.std.specs.Prelude.{◌≡◌, ℕ, ◌+◌, ◌<◌, ◌≤◌, ◌^◌, ◌↔◌, ◌-◌, [], ◌∷◌, ◌++◌, map, All, OnOk, OnErr, IsTrue, IfOk, IfErr, length, HoldsAt, slice_index_or};
 ghost use Rattle.std.specs.List.{AllWithin};
 ghost use Rattle.std.specs.List.Sorted.{IsStrictlySortedBy};
 ghost use Rattle.std.specs.Map.{keys_of};
 ghost use Rattle.std.specs.declared.cmp.Ordering.TheVariants.{Less, Equal, Greater};
 ghost use Rattle.hh_stream.specs.Weights.{Entry, key_cmp, weight_of, total_of};
-ghost use Rattle.hh_counters.specs.Counters.{IsCounters, over, lower, less_by, level, add_at, join};
+ghost use Rattle.hh_counters.specs.Counters.{IsCounters, lower, less_by, level, least_counter as least_counter_of, add_at, plus, join};
 
 use hh_stream::Key;
 use std::alloc::{AllocError, Global};
+use std::cmp::Ordering;
 
 /// Where the key is, or where it would go.
 pub fn place_of(entries: &[(Key, u64)], key: &Key) -> Result<usize, usize>
@@ -40,13 +42,6 @@ pub fn sum_of(entries: &[(Key, u64)]) -> u64
         sum += entry.1;
     }
     sum
-}
-
-/// How many counters exceed t.
-pub fn exceeding(entries: &[(Key, u64)], t: u64) -> usize
-    ensures { result ≡ over entries.now t }
-{
-    entries.iter().filter(|e| e.1 > t).count()
 }
 
 /// Takes t from each counter, and drops those that are not above it.
@@ -97,21 +92,31 @@ pub fn sums_within(entries: &[(Key, u64)], total: u64) -> bool
     true
 }
 
-/// The level: the least number that at most k counters exceed.
-pub fn level_of(entries: &[(Key, u64)], k: u64) -> u64
-    requires { total_of entries.now < 2 ^ 64 }
-    ensures { result ≡ level entries.now k }
+/// The least counter, 0 where there is none.
+pub fn least_counter(entries: &[(Key, u64)]) -> u64
+    ensures { result ≡ least_counter_of entries.now }
 {
-    if exceeding(entries, 0) as u64 <= k {
+    let Some((first, others)) = entries.split_first() else {
         return 0;
+    };
+    let mut least = first.1;
+    for entry in others {
+        least = least.min(entry.1);
     }
-    let mut level = sum_of(entries);
-    for entry in entries {
-        if exceeding(entries, entry.1) as u64 <= k {
-            level = level.min(entry.1);
-        }
+    least
+}
+
+/// The level: the least number that at most k counters exceed. It is found by a selection.
+pub fn level_of(alloc: Global, entries: &[(Key, u64)], k: usize) -> Result<u64, AllocError>
+    ensures { IfOk result (λ t. t ≡ level entries.now k) }
+{
+    if entries.len() <= k {
+        return Ok(0);
     }
-    level
+    let mut numbers: Vec<u64> = entries.iter().map(|e| e.1).collect(alloc)?;
+    let before = numbers.len() - k - 1;
+    let (_, level, _) = numbers.select_nth_unstable(before);
+    Ok(*level)
 }
 
 /// Adds to the key's counter, which is 0 where there is none.
@@ -131,45 +136,99 @@ pub fn add_entry(entries: &mut Vec<(Key, u64)>, key: &Key, weight: u64) -> Resul
     }
 }
 
-/// A copy of the entries.
-pub fn copy_of(alloc: Global, entries: &[(Key, u64)]) -> Result<Vec<(Key, u64)>, AllocError>
-    ensures { IfOk result (λ all. all.items ≡ entries.now) }
-{
-    let mut all = Vec::new(alloc);
-    for entry in entries {
-        all.push((entry.0.copy()?, entry.1))?;
-    }
-    Ok(all)
-}
-
-/// Adds the entries to the counters, key by key. After an `Err` some of them are added.
-pub fn add_all(entries: &mut Vec<(Key, u64)>, others: &[(Key, u64)]) -> Result<(), AllocError>
+/// Adds an item: its key's counter grows by the weight, and where more than k keys then have
+/// counters, the least is taken from each. After an `Err` the entries are as they were.
+pub fn add_item(
+    entries: &mut Vec<(Key, u64)>,
+    key: &Key,
+    weight: u64,
+    k: u64,
+) -> Result<(), AllocError>
     requires counters { IsCounters entries.old.items }
-    requires positive { All (λ (e : Entry). 0 < e.1) others.now }
-    requires bounded { total_of entries.old.items + total_of others.now < 2 ^ 63 }
-    ensures { OnOk result (entries.new.items ≡ fold add_at entries.old.items others.now) }
+    requires few { length entries.old.items ≤ k }
+    requires positive { 0 < weight }
+    requires bounded { total_of entries.old.items + weight < 2 ^ 63 }
+    ensures joined { OnOk result (entries.new.items ≡ join entries.old.items ((key.now, weight) ∷ []) k) }
+    ensures unchanged { OnErr result (entries.new.items ≡ entries.old.items) }
 {
-    for other in others {
-        add_entry(entries, &other.0, other.1)?;
+    add_entry(entries, key, weight)?;
+    if entries.len() as u64 > k {
+        let level = least_counter(entries);
+        lower_all(entries, level);
     }
     Ok(())
 }
 
-/// The entries of both, joined: key by key, less the level.
+/// The counters of both joined: added key by key, less the level.
 pub fn joined(
     alloc: Global,
-    entries: &[(Key, u64)],
-    others: &[(Key, u64)],
+    left: &[(Key, u64)],
+    right: &[(Key, u64)],
     k: u64,
 ) -> Result<Vec<(Key, u64)>, AllocError>
-    requires counters { IsCounters entries.now }
-    requires positive { All (λ (e : Entry). 0 < e.1) others.now }
-    requires bounded { total_of entries.now + total_of others.now < 2 ^ 63 }
-    ensures { IfOk result (λ all. all.items ≡ join entries.now others.now k) }
+    requires left { IsCounters left.now }
+    requires right { IsCounters right.now }
+    requires bounded { total_of left.now + total_of right.now < 2 ^ 63 }
+    ensures { IfOk result (λ all. all.items ≡ join left.now right.now k) }
 {
-    let mut all = copy_of(alloc, entries)?;
-    add_all(&mut all, others)?;
-    let level = level_of(&all, k);
+    let mut all = summed(alloc, left, right)?;
+    let level = level_of(alloc, &all, k as usize)?;
     lower_all(&mut all, level);
     Ok(all)
+}
+
+// The counters of both added, key by key, in one pass over the two.
+fn summed(
+    alloc: Global,
+    left: &[(Key, u64)],
+    right: &[(Key, u64)],
+) -> Result<Vec<(Key, u64)>, AllocError>
+    requires left { IsCounters left.now }
+    requires right { IsCounters right.now }
+    requires bounded { total_of left.now + total_of right.now < 2 ^ 63 }
+    ensures { IfOk result (λ all. all.items ≡ plus left.now right.now) }
+{
+    let mut all = Vec::with_capacity(alloc, left.len() + right.len())?;
+    let mut l = 0;
+    let mut r = 0;
+    while l < left.len() && r < right.len() {
+        let a = &left[l];
+        let b = &right[r];
+        match a.0.cmp(&b.0) {
+            Ordering::Less => {
+                push_copy(&mut all, &a.0, a.1)?;
+                l += 1;
+            }
+            Ordering::Greater => {
+                push_copy(&mut all, &b.0, b.1)?;
+                r += 1;
+            }
+            Ordering::Equal => {
+                push_copy(&mut all, &a.0, a.1 + b.1)?;
+                l += 1;
+                r += 1;
+            }
+        }
+    }
+    push_copies(&mut all, &left[l..])?;
+    push_copies(&mut all, &right[r..])?;
+    Ok(all)
+}
+
+// Puts a copy of the key last, with the number.
+fn push_copy(entries: &mut Vec<(Key, u64)>, key: &Key, number: u64) -> Result<(), AllocError>
+    ensures { OnOk result (entries.new.items ≡ entries.old.items ++ (key.now, number) ∷ []) }
+{
+    entries.push((key.copy()?, number))?;
+    Ok(())
+}
+
+// Puts copies of the entries last.
+fn push_copies(entries: &mut Vec<(Key, u64)>, others: &[(Key, u64)]) -> Result<(), AllocError>
+    ensures { OnOk result (entries.new.items ≡ entries.old.items ++ others.now) }
+{
+    for other in others {
+        push_copy(entries, &other.0, other.1)?;
+    }
+    Ok(())
 }

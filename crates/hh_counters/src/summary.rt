@@ -4,7 +4,7 @@ ghost use Rattle.std.specs.Prelude.{◌≡◌, ℕ, ◌+◌, ◌<◌, ◌≤◌,
 ghost use Rattle.hh_stream.specs.Weights.{weight_of, total_of};
 ghost use Rattle.hh_counters.specs.Counters.{Fits, IsCounters, Sketch, added, merged, sketch_of, slack};
 
-use crate::entries::{add_entry, are_counters, counter_of, joined, sum_of, sums_within};
+use crate::entries::{add_item, are_counters, counter_of, joined, sum_of, sums_within};
 use hh_stream::{Item, Key, MAX_TOTAL};
 use std::alloc::Global;
 use std::marker::Model;
@@ -201,23 +201,9 @@ impl Summary {
         if weight > MAX_TOTAL - self.total {
             return Err(AddFault::TotalTooLarge);
         }
-        if (self.len() as u64) < self.k || 0 < self.get(key) {
-            return match add_entry(&mut self.entries, key, weight) {
-                Ok(()) => {
-                    self.total += weight;
-                    Ok(())
-                }
-                Err(_) => Err(AddFault::Memory),
-            };
-        }
-        let Ok(copy) = key.copy() else {
-            return Err(AddFault::Memory);
-        };
-        let one = [(copy, weight)];
-        match joined(*self.entries.allocator(), &self.entries, &one, self.k) {
-            Ok(all) => {
+        match add_item(&mut self.entries, key, weight, self.k) {
+            Ok(()) => {
                 self.total += weight;
-                self.entries = all;
                 Ok(())
             }
             Err(_) => Err(AddFault::Memory),

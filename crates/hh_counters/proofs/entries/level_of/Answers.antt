@@ -1,22 +1,23 @@
-use Rattle.std.proofs.Common.{◌∙◌, arith}
-use Rattle.hh_counters.proofs.Level.{level_from_search, level_none, over-none, least_more}
+use Rattle.std.proofs.Common.{◌≡◌, ℕ, List, ◌∷◌, ◌++◌, length, length-append, sym, ap, ◌∙◌, subst, rules, arith}
+use Rattle.std.specs.Prelude.{IsPermutation}
+use Rattle.std.specs.Map.{values_of}
+use Rattle.std.proofs.lemmas.List.{length-map}
+use Rattle.std.proofs.lemmas.List.Sorted.{length_permutation}
+use Rattle.hh_stream.specs.Weights.{Entry}
+use Rattle.hh_counters.proofs.Level.{level_few, level_from_split}
 use Rattle.hh_counters.proofs.entries.level_of.Goals as goal
-use Rattle.hh_counters.proofs.entries.level_of.Goals.{then-exceeding-k-2, else-exceeding-k-2}
 
-pub returns-then-exceeding-k : goal.returns-then-exceeding-k
-returns-then-exceeding-k c = level_none c.args.entries.now c.args.k (omega arith)
-
-pub loop-entry-init : goal.loop-entry-init
-loop-entry-init c = record {
-  at_most = omega (arith, over-none c.args.entries.now c.sum_of-level.result (omega arith));
-  least = λ j d l. absurd (omega arith);
-}
-
-pub loop-entry-preserved : goal.loop-entry-preserved
-loop-entry-preserved c =
-    least_more c.args.entries.now c.args.k c.loop-entry.entry-index c.loop-entry.level c.if-exceeding-k-2.level c.entry-item.result c.loop-entry.invariant c.loop-entry-test.true c.entry-item.is
-    (λ few. elim c.if-exceeding-k-2.branch [ then-exceeding-k-2 w ↦ w.level-is ∙ w.min-level.ensures | else-exceeding-k-2 w ↦ absurd (omega (arith, few, w.if-exceeding-k-2.false, c.exceeding-in-loop-entry.ensures)) ])
-    (λ many. elim c.if-exceeding-k-2.branch [ then-exceeding-k-2 w ↦ absurd (omega (arith, many, w.if-exceeding-k-2.true, c.exceeding-in-loop-entry.ensures)) | else-exceeding-k-2 w ↦ w.level-is ])
+pub returns-then-entries-k : goal.returns-then-entries-k
+returns-then-entries-k c = sym (level_few c.args.entries.now c.args.k c.if-entries-k.true)
 
 pub returns : goal.returns
-returns c = level_from_search c.args.entries.now c.args.k c.loop-entry.level (omega arith) c.loop-entry.invariant.at_most (λ j d l h. c.loop-entry.invariant.least j d (omega arith) h)
+returns c =
+    let entries = c.args.entries.now in
+    let split = c.select_nth_unstable-level in
+    let front = split.result.0.now in
+    let back = split.result.2.now in
+    let numbers : c.in_ok-numbers.numbers.items ≡ values_of entries = search rules in
+    let permutation = subst (λ (ns : List ℕ). IsPermutation ns (front ++ split.result.1.now ∷ back)) (c.deref_mut.ensures.value ∙ numbers) split.ensures.permutation in
+    let whole = length_permutation (values_of entries) (front ++ split.result.1.now ∷ back) permutation in
+    let behind : length back ≡ c.args.k = omega (arith, whole, length-append front (split.result.1.now ∷ back), length-map entries (λ (e : Entry). e.1), split.ensures.front_len, c.len.ensures, ap length numbers) in
+    level_from_split entries c.args.k split.result.1.now front back permutation behind split.ensures.partitioned

@@ -1,9 +1,9 @@
 use Rattle.std.proofs.Common.{◌≡◌, ℕ, List, Bool, append-nil, ap₂, take_all, ◌++◌, ◌∷◌, [], cond, true, false, sym, ap, ◌∙◌, arith}
 use Rattle.std.specs.Prelude.{filter, zip, slice_index_or}
+use Rattle.std.proofs.lemmas.List.{get_or_default}
 use Rattle.std.proofs.lemmas.Slice.Zip.{length-zip}
 use Rattle.hh_stream.specs.Weights.{Bytes, Entry}
 use Rattle.hh_counters.specs.Report.{is_heavy}
-use Rattle.hh_counters.proofs.Level.{same_at}
 use Rattle.hh_counters.proofs.Reports.{select_more}
 use Rattle.hh_counters.proofs.report.heavy_rows.Goals as goal
 use Rattle.hh_counters.proofs.report.heavy_rows.Goals.{then-is_share+in_ok-copy+in_ok-push, else-is_share}
@@ -28,7 +28,7 @@ loop-i-preserved c =
       | else-is_share w ↦
           let k : Bytes = slice_index_or ks i [] in
           push_no _ _ _ (k, number) (ap (λ v. v.items) w.rows-is ∙ c.loop-i.invariant) (sym c.is_share.ensures ∙ w.if-is_share.false)
-          ∙ sym (select_more c.args.p c.args.q c.args.total ks ns i k c.requires c.loop-i-test.true (same_at ks i [] k c.loop-i-test.true))
+          ∙ sym (select_more c.args.p c.args.q c.args.total ks ns i k c.requires c.loop-i-test.true (get_or_default ks i [] k c.loop-i-test.true))
     ]
 
 pub returns : goal.returns

@@ -1,0 +1,11 @@
+//! Weighted streams analysed by threads: plans to merge summaries by, and two passes over the pieces
+//! of a stream, whose outcome is the same whatever worker does which piece.
+#![tactic(auto)]
+
+mod gate;
+mod options;
+mod pass;
+mod workers;
+
+pub use gate::{Gate, OpenGate};
+pub use options::{MAX_WORKERS, Options, OptionsFault};

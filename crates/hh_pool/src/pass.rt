@@ -1,0 +1,34 @@
+//! What workers that share sums run.
+
+ghost use Rattle.std.specs.Prelude.{◌≡◌, IfOk};
+ghost use Rattle.hh_shared.specs.Seats.{Sums, Holding, fresh, joined};
+
+use hh_shared::{SharedSums, SumSeat};
+use std::alloc::AllocError;
+
+/// A pass over the pieces of a stream, which each worker runs with a seat of its own.
+pub(crate) trait Pass {
+    /// What a worker hands over beside its seat.
+    type Kept: Send + Drop + 'static;
+
+    /// What the pass asks of the sums.
+    ghost fits: { Self → Sums → Type 0 };
+    /// What a seat and what was kept say of the pieces claimed.
+    ghost done: { Self → Holding → Self.Kept → Type 0 };
+
+    /// What the worker of this number does.
+    fn run(
+        &self,
+        sums: &SharedSums,
+        seat: SumSeat,
+        worker: u64,
+    ) -> Result<(SumSeat, Self::Kept), AllocError>
+        requires fits { fits self.now sums.now }
+        requires seat { seat ≡ fresh sums.now }
+        ensures sums { IfOk result (λ r. r.0.sums ≡ sums.now) }
+        ensures done { IfOk result (λ r. done self.now r.0 r.1) };
+
+    /// What two workers kept, for their joined seats.
+    fn together(&self, one: Self::Kept, other: Self::Kept) -> Result<Self::Kept, AllocError>
+        ensures { IfOk result (λ both. (a b : Holding) → done self.now a one → done self.now b other → done self.now (joined a b) both) };
+}

@@ -1,0 +1,121 @@
+//! Workers by halves: half of them run in a thread of their own.
+
+ghost use Rattle.std.specs.Prelude.{◌≡◌, ◌+◌, ◌^◌, ◌<◌, ◌≤◌, IfOk};
+ghost use Rattle.std.specs.Thread.{IsSync, IsSend};
+ghost use Rattle.hh_shared.specs.Seats.{fresh};
+
+use crate::options::MAX_WORKERS;
+use crate::pass::Pass;
+use hh_shared::{SharedSums, SumSeat};
+use std::alloc::AllocError;
+use std::snapshot::Snapshot;
+use std::sync::Wait;
+use std::thread;
+use std::thread::{Promise, Threads};
+
+/// What a thread of workers promises: a seat of these sums, and what the pass says of it.
+#[derive(Drop)]
+pub(crate) struct Promised<P: Pass> {
+    sums: Snapshot<SharedSums>,
+    pass: Snapshot<P>,
+}
+
+impl<P: Pass> Promise<Result<(SumSeat, P::Kept), AllocError>> for Promised<P> {
+    ghost kept_by = { λ p r. IfOk r (λ x. (x.0.sums ≡ p.sums.value) × P.done p.pass.value x.0 x.1) };
+}
+
+/// Runs so many workers with one seat, numbered from `first` on: where they are more than one, half of
+/// them in a thread of their own. Memory also where the system refuses a thread; all threads are
+/// joined.
+#[cycle(workers)]
+fn run_workers<R: Threads + Wait + Sync, P: Pass + Sync>(
+    rt: &R,
+    sums: &SharedSums,
+    mut seat: SumSeat,
+    pass: &P,
+    first: u64,
+    count: u64,
+) -> Result<(SumSeat, P::Kept), AllocError>
+    requires count { 0 < count }
+    requires numbers { first + count < 2 ^ 64 }
+    requires fits { P.fits pass.now sums.now }
+    requires seat { seat ≡ fresh sums.now }
+    ensures sums { IfOk result (λ r. r.0.sums ≡ sums.now) }
+    ensures done { IfOk result (λ r. P.done pass.now r.0 r.1) }
+{
+    if count == 1 {
+        return pass.run(sums, seat, first);
+    }
+    let low = count / 2;
+    let high = count - low;
+    let next = first + low;
+    let half = sums.split(&mut seat);
+    let (one, other) = thread::scope(
+        thread::scope_env(),
+        rt,
+        |scope| -> Result<
+            (
+                Result<(SumSeat, P::Kept), AllocError>,
+                Result<(SumSeat, P::Kept), AllocError>,
+            ),
+            AllocError,
+        >
+            requires { IsSync R.row × IsSync P.row × IsSend P.Kept.row × (0 < low) × (first + low < 2 ^ 64) × (0 < high) × (next + high < 2 ^ 64) × P.fits pass.now sums.now × (seat ≡ fresh sums.now) × (half ≡ fresh sums.now) }
+            ensures { IfOk result (λ b. IfOk b.0 (λ r. (r.0.sums ≡ sums.entry.now) × P.done pass.entry.now r.0 r.1) × IfOk b.1 (λ r. (r.0.sums ≡ sums.entry.now) × P.done pass.entry.now r.0 r.1)) }
+        {
+            let promise = Promised {
+                sums: Snapshot::of(sums),
+                pass: Snapshot::of(pass),
+            };
+            let front = move || -> Result<(SumSeat, P::Kept), AllocError>
+                requires { IsSync R.row × IsSync P.row × IsSend P.Kept.row × (0 < low) × (first + low < 2 ^ 64) × P.fits pass.now sums.now × (seat ≡ fresh sums.now) }
+                ensures { IfOk result (λ r. (r.0.sums ≡ sums.entry.now) × P.done pass.entry.now r.0 r.1) }
+            { run_workers(rt, sums, seat, pass, first, low) };
+            let child = scope.spawn_with(promise, front)?;
+            let other = run_workers(rt, sums, half, pass, next, high);
+            Ok((child.join(rt), other))
+        },
+    )?;
+    let (mut seat, kept) = one?;
+    let (half, rest) = other?;
+    sums.join(&mut seat, half);
+    let both = pass.together(kept, rest)?;
+    Ok((seat, both))
+}
+
+/// Runs so many workers in a thread of their own, numbered from 0. Memory also where the system
+/// refuses a thread; all threads are joined.
+pub(crate) fn run_apart<R: Threads + Wait + Sync, P: Pass + Sync>(
+    rt: &R,
+    sums: &SharedSums,
+    seat: SumSeat,
+    pass: &P,
+    workers: u64,
+) -> Result<(SumSeat, P::Kept), AllocError>
+    requires some { 0 < workers }
+    requires few { workers ≤ MAX_WORKERS }
+    requires fits { P.fits pass.now sums.now }
+    requires seat { seat ≡ fresh sums.now }
+    ensures sums { IfOk result (λ r. r.0.sums ≡ sums.now) }
+    ensures done { IfOk result (λ r. P.done pass.now r.0 r.1) }
+{
+    thread::scope(
+        thread::scope_env(),
+        rt,
+        |scope| -> Result<(SumSeat, P::Kept), AllocError>
+            requires { IsSync R.row × IsSync P.row × IsSend P.Kept.row × (0 < workers) × (workers ≤ MAX_WORKERS) × P.fits pass.now sums.now × (seat ≡ fresh sums.now) }
+            ensures { IfOk result (λ r. (r.0.sums ≡ sums.entry.now) × P.done pass.entry.now r.0 r.1) }
+        {
+            let promise = Promised {
+                sums: Snapshot::of(sums),
+                pass: Snapshot::of(pass),
+            };
+            let all = move || -> Result<(SumSeat, P::Kept), AllocError>
+                requires { IsSync R.row × IsSync P.row × IsSend P.Kept.row × (0 < workers) × (workers ≤ MAX_WORKERS) × P.fits pass.now sums.now × (seat ≡ fresh sums.now) }
+                ensures { IfOk result (λ r. (r.0.sums ≡ sums.entry.now) × P.done pass.entry.now r.0 r.1) }
+            { run_workers(rt, sums, seat, pass, 0, workers) };
+            let child = scope.spawn_with(promise, all)?;
+            child.join(rt)
+        },
+    )
+}
