@@ -1,15 +1,22 @@
 -- What a report leaves in a sink, and what its refusals tell.
-use Rattle.std.specs.Prelude.{◌≡◌, ◌<◌, ◌≤◌, ◌⊎◌, ◌+◌, ℕ, List, Bool, true, false, Option, IfSome, Result, Ok, Err}
+use Rattle.std.specs.Prelude.{◌≡◌, ◌<◌, ◌≤◌, ◌⊎◌, ◌+◌, ℕ, List, filter, Bool, true, false, Option, IfSome, Result, Ok, Err}
 use Rattle.std.specs.Io.KnownBytes.{Appends, Keeps}
 use Rattle.hh_stream.specs.Weights.{Entry}
-use Rattle.hh_counters.specs.Report.{heavy}
+use Rattle.hh_counters.specs.Report.{has_counter, heavy}
+use Rattle.hh_counters.specs.Counters.{Sketch}
 use Rattle.heavy.specs.Rows.{rows_of}
 use Rattle.heavy.specs.Sinks.{TakesFirst}
 use Rattle.heavy.specs.Streams.{stream_of}
 use Rattle.heavy.specs.declared.error.ToolError.{ToolError}
 use Rattle.heavy.specs.declared.error.ToolError.TheVariants as tool
+use Rattle.heavy.specs.declared.records.ReadError.{ReadError}
+use Rattle.heavy.specs.declared.records.ReadError.TheVariants as read
 use Rattle.heavy.specs.declared.rows.ReportFault.{ReportFault}
 use Rattle.heavy.specs.declared.rows.ReportFault.TheVariants as fault
+
+-- the heavy keys of xs that have a counter in the summary
+abbrev pub confirmed : Sketch → List Entry → List Entry
+confirmed s xs = filter (has_counter s.counters) (heavy xs 1 (s.k + 1))
 
 -- what a refusal to write rows leaves in a sink
 abbrev pub RowsRefused : List Entry → Option (List ℕ) → Option (List ℕ) → ReportFault → Type 0
@@ -21,6 +28,18 @@ abbrev pub is_write_fault : {T : Type 0} → Result T ReportFault → Bool
 is_write_fault (Err (fault.WriteFault n)) = true
 is_write_fault (Err fault.Memory) = false
 is_write_fault (Ok x) = false
+
+-- whether a command failed by its sink
+abbrev pub failed_by : {T : Type 0} → Result T ToolError → Bool
+failed_by (Err (tool.WriteFault n)) = true
+failed_by (Err _) = false
+failed_by (Ok x) = false
+
+-- the fault of a command whose input was not read
+abbrev pub read_fault : ReadError → ToolError
+read_fault read.ReadFault = tool.ReadFault
+read_fault (read.BadRecord n c) = tool.BadRecord n c
+read_fault read.Memory = tool.Memory
 
 -- k is one of a summary
 abbrev pub IsK : ℕ → Type 0

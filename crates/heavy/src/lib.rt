@@ -1,13 +1,19 @@
 //! Exact reports of the heavy keys of large weighted streams.
 #![tactic(auto)]
 
+mod confirmation;
 mod error;
 mod records;
+mod report;
 mod rows;
 mod sink;
+#[cfg(test)]
+mod tests;
 
+pub use confirmation::{ConfirmFault, confirm};
 pub use error::ToolError;
 pub use hh_counters::Heavy;
 pub use records::{BadRecordCause, ReadError, read_stream};
+pub use report::{ReportOptions, run_report};
 pub use rows::{ReportFault, report_text, write_report};
 pub use sink::{Out, Sink, SinkFault, WriteFault, put};

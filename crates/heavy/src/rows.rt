@@ -50,11 +50,7 @@ pub enum ReportFault {
 }
 
 /// Writes the rows of a report, as [`put`] writes [`report_text`].
-pub fn write_report<S: Sink>(
-    alloc: Global,
-    sink: &mut S,
-    rows: &[Heavy],
-) -> Result<(), ReportFault>
+pub fn write_report<S: Sink>(alloc: Global, sink: &mut S, rows: &[Heavy]) -> Result<(), ReportFault>
     requires { S.has_failed sink.old ≡ false }
     ensures all { OnOk result (Appends (S.taken sink.old) (S.taken sink.new) (rows_of rows.now)) }
     ensures refused { IfErr result (λ fault. RowsRefused rows.now (S.taken sink.old) (S.taken sink.new) fault) }

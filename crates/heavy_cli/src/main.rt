@@ -1,11 +1,12 @@
 //! The program `heavy`.
 #![tactic(auto)]
 
+use clap::error::ErrorKind;
 use clap::{Arg, Command, value_parser};
 use heavy::{Out, ReportOptions, ToolError, run_report};
 use std::alloc::{AllocError, Global};
-use std::env;
 use std::process::ExitCode;
+use std::{env, io};
 
 /// The exit status of the command line's own faults.
 const USAGE: u8 = 2;
@@ -41,12 +42,21 @@ fn read_request(rt: &HostRuntime) -> Result<Request, ToolError> {
     let alloc = rt.alloc();
     let words: Vec<String> = match env::args(rt) {
         Ok(args) => args.collect(alloc).map_err(|_| ToolError::Memory)?,
-        Err(_) => return Ok(Request::End(USAGE)),
+        Err(error) if matches!(error.kind(), io::ErrorKind::OutOfMemory) => {
+            return Err(ToolError::Memory);
+        }
+        Err(_) => {
+            let _ = eprintln!(rt; "heavy: a word of the command line is not UTF-8");
+            return Ok(Request::End(USAGE));
+        }
     };
     let command = command(alloc).map_err(|_| ToolError::Memory)?;
     let matches = match command.try_get_matches_from(words.as_slice()) {
         Ok(matches) => matches,
         Err(error) => {
+            if matches!(error.kind(), ErrorKind::OutOfMemory) {
+                return Err(ToolError::Memory);
+            }
             let _ = error.print(rt);
             let status = if error.exit_code() == 0 { 0 } else { USAGE };
             return Ok(Request::End(status));
