@@ -1,15 +1,21 @@
 -- One piece more, and what two workers have made together.
-use Rattle.std.proofs.Common.{◌≡◌, ◌≢◌, ℕ, zero, suc, ◌+◌, ◌*◌, ◌<◌, ◌≤◌, eqb, cond, eq-eqb, ne_eqb, List, [], ◌∷◌, ◌++◌, length, get_or, map, take, length-take, zero-add, ◌⊎◌, ⊎_elim, refl, sym, ap, ◌∙◌, subst, arith}
+use Rattle.std.proofs.Common.{◌≡◌, ◌≢◌, ℕ, zero, suc, ◌+◌, ◌*◌, ◌<◌, ◌≤◌, eqb, cond, eq-eqb, ne_eqb, List, [], ◌∷◌, ◌++◌, length, get_or, map, replicate, take, length-take, zero-add, ◌⊎◌, ⊎_elim, refl, sym, ap, ◌∙◌, subst, arith}
 use Rattle.std.proofs.lemmas.List.{map-append, get_or-take, get_or_past, append-nil}
 use Rattle.std.specs.List.{range_with_len}
+use Rattle.std.specs.Prelude.{All, slice_get, Some}
+use Rattle.std.proofs.lemmas.Option.{get_or_from_slice_get, slice_get-map}
+use Rattle.std.specs.Option.{option_map}
+use Rattle.std.proofs.lemmas.List.Elements.{All-nil, All-cons}
 use Rattle.std.proofs.lemmas.Grind.{flat_map-append}
 use Rattle.std.proofs.lemmas.Bool.{cases_order}
 use mathlib.Core.Logic.{dite}
 use native.Mathlib.Decide.{ℕ_discrete}
-use Rattle.hh_stream.specs.Weights.{Entry, total_of}
+use Rattle.hh_stream.specs.Weights.{Bytes, Entry, at_key, weight_of, total_of}
 use Rattle.hh_stream.specs.Cuttings.{whole_of}
 use Rattle.hh_pool.proofs.Pieces.{sum_by-items}
 use Rattle.std.proofs.lemmas.List.Sums.{sum_by-append}
+use Rattle.hh_counters.specs.Report.{weights_at, counted}
+use Rattle.hh_counters.proofs.Counting.{weight_of-le-total_of}
 use Rattle.hh_counters.specs.Counters.{Sketch, sketch_of}
 use Rattle.hh_countmin.specs.Family.{Coefficients}
 use Rattle.hh_countmin.specs.Table.{Grid, cell_at, cell_sum, table_of, empty_table}
@@ -19,7 +25,7 @@ use Rattle.hh_shared.specs.Tally.{times, added, IsDistinctBelow}
 use Rattle.hh_shared.specs.Seats.{Sums, Holding, fresh, joined}
 use Rattle.hh_shared.proofs.Tallies.{times-append, times-push, times-push_other, added-append, added-push, added-push_other}
 use Rattle.hh_pool.specs.Settings.{Settings}
-use Rattle.hh_pool.specs.Passes.{piece_of, items_at, summaries_at, HasTried, IsFirstPass, IsSecondPass, IsFirstPassUpTo}
+use Rattle.hh_pool.specs.Passes.{piece_of, items_at, summaries_at, HasTried, IsFirstPass, IsSecondPass, IsFirstPassUpTo, IsSecondPassUpTo}
 
 pub items_at-push : (pieces : List (List Entry)) (claims : List ℕ) (i : ℕ) → items_at pieces (claims ++ i ∷ []) ≡ items_at pieces claims ++ piece_of pieces i
 items_at-push pieces claims i = flat_map-append (piece_of pieces) claims (i ∷ []) ∙ ap (λ xs. items_at pieces claims ++ xs) (append-nil (piece_of pieces i))
@@ -130,3 +136,77 @@ first_joined pieces settings one other kept more p q = record {
 pub next_total : (pieces : List (List Entry)) (claims : List ℕ) (n : ℕ) → IsDistinctBelow (length pieces) (claims ++ n ∷ []) → total_of (items_at pieces claims) + total_of (piece_of pieces n) ≤ total_of (whole_of pieces)
 next_total pieces claims n distinct =
     omega (arith, sum_by-items (λ (e : Entry). e.1) pieces (claims ++ n ∷ []) distinct, ap total_of (items_at-push pieces claims n), sum_by-append (λ (e : Entry). e.1) (items_at pieces claims) (piece_of pieces n))
+
+-- the same of the second pass
+pub second_begins : (pieces : List (List Entry)) (keys : List Bytes) (sums : Sums) (numbers : List ℕ) → numbers ≡ replicate (length keys) 0 → IsSecondPassUpTo pieces keys 0 (fresh sums) numbers
+second_begins pieces keys sums numbers e = record {
+  tried = λ i low. absurd (omega arith);
+  distinct = record { once = λ j. omega arith; below = λ j some. absurd (omega arith) };
+  none_added = refl;
+  numbers = e ∙ no_weights keys;
+}
+  where
+    no_weights : (ks : List Bytes) → replicate (length ks) 0 ≡ weights_at ks []
+    no_weights [] = refl
+    no_weights (k ∷ ks) = ap (λ ns. 0 ∷ ns) (no_weights ks)
+
+pub second_met : (pieces : List (List Entry)) (keys : List Bytes) (n : ℕ) (seat after : Holding) (numbers : List ℕ) → after ≡ record seat { met = seat.met ++ n ∷ [] } → IsSecondPassUpTo pieces keys n seat numbers → IsSecondPassUpTo pieces keys (n + 1) after numbers
+second_met pieces keys n seat after numbers e p = subst (λ h. IsSecondPassUpTo pieces keys (n + 1) h numbers) (sym e)
+    (record { tried = tried-met n seat p.tried; distinct = p.distinct; none_added = p.none_added; numbers = p.numbers })
+
+-- counting goes on where it stopped
+counted-weights_at : (keys : List Bytes) (xs ys : List Entry) → counted keys ys (weights_at keys xs) ≡ weights_at keys (xs ++ ys)
+counted-weights_at [] xs ys = refl
+counted-weights_at (k ∷ ks) xs ys = (λ i. sym (sum_by-append (at_key k) xs ys) i ∷ counted-weights_at ks xs ys i)
+
+pub second_claimed : (pieces : List (List Entry)) (keys : List Bytes) (n : ℕ) (seat after : Holding) (numbers more : List ℕ)
+    → after ≡ record seat { claims = seat.claims ++ n ∷ [] } → IsDistinctBelow (length pieces) after.claims → more ≡ counted keys (piece_of pieces n) numbers
+    → IsSecondPassUpTo pieces keys n seat numbers → IsSecondPassUpTo pieces keys (n + 1) after more
+second_claimed pieces keys n seat after numbers more e distinct f p =
+    let claims = ap (λ h. h.claims) e in
+    record {
+      tried = subst (HasTried (n + 1)) (sym e) (tried-claim n seat p.tried);
+      distinct = distinct;
+      none_added = ap (λ h. h.adds) e ∙ p.none_added;
+      numbers = f ∙ (ap (counted keys (piece_of pieces n)) p.numbers ∙ (counted-weights_at keys (items_at pieces seat.claims) (piece_of pieces n) ∙ ap (weights_at keys) (sym (items_at-push pieces seat.claims n) ∙ ap (items_at pieces) (sym claims))));
+    }
+
+-- each number, with the next piece's items, is at most the stream's total
+pub second_fits : (pieces : List (List Entry)) (claims : List ℕ) (n limit : ℕ) → IsDistinctBelow (length pieces) (claims ++ n ∷ []) → total_of (whole_of pieces) < limit → (keys : List Bytes) → All (λ (m : ℕ). m + total_of (piece_of pieces n) < limit) (weights_at keys (items_at pieces claims))
+second_fits pieces claims n limit distinct low [] = All-nil (λ (m : ℕ). m + total_of (piece_of pieces n) < limit)
+second_fits pieces claims n limit distinct low (k ∷ ks) = All-cons (λ (m : ℕ). m + total_of (piece_of pieces n) < limit) (weight_of k (items_at pieces claims)) (weights_at ks (items_at pieces claims))
+    (omega (arith, next_total pieces claims n distinct, weight_of-le-total_of k (items_at pieces claims)))
+    (second_fits pieces claims n limit distinct low ks)
+
+weight_behind_number : (keys : List Bytes) (xs : List Entry) (i : ℕ) (key : Bytes) → slice_get keys i ≡ Some key → get_or (weights_at keys xs) i 0 ≡ weight_of key xs
+weight_behind_number keys xs i key at = get_or_from_slice_get (weights_at keys xs) i (weight_of key xs) 0 (slice_get-map (λ (x : Bytes). weight_of x xs) keys i ∙ ap (option_map (λ (x : Bytes). weight_of x xs)) at)
+
+-- only who has claimed a piece has something to add
+pub claim-behind_number : (pieces : List (List Entry)) (keys : List Bytes) (claims : List ℕ) (numbers : List ℕ) → numbers ≡ weights_at keys (items_at pieces claims) → (i : ℕ) → 0 < get_or numbers i 0 → 0 < length claims
+claim-behind_number pieces keys [] numbers e i some = absurd (omega (arith, ap (λ ns. get_or ns i 0) e, none keys i))
+  where
+    none : (ks : List Bytes) (i : ℕ) → get_or (weights_at ks []) i 0 ≡ 0
+    none [] i = refl
+    none (k ∷ ks) zero = refl
+    none (k ∷ ks) (suc i) = none ks i
+claim-behind_number pieces keys (j ∷ js) numbers e i some = omega arith
+
+-- the worker's own numbers are added to the shared ones
+pub second_ends : (pieces : List (List Entry)) (keys : List Bytes) (seat after : Holding) (numbers : List ℕ)
+    → after ≡ record seat { adds = after.adds } → ((cell : ℕ) → added cell after.adds ≡ added cell seat.adds + get_or numbers cell 0)
+    → IsSecondPassUpTo pieces keys (length pieces) seat numbers → IsSecondPass pieces keys after
+second_ends pieces keys seat after numbers e adds p =
+    let claims = ap (λ h. h.claims) e in
+    record {
+      tried = subst (HasTried (length pieces)) (sym e) p.tried;
+      adds = λ i key at.
+          omega (arith, adds i, ap (added i) p.none_added, ap (λ ns. get_or ns i 0) p.numbers, weight_behind_number keys (items_at pieces seat.claims) i key at, ap (λ is. weight_of key (items_at pieces is)) claims);
+    }
+
+pub second_joined : (pieces : List (List Entry)) (keys : List Bytes) (one other : Holding) → IsSecondPass pieces keys one → IsSecondPass pieces keys other → IsSecondPass pieces keys (joined one other)
+second_joined pieces keys one other p q = record {
+  tried = tried-joined (length pieces) one other p.tried;
+  adds = λ i key at.
+      let items = ap (weight_of key) (items_at-append pieces one.claims other.claims) ∙ sum_by-append (at_key key) (items_at pieces one.claims) (items_at pieces other.claims) in
+      omega (arith, added-append i one.adds other.adds, p.adds i key at, q.adds i key at);
+}

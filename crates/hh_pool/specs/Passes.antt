@@ -3,6 +3,7 @@ use Rattle.std.specs.Prelude.{◌≡◌, ℕ, ◌+◌, ◌*◌, ◌<◌, List, [
 use Rattle.std.specs.List.{flat_map}
 use Rattle.hh_stream.specs.Weights.{Bytes, Entry, weight_of}
 use Rattle.hh_counters.specs.Counters.{Sketch, sketch_of}
+use Rattle.hh_counters.specs.Report.{weights_at}
 use Rattle.hh_countmin.specs.Table.{Grid, cell_sum, table_of}
 use Rattle.hh_shared.specs.Tally.{times, added, IsDistinctBelow}
 use Rattle.hh_shared.specs.Seats.{Holding}
@@ -41,3 +42,10 @@ pub record IsFirstPassUpTo (pieces : List (List Entry)) (settings : Settings) (n
   pub none_added : seat.adds ≡ []
   pub summaries : kept ≡ summaries_at settings.k pieces seat.claims
   pub table : grid ≡ table_of settings.family settings.width (items_at pieces seat.claims)
+
+-- a worker of the second pass has tried n pieces, and hasn't yet added its numbers
+pub record IsSecondPassUpTo (pieces : List (List Entry)) (keys : List Bytes) (n : ℕ) (seat : Holding) (counts : List ℕ) : Type 0 where
+  pub tried : HasTried n seat
+  pub distinct : IsDistinctBelow (length pieces) seat.claims
+  pub none_added : seat.adds ≡ []
+  pub numbers : counts ≡ weights_at keys (items_at pieces seat.claims)

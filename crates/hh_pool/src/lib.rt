@@ -6,8 +6,10 @@ mod first;
 mod gate;
 mod options;
 mod pass;
+mod second;
 mod workers;
 
 pub use first::first_pass;
 pub use gate::{Gate, OpenGate};
+pub use second::second_pass;
 pub use options::{MAX_WORKERS, Options, OptionsFault};
