@@ -1,2 +1,3 @@
 pub mod Pieces
 pub mod Tried
+pub mod Alone

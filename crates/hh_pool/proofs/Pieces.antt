@@ -11,7 +11,7 @@ use Rattle.hh_pool.specs.Passes.{piece_of, items_at}
 
 module _ {X A : Type 0} where
   -- a sum over the parts is a sum of the parts' sums
-  sum_by-flat_map : (f : A → ℕ) (g : X → List A) (xs : List X) → sum_by f (flat_map g xs) ≡ sum_by (λ x. sum_by f (g x)) xs
+  pub sum_by-flat_map : (f : A → ℕ) (g : X → List A) (xs : List X) → sum_by f (flat_map g xs) ≡ sum_by (λ x. sum_by f (g x)) xs
   sum_by-flat_map f g [] = refl
   sum_by-flat_map f g (x ∷ xs) = sum_by-append f (g x) (flat_map g xs) ∙ (ap (λ n. sum_by f (g x) + n) (sum_by-flat_map f g xs) ∙ sym (sum_by-cons (λ y. sum_by f (g y)) x xs))
 

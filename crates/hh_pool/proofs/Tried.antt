@@ -137,6 +137,10 @@ pub next_total : (pieces : List (List Entry)) (claims : List ℕ) (n : ℕ) → 
 next_total pieces claims n distinct =
     omega (arith, sum_by-items (λ (e : Entry). e.1) pieces (claims ++ n ∷ []) distinct, ap total_of (items_at-push pieces claims n), sum_by-append (λ (e : Entry). e.1) (items_at pieces claims) (piece_of pieces n))
 
+pub no_weights : (keys : List Bytes) → replicate (length keys) 0 ≡ weights_at keys []
+no_weights [] = refl
+no_weights (k ∷ ks) = ap (λ ns. 0 ∷ ns) (no_weights ks)
+
 -- the same of the second pass
 pub second_begins : (pieces : List (List Entry)) (keys : List Bytes) (sums : Sums) (numbers : List ℕ) → numbers ≡ replicate (length keys) 0 → IsSecondPassUpTo pieces keys 0 (fresh sums) numbers
 second_begins pieces keys sums numbers e = record {
@@ -145,17 +149,13 @@ second_begins pieces keys sums numbers e = record {
   none_added = refl;
   numbers = e ∙ no_weights keys;
 }
-  where
-    no_weights : (ks : List Bytes) → replicate (length ks) 0 ≡ weights_at ks []
-    no_weights [] = refl
-    no_weights (k ∷ ks) = ap (λ ns. 0 ∷ ns) (no_weights ks)
 
 pub second_met : (pieces : List (List Entry)) (keys : List Bytes) (n : ℕ) (seat after : Holding) (numbers : List ℕ) → after ≡ record seat { met = seat.met ++ n ∷ [] } → IsSecondPassUpTo pieces keys n seat numbers → IsSecondPassUpTo pieces keys (n + 1) after numbers
 second_met pieces keys n seat after numbers e p = subst (λ h. IsSecondPassUpTo pieces keys (n + 1) h numbers) (sym e)
     (record { tried = tried-met n seat p.tried; distinct = p.distinct; none_added = p.none_added; numbers = p.numbers })
 
 -- counting goes on where it stopped
-counted-weights_at : (keys : List Bytes) (xs ys : List Entry) → counted keys ys (weights_at keys xs) ≡ weights_at keys (xs ++ ys)
+pub counted-weights_at : (keys : List Bytes) (xs ys : List Entry) → counted keys ys (weights_at keys xs) ≡ weights_at keys (xs ++ ys)
 counted-weights_at [] xs ys = refl
 counted-weights_at (k ∷ ks) xs ys = (λ i. sym (sum_by-append (at_key k) xs ys) i ∷ counted-weights_at ks xs ys i)
 
@@ -171,12 +171,10 @@ second_claimed pieces keys n seat after numbers more e distinct f p =
       numbers = f ∙ (ap (counted keys (piece_of pieces n)) p.numbers ∙ (counted-weights_at keys (items_at pieces seat.claims) (piece_of pieces n) ∙ ap (weights_at keys) (sym (items_at-push pieces seat.claims n) ∙ ap (items_at pieces) (sym claims))));
     }
 
--- each number, with the next piece's items, is at most the stream's total
-pub second_fits : (pieces : List (List Entry)) (claims : List ℕ) (n limit : ℕ) → IsDistinctBelow (length pieces) (claims ++ n ∷ []) → total_of (whole_of pieces) < limit → (keys : List Bytes) → All (λ (m : ℕ). m + total_of (piece_of pieces n) < limit) (weights_at keys (items_at pieces claims))
-second_fits pieces claims n limit distinct low [] = All-nil (λ (m : ℕ). m + total_of (piece_of pieces n) < limit)
-second_fits pieces claims n limit distinct low (k ∷ ks) = All-cons (λ (m : ℕ). m + total_of (piece_of pieces n) < limit) (weight_of k (items_at pieces claims)) (weights_at ks (items_at pieces claims))
-    (omega (arith, next_total pieces claims n distinct, weight_of-le-total_of k (items_at pieces claims)))
-    (second_fits pieces claims n limit distinct low ks)
+-- each weight in these items, with so much more, is below a limit
+pub weights_fit : (xs : List Entry) (more limit : ℕ) → total_of xs + more < limit → (keys : List Bytes) → All (λ (m : ℕ). m + more < limit) (weights_at keys xs)
+weights_fit xs more limit low [] = All-nil (λ (m : ℕ). m + more < limit)
+weights_fit xs more limit low (k ∷ ks) = All-cons (λ (m : ℕ). m + more < limit) (weight_of k xs) (weights_at ks xs) (omega (arith, weight_of-le-total_of k xs)) (weights_fit xs more limit low ks)
 
 weight_behind_number : (keys : List Bytes) (xs : List Entry) (i : ℕ) (key : Bytes) → slice_get keys i ≡ Some key → get_or (weights_at keys xs) i 0 ≡ weight_of key xs
 weight_behind_number keys xs i key at = get_or_from_slice_get (weights_at keys xs) i (weight_of key xs) 0 (slice_get-map (λ (x : Bytes). weight_of x xs) keys i ∙ ap (option_map (λ (x : Bytes). weight_of x xs)) at)

@@ -1,7 +1,8 @@
 -- What the workers of a pass bring back.
-use Rattle.std.specs.Prelude.{◌≡◌, ℕ, ◌+◌, ◌*◌, ◌<◌, List, [], length, map, slice_get, slice_index_or, Some}
+use Rattle.std.specs.Prelude.{◌≡◌, ℕ, ◌+◌, ◌*◌, ◌<◌, List, [], length, map, take, slice_get, slice_index_or, Some}
 use Rattle.std.specs.List.{flat_map}
 use Rattle.hh_stream.specs.Weights.{Bytes, Entry, weight_of}
+use Rattle.hh_stream.specs.Cuttings.{whole_of}
 use Rattle.hh_counters.specs.Counters.{Sketch, sketch_of}
 use Rattle.hh_counters.specs.Report.{weights_at}
 use Rattle.hh_countmin.specs.Table.{Grid, cell_sum, table_of}
@@ -49,3 +50,8 @@ pub record IsSecondPassUpTo (pieces : List (List Entry)) (keys : List Bytes) (n 
   pub distinct : IsDistinctBelow (length pieces) seat.claims
   pub none_added : seat.adds ≡ []
   pub numbers : counts ≡ weights_at keys (items_at pieces seat.claims)
+
+-- what the calling thread has made of the first n pieces
+pub record IsFirstAloneUpTo (pieces : List (List Entry)) (settings : Settings) (n : ℕ) (sketches : List Sketch) (grid : Grid) : Type 0 where
+  pub summaries : sketches ≡ map (sketch_of settings.k) (take n pieces)
+  pub table : grid ≡ table_of settings.family settings.width (whole_of (take n pieces))

@@ -1,6 +1,6 @@
 //! The first pass: each piece is summarised, and its items are added to the cells of one table.
 
-ghost use Rattle.std.specs.Prelude.{◌≡◌, ◌+◌, ◌*◌, ◌<◌, ◌≤◌, ◌++◌, ◌∷◌, [], ℕ, List, length, slice_index, sum, IfOk, OnOk};
+ghost use Rattle.std.specs.Prelude.{◌≡◌, ◌+◌, ◌*◌, ◌<◌, ◌≤◌, ◌++◌, ◌∷◌, [], ℕ, List, length, map, slice_index, sum, IfOk, OnOk};
 ghost use Rattle.hh_stream.specs.Weights.{Entry, total_of};
 ghost use Rattle.hh_stream.specs.Cuttings.{pieces_of};
 ghost use Rattle.hh_counters.specs.Counters.{sketch_of};
@@ -8,7 +8,7 @@ ghost use Rattle.hh_countmin.specs.Family.{Coefficients};
 ghost use Rattle.hh_countmin.specs.Table.{empty_table, table_of};
 ghost use Rattle.hh_shared.specs.Tally.{added};
 ghost use Rattle.hh_shared.specs.Seats.{fresh};
-ghost use Rattle.hh_pool.specs.Passes.{IsFirstPass, IsFirstPassUpTo};
+ghost use Rattle.hh_pool.specs.Passes.{IsFirstPass, IsFirstPassUpTo, IsFirstAloneUpTo};
 
 use crate::gate::Gate;
 use crate::options::Options;
@@ -130,6 +130,44 @@ impl<'a, G: Gate> FirstPass<'a, G> {
         let summary = summary_of(self.alloc, self.options, items)?;
         made.summaries.push((piece, summary))?;
         add_items(&mut made.table, items);
+        Ok(())
+    }
+}
+
+impl<'a, G: Gate> FirstPass<'a, G> {
+    /// The same by the calling thread, without sums: the summaries of the pieces, in order, and the
+    /// table of the stream.
+    pub(crate) fn alone(&self) -> Result<(Vec<Summary>, Table), AllocError>
+        requires { sum self.now.cutting.now ≡ length self.now.stream.now }
+        ensures summaries { IfOk result (λ r. r.0.items ≡ map (sketch_of self.now.options.now.k) (pieces_of self.now.cutting.now self.now.stream.now)) }
+        ensures table { IfOk result (λ r. r.1 ≡ table_of self.now.options.now.family self.now.options.now.width self.now.stream.now) }
+    {
+        let mut summaries = Vec::new(self.alloc);
+        let mut table = empty_table(self.alloc, self.options)?;
+        for piece in 0..self.cutting.count() {
+            self.do_piece(&mut summaries, &mut table, piece)?;
+        }
+        Ok((summaries, table))
+    }
+
+    // Does the next piece.
+    fn do_piece(
+        &self,
+        summaries: &mut Vec<Summary>,
+        table: &mut Table,
+        piece: usize,
+    ) -> Result<(), AllocError>
+        requires same_len { sum self.now.cutting.now ≡ length self.now.stream.now }
+        requires piece { piece < length self.now.cutting.now }
+        requires before { IsFirstAloneUpTo (pieces_of self.now.cutting.now self.now.stream.now) self.now.options.now piece summaries.old.items table.old }
+        ensures { OnOk result (IsFirstAloneUpTo (pieces_of self.now.cutting.now self.now.stream.now) self.now.options.now (piece + 1) summaries.new.items table.new) }
+    {
+        self.gate.before(1, self.options.workers(), piece as u64);
+        let items = self.cutting.piece(self.stream, piece);
+        // It bounds the total of the table.
+        let _total = self.stream.total();
+        summaries.push(summary_of(self.alloc, self.options, items)?)?;
+        add_items(table, items);
         Ok(())
     }
 }

@@ -2,14 +2,17 @@
 //! of a stream, whose outcome is the same whatever worker does which piece.
 #![tactic(auto)]
 
+mod analysis;
 mod first;
 mod gate;
 mod options;
+mod outcome;
 mod pass;
 mod second;
 mod workers;
 
 pub use first::first_pass;
 pub use gate::{Gate, OpenGate};
-pub use second::second_pass;
 pub use options::{MAX_WORKERS, Options, OptionsFault};
+pub use outcome::{Outcome, RunError};
+pub use second::second_pass;

@@ -1,7 +1,8 @@
 //! The second pass: the candidates' exact weights are counted.
 
-ghost use Rattle.std.specs.Prelude.{◌≡◌, ◌+◌, ◌<◌, ◌≤◌, length, sum, IfOk};
-ghost use Rattle.hh_stream.specs.Cuttings.{pieces_of};
+ghost use Rattle.std.specs.Prelude.{◌≡◌, ◌+◌, ◌<◌, ◌≤◌, length, sum, take, IfOk};
+ghost use Rattle.hh_stream.specs.Cuttings.{pieces_of, whole_of};
+ghost use Rattle.hh_counters.specs.Report.{weights_at};
 ghost use Rattle.hh_shared.specs.Seats.{fresh};
 ghost use Rattle.hh_pool.specs.Passes.{IsSecondPass, IsSecondPassUpTo};
 
@@ -79,6 +80,35 @@ impl<'a, G: Gate> SecondPass<'a, G> {
             let _total = self.stream.total();
             self.candidates.count_piece(items, numbers);
         }
+    }
+}
+
+impl<'a, G: Gate> SecondPass<'a, G> {
+    /// The same by the calling thread, without sums: the candidates' weights in the stream. `workers` is
+    /// what the gate hears.
+    pub(crate) fn alone(&self, workers: u64) -> Result<Vec<u64>, AllocError>
+        requires { sum self.now.cutting.now ≡ length self.now.stream.now }
+        ensures { IfOk result (λ weights. weights.items ≡ weights_at self.now.candidates.now self.now.stream.now) }
+    {
+        let mut weights = vec![in self.alloc; 0u64; self.candidates.len()]?;
+        for piece in 0..self.cutting.count() {
+            self.do_piece(&mut weights, workers, piece);
+        }
+        Ok(weights)
+    }
+
+    // Counts the next piece.
+    fn do_piece(&self, weights: &mut [u64], workers: u64, piece: usize)
+        requires same_len { sum self.now.cutting.now ≡ length self.now.stream.now }
+        requires piece { piece < length self.now.cutting.now }
+        requires before { weights.old ≡ weights_at self.now.candidates.now (whole_of (take piece (pieces_of self.now.cutting.now self.now.stream.now))) }
+        ensures { weights.new ≡ weights_at self.now.candidates.now (whole_of (take (piece + 1) (pieces_of self.now.cutting.now self.now.stream.now))) }
+    {
+        self.gate.before(2, workers, piece as u64);
+        let items = self.cutting.piece(self.stream, piece);
+        // It bounds the weights.
+        let _total = self.stream.total();
+        self.candidates.count_piece(items, weights);
     }
 }
 

@@ -4,9 +4,9 @@ use Rattle.hh_stream.specs.Weights.{Entry, total_of}
 use Rattle.hh_stream.specs.Cuttings.{pieces_of}
 use Rattle.hh_counters.specs.Report.{counted}
 use Rattle.hh_shared.specs.Tally.{IsDistinctBelow}
-use Rattle.hh_pool.specs.Passes.{piece_of}
+use Rattle.hh_pool.specs.Passes.{items_at}
 use Rattle.hh_pool.proofs.Pieces.{length-pieces_of}
-use Rattle.hh_pool.proofs.Tried.{second_fits, second_met, second_claimed}
+use Rattle.hh_pool.proofs.Tried.{next_total, weights_fit, second_met, second_claimed}
 use Rattle.hh_pool.proofs.second.SecondPass.try_piece.Goals as goal
 
 pub count_piece-requires-clause-bounded : goal.count_piece-requires-clause-bounded
@@ -15,9 +15,10 @@ count_piece-requires-clause-bounded g c k d low =
     let count = c.requires.claims ∙ sym (length-pieces_of c.args.self.now.cutting.now c.args.self.now.stream.now) in
     let claims = ap (λ h. h.claims) c.if-claim.ensures.claimed_or_met in
     let distinct = subst (λ (z : ℕ × List ℕ). IsDistinctBelow z.0 z.1) (λ i. (count i, claims i)) c.if-claim.ensures.distinct in
-    let fits = second_fits pieces c.args.seat.now.claims c.args.piece (2 ^ 64) distinct (omega (arith, ap total_of c.piece-items.ensures.whole, c.total-total.ensures.bounded, c.total-total.ensures.total)) c.args.self.now.candidates.now in
-    let mine = subst (All (λ (m : ℕ). m + total_of (piece_of pieces c.args.piece) < 2 ^ 64)) (sym c.requires.before.numbers) fits in
-    omega (arith, mine k d low, ap total_of c.piece-items.ensures.piece)
+    let most = next_total pieces c.args.seat.now.claims c.args.piece distinct in
+    let low' : total_of (items_at pieces c.args.seat.now.claims) + total_of c.piece-items.result.now < 2 ^ 64 = omega (arith, most, ap total_of c.piece-items.ensures.whole, ap total_of c.piece-items.ensures.piece, c.total-total.ensures.bounded, c.total-total.ensures.total) in
+    let fits = weights_fit (items_at pieces c.args.seat.now.claims) (total_of c.piece-items.result.now) (2 ^ 64) low' c.args.self.now.candidates.now in
+    subst (All (λ (m : ℕ). m + total_of c.piece-items.result.now < 2 ^ 64)) (sym c.requires.before.numbers) fits k d low
 
 pub returns-then-claim-clause-after : goal.returns-then-claim-clause-after
 returns-then-claim-clause-after g c =
