@@ -1,1 +1,3 @@
 pub mod Settings
+pub mod Plans
+pub mod Trees

@@ -5,7 +5,9 @@
 mod gate;
 mod options;
 mod pass;
+mod plan;
 mod workers;
 
 pub use gate::{Gate, OpenGate};
 pub use options::{MAX_WORKERS, Options, OptionsFault};
+pub use plan::{MAX_PIECES, Plan};
