@@ -1,1 +1,2 @@
 pub mod TreeFacts
+pub mod MergeFacts

@@ -3,7 +3,8 @@ use Rattle.std.specs.Prelude.{◌≡◌, ℕ, zero, suc, ◌+◌, ◌-◌, ◌/�
 use Rattle.std.proofs.Common.{sym, ap, ◌∙◌}
 use base.Stored.{Coded, Gv, gnil, gnum, gcons}
 use Rattle.hh_stream.specs.Weights.{Entry, max_total, total_of}
-use Rattle.hh_counters.specs.Counters.{Counters, Sketch, join, merged}
+use Rattle.hh_counters.specs.Counters.{Counters, IsHonest, Sketch, join, merged}
+use Rattle.hh_stream.specs.Cuttings.{whole_of}
 use Rattle.hh_counters.specs.declared.summary.MergeFault.{MergeFault}
 use Rattle.hh_counters.specs.declared.summary.MergeFault.TheVariants as fault
 
@@ -44,6 +45,11 @@ pub record IsMergeTree (t : MergeTree) (p : ℕ) : Type 0 where
   pub once : (i : ℕ) → i < p → times i (leaves t) ≡ 1
   pub within : (i : ℕ) → p ≤ i → times i (leaves t) ≡ 0
 
+-- the leaves are different places of a list of so many
+pub record HasPlaces (t : MergeTree) (n : ℕ) : Type 0 where
+  pub once : (i : ℕ) → times i (leaves t) ≤ 1
+  pub within : (i : ℕ) → 0 < times i (leaves t) → i < n
+
 -- ((0 1) 2) and so on, with each next piece on the right: the chain of n + 1 pieces
 abbrev pub chain_of : ℕ → MergeTree
 chain_of zero = Piece 0
@@ -81,3 +87,10 @@ tree_result (Merge l r) ss = merge_both (tree_result l ss) (tree_result r ss)
 abbrev pub items_of : MergeTree → List (List Entry) → List Entry
 items_of (Piece i) pieces = slice_index_or pieces i []
 items_of (Merge l r) pieces = items_of l pieces ++ items_of r pieces
+
+-- where each summary is honest for a list of items, the merged one is honest for all of them
+abbrev pub MergesHonestly : List Sketch → Sketch → Type 0
+MergesHonestly ss s =
+    (lists : List (List Entry)) → length lists ≡ length ss
+    → ((i : ℕ) → i < length ss → let piece = slice_index_or ss i no_sketch in IsHonest piece.counters piece.total (slice_index_or lists i []) s.k)
+    → IsHonest s.counters s.total (whole_of lists) s.k

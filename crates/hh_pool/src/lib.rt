@@ -3,11 +3,13 @@
 #![tactic(auto)]
 
 mod gate;
+mod merging;
 mod options;
 mod pass;
 mod plan;
 mod workers;
 
 pub use gate::{Gate, OpenGate};
+pub use merging::merge_by;
 pub use options::{MAX_WORKERS, Options, OptionsFault};
 pub use plan::{MAX_PIECES, Plan};
