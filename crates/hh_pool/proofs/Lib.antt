@@ -1,2 +1,3 @@
 pub mod TreeFacts
 pub mod MergeFacts
+pub mod ValueFacts

@@ -1,13 +1,14 @@
 //! Summaries merged by a plan.
 
-ghost use Rattle.std.specs.Prelude.{◌≡◌, ◌≢◌, ℕ, List, length, map, sum_by, ◌≤◌, All, Ok, Err, IfOk, IfErr, slice_index_or, vec_len};
+ghost use Rattle.std.specs.Prelude.{◌≡◌, ◌≢◌, ℕ, List, length, map, sum_by, ◌≤◌, All, Ok, Err, IfOk, IfErr, slice_index_or};
 ghost use Rattle.hh_stream.specs.Weights.{Entry};
 ghost use Rattle.hh_stream.specs.Cuttings.{whole_of};
 ghost use Rattle.hh_counters.specs.Counters.{IsHonest, Sketch};
 ghost use Rattle.hh_pool.specs.Plans.{shape};
 ghost use Rattle.hh_pool.specs.Trees.{HasPlaces, IsMergeTree, MergesHonestly, leaves, merge_result, no_sketch, times, tree_result, tree_value};
 
-use crate::plan::{Plan, Tree};
+use crate::plan::{MAX_PIECES, Plan, Tree};
+use hh_counters::laws::join_of_honest_is_honest;
 use hh_counters::{MergeFault, Summary};
 use std::alloc::Global;
 use std::mem;
@@ -37,7 +38,7 @@ fn merge_two(left: Summary, right: &Summary) -> Result<Summary, MergeFault>
 /// Merges the summaries of a tree's pieces, which it takes from their places.
 fn merge_tree(alloc: Global, tree: &Tree, summaries: &mut [Summary]) -> Result<Summary, MergeFault>
     requires places { HasPlaces (shape tree.now) (length summaries.old) }
-    requires fits { length summaries.old ≤ 1024 }
+    requires fits { length summaries.old ≤ MAX_PIECES }
     ensures merged { IfOk result (λ s. tree_result (shape tree.now) summaries.old ≡ Ok s) }
     ensures refused { IfErr result (λ e. e ≢ MergeFault.Memory → tree_result (shape tree.now) summaries.old ≡ Err e) }
     ensures others { (i : ℕ) → times i (leaves (shape tree.now)) ≡ 0 → slice_index_or summaries.new i no_sketch ≡ slice_index_or summaries.old i no_sketch }
@@ -64,7 +65,8 @@ fn merge_tree(alloc: Global, tree: &Tree, summaries: &mut [Summary]) -> Result<S
 /// Whatever the plan, where each summary is honest for a list of items, the result is honest for all
 /// of them (Agarwal et al., Mergeable Summaries, PODS 2012).
 pub fn merge_by(alloc: Global, plan: &Plan, summaries: Vec<Summary>) -> Result<Summary, MergeFault>
-    requires { IsMergeTree plan.now (vec_len summaries) }
+    requires tree { IsMergeTree plan.now (length summaries.items) }
+    requires few { length summaries.items ≤ MAX_PIECES }
     ensures merged { IfOk result (λ s. tree_result plan.now summaries.items ≡ Ok s) }
     ensures refused { IfErr result (λ e. e ≢ MergeFault.Memory → tree_result plan.now summaries.items ≡ Err e) }
 
@@ -73,6 +75,7 @@ pub fn merge_by(alloc: Global, plan: &Plan, summaries: Vec<Summary>) -> Result<S
     ensures counters { IfOk result (λ s. s.counters ≡ tree_value plan.now (map (λ piece. piece.counters) summaries.items) s.k) }
     ensures honest { IfOk result (λ s. MergesHonestly summaries.items s) }
 {
+    join_of_honest_is_honest();
     let mut summaries = summaries;
     merge_tree(alloc, plan.tree(), &mut summaries)
 }
