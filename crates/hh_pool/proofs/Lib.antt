@@ -1,3 +1,7 @@
+pub mod TreeFacts
+pub mod MergeFacts
+pub mod ValueFacts
 pub mod Pieces
 pub mod Tried
 pub mod Alone
+pub mod Closed

@@ -176,7 +176,7 @@ pub weights_fit : (xs : List Entry) (more limit : ℕ) → total_of xs + more < 
 weights_fit xs more limit low [] = All-nil (λ (m : ℕ). m + more < limit)
 weights_fit xs more limit low (k ∷ ks) = All-cons (λ (m : ℕ). m + more < limit) (weight_of k xs) (weights_at ks xs) (omega (arith, weight_of-le-total_of k xs)) (weights_fit xs more limit low ks)
 
-weight_behind_number : (keys : List Bytes) (xs : List Entry) (i : ℕ) (key : Bytes) → slice_get keys i ≡ Some key → get_or (weights_at keys xs) i 0 ≡ weight_of key xs
+pub weight_behind_number : (keys : List Bytes) (xs : List Entry) (i : ℕ) (key : Bytes) → slice_get keys i ≡ Some key → get_or (weights_at keys xs) i 0 ≡ weight_of key xs
 weight_behind_number keys xs i key at = get_or_from_slice_get (weights_at keys xs) i (weight_of key xs) 0 (slice_get-map (λ (x : Bytes). weight_of x xs) keys i ∙ ap (option_map (λ (x : Bytes). weight_of x xs)) at)
 
 -- only who has claimed a piece has something to add

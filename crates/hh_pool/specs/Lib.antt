@@ -1,2 +1,4 @@
 pub mod Settings
+pub mod Plans
+pub mod Trees
 pub mod Passes

@@ -1,19 +1,24 @@
 //! The analysis of a stream: two passes by workers, and a merge between them.
 
-ghost use Rattle.std.specs.Prelude.{◌≡◌, ◌≢◌, ◌+◌, ◌≤◌, ◌<◌, ◌∷◌, ℕ, All, length, map, sum, IfOk, IfSome, IsErrOf};
+ghost use Rattle.std.specs.Prelude.{◌≡◌, ◌≢◌, ◌+◌, ◌≤◌, ◌<◌, ◌∷◌, ◌↔◌, ℕ, All, length, map, sum, IfOk, IfSome, IsErrOf};
 ghost use Rattle.std.specs.List.{range_with_len};
 ghost use Rattle.hh_stream.specs.Cuttings.{pieces_of};
-ghost use Rattle.hh_counters.specs.Counters.{Sketch, sketch_of};
-ghost use Rattle.hh_counters.specs.Report.{weights_at};
+ghost use Rattle.hh_stream.specs.Weights.{total_of};
+ghost use Rattle.hh_counters.specs.Counters.{Sketch, sketch_of, misra_gries, IsHonest};
+ghost use Rattle.hh_counters.specs.Report.{weights_at, heavy};
 ghost use Rattle.hh_countmin.specs.Table.{table_of};
 ghost use Rattle.hh_pool.specs.Settings.{IsWorkers};
+ghost use Rattle.hh_pool.specs.Trees.{leaves, tree_value};
 
 use crate::first::FirstPass;
 use crate::gate::Gate;
+use crate::merging::merge_by;
 use crate::options::Options;
+use crate::outcome::{Outcome, RunError};
+use crate::plan::Plan;
 use crate::second::SecondPass;
 use crate::workers::run_apart;
-use hh_counters::{Candidates, Summary};
+use hh_counters::{Candidates, MergeFault, Summary};
 use hh_countmin::Table;
 use hh_shared::SharedSums;
 use hh_stream::{Cutting, Stream};
@@ -38,6 +43,20 @@ fn in_order(
         }
     }
     Ok(Some(summaries))
+}
+
+/// The table of the stream, whose cells these are.
+fn table_of_cells(stream: &Stream, options: &Options, cells: Vec<u64>) -> Result<Table, AllocError>
+    requires { cells.items ≡ (table_of options.now.family options.now.width stream.now).cells }
+    ensures { IfOk result (λ table. table ≡ table_of options.now.family options.now.width stream.now) }
+{
+    let family = options.family().copy()?;
+    Ok(Table::from_cells(
+        family,
+        options.width(),
+        stream.total(),
+        cells,
+    ))
 }
 
 /// The first pass: the summaries of the pieces, in order, and the table of the stream.
@@ -70,11 +89,7 @@ fn summarise<R: Threads + Wait + Sync, G: Gate + Sync>(
         return pass.alone();
     };
     let cells = sums.close(seat)?;
-    let family = options.family().copy()?;
-    Ok((
-        summaries,
-        Table::from_cells(family, options.width(), stream.total(), cells),
-    ))
+    Ok((summaries, table_of_cells(stream, options, cells)?))
 }
 
 /// The second pass: the weight of each candidate in the stream.
@@ -105,4 +120,52 @@ fn weigh<R: Threads + Wait + Sync, G: Gate + Sync>(
         return pass.alone(workers);
     }
     sums.close(seat)
+}
+
+/// Analyses a stream, with workers that share nothing but atomic sums: they summarise the pieces and
+/// fill the table, the summaries are merged as the plan says, and the workers count the merged
+/// summary's keys. The outcome is the same for every number of workers and whatever worker does which
+/// piece: the counters are those of the plan's merges, honest for the stream (Agarwal et al., PODS
+/// 2012), the table is the stream's, cell for cell (Cormode and Muthukrishnan 2005), and the heavy keys
+/// are exact.
+///
+/// It starts the workers, numbered from 0, in threads of their own, and waits for them.
+pub fn analyse<R: Threads + Wait + Sync, G: Gate + Sync>(
+    rt: &R,
+    alloc: Global,
+    stream: &Stream,
+    cutting: &Cutting,
+    plan: &Plan,
+    options: &Options,
+    gate: &G,
+) -> Result<Outcome, RunError>
+    requires { sum cutting.now ≡ length stream.now }
+    ensures plan_mismatch { IsErrOf result RunError.PlanMismatch ↔ (length (leaves plan.now) ≢ length cutting.now) }
+
+    ensures k { IfOk result (λ outcome. outcome.summary.k ≡ options.now.k) }
+    ensures total { IfOk result (λ outcome. outcome.summary.total ≡ total_of stream.now) }
+    ensures counters { IfOk result (λ outcome. outcome.summary.counters ≡ tree_value plan.now (map (λ piece. misra_gries piece options.now.k) (pieces_of cutting.now stream.now)) options.now.k) }
+    ensures honest { IfOk result (λ outcome. IsHonest outcome.summary.counters (total_of stream.now) stream.now options.now.k) }
+
+    ensures table { IfOk result (λ outcome. outcome.table ≡ table_of options.now.family options.now.width stream.now) }
+    ensures heavy { IfOk result (λ outcome. outcome.heavy.items ≡ heavy stream.now 1 (options.now.k + 1)) }
+{
+    if plan.count() != cutting.count() {
+        return Err(RunError::PlanMismatch);
+    }
+    let (summaries, table) = summarise(rt, alloc, stream, cutting, options, gate)?;
+    let summary = match merge_by(alloc, plan, summaries) {
+        Ok(summary) => summary,
+        Err(MergeFault::Memory) => return Err(RunError::Memory),
+        Err(MergeFault::DifferentK | MergeFault::TotalTooLarge) => unreachable!(),
+    };
+    let candidates = Candidates::of(alloc, &summary)?;
+    let workers = options.workers();
+    let weights = weigh(rt, alloc, stream, cutting, &candidates, workers, gate)?;
+    let heavy = candidates.select(&weights, stream.total(), options.k())?;
+    Ok(Outcome {
+        summary,
+        table,
+        heavy,
+    })
 }

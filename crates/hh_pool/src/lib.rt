@@ -5,14 +5,19 @@
 mod analysis;
 mod first;
 mod gate;
+mod merging;
 mod options;
 mod outcome;
 mod pass;
+mod plan;
 mod second;
 mod workers;
 
+pub use analysis::analyse;
 pub use first::first_pass;
 pub use gate::{Gate, OpenGate};
+pub use merging::merge_by;
 pub use options::{MAX_WORKERS, Options, OptionsFault};
 pub use outcome::{Outcome, RunError};
+pub use plan::{MAX_PIECES, Plan};
 pub use second::second_pass;

@@ -1,0 +1,191 @@
+-- What a merged summary is: the tree's value, the sum of the totals, and honest where the pieces are.
+use Rattle.std.proofs.Common.{◌≡◌, ◌≢◌, ◌+◌, ◌*◌, ◌<◌, ◌≤◌, ◌==◌, ◌∷◌, ◌++◌, ◌∙◌, ℕ, zero, suc, Bool, true, false, List, [], length, map, take, Result, Ok, Err, refl, sym, ap, subst, add-one, inl, inr, ◌⊎◌, arith}
+use Rattle.std.specs.Prelude.{cond, nat_le, nat_lt, sum_by, slice_index_or, All, if◌then◌else◌}
+use Rattle.std.proofs.lemmas.Bool.{eq-eqb, ne_eqb}
+use Rattle.std.proofs.lemmas.Bool.Decides.{eqb_tells, nat_tests}
+use Rattle.std.proofs.Math.Seq.{take-length}
+use Rattle.std.proofs.lemmas.List.Sums.{sum_by-append, sum_by-cons, sum_by_more}
+use Rattle.std.proofs.Math.ListN.{get_or-map}
+use Rattle.std.proofs.lemmas.List.Elements.{All-from_get_or}
+use Rattle.hh_stream.specs.Cuttings.{whole_of}
+use Rattle.hh_stream.specs.Weights.{Bytes, Entry, at_key, max_total, total_of, weight_of}
+use Rattle.hh_counters.specs.Counters.{Counters, IsHonest, Sketch, join, merged}
+use Rattle.hh_counters.specs.Laws.{JoinOfHonestIsHonest}
+use Rattle.hh_counters.specs.declared.summary.MergeFault.{MergeFault}
+use Rattle.hh_counters.specs.declared.summary.MergeFault.TheVariants as fault
+use Rattle.hh_pool.specs.Trees.{IsMergeTree, MergeTree, MergesHonestly, Piece, Merge, items_of, leaves, merge_both, merge_result, no_sketch, times, tree_result, tree_value}
+use Rattle.hh_pool.proofs.MergeFacts.{plan-places}
+use Rattle.hh_pool.proofs.TreeFacts.{times-append}
+
+times-cons : (i x : ℕ) (xs : List ℕ) → times i (x ∷ xs) ≡ cond (x == i) 1 0 + times i xs
+times-cons i x xs = sum_by-cons (λ j. cond (j == i) 1 0) x xs
+
+-- each number below n, as often as it stands in xs
+abbrev weighed : (ℕ → ℕ) → List ℕ → ℕ → ℕ
+weighed f xs zero = 0
+weighed f xs (suc n) = weighed f xs n + times n xs * f n
+
+weighed-nil : (f : ℕ → ℕ) (n : ℕ) → weighed f [] n ≡ 0
+weighed-nil f zero = refl
+weighed-nil f (suc n) = omega (arith, weighed-nil f n)
+
+-- a number in front is counted at its place alone
+times-here : (x : ℕ) (xs : List ℕ) → times x (x ∷ xs) ≡ 1 + times x xs
+times-here x xs = rw (times-cons x x xs, eq-eqb x x refl) refl
+
+times-elsewhere : (i x : ℕ) (xs : List ℕ) → x ≢ i → times i (x ∷ xs) ≡ times i xs
+times-elsewhere i x xs other = rw (times-cons i x xs, ne_eqb x i other) (omega arith)
+
+weighed-above : (f : ℕ → ℕ) (x : ℕ) (xs : List ℕ) (n : ℕ) → n ≤ x → weighed f (x ∷ xs) n ≡ weighed f xs n
+weighed-above f x xs zero le = refl
+weighed-above f x xs (suc n) le =
+    let rest : weighed f (x ∷ xs) n ≡ weighed f xs n = weighed-above f x xs n (omega (arith, le)) in
+    let other : x ≢ n = omega (arith, le) in
+    rw (rest, times-elsewhere n x xs other) refl
+
+weighed-step : (f : ℕ → ℕ) (x : ℕ) (xs : List ℕ) (n : ℕ) → x < suc n → (x < n → weighed f (x ∷ xs) n ≡ f x + weighed f xs n)
+    → ((x == n) ≡ true) × (x ≡ n) ⊎ ((x == n) ≡ false) × (x ≢ n)
+    → weighed f (x ∷ xs) n + times n (x ∷ xs) * f n ≡ f x + (weighed f xs n + times n xs * f n)
+weighed-step f x xs n lt lower (inl e) =
+    let rest : weighed f (x ∷ xs) n ≡ weighed f xs n = weighed-above f x xs n (omega (arith, e.1)) in
+    let one : times n (x ∷ xs) ≡ 1 + times n xs = subst (λ (m : ℕ). times m (x ∷ xs) ≡ 1 + times m xs) e.1 (times-here x xs) in
+    let same : f x ≡ f n = ap f e.1 in
+    rw (one, rest, same) (omega arith)
+weighed-step f x xs n lt lower (inr e) =
+    let below : x < n = omega (arith, lt, e.1) in
+    rw (times-elsewhere n x xs e.1, lower below) (omega arith)
+
+weighed-below : (f : ℕ → ℕ) (x : ℕ) (xs : List ℕ) (n : ℕ) → x < n → weighed f (x ∷ xs) n ≡ f x + weighed f xs n
+weighed-below f x xs zero lt = absurd (omega (arith, lt))
+weighed-below f x xs (suc n) lt = weighed-step f x xs n lt (weighed-below f x xs n) (eqb_tells x n)
+
+-- a sum over a list whose numbers are all below p
+sum-weighed : (f : ℕ → ℕ) (xs : List ℕ) (p : ℕ) → ((i : ℕ) → p ≤ i → times i xs ≡ 0) → sum_by f xs ≡ weighed f xs p
+sum-weighed f [] p h = sym (weighed-nil f p)
+sum-weighed f (x ∷ xs) p h =
+    let below : x < p = below-p (times-here x xs) in
+    let rest = sum-weighed f xs p (λ i le. omega (arith, h i le, times-cons i x xs)) in
+    sum_by-cons f x xs ∙ ap (λ (m : ℕ). f x + m) rest ∙ sym (weighed-below f x xs p below)
+  where
+    below-p : times x (x ∷ xs) ≡ 1 + times x xs → x < p
+    below-p here = grind (arith, here, h x)
+
+-- where each number below p comes once, the sum goes over the first p elements of a list
+sum-once : {X : Type 0} (g : X → ℕ) (d : X) (ss : List X) (xs : List ℕ) (n : ℕ) → n ≤ length ss → ((i : ℕ) → i < n → times i xs ≡ 1)
+    → weighed (λ i. g (slice_index_or ss i d)) xs n ≡ sum_by g (take n ss)
+sum-once g d ss xs zero le h = refl
+sum-once g d ss xs (suc n) le h =
+    let below : n < length ss = omega (arith, le) in
+    let rest = sum-once g d ss xs n (omega (arith, le)) (λ i lt. h i (omega (arith, lt))) in
+    let one : times n xs ≡ 1 = h n (omega arith) in
+    let more : sum_by g (take (suc n) ss) ≡ sum_by g (take n ss) + g (slice_index_or ss n d) = rw (← add-one n) (sum_by_more g ss n d below) in
+    rw (rest, one, more) (omega arith)
+
+-- a sum over the leaves of a merge tree is the sum over the list
+pub sum-leaves : {X : Type 0} (g : X → ℕ) (d : X) (t : MergeTree) (ss : List X) → IsMergeTree t (length ss) → sum_by (λ i. g (slice_index_or ss i d)) (leaves t) ≡ sum_by g ss
+sum-leaves g d t ss h =
+    sum-weighed (λ i. g (slice_index_or ss i d)) (leaves t) (length ss) h.within
+    ∙ sum-once g d ss (leaves t) (length ss) (omega arith) h.once
+    ∙ ap (λ l. sum_by g l) (take-length ss)
+
+-- a merge that went well had two results with one k
+both-ok : (a b : Result Sketch MergeFault) (u : Sketch) → merge_both a b ≡ Ok u → (s : Sketch) × (t : Sketch) × (a ≡ Ok s) × (b ≡ Ok t) × (s.k ≡ t.k) × (merged s t ≡ u)
+both-ok (Err e) b u h = cc h
+both-ok (Ok s) (Err e) u h = cc h
+both-ok (Ok s) (Ok t) u h = by (eqb_tells s.k t.k) (nat_le (s.total + t.total) max_total) refl
+  where
+    by : ((s.k == t.k) ≡ true) × (s.k ≡ t.k) ⊎ ((s.k == t.k) ≡ false) × (s.k ≢ t.k) → (b : Bool) → nat_le (s.total + t.total) max_total ≡ b
+        → (s' : Sketch) × (t' : Sketch) × (◌≡◌ {A = Result Sketch MergeFault} (Ok s) (Ok s')) × (◌≡◌ {A = Result Sketch MergeFault} (Ok t) (Ok t')) × (s'.k ≡ t'.k) × (merged s' t' ≡ u)
+    by (inr e) b f = let bad = rw e.0 at h in cc bad
+    by (inl e) false f = let bad = rw (e.0, f) at h in cc bad
+    by (inl e) true f = let fine = rw (e.0, f) at h in (s, t, refl, refl, e.1, cc fine)
+
+-- what a tree's result is, leaf by leaf
+pub record IsValue (t : MergeTree) (ss : List Sketch) (s : Sketch) : Type 0 where
+  pub k : (i : ℕ) → 0 < times i (leaves t) → (slice_index_or ss i no_sketch).k ≡ s.k
+  pub total : s.total ≡ sum_by (λ i. (slice_index_or ss i no_sketch).total) (leaves t)
+  pub counters : s.counters ≡ tree_value t (map (λ s. s.counters) ss) s.k
+
+one-leaf : (i j : ℕ) → 0 < times i (j ∷ []) → j ≡ i
+one-leaf i j some = by (eqb_tells j i)
+  where
+    by : ((j == i) ≡ true) × (j ≡ i) ⊎ ((j == i) ≡ false) × (j ≢ i) → j ≡ i
+    by (inl e) = e.1
+    by (inr e) = absurd (omega (arith, some, times-elsewhere i j [] e.1))
+
+in-part : (i : ℕ) (xs ys : List ℕ) → 0 < times i (xs ++ ys) → (0 < times i xs) ⊎ (0 < times i ys)
+in-part i xs ys some = by (times i xs) refl
+  where
+    by : (n : ℕ) → times i xs ≡ n → (0 < times i xs) ⊎ (0 < times i ys)
+    by zero e = inr (omega (arith, some, e, times-append i xs ys))
+    by (suc n) e = inl (omega (arith, e))
+
+pub value-of : (t : MergeTree) (ss : List Sketch) (s : Sketch) → tree_result t ss ≡ Ok s → IsValue t ss s
+value-of (Piece i) ss s h =
+    let is : slice_index_or ss i no_sketch ≡ s = cc h in
+    record {
+      k = λ j some. rw (← one-leaf j i some, is) refl;
+      total = rw (sum_by-cons (λ i. (slice_index_or ss i no_sketch).total) i [], is) (omega arith);
+      counters = rw (get_or-map (λ (s : Sketch). s.counters) ss i no_sketch, is) refl;
+    }
+value-of (Merge l r) ss u h =
+    let (s, t, left, right, same, is) = both-ok (tree_result l ss) (tree_result r ss) u h in
+    let vl = value-of l ss s left in
+    let vr = value-of r ss t right in
+    rw (← is) (value-merge l r ss s t same vl vr)
+  where
+    value-merge : (l r : MergeTree) (ss : List Sketch) (s t : Sketch) → s.k ≡ t.k → IsValue l ss s → IsValue r ss t → IsValue (Merge l r) ss (merged s t)
+    value-merge l r ss s t same vl vr = record {
+      k = λ i some. elim (in-part i (leaves l) (leaves r) some) [ inl a ↦ vl.k i a | inr b ↦ vr.k i b ∙ sym same ];
+      total = rw (sum_by-append (λ i. (slice_index_or ss i no_sketch).total) (leaves l) (leaves r), ← vl.total, ← vr.total) refl;
+      counters = rw (vl.counters, vr.counters, same) refl;
+    }
+
+-- any sum over the items of a tree's pieces, by pieces
+sum-items : (f : Entry → ℕ) (t : MergeTree) (lists : List (List Entry)) → sum_by f (items_of t lists) ≡ sum_by (λ i. sum_by f (slice_index_or lists i [])) (leaves t)
+sum-items f (Piece i) lists = omega (arith, sum_by-cons (λ i. sum_by f (slice_index_or lists i [])) i [])
+sum-items f (Merge l r) lists = omega (arith, sum_by-append f (items_of l lists) (items_of r lists), sum_by-append (λ i. sum_by f (slice_index_or lists i [])) (leaves l) (leaves r), sum-items f l lists, sum-items f r lists)
+
+sum-whole : (f : Entry → ℕ) (lists : List (List Entry)) → sum_by f (whole_of lists) ≡ sum_by (λ xs. sum_by f xs) lists
+sum-whole f [] = refl
+sum-whole f (xs ∷ lists) = omega (arith, sum_by-append f xs (whole_of lists), sum_by-cons (λ xs. sum_by f xs) xs lists, sum-whole f lists)
+
+same-sum : (f : Entry → ℕ) (t : MergeTree) (lists : List (List Entry)) → IsMergeTree t (length lists) → sum_by f (items_of t lists) ≡ sum_by f (whole_of lists)
+same-sum f t lists h = sum-items f t lists ∙ sum-leaves (λ xs. sum_by f xs) [] t lists h ∙ sym (sum-whole f lists)
+
+-- honest pieces make an honest tree
+honest-items : JoinOfHonestIsHonest → (t : MergeTree) (ss : List Sketch) (lists : List (List Entry)) (s : Sketch) → tree_result t ss ≡ Ok s
+    → ((i : ℕ) → 0 < times i (leaves t) → IsHonest (slice_index_or ss i no_sketch).counters (slice_index_or ss i no_sketch).total (slice_index_or lists i []) s.k)
+    → IsHonest s.counters s.total (items_of t lists) s.k
+honest-items law (Piece i) ss lists s h each =
+    let is : slice_index_or ss i no_sketch ≡ s = cc h in
+    rw is at (each i (omega (arith, times-here i [])))
+honest-items law (Merge l r) ss lists u h each =
+    let (s, t, left, right, same, is) = both-ok (tree_result l ss) (tree_result r ss) u h in
+    let k : u.k ≡ s.k = ap (λ (v : Sketch). v.k) (sym is) in
+    let hl = honest-items law l ss lists s left (λ i some. rw k at (each i (omega (arith, some, times-append i (leaves l) (leaves r))))) in
+    let hr = honest-items law r ss lists t right (λ i some. rw (k, same) at (each i (omega (arith, some, times-append i (leaves l) (leaves r))))) in
+    rw (← is) (law s.counters t.counters s.total t.total (items_of l lists) (items_of r lists) s.k hl (rw (← same) at hr))
+
+-- honest summaries of the pieces make an honest summary of the whole
+pub merges-honestly : JoinOfHonestIsHonest → (t : MergeTree) (ss : List Sketch) (s : Sketch) → IsMergeTree t (length ss) → tree_result t ss ≡ Ok s → MergesHonestly ss s
+merges-honestly law t ss s tree h lists len each =
+    let below : (i : ℕ) → 0 < times i (leaves t) → i < length ss = λ i some. (plan-places t (length ss) tree).within i some in
+    let part = honest-items law t ss lists s h (λ i some. each i (below i some)) in
+    let over : IsMergeTree t (length lists) = rw len tree in
+    let total : total_of (items_of t lists) ≡ total_of (whole_of lists) = same-sum (λ (e : Entry). e.1) t lists over in
+    let weights : (x : Bytes) → weight_of x (items_of t lists) ≡ weight_of x (whole_of lists) = λ x. same-sum (at_key x) t lists over in
+    record {
+      counters = part.counters;
+      counted = part.counted ∙ total;
+      few = part.few;
+      below = λ x. rw (← weights x) (part.below x);
+      near = λ x. rw (← weights x) (part.near x);
+    }
+
+-- the clauses of a merge by a plan, from its tree's result
+pub all-k : (t : MergeTree) (ss : List Sketch) (s : Sketch) → IsMergeTree t (length ss) → tree_result t ss ≡ Ok s → All (λ piece. piece.k ≡ s.k) ss
+all-k t ss s tree h = All-from_get_or (λ (piece : Sketch). piece.k ≡ s.k) ss no_sketch (λ i lt. (value-of t ss s h).k i (omega (arith, tree.once i lt)))
+
+pub total-of : (t : MergeTree) (ss : List Sketch) (s : Sketch) → IsMergeTree t (length ss) → tree_result t ss ≡ Ok s → s.total ≡ sum_by (λ piece. piece.total) ss
+total-of t ss s tree h = (value-of t ss s h).total ∙ sum-leaves (λ (piece : Sketch). piece.total) no_sketch t ss tree

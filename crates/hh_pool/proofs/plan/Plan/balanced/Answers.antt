@@ -1,0 +1,5 @@
+use Rattle.hh_pool.proofs.TreeFacts.{balanced-merges}
+use Rattle.hh_pool.proofs.plan.Plan.balanced.Goals as goal
+
+pub invariant_of-result : goal.invariant_of-result
+invariant_of-result c = (balanced-merges _ _ c.in_ok-balanced_tree.ensures, c.requires.some, c.requires.few)

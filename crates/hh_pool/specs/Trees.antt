@@ -1,0 +1,96 @@
+-- Merge trees over numbered pieces, and what they make of the pieces' summaries.
+use Rattle.std.specs.Prelude.{◌≡◌, ℕ, zero, suc, ◌+◌, ◌-◌, ◌/◌, ◌<◌, ◌≤◌, ◌==◌, nat_lt, nat_le, List, [], ◌∷◌, ◌++◌, length, map, sum_by, count_by, slice_index_or, Result, Ok, Err, refl, if◌then◌else◌}
+use Rattle.std.proofs.Common.{sym, ap, ◌∙◌}
+use base.Stored.{Coded, Gv, gnil, gnum, gcons}
+use Rattle.hh_stream.specs.Weights.{Entry, max_total, total_of}
+use Rattle.hh_counters.specs.Counters.{Counters, IsHonest, Sketch, join, merged}
+use Rattle.hh_stream.specs.Cuttings.{whole_of}
+use Rattle.hh_counters.specs.declared.summary.MergeFault.{MergeFault}
+use Rattle.hh_counters.specs.declared.summary.MergeFault.TheVariants as fault
+
+-- a piece, or two trees whose results are merged
+pub data MergeTree : Type 0 where
+  Piece : (number : ℕ) → MergeTree
+  Merge : (left right : MergeTree) → MergeTree
+
+-- a tree as a stored value, and back
+abbrev pub stored : MergeTree → Gv
+stored (Piece i) = gnum i
+stored (Merge l r) = gcons (stored l) (stored r)
+
+abbrev pub restored : Gv → MergeTree
+restored gnil = Piece 0
+restored (gnum i) = Piece i
+restored (gcons l r) = Merge (restored l) (restored r)
+
+pub restored-stored : (t : MergeTree) → restored (stored t) ≡ t
+restored-stored (Piece i) = refl
+restored-stored (Merge l r) = λ i. Merge (restored-stored l i) (restored-stored r i)
+
+-- the code by which proofs tell trees apart
+abbrev pub tree_code : Coded MergeTree
+tree_code = record { code = stored; inj = λ s t e. sym (restored-stored s) ∙ ap restored e ∙ restored-stored t }
+
+-- the pieces, from left to right
+abbrev pub leaves : MergeTree → List ℕ
+leaves (Piece i) = i ∷ []
+leaves (Merge l r) = leaves l ++ leaves r
+
+-- how often a number stands in a list
+abbrev pub times : ℕ → List ℕ → ℕ
+times i xs = count_by (λ j. j == i) xs
+
+-- each number below p is a leaf exactly once, and no other number is
+pub record IsMergeTree (t : MergeTree) (p : ℕ) : Type 0 where
+  pub once : (i : ℕ) → i < p → times i (leaves t) ≡ 1
+  pub within : (i : ℕ) → p ≤ i → times i (leaves t) ≡ 0
+
+-- the leaves are different places of a list of so many
+pub record HasPlaces (t : MergeTree) (n : ℕ) : Type 0 where
+  pub once : (i : ℕ) → times i (leaves t) ≤ 1
+  pub within : (i : ℕ) → 0 < times i (leaves t) → i < n
+
+-- ((0 1) 2) and so on, with each next piece on the right: the chain of n + 1 pieces
+abbrev pub chain_of : ℕ → MergeTree
+chain_of zero = Piece 0
+chain_of (suc n) = Merge (chain_of n) (Piece (n + 1))
+
+-- of m pieces from a on, one is a leaf, and of more the first half, rounded up, are the left tree
+abbrev pub IsBalanced : MergeTree → ℕ → ℕ → Type 0
+IsBalanced (Piece i) a m = (i ≡ a) × (m ≡ 1)
+IsBalanced (Merge l r) a m = (1 < m) × IsBalanced l a ((m + 1) / 2) × IsBalanced r (a + (m + 1) / 2) (m - (m + 1) / 2)
+
+-- the counters that a tree makes of those of the pieces
+abbrev pub tree_value : MergeTree → List Counters → ℕ → Counters
+tree_value (Piece i) cs k = slice_index_or cs i []
+tree_value (Merge l r) cs k = join (tree_value l cs k) (tree_value r cs k) k
+
+-- one summary merged with another, or why not
+abbrev pub merge_result : Sketch → Sketch → Result Sketch MergeFault
+merge_result s t = if s.k == t.k then (if nat_le (s.total + t.total) max_total then Ok (merged s t) else Err fault.TotalTooLarge) else Err fault.DifferentK
+
+-- the left refusal comes before the right one, and that of the node comes last
+abbrev pub merge_both : Result Sketch MergeFault → Result Sketch MergeFault → Result Sketch MergeFault
+merge_both (Err e) r = Err e
+merge_both (Ok s) (Err e) = Err e
+merge_both (Ok s) (Ok t) = merge_result s t
+
+abbrev pub no_sketch : Sketch
+no_sketch = record { k = 0; total = 0; counters = [] }
+
+-- the summary that a tree makes of those of the pieces, or the first refusal
+abbrev pub tree_result : MergeTree → List Sketch → Result Sketch MergeFault
+tree_result (Piece i) ss = Ok (slice_index_or ss i no_sketch)
+tree_result (Merge l r) ss = merge_both (tree_result l ss) (tree_result r ss)
+
+-- the items of a tree's pieces, from left to right
+abbrev pub items_of : MergeTree → List (List Entry) → List Entry
+items_of (Piece i) pieces = slice_index_or pieces i []
+items_of (Merge l r) pieces = items_of l pieces ++ items_of r pieces
+
+-- where each summary is honest for a list of items, the merged one is honest for all of them
+abbrev pub MergesHonestly : List Sketch → Sketch → Type 0
+MergesHonestly ss s =
+    (lists : List (List Entry)) → length lists ≡ length ss
+    → ((i : ℕ) → i < length ss → let piece = slice_index_or ss i no_sketch in IsHonest piece.counters piece.total (slice_index_or lists i []) s.k)
+    → IsHonest s.counters s.total (whole_of lists) s.k

@@ -1,0 +1,81 @@
+//! Summaries merged by a plan.
+
+ghost use Rattle.std.specs.Prelude.{◌≡◌, ◌≢◌, ℕ, List, length, map, sum_by, ◌≤◌, All, Ok, Err, IfOk, IfErr, slice_index_or};
+ghost use Rattle.hh_stream.specs.Weights.{Entry};
+ghost use Rattle.hh_stream.specs.Cuttings.{whole_of};
+ghost use Rattle.hh_counters.specs.Counters.{IsHonest, Sketch};
+ghost use Rattle.hh_pool.specs.Plans.{shape};
+ghost use Rattle.hh_pool.specs.Trees.{HasPlaces, IsMergeTree, MergesHonestly, leaves, merge_result, no_sketch, times, tree_result, tree_value};
+
+use crate::plan::{MAX_PIECES, Plan, Tree};
+use hh_counters::laws::join_of_honest_is_honest;
+use hh_counters::{MergeFault, Summary};
+use std::alloc::Global;
+use std::mem;
+
+/// Takes a summary, and leaves the summary of no items in its place.
+fn take_summary(alloc: Global, summary: &mut Summary) -> Summary
+    ensures { result ≡ summary.old }
+{
+    let Ok(empty) = Summary::new(alloc, summary.k()) else {
+        unreachable!()
+    };
+    mem::replace(summary, empty)
+}
+
+/// One summary merged with another.
+fn merge_two(left: Summary, right: &Summary) -> Result<Summary, MergeFault>
+    ensures merged { IfOk result (λ s. merge_result left right.now ≡ Ok s) }
+    ensures refused { IfErr result (λ e. e ≢ MergeFault.Memory → merge_result left right.now ≡ Err e) }
+{
+    let mut merged = left;
+    match merged.merge(right) {
+        Ok(()) => Ok(merged),
+        Err(fault) => Err(fault),
+    }
+}
+
+/// Merges the summaries of a tree's pieces, which it takes from their places.
+fn merge_tree(alloc: Global, tree: &Tree, summaries: &mut [Summary]) -> Result<Summary, MergeFault>
+    requires places { HasPlaces (shape tree.now) (length summaries.old) }
+    requires fits { length summaries.old ≤ MAX_PIECES }
+    ensures merged { IfOk result (λ s. tree_result (shape tree.now) summaries.old ≡ Ok s) }
+    ensures refused { IfErr result (λ e. e ≢ MergeFault.Memory → tree_result (shape tree.now) summaries.old ≡ Err e) }
+    ensures others { (i : ℕ) → times i (leaves (shape tree.now)) ≡ 0 → slice_index_or summaries.new i no_sketch ≡ slice_index_or summaries.old i no_sketch }
+{
+    match tree {
+        Tree::Leaf(i) => Ok(take_summary(alloc, &mut summaries[*i])),
+        Tree::Node(left, right) => {
+            let merged = match merge_tree(alloc, left, summaries) {
+                Ok(merged) => merged,
+                Err(fault) => return Err(fault),
+            };
+            match merge_tree(alloc, right, summaries) {
+                Ok(other) => merge_two(merged, &other),
+                Err(fault) => Err(fault),
+            }
+        }
+    }
+}
+
+/// The summaries of the pieces merged as the plan says: a leaf is its piece's summary, and a node is
+/// the left result merged with the right one. The refusal is the first one met, in the left tree
+/// before the right tree before the node.
+///
+/// Whatever the plan, where each summary is honest for a list of items, the result is honest for all
+/// of them (Agarwal et al., Mergeable Summaries, PODS 2012).
+pub fn merge_by(alloc: Global, plan: &Plan, summaries: Vec<Summary>) -> Result<Summary, MergeFault>
+    requires tree { IsMergeTree plan.now (length summaries.items) }
+    requires few { length summaries.items ≤ MAX_PIECES }
+    ensures merged { IfOk result (λ s. tree_result plan.now summaries.items ≡ Ok s) }
+    ensures refused { IfErr result (λ e. e ≢ MergeFault.Memory → tree_result plan.now summaries.items ≡ Err e) }
+
+    ensures k { IfOk result (λ s. All (λ piece. piece.k ≡ s.k) summaries.items) }
+    ensures total { IfOk result (λ s. s.total ≡ sum_by (λ piece. piece.total) summaries.items) }
+    ensures counters { IfOk result (λ s. s.counters ≡ tree_value plan.now (map (λ piece. piece.counters) summaries.items) s.k) }
+    ensures honest { IfOk result (λ s. MergesHonestly summaries.items s) }
+{
+    join_of_honest_is_honest();
+    let mut summaries = summaries;
+    merge_tree(alloc, plan.tree(), &mut summaries)
+}

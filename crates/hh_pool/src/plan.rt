@@ -1,0 +1,109 @@
+//! Plans: merge trees over numbered pieces.
+
+ghost use Rattle.std.specs.Prelude.{◌≡◌, ◌+◌, ◌-◌, ◌<◌, ◌≤◌, IfOk};
+ghost use Rattle.hh_pool.specs.Plans.{shape};
+ghost use Rattle.hh_pool.specs.Trees.{IsBalanced, IsMergeTree, chain_of};
+
+use std::alloc::{AllocError, Global};
+use std::marker::Model;
+
+/// The most pieces of a plan.
+pub const MAX_PIECES: usize = 1024;
+
+/// A piece, or two trees whose results are merged.
+#[derive(Debug, Drop)]
+pub(crate) enum Tree {
+    Leaf(usize),
+    Node(Box<Tree>, Box<Tree>),
+}
+
+/// A plan to merge the summaries of 1 to [`MAX_PIECES`] pieces: a tree in which each piece's number is a
+/// leaf exactly once. A contract sees the tree.
+#[derive(Debug, Drop)]
+pub struct Plan {
+    tree: Tree,
+    count: usize,
+}
+
+impl Model for Plan {
+    ghost use Rattle.std.specs.Prelude.{◌≤◌};
+    ghost use Rattle.hh_pool.specs.Plans.{shape};
+    ghost use Rattle.hh_pool.specs.Trees.{IsMergeTree, MergeTree, tree_code};
+
+    ghost Value = { MergeTree };
+
+    ghost coded = { tree_code };
+
+    ghost view = { λ plan. shape plan.tree };
+
+    ghost invariant = { λ plan. IsMergeTree (shape plan.tree) plan.count × (1 ≤ plan.count) × (plan.count ≤ 1024) };
+}
+
+/// The chain of so many pieces.
+fn chain_tree(alloc: Global, pieces: usize) -> Result<Tree, AllocError>
+    requires { 1 ≤ pieces }
+    ensures { IfOk result (λ tree. shape tree ≡ chain_of (pieces - 1)) }
+{
+    let mut tree = Tree::Leaf(0);
+    for i in 1..pieces {
+        tree = Tree::Node(Box::new(alloc, tree)?, Box::new(alloc, Tree::Leaf(i))?);
+    }
+    Ok(tree)
+}
+
+/// The balanced tree of so many pieces, numbered from `first` on.
+fn balanced_tree(alloc: Global, first: usize, pieces: usize) -> Result<Tree, AllocError>
+    requires some { 1 ≤ pieces }
+    requires fits { first + pieces ≤ 1024 }
+    ensures { IfOk result (λ tree. IsBalanced (shape tree) first pieces) }
+{
+    if pieces == 1 {
+        return Ok(Tree::Leaf(first));
+    }
+    let half = (pieces + 1) / 2;
+    let left = Box::new(alloc, balanced_tree(alloc, first, half)?)?;
+    let right = Box::new(alloc, balanced_tree(alloc, first + half, pieces - half)?)?;
+    Ok(Tree::Node(left, right))
+}
+
+impl Plan {
+    /// The pieces merged one after the other: `((0 1) 2)` and so on.
+    pub fn chain(alloc: Global, pieces: usize) -> Result<Plan, AllocError>
+        requires some { 1 ≤ pieces }
+        requires few { pieces ≤ MAX_PIECES }
+        ensures { IfOk result (λ plan. plan ≡ chain_of (pieces - 1)) }
+    {
+        Ok(Plan {
+            tree: chain_tree(alloc, pieces)?,
+            count: pieces,
+        })
+    }
+
+    /// A balanced tree: of more than one piece, the first half, rounded up, are the left tree.
+    pub fn balanced(alloc: Global, pieces: usize) -> Result<Plan, AllocError>
+        requires some { 1 ≤ pieces }
+        requires few { pieces ≤ MAX_PIECES }
+        ensures { IfOk result (λ plan. IsBalanced plan 0 pieces) }
+    {
+        Ok(Plan {
+            tree: balanced_tree(alloc, 0, pieces)?,
+            count: pieces,
+        })
+    }
+
+    /// The number of pieces.
+    pub fn count(&self) -> usize
+        ensures tree { IsMergeTree self.now result }
+        ensures some { 1 ≤ result }
+        ensures few { result ≤ MAX_PIECES }
+    {
+        self.count
+    }
+
+    /// The tree.
+    pub(crate) fn tree(&self) -> &Tree
+        ensures { shape result.now ≡ self.now }
+    {
+        &self.tree
+    }
+}
