@@ -55,7 +55,7 @@ pub closed_weights : (pieces : List (List Entry)) (xs : List Entry) (keys : List
     → length values ≡ length keys → ((cell : ℕ) → cell < length keys → get_or values cell 0 ≡ sum_at seat.adds cell)
     → values ≡ weights_at keys xs
 closed_weights pieces xs keys seat values whole low p distinct all long each =
-    same_number_lists values (weights_at keys xs) (long ∙ sym (length-map (λ (x : Bytes). weight_of x xs) keys)) (λ i within.
+    same_number_lists values (weights_at keys xs) (long ∙ sym (length-map keys (λ (x : Bytes). weight_of x xs))) (λ i within.
       let key = get_or keys i [] in
       let at = slice_get-get_or keys i [] (omega arith) in
       let all_items : added i seat.adds ≡ weight_of key xs = p.adds i key at ∙ (sum_by-all_items (at_key key) pieces seat.claims distinct all ∙ ap (weight_of key) whole) in
@@ -71,5 +71,5 @@ found_are k pieces claims found e =
 -- the summaries by number are those of the pieces
 pub by_number : (k : ℕ) (pieces : List (List Entry)) → map (λ i. sketch_of k (piece_of pieces i)) (range_with_len 0 (length pieces)) ≡ map (sketch_of k) pieces
 by_number k pieces =
-    sym (fill_by_all (λ i. sketch_of k (piece_of pieces i)) (map (sketch_of k) pieces) (length pieces) (sketch_of k []) (length-map (sketch_of k) pieces)
+    sym (fill_by_all (λ i. sketch_of k (piece_of pieces i)) (map (sketch_of k) pieces) (length pieces) (sketch_of k []) (length-map pieces (sketch_of k))
         (λ i low. get_or-map (sketch_of k) pieces i [] (sketch_of k []) low))

@@ -2,3 +2,4 @@ pub mod Settings
 pub mod Plans
 pub mod Trees
 pub mod Passes
+pub mod Outcomes

@@ -3,12 +3,12 @@
 ghost use Rattle.std.specs.Prelude.{◌≡◌, ◌≢◌, ◌+◌, ◌≤◌, ◌<◌, ◌∷◌, ◌↔◌, ℕ, All, length, map, sum, IfOk, IfSome, IsErrOf};
 ghost use Rattle.std.specs.List.{range_with_len};
 ghost use Rattle.hh_stream.specs.Cuttings.{pieces_of};
-ghost use Rattle.hh_stream.specs.Weights.{total_of};
-ghost use Rattle.hh_counters.specs.Counters.{Sketch, sketch_of, misra_gries, IsHonest};
+ghost use Rattle.hh_counters.specs.Counters.{Sketch, sketch_of};
 ghost use Rattle.hh_counters.specs.Report.{weights_at, heavy};
 ghost use Rattle.hh_countmin.specs.Table.{table_of};
 ghost use Rattle.hh_pool.specs.Settings.{IsWorkers};
-ghost use Rattle.hh_pool.specs.Trees.{leaves, tree_value};
+ghost use Rattle.hh_pool.specs.Trees.{IsMergeTree, leaves};
+ghost use Rattle.hh_pool.specs.Outcomes.{IsMerged};
 
 use crate::first::FirstPass;
 use crate::gate::Gate;
@@ -88,6 +88,8 @@ fn summarise<R: Threads + Wait + Sync, G: Gate + Sync>(
     let Some(summaries) = in_order(alloc, found, cutting.count())? else {
         return pass.alone();
     };
+    // It bounds the sums.
+    let _total = stream.total();
     let cells = sums.close(seat)?;
     Ok((summaries, table_of_cells(stream, options, cells)?))
 }
@@ -119,7 +121,43 @@ fn weigh<R: Threads + Wait + Sync, G: Gate + Sync>(
     if !sums.holds_all(&seat) {
         return pass.alone(workers);
     }
+    // It bounds the sums.
+    let _total = stream.total();
     sums.close(seat)
+}
+
+/// The outcome, where the plan has as many pieces as the cutting.
+fn run_passes<R: Threads + Wait + Sync, G: Gate + Sync>(
+    rt: &R,
+    alloc: Global,
+    stream: &Stream,
+    cutting: &Cutting,
+    plan: &Plan,
+    options: &Options,
+    gate: &G,
+) -> Result<Outcome, AllocError>
+    requires same_len { sum cutting.now ≡ length stream.now }
+    requires plan { IsMergeTree plan.now (length cutting.now) }
+    ensures summary { IfOk result (λ outcome. IsMerged plan.now options.now.k (pieces_of cutting.now stream.now) stream.now outcome.summary) }
+    ensures table { IfOk result (λ outcome. outcome.table ≡ table_of options.now.family options.now.width stream.now) }
+    ensures heavy { IfOk result (λ outcome. outcome.heavy.items ≡ heavy stream.now 1 (options.now.k + 1)) }
+{
+    let (summaries, table) = summarise(rt, alloc, stream, cutting, options, gate)?;
+    let total = stream.total();
+    let summary = match merge_by(alloc, plan, summaries) {
+        Ok(summary) => summary,
+        Err(MergeFault::Memory) => return Err(AllocError),
+        Err(MergeFault::DifferentK | MergeFault::TotalTooLarge) => unreachable!(),
+    };
+    let candidates = Candidates::of(alloc, &summary)?;
+    let workers = options.workers();
+    let weights = weigh(rt, alloc, stream, cutting, &candidates, workers, gate)?;
+    let heavy = candidates.select(&weights, total, options.k())?;
+    Ok(Outcome {
+        summary,
+        table,
+        heavy,
+    })
 }
 
 /// Analyses a stream, with workers that share nothing but atomic sums: they summarise the pieces and
@@ -141,31 +179,15 @@ pub fn analyse<R: Threads + Wait + Sync, G: Gate + Sync>(
 ) -> Result<Outcome, RunError>
     requires { sum cutting.now ≡ length stream.now }
     ensures plan_mismatch { IsErrOf result RunError.PlanMismatch ↔ (length (leaves plan.now) ≢ length cutting.now) }
-
-    ensures k { IfOk result (λ outcome. outcome.summary.k ≡ options.now.k) }
-    ensures total { IfOk result (λ outcome. outcome.summary.total ≡ total_of stream.now) }
-    ensures counters { IfOk result (λ outcome. outcome.summary.counters ≡ tree_value plan.now (map (λ piece. misra_gries piece options.now.k) (pieces_of cutting.now stream.now)) options.now.k) }
-    ensures honest { IfOk result (λ outcome. IsHonest outcome.summary.counters (total_of stream.now) stream.now options.now.k) }
-
+    ensures summary { IfOk result (λ outcome. IsMerged plan.now options.now.k (pieces_of cutting.now stream.now) stream.now outcome.summary) }
     ensures table { IfOk result (λ outcome. outcome.table ≡ table_of options.now.family options.now.width stream.now) }
     ensures heavy { IfOk result (λ outcome. outcome.heavy.items ≡ heavy stream.now 1 (options.now.k + 1)) }
 {
     if plan.count() != cutting.count() {
         return Err(RunError::PlanMismatch);
     }
-    let (summaries, table) = summarise(rt, alloc, stream, cutting, options, gate)?;
-    let summary = match merge_by(alloc, plan, summaries) {
-        Ok(summary) => summary,
-        Err(MergeFault::Memory) => return Err(RunError::Memory),
-        Err(MergeFault::DifferentK | MergeFault::TotalTooLarge) => unreachable!(),
-    };
-    let candidates = Candidates::of(alloc, &summary)?;
-    let workers = options.workers();
-    let weights = weigh(rt, alloc, stream, cutting, &candidates, workers, gate)?;
-    let heavy = candidates.select(&weights, stream.total(), options.k())?;
-    Ok(Outcome {
-        summary,
-        table,
-        heavy,
-    })
+    match run_passes(rt, alloc, stream, cutting, plan, options, gate) {
+        Ok(outcome) => Ok(outcome),
+        Err(AllocError) => Err(RunError::Memory),
+    }
 }

@@ -2,7 +2,6 @@
 
 use hh_counters::{Heavy, Summary};
 use hh_countmin::Table;
-use std::alloc::AllocError;
 
 /// What an analysis of a stream comes to.
 #[derive(Debug, Drop)]
@@ -23,15 +22,4 @@ pub enum RunError {
     PlanMismatch,
     /// The allocator had no memory, or the system refused a thread.
     Memory,
-}
-
-impl From<AllocError> for RunError {
-    ghost use Rattle.std.specs.Prelude.{◌≡◌};
-    ghost use Rattle.hh_pool.specs.declared.outcome.RunError.TheVariants.{Memory};
-
-    ghost from_gives = { λ _ e. e ≡ Memory };
-
-    fn from(_failed: AllocError) -> RunError {
-        RunError::Memory
-    }
 }

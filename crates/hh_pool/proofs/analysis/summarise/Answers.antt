@@ -15,12 +15,17 @@ table_of_cells-requires g c =
     let lengths = c.args.cutting.now in
     let stream = c.args.stream.now in
     let options = c.args.options.now in
-    let pieces = pieces_of lengths stream in
+    let seat = c.in_ok-seat.seat in
     let count = c.in_ok-sums.ensures.claims ∙ (c.count.ensures.count ∙ sym (length-pieces_of lengths stream)) in
-    let distinct = subst (λ n. IsDistinctBelow n c.in_ok-seat.seat.claims) count c.if-not-holds_all.ensures.distinct in
-    let b = c.if-not-holds_all.ensures.all in
-    let all = subst (λ n. HasAllBelow n c.in_ok-seat.seat.claims) count (?) in
-    closed_cells pieces stream options c.in_ok-seat.seat _ c.in_ok-cells.cells.items (pieces-whole lengths stream c.requires) (?) c.in_ok-seat.ensures.done distinct all (?) (λ cell low. ?)
+    let distinct = subst (λ n. IsDistinctBelow n seat.claims) count c.if-not-holds_all.ensures.distinct in
+    let all = subst (λ n. HasAllBelow n seat.claims) count (c.if-not-holds_all.ensures.all.0 refl) in
+    let low : total_of stream ≤ max_total = omega (arith, c.total-total.ensures.total, c.total-total.ensures.bounded) in
+    let depth = c.depth.ensures.depth ∙ ap (λ f. length f.rows) c.family.ensures.family in
+    let cells : c.in_ok-sums.sums.cells ≡ length options.family.rows * options.width = c.in_ok-sums.ensures.cells ∙ (λ i. depth i * c.width.ensures.width i) in
+    let closed = c.in_ok-cells.ensures in
+    closed_cells (pieces_of lengths stream) stream options seat _ c.in_ok-cells.cells.items (pieces-whole lengths stream c.requires) low c.in_ok-seat.ensures.done distinct all
+        (omega (arith, closed.len, c.in_ok-cells.cells.ok))
+        (λ cell inside. closed.sums cell (omega arith))
 
 pub returns-clause-summaries : goal.returns-clause-summaries
 returns-clause-summaries g c =
@@ -28,6 +33,5 @@ returns-clause-summaries g c =
     let k = c.args.options.now.k in
     let count = c.count-2.ensures.count ∙ sym (length-pieces_of c.args.cutting.now c.args.stream.now) in
     let found = found_are k pieces c.in_ok-seat.seat.claims c.in_ok-seat.found.items c.in_ok-seat.ensures.done.summaries in
-    let all = c.in_ok-summaries.ensures (λ i. sketch_of k (piece_of pieces i)) found in
-    let is = c.in-Some.is in
-    ?
+    let ordered = rw c.in-Some.is at (c.in_ok-summaries.ensures (λ i. sketch_of k (piece_of pieces i)) found) in
+    ordered ∙ (ap (λ n. map (λ i. sketch_of k (piece_of pieces i)) (range_with_len 0 n)) count ∙ by_number k pieces)
