@@ -5,3 +5,4 @@ pub mod Pieces
 pub mod Tried
 pub mod Alone
 pub mod Closed
+pub mod Merged

@@ -15,7 +15,7 @@ use crate::gate::Gate;
 use crate::merging::merge_by;
 use crate::options::Options;
 use crate::outcome::{Outcome, RunError};
-use crate::plan::Plan;
+use crate::plan::{MAX_PIECES, Plan};
 use crate::second::SecondPass;
 use crate::workers::run_apart;
 use hh_counters::{Candidates, MergeFault, Summary};
@@ -138,6 +138,8 @@ fn run_passes<R: Threads + Wait + Sync, G: Gate + Sync>(
 ) -> Result<Outcome, AllocError>
     requires same_len { sum cutting.now ≡ length stream.now }
     requires plan { IsMergeTree plan.now (length cutting.now) }
+    requires some { 0 < length cutting.now }
+    requires few { length cutting.now ≤ MAX_PIECES }
     ensures summary { IfOk result (λ outcome. IsMerged plan.now options.now.k (pieces_of cutting.now stream.now) stream.now outcome.summary) }
     ensures table { IfOk result (λ outcome. outcome.table ≡ table_of options.now.family options.now.width stream.now) }
     ensures heavy { IfOk result (λ outcome. outcome.heavy.items ≡ heavy stream.now 1 (options.now.k + 1)) }
@@ -147,7 +149,8 @@ fn run_passes<R: Threads + Wait + Sync, G: Gate + Sync>(
     let summary = match merge_by(alloc, plan, summaries) {
         Ok(summary) => summary,
         Err(MergeFault::Memory) => return Err(AllocError),
-        Err(MergeFault::DifferentK | MergeFault::TotalTooLarge) => unreachable!(),
+        Err(MergeFault::DifferentK) => unreachable!(),
+        Err(MergeFault::TotalTooLarge) => unreachable!(),
     };
     let candidates = Candidates::of(alloc, &summary)?;
     let workers = options.workers();

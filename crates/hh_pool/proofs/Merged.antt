@@ -1,0 +1,94 @@
+-- The merged summary can be made, and is what the analysis says.
+use Rattle.std.proofs.Common.{◌≡◌, ℕ, zero, suc, ◌+◌, ◌*◌, ◌<◌, ◌≤◌, List, [], ◌∷◌, ◌++◌, length, get_or, map, refl, sym, ap, ◌∙◌, subst, arith, ⊎_elim}
+use Rattle.std.specs.Prelude.{All, Ok, Err, sum_by, zip}
+use Rattle.std.specs.Map.{keys_of}
+use Rattle.std.proofs.lemmas.List.{get_or-map, length-map}
+use Rattle.std.proofs.lemmas.List.Sums.{sum_by-append, sum_by-cons}
+use Rattle.std.proofs.lemmas.Bool.{cases_lt}
+use Rattle.std.proofs.lemmas.Bool.Decides.{nat_tests}
+use Rattle.hh_stream.specs.Weights.{Bytes, Entry, total_of, max_total}
+use Rattle.hh_stream.specs.Cuttings.{whole_of}
+use Rattle.hh_counters.specs.Counters.{Counters, Sketch, sketch_of, merged, misra_gries, IsHonest}
+use Rattle.hh_counters.specs.Report.{heavy, selected, weights_at}
+use Rattle.hh_counters.proofs.Summaries.{honest-misra_gries}
+use Rattle.hh_counters.proofs.Reports.{report_from_candidates}
+use Rattle.hh_shared.specs.Tally.{IsDistinctBelow, HasAllBelow}
+use Rattle.hh_shared.proofs.Tallies.{all-length, times-append, times-one}
+use Rattle.hh_pool.specs.Trees.{MergeTree, Piece, Merge, IsMergeTree, MergesHonestly, leaves, merge_both, merge_result, no_sketch, times, tree_result, tree_value}
+use Rattle.hh_pool.specs.Outcomes.{IsMerged}
+use Rattle.hh_pool.proofs.Pieces.{sum_by-flat_map}
+use Rattle.hh_pool.proofs.ValueFacts.{sum-leaves}
+
+-- a plan of p pieces has p leaves
+pub length-leaves : (t : MergeTree) (p : ℕ) → IsMergeTree t p → length (leaves t) ≡ p
+length-leaves t p h =
+    all-length p (leaves t)
+        (record { once = λ i. ⊎_elim (λ (low : i < p). omega (arith, h.once i low)) (λ (high : p ≤ i). omega (arith, h.within i high)) (cases_lt i p); below = λ i some. ⊎_elim (λ (low : i < p). low) (λ (high : p ≤ i). absurd (omega (arith, h.within i high))) (cases_lt i p) })
+        (record { has = λ i low. omega (arith, h.once i low) })
+
+abbrev total_at : List Sketch → ℕ → ℕ
+total_at ss i = (get_or ss i no_sketch).total
+
+merge_fits : (s t : Sketch) → s.k ≡ t.k → s.total + t.total ≤ max_total → merge_result s t ≡ Ok (merged s t)
+merge_fits s t same fits = grind (arith, nat_tests)
+
+-- summaries with one k, whose totals fit together, are merged
+pub tree_merges : (t : MergeTree) (ss : List Sketch) (k : ℕ) → ((i : ℕ) → 0 < times i (leaves t) → (get_or ss i no_sketch).k ≡ k) → sum_by (total_at ss) (leaves t) ≤ max_total
+    → (s : Sketch) × (tree_result t ss ≡ Ok s) × (s.k ≡ k) × (s.total ≡ sum_by (total_at ss) (leaves t))
+tree_merges (Piece i) ss k one_k fits = (get_or ss i no_sketch, refl, one_k i (omega (arith, times-one i)), omega arith)
+tree_merges (Merge l r) ss k one_k fits =
+    let both = sum_by-append (total_at ss) (leaves l) (leaves r) in
+    let a = tree_merges l ss k (λ i some. one_k i (omega (arith, times-append i (leaves l) (leaves r)))) (omega arith) in
+    let b = tree_merges r ss k (λ i some. one_k i (omega (arith, times-append i (leaves l) (leaves r)))) (omega arith) in
+    (merged a.0 b.0, (λ i. merge_both (a.1 i) (b.1 i)) ∙ merge_fits a.0 b.0 (a.2 ∙ sym b.2) (omega (arith, a.3, b.3)), a.2, omega (arith, a.3, b.3))
+
+-- the totals of the pieces' summaries add up to the total of all items
+total-sketches : (k : ℕ) (pieces : List (List Entry)) → sum_by (λ (s : Sketch). s.total) (map (sketch_of k) pieces) ≡ total_of (whole_of pieces)
+total-sketches k [] = refl
+total-sketches k (p ∷ ps) =
+    omega (arith, sum_by-cons (λ (s : Sketch). s.total) (sketch_of k p) (map (sketch_of k) ps), total-sketches k ps, sum_by-append (λ (e : Entry). e.1) p (whole_of ps))
+
+counters-sketches : (k : ℕ) (pieces : List (List Entry)) → map (λ (s : Sketch). s.counters) (map (sketch_of k) pieces) ≡ map (λ p. misra_gries p k) pieces
+counters-sketches k [] = refl
+counters-sketches k (p ∷ ps) = ap (λ cs. misra_gries p k ∷ cs) (counters-sketches k ps)
+
+sketch-at : (k : ℕ) (pieces : List (List Entry)) (i : ℕ) → i < length pieces → get_or (map (sketch_of k) pieces) i no_sketch ≡ sketch_of k (get_or pieces i [])
+sketch-at k pieces i low = get_or-map (sketch_of k) pieces i [] no_sketch low
+
+leaf-below : (t : MergeTree) (p i : ℕ) → IsMergeTree t p → 0 < times i (leaves t) → i < p
+leaf-below t p i h some = ⊎_elim (λ (low : i < p). low) (λ (high : p ≤ i). absurd (omega (arith, h.within i high))) (cases_lt i p)
+
+-- no plan is refused at the summaries of a stream's pieces
+pub pieces_merge : (t : MergeTree) (k : ℕ) (pieces : List (List Entry)) → IsMergeTree t (length pieces) → total_of (whole_of pieces) ≤ max_total → (s : Sketch) × (tree_result t (map (sketch_of k) pieces) ≡ Ok s)
+pieces_merge t k pieces plan fits =
+    let ss = map (sketch_of k) pieces in
+    let count = length-map pieces (sketch_of k) in
+    let all = sum-leaves (λ (s : Sketch). s.total) no_sketch t ss (subst (IsMergeTree t) (sym count) plan) in
+    let one = tree_merges t ss k (λ i some. ap (λ (s : Sketch). s.k) (sketch-at k pieces i (leaf-below t (length pieces) i plan some))) (omega (arith, all, total-sketches k pieces)) in
+    (one.0, one.1)
+
+-- what merge_by says of the summaries of a stream's pieces
+pub merged_is : (t : MergeTree) (k : ℕ) (pieces : List (List Entry)) (xs : List Entry) (ss : List Sketch) (s : Sketch) → 0 < length pieces → whole_of pieces ≡ xs → ss ≡ map (sketch_of k) pieces
+    → All (λ (piece : Sketch). piece.k ≡ s.k) ss → s.total ≡ sum_by (λ (piece : Sketch). piece.total) ss → s.counters ≡ tree_value t (map (λ (piece : Sketch). piece.counters) ss) s.k → MergesHonestly ss s
+    → IsMerged t k pieces xs s
+merged_is t k pieces xs ss s some whole e same_k total counters honest =
+    let sketches = map (sketch_of k) pieces in
+    let count : length sketches ≡ length pieces = length-map pieces (sketch_of k) in
+    let first : (get_or sketches 0 no_sketch).k ≡ s.k = subst (All (λ (piece : Sketch). piece.k ≡ s.k)) e same_k 0 no_sketch (omega arith) in
+    let k_is : s.k ≡ k = sym first ∙ ap (λ (piece : Sketch). piece.k) (sketch-at k pieces 0 some) in
+    let total_is = total ∙ (ap (sum_by (λ (piece : Sketch). piece.total)) e ∙ (total-sketches k pieces ∙ ap total_of whole)) in
+    let each : (i : ℕ) → i < length sketches → IsHonest (get_or sketches i no_sketch).counters (get_or sketches i no_sketch).total (get_or pieces i []) s.k =
+    (λ i low. subst (λ (z : Sketch × ℕ). IsHonest z.0.counters z.0.total (get_or pieces i []) z.1) (λ j. (sym (sketch-at k pieces i (omega arith)) j, sym k_is j)) (honest-misra_gries (get_or pieces i []) k)) in
+    let whole_honest = subst (λ zs. MergesHonestly zs s) e honest pieces (sym count) each in
+    record {
+      same_k = k_is;
+      total = total_is;
+      counters = counters ∙ (λ i. tree_value t ((ap (map (λ (piece : Sketch). piece.counters)) e ∙ counters-sketches k pieces) i) (k_is i));
+      honest = subst (λ (z : ℕ × List Entry × ℕ). IsHonest s.counters z.0 z.1 z.2) (λ i. (total_is i, whole i, k_is i)) whole_honest;
+    }
+
+-- the second pass over the keys of honest counters finds the heavy keys
+pub heavy_is : (c : Counters) (xs : List Entry) (k total : ℕ) (keys : List Bytes) (weights : List ℕ) → IsHonest c (total_of xs) xs k → total ≡ total_of xs → keys ≡ keys_of c → weights ≡ weights_at keys xs
+    → selected 1 (k + 1) total (zip keys weights) ≡ heavy xs 1 (k + 1)
+heavy_is c xs k total keys weights honest total_is keys_are weights_are =
+    (λ i. selected 1 (k + 1) (total_is i) (zip (keys_are i) ((weights_are ∙ ap (λ ks. weights_at ks xs) keys_are) i))) ∙ report_from_candidates c xs k 1 (k + 1) honest (omega arith)

@@ -1,0 +1,59 @@
+use Rattle.std.proofs.Common.{◌≡◌, ◌+◌, ◌≤◌, ◌<◌, ◌∙◌, ℕ, length, map, sym, ap, subst, arith}
+use Rattle.std.specs.Prelude.{Result, Ok, Err, zip}
+use Rattle.std.proofs.lemmas.List.{length-map}
+use Rattle.hh_stream.specs.Weights.{Bytes, Entry, total_of, max_total}
+use Rattle.hh_stream.specs.Cuttings.{pieces_of}
+use Rattle.hh_stream.proofs.CuttingFacts.{pieces-whole}
+use Rattle.hh_counters.specs.Counters.{Sketch, sketch_of}
+use Rattle.hh_counters.specs.Report.{selected}
+use Rattle.hh_pool.specs.Trees.{IsMergeTree, tree_result}
+use Rattle.hh_pool.proofs.Pieces.{length-pieces_of}
+use Rattle.hh_pool.proofs.Merged.{pieces_merge, merged_is, heavy_is}
+use Rattle.hh_pool.proofs.analysis.run_passes.Goals as goal
+
+pub merge_by-requires-clause-tree : goal.merge_by-requires-clause-tree
+merge_by-requires-clause-tree g c =
+    let pieces = pieces_of c.args.cutting.now c.args.stream.now in
+    let count = ap length c.in_ok-summaries.ensures.summaries ∙ (length-map pieces (sketch_of c.args.options.now.k) ∙ length-pieces_of c.args.cutting.now c.args.stream.now) in
+    subst (IsMergeTree c.args.plan.now) (sym count) c.requires.plan
+
+pub merge_by-requires-clause-few : goal.merge_by-requires-clause-few
+merge_by-requires-clause-few g c =
+    let pieces = pieces_of c.args.cutting.now c.args.stream.now in
+    let count = ap length c.in_ok-summaries.ensures.summaries ∙ (length-map pieces (sketch_of c.args.options.now.k) ∙ length-pieces_of c.args.cutting.now c.args.stream.now) in
+    omega (arith, c.requires.few)
+
+pub unreachable-requires : goal.unreachable-requires
+unreachable-requires g c = ?
+
+pub unreachable-requires-2 : goal.unreachable-requires-2
+unreachable-requires-2 g c = ?
+
+pub weigh-requires-clause-few : goal.weigh-requires-clause-few
+weigh-requires-clause-few g c = λ _ _.
+    let fits = c.summary.invariant in
+    let counters = ap (λ (s : Sketch). length s.counters) c.summary.view_is in
+    let keys = ap length c.in_ok-candidates.ensures ∙ length-map c.in-Ok.summary.counters (λ (e : Entry). e.0) in
+    omega (arith, fits.few, fits.bounded_k)
+
+pub returns-clause-summary : goal.returns-clause-summary
+returns-clause-summary g c =
+    let lengths = c.args.cutting.now in
+    let stream = c.args.stream.now in
+    let by = c.in-Ok.ensures in
+    merged_is c.args.plan.now c.args.options.now.k (pieces_of lengths stream) stream c.in_ok-summaries.summaries.items c.in-Ok.summary (omega (arith, length-pieces_of lengths stream, c.requires.some)) (pieces-whole lengths stream c.requires.same_len)
+        c.in_ok-summaries.ensures.summaries by.k by.total by.counters by.honest
+
+pub returns-clause-heavy : goal.returns-clause-heavy
+returns-clause-heavy g c =
+    let lengths = c.args.cutting.now in
+    let stream = c.args.stream.now in
+    let by = c.in-Ok.ensures in
+    let k = c.args.options.now.k in
+    let keys = c.in_ok-candidates.candidates in
+    let merged =
+    merged_is c.args.plan.now k (pieces_of lengths stream) stream c.in_ok-summaries.summaries.items c.in-Ok.summary (omega (arith, length-pieces_of lengths stream, c.requires.some)) (pieces-whole lengths stream c.requires.same_len)
+        c.in_ok-summaries.ensures.summaries by.k by.total by.counters by.honest in
+    c.in_ok-heavy.ensures
+    ∙ ((λ i. selected 1 (c.k.ensures.k i + 1) c.total-total.result (zip keys (c.deref.ensures.value i)))
+    ∙ heavy_is c.in-Ok.summary.counters stream k c.total-total.result keys c.in_ok-weights.weights.items merged.honest c.total-total.ensures.total c.in_ok-candidates.ensures c.in_ok-weights.ensures)
