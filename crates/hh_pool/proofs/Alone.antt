@@ -1,11 +1,9 @@
 -- The pieces one after the other, as the calling thread does them.
-use Rattle.std.proofs.Common.{◌≡◌, ℕ, ◌+◌, ◌<◌, ◌≤◌, List, [], ◌∷◌, ◌++◌, length, map, take, replicate, sym, ap, ◌∙◌, refl, subst, arith}
-use Rattle.std.specs.Prelude.{All, sum_by}
-use Rattle.std.specs.List.{range_with_len}
-use Rattle.std.proofs.lemmas.List.{map-append, append-nil, take_more, take_all}
+use Rattle.std.proofs.Common.{◌≡◌, ℕ, ◌+◌, ◌<◌, ◌≤◌, List, [], ◌∷◌, ◌++◌, length, map, take, sym, ap, ◌∙◌, refl, arith}
+use Rattle.std.proofs.lemmas.List.{map-append, append-nil, take_more}
 use Rattle.std.proofs.lemmas.List.Sums.{sum_by_more_le}
 use Rattle.std.proofs.lemmas.Grind.{flat_map-append}
-use Rattle.hh_stream.specs.Weights.{Bytes, Entry, weight_of, total_of}
+use Rattle.hh_stream.specs.Weights.{Bytes, Entry, total_of}
 use Rattle.hh_stream.specs.Cuttings.{whole_of}
 use Rattle.hh_counters.specs.Counters.{Sketch, sketch_of}
 use Rattle.hh_counters.specs.Report.{counted, weights_at}

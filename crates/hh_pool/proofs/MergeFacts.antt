@@ -1,12 +1,10 @@
 -- What the parts of a tree need and give, where its summaries are merged.
-use Rattle.std.proofs.Common.{◌≡◌, ◌≢◌, ◌+◌, ◌<◌, ◌≤◌, ◌==◌, ◌∷◌, ◌++◌, ◌∙◌, ℕ, Bool, true, false, List, [], length, Result, Ok, Err, refl, sym, ap, arith}
-use Rattle.std.specs.Prelude.{slice_index_or, nat_le, if◌then◌else◌}
+use Rattle.std.proofs.Common.{◌≡◌, ◌+◌, ◌<◌, ◌≤◌, ◌∷◌, ◌∙◌, ℕ, List, [], Ok, Err, refl, sym, arith}
+use Rattle.std.specs.Prelude.{slice_index_or}
 use Rattle.std.proofs.lemmas.Bool.Decides.{nat_tests}
-use Rattle.hh_stream.specs.Weights.{max_total}
-use Rattle.hh_counters.specs.Counters.{Sketch, merged}
+use Rattle.hh_counters.specs.Counters.{Sketch}
 use Rattle.hh_counters.specs.declared.summary.MergeFault.{MergeFault}
-use Rattle.hh_counters.specs.declared.summary.MergeFault.TheVariants as fault
-use Rattle.hh_pool.specs.Trees.{HasPlaces, IsMergeTree, MergeTree, Piece, Merge, leaves, merge_both, merge_result, no_sketch, times, tree_result}
+use Rattle.hh_pool.specs.Trees.{HasPlaces, IsMergeTree, MergeTree, Piece, Merge, leaves, merge_result, no_sketch, times, tree_result}
 use Rattle.hh_pool.proofs.TreeFacts.{times-append}
 
 -- how many merges a tree has

@@ -1,5 +1,5 @@
 -- The merged summary can be made, and is what the analysis says.
-use Rattle.std.proofs.Common.{◌≡◌, ℕ, zero, suc, ◌+◌, ◌*◌, ◌<◌, ◌≤◌, List, [], ◌∷◌, ◌++◌, length, get_or, map, refl, sym, ap, ◌∙◌, subst, arith, ⊎_elim}
+use Rattle.std.proofs.Common.{◌≡◌, ℕ, ◌+◌, ◌<◌, ◌≤◌, List, [], ◌∷◌, length, get_or, map, refl, sym, ap, ◌∙◌, subst, arith, ⊎_elim}
 use Rattle.std.specs.Prelude.{All, Ok, Err, sum_by, zip}
 use Rattle.std.specs.Map.{keys_of}
 use Rattle.std.proofs.lemmas.List.{get_or-map, length-map}
@@ -9,22 +9,21 @@ use Rattle.std.proofs.lemmas.Bool.Decides.{nat_tests}
 use Rattle.hh_stream.specs.Weights.{Bytes, Entry, total_of, max_total}
 use Rattle.hh_stream.specs.Cuttings.{whole_of}
 use Rattle.hh_counters.specs.Counters.{Counters, Sketch, sketch_of, merged, misra_gries, IsHonest}
+use Rattle.hh_counters.specs.declared.summary.MergeFault.{MergeFault}
 use Rattle.hh_counters.specs.Report.{heavy, selected, weights_at}
 use Rattle.hh_counters.proofs.Summaries.{honest-misra_gries}
 use Rattle.hh_counters.proofs.Reports.{report_from_candidates}
-use Rattle.hh_shared.specs.Tally.{IsDistinctBelow, HasAllBelow}
 use Rattle.hh_shared.proofs.Tallies.{all-length, times-append, times-one}
 use Rattle.hh_pool.specs.Trees.{MergeTree, Piece, Merge, IsMergeTree, MergesHonestly, leaves, merge_both, merge_result, no_sketch, times, tree_result, tree_value}
 use Rattle.hh_pool.specs.Outcomes.{IsMerged}
-use Rattle.hh_pool.proofs.Pieces.{sum_by-flat_map}
 use Rattle.hh_pool.proofs.ValueFacts.{sum-leaves}
 
 -- a plan of p pieces has p leaves
 pub length-leaves : (t : MergeTree) (p : ℕ) → IsMergeTree t p → length (leaves t) ≡ p
 length-leaves t p h =
     all-length p (leaves t)
-        (record { once = λ i. ⊎_elim (λ (low : i < p). omega (arith, h.once i low)) (λ (high : p ≤ i). omega (arith, h.within i high)) (cases_lt i p); below = λ i some. ⊎_elim (λ (low : i < p). low) (λ (high : p ≤ i). absurd (omega (arith, h.within i high))) (cases_lt i p) })
-        (record { has = λ i low. omega (arith, h.once i low) })
+    (record { once = λ i. ⊎_elim (λ (low : i < p). omega (arith, h.once i low)) (λ (high : p ≤ i). omega (arith, h.within i high)) (cases_lt i p); below = λ i some. ⊎_elim (λ (low : i < p). low) (λ (high : p ≤ i). absurd (omega (arith, h.within i high))) (cases_lt i p) })
+    (record { has = λ i low. omega (arith, h.once i low) })
 
 abbrev total_at : List Sketch → ℕ → ℕ
 total_at ss i = (get_or ss i no_sketch).total
@@ -59,7 +58,7 @@ leaf-below : (t : MergeTree) (p i : ℕ) → IsMergeTree t p → 0 < times i (le
 leaf-below t p i h some = ⊎_elim (λ (low : i < p). low) (λ (high : p ≤ i). absurd (omega (arith, h.within i high))) (cases_lt i p)
 
 -- no plan is refused at the summaries of a stream's pieces
-pub pieces_merge : (t : MergeTree) (k : ℕ) (pieces : List (List Entry)) → IsMergeTree t (length pieces) → total_of (whole_of pieces) ≤ max_total → (s : Sketch) × (tree_result t (map (sketch_of k) pieces) ≡ Ok s)
+pieces_merge : (t : MergeTree) (k : ℕ) (pieces : List (List Entry)) → IsMergeTree t (length pieces) → total_of (whole_of pieces) ≤ max_total → (s : Sketch) × (tree_result t (map (sketch_of k) pieces) ≡ Ok s)
 pieces_merge t k pieces plan fits =
     let ss = map (sketch_of k) pieces in
     let count = length-map pieces (sketch_of k) in
@@ -92,3 +91,10 @@ pub heavy_is : (c : Counters) (xs : List Entry) (k total : ℕ) (keys : List Byt
     → selected 1 (k + 1) total (zip keys weights) ≡ heavy xs 1 (k + 1)
 heavy_is c xs k total keys weights honest total_is keys_are weights_are =
     (λ i. selected 1 (k + 1) (total_is i) (zip (keys_are i) ((weights_are ∙ ap (λ ks. weights_at ks xs) keys_are) i))) ∙ report_from_candidates c xs k 1 (k + 1) honest (omega arith)
+
+-- so no refusal comes
+pub no_refusal : (t : MergeTree) (k : ℕ) (pieces : List (List Entry)) (ss : List Sketch) (e : MergeFault) → IsMergeTree t (length pieces) → total_of (whole_of pieces) ≤ max_total → ss ≡ map (sketch_of k) pieces → tree_result t ss ≡ Err e → ⊥
+no_refusal t k pieces ss e plan fits is refused =
+    let merges = pieces_merge t k pieces plan fits in
+    let here : tree_result t ss ≡ Ok merges.0 = ap (tree_result t) is ∙ merges.1 in
+    cc

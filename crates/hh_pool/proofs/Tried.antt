@@ -1,5 +1,5 @@
 -- One piece more, and what two workers have made together.
-use Rattle.std.proofs.Common.{◌≡◌, ◌≢◌, ℕ, zero, suc, ◌+◌, ◌*◌, ◌<◌, ◌≤◌, eqb, cond, eq-eqb, ne_eqb, List, [], ◌∷◌, ◌++◌, length, get_or, map, replicate, take, length-take, zero-add, ◌⊎◌, ⊎_elim, refl, sym, ap, ◌∙◌, subst, arith}
+use Rattle.std.proofs.Common.{◌≡◌, ℕ, zero, suc, ◌+◌, ◌*◌, ◌<◌, ◌≤◌, eqb, cond, eq-eqb, ne_eqb, List, [], ◌∷◌, ◌++◌, length, get_or, map, replicate, take, length-take, zero-add, ⊎_elim, refl, sym, ap, ◌∙◌, subst, arith}
 use Rattle.std.proofs.lemmas.List.{map-append, get_or-take, get_or_past, append-nil}
 use Rattle.std.specs.List.{range_with_len}
 use Rattle.std.specs.Prelude.{All, slice_get, Some}
@@ -23,7 +23,7 @@ use Rattle.hh_countmin.proofs.Cells.{cell_at-cells_by, cell_sum-append}
 use Rattle.hh_countmin.proofs.Tables.{empty_table-is}
 use Rattle.hh_shared.specs.Tally.{times, added, IsDistinctBelow}
 use Rattle.hh_shared.specs.Seats.{Sums, Holding, fresh, joined}
-use Rattle.hh_shared.proofs.Tallies.{times-append, times-push, times-push_other, added-append, added-push, added-push_other}
+use Rattle.hh_shared.proofs.Tallies.{times-append, times-push, added-append}
 use Rattle.hh_pool.specs.Settings.{Settings}
 use Rattle.hh_pool.specs.Passes.{piece_of, items_at, summaries_at, HasTried, IsFirstPass, IsSecondPass, IsFirstPassUpTo, IsSecondPassUpTo}
 

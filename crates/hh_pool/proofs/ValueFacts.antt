@@ -1,19 +1,18 @@
 -- What a merged summary is: the tree's value, the sum of the totals, and honest where the pieces are.
 use Rattle.std.proofs.Common.{◌≡◌, ◌≢◌, ◌+◌, ◌*◌, ◌<◌, ◌≤◌, ◌==◌, ◌∷◌, ◌++◌, ◌∙◌, ℕ, zero, suc, Bool, true, false, List, [], length, map, take, Result, Ok, Err, refl, sym, ap, subst, add-one, inl, inr, ◌⊎◌, arith}
-use Rattle.std.specs.Prelude.{cond, nat_le, nat_lt, sum_by, slice_index_or, All, if◌then◌else◌}
+use Rattle.std.specs.Prelude.{cond, nat_le, sum_by, slice_index_or, All}
 use Rattle.std.proofs.lemmas.Bool.{eq-eqb, ne_eqb}
-use Rattle.std.proofs.lemmas.Bool.Decides.{eqb_tells, nat_tests}
+use Rattle.std.proofs.lemmas.Bool.Decides.{eqb_tells}
 use Rattle.std.proofs.Math.Seq.{take-length}
 use Rattle.std.proofs.lemmas.List.Sums.{sum_by-append, sum_by-cons, sum_by_more}
 use Rattle.std.proofs.Math.ListN.{get_or-map}
 use Rattle.std.proofs.lemmas.List.Elements.{All-from_get_or}
 use Rattle.hh_stream.specs.Cuttings.{whole_of}
 use Rattle.hh_stream.specs.Weights.{Bytes, Entry, at_key, max_total, total_of, weight_of}
-use Rattle.hh_counters.specs.Counters.{Counters, IsHonest, Sketch, join, merged}
+use Rattle.hh_counters.specs.Counters.{IsHonest, Sketch, merged}
 use Rattle.hh_counters.specs.Laws.{JoinOfHonestIsHonest}
 use Rattle.hh_counters.specs.declared.summary.MergeFault.{MergeFault}
-use Rattle.hh_counters.specs.declared.summary.MergeFault.TheVariants as fault
-use Rattle.hh_pool.specs.Trees.{IsMergeTree, MergeTree, MergesHonestly, Piece, Merge, items_of, leaves, merge_both, merge_result, no_sketch, times, tree_result, tree_value}
+use Rattle.hh_pool.specs.Trees.{IsMergeTree, MergeTree, MergesHonestly, Piece, Merge, items_of, leaves, merge_both, no_sketch, times, tree_result, tree_value}
 use Rattle.hh_pool.proofs.MergeFacts.{plan-places}
 use Rattle.hh_pool.proofs.TreeFacts.{times-append}
 

@@ -1,8 +1,8 @@
 -- Merge trees over numbered pieces, and what they make of the pieces' summaries.
-use Rattle.std.specs.Prelude.{◌≡◌, ℕ, zero, suc, ◌+◌, ◌-◌, ◌/◌, ◌<◌, ◌≤◌, ◌==◌, nat_lt, nat_le, List, [], ◌∷◌, ◌++◌, length, map, sum_by, count_by, slice_index_or, Result, Ok, Err, refl, if◌then◌else◌}
+use Rattle.std.specs.Prelude.{◌≡◌, ℕ, zero, suc, ◌+◌, ◌-◌, ◌/◌, ◌<◌, ◌≤◌, ◌==◌, nat_le, List, [], ◌∷◌, ◌++◌, length, count_by, slice_index_or, Result, Ok, Err, refl, if◌then◌else◌}
 use Rattle.std.proofs.Common.{sym, ap, ◌∙◌}
 use base.Stored.{Coded, Gv, gnil, gnum, gcons}
-use Rattle.hh_stream.specs.Weights.{Entry, max_total, total_of}
+use Rattle.hh_stream.specs.Weights.{Entry, max_total}
 use Rattle.hh_counters.specs.Counters.{Counters, IsHonest, Sketch, join, merged}
 use Rattle.hh_stream.specs.Cuttings.{whole_of}
 use Rattle.hh_counters.specs.declared.summary.MergeFault.{MergeFault}

@@ -51,12 +51,7 @@ fn table_of_cells(stream: &Stream, options: &Options, cells: Vec<u64>) -> Result
     ensures { IfOk result (λ table. table ≡ table_of options.now.family options.now.width stream.now) }
 {
     let family = options.family().copy()?;
-    Ok(Table::from_cells(
-        family,
-        options.width(),
-        stream.total(),
-        cells,
-    ))
+    Ok(Table::from_cells(family, options.width(), stream.total(), cells))
 }
 
 /// The first pass: the summaries of the pieces, in order, and the table of the stream.

@@ -61,7 +61,11 @@ pub fn first_pass<G: Gate>(
 }
 
 /// The summary of a piece.
-pub(crate) fn summary_of(alloc: Global, options: &Options, items: &[Item]) -> Result<Summary, AllocError>
+pub(crate) fn summary_of(
+    alloc: Global,
+    options: &Options,
+    items: &[Item],
+) -> Result<Summary, AllocError>
     requires { total_of items.now ≤ MAX_TOTAL }
     ensures { IfOk result (λ summary. summary ≡ sketch_of options.now.k items.now) }
 {

@@ -1,4 +1,4 @@
-use Rattle.std.proofs.Common.{◌≡◌, ◌≢◌, ◌≤◌, ◌<◌, ◌∙◌, ℕ, length, refl, sym, ap, subst, arith}
+use Rattle.std.proofs.Common.{◌∙◌, refl, sym}
 use Rattle.hh_pool.proofs.Merged.{length-leaves}
 use Rattle.hh_pool.proofs.analysis.analyse.Goals as goal
 

@@ -1,14 +1,14 @@
-use Rattle.std.proofs.Common.{◌≡◌, ◌+◌, ◌≤◌, ◌<◌, ◌∙◌, ℕ, length, map, sym, ap, subst, arith}
-use Rattle.std.specs.Prelude.{Result, Ok, Err, zip}
+use Rattle.std.proofs.Common.{◌+◌, ◌∙◌, length, sym, ap, subst, arith}
+use Rattle.std.specs.Prelude.{zip}
 use Rattle.std.proofs.lemmas.List.{length-map}
-use Rattle.hh_stream.specs.Weights.{Bytes, Entry, total_of, max_total}
+use Rattle.hh_stream.specs.Weights.{Entry, total_of}
 use Rattle.hh_stream.specs.Cuttings.{pieces_of}
 use Rattle.hh_stream.proofs.CuttingFacts.{pieces-whole}
 use Rattle.hh_counters.specs.Counters.{Sketch, sketch_of}
 use Rattle.hh_counters.specs.Report.{selected}
-use Rattle.hh_pool.specs.Trees.{IsMergeTree, tree_result}
+use Rattle.hh_pool.specs.Trees.{IsMergeTree}
 use Rattle.hh_pool.proofs.Pieces.{length-pieces_of}
-use Rattle.hh_pool.proofs.Merged.{pieces_merge, merged_is, heavy_is}
+use Rattle.hh_pool.proofs.Merged.{no_refusal, merged_is, heavy_is}
 use Rattle.hh_pool.proofs.analysis.run_passes.Goals as goal
 
 pub merge_by-requires-clause-tree : goal.merge_by-requires-clause-tree
@@ -24,10 +24,24 @@ merge_by-requires-clause-few g c =
     omega (arith, c.requires.few)
 
 pub unreachable-requires : goal.unreachable-requires
-unreachable-requires g c = ?
+unreachable-requires g c =
+    let lengths = c.args.cutting.now in
+    let stream = c.args.stream.now in
+    let pieces = pieces_of lengths stream in
+    let plan = subst (IsMergeTree c.args.plan.now) (sym (length-pieces_of lengths stream)) c.requires.plan in
+    let whole = ap total_of (pieces-whole lengths stream c.requires.same_len) in
+    let refused = c.in-Err-DifferentK.ensures.refused (λ memory. let kind = c.in-Err-DifferentK.field-0-is in cc) in
+    no_refusal c.args.plan.now c.args.options.now.k pieces c.in_ok-summaries.summaries.items c.in-Err-DifferentK.field-0 plan (omega (arith, whole, c.total-total.ensures.total, c.total-total.ensures.bounded)) c.in_ok-summaries.ensures.summaries refused
 
-pub unreachable-requires-2 : goal.unreachable-requires-2
-unreachable-requires-2 g c = ?
+pub unreachable-requires-in-Err-TotalTooLarge : goal.unreachable-requires-in-Err-TotalTooLarge
+unreachable-requires-in-Err-TotalTooLarge g c =
+    let lengths = c.args.cutting.now in
+    let stream = c.args.stream.now in
+    let pieces = pieces_of lengths stream in
+    let plan = subst (IsMergeTree c.args.plan.now) (sym (length-pieces_of lengths stream)) c.requires.plan in
+    let whole = ap total_of (pieces-whole lengths stream c.requires.same_len) in
+    let refused = c.in-Err-TotalTooLarge.ensures.refused (λ memory. let kind = c.in-Err-TotalTooLarge.field-0-is in cc) in
+    no_refusal c.args.plan.now c.args.options.now.k pieces c.in_ok-summaries.summaries.items c.in-Err-TotalTooLarge.field-0 plan (omega (arith, whole, c.total-total.ensures.total, c.total-total.ensures.bounded)) c.in_ok-summaries.ensures.summaries refused
 
 pub weigh-requires-clause-few : goal.weigh-requires-clause-few
 weigh-requires-clause-few g c = λ _ _.
@@ -42,7 +56,7 @@ returns-clause-summary g c =
     let stream = c.args.stream.now in
     let by = c.in-Ok.ensures in
     merged_is c.args.plan.now c.args.options.now.k (pieces_of lengths stream) stream c.in_ok-summaries.summaries.items c.in-Ok.summary (omega (arith, length-pieces_of lengths stream, c.requires.some)) (pieces-whole lengths stream c.requires.same_len)
-        c.in_ok-summaries.ensures.summaries by.k by.total by.counters by.honest
+    c.in_ok-summaries.ensures.summaries by.k by.total by.counters by.honest
 
 pub returns-clause-heavy : goal.returns-clause-heavy
 returns-clause-heavy g c =
@@ -53,7 +67,7 @@ returns-clause-heavy g c =
     let keys = c.in_ok-candidates.candidates in
     let merged =
     merged_is c.args.plan.now k (pieces_of lengths stream) stream c.in_ok-summaries.summaries.items c.in-Ok.summary (omega (arith, length-pieces_of lengths stream, c.requires.some)) (pieces-whole lengths stream c.requires.same_len)
-        c.in_ok-summaries.ensures.summaries by.k by.total by.counters by.honest in
+    c.in_ok-summaries.ensures.summaries by.k by.total by.counters by.honest in
     c.in_ok-heavy.ensures
     ∙ ((λ i. selected 1 (c.k.ensures.k i + 1) c.total-total.result (zip keys (c.deref.ensures.value i)))
     ∙ heavy_is c.in-Ok.summary.counters stream k c.total-total.result keys c.in_ok-weights.weights.items merged.honest c.total-total.ensures.total c.in_ok-candidates.ensures c.in_ok-weights.ensures)

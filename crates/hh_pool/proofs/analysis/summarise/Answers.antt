@@ -1,9 +1,9 @@
-use Rattle.std.proofs.Common.{◌≡◌, ◌≤◌, ◌<◌, ◌*◌, ◌∙◌, ℕ, List, length, map, refl, sym, ap, subst, arith}
+use Rattle.std.proofs.Common.{◌≡◌, ◌≤◌, ◌*◌, ◌∙◌, length, map, refl, sym, ap, subst, arith}
 use Rattle.std.specs.List.{range_with_len}
-use Rattle.hh_stream.specs.Weights.{Entry, total_of, max_total}
+use Rattle.hh_stream.specs.Weights.{total_of, max_total}
 use Rattle.hh_stream.specs.Cuttings.{pieces_of}
 use Rattle.hh_stream.proofs.CuttingFacts.{pieces-whole}
-use Rattle.hh_counters.specs.Counters.{Sketch, sketch_of}
+use Rattle.hh_counters.specs.Counters.{sketch_of}
 use Rattle.hh_shared.specs.Tally.{IsDistinctBelow, HasAllBelow}
 use Rattle.hh_pool.specs.Passes.{piece_of}
 use Rattle.hh_pool.proofs.Pieces.{length-pieces_of}
@@ -24,8 +24,8 @@ table_of_cells-requires g c =
     let cells : c.in_ok-sums.sums.cells ≡ length options.family.rows * options.width = c.in_ok-sums.ensures.cells ∙ (λ i. depth i * c.width.ensures.width i) in
     let closed = c.in_ok-cells.ensures in
     closed_cells (pieces_of lengths stream) stream options seat _ c.in_ok-cells.cells.items (pieces-whole lengths stream c.requires) low c.in_ok-seat.ensures.done distinct all
-        (omega (arith, closed.len, c.in_ok-cells.cells.ok))
-        (λ cell inside. closed.sums cell (omega arith))
+    (omega (arith, closed.len, c.in_ok-cells.cells.ok))
+    (λ cell inside. closed.sums cell (omega arith))
 
 pub returns-clause-summaries : goal.returns-clause-summaries
 returns-clause-summaries g c =

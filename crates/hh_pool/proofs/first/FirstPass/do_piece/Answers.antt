@@ -1,4 +1,4 @@
-use Rattle.std.proofs.Common.{◌≡◌, ◌+◌, ◌<◌, ◌≤◌, ◌++◌, ◌∷◌, ◌∙◌, ℕ, List, [], length, take, sym, ap, subst, arith}
+use Rattle.std.proofs.Common.{◌<◌, ◌++◌, ◌∷◌, ◌∙◌, List, [], length, take, ap, arith}
 use Rattle.hh_stream.specs.Weights.{Entry, total_of}
 use Rattle.hh_stream.specs.Cuttings.{pieces_of, whole_of}
 use Rattle.hh_counters.specs.Counters.{sketch_of}

@@ -1,10 +1,10 @@
-use Rattle.std.proofs.Common.{◌≡◌, ◌+◌, ◌≤◌, ◌++◌, ◌∷◌, ◌∙◌, ℕ, List, [], length, sym, ap, subst, arith}
+use Rattle.std.proofs.Common.{◌++◌, ◌∷◌, ◌∙◌, ℕ, List, [], sym, ap, subst, arith}
 use Rattle.hh_stream.specs.Weights.{Entry, total_of}
-use Rattle.hh_stream.specs.Cuttings.{pieces_of, whole_of}
+use Rattle.hh_stream.specs.Cuttings.{pieces_of}
 use Rattle.hh_counters.specs.Counters.{sketch_of}
 use Rattle.hh_countmin.specs.Table.{Grid, table_of}
 use Rattle.hh_shared.specs.Tally.{IsDistinctBelow}
-use Rattle.hh_pool.specs.Passes.{piece_of, items_at}
+use Rattle.hh_pool.specs.Passes.{items_at}
 use Rattle.hh_pool.proofs.Pieces.{length-pieces_of}
 use Rattle.hh_pool.proofs.Tried.{next_total, first_met, first_claimed}
 use Rattle.hh_pool.proofs.first.FirstPass.try_piece.Goals as goal
