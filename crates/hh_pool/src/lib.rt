@@ -7,9 +7,11 @@ mod merging;
 mod options;
 mod pass;
 mod plan;
+mod reading;
 mod workers;
 
 pub use gate::{Gate, OpenGate};
 pub use merging::merge_by;
 pub use options::{MAX_WORKERS, Options, OptionsFault};
 pub use plan::{MAX_PIECES, Plan};
+pub use reading::PlanFault;

@@ -26,7 +26,7 @@ merge_tree-requires-in-Node t c =
     rw (c.deref-in-Node.ensures, c.merge_tree.auto.summaries) (omega (arith, size, c.decreases), (right-places (shape l) _ _ (rw c.in-Node.is at c.requires.places), c.requires.fits))
 
 pub returns-in-Leaf-clause-merged : goal.returns-in-Leaf-clause-merged
-returns-in-Leaf-clause-merged t c = 
+returns-in-Leaf-clause-merged t c =
     let below = piece-place c.in-Leaf.i _ (rw c.in-Leaf.is at c.requires.places) in
     rw (c.in-Leaf.is, c.take_summary.ensures, get_or_default c.args.summaries.now c.in-Leaf.i c.index-summaries-i.result no_sketch below) refl
 
