@@ -1,3 +1,4 @@
 pub mod TreeFacts
 pub mod MergeFacts
 pub mod ValueFacts
+pub mod ReadingFacts
