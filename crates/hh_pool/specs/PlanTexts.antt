@@ -1,5 +1,5 @@
 -- The texts of plans, and how they are read.
-use Rattle.std.specs.Prelude.{◌≡◌, ◌≢◌, ℕ, ◌+◌, ◌-◌, ◌*◌, ◌<◌, ◌≤◌, ◌==◌, ◌&&◌, max, nat_lt, nat_le, Bool, true, List, [], ◌∷◌, ◌++◌, length, take, Option, Some, None, ⊤, if◌then◌else◌}
+use Rattle.std.specs.Prelude.{◌≡◌, ◌≢◌, ℕ, ◌+◌, ◌-◌, ◌*◌, ◌<◌, ◌≤◌, ◌==◌, ◌&&◌, max, nat_lt, nat_le, Bool, true, false, slice_index_or, List, [], ◌∷◌, ◌++◌, length, take, Option, Some, None, ⊤, if◌then◌else◌}
 use Rattle.std.specs.Option.{option_and_then}
 use Rattle.std.specs.Fmt.{decimal}
 use Rattle.hh_pool.specs.Trees.{IsMergeTree, MergeTree, Piece, Merge, leaves, times}
@@ -46,13 +46,28 @@ pub record AreOwn (p : ℕ) (xs : List ℕ) : Type 0 where
   pub once : (i : ℕ) → times i xs ≤ 1
   pub below : (i : ℕ) → 0 < times i xs → i < p
 
--- what a refusal of a plan's text for p pieces tells
+-- each number below p is marked where it is one of the numbers
+abbrev pub AreMarked : List Bool → ℕ → List ℕ → Type 0
+AreMarked marks p xs = (length marks ≡ p) × ((i : ℕ) → i < p → slice_index_or marks i false ≡ nat_lt 0 (times i xs))
+
+-- what a refusal of a text tells, and of a tree's numbers
+abbrev pub SyntaxRefused : List ℕ → PlanFault → Type 0
+SyntaxRefused text (fault.Syntax n) = IsSyntaxFault text n
+SyntaxRefused text fault.Memory = ⊤
+SyntaxRefused text _ = ⊥
+
+abbrev pub NumbersRefused : ℕ → List ℕ → PlanFault → Type 0
+NumbersRefused p xs (fault.Syntax n) = ⊥
+NumbersRefused p xs (fault.UnknownPiece i) = (before : List ℕ) × (after : List ℕ) × (xs ≡ before ++ i ∷ after) × AreOwn p before × (p ≤ i)
+NumbersRefused p xs (fault.RepeatedPiece i) = (before : List ℕ) × (after : List ℕ) × (xs ≡ before ++ i ∷ after) × AreOwn p before × (0 < times i before)
+NumbersRefused p xs (fault.MissingPiece i) = AreOwn p xs × (i < p) × (times i xs ≡ 0) × ((j : ℕ) → j < i → 0 < times j xs)
+NumbersRefused p xs fault.Memory = ⊤
+
+-- what a refusal of a plan's text for p pieces tells: its syntax is judged first, and then its numbers from left to right
 abbrev pub PlanRefused : List ℕ → ℕ → PlanFault → Type 0
 PlanRefused text p (fault.Syntax n) = IsSyntaxFault text n
-PlanRefused text p (fault.UnknownPiece i) = (t : MergeTree) × Spells text t × (before : List ℕ) × (after : List ℕ) × (leaves t ≡ before ++ i ∷ after) × AreOwn p before × (p ≤ i)
-PlanRefused text p (fault.RepeatedPiece i) = (t : MergeTree) × Spells text t × (before : List ℕ) × (after : List ℕ) × (leaves t ≡ before ++ i ∷ after) × AreOwn p before × (0 < times i before)
-PlanRefused text p (fault.MissingPiece i) = (t : MergeTree) × Spells text t × AreOwn p (leaves t) × (i < p) × (times i (leaves t) ≡ 0) × ((j : ℕ) → j < i → 0 < times j (leaves t))
 PlanRefused text p fault.Memory = ⊤
+PlanRefused text p f = (t : MergeTree) × Spells text t × NumbersRefused p (leaves t) f
 
 -- ---- reading byte by byte
 -- an open parenthesis: its left tree is being read, or its right one after this left one
