@@ -230,7 +230,7 @@ level_from_split c k x front back p len split = one_level c k x _ (record {
 }) (is_level c k)
 
 -- ---- the least counter
-min_all : (n : ℕ) (c : Counters) → (fold (λ n (d : Entry). min n d.1) n c ≤ n) × AllByRecursion (λ (e : Entry). fold (λ n (d : Entry). min n d.1) n c ≤ e.1) c
+pub min_all : (n : ℕ) (c : Counters) → (fold (λ n (d : Entry). min n d.1) n c ≤ n) × AllByRecursion (λ (e : Entry). fold (λ n (d : Entry). min n d.1) n c ≤ e.1) c
 min_all n [] = (omega arith, tt)
 min_all n (e ∷ c) = let rest = min_all (min n e.1) c in (omega (arith, rest.0), (omega (arith, rest.0), rest.1))
 

@@ -9,3 +9,4 @@ pub mod Summing
 pub mod Lowering
 pub mod Stepping
 pub mod Runs
+pub mod TakingOver

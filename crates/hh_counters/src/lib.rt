@@ -5,11 +5,15 @@
 mod candidates;
 mod entries;
 pub mod laws;
+mod monitor;
 mod report;
+mod space_saving;
 mod summary;
 #[cfg(test)]
 mod tests;
 
 pub use candidates::Candidates;
+pub use monitor::Monitor;
 pub use report::Heavy;
+pub use space_saving::SpaceSaving;
 pub use summary::{AddFault, BadK, MAX_K, MergeFault, OfItemsFault, Summary};
