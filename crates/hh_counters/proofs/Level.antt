@@ -102,7 +102,7 @@ lower-cons t e c = elim (nat_lt t e.1) as (λ b. map (less_by t) (cond b (e ∷ 
 ]
 
 -- a claim on what is left of e and c, where e exceeds t and where it does not
-by_lower : (P : Counters → Type 0) (t : ℕ) (e : Entry) (c : Counters) → (t < e.1 → P ((e.0, e.1 - t) ∷ lower t c)) → (e.1 ≤ t → P (lower t c)) → P (lower t (e ∷ c))
+pub by_lower : (P : Counters → Type 0) (t : ℕ) (e : Entry) (c : Counters) → (t < e.1 → P ((e.0, e.1 - t) ∷ lower t c)) → (e.1 ≤ t → P (lower t c)) → P (lower t (e ∷ c))
 by_lower P t e c more less = rw (lower-cons t e c) (elim (nat_lt t e.1) as (λ b. nat_lt t e.1 ≡ b → P (cond b ((e.0, e.1 - t) ∷ lower t c) (lower t c))) [
   | true ↦ λ p. more (grind (arith, nat_tests, p))
   | false ↦ λ p. less (grind (arith, nat_tests, p))

@@ -10,3 +10,5 @@ pub mod Lowering
 pub mod Stepping
 pub mod Runs
 pub mod TakingOver
+pub mod Linked
+pub mod Sorting

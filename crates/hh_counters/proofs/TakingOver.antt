@@ -85,7 +85,7 @@ remove_is_without (e ∷ s) (suc i) d h l =
     let other : same_key y e.0 ≡ false = ap is_eq (flipped e.0 y Less (above_at e.0 s i d h.0 (omega arith))) in
     ap (λ (c : Counters). e ∷ c) (remove_is_without s i d h.1 (omega arith)) ∙ sym (ap (λ b. cond (not b) (e ∷ without s y) (without s y)) other)
 
-without-add_at : (s : Counters) (e : Entry) (y : Bytes) → IsCounters s → 0 < e.1 → same_key y e.0 ≡ false → without (add_at s e) y ≡ add_at (without s y) e
+pub without-add_at : (s : Counters) (e : Entry) (y : Bytes) → IsCounters s → 0 < e.1 → same_key y e.0 ≡ false → without (add_at s e) y ≡ add_at (without s y) e
 without-add_at s e y h p other =
     same_counters _ _ (counters-without (add_at s e) y (counters-add_at s e h p)) (counters-add_at (without s y) e (counters-without s y h) p)
     (λ q. weight_of-without q y (add_at s e) ∙ ap (cond (same_key q y) 0) (weight_of-add_at q s e)

@@ -2,6 +2,8 @@
 //! rows of the report that a second pass makes of their keys.
 #![tactic(auto)]
 
+mod bucket_saving;
+mod buckets;
 mod candidates;
 mod entries;
 pub mod laws;
@@ -12,6 +14,7 @@ mod summary;
 #[cfg(test)]
 mod tests;
 
+pub use bucket_saving::BucketSaving;
 pub use candidates::Candidates;
 pub use monitor::Monitor;
 pub use report::Heavy;
