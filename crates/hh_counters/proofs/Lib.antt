@@ -12,3 +12,4 @@ pub mod Runs
 pub mod TakingOver
 pub mod Linked
 pub mod Sorting
+pub mod Renaming

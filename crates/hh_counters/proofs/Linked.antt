@@ -424,3 +424,10 @@ stored_key es x i y n at is =
 pub popped : (es all left : List Entry) (e : Entry) (o : Option Entry) → all ≡ es ++ e ∷ [] → all ≡ left ++ option_to_list o → (0 < length all → IsSome o) → left ≡ es
 popped es all left e None is pop some = absurd (true≢false (sym (some (omega (arith, ap length is, length_push es e)))))
 popped es all left e (Some f) is pop some = sym (same_from_push es left e f (sym is ∙ pop)).0
+
+-- a monitored key stands in the bucket of its counter
+pub stands_there : (k m : ℕ) (es : List Entry) (b : Buckets) (x : Bytes) (n : ℕ) → IsLinked k m es b → lookup (same_key x) es ≡ Some n → has b n x ≡ true
+stands_there k m es b x n l f =
+    let at = found es x n l.distinct f in
+    let some : 0 < n = subst (λ o. IfSome o (λ m. 0 < m)) f (l.positive x) in
+    ap (λ v. has b v x) (sym at) ∙ holds (tally es) b x l.agree (omega (arith, at, some))

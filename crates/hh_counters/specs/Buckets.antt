@@ -35,6 +35,10 @@ Moves old new m n x =
     (c : ℕ) (q : Bytes) → has new c q ≡ (if is_eq (nat_cmp m c) && is_eq (key_cmp x q) then false
     else (if is_eq (nat_cmp n c) && is_eq (key_cmp x q) then true else has old c q))
 
+-- the bucket of m became that of n
+abbrev pub Renames : Buckets → Buckets → ℕ → ℕ → Type 0
+Renames old new m n = (c : ℕ) → get nat_cmp new c ≡ (if is_eq (nat_cmp n c) then get nat_cmp old m else (if is_eq (nat_cmp m c) then None else get nat_cmp old c))
+
 abbrev pub HasSame : Buckets → Buckets → Type 0
 HasSame old new = (n : ℕ) (q : Bytes) → has new n q ≡ has old n q
 

@@ -1,12 +1,12 @@
 //! Space-Saving in buckets.
 
-ghost use Rattle.std.specs.Prelude.{◌≡◌, ◌+◌, ◌-◌, ◌^◌, ◌<◌, ◌≤◌, ◌↔◌, ◌⊎◌, [], IsSome, IsErr, IfOk, IsErrOf, OnOk, OnErr, IfErr, IfSome, MatchOption, true, false, None, Some, length, slice_get};
+ghost use Rattle.std.specs.Prelude.{◌≡◌, ◌≢◌, ◌+◌, ◌-◌, ◌^◌, ◌<◌, ◌≤◌, ◌↔◌, ◌⊎◌, [], IsSome, IsErr, IfOk, IsErrOf, OnOk, OnErr, IfErr, IfSome, MatchOption, true, false, None, Some, length, slice_get};
 ghost use Rattle.std.specs.Map.{keys_of, lookup};
 ghost use Rattle.std.specs.List.{IsDistinct};
 ghost use Rattle.indexmap.specs.IndexMap.{get as index_get, index_of, IsUnique, Updates};
 ghost use Rattle.hh_stream.specs.Weights.{Bytes, key_cmp, same_key};
 ghost use Rattle.hh_counters.specs.Counters.{Sketch, IsCounters, tally, lower};
-ghost use Rattle.hh_counters.specs.Buckets.{NoneEmpty, Changes, Moves, HasSame, HasNone, IsFirst, IsLinked, IsAdded};
+ghost use Rattle.hh_counters.specs.Buckets.{has, NoneEmpty, Changes, Moves, HasSame, HasNone, IsFirst, IsLinked, IsAdded};
 
 use crate::buckets::{first, pop_first, put, shift};
 use crate::monitor::Monitor;
@@ -205,7 +205,9 @@ fn raise(
     to: u64,
     key: &Key,
 ) -> Result<(), AllocError>
-    requires { index_of same_key index.old key.now ≡ Some place }
+    requires place { index_of same_key index.old key.now ≡ Some place }
+    requires there { has buckets.old from key.now ≡ true }
+    requires apart { from ≢ to }
     ensures raised { OnOk result (Updates same_key index.old index.new key.now (Some to)) }
     ensures moved { OnOk result (Moves buckets.old buckets.new from to key.now) }
     ensures unchanged { OnErr result (index.new.entries ≡ index.old.entries) }

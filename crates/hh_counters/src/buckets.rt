@@ -1,9 +1,9 @@
 //! Keys in buckets by their counters. No bucket stays empty.
 
-ghost use Rattle.std.specs.Prelude.{◌≡◌, ◌≢◌, OnOk, OnErr, IsSome, IsTrue, IfSome, MatchOption, ◌↔◌, ◌∷◌, [], None, Some, true, false, is_some};
+ghost use Rattle.std.specs.Prelude.{◌≡◌, ◌≢◌, OnOk, OnErr, IsSome, IsTrue, IfSome, MatchOption, None, true, false, length};
 ghost use Rattle.std.specs.Ordering.{nat_cmp};
-ghost use Rattle.std.specs.BTreeMap.{get};
-ghost use Rattle.hh_counters.specs.Buckets.{has, NoneEmpty, Changes, Moves, HasSame, HasNone, IsLowest, IsFirst};
+ghost use Rattle.std.specs.BTreeMap.{get, IsUnchanged};
+ghost use Rattle.hh_counters.specs.Buckets.{has, NoneEmpty, Changes, Moves, Renames, HasSame, HasNone, IsLowest, IsFirst};
 
 use hh_stream::Key;
 use std::alloc::{AllocError, Global};
@@ -47,7 +47,8 @@ pub fn take(buckets: &mut BTreeMap<u64, BTreeSet<Key>>, counter: u64, key: &Key)
     }
 }
 
-/// Moves the key from the bucket of one counter to that of another, or leaves all as it was.
+/// Moves the key, which stands in the bucket of one counter, to that of another, or leaves all as
+/// it was. A bucket of this key alone moves as it is, where the other counter has none.
 pub fn shift(
     alloc: Global,
     buckets: &mut BTreeMap<u64, BTreeSet<Key>>,
@@ -55,13 +56,49 @@ pub fn shift(
     to: u64,
     key: &Key,
 ) -> Result<(), AllocError>
+    requires there { has buckets.old from key.now ≡ true }
+    requires apart { from ≢ to }
     ensures moved { OnOk result (Moves buckets.old buckets.new from to key.now) }
     ensures same { OnErr result (HasSame buckets.old buckets.new) }
     ensures none_empty { NoneEmpty buckets.old → NoneEmpty buckets.new }
 {
+    if holds_one(buckets, from) && !buckets.contains_key(&to) {
+        return rename(alloc, buckets, from, to);
+    }
     let copy = key.copy()?;
     put(alloc, buckets, to, copy)?;
     take(buckets, from, key);
+    Ok(())
+}
+
+// Whether the bucket of the counter has just one key.
+fn holds_one(buckets: &BTreeMap<u64, BTreeSet<Key>>, counter: u64) -> bool
+    ensures { IsTrue result → IfSome (get nat_cmp buckets.now counter) (λ bucket. length bucket.keys ≡ 1) }
+{
+    match buckets.get(&counter) {
+        Some(bucket) => bucket.len() == 1,
+        None => false,
+    }
+}
+
+// Makes the bucket of one counter that of another, which has none, or leaves all as it was.
+fn rename(
+    alloc: Global,
+    buckets: &mut BTreeMap<u64, BTreeSet<Key>>,
+    from: u64,
+    to: u64,
+) -> Result<(), AllocError>
+    requires there { IsSome (get nat_cmp buckets.old from) }
+    requires free { get nat_cmp buckets.old to ≡ None }
+    ensures renamed { OnOk result (Renames buckets.old buckets.new from to) }
+    ensures same { OnErr result (IsUnchanged buckets.old buckets.new) }
+{
+    buckets.insert(to, BTreeSet::new(alloc))?;
+    let Some(bucket) = buckets.remove(&from) else {
+        return Ok(());
+    };
+    // the counter has a bucket by now, so this takes no memory
+    buckets.insert(to, bucket)?;
     Ok(())
 }
 
