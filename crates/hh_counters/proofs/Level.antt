@@ -24,7 +24,7 @@ least_passing-le p d (n ∷ ns) = elim (p n) as (λ b. cond b (min n (least_pass
   | false ↦ least_passing-le p d ns
 ]
 
-min_is : (m n : ℕ) → (min m n ≡ m) ⊎ (min m n ≡ n)
+pub min_is : (m n : ℕ) → (min m n ≡ m) ⊎ (min m n ≡ n)
 min_is m n = ⊎_elim (λ (h : (leb m n ≡ true) × (m ≤ n)). inl (omega arith)) (λ (h : (leb m n ≡ false) × (n < m)). inr (omega arith)) (leb_tells m n)
 
 least_passing_passes : (p : ℕ → Bool) (d : ℕ) (ns : List ℕ) → p d ≡ true → p (least_passing p d ns) ≡ true
@@ -85,7 +85,7 @@ pub one_level : (c : Counters) (k s t : ℕ) → IsLevel c k s → IsLevel c k t
 one_level c k s t h g = omega (arith, h.least t g.at_most, g.least s h.at_most)
 
 -- ---- what lowering by t leaves
-lower-nil : (t : ℕ) → lower t [] ≡ []
+pub lower-nil : (t : ℕ) → lower t [] ≡ []
 unfolding lower
 lower-nil t = refl
 
@@ -94,7 +94,7 @@ unfolding lower
 length-lower t [] = refl
 length-lower t (e ∷ c) = grind (arith, nat_tests, over-cons e c t, length-lower t c)
 
-lower-cons : (t : ℕ) (e : Entry) (c : Counters) → lower t (e ∷ c) ≡ cond (nat_lt t e.1) ((e.0, e.1 - t) ∷ lower t c) (lower t c)
+pub lower-cons : (t : ℕ) (e : Entry) (c : Counters) → lower t (e ∷ c) ≡ cond (nat_lt t e.1) ((e.0, e.1 - t) ∷ lower t c) (lower t c)
 unfolding lower
 lower-cons t e c = elim (nat_lt t e.1) as (λ b. map (less_by t) (cond b (e ∷ filter (exceeds t) c) (filter (exceeds t) c)) ≡ cond b ((e.0, e.1 - t) ∷ lower t c) (lower t c)) [
   | true ↦ refl
@@ -102,7 +102,7 @@ lower-cons t e c = elim (nat_lt t e.1) as (λ b. map (less_by t) (cond b (e ∷ 
 ]
 
 -- a claim on what is left of e and c, where e exceeds t and where it does not
-by_lower : (P : Counters → Type 0) (t : ℕ) (e : Entry) (c : Counters) → (t < e.1 → P ((e.0, e.1 - t) ∷ lower t c)) → (e.1 ≤ t → P (lower t c)) → P (lower t (e ∷ c))
+pub by_lower : (P : Counters → Type 0) (t : ℕ) (e : Entry) (c : Counters) → (t < e.1 → P ((e.0, e.1 - t) ∷ lower t c)) → (e.1 ≤ t → P (lower t c)) → P (lower t (e ∷ c))
 by_lower P t e c more less = rw (lower-cons t e c) (elim (nat_lt t e.1) as (λ b. nat_lt t e.1 ≡ b → P (cond b ((e.0, e.1 - t) ∷ lower t c) (lower t c))) [
   | true ↦ λ p. more (grind (arith, nat_tests, p))
   | false ↦ λ p. less (grind (arith, nat_tests, p))
@@ -230,7 +230,7 @@ level_from_split c k x front back p len split = one_level c k x _ (record {
 }) (is_level c k)
 
 -- ---- the least counter
-min_all : (n : ℕ) (c : Counters) → (fold (λ n (d : Entry). min n d.1) n c ≤ n) × AllByRecursion (λ (e : Entry). fold (λ n (d : Entry). min n d.1) n c ≤ e.1) c
+pub min_all : (n : ℕ) (c : Counters) → (fold (λ n (d : Entry). min n d.1) n c ≤ n) × AllByRecursion (λ (e : Entry). fold (λ n (d : Entry). min n d.1) n c ≤ e.1) c
 min_all n [] = (omega arith, tt)
 min_all n (e ∷ c) = let rest = min_all (min n e.1) c in (omega (arith, rest.0), (omega (arith, rest.0), rest.1))
 

@@ -6,3 +6,10 @@ pub mod Reports
 pub mod Places
 pub mod Counting
 pub mod Summing
+pub mod Lowering
+pub mod Stepping
+pub mod Runs
+pub mod TakingOver
+pub mod Linked
+pub mod Sorting
+pub mod Renaming

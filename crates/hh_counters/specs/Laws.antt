@@ -1,8 +1,9 @@
 -- What holds of the definitions.
-use Rattle.std.specs.Prelude.{◌≡◌, ℕ, ◌+◌, ◌-◌, ◌*◌, ◌<◌, ◌≤◌, List, ◌++◌, filter, zip, length, replicate, Contains, IsPermutation}
+use Rattle.std.specs.Prelude.{◌≡◌, ℕ, ◌+◌, ◌-◌, ◌*◌, ◌<◌, ◌≤◌, List, ◌++◌, All, filter, zip, length, replicate, Contains, IsPermutation}
 use Rattle.std.specs.Map.{keys_of}
 use Rattle.hh_stream.specs.Weights.{Bytes, Entry, weight_of, total_of}
 use Rattle.hh_counters.specs.Counters.{Counters, IsCounters, IsLevel, level, plus, join, misra_gries, IsHonest, slack}
+use Rattle.hh_counters.specs.SpaceSaving.{least_of, translate, IsRun, space_saving}
 use Rattle.hh_counters.specs.Report.{heavy, selected, weights_at, counted, has_counter, IsReport}
 
 -- the counters of a stream are honest for it
@@ -69,3 +70,22 @@ abbrev pub CountsAddUp : Type 0
 CountsAddUp =
     (ks : List Bytes) (xs ys : List Entry) (ns : List ℕ)
     → (counted ks xs (replicate (length ks) 0) ≡ weights_at ks xs) × (counted ks (xs ++ ys) ns ≡ counted ks ys (counted ks xs ns))
+
+-- the counters of a run add up to the items' total
+abbrev pub RunSumsToTotal : Type 0
+RunSumsToTotal = (xs : List Entry) (k : ℕ) (s : Counters) → All (λ e. 0 < e.1) xs → IsRun xs k s → total_of s ≡ total_of xs
+
+-- a monitored key's counter is at least its weight, and above it by at most the least counter; no other key weighs more than that
+abbrev pub RunBoundsWeights : Type 0
+RunBoundsWeights =
+    (xs : List Entry) (k : ℕ) (s : Counters) → All (λ e. 0 < e.1) xs → IsRun xs k s → (x : Bytes)
+    → (0 < weight_of x s → (weight_of x xs ≤ weight_of x s) × (weight_of x s ≤ weight_of x xs + least_of s k))
+    × (weight_of x s ≡ 0 → weight_of x xs ≤ least_of s k)
+
+-- a run, translated, is Misra-Gries, whichever least keys were dropped
+abbrev pub TranslationIsMisraGries : Type 0
+TranslationIsMisraGries = (xs : List Entry) (k : ℕ) (s : Counters) → All (λ e. 0 < e.1) xs → IsRun xs k s → translate s k ≡ misra_gries xs k
+
+-- the product's steps make a run
+abbrev pub StepsAreARun : Type 0
+StepsAreARun = (xs : List Entry) (k : ℕ) → All (λ e. 0 < e.1) xs → IsRun xs k (space_saving xs k)

@@ -1,6 +1,6 @@
 //! Laws of the definitions in `specs/`. Each function does nothing: its contract is the law.
 
-ghost use Rattle.hh_counters.specs.Laws.{MisraGriesIsHonest, JoinOfHonestIsHonest, HeavyKeysHaveCounters, CountersBoundWeights, LevelIsLeast, SumIsByKey, JoinTakesTheLevel, ReportIsExact, ReportIsUnique, HonestIsNear, HonestInAnyOrder, CandidatesSuffice, CountsAddUp};
+ghost use Rattle.hh_counters.specs.Laws.{MisraGriesIsHonest, JoinOfHonestIsHonest, HeavyKeysHaveCounters, CountersBoundWeights, LevelIsLeast, SumIsByKey, JoinTakesTheLevel, ReportIsExact, ReportIsUnique, HonestIsNear, HonestInAnyOrder, CandidatesSuffice, CountsAddUp, RunSumsToTotal, RunBoundsWeights, TranslationIsMisraGries, StepsAreARun};
 
 /// The Misra-Gries counters of a list of items are honest for it (Misra and Gries 1982).
 pub fn misra_gries_is_honest()
@@ -54,4 +54,18 @@ pub fn candidates_suffice()
 /// Candidates counted from 0 have their weights, and counting piece by piece is counting all.
 pub fn counts_add_up()
     ensures { CountsAddUp }
+{}
+
+/// The counters of any run of Space-Saving, whichever least keys were dropped, add up to the total,
+/// and lie above their keys' weights by at most the least counter.
+pub fn space_saving_bounds_weights()
+    ensures total { RunSumsToTotal }
+    ensures bounds { RunBoundsWeights }
+{}
+
+/// Any run of Space-Saving, whichever least keys were dropped, translates to the Misra-Gries
+/// counters (Agarwal et al., PODS 2012). The product's own steps make such a run.
+pub fn translation_is_misra_gries()
+    ensures translation { TranslationIsMisraGries }
+    ensures steps { StepsAreARun }
 {}
