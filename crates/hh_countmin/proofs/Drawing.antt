@@ -50,7 +50,7 @@ rows_in_range (a ∷ b ∷ words) =
     let factor = factor_in_range a in
     ((factor.0, factor.1, mod_below b modulus (omega arith)), rows_in_range words)
 
-length-next_rows : (depth : ℕ) (g : Lcg) → length (next_rows depth g) ≡ depth
+pub length-next_rows : (depth : ℕ) (g : Lcg) → length (next_rows depth g) ≡ depth
 unfolding first_words
 length-next_rows zero g = refl
 length-next_rows (suc depth) g = ap length (next_rows-suc (suc depth) depth g refl) ∙ ap suc (length-next_rows depth (pcg64 (pcg64 g).1).1)

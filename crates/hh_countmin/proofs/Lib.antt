@@ -1,1 +1,7 @@
+pub mod Cells
 pub mod Drawing
+pub mod Estimates
+pub mod Families
+pub mod Powers
+pub mod Raising
+pub mod Tables

@@ -1,2 +1,4 @@
 pub mod Family
 pub mod FamilyEq
+pub mod Laws
+pub mod Table

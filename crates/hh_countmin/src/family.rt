@@ -5,7 +5,7 @@ ghost use Rattle.hh_countmin.specs.Family.{IsDepth, IsWidth, IsFamily, AreCoeffi
 ghost use Rattle.rand_core.specs.Steps.{first_words};
 ghost use Rattle.rand_pcg.specs.Pcg.{pcg64};
 
-use crate::modulus::{MODULUS, multiply_add};
+use crate::modulus::{MODULUS, multiply_add, remainder};
 use hh_stream::Key;
 use rand_core::SeedableRng;
 use rand_core::utils::NextWord;
@@ -164,7 +164,7 @@ impl Family {
         ensures within { result < width }
     {
         let (a, b) = self.row(r);
-        multiply_add(a, fingerprint, b) % width
+        remainder(multiply_add(a, fingerprint, b), width)
     }
 }
 

@@ -3,9 +3,12 @@
 #![tactic(auto)]
 
 mod family;
+pub mod laws;
 mod modulus;
+mod table;
 #[cfg(test)]
 mod tests;
 
 pub use family::{DrawFault, Family, MAX_DEPTH, MAX_WIDTH, PartsFault};
 pub use modulus::MODULUS;
+pub use table::{MergeFault, Table, TableFault, TotalTooLarge};

@@ -1,4 +1,4 @@
-//! Arithmetic modulo 2^61 - 1.
+//! Arithmetic modulo 2^61 - 1, and modulo a width.
 
 ghost use Rattle.std.specs.Prelude.{◌≡◌, ◌+◌, ◌*◌, ◌<◌, ◌≤◌, ◌%◌};
 
@@ -20,4 +20,17 @@ pub fn multiply_add(a: u64, b: u64, c: u64) -> u64
     let high = (wide >> 61) as u64;
     let sum = low + high;
     if sum < MODULUS { sum } else { sum - MODULUS }
+}
+
+/// `number % width`, without a division where the width is a power of two.
+#[inline]
+pub fn remainder(number: u64, width: u64) -> u64
+    requires { 0 < width }
+    ensures { result ≡ number % width }
+{
+    if width.is_power_of_two() {
+        number & (width - 1)
+    } else {
+        number % width
+    }
 }

@@ -1,7 +1,7 @@
 //! The worked rows on families and tables.
 
-use crate::{DrawFault, Family, MODULUS, PartsFault};
-use hh_stream::Key;
+use crate::{DrawFault, Family, MODULUS, MergeFault, PartsFault, Table, TableFault, TotalTooLarge};
+use hh_stream::{Key, MAX_TOTAL};
 use std::test::Fail;
 
 // With these coefficients a short key's fingerprint is its bytes, each raised by one, as digits to
@@ -72,5 +72,89 @@ fn parts_make_families(rt: HostRuntime) -> Result<(), Fail> {
     for (z, rows, fault) in refused {
         assert_eq!(rt; Family::from_parts(alloc, z, rows).err(), Some(fault));
     }
+    Ok(())
+}
+
+// A table of width 4 of these items.
+fn table_of(rt: &HostRuntime, items: &[(&[u8], u64)]) -> Result<Table, Fail> {
+    let mut table = Table::new(rt.alloc(), plain_family(rt)?, 4)?;
+    for (bytes, weight) in items {
+        table.add(&Key::new(rt.alloc(), bytes)?, *weight)?;
+    }
+    Ok(table)
+}
+
+// The cells of a 5, e 2, b 1.
+const CELLS: [u64; 8] = [0, 0, 7, 1, 0, 0, 1, 7];
+
+#[test]
+fn cells_hold_the_weights_that_fall_on_them(rt: HostRuntime) -> Result<(), Fail> {
+    let alloc = rt.alloc();
+    let whole = table_of(&rt, &[(b"a", 5), (b"e", 2), (b"b", 1)])?;
+    let mut merged = table_of(&rt, &[(b"a", 5)])?;
+    merged.merge(&table_of(&rt, &[(b"e", 2)])?)?;
+    merged.merge(&table_of(&rt, &[(b"b", 1)])?)?;
+    for table in [&whole, &merged] {
+        assert_eq!(rt; table.cells(), CELLS.as_slice());
+        assert_eq!(rt; table.total(), 8);
+        assert_eq!(rt; table.estimate(&Key::new(alloc, b"a")?), 7);
+        assert_eq!(rt; table.estimate(&Key::new(alloc, b"b")?), 1);
+    }
+    assert!(rt; *whole.family() == plain_family(&rt)?);
+    assert!(rt; whole.family().depth() == 2 && whole.width() == 4);
+    assert_eq!(rt; whole.cell_at(1, 3), 7);
+    Ok(())
+}
+
+#[test]
+fn unlike_tables_are_not_merged(rt: HostRuntime) -> Result<(), Fail> {
+    let alloc = rt.alloc();
+    let mut table = table_of(&rt, &[(b"a", 5)])?;
+    let other_family = Family::from_parts(alloc, 256, &[(1, 0), (3, 2)])?;
+    let other = Table::new(alloc, other_family, 4)?;
+    assert_eq!(rt; table.merge(&other), Err(MergeFault::DifferentFamily));
+    let wider = Table::new(alloc, plain_family(&rt)?, 5)?;
+    assert_eq!(rt; table.merge(&wider), Err(MergeFault::DifferentWidth));
+    assert_eq!(rt; table.total(), 5);
+    Ok(())
+}
+
+#[test]
+fn widths_are_1_to_65536(rt: HostRuntime) -> Result<(), Fail> {
+    let alloc = rt.alloc();
+    for width in [0, 65_537] {
+        let refused = Table::new(alloc, plain_family(&rt)?, width).err();
+        assert_eq!(rt; refused, Some(TableFault::BadWidth));
+    }
+    assert_eq!(rt;
+        Table::new(alloc, plain_family(&rt)?, 65_536)?.width(),
+        65_536
+    );
+    Ok(())
+}
+
+#[test]
+fn totals_stay_in_range(rt: HostRuntime) -> Result<(), Fail> {
+    let mut table = table_of(&rt, &[(b"x", MAX_TOTAL)])?;
+    let before = table.cells().to_vec(rt.alloc())?;
+    let key = Key::new(rt.alloc(), b"y")?;
+    assert_eq!(rt; table.add(&key, 1), Err(TotalTooLarge));
+    let other = table_of(&rt, &[(b"y", 1)])?;
+    assert_eq!(rt; table.merge(&other), Err(MergeFault::TotalTooLarge));
+    assert_eq!(rt; table.cells(), before.as_slice());
+    assert_eq!(rt; table.total(), MAX_TOTAL);
+    Ok(())
+}
+
+#[test]
+fn cells_make_tables_where_rows_sum_to_the_total(rt: HostRuntime) -> Result<(), Fail> {
+    let family = plain_family(&rt)?;
+    let one_too_many = [0, 0, 7, 1, 0, 0, 1, 7, 0];
+    assert!(rt; !Table::fits(&family, 4, 9, &CELLS));
+    assert!(rt; !Table::fits(&family, 4, 8, &one_too_many));
+    let cells = CELLS.to_vec(rt.alloc())?;
+    assert!(rt; Table::fits(&family, 4, 8, &cells));
+    let table = Table::from_cells(family, 4, 8, cells);
+    assert_eq!(rt; table.estimate(&Key::new(rt.alloc(), b"a")?), 7);
     Ok(())
 }

@@ -3,3 +3,7 @@ pub mod MergeFacts
 pub mod ValueFacts
 pub mod ReadingFacts
 pub mod NumberFacts
+pub mod Pieces
+pub mod Tried
+pub mod Alone
+pub mod Closed

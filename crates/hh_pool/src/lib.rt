@@ -2,16 +2,24 @@
 //! of a stream, whose outcome is the same whatever worker does which piece.
 #![tactic(auto)]
 
+mod analysis;
+mod first;
 mod gate;
 mod merging;
 mod options;
+mod outcome;
 mod pass;
 mod plan;
 mod reading;
+mod second;
 mod workers;
 
+pub use analysis::analyse;
+pub use first::first_pass;
 pub use gate::{Gate, OpenGate};
 pub use merging::merge_by;
 pub use options::{MAX_WORKERS, Options, OptionsFault};
+pub use outcome::{Outcome, RunError};
 pub use plan::{MAX_PIECES, Plan};
 pub use reading::PlanFault;
+pub use second::second_pass;

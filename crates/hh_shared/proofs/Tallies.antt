@@ -109,6 +109,18 @@ sum_by-all n f xs d all = sum_by-times n f xs d.below ∙ sum_below-same n (λ j
     let one : times j xs ≡ 1 = omega (arith, all.has j l, d.once j) in
     ap (λ t. t * f j) one ∙ one-mul (f j))
 
+at-most-once : (t m : ℕ) → t < 2 → t * m ≤ m
+at-most-once zero m once = omega (arith, zero-mul m)
+at-most-once (suc t) m once = let one : suc t ≡ 1 = omega arith in omega (arith, ap (λ k. k * m) one, one-mul m)
+
+-- a sum over distinct numbers below n is at most the sum over all of them
+pub sum_by-distinct : (n : ℕ) (f : ℕ → ℕ) (xs : List ℕ) → IsDistinctBelow n xs → sum_by f xs ≤ sum_below n f
+sum_by-distinct n f xs d = omega (arith, sum_by-times n f xs d.below, each n)
+  where
+    each : (m : ℕ) → sum_below m (λ j. times j xs * f j) ≤ sum_below m f
+    each zero = omega arith
+    each (suc m) = omega (arith, each m, at-most-once (times m xs) (f m) (d.once m))
+
 sum_below-le : (n : ℕ) (f : ℕ → ℕ) → ((j : ℕ) → f j < 2) → sum_below n f ≤ n
 sum_below-le zero f once = omega arith
 sum_below-le (suc n) f once = omega (arith, once n, sum_below-le n f once)

@@ -1,0 +1,274 @@
+//! Count-Min tables.
+
+ghost use Rattle.std.specs.Prelude.{◌≡◌, ◌≢◌, ◌+◌, ◌*◌, ◌<◌, ◌≤◌, ◌^◌, ◌↔◌, ◌⊎◌, ◌==◌, ℕ, cond, sum, length, slice_index, IfOk, OnOk, OnErr, IsErr, IsErrOf, IsTrue, EachIndex};
+ghost use Rattle.hh_countmin.specs.Family.{IsWidth, row_of, cell_of_fingerprint};
+ghost use Rattle.hh_countmin.specs.Table.{Fits, row_at, cell_at, cells_by, empty_table, added, merged, estimate_in};
+
+use crate::family::{Family, MAX_WIDTH};
+use crate::modulus::MODULUS;
+use hh_stream::{Key, MAX_TOTAL};
+use std::alloc::Global;
+use std::marker::Model;
+
+/// A Count-Min table (Cormode and Muthukrishnan 2005): rows of `width` cells, one row for each row of
+/// its hash family. An item adds its weight to one cell of each row, so each row adds up to the total,
+/// and the least of a key's cells is never below the key's weight.
+#[derive(Debug, Drop)]
+pub struct Table {
+    family: Family,
+    width: u64,
+    total: u64,
+    // row by row
+    cells: Vec<u64>,
+}
+
+impl Model for Table {
+    ghost use Rattle.hh_countmin.specs.Table.{Grid, Fits};
+
+    ghost Value = { Grid };
+
+    ghost view = { λ table. record { family = table.family; width = table.width; total = table.total; cells = table.cells.items } };
+
+    ghost invariant = { λ table. Fits table.family table.width table.total table.cells.items };
+}
+
+/// Why there is no table.
+#[derive(Clone, Copy, Debug, PartialEq, Eq)]
+pub enum TableFault {
+    /// The width is not 1 to 65,536.
+    BadWidth,
+    /// The allocator had no memory.
+    Memory,
+}
+
+/// The total would be above [`MAX_TOTAL`].
+#[derive(Clone, Copy, Debug, PartialEq, Eq)]
+pub struct TotalTooLarge;
+
+/// Why a table was not merged.
+#[derive(Clone, Copy, Debug, PartialEq, Eq)]
+pub enum MergeFault {
+    /// The hash families differ.
+    DifferentFamily,
+    /// The widths differ.
+    DifferentWidth,
+    /// The total would be above [`MAX_TOTAL`].
+    TotalTooLarge,
+}
+
+impl Table {
+    /// A table whose cells are all 0.
+    pub fn new(alloc: Global, family: Family, width: u64) -> Result<Table, TableFault>
+        ensures table { IfOk result (λ table. table ≡ empty_table family width) }
+        ensures bad_width { IsErrOf result TableFault.BadWidth ↔ ((width ≡ 0) ⊎ (MAX_WIDTH < width)) }
+    {
+        if width == 0 || width > MAX_WIDTH {
+            return Err(TableFault::BadWidth);
+        }
+        let len = (family.depth() * width) as usize;
+        match vec![in alloc; 0; len] {
+            Ok(cells) => Ok(Table {
+                family,
+                width,
+                total: 0,
+                cells,
+            }),
+            Err(_) => Err(TableFault::Memory),
+        }
+    }
+
+    /// Whether these are the parts of a table: the width is 1 to 65,536, the total is at most
+    /// [`MAX_TOTAL`], and there are as many rows of `width` cells as the family has, each of which adds
+    /// up to the total.
+    pub fn fits(family: &Family, width: u64, total: u64, cells: &[u64]) -> bool
+        ensures { IsTrue result ↔ Fits family.now width total cells.now }
+    {
+        1 <= width
+            && width <= MAX_WIDTH
+            && total <= MAX_TOTAL
+            && cells.len() as u64 == family.depth() * width
+            && rows_sum_to(cells, family.depth() as usize, width as usize, total)
+    }
+
+    /// The table with these cells, which lie row by row.
+    pub fn from_cells(family: Family, width: u64, total: u64, cells: Vec<u64>) -> Table
+        requires { Fits family width total cells.items }
+        ensures { result ≡ record { family = family; width = width; total = total; cells = cells.items } }
+    {
+        Table {
+            family,
+            width,
+            total,
+            cells,
+        }
+    }
+
+    /// Adds an item's weight to the key's cell of each row. After a refusal the table is as it was.
+    pub fn add(&mut self, key: &Key, weight: u64) -> Result<(), TotalTooLarge>
+        ensures added { OnOk result (self.new ≡ added self.old (key.now, weight)) }
+        ensures unchanged { OnErr result (self.new ≡ self.old) }
+        ensures too_large { IsErr result ↔ (MAX_TOTAL < self.old.total + weight) }
+    {
+        if weight > MAX_TOTAL - self.total {
+            return Err(TotalTooLarge);
+        }
+        let fingerprint = self.family.fingerprint(key);
+        raise_cells(
+            &mut self.cells,
+            &self.family,
+            self.width,
+            fingerprint,
+            weight,
+        );
+        self.total += weight;
+        Ok(())
+    }
+
+    /// Adds the cells and the total of a table of the same family and width. After a refusal the
+    /// table is as it was.
+    pub fn merge(&mut self, other: &Table) -> Result<(), MergeFault>
+        ensures merged { OnOk result (self.new ≡ merged self.old other.now) }
+        ensures unchanged { OnErr result (self.new ≡ self.old) }
+
+        ensures different_family { IsErrOf result MergeFault.DifferentFamily ↔ (self.old.family ≢ other.now.family) }
+        ensures different_width { IsErrOf result MergeFault.DifferentWidth ↔ ((self.old.family ≡ other.now.family) × (self.old.width ≢ other.now.width)) }
+        ensures too_large { IsErrOf result MergeFault.TotalTooLarge ↔ ((self.old.family ≡ other.now.family) × (self.old.width ≡ other.now.width) × (MAX_TOTAL < self.old.total + other.now.total)) }
+    {
+        if !are_one(&self.family, &other.family) {
+            return Err(MergeFault::DifferentFamily);
+        }
+        if self.width != other.width {
+            return Err(MergeFault::DifferentWidth);
+        }
+        if other.total > MAX_TOTAL - self.total {
+            return Err(MergeFault::TotalTooLarge);
+        }
+        add_cells(&mut self.cells, &other.cells);
+        self.total += other.total;
+        Ok(())
+    }
+
+    /// The least of the key's cells: at least the key's weight among the items added.
+    pub fn estimate(&self, key: &Key) -> u64
+        ensures estimate { result ≡ estimate_in self.now key.now }
+    {
+        let depth = self.family.depth();
+        let fingerprint = self.family.fingerprint(key);
+        let mut least = self.cell_of_fingerprint(0, fingerprint);
+        for r in 1..depth {
+            least = least.min(self.cell_of_fingerprint(r, fingerprint));
+        }
+        least
+    }
+
+    /// Cell `c` of row `r`.
+    pub fn cell_at(&self, r: u64, c: u64) -> u64
+        requires row { r < length self.now.family.rows }
+        requires cell { c < self.now.width }
+        ensures { result ≡ cell_at self.now.width self.now.cells r c }
+    {
+        self.cells[(r * self.width + c) as usize]
+    }
+
+    // What the cell holds that a fingerprint has in row `r`.
+    fn cell_of_fingerprint(&self, r: u64, fingerprint: u64) -> u64
+        requires row { r < length self.now.family.rows }
+        requires fingerprint { fingerprint < MODULUS }
+        ensures { result ≡ cell_at self.now.width self.now.cells r (cell_of_fingerprint (row_of self.now.family r) fingerprint self.now.width) }
+    {
+        self.cell_at(
+            r,
+            self.family.cell_of_fingerprint(r, fingerprint, self.width),
+        )
+    }
+
+    /// The cells, row by row.
+    pub fn cells(&self) -> &[u64]
+        ensures { result.now ≡ self.now.cells }
+    {
+        &self.cells
+    }
+
+    /// The sum of the weights of all items.
+    pub fn total(&self) -> u64
+        ensures total { result ≡ self.now.total }
+        ensures fits { Fits self.now.family self.now.width self.now.total self.now.cells }
+    {
+        self.total
+    }
+
+    /// How many cells a row has.
+    pub fn width(&self) -> u64
+        ensures width { result ≡ self.now.width }
+        ensures in_range { IsWidth result }
+    {
+        self.width
+    }
+
+    /// The hash family.
+    pub fn family(&self) -> &Family
+        ensures { result.now ≡ self.now.family }
+    {
+        &self.family
+    }
+}
+
+// Whether two families are one.
+fn are_one(family: &Family, other: &Family) -> bool
+    ensures { IsTrue result ↔ (family.now ≡ other.now) }
+{
+    family == other
+}
+
+// Adds the weight to the cell that the fingerprint has in each row.
+fn raise_cells(cells: &mut [u64], family: &Family, width: u64, fingerprint: u64, weight: u64)
+    requires all_cells { length cells.old ≡ length family.now.rows * width }
+    requires width { IsWidth width }
+    requires fingerprint { fingerprint < MODULUS }
+    requires room { EachIndex cells.old (λ i. slice_index cells.old i + weight < 2 ^ 64) }
+    ensures { cells.new ≡ cells_by (λ r c. cell_at width cells.old r c + cond (cell_of_fingerprint (row_of family.now r) fingerprint width == c) weight 0) (length family.now.rows) width }
+{
+    for r in 0..family.depth() {
+        let cell = r * width + family.cell_of_fingerprint(r, fingerprint, width);
+        cells[cell as usize] += weight;
+    }
+}
+
+// Adds other cells, one by one.
+fn add_cells(cells: &mut [u64], others: &[u64])
+    requires as_many { length cells.old ≡ length others.now }
+    requires room { EachIndex cells.old (λ i. slice_index cells.old i + slice_index others.now i < 2 ^ 64) }
+    ensures { EachIndex cells.new (λ i. slice_index cells.new i ≡ slice_index cells.old i + slice_index others.now i) }
+{
+    for i in 0..cells.len() {
+        cells[i] += others[i];
+    }
+}
+
+// Whether each row adds up to the total.
+fn rows_sum_to(cells: &[u64], depth: usize, width: usize, total: u64) -> bool
+    requires { length cells.now ≡ depth * width }
+    ensures { IsTrue result ↔ ((r : ℕ) → r < depth → sum (row_at width cells.now r) ≡ total) }
+{
+    for r in 0..depth {
+        let start = r * width;
+        if !sums_to(&cells[start..start + width], total) {
+            return false;
+        }
+    }
+    true
+}
+
+// Whether the cells add up to the total.
+fn sums_to(cells: &[u64], total: u64) -> bool
+    ensures { IsTrue result ↔ (sum cells.now ≡ total) }
+{
+    let mut left = total;
+    for &cell in cells {
+        if cell > left {
+            return false;
+        }
+        left -= cell;
+    }
+    left == 0
+}

@@ -1,0 +1,37 @@
+use Rattle.std.proofs.Common.{◌≡◌, ◌≤◌, ◌<◌, ◌*◌, ◌∙◌, ℕ, List, length, map, refl, sym, ap, subst, arith}
+use Rattle.std.specs.List.{range_with_len}
+use Rattle.hh_stream.specs.Weights.{Entry, total_of, max_total}
+use Rattle.hh_stream.specs.Cuttings.{pieces_of}
+use Rattle.hh_stream.proofs.CuttingFacts.{pieces-whole}
+use Rattle.hh_counters.specs.Counters.{Sketch, sketch_of}
+use Rattle.hh_shared.specs.Tally.{IsDistinctBelow, HasAllBelow}
+use Rattle.hh_pool.specs.Passes.{piece_of}
+use Rattle.hh_pool.proofs.Pieces.{length-pieces_of}
+use Rattle.hh_pool.proofs.Closed.{closed_cells, found_are, by_number}
+use Rattle.hh_pool.proofs.analysis.summarise.Goals as goal
+
+pub table_of_cells-requires : goal.table_of_cells-requires
+table_of_cells-requires g c =
+    let lengths = c.args.cutting.now in
+    let stream = c.args.stream.now in
+    let options = c.args.options.now in
+    let seat = c.in_ok-seat.seat in
+    let count = c.in_ok-sums.ensures.claims ∙ (c.count.ensures.count ∙ sym (length-pieces_of lengths stream)) in
+    let distinct = subst (λ n. IsDistinctBelow n seat.claims) count c.if-not-holds_all.ensures.distinct in
+    let all = subst (λ n. HasAllBelow n seat.claims) count (c.if-not-holds_all.ensures.all.0 refl) in
+    let low : total_of stream ≤ max_total = omega (arith, c.total-total.ensures.total, c.total-total.ensures.bounded) in
+    let depth = c.depth.ensures.depth ∙ ap (λ f. length f.rows) c.family.ensures.family in
+    let cells : c.in_ok-sums.sums.cells ≡ length options.family.rows * options.width = c.in_ok-sums.ensures.cells ∙ (λ i. depth i * c.width.ensures.width i) in
+    let closed = c.in_ok-cells.ensures in
+    closed_cells (pieces_of lengths stream) stream options seat _ c.in_ok-cells.cells.items (pieces-whole lengths stream c.requires) low c.in_ok-seat.ensures.done distinct all
+        (omega (arith, closed.len, c.in_ok-cells.cells.ok))
+        (λ cell inside. closed.sums cell (omega arith))
+
+pub returns-clause-summaries : goal.returns-clause-summaries
+returns-clause-summaries g c =
+    let pieces = pieces_of c.args.cutting.now c.args.stream.now in
+    let k = c.args.options.now.k in
+    let count = c.count-2.ensures.count ∙ sym (length-pieces_of c.args.cutting.now c.args.stream.now) in
+    let found = found_are k pieces c.in_ok-seat.seat.claims c.in_ok-seat.found.items c.in_ok-seat.ensures.done.summaries in
+    let ordered = rw c.in-Some.is at (c.in_ok-summaries.ensures (λ i. sketch_of k (piece_of pieces i)) found) in
+    ordered ∙ (ap (λ n. map (λ i. sketch_of k (piece_of pieces i)) (range_with_len 0 n)) count ∙ by_number k pieces)

@@ -1,0 +1,193 @@
+//! The analysis of a stream: two passes by workers, and a merge between them.
+
+ghost use Rattle.std.specs.Prelude.{◌≡◌, ◌≢◌, ◌+◌, ◌≤◌, ◌<◌, ◌∷◌, ◌↔◌, ℕ, All, length, map, sum, IfOk, IfSome, IsErrOf};
+ghost use Rattle.std.specs.List.{range_with_len};
+ghost use Rattle.hh_stream.specs.Cuttings.{pieces_of};
+ghost use Rattle.hh_counters.specs.Counters.{Sketch, sketch_of};
+ghost use Rattle.hh_counters.specs.Report.{weights_at, heavy};
+ghost use Rattle.hh_countmin.specs.Table.{table_of};
+ghost use Rattle.hh_pool.specs.Settings.{IsWorkers};
+ghost use Rattle.hh_pool.specs.Trees.{IsMergeTree, leaves};
+ghost use Rattle.hh_pool.specs.Outcomes.{IsMerged};
+
+use crate::first::FirstPass;
+use crate::gate::Gate;
+use crate::merging::merge_by;
+use crate::options::Options;
+use crate::outcome::{Outcome, RunError};
+use crate::plan::Plan;
+use crate::second::SecondPass;
+use crate::workers::run_apart;
+use hh_counters::{Candidates, MergeFault, Summary};
+use hh_countmin::Table;
+use hh_shared::SharedSums;
+use hh_stream::{Cutting, Stream};
+use std::alloc::{AllocError, Global};
+use std::sync::Wait;
+use std::thread::Threads;
+
+/// The summaries in the order of their numbers, where they are those of 0, 1 and so on up to `count`.
+fn in_order(
+    alloc: Global,
+    mut found: Vec<(usize, Summary)>,
+    count: usize,
+) -> Result<Option<Vec<Summary>>, AllocError>
+    ensures { (f : ℕ → Sketch) → All (λ it. it.1 ≡ f it.0) found.items → IfOk result (λ all. IfSome all (λ summaries. summaries.items ≡ map f (range_with_len 0 count))) }
+{
+    found.sort_unstable_by(|a, b| b.0.cmp(&a.0));
+    let mut summaries = Vec::new(alloc);
+    for number in 0..count {
+        match found.pop() {
+            Some((n, summary)) if n == number => summaries.push(summary)?,
+            _ => return Ok(None),
+        }
+    }
+    Ok(Some(summaries))
+}
+
+/// The table of the stream, whose cells these are.
+fn table_of_cells(stream: &Stream, options: &Options, cells: Vec<u64>) -> Result<Table, AllocError>
+    requires { cells.items ≡ (table_of options.now.family options.now.width stream.now).cells }
+    ensures { IfOk result (λ table. table ≡ table_of options.now.family options.now.width stream.now) }
+{
+    let family = options.family().copy()?;
+    Ok(Table::from_cells(
+        family,
+        options.width(),
+        stream.total(),
+        cells,
+    ))
+}
+
+/// The first pass: the summaries of the pieces, in order, and the table of the stream.
+fn summarise<R: Threads + Wait + Sync, G: Gate + Sync>(
+    rt: &R,
+    alloc: Global,
+    stream: &Stream,
+    cutting: &Cutting,
+    options: &Options,
+    gate: &G,
+) -> Result<(Vec<Summary>, Table), AllocError>
+    requires { sum cutting.now ≡ length stream.now }
+    ensures summaries { IfOk result (λ r. r.0.items ≡ map (sketch_of options.now.k) (pieces_of cutting.now stream.now)) }
+    ensures table { IfOk result (λ r. r.1 ≡ table_of options.now.family options.now.width stream.now) }
+{
+    let pass = FirstPass {
+        alloc,
+        stream,
+        cutting,
+        options,
+        gate,
+    };
+    let cells = (options.family().depth() * options.width()) as usize;
+    let (sums, seat) = SharedSums::new(alloc, cutting.count(), cells)?;
+    let (seat, found) = run_apart(rt, &sums, seat, &pass, options.workers())?;
+    if !sums.holds_all(&seat) {
+        return pass.alone();
+    }
+    let Some(summaries) = in_order(alloc, found, cutting.count())? else {
+        return pass.alone();
+    };
+    // It bounds the sums.
+    let _total = stream.total();
+    let cells = sums.close(seat)?;
+    Ok((summaries, table_of_cells(stream, options, cells)?))
+}
+
+/// The second pass: the weight of each candidate in the stream.
+fn weigh<R: Threads + Wait + Sync, G: Gate + Sync>(
+    rt: &R,
+    alloc: Global,
+    stream: &Stream,
+    cutting: &Cutting,
+    candidates: &Candidates,
+    workers: u64,
+    gate: &G,
+) -> Result<Vec<u64>, AllocError>
+    requires same_len { sum cutting.now ≡ length stream.now }
+    requires workers { IsWorkers workers }
+    requires few { length candidates.now ≤ 65535 }
+    ensures { IfOk result (λ weights. weights.items ≡ weights_at candidates.now stream.now) }
+{
+    let pass = SecondPass {
+        alloc,
+        stream,
+        cutting,
+        candidates,
+        gate,
+    };
+    let (sums, seat) = SharedSums::new(alloc, cutting.count(), candidates.len())?;
+    let (seat, ()) = run_apart(rt, &sums, seat, &pass, workers)?;
+    if !sums.holds_all(&seat) {
+        return pass.alone(workers);
+    }
+    // It bounds the sums.
+    let _total = stream.total();
+    sums.close(seat)
+}
+
+/// The outcome, where the plan has as many pieces as the cutting.
+fn run_passes<R: Threads + Wait + Sync, G: Gate + Sync>(
+    rt: &R,
+    alloc: Global,
+    stream: &Stream,
+    cutting: &Cutting,
+    plan: &Plan,
+    options: &Options,
+    gate: &G,
+) -> Result<Outcome, AllocError>
+    requires same_len { sum cutting.now ≡ length stream.now }
+    requires plan { IsMergeTree plan.now (length cutting.now) }
+    ensures summary { IfOk result (λ outcome. IsMerged plan.now options.now.k (pieces_of cutting.now stream.now) stream.now outcome.summary) }
+    ensures table { IfOk result (λ outcome. outcome.table ≡ table_of options.now.family options.now.width stream.now) }
+    ensures heavy { IfOk result (λ outcome. outcome.heavy.items ≡ heavy stream.now 1 (options.now.k + 1)) }
+{
+    let (summaries, table) = summarise(rt, alloc, stream, cutting, options, gate)?;
+    let total = stream.total();
+    let summary = match merge_by(alloc, plan, summaries) {
+        Ok(summary) => summary,
+        Err(MergeFault::Memory) => return Err(AllocError),
+        Err(MergeFault::DifferentK | MergeFault::TotalTooLarge) => unreachable!(),
+    };
+    let candidates = Candidates::of(alloc, &summary)?;
+    let workers = options.workers();
+    let weights = weigh(rt, alloc, stream, cutting, &candidates, workers, gate)?;
+    let heavy = candidates.select(&weights, total, options.k())?;
+    Ok(Outcome {
+        summary,
+        table,
+        heavy,
+    })
+}
+
+/// Analyses a stream, with workers that share nothing but atomic sums: they summarise the pieces and
+/// fill the table, the summaries are merged as the plan says, and the workers count the merged
+/// summary's keys. The outcome is the same for every number of workers and whatever worker does which
+/// piece: the counters are those of the plan's merges, honest for the stream (Agarwal et al., PODS
+/// 2012), the table is the stream's, cell for cell (Cormode and Muthukrishnan 2005), and the heavy keys
+/// are exact.
+///
+/// It starts the workers, numbered from 0, in threads of their own, and waits for them.
+pub fn analyse<R: Threads + Wait + Sync, G: Gate + Sync>(
+    rt: &R,
+    alloc: Global,
+    stream: &Stream,
+    cutting: &Cutting,
+    plan: &Plan,
+    options: &Options,
+    gate: &G,
+) -> Result<Outcome, RunError>
+    requires { sum cutting.now ≡ length stream.now }
+    ensures plan_mismatch { IsErrOf result RunError.PlanMismatch ↔ (length (leaves plan.now) ≢ length cutting.now) }
+    ensures summary { IfOk result (λ outcome. IsMerged plan.now options.now.k (pieces_of cutting.now stream.now) stream.now outcome.summary) }
+    ensures table { IfOk result (λ outcome. outcome.table ≡ table_of options.now.family options.now.width stream.now) }
+    ensures heavy { IfOk result (λ outcome. outcome.heavy.items ≡ heavy stream.now 1 (options.now.k + 1)) }
+{
+    if plan.count() != cutting.count() {
+        return Err(RunError::PlanMismatch);
+    }
+    match run_passes(rt, alloc, stream, cutting, plan, options, gate) {
+        Ok(outcome) => Ok(outcome),
+        Err(AllocError) => Err(RunError::Memory),
+    }
+}

@@ -1,0 +1,210 @@
+//! The first pass: each piece is summarised, and its items are added to the cells of one table.
+
+ghost use Rattle.std.specs.Prelude.{◌≡◌, ◌+◌, ◌*◌, ◌<◌, ◌≤◌, ◌++◌, ◌∷◌, [], ℕ, List, length, map, slice_index, sum, IfOk, OnOk};
+ghost use Rattle.hh_stream.specs.Weights.{Entry, total_of};
+ghost use Rattle.hh_stream.specs.Cuttings.{pieces_of};
+ghost use Rattle.hh_counters.specs.Counters.{sketch_of};
+ghost use Rattle.hh_countmin.specs.Family.{Coefficients};
+ghost use Rattle.hh_countmin.specs.Table.{empty_table, table_of};
+ghost use Rattle.hh_shared.specs.Tally.{added};
+ghost use Rattle.hh_shared.specs.Seats.{fresh};
+ghost use Rattle.hh_pool.specs.Passes.{IsFirstPass, IsFirstPassUpTo, IsFirstAloneUpTo};
+
+use crate::gate::Gate;
+use crate::options::Options;
+use crate::pass::{Pass, add_numbers};
+use hh_counters::{OfItemsFault, Summary};
+use hh_countmin::{Table, TableFault};
+use hh_shared::{SharedSums, SumSeat};
+use hh_stream::{Cutting, Item, MAX_TOTAL, Stream};
+use std::alloc::{AllocError, Global};
+
+/// What each worker of the first pass works on.
+#[derive(Drop)]
+pub(crate) struct FirstPass<'a, G> {
+    pub(crate) alloc: Global,
+    pub(crate) stream: &'a Stream,
+    pub(crate) cutting: &'a Cutting,
+    pub(crate) options: &'a Options,
+    pub(crate) gate: &'a G,
+}
+
+/// What a worker of the first pass runs: it claims pieces from the lowest on, and of each that it gets
+/// it calls the gate and makes the summary. What the items of its pieces add to the cells it gathers
+/// in a table of its own, whose cells it adds to the shared ones at the end: row r, cell c is number
+/// r * width + c there. It waits for nobody, unless the gate does. Memory gives the seat up.
+pub fn first_pass<G: Gate>(
+    alloc: Global,
+    sums: &SharedSums,
+    seat: SumSeat,
+    stream: &Stream,
+    cutting: &Cutting,
+    options: &Options,
+    gate: &G,
+    worker: u64,
+) -> Result<(SumSeat, Vec<(usize, Summary)>), AllocError>
+    requires same_len { sum cutting.now ≡ length stream.now }
+    requires seat { seat ≡ fresh sums.now }
+    requires claims { sums.now.claims ≡ length cutting.now }
+    requires cells { sums.now.cells ≡ length options.now.family.rows * options.now.width }
+    ensures sums { IfOk result (λ r. r.0.sums ≡ sums.now) }
+    ensures pass { IfOk result (λ r. IsFirstPass (pieces_of cutting.now stream.now) options.now r.0 r.1.items) }
+{
+    let pass = FirstPass {
+        alloc,
+        stream,
+        cutting,
+        options,
+        gate,
+    };
+    pass.run(sums, seat, worker)
+}
+
+/// The summary of a piece.
+pub(crate) fn summary_of(alloc: Global, options: &Options, items: &[Item]) -> Result<Summary, AllocError>
+    requires { total_of items.now ≤ MAX_TOTAL }
+    ensures { IfOk result (λ summary. summary ≡ sketch_of options.now.k items.now) }
+{
+    match Summary::of_items(alloc, options.k(), items) {
+        Ok(summary) => Ok(summary),
+        Err(OfItemsFault::BadK) => unreachable!(),
+        Err(OfItemsFault::Memory) => Err(AllocError),
+    }
+}
+
+/// The table of no items.
+pub(crate) fn empty_table(alloc: Global, options: &Options) -> Result<Table, AllocError>
+    ensures { IfOk result (λ table. table ≡ empty_table options.now.family options.now.width) }
+{
+    match Table::new(alloc, options.family().copy()?, options.width()) {
+        Ok(table) => Ok(table),
+        Err(TableFault::BadWidth) => unreachable!(),
+        Err(TableFault::Memory) => Err(AllocError),
+    }
+}
+
+/// Adds each item to the table.
+pub(crate) fn add_items(table: &mut Table, items: &[Item])
+    requires { table.old.total + total_of items.now ≤ MAX_TOTAL }
+    ensures { (family : Coefficients) (width : ℕ) (xs : List Entry) → table.old ≡ table_of family width xs → table.new ≡ table_of family width (xs ++ items.now) }
+{
+    for item in items {
+        let Ok(()) = table.add(item.key(), item.weight()) else {
+            unreachable!();
+        };
+    }
+}
+
+/// The summaries and the table that a worker has made so far.
+#[derive(Drop)]
+struct Made {
+    summaries: Vec<(usize, Summary)>,
+    table: Table,
+}
+
+impl<'a, G: Gate> FirstPass<'a, G> {
+    // Claims a piece, and works on it where no other worker has claimed it.
+    fn try_piece(
+        &self,
+        sums: &SharedSums,
+        seat: &mut SumSeat,
+        made: &mut Made,
+        worker: u64,
+        piece: usize,
+    ) -> Result<(), AllocError>
+        requires seat { seat.old.sums ≡ sums.now }
+        requires piece { piece < sums.now.claims }
+        requires claims { sums.now.claims ≡ length self.now.cutting.now }
+        requires same_len { sum self.now.cutting.now ≡ length self.now.stream.now }
+        requires before { IsFirstPassUpTo (pieces_of self.now.cutting.now self.now.stream.now) self.now.options.now piece seat.old made.old.summaries.items made.old.table }
+        ensures sums { seat.new.sums ≡ seat.old.sums }
+        ensures after { OnOk result (IsFirstPassUpTo (pieces_of self.now.cutting.now self.now.stream.now) self.now.options.now (piece + 1) seat.new made.new.summaries.items made.new.table) }
+    {
+        if !sums.claim(seat, piece) {
+            return Ok(());
+        }
+        self.gate.before(1, worker, piece as u64);
+        let items = self.cutting.piece(self.stream, piece);
+        // It bounds the total of the worker's table.
+        let _total = self.stream.total();
+        let summary = summary_of(self.alloc, self.options, items)?;
+        made.summaries.push((piece, summary))?;
+        add_items(&mut made.table, items);
+        Ok(())
+    }
+}
+
+impl<'a, G: Gate> FirstPass<'a, G> {
+    /// The same by the calling thread, without sums: the summaries of the pieces, in order, and the
+    /// table of the stream.
+    pub(crate) fn alone(&self) -> Result<(Vec<Summary>, Table), AllocError>
+        requires { sum self.now.cutting.now ≡ length self.now.stream.now }
+        ensures summaries { IfOk result (λ r. r.0.items ≡ map (sketch_of self.now.options.now.k) (pieces_of self.now.cutting.now self.now.stream.now)) }
+        ensures table { IfOk result (λ r. r.1 ≡ table_of self.now.options.now.family self.now.options.now.width self.now.stream.now) }
+    {
+        let mut summaries = Vec::new(self.alloc);
+        let mut table = empty_table(self.alloc, self.options)?;
+        for piece in 0..self.cutting.count() {
+            self.do_piece(&mut summaries, &mut table, piece)?;
+        }
+        Ok((summaries, table))
+    }
+
+    // Does the next piece.
+    fn do_piece(
+        &self,
+        summaries: &mut Vec<Summary>,
+        table: &mut Table,
+        piece: usize,
+    ) -> Result<(), AllocError>
+        requires same_len { sum self.now.cutting.now ≡ length self.now.stream.now }
+        requires piece { piece < length self.now.cutting.now }
+        requires before { IsFirstAloneUpTo (pieces_of self.now.cutting.now self.now.stream.now) self.now.options.now piece summaries.old.items table.old }
+        ensures { OnOk result (IsFirstAloneUpTo (pieces_of self.now.cutting.now self.now.stream.now) self.now.options.now (piece + 1) summaries.new.items table.new) }
+    {
+        self.gate.before(1, self.options.workers(), piece as u64);
+        let items = self.cutting.piece(self.stream, piece);
+        // It bounds the total of the table.
+        let _total = self.stream.total();
+        summaries.push(summary_of(self.alloc, self.options, items)?)?;
+        add_items(table, items);
+        Ok(())
+    }
+}
+
+impl<'a, G: Gate> Pass for FirstPass<'a, G> {
+    type Kept = Vec<(usize, Summary)>;
+
+    ghost use Rattle.hh_pool.specs.Passes.{IsFirstPass};
+
+    ghost fits = { λ p sums. (sum p.cutting.now ≡ length p.stream.now) × (sums.claims ≡ length p.cutting.now) × (sums.cells ≡ length p.options.now.family.rows * p.options.now.width) };
+
+    ghost done = { λ p seat summaries. IsFirstPass (pieces_of p.cutting.now p.stream.now) p.options.now seat summaries.items };
+
+    fn run(
+        &self,
+        sums: &SharedSums,
+        mut seat: SumSeat,
+        worker: u64,
+    ) -> Result<(SumSeat, Vec<(usize, Summary)>), AllocError> {
+        let mut made = Made {
+            summaries: Vec::new(self.alloc),
+            table: empty_table(self.alloc, self.options)?,
+        };
+        for piece in 0..self.cutting.count() {
+            self.try_piece(sums, &mut seat, &mut made, worker, piece)?;
+        }
+        let Made { summaries, table } = made;
+        add_numbers(sums, &mut seat, table.cells());
+        Ok((seat, summaries))
+    }
+
+    fn together(
+        &self,
+        mut one: Vec<(usize, Summary)>,
+        mut other: Vec<(usize, Summary)>,
+    ) -> Result<Vec<(usize, Summary)>, AllocError> {
+        one.append(&mut other)?;
+        Ok(one)
+    }
+}
