@@ -102,7 +102,7 @@ lower-cons t e c = elim (nat_lt t e.1) as (λ b. map (less_by t) (cond b (e ∷ 
 ]
 
 -- a claim on what is left of e and c, where e exceeds t and where it does not
-by_lower : (P : Counters → Type 0) (t : ℕ) (e : Entry) (c : Counters) → (t < e.1 → P ((e.0, e.1 - t) ∷ lower t c)) → (e.1 ≤ t → P (lower t c)) → P (lower t (e ∷ c))
+pub by_lower : (P : Counters → Type 0) (t : ℕ) (e : Entry) (c : Counters) → (t < e.1 → P ((e.0, e.1 - t) ∷ lower t c)) → (e.1 ≤ t → P (lower t c)) → P (lower t (e ∷ c))
 by_lower P t e c more less = rw (lower-cons t e c) (elim (nat_lt t e.1) as (λ b. nat_lt t e.1 ≡ b → P (cond b ((e.0, e.1 - t) ∷ lower t c) (lower t c))) [
   | true ↦ λ p. more (grind (arith, nat_tests, p))
   | false ↦ λ p. less (grind (arith, nat_tests, p))
@@ -230,7 +230,7 @@ level_from_split c k x front back p len split = one_level c k x _ (record {
 }) (is_level c k)
 
 -- ---- the least counter
-min_all : (n : ℕ) (c : Counters) → (fold (λ n (d : Entry). min n d.1) n c ≤ n) × AllByRecursion (λ (e : Entry). fold (λ n (d : Entry). min n d.1) n c ≤ e.1) c
+pub min_all : (n : ℕ) (c : Counters) → (fold (λ n (d : Entry). min n d.1) n c ≤ n) × AllByRecursion (λ (e : Entry). fold (λ n (d : Entry). min n d.1) n c ≤ e.1) c
 min_all n [] = (omega arith, tt)
 min_all n (e ∷ c) = let rest = min_all (min n e.1) c in (omega (arith, rest.0), (omega (arith, rest.0), rest.1))
 

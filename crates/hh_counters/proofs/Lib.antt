@@ -9,3 +9,7 @@ pub mod Summing
 pub mod Lowering
 pub mod Stepping
 pub mod Runs
+pub mod TakingOver
+pub mod Linked
+pub mod Sorting
+pub mod Renaming

@@ -37,7 +37,7 @@ searched c key (Err i) h l s =
     record { found = tt; absent = (l, parts.0, λ k d a b. turned _ key (parts.1 k d a b)) }
 
 -- ---- what stands at a place
-above_at : (z : Bytes) (c : Counters) (i : ℕ) (d : Entry) → AllByRecursion (λ y. key_cmp z y ≡ Less) (keys_of c) → i < length c → key_cmp z (slice_index_or c i d).0 ≡ Less
+pub above_at : (z : Bytes) (c : Counters) (i : ℕ) (d : Entry) → AllByRecursion (λ y. key_cmp z y ≡ Less) (keys_of c) → i < length c → key_cmp z (slice_index_or c i d).0 ≡ Less
 above_at z [] i d h l = absurd (omega arith)
 above_at z (e ∷ c) zero d h l = h.0
 above_at z (e ∷ c) (suc i) d h l = above_at z c i d h.1 (omega arith)

@@ -23,7 +23,7 @@ use Rattle.hh_counters.specs.Report.{rank_cmp, ranked_in, by_rank, is_heavy, sel
 use Rattle.hh_counters.proofs.Weights.{key_total, weight_of-cons, rising-tally, weight_of-tally, weight_first, at_other, key_exact, flipped}
 
 -- ---- members
-abbrev In : Entry → List Entry → Type 0
+abbrev pub In : Entry → List Entry → Type 0
 In x [] = ⊥
 In x (y ∷ ys) = (y ≡ x) ⊎ In x ys
 
@@ -51,7 +51,7 @@ filter_in p x (y ∷ ys) i h = elim (p y) as (λ b. p y ≡ b → In x (cond b (
   | false ↦ λ e. ⊎_elim (λ (is : y ≡ x). absurd (cc (ap p is))) (λ (i : In x ys). filter_in p x ys i h) i
 ] refl
 
-all_in : (P : Entry → Type 0) (x : Entry) (xs : List Entry) → AllByRecursion P xs → In x xs → P x
+pub all_in : (P : Entry → Type 0) (x : Entry) (xs : List Entry) → AllByRecursion P xs → In x xs → P x
 all_in P x [] h i = absurd i
 all_in P x (y ∷ ys) h (inl is) = subst P is h.0
 all_in P x (y ∷ ys) h (inr i) = all_in P x ys h.1 i
@@ -287,7 +287,7 @@ one_report xs p q es h =
     (λ x i. in_from_contains x _ ((h.exact x.0 x.1).1 ((own.exact x.0 x.1).0 (contains_from_in x _ i))))
 
 -- ---- what a sort leaves
-ranked_next : (r s : Ordering) → s ≡ ordering_reverse r → is_lt s ≡ false → (r ≡ Equal → ⊥) → r ≡ Less
+pub ranked_next : (r s : Ordering) → s ≡ ordering_reverse r → is_lt s ≡ false → (r ≡ Equal → ⊥) → r ≡ Less
 ranked_next Less s e l n = refl
 ranked_next Equal s e l n = absurd (n refl)
 ranked_next Greater s e l n = absurd (cc)

@@ -8,7 +8,7 @@ use Rattle.std.proofs.lemmas.Bool.Decides.{nat_tests}
 use Rattle.std.proofs.lemmas.List.Elements.{recursion_from_All}
 use Rattle.hh_stream.specs.Weights.{Bytes, Entry, key_cmp, same_key, at_key, weight_of, total_of}
 use Rattle.hh_counters.specs.Counters.{Counters, IsCounters, add_at, lower, cut, join, misra_gries, least_counter}
-use Rattle.hh_counters.specs.SpaceSaving.{least_of, translate, without, HasLeast, IsStep, raised, entered, replaced, IsRun, IsRunFrom, first_with, key_to_drop, step, space_saving}
+use Rattle.hh_counters.specs.SpaceSaving.{least_of, translate, without, HasLeast, IsStep, raised, entered, replaced, IsRun, IsRunFrom, first_with, key_to_drop, taken_over, step, space_saving}
 use Rattle.hh_counters.proofs.Weights.{weight_of-cons, total_of-cons, weight_of-add_at, weight_above, weight_first}
 use Rattle.hh_counters.proofs.Level.{min_is, lower-nil}
 use Rattle.hh_counters.proofs.Lowering.{cut-lower, level-least}
@@ -195,14 +195,14 @@ pub step_is_step : (s : Counters) (e : Entry) (k : ℕ) → IsCounters s → IsS
 step_is_step s e k h = by (nat_lt 0 (weight_of e.0 s)) (nat_le (length s) k) refl refl
   where
     by : (a b : Bool) → nat_lt 0 (weight_of e.0 s) ≡ a → nat_le (length s) k ≡ b → IsStep s e k (step s e k)
-    by true b p q = raised (grind (arith, nat_tests, p)) (ap (λ c. cond (c || nat_le (length s) k) (add_at s e) (add_at (without s (key_to_drop s)) (e.0, least_counter s + e.1))) p)
+    by true b p q = raised (grind (arith, nat_tests, p)) (ap (λ c. cond (c || nat_le (length s) k) (add_at s e) (taken_over s e)) p)
     by false true p q = entered (grind (arith, nat_tests, p)) (grind (arith, nat_tests, q))
-        (ap₂ (λ c d. cond (c || d) (add_at s e) (add_at (without s (key_to_drop s)) (e.0, least_counter s + e.1))) p q)
+        (ap₂ (λ c d. cond (c || d) (add_at s e) (taken_over s e)) p q)
     by false false p q =
         let full : k < length s = grind (arith, nat_tests, q) in
         let y_least = drops_a_least s h (omega (arith, full)) in
         replaced (grind (arith, nat_tests, p)) full (key_to_drop s) y_least
-        (ap₂ (λ c d. cond (c || d) (add_at s e) (add_at (without s (key_to_drop s)) (e.0, least_counter s + e.1))) p q
+        (ap₂ (λ c d. cond (c || d) (add_at s e) (taken_over s e)) p q
         ∙ ap (λ n. add_at (without s (key_to_drop s)) (e.0, n + e.1)) (sym y_least.least))
 
 steps_from : (xs : List Entry) (k : ℕ) (s : Counters) → Positive xs → IsKept s k → IsRunFrom s xs k (fold (λ s e. step s e k) s xs)

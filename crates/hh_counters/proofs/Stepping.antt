@@ -22,11 +22,11 @@ same_exact x y e = key_exact x y ((Equal-is (key_cmp x y)).0 e)
 pub same_sym : (x y : Bytes) → same_key x y ≡ same_key y x
 same_sym x y = (eq_by_cmp_equiv key_total).symm x y
 
-same_self : (x : Bytes) → same_key x x ≡ true
+pub same_self : (x : Bytes) → same_key x x ≡ true
 same_self x = ap is_eq (key_self x)
 
 -- ---- an entry added
-counters-add_at : (s : Counters) (e : Entry) → IsCounters s → 0 < e.1 → IsCounters (add_at s e)
+pub counters-add_at : (s : Counters) (e : Entry) → IsCounters s → 0 < e.1 → IsCounters (add_at s e)
 counters-add_at s e h p = record { rising = rising-add_at s e h.rising; positive = positive-add_at s e h.positive p }
 
 -- a key that has a counter takes no more room
@@ -77,7 +77,7 @@ pub counters-without : (s : Counters) (y : Bytes) → IsCounters s → IsCounter
 counters-without s y h = record { rising = rising-filter (λ e. not (same_key y e.0)) s h.rising; positive = positive-filter (λ e. not (same_key y e.0)) s h.positive }
 
 -- where all keys are above y, nothing goes
-without_above : (s : Counters) (y : Bytes) → AllByRecursion (λ z. key_cmp y z ≡ Less) (keys_of s) → without s y ≡ s
+pub without_above : (s : Counters) (y : Bytes) → AllByRecursion (λ z. key_cmp y z ≡ Less) (keys_of s) → without s y ≡ s
 without_above [] y h = refl
 without_above (e ∷ s) y h = ap (λ r. cond (not (is_eq r)) (e ∷ without s y) (without s y)) h.0 ∙ ap (λ (c : Counters). e ∷ c) (without_above s y h.1)
 

@@ -1,4 +1,5 @@
 pub mod Counters
 pub mod Report
 pub mod SpaceSaving
+pub mod Buckets
 pub mod Laws

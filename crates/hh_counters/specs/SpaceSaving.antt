@@ -1,5 +1,5 @@
 -- Space-Saving (Metwally, Agrawal and El Abbadi 2005, here with weights): k + 1 counters, the least of which goes to a newcomer.
-use Rattle.std.specs.Prelude.{◌≡◌, ℕ, ◌+◌, ◌^◌, ◌<◌, ◌≤◌, not, ◌||◌, ◌==◌, if◌then◌else◌, nat_lt, nat_le, List, [], ◌∷◌, length, filter, fold}
+use Rattle.std.specs.Prelude.{◌≡◌, ℕ, ◌+◌, ◌^◌, ◌<◌, ◌≤◌, not, ◌||◌, ◌==◌, if◌then◌else◌, nat_lt, nat_le, List, [], ◌∷◌, length, slice_index_or, filter, fold}
 use Rattle.hh_stream.specs.Weights.{Bytes, Entry, same_key, weight_of, total_of}
 use Rattle.hh_counters.specs.Counters.{Counters, IsCounters, add_at, lower, least_counter, Sketch}
 
@@ -47,11 +47,13 @@ first_with n (e ∷ s) = if e.1 == n then e.0 else first_with n s
 abbrev pub key_to_drop : Counters → Bytes
 key_to_drop s = first_with (least_counter s) s
 
+-- that key is dropped, and e's key takes its counter over
+abbrev pub taken_over : Counters → Entry → Counters
+taken_over s e = add_at (without s (key_to_drop s)) (e.0, least_counter s + e.1)
+
 -- the product's step, which is one of the relation's
 abbrev pub step : Counters → Entry → ℕ → Counters
-step s e k =
-    if nat_lt 0 (weight_of e.0 s) || nat_le (length s) k then add_at s e
-    else add_at (without s (key_to_drop s)) (e.0, least_counter s + e.1)
+step s e k = if nat_lt 0 (weight_of e.0 s) || nat_le (length s) k then add_at s e else taken_over s e
 
 -- the counters after the items, by the product's steps
 abbrev pub space_saving : List Entry → ℕ → Counters
@@ -73,3 +75,9 @@ monitored s e = record { k = s.k; total = s.total + e.1; counters = step s.count
 -- the summary of Misra and Gries that it is translated to
 abbrev pub translated : Sketch → Sketch
 translated s = record { k = s.k; total = s.total; counters = translate s.counters s.k }
+
+-- the least counter stands at the place i, and at none before it
+pub record IsFirstLeast (s : Counters) (i : ℕ) : Type 0 where
+  pub in_range : i < length s
+  pub no_less : (j : ℕ) (d : Entry) → j < length s → (slice_index_or s i d).1 ≤ (slice_index_or s j d).1
+  pub first : (j : ℕ) (d : Entry) → j < i → (slice_index_or s i d).1 < (slice_index_or s j d).1

@@ -123,7 +123,7 @@ pub fn level_of(alloc: Global, entries: &[(Key, u64)], k: usize) -> Result<u64, 
 pub fn add_entry(entries: &mut Vec<(Key, u64)>, key: &Key, weight: u64) -> Result<(), AllocError>
     requires counters { IsCounters entries.old.items }
     requires positive { 0 < weight }
-    requires bounded { total_of entries.old.items + weight < 2 ^ 63 }
+    requires bounded { total_of entries.old.items + weight < 2 ^ 64 }
     ensures ok { OnOk result (entries.new.items ≡ add_at entries.old.items (key.now, weight)) }
     ensures err { OnErr result (entries.new.items ≡ entries.old.items) }
 {

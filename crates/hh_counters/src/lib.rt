@@ -2,14 +2,21 @@
 //! rows of the report that a second pass makes of their keys.
 #![tactic(auto)]
 
+mod bucket_saving;
+mod buckets;
 mod candidates;
 mod entries;
 pub mod laws;
+mod monitor;
 mod report;
+mod space_saving;
 mod summary;
 #[cfg(test)]
 mod tests;
 
+pub use bucket_saving::BucketSaving;
 pub use candidates::Candidates;
+pub use monitor::Monitor;
 pub use report::Heavy;
+pub use space_saving::SpaceSaving;
 pub use summary::{AddFault, BadK, MAX_K, MergeFault, OfItemsFault, Summary};

@@ -1,4 +1,6 @@
-//! Summaries and candidates of a few items, worked by hand.
+//! Summaries, candidates and monitors of a few items, worked by hand.
+
+mod monitors;
 
 use crate::{AddFault, BadK, Candidates, MergeFault, OfItemsFault, Summary};
 use hh_stream::{Key, MAX_TOTAL, Stream};

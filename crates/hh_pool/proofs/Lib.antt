@@ -1,6 +1,8 @@
 pub mod TreeFacts
 pub mod MergeFacts
 pub mod ValueFacts
+pub mod ReadingFacts
+pub mod NumberFacts
 pub mod Pieces
 pub mod Tried
 pub mod Alone

@@ -29,10 +29,10 @@ weighed-nil f zero = refl
 weighed-nil f (suc n) = omega (arith, weighed-nil f n)
 
 -- a number in front is counted at its place alone
-times-here : (x : ℕ) (xs : List ℕ) → times x (x ∷ xs) ≡ 1 + times x xs
+pub times-here : (x : ℕ) (xs : List ℕ) → times x (x ∷ xs) ≡ 1 + times x xs
 times-here x xs = rw (times-cons x x xs, eq-eqb x x refl) refl
 
-times-elsewhere : (i x : ℕ) (xs : List ℕ) → x ≢ i → times i (x ∷ xs) ≡ times i xs
+pub times-elsewhere : (i x : ℕ) (xs : List ℕ) → x ≢ i → times i (x ∷ xs) ≡ times i xs
 times-elsewhere i x xs other = rw (times-cons i x xs, ne_eqb x i other) (omega arith)
 
 weighed-above : (f : ℕ → ℕ) (x : ℕ) (xs : List ℕ) (n : ℕ) → n ≤ x → weighed f (x ∷ xs) n ≡ weighed f xs n

@@ -1,4 +1,5 @@
 pub mod Settings
+pub mod PlanTexts
 pub mod Plans
 pub mod Trees
 pub mod Passes

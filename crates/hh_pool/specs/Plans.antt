@@ -1,5 +1,12 @@
 -- What a plan's tree, with its boxes, stands for.
 use Rattle.hh_pool.specs.Trees.{MergeTree, Piece, Merge}
+use Rattle.std.specs.Prelude.{map}
+use Rattle.hh_pool.specs.PlanTexts as text
+use Rattle.hh_pool.specs.declared.reading.Now.{Now}
+use Rattle.hh_pool.specs.declared.reading.Now.TheVariants.{Start, Number, Done}
+use Rattle.hh_pool.specs.declared.reading.Open.{Open}
+use Rattle.hh_pool.specs.declared.reading.Open.TheVariants.{Left, Right}
+use Rattle.hh_pool.specs.declared.reading.Reading.{Reading}
 use Rattle.hh_pool.specs.declared.plan.Tree.{Tree}
 use Rattle.hh_pool.specs.declared.plan.Tree.TheVariants.{Leaf, Node'}
 
@@ -7,3 +14,16 @@ use Rattle.hh_pool.specs.declared.plan.Tree.TheVariants.{Leaf, Node'}
 abbrev pub shape : Tree → MergeTree
 shape (Leaf i) = Piece i
 shape (Node' p l q r) = Merge (shape l) (shape r)
+
+-- an open parenthesis and the place that is read, in the terms of the definitions
+abbrev pub open_of : Open → text.Open
+open_of Left = text.Left
+open_of (Right l) = text.Right (shape l)
+
+abbrev pub now_of : Now → text.Now
+now_of Start = text.Start
+now_of (Number n) = text.Number n
+now_of (Done t) = text.Done (shape t)
+
+abbrev pub reading_of : Reading → text.Reading
+reading_of s = record { now = now_of s.now; outer = map open_of s.outer.items }

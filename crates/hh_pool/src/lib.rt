@@ -10,6 +10,7 @@ mod options;
 mod outcome;
 mod pass;
 mod plan;
+mod reading;
 mod second;
 mod workers;
 
@@ -20,4 +21,5 @@ pub use merging::merge_by;
 pub use options::{MAX_WORKERS, Options, OptionsFault};
 pub use outcome::{Outcome, RunError};
 pub use plan::{MAX_PIECES, Plan};
+pub use reading::PlanFault;
 pub use second::second_pass;

@@ -1,9 +1,11 @@
 //! Plans: merge trees over numbered pieces.
 
-ghost use Rattle.std.specs.Prelude.{◌≡◌, ◌+◌, ◌-◌, ◌<◌, ◌≤◌, IfOk};
+ghost use Rattle.std.specs.Prelude.{◌≡◌, ◌+◌, ◌-◌, ◌<◌, ◌≤◌, IfOk, IfErr};
+ghost use Rattle.hh_pool.specs.PlanTexts.{PlanRefused, Spells};
 ghost use Rattle.hh_pool.specs.Plans.{shape};
 ghost use Rattle.hh_pool.specs.Trees.{IsBalanced, IsMergeTree, chain_of};
 
+use crate::reading::{PlanFault, read_merge_tree};
 use std::alloc::{AllocError, Global};
 use std::marker::Model;
 
@@ -89,6 +91,27 @@ impl Plan {
             tree: balanced_tree(alloc, 0, pieces)?,
             count: pieces,
         })
+    }
+
+    /// The plan of so many pieces that a text spells: a tree is a piece's number, without leading
+    /// zeros, or two trees in parentheses with a space between them, as `((0 1) 2)`.
+    ///
+    /// The syntax is judged over the whole text first. Then the numbers are taken from left to right:
+    /// the first one that is unknown or came before is told, and then the least one that is missing.
+    pub fn parse(alloc: Global, text: &[u8], pieces: usize) -> Result<Plan, PlanFault>
+        requires some { 1 ≤ pieces }
+        requires few { pieces ≤ MAX_PIECES }
+        ensures spelled { IfOk result (λ plan. Spells text.now plan) }
+        ensures pieces { IfOk result (λ plan. IsMergeTree plan pieces) }
+        ensures refused { IfErr result (λ fault. PlanRefused text.now pieces fault) }
+    {
+        match read_merge_tree(alloc, text, pieces) {
+            Ok(tree) => Ok(Plan {
+                tree,
+                count: pieces,
+            }),
+            Err(fault) => Err(fault),
+        }
     }
 
     /// The number of pieces.

@@ -1,0 +1,14 @@
+use Rattle.std.proofs.Common.{◌≡◌, None, sym, ◌∙◌, subst}
+use Rattle.indexmap.specs.IndexMap.{get}
+use Rattle.indexmap.proofs.CallerLemmas.{insert_entry-new}
+use Rattle.hh_stream.specs.Weights.{Bytes, same_key}
+use Rattle.hh_counters.proofs.Linked.{popped}
+use Rattle.hh_counters.proofs.bucket_saving.enter.Goals as goal
+
+pub returns-in-Err-clause-unchanged : goal.returns-in-Err-clause-unchanged
+returns-in-Err-clause-unchanged c =
+    let index = c.args.index.now in
+    let inner = c.in_ok-inner.inner in
+    let absent : get same_key index inner ≡ None = subst (λ (k : Bytes). get same_key index k ≡ None) (sym c.in_ok-inner.ensures.equal) c.requires in
+    popped index.entries c.insert.new.self.entries c.pop.new.self.entries (inner, c.args.counter) c.pop.result
+    (c.in_ok-insert.ensures.entries ∙ insert_entry-new same_key index inner c.args.counter absent) c.pop.ensures.entries c.pop.ensures.found.1

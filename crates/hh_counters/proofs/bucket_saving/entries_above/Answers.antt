@@ -1,0 +1,31 @@
+use Rattle.std.proofs.Common.{◌≡◌, ◌-◌, ◌<◌, [], ◌∷◌, ◌++◌, length, get_or, Some, true≢false, sym, ap, ap₂, ◌∙◌, arith}
+use Rattle.std.specs.Prelude.{slice_get}
+use Rattle.std.proofs.lemmas.Option.{get_or_from_slice_get}
+use Rattle.hh_stream.specs.Weights.{Bytes, Entry}
+use Rattle.hh_counters.specs.Counters.{Counters}
+use Rattle.hh_counters.proofs.Level.{lower-nil}
+use Rattle.hh_counters.proofs.Sorting.{lower_above, lower_below}
+use Rattle.hh_counters.proofs.bucket_saving.entries_above.Goals as goal
+use Rattle.hh_counters.proofs.bucket_saving.entries_above.Goals.{in-Some+then-counter-least+in_ok-copy+in_ok-push, in-Some+else-counter-least, in_default}
+
+pub loop-i-init : goal.loop-i-init
+loop-i-init c = c.new-entries.ensures.items ∙ sym (lower-nil c.args.least)
+
+pub loop-i-preserved : goal.loop-i-preserved
+loop-i-preserved c =
+    let es = c.args.index.now.entries in
+    let i = c.loop-i.i in
+    let t = c.args.least in
+    let l : i < length es = omega (arith, c.loop-i-test.true, c.len-i-end.ensures.len) in
+    let at : (e : Entry) → Some e ≡ slice_get es i → e ≡ get_or es i e = λ e is. sym (get_or_from_slice_get es i e e (sym is)) in
+    elim c.match-get_index.branch [
+      | in-Some+then-counter-least+in_ok-copy+in_ok-push w ↦
+          let e : Entry = (w.in-Some.key.now, w.in-Some.counter.now) in
+          ap (λ v. v.items) w.entries-is ∙ w.in_ok-push.ensures.items
+          ∙ ap₂ (λ (d : Counters) (k : Bytes). d ++ (k, e.1 - t) ∷ []) c.loop-i.invariant w.in_ok-copy.ensures.equal
+          ∙ sym (lower_above t es i e l (at e w.in-Some.ensures.entry) w.if-counter-least.true)
+      | in-Some+else-counter-least w ↦
+          let e : Entry = (w.in-Some.key.now, w.in-Some.counter.now) in
+          ap (λ v. v.items) w.entries-is ∙ c.loop-i.invariant ∙ sym (lower_below t es i e l (at e w.in-Some.ensures.entry) w.if-counter-least.false)
+      | in_default w ↦ absurd (true≢false (sym (w.in_default.ensures.found.1 l)))
+    ]

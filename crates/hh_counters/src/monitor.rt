@@ -1,0 +1,62 @@
+//! What every form of Space-Saving keeps and promises.
+
+ghost use Rattle.std.specs.Prelude.{◌≡◌, ◌+◌, ◌<◌, ◌≤◌, ◌↔◌, ◌==◌, OnOk, OnErr, IfOk, IfErr, IsErrOf, length};
+ghost use Rattle.hh_stream.specs.Weights.{weight_of};
+ghost use Rattle.hh_counters.specs.Counters.{Sketch};
+ghost use Rattle.hh_counters.specs.SpaceSaving.{least_of, monitored, translated};
+
+use crate::summary::{AddFault, Summary};
+use hh_stream::{Key, MAX_TOTAL};
+
+/// Space-Saving over a weighted stream: at most k + 1 monitored keys with counters (Metwally,
+/// Agrawal and El Abbadi 2005).
+///
+/// A monitored key's counter is never below its weight, and at most [`least`](Monitor::least) above
+/// it; no other key weighs more than that. Each form has the same counters after the same items.
+pub trait Monitor: Drop {
+    // k, the total, and the counters by rising key
+    ghost seen: { Self → Sketch };
+
+    /// One less than the most keys that are monitored.
+    fn k(&self) -> u64
+        ensures { result ≡ (seen self.now).k };
+
+    /// The sum of the weights of all items, which is the sum of the counters.
+    fn total(&self) -> u64
+        ensures total { result ≡ (seen self.now).total }
+        ensures bounded { result ≤ MAX_TOTAL };
+
+    /// How many keys are monitored.
+    fn len(&self) -> usize
+        ensures { result ≡ length (seen self.now).counters };
+
+    /// Whether no key is monitored.
+    fn is_empty(&self) -> bool
+        ensures { result ≡ (length (seen self.now).counters == 0) }
+    {
+        self.len() == 0
+    }
+
+    /// The least counter, or 0 where one of the k + 1 is free.
+    fn least(&self) -> u64
+        ensures { result ≡ least_of (seen self.now).counters (seen self.now).k };
+
+    /// The counter of the key, or 0 where it is not monitored.
+    fn get(&self, key: &Key) -> u64
+        ensures { result ≡ weight_of key.now (seen self.now).counters };
+
+    /// Adds an item. A monitored key's counter grows by the weight. A newcomer gets a free counter,
+    /// or takes over the least one, whose key is dropped: of several the least key. After a refusal
+    /// everything is as it was.
+    fn add(&mut self, key: &Key, weight: u64) -> Result<(), AddFault>
+        requires { 0 < weight }
+        ensures added { OnOk result (seen self.new ≡ monitored (seen self.old) (key.now, weight)) }
+        ensures unchanged { OnErr result (seen self.new ≡ seen self.old) }
+        ensures too_large { IsErrOf result AddFault.TotalTooLarge ↔ (MAX_TOTAL < (seen self.old).total + weight) };
+
+    /// The summary of Misra and Gries of the same items: each counter less the least one. Where
+    /// memory is refused, the value comes back as it was.
+    fn into_summary(self) -> Result<Summary, Self>
+        ensures translated { IfOk result (λ s. s ≡ translated (seen self)) }
+        ensures handed_back { IfErr result (λ m. seen m ≡ seen self) };
+}

@@ -1,0 +1,155 @@
+//! Space-Saving in its plain form.
+
+ghost use Rattle.std.specs.Prelude.{◌≡◌, ℕ, ◌+◌, ◌<◌, ◌≤◌, ◌^◌, ◌↔◌, ◌⊎◌, [], IfOk, IsErr, OnOk, OnErr, IsErrOf, length, slice_index_or};
+ghost use Rattle.hh_stream.specs.Weights.{Entry, key_cmp, weight_of, total_of};
+ghost use Rattle.hh_counters.specs.Counters.{IsCounters, Sketch};
+ghost use Rattle.hh_counters.specs.SpaceSaving.{IsFirstLeast, IsMonitor, step, taken_over};
+
+use crate::entries::{add_entry, counter_of, least_counter, lower_all};
+use crate::monitor::Monitor;
+use crate::summary::{AddFault, BadK, MAX_K, Summary};
+use hh_stream::{Key, MAX_TOTAL};
+use std::alloc::{AllocError, Global};
+use std::marker::Model;
+
+/// Space-Saving in its plain form: the counters by rising key, searched for the least.
+///
+/// An item whose key is monitored, or that finds a free counter, costs a search by halves; any other
+/// a pass over all counters. A contract sees k, the total and the counters by rising key.
+#[derive(Debug, Drop)]
+pub struct SpaceSaving {
+    k: u64,
+    total: u64,
+    entries: Vec<(Key, u64)>,
+}
+
+impl Model for SpaceSaving {
+    ghost use Rattle.hh_counters.specs.Counters.{Sketch};
+    ghost use Rattle.hh_counters.specs.SpaceSaving.{IsMonitor};
+
+    ghost Value = { Sketch };
+
+    ghost view = { λ s. record { k = s.k; total = s.total; counters = s.entries.items } };
+
+    ghost invariant = { λ s. IsMonitor s.k s.total s.entries.items };
+}
+
+impl SpaceSaving {
+    /// Space-Saving of no items. It takes no memory.
+    pub fn new(alloc: Global, k: u64) -> Result<SpaceSaving, BadK>
+        ensures empty { IfOk result (λ s. s ≡ record { k = k; total = 0; counters = [] }) }
+        ensures bad_k { IsErr result ↔ ((k ≡ 0) ⊎ (MAX_K < k)) }
+    {
+        if k == 0 || k > MAX_K {
+            return Err(BadK);
+        }
+        Ok(SpaceSaving {
+            k,
+            total: 0,
+            entries: Vec::new(alloc),
+        })
+    }
+}
+
+impl Monitor for SpaceSaving {
+    ghost seen = { λ s. s };
+
+    fn k(&self) -> u64 {
+        self.k
+    }
+
+    fn total(&self) -> u64 {
+        self.total
+    }
+
+    fn len(&self) -> usize {
+        self.entries.len()
+    }
+
+    fn least(&self) -> u64 {
+        if self.entries.len() as u64 <= self.k {
+            return 0;
+        }
+        least_counter(&self.entries)
+    }
+
+    fn get(&self, key: &Key) -> u64 {
+        counter_of(&self.entries, key)
+    }
+
+    fn add(&mut self, key: &Key, weight: u64) -> Result<(), AddFault> {
+        if weight > MAX_TOTAL - self.total {
+            return Err(AddFault::TotalTooLarge);
+        }
+        match add_item(&mut self.entries, key, weight, self.k) {
+            Ok(()) => {
+                self.total += weight;
+                Ok(())
+            }
+            Err(_) => Err(AddFault::Memory),
+        }
+    }
+
+    // It takes no memory.
+    fn into_summary(self) -> Result<Summary, SpaceSaving> {
+        let least = self.least();
+        let SpaceSaving {
+            k,
+            total,
+            mut entries,
+        } = self;
+        lower_all(&mut entries, least);
+        Ok(Summary::from_entries(k, total, entries))
+    }
+}
+
+// Adds the item to the counters, or leaves them as they were.
+fn add_item(entries: &mut Vec<(Key, u64)>, key: &Key, weight: u64, k: u64) -> Result<(), AllocError>
+    requires counters { IsCounters entries.old.items }
+    requires few { length entries.old.items ≤ k + 1 }
+    requires positive { 0 < weight }
+    requires bounded { total_of entries.old.items + weight < 2 ^ 63 }
+    ensures step { OnOk result (entries.new.items ≡ step entries.old.items (key.now, weight) k) }
+    ensures unchanged { OnErr result (entries.new.items ≡ entries.old.items) }
+{
+    if 0 < counter_of(entries, key) || entries.len() as u64 <= k {
+        return add_entry(entries, key, weight);
+    }
+    replace_least(entries, key, weight)
+}
+
+// Gives the key the first of the least counters and the weight, and drops that counter's key.
+fn replace_least(entries: &mut Vec<(Key, u64)>, key: &Key, weight: u64) -> Result<(), AllocError>
+    requires counters { IsCounters entries.old.items }
+    requires some { 0 < length entries.old.items }
+    requires absent { weight_of key.now entries.old.items ≡ 0 }
+    requires positive { 0 < weight }
+    requires bounded { total_of entries.old.items + weight < 2 ^ 63 }
+    ensures replaced { OnOk result (entries.new.items ≡ taken_over entries.old.items (key.now, weight)) }
+    ensures unchanged { OnErr result (entries.new.items ≡ entries.old.items) }
+{
+    let place = least_place(entries);
+    let least = entries[place].1;
+    let shifted = if entries[place].0 < *key {
+        place
+    } else {
+        place + 1
+    };
+    add_entry(entries, key, least + weight)?;
+    entries.remove(shifted);
+    Ok(())
+}
+
+// Where the least counter is, the first of several.
+fn least_place(entries: &[(Key, u64)]) -> usize
+    requires { 0 < length entries.now }
+    ensures { IsFirstLeast entries.now result }
+{
+    let mut place = 0;
+    for i in 1..entries.len() {
+        if entries[i].1 < entries[place].1 {
+            place = i;
+        }
+    }
+    place
+}
