@@ -1,6 +1,5 @@
 -- Entries and summaries: what is read is spelled so, and what is spelled so is read.
-use Rattle.std.proofs.Common.{◌≡◌, ℕ, zero, suc, ◌+◌, ◌-◌, ◌^◌, ◌<◌, ◌≤◌, Bool, true, false, cond, ltb, leb, List, [], ◌∷◌, ◌++◌, length, get_or, take, drop, Result, Ok, Err, Ordering, Less, Equal, Greater, refl, sym, ap, subst, ◌∙◌, append_assoc, arith}
-use Rattle.std.specs.Prelude.{sum_by}
+use Rattle.std.proofs.Common.{◌≡◌, ℕ, zero, suc, ◌-◌, ◌^◌, ◌<◌, ◌≤◌, true, cond, ltb, leb, List, [], ◌∷◌, ◌++◌, length, Ok, Err, Ordering, Less, Equal, Greater, refl, sym, ap, subst, ◌∙◌, append_assoc, arith}
 use Rattle.std.specs.List.{flat_map, AllByRecursion}
 use Rattle.std.specs.List.Sorted.{IsStrictlySortedBy}
 use Rattle.std.specs.Map.{keys_of}
@@ -8,15 +7,13 @@ use Rattle.std.specs.Ordering.{is_lt}
 use Rattle.std.specs.Cmp.Lexicographic.{nat_list_cmp_total}
 use Rattle.std.specs.Int.{w8, w16, w64, to_be_bytes}
 use Rattle.std.proofs.lemmas.Bool.Decides.{nat_tests}
-use Rattle.std.proofs.lemmas.List.{append-nil}
 use Rattle.std.proofs.lemmas.List.Concat.{flat_map-cons}
 use Rattle.std.proofs.lemmas.List.Sums.{sum_by-cons}
 use Rattle.hh_stream.specs.Weights.{Bytes, Entry, IsKey, key_cmp, total_of}
-use Rattle.hh_counters.specs.Counters.{Sketch, IsCounters, Fits}
-use Rattle.hh_saved.specs.declared.fault.SavedFault.{SavedFault}
+use Rattle.hh_counters.specs.Counters.{Sketch, Fits}
 use Rattle.hh_saved.specs.declared.fault.SavedFault.TheVariants as faults
 use Rattle.hh_saved.specs.Spelling.{entry_bytes, sketch_bytes}
-use Rattle.hh_saved.specs.Reading.{◌>>=◌, number_at, number_where, bytes_at, total_at, key_at, entry_at, entries_at, sketch_at}
+use Rattle.hh_saved.specs.Reading.{◌>>=◌, number_where, bytes_at, total_at, key_at, entry_at, entries_at, sketch_at}
 use Rattle.hh_saved.proofs.Fields.{IsBytes, bind_ok, passed, ok_is, Takes, Takes-then, wide8, wide16, wide64, where_takes, where_again, bytes_take, bytes_again}
 
 is_less : (o : Ordering) → is_lt o ≡ true → o ≡ Less

@@ -9,6 +9,8 @@ mod format;
 pub mod laws;
 mod reading;
 mod saved;
+#[cfg(test)]
+mod tests;
 mod writing;
 
 pub use fault::SavedFault;

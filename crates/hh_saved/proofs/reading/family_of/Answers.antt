@@ -1,4 +1,4 @@
-use Rattle.std.proofs.Common.{◌≡◌, ℕ, List, Err, true, false, length, ap, ap₂, sym, subst, ◌∙◌, ⊎_elim, arith}
+use Rattle.std.proofs.Common.{◌≡◌, ℕ, List, Err, true, false, length, ap, ap₂, ◌∙◌, ⊎_elim, arith}
 use Rattle.std.specs.Int.{w64, from_be_bytes}
 use Rattle.hh_countmin.specs.Family.{Coefficients}
 use Rattle.hh_saved.specs.Reading.{blocks_in, pair_of, family_in}

@@ -1,4 +1,4 @@
-use Rattle.std.proofs.Common.{Ok, subst, arith}
+use Rattle.std.proofs.Common.{subst, arith}
 use Rattle.hh_saved.specs.Reading.{Gives}
 use Rattle.hh_saved.proofs.Values.{is_found, saved_again}
 use Rattle.hh_saved.proofs.reading.read.Goals as goal

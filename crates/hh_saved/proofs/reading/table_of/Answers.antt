@@ -1,4 +1,4 @@
-use Rattle.std.proofs.Common.{ℕ, ◌^◌, length, sym, subst, arith}
+use Rattle.std.proofs.Common.{ℕ, ◌^◌, sym, subst, arith}
 use Rattle.std.specs.Int.{w8, w32}
 use Rattle.hh_saved.proofs.Fields.{IsBytes, wide8, wide32, number_takes}
 use Rattle.hh_saved.proofs.Entries.{total_takes}
