@@ -82,6 +82,7 @@ impl Family {
     /// more, and all are below [`MODULUS`].
     pub fn from_parts(alloc: Global, z: u64, rows: &[(u64, u64)]) -> Result<Family, PartsFault>
         ensures parts { IfOk result (λ family. family ≡ record { z = z; rows = rows.now }) }
+        ensures in_range { IfOk result IsFamily }
         ensures bad_depth { IsErrOf result PartsFault.BadDepth ↔ ((length rows.now ≡ 0) ⊎ (MAX_DEPTH < length rows.now)) }
         ensures bad_coefficient { IsErrOf result PartsFault.BadCoefficient ↔ (IsDepth (length rows.now) × ¬ (AreCoefficients z rows.now)) }
     {

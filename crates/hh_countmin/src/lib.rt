@@ -11,4 +11,4 @@ mod tests;
 
 pub use family::{DrawFault, Family, MAX_DEPTH, MAX_WIDTH, PartsFault};
 pub use modulus::MODULUS;
-pub use table::{MergeFault, Table, TableFault, TotalTooLarge};
+pub use table::{MergeFault, Table, TableFault, TotalTooLarge, sums_to};

@@ -259,8 +259,8 @@ fn rows_sum_to(cells: &[u64], depth: usize, width: usize, total: u64) -> bool
     true
 }
 
-// Whether the cells add up to the total.
-fn sums_to(cells: &[u64], total: u64) -> bool
+/// Whether the cells of a row add up to the total.
+pub fn sums_to(cells: &[u64], total: u64) -> bool
     ensures { IsTrue result ↔ (sum cells.now ≡ total) }
 {
     let mut left = total;

@@ -1,0 +1,164 @@
+-- Reading from left to right, field by field, with the first fault that is met.
+use Rattle.std.specs.Prelude.{◌≡◌, ℕ, zero, suc, ◌+◌, ◌*◌, ◌-◌, ◌^◌, Bool, ◌&&◌, List, [], ◌∷◌, ◌++◌, length, take, drop, sum, Option, Result, Ok, Err, nat_lt, nat_le, slice_index_or, ◌==◌, if◌then◌else◌}
+use Rattle.std.specs.List.{list_all}
+use Rattle.std.specs.Result.{result_err}
+use Rattle.std.specs.Int.{Width, w8, w16, w32, w64, byte_len, from_be_bytes}
+use Rattle.std.specs.Ordering.{is_lt}
+use Rattle.hh_stream.specs.Weights.{Bytes, Entry, key_cmp}
+use Rattle.hh_counters.specs.Counters.{Sketch}
+use Rattle.hh_countmin.specs.Family.{Coefficients, modulus}
+use Rattle.hh_countmin.specs.Table.{Grid}
+use Rattle.hh_saved.specs.declared.saved.Saved.{Saved}
+use Rattle.hh_saved.specs.declared.saved.Saved.TheVariants.{Counters, Cells}
+use Rattle.hh_saved.specs.declared.fault.SavedFault.{SavedFault}
+use Rattle.hh_saved.specs.declared.fault.SavedFault.TheVariants as faults
+use Rattle.hh_saved.specs.Spelling.{magic}
+
+infixl 10 ◌>>=◌
+abbrev pub ◌>>=◌ : {A B : Type 0} → Result A SavedFault → (A → Result B SavedFault) → Result B SavedFault
+(Ok x) >>= f = f x
+(Err e) >>= f = Err e
+
+-- a function that reads fails as reading does, unless memory ran out
+abbrev pub Fails : {Y : Type 0} → SavedFault → Result Y SavedFault → Type 0
+Fails faults.Memory read = Unit {0}
+Fails fault read = read ≡ Err fault
+
+-- what a function returned, seen by view, is what reading gives, unless memory ran out
+abbrev pub Gives : {X Y : Type 0} → (X → Y) → Result X SavedFault → Result Y SavedFault → Type 0
+Gives view (Ok x) read = read ≡ Ok (view x)
+Gives view (Err e) read = Fails e read
+
+-- a number, and the bytes after it
+abbrev pub number_at : Width → List ℕ → Result (ℕ × List ℕ) SavedFault
+number_at w bytes =
+    if nat_lt (length bytes) (byte_len w) then Err faults.Truncated else Ok (from_be_bytes w (take (byte_len w) bytes), drop (byte_len w) bytes)
+
+-- a number that passes a test, and the bytes after it
+abbrev pub number_where : Width → (ℕ → Bool) → SavedFault → List ℕ → Result (ℕ × List ℕ) SavedFault
+number_where w test fault bytes = do
+  n ← number_at w bytes
+  if test n.0 then Ok n else Err fault
+
+-- so many bytes, and the bytes after them
+abbrev pub bytes_at : ℕ → List ℕ → Result (List ℕ × List ℕ) SavedFault
+bytes_at len bytes = if nat_lt (length bytes) len then Err faults.Truncated else Ok (take len bytes, drop len bytes)
+
+abbrev pub total_at : List ℕ → Result (ℕ × List ℕ) SavedFault
+total_at bytes = number_where w64 (λ n. nat_lt n (2 ^ 63)) faults.TotalTooLarge bytes
+
+-- what was read before, and what is still read
+abbrev pub with_front : {X : Type 0} → List X → Result (List X × List ℕ) SavedFault → Result (List X × List ℕ) SavedFault
+with_front front read = read >>= λ x. Ok (front ++ x.0, x.1)
+
+-- ---- a counter summary
+
+-- the key of the last entry, or no bytes
+abbrev pub last_key_of : List Entry → Bytes
+last_key_of es = (slice_index_or es (length es - 1) ([], 0)).0
+
+-- a key above the one before it; every key is above no bytes
+unfoldable pub key_at : Bytes → List ℕ → Result (Bytes × List ℕ) SavedFault
+key_at before bytes = do
+  len ← number_where w8 (λ n. nat_lt 0 n) faults.BadKey bytes
+  key ← bytes_at len.0 len.1
+  if is_lt (key_cmp before key.0) then Ok key else Err faults.KeyOrder
+
+-- a key and its counter, of which so much is left of the total
+unfoldable pub entry_at : Bytes → ℕ → List ℕ → Result (Entry × List ℕ) SavedFault
+entry_at before left bytes = do
+  key ← key_at before bytes
+  counter ← number_where w64 (λ n. nat_lt 0 n) faults.BadCounter key.1
+  if nat_le counter.0 left then Ok ((key.0, counter.0), counter.1) else Err faults.SumTooLarge
+
+unfoldable pub entries_at : ℕ → Bytes → ℕ → List ℕ → Result (List Entry × List ℕ) SavedFault
+entries_at zero before left bytes = Ok ([], bytes)
+entries_at (suc n) before left bytes = do
+  first ← entry_at before left bytes
+  others ← entries_at n first.0.0 (left - first.0.1) first.1
+  Ok (first.0 ∷ others.0, others.1)
+
+unfoldable pub sketch_at : List ℕ → Result (Sketch × List ℕ) SavedFault
+sketch_at bytes = do
+  k ← number_where w16 (λ n. nat_lt 0 n) faults.BadK bytes
+  total ← total_at k.1
+  count ← number_where w16 (λ n. nat_le n k.0) faults.BadCount total.1
+  entries ← entries_at count.0 [] total.0 count.1
+  Ok (record { k = k.0; total = total.0; counters = entries.0 }, entries.1)
+
+-- ---- a Count-Min table
+
+-- so many blocks of so many bytes
+abbrev pub blocks_in : {X : Type 0} → (List ℕ → X) → ℕ → ℕ → List ℕ → List X
+blocks_in decode size zero bytes = []
+blocks_in decode size (suc n) bytes = decode (take size bytes) ∷ blocks_in decode size n (drop size bytes)
+
+abbrev pub pair_of : List ℕ → ℕ × ℕ
+pair_of block = (from_be_bytes w64 (take 8 block), from_be_bytes w64 (drop 8 block))
+
+-- the coefficients that the bytes of a family hold
+abbrev pub family_in : ℕ → List ℕ → Coefficients
+family_in depth bytes = record { z = from_be_bytes w64 (take 8 bytes); rows = blocks_in pair_of 16 depth (drop 8 bytes) }
+
+abbrev pub is_row : ℕ × ℕ → Bool
+is_row row = nat_le 1 row.0 && nat_lt row.0 modulus && nat_lt row.1 modulus
+
+abbrev pub in_range : Coefficients → Bool
+in_range family = nat_le 1 family.z && nat_lt family.z modulus && list_all is_row family.rows
+
+unfoldable pub family_at : ℕ → List ℕ → Result (Coefficients × List ℕ) SavedFault
+family_at depth bytes = do
+  field ← bytes_at (8 + 16 * depth) bytes
+  if in_range (family_in depth field.0) then Ok (family_in depth field.0, field.1) else Err faults.BadCoefficient
+
+abbrev pub cells_in : ℕ → List ℕ → List ℕ
+cells_in width bytes = blocks_in (from_be_bytes w64) 8 width bytes
+
+unfoldable pub row_at : ℕ → ℕ → List ℕ → Result (List ℕ × List ℕ) SavedFault
+row_at width total bytes = do
+  field ← bytes_at (8 * width) bytes
+  if sum (cells_in width field.0) == total then Ok (cells_in width field.0, field.1) else Err faults.RowSum
+
+unfoldable pub rows_at : ℕ → ℕ → ℕ → List ℕ → Result (List ℕ × List ℕ) SavedFault
+rows_at zero width total bytes = Ok ([], bytes)
+rows_at (suc n) width total bytes = do
+  first ← row_at width total bytes
+  others ← rows_at n width total first.1
+  Ok (first.0 ++ others.0, others.1)
+
+unfoldable pub grid_at : List ℕ → Result (Grid × List ℕ) SavedFault
+grid_at bytes = do
+  width ← number_where w32 (λ n. nat_le 1 n && nat_le n 65536) faults.BadWidth bytes
+  depth ← number_where w8 (λ n. nat_le 1 n && nat_le n 16) faults.BadDepth width.1
+  family ← family_at depth.0 depth.1
+  total ← total_at family.1
+  cells ← rows_at depth.0 width.0 total.0 total.1
+  Ok (record { family = family.0; width = width.0; total = total.0; cells = cells.0 }, cells.1)
+
+-- ---- a whole file
+
+unfoldable pub body_at : ℕ → List ℕ → Result (Saved × List ℕ) SavedFault
+body_at kind bytes =
+    if kind == 1 then (do
+      sketch ← sketch_at bytes
+      Ok (Counters sketch.0, sketch.1))
+    else (if kind == 2 then (do
+      grid ← grid_at bytes
+      Ok (Cells grid.0, grid.1))
+    else Err faults.BadKind)
+
+unfoldable pub value_at : List ℕ → Result (Saved × List ℕ) SavedFault
+value_at bytes = do
+  first ← number_where w32 (λ n. n == magic) faults.BadMagic bytes
+  kind ← number_at w8 first.1
+  body_at kind.0 kind.1
+
+-- the value that all of the bytes spell, or the first fault
+unfoldable pub saved_of : List ℕ → Result Saved SavedFault
+saved_of bytes = do
+  value ← value_at bytes
+  if length value.1 == 0 then Ok value.0 else Err faults.Trailing
+
+-- the first fault of the bytes, where they spell nothing
+abbrev pub fault_of : List ℕ → Option SavedFault
+fault_of bytes = result_err (saved_of bytes)

@@ -1,0 +1,341 @@
+//! Reading a saved file, field by field from the left.
+
+ghost use Rattle.std.specs.Prelude.{◌≡◌, ◌⊎◌, ◌≤◌, ◌<◌, ◌+◌, ◌*◌, ◌++◌, List, Ok, Err, [], length, IfOk, IfErr, OnOk};
+ghost use Rattle.std.specs.Int.{w8, w16, w32, w64, from_be_bytes};
+ghost use Rattle.hh_saved.specs.declared.saved.Saved.{Saved};
+ghost use Rattle.hh_saved.specs.Spelling.{Spells};
+ghost use Rattle.hh_saved.specs.Reading.{Gives, number_at, bytes_at, total_at, with_front, last_key_of, key_at, entry_at, entries_at, sketch_at, blocks_in, pair_of, family_at, cells_in, row_at, rows_at, grid_at, body_at, value_at, saved_of};
+
+use crate::fault::SavedFault;
+use crate::format::{CELLS, COUNTERS, MAGIC};
+use crate::saved::Saved;
+use hh_counters::Summary;
+use hh_countmin::{Family, MAX_DEPTH, MAX_WIDTH, PartsFault, Table, sums_to};
+use hh_stream::{Key, KeyFault, MAX_TOTAL};
+use std::alloc::{AllocError, Global};
+
+/// The summary or table that the bytes spell, all of the bytes. Where they spell none, the answer is
+/// the first fault from left to right: fields are read in order, a field that is short is
+/// [`SavedFault::Truncated`], and otherwise its own check decides before the next field is read.
+///
+/// No memory is taken for a field before its bytes are known to be there.
+pub fn read(alloc: Global, bytes: &[u8]) -> Result<Saved, SavedFault>
+    // What is read is spelled so.
+    ensures found { IfOk result (λ saved. Spells bytes.now saved) }
+
+    // What is spelled so is read, unless memory runs out.
+    ensures only { (saved : Saved) → Spells bytes.now saved → Gives (λ v. v) result (Ok saved) }
+
+    // Which fault it is.
+    ensures exact { Gives (λ v. v) result (saved_of bytes.now) }
+{
+    all_of(alloc, bytes)
+}
+
+#[tactic(auto, unfolding(crate::specs::Reading::saved_of))]
+fn all_of(alloc: Global, bytes: &[u8]) -> Result<Saved, SavedFault>
+    ensures { Gives (λ v. v) result (saved_of bytes.now) }
+{
+    let (saved, rest) = value_of(alloc, bytes)?;
+    if !rest.is_empty() {
+        return Err(SavedFault::Trailing);
+    }
+    Ok(saved)
+}
+
+#[tactic(auto, unfolding(crate::specs::Reading::value_at))]
+fn value_of(alloc: Global, bytes: &[u8]) -> Result<(Saved, &[u8]), SavedFault>
+    ensures { Gives (λ x. (x.0, x.1.now)) result (value_at bytes.now) }
+{
+    let (magic, rest) = u32_of(bytes)?;
+    if magic != MAGIC {
+        return Err(SavedFault::BadMagic);
+    }
+    let (kind, rest) = u8_of(rest)?;
+    body_of(alloc, kind, rest)
+}
+
+#[tactic(auto, unfolding(crate::specs::Reading::body_at))]
+fn body_of(alloc: Global, kind: u8, bytes: &[u8]) -> Result<(Saved, &[u8]), SavedFault>
+    ensures { Gives (λ x. (x.0, x.1.now)) result (body_at kind bytes.now) }
+{
+    if kind == COUNTERS {
+        let (summary, rest) = summary_of(alloc, bytes)?;
+        return Ok((Saved::Counters(summary), rest));
+    }
+    if kind == CELLS {
+        let (table, rest) = table_of(alloc, bytes)?;
+        return Ok((Saved::Cells(table), rest));
+    }
+    Err(SavedFault::BadKind)
+}
+
+// ---- fields
+
+fn bytes_of(len: usize, bytes: &[u8]) -> Result<(&[u8], &[u8]), SavedFault>
+    ensures { Gives (λ x. (x.0.now, x.1.now)) result (bytes_at len bytes.now) }
+{
+    if bytes.len() < len {
+        return Err(SavedFault::Truncated);
+    }
+    Ok(bytes.split_at(len))
+}
+
+fn u8_of(bytes: &[u8]) -> Result<(u8, &[u8]), SavedFault>
+    ensures { Gives (λ x. (x.0, x.1.now)) result (number_at w8 bytes.now) }
+{
+    if bytes.is_empty() {
+        return Err(SavedFault::Truncated);
+    }
+    let (front, rest) = bytes.split_at(1);
+    Ok((front[0], rest))
+}
+
+fn u16_of(bytes: &[u8]) -> Result<(u16, &[u8]), SavedFault>
+    ensures { Gives (λ x. (x.0, x.1.now)) result (number_at w16 bytes.now) }
+{
+    if bytes.len() < 2 {
+        return Err(SavedFault::Truncated);
+    }
+    let (front, rest) = bytes.split_at(2);
+    Ok((u16::from_be_bytes([front[0], front[1]]), rest))
+}
+
+fn u32_of(bytes: &[u8]) -> Result<(u32, &[u8]), SavedFault>
+    ensures { Gives (λ x. (x.0, x.1.now)) result (number_at w32 bytes.now) }
+{
+    if bytes.len() < 4 {
+        return Err(SavedFault::Truncated);
+    }
+    let (front, rest) = bytes.split_at(4);
+    let number = u32::from_be_bytes([front[0], front[1], front[2], front[3]]);
+    Ok((number, rest))
+}
+
+fn u64_of(bytes: &[u8]) -> Result<(u64, &[u8]), SavedFault>
+    ensures { Gives (λ x. (x.0, x.1.now)) result (number_at w64 bytes.now) }
+{
+    if bytes.len() < 8 {
+        return Err(SavedFault::Truncated);
+    }
+    let (front, rest) = bytes.split_at(8);
+    Ok((number_of(front), rest))
+}
+
+// The number that 8 bytes are.
+fn number_of(block: &[u8]) -> u64
+    requires { length block.now ≡ 8 }
+    ensures { result ≡ from_be_bytes w64 block.now }
+{
+    u64::from_be_bytes([
+        block[0], block[1], block[2], block[3], block[4], block[5], block[6], block[7],
+    ])
+}
+
+fn total_of(bytes: &[u8]) -> Result<(u64, &[u8]), SavedFault>
+    ensures { Gives (λ x. (x.0, x.1.now)) result (total_at bytes.now) }
+{
+    let (total, rest) = u64_of(bytes)?;
+    if total > MAX_TOTAL {
+        return Err(SavedFault::TotalTooLarge);
+    }
+    Ok((total, rest))
+}
+
+// ---- a counter summary
+
+#[tactic(auto, unfolding(crate::specs::Reading::key_at))]
+fn key_of<'a>(before: &[u8], bytes: &'a [u8]) -> Result<(&'a [u8], &'a [u8]), SavedFault>
+    ensures key { Gives (λ x. (x.0.now, x.1.now)) result (key_at before.now bytes.now) }
+    ensures len { IfOk result (λ x. (0 < length x.0.now) × (length x.0.now ≤ 255)) }
+{
+    let (len, rest) = u8_of(bytes)?;
+    if len == 0 {
+        return Err(SavedFault::BadKey);
+    }
+    let (key, rest) = bytes_of(usize::from(len), rest)?;
+    if !before.cmp(key).is_lt() {
+        return Err(SavedFault::KeyOrder);
+    }
+    Ok((key, rest))
+}
+
+#[tactic(auto, unfolding(crate::specs::Reading::entry_at))]
+fn entry_of<'a>(
+    alloc: Global,
+    before: &[u8],
+    left: u64,
+    bytes: &'a [u8],
+) -> Result<((Key, u64), &'a [u8]), SavedFault>
+    ensures entry { Gives (λ x. (x.0, x.1.now)) result (entry_at before.now left bytes.now) }
+    ensures left { IfOk result (λ x. x.0.1 ≤ left) }
+{
+    let (key, rest) = key_of(before, bytes)?;
+    let (counter, rest) = u64_of(rest)?;
+    if counter == 0 {
+        return Err(SavedFault::BadCounter);
+    }
+    if counter > left {
+        return Err(SavedFault::SumTooLarge);
+    }
+    match Key::new(alloc, key) {
+        Ok(key) => Ok(((key, counter), rest)),
+        Err(KeyFault::Memory) => Err(SavedFault::Memory),
+        Err(KeyFault::Empty | KeyFault::TooLong) => unreachable!(),
+    }
+}
+
+// The key of the last entry, or no bytes.
+fn last_key(entries: &[(Key, u64)]) -> &[u8]
+    ensures { result.now ≡ last_key_of entries.now }
+{
+    match entries.last() {
+        Some(entry) => entry.0.bytes(),
+        None => &[],
+    }
+}
+
+fn entries_of(
+    alloc: Global,
+    count: u64,
+    total: u64,
+    bytes: &[u8],
+) -> Result<(Vec<(Key, u64)>, &[u8]), SavedFault>
+    ensures { Gives (λ x. (x.0.items, x.1.now)) result (entries_at count [] total bytes.now) }
+{
+    let mut entries = Vec::new(alloc);
+    let mut left = total;
+    let mut rest = bytes;
+    for _ in 0..count {
+        let (entry, after) = entry_of(alloc, last_key(&entries), left, rest)?;
+        left -= entry.1;
+        entries.push(entry)?;
+        rest = after;
+    }
+    Ok((entries, rest))
+}
+
+#[tactic(auto, unfolding(crate::specs::Reading::sketch_at))]
+fn summary_of(alloc: Global, bytes: &[u8]) -> Result<(Summary, &[u8]), SavedFault>
+    ensures { Gives (λ x. (x.0, x.1.now)) result (sketch_at bytes.now) }
+{
+    let (k, rest) = u16_of(bytes)?;
+    if k == 0 {
+        return Err(SavedFault::BadK);
+    }
+    let (total, rest) = total_of(rest)?;
+    let (count, rest) = u16_of(rest)?;
+    if count > k {
+        return Err(SavedFault::BadCount);
+    }
+    let (entries, rest) = entries_of(alloc, u64::from(count), total, rest)?;
+    Ok((Summary::from_entries(u64::from(k), total, entries), rest))
+}
+
+// ---- a Count-Min table
+
+// The two numbers that 16 bytes are.
+fn pair_in(block: &[u8]) -> (u64, u64)
+    requires { length block.now ≡ 16 }
+    ensures { result ≡ pair_of block.now }
+{
+    let (first, second) = block.split_at(8);
+    (number_of(first), number_of(second))
+}
+
+// The coefficients of so many rows.
+fn pairs_of(alloc: Global, depth: usize, bytes: &[u8]) -> Result<Vec<(u64, u64)>, AllocError>
+    requires { length bytes.now ≡ 16 * depth }
+    ensures { IfOk result (λ rows. rows.items ≡ blocks_in pair_of 16 depth bytes.now) }
+{
+    let mut rows = Vec::new(alloc);
+    for r in 0..depth {
+        rows.push(pair_in(&bytes[16 * r..16 * r + 16]))?;
+    }
+    Ok(rows)
+}
+
+#[tactic(auto, unfolding(crate::specs::Reading::family_at))]
+fn family_of(alloc: Global, depth: usize, bytes: &[u8]) -> Result<(Family, &[u8]), SavedFault>
+    requires { (1 ≤ depth) × (depth ≤ 16) }
+    ensures { Gives (λ x. (x.0, x.1.now)) result (family_at depth bytes.now) }
+{
+    let (field, rest) = bytes_of(8 + 16 * depth, bytes)?;
+    let (first, others) = field.split_at(8);
+    let rows = pairs_of(alloc, depth, others)?;
+    match Family::from_parts(alloc, number_of(first), &rows) {
+        Ok(family) => Ok((family, rest)),
+        Err(PartsFault::BadCoefficient) => Err(SavedFault::BadCoefficient),
+        Err(PartsFault::Memory) => Err(SavedFault::Memory),
+        Err(PartsFault::BadDepth) => unreachable!(),
+    }
+}
+
+// Puts the cells of a row at the end.
+fn push_cells(cells: &mut Vec<u64>, width: usize, bytes: &[u8]) -> Result<(), AllocError>
+    requires { length bytes.now ≡ 8 * width }
+    ensures { OnOk result (cells.new.items ≡ cells.old.items ++ cells_in width bytes.now) }
+{
+    cells.reserve(width)?;
+    for i in 0..width {
+        cells.push(number_of(&bytes[8 * i..8 * i + 8]))?;
+    }
+    Ok(())
+}
+
+#[tactic(auto, unfolding(crate::specs::Reading::row_at))]
+fn row_of<'a>(
+    cells: &mut Vec<u64>,
+    width: usize,
+    total: u64,
+    bytes: &'a [u8],
+) -> Result<&'a [u8], SavedFault>
+    requires { width ≤ 65536 }
+    ensures { Gives (λ rest. (cells.new.items, rest.now)) result (with_front cells.old.items (row_at width total bytes.now)) }
+{
+    let (field, rest) = bytes_of(8 * width, bytes)?;
+    let start = cells.len();
+    push_cells(cells, width, field)?;
+    if !sums_to(&cells[start..], total) {
+        return Err(SavedFault::RowSum);
+    }
+    Ok(rest)
+}
+
+fn rows_of(
+    alloc: Global,
+    depth: u64,
+    width: usize,
+    total: u64,
+    bytes: &[u8],
+) -> Result<(Vec<u64>, &[u8]), SavedFault>
+    requires { width ≤ 65536 }
+    ensures { Gives (λ x. (x.0.items, x.1.now)) result (rows_at depth width total bytes.now) }
+{
+    let mut cells = Vec::new(alloc);
+    let mut rest = bytes;
+    for _ in 0..depth {
+        rest = row_of(&mut cells, width, total, rest)?;
+    }
+    Ok((cells, rest))
+}
+
+#[tactic(auto, unfolding(crate::specs::Reading::grid_at))]
+fn table_of(alloc: Global, bytes: &[u8]) -> Result<(Table, &[u8]), SavedFault>
+    ensures { Gives (λ x. (x.0, x.1.now)) result (grid_at bytes.now) }
+{
+    let (width, rest) = u32_of(bytes)?;
+    let width = u64::from(width);
+    if width == 0 || width > MAX_WIDTH {
+        return Err(SavedFault::BadWidth);
+    }
+    let (depth, rest) = u8_of(rest)?;
+    let depth = u64::from(depth);
+    if depth == 0 || depth > MAX_DEPTH {
+        return Err(SavedFault::BadDepth);
+    }
+    let (family, rest) = family_of(alloc, depth as usize, rest)?;
+    let (total, rest) = total_of(rest)?;
+    let (cells, rest) = rows_of(alloc, depth, width as usize, total, rest)?;
+    Ok((Table::from_cells(family, width, total, cells), rest))
+}
