@@ -4,19 +4,103 @@ ghost use Rattle.std.specs.Prelude.{◌≡◌};
 ghost use Rattle.heavy.specs.Status.{status_of};
 
 use crate::records::BadRecordCause;
+use hh_saved::SavedFault;
+use std::fmt;
 use thiserror::Error;
 
-/// What stops a command, in the order in which refusals come.
+/// Why a plan's text is refused.
+#[derive(Clone, Copy, Debug, PartialEq, Eq, Error)]
+pub enum TreeFault {
+    #[error("syntax at byte {0}")]
+    Syntax(usize),
+    #[error("no piece {0}")]
+    UnknownPiece(usize),
+    #[error("piece {0} twice")]
+    RepeatedPiece(usize),
+    #[error("piece {0} missing")]
+    MissingPiece(usize),
+}
+
+/// Why a file is not merged into the files before it.
+#[derive(Clone, Copy, Debug, PartialEq, Eq)]
+pub enum MergeCause {
+    /// The summaries have different k.
+    DifferentK,
+    /// The tables have different hash families.
+    DifferentFamily,
+    /// The tables have different widths.
+    DifferentWidth,
+    /// The total would be above 2^63 - 1.
+    TotalTooLarge,
+}
+
+impl fmt::Display for MergeCause {
+    fn fmt<W: fmt::Write>(&self, f: &mut fmt::Formatter<W>) -> fmt::Result {
+        f.write_str(match self {
+            MergeCause::DifferentK => "another k",
+            MergeCause::DifferentFamily => "another hash family",
+            MergeCause::DifferentWidth => "another width",
+            MergeCause::TotalTooLarge => "total too large",
+        })
+    }
+}
+
+/// Why a word is no key.
+#[derive(Clone, Copy, Debug, PartialEq, Eq)]
+pub enum KeyCause {
+    /// It has no bytes.
+    Empty,
+    /// It has more than 255 bytes.
+    TooLong,
+}
+
+impl fmt::Display for KeyCause {
+    fn fmt<W: fmt::Write>(&self, f: &mut fmt::Formatter<W>) -> fmt::Result {
+        f.write_str(match self {
+            KeyCause::Empty => "empty",
+            KeyCause::TooLong => "too long",
+        })
+    }
+}
+
+/// What stops a command, in the order in which refusals come. Records, files and keys are numbered
+/// from 1.
 #[derive(Clone, Copy, Debug, PartialEq, Eq, Error)]
 pub enum ToolError {
+    #[error("depth must be 1 to 16")]
+    BadDepth,
     #[error("k must be 1 to 65535")]
     BadK,
+    #[error("workers must be 1 to 64")]
+    BadWorkers,
+    #[error("width must be 1 to 65536")]
+    BadWidth,
+    #[error("pieces must be 1 to 1024")]
+    BadPieces,
+    #[error("tree: {0}")]
+    BadTree(TreeFault),
+    #[error("method must be mg or ss")]
+    BadMethod,
     #[error("input could not be read")]
     ReadFault,
     #[error("record {number}: {cause}")]
     BadRecord { number: u64, cause: BadRecordCause },
+    #[error("file {number}: {fault}")]
+    BadFile { number: u64, fault: SavedFault },
+    #[error("file {number}: another kind")]
+    MixedKinds { number: u64 },
+    #[error("file {number}: {cause}")]
+    CannotMerge { number: u64, cause: MergeCause },
+    #[error("key {number}: {cause}")]
+    BadKey { number: u64, cause: KeyCause },
+    #[error("file 1: not a counter summary")]
+    NotCounters,
+    #[error("file 1: its total is not the input's")]
+    TotalDiffers,
     #[error("output could not be written")]
     WriteFault { written: u64 },
+    #[error("file {number}: could not be read")]
+    FileFault { number: u64 },
     #[error("out of memory")]
     Memory,
 }
@@ -27,9 +111,21 @@ impl ToolError {
         ensures { result ≡ status_of self.now }
     {
         match self {
-            ToolError::ReadFault | ToolError::WriteFault { .. } => 1,
-            ToolError::BadK => 2,
-            ToolError::BadRecord { .. } => 3,
+            ToolError::ReadFault | ToolError::WriteFault { .. } | ToolError::FileFault { .. } => 1,
+            ToolError::BadDepth
+            | ToolError::BadK
+            | ToolError::BadWorkers
+            | ToolError::BadWidth
+            | ToolError::BadPieces
+            | ToolError::BadTree(_)
+            | ToolError::BadMethod => 2,
+            ToolError::BadRecord { .. }
+            | ToolError::BadFile { .. }
+            | ToolError::MixedKinds { .. }
+            | ToolError::CannotMerge { .. }
+            | ToolError::BadKey { .. }
+            | ToolError::NotCounters
+            | ToolError::TotalDiffers => 3,
             ToolError::Memory => 4,
         }
     }

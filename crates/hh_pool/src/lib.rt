@@ -20,6 +20,6 @@ pub use gate::{Gate, OpenGate};
 pub use merging::merge_by;
 pub use options::{MAX_WORKERS, Options, OptionsFault};
 pub use outcome::{Outcome, RunError};
-pub use plan::{MAX_PIECES, Plan};
+pub use plan::Plan;
 pub use reading::PlanFault;
 pub use second::second_pass;

@@ -7,9 +7,10 @@ ghost use Rattle.hh_counters.specs.Counters.{IsHonest, Sketch};
 ghost use Rattle.hh_pool.specs.Plans.{shape};
 ghost use Rattle.hh_pool.specs.Trees.{HasPlaces, IsMergeTree, MergesHonestly, leaves, merge_result, no_sketch, times, tree_result, tree_value};
 
-use crate::plan::{MAX_PIECES, Plan, Tree};
+use crate::plan::{Plan, Tree};
 use hh_counters::laws::join_of_honest_is_honest;
 use hh_counters::{MergeFault, Summary};
+use hh_stream::MAX_PIECES;
 use std::alloc::Global;
 use std::mem;
 

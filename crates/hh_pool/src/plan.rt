@@ -1,16 +1,14 @@
 //! Plans: merge trees over numbered pieces.
 
-ghost use Rattle.std.specs.Prelude.{◌≡◌, ◌+◌, ◌-◌, ◌<◌, ◌≤◌, IfOk, IfErr};
+ghost use Rattle.std.specs.Prelude.{◌≡◌, ◌+◌, ◌-◌, ◌<◌, ◌≤◌, length, IfOk, IfErr};
 ghost use Rattle.hh_pool.specs.PlanTexts.{PlanRefused, Spells};
 ghost use Rattle.hh_pool.specs.Plans.{shape};
-ghost use Rattle.hh_pool.specs.Trees.{IsBalanced, IsMergeTree, chain_of};
+ghost use Rattle.hh_pool.specs.Trees.{IsBalanced, IsMergeTree, chain_of, leaves};
 
 use crate::reading::{PlanFault, read_merge_tree};
+use hh_stream::MAX_PIECES;
 use std::alloc::{AllocError, Global};
 use std::marker::Model;
-
-/// The most pieces of a plan.
-pub const MAX_PIECES: usize = 1024;
 
 /// A piece, or two trees whose results are merged.
 #[derive(Debug, Drop)]
@@ -73,7 +71,8 @@ impl Plan {
     pub fn chain(alloc: Global, pieces: usize) -> Result<Plan, AllocError>
         requires some { 1 ≤ pieces }
         requires few { pieces ≤ MAX_PIECES }
-        ensures { IfOk result (λ plan. plan ≡ chain_of (pieces - 1)) }
+        ensures chain { IfOk result (λ plan. plan ≡ chain_of (pieces - 1)) }
+        ensures pieces { IfOk result (λ plan. length (leaves plan) ≡ pieces) }
     {
         Ok(Plan {
             tree: chain_tree(alloc, pieces)?,
@@ -85,7 +84,8 @@ impl Plan {
     pub fn balanced(alloc: Global, pieces: usize) -> Result<Plan, AllocError>
         requires some { 1 ≤ pieces }
         requires few { pieces ≤ MAX_PIECES }
-        ensures { IfOk result (λ plan. IsBalanced plan 0 pieces) }
+        ensures balanced { IfOk result (λ plan. IsBalanced plan 0 pieces) }
+        ensures pieces { IfOk result (λ plan. length (leaves plan) ≡ pieces) }
     {
         Ok(Plan {
             tree: balanced_tree(alloc, 0, pieces)?,
@@ -102,7 +102,8 @@ impl Plan {
         requires some { 1 ≤ pieces }
         requires few { pieces ≤ MAX_PIECES }
         ensures spelled { IfOk result (λ plan. Spells text.now plan) }
-        ensures pieces { IfOk result (λ plan. IsMergeTree plan pieces) }
+        ensures tree { IfOk result (λ plan. IsMergeTree plan pieces) }
+        ensures pieces { IfOk result (λ plan. length (leaves plan) ≡ pieces) }
         ensures refused { IfErr result (λ fault. PlanRefused text.now pieces fault) }
     {
         match read_merge_tree(alloc, text, pieces) {

@@ -4,6 +4,7 @@ ghost use Rattle.std.specs.Prelude.{◌≡◌};
 ghost use Rattle.hh_saved.specs.declared.fault.SavedFault.TheVariants.{Memory};
 
 use std::alloc::{AllocError, AllocFailed};
+use std::fmt;
 
 /// What is wrong with the bytes of a file: the first fault from left to right.
 #[derive(Clone, Copy, Debug, PartialEq, Eq)]
@@ -40,6 +41,29 @@ pub enum SavedFault {
     Trailing,
     /// The allocator had no memory.
     Memory,
+}
+
+impl fmt::Display for SavedFault {
+    fn fmt<W: fmt::Write>(&self, f: &mut fmt::Formatter<W>) -> fmt::Result {
+        f.write_str(match self {
+            SavedFault::Truncated => "truncated",
+            SavedFault::BadMagic => "bad magic",
+            SavedFault::BadKind => "bad kind",
+            SavedFault::BadK => "bad k",
+            SavedFault::BadCount => "bad count",
+            SavedFault::BadKey => "bad key",
+            SavedFault::KeyOrder => "keys out of order",
+            SavedFault::BadCounter => "bad counter",
+            SavedFault::SumTooLarge => "counters above total",
+            SavedFault::BadWidth => "bad width",
+            SavedFault::BadDepth => "bad depth",
+            SavedFault::BadCoefficient => "bad coefficient",
+            SavedFault::TotalTooLarge => "total too large",
+            SavedFault::RowSum => "row does not sum to total",
+            SavedFault::Trailing => "trailing bytes",
+            SavedFault::Memory => "out of memory",
+        })
+    }
 }
 
 impl From<AllocError> for SavedFault {
