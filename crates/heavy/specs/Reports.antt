@@ -1,14 +1,23 @@
 -- What a report leaves in a sink, and what its refusals tell.
-use Rattle.std.specs.Prelude.{◌≡◌, ◌<◌, ◌≤◌, ◌⊎◌, ◌+◌, ℕ, List, filter, Bool, true, false, Option, IfSome, Result, Ok, Err}
+use Rattle.std.specs.Prelude.{◌≡◌, ◌+◌, ◌&&◌, not, nat_le, ℕ, List, filter, Bool, true, false, Option, Some, None, IfSome, Result, Ok, Err, ⊤, if◌then◌else◌}
 use Rattle.std.specs.Io.KnownBytes.{Appends, Keeps}
 use Rattle.hh_stream.specs.Weights.{Entry}
 use Rattle.hh_counters.specs.Report.{has_counter, heavy}
 use Rattle.hh_counters.specs.Counters.{Sketch}
+use Rattle.hh_pool.specs.PlanTexts.{PlanRefused, Spells}
+use Rattle.hh_pool.specs.Trees.{IsMergeTree, MergeTree}
+use Rattle.hh_pool.specs.declared.reading.PlanFault.{PlanFault}
+use Rattle.hh_pool.specs.declared.reading.PlanFault.TheVariants as plan
 use Rattle.heavy.specs.Rows.{rows_of}
 use Rattle.heavy.specs.Sinks.{TakesFirst}
 use Rattle.heavy.specs.Streams.{stream_of}
 use Rattle.heavy.specs.declared.error.ToolError.{ToolError}
 use Rattle.heavy.specs.declared.error.ToolError.TheVariants as tool
+use Rattle.heavy.specs.declared.error.TreeFault.{TreeFault}
+use Rattle.heavy.specs.declared.error.TreeFault.TheVariants as bad
+use Rattle.heavy.specs.declared.report.ReportOptions.{ReportOptions}
+use Rattle.heavy.specs.declared.report.Tree.{Tree}
+use Rattle.heavy.specs.declared.report.Tree.TheVariants as tree
 use Rattle.heavy.specs.declared.records.ReadError.{ReadError}
 use Rattle.heavy.specs.declared.records.ReadError.TheVariants as read
 use Rattle.heavy.specs.declared.rows.ReportFault.{ReportFault}
@@ -41,22 +50,60 @@ read_fault read.ReadFault = tool.ReadFault
 read_fault (read.BadRecord n c) = tool.BadRecord n c
 read_fault read.Memory = tool.Memory
 
--- k is one of a summary
-abbrev pub IsK : ℕ → Type 0
-IsK k = (1 ≤ k) × (k ≤ 65535)
-
 -- the rows of the report of a text for k, where the text is a stream
 abbrev pub ReportsRows : ℕ → List ℕ → List ℕ → Type 0
 ReportsRows k text rows = (xs : List Entry) × (stream_of text ≡ Ok xs) × (rows ≡ rows_of (heavy xs 1 (k + 1)))
 
+-- from 1 to the most
+abbrev pub in_range : ℕ → ℕ → Bool
+in_range n most = nat_le 1 n && nat_le n most
+
+-- the first test that options fail, before their tree
+abbrev pub bad_option : ReportOptions → Option ToolError
+bad_option o =
+    if not (in_range o.depth 16) then Some tool.BadDepth
+    else if not (in_range o.k 65535) then Some tool.BadK
+    else if not (in_range o.workers 64) then Some tool.BadWorkers
+    else if not (in_range o.width 65536) then Some tool.BadWidth
+    else if not (in_range o.pieces 1024) then Some tool.BadPieces
+    else None
+
+-- the tree is one of so many pieces
+abbrev pub IsTree : Tree → ℕ → Type 0
+IsTree tree.Chain pieces = ⊤
+IsTree tree.Balanced pieces = ⊤
+IsTree (tree.Text t) pieces = (plan : MergeTree) × Spells t.items plan × IsMergeTree plan pieces
+
+-- a fault of a plan's text as a fault of its tree
+abbrev pub plan_fault : TreeFault → PlanFault
+plan_fault (bad.Syntax n) = plan.Syntax n
+plan_fault (bad.UnknownPiece n) = plan.UnknownPiece n
+plan_fault (bad.RepeatedPiece n) = plan.RepeatedPiece n
+plan_fault (bad.MissingPiece n) = plan.MissingPiece n
+
+abbrev pub TreeRefused : Tree → ℕ → TreeFault → Type 0
+TreeRefused tree.Chain pieces f = ⊥
+TreeRefused tree.Balanced pieces f = ⊥
+TreeRefused (tree.Text t) pieces f = PlanRefused t.items pieces (plan_fault f)
+
+-- the options pass all tests
+abbrev pub AreOptions : ReportOptions → Type 0
+AreOptions o = (bad_option o ≡ None) × IsTree o.tree o.pieces
+
 -- a whole report was written: what the sink took is the rows of the report of all bytes that the reader had left
-abbrev pub IsReported : ℕ → Option (List ℕ) → Option (List ℕ) → Option (List ℕ) → Type 0
-IsReported k left old new = IfSome left (λ text. (rows : List ℕ) × ReportsRows k text rows × Appends old new rows)
+abbrev pub IsReported : ReportOptions → Option (List ℕ) → Option (List ℕ) → Option (List ℕ) → Type 0
+IsReported o left old new = AreOptions o × IfSome left (λ text. (rows : List ℕ) × ReportsRows o.k text rows × Appends old new rows)
 
 -- what each refusal of a report tells, and what it leaves in the sink
-abbrev pub ReportRefused : ℕ → Option (List ℕ) → Option (List ℕ) → Option (List ℕ) → ToolError → Type 0
-ReportRefused k left old new tool.BadK = Keeps old new
-ReportRefused k left old new tool.ReadFault = IsK k × Keeps old new
-ReportRefused k left old new (tool.BadRecord n c) = IsK k × Keeps old new × IfSome left (λ text. stream_of text ≡ Err (n, c))
-ReportRefused k left old new (tool.WriteFault n) = IsK k × IfSome left (λ text. (rows : List ℕ) × ReportsRows k text rows × TakesFirst old new rows n)
-ReportRefused k left old new tool.Memory = Keeps old new
+abbrev pub ReportRefused : ReportOptions → Option (List ℕ) → Option (List ℕ) → Option (List ℕ) → ToolError → Type 0
+ReportRefused o left old new tool.BadDepth = (bad_option o ≡ Some tool.BadDepth) × Keeps old new
+ReportRefused o left old new tool.BadK = (bad_option o ≡ Some tool.BadK) × Keeps old new
+ReportRefused o left old new tool.BadWorkers = (bad_option o ≡ Some tool.BadWorkers) × Keeps old new
+ReportRefused o left old new tool.BadWidth = (bad_option o ≡ Some tool.BadWidth) × Keeps old new
+ReportRefused o left old new tool.BadPieces = (bad_option o ≡ Some tool.BadPieces) × Keeps old new
+ReportRefused o left old new (tool.BadTree f) = (bad_option o ≡ None) × TreeRefused o.tree o.pieces f × Keeps old new
+ReportRefused o left old new tool.ReadFault = AreOptions o × Keeps old new
+ReportRefused o left old new (tool.BadRecord n c) = AreOptions o × Keeps old new × IfSome left (λ text. stream_of text ≡ Err (n, c))
+ReportRefused o left old new (tool.WriteFault n) = AreOptions o × IfSome left (λ text. (rows : List ℕ) × ReportsRows o.k text rows × TakesFirst old new rows n)
+ReportRefused o left old new tool.Memory = (bad_option o ≡ None) × Keeps old new
+ReportRefused o left old new _ = ⊥

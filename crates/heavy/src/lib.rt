@@ -11,9 +11,9 @@ mod sink;
 mod tests;
 
 pub use confirmation::{ConfirmFault, confirm};
-pub use error::ToolError;
+pub use error::{KeyCause, MergeCause, ToolError, TreeFault};
 pub use hh_counters::Heavy;
 pub use records::{BadRecordCause, ReadError, read_stream};
-pub use report::{ReportOptions, run_report};
+pub use report::{ReportOptions, Tree, run_report};
 pub use rows::{ReportFault, report_text, write_report};
 pub use sink::{Out, Sink, SinkFault, WriteFault, put};

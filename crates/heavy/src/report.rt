@@ -1,49 +1,162 @@
 //! A report from a reader to a sink.
 
-ghost use Rattle.std.specs.Prelude.{◌≡◌, ◌<◌, ◌≤◌, ◌⊎◌, ◌+◌, ◌↔◌, false, IfOk, IfErr, OnOk, IsErrOf};
+ghost use Rattle.std.specs.Prelude.{◌≡◌, ◌<◌, ◌≤◌, ◌+◌, false, length, IfOk, IfErr, IfSome, OnOk, MatchResult, Err, None, Some};
+ghost use Rattle.hh_pool.specs.Settings.{IsK};
+ghost use Rattle.hh_pool.specs.Trees.{leaves};
 ghost use Rattle.hh_counters.specs.Report.{heavy};
-ghost use Rattle.heavy.specs.Reports.{IsReported, ReportRefused, failed_by, read_fault};
+ghost use Rattle.heavy.specs.Reports.{IsReported, IsTree, ReportRefused, TreeRefused, bad_option, failed_by, in_range, read_fault};
 
-use crate::confirmation::weights_of;
-use crate::error::ToolError;
+use crate::error::{ToolError, TreeFault};
 use crate::records::{ReadError, read_stream};
 use crate::rows::{ReportFault, write_report};
 use crate::sink::Sink;
-use hh_counters::laws::{candidates_suffice, misra_gries_is_honest};
-use hh_counters::{Candidates, Heavy, MAX_K, OfItemsFault, Summary};
-use hh_stream::Stream;
+use hh_counters::{Heavy, MAX_K};
+use hh_countmin::{DrawFault, Family, MAX_DEPTH, MAX_WIDTH};
+use hh_pool::{MAX_WORKERS, OpenGate, Options, OptionsFault, Plan, PlanFault, RunError, analyse};
+use hh_stream::{Cutting, CuttingFault, MAX_PIECES, Stream};
 use std::alloc::{AllocError, Global};
 use std::io::Read;
 use std::sync::Wait;
 use std::thread::Threads;
 
-/// What a report is of.
-#[derive(Clone, Copy, Debug, PartialEq, Eq)]
+/// How the summaries of the pieces are merged. Every tree gives the same report.
+#[derive(Debug, Drop)]
+pub enum Tree {
+    /// One after the other.
+    Chain,
+    /// By halves.
+    Balanced,
+    /// As the text says, as `((0 1) 2)`.
+    Text(Vec<u8>),
+}
+
+/// What a report is of, and how it is made.
+#[derive(Debug, Drop)]
 pub struct ReportOptions {
     /// The report has the keys above 1/(k + 1) of the total weight: 1 to 65,535.
     pub k: u64,
+    /// The number of workers: 1 to 64.
+    pub workers: u64,
+    /// The number of pieces that the stream is cut into: 1 to 1,024.
+    pub pieces: u64,
+    /// How the summaries of the pieces are merged.
+    pub tree: Tree,
+    /// The width of the Count-Min table: 1 to 65,536.
+    pub width: u64,
+    /// The depth of the table: 1 to 16.
+    pub depth: u64,
+    /// The seed of the table's hash family.
+    pub seed: u64,
 }
 
-/// The heavy keys of a stream, by a second pass over the keys of its Misra-Gries summary.
-fn heavy_keys(alloc: Global, k: u64, stream: &Stream) -> Result<Vec<Heavy>, AllocError>
-    requires some_k { 1 ≤ k }
-    requires bounded_k { k ≤ MAX_K }
-    ensures { IfOk result (λ rows. rows.items ≡ heavy stream.now 1 (k + 1)) }
+/// Whether a number is from 1 to the most.
+fn in_range(number: u64, most: u64) -> bool
+    ensures { result ≡ in_range number most }
 {
-    misra_gries_is_honest();
-    candidates_suffice();
-    let summary = match Summary::of_items(alloc, k, stream.items()) {
-        Ok(summary) => summary,
-        Err(OfItemsFault::BadK) => unreachable!(),
-        Err(OfItemsFault::Memory) => return Err(AllocError),
+    1 <= number && number <= most
+}
+
+/// Tests the options, but for the tree.
+fn check_options(options: &ReportOptions) -> Result<(), ToolError>
+    ensures { MatchResult result (λ _. bad_option options.now ≡ None) (λ fault. bad_option options.now ≡ Some fault) }
+{
+    if !in_range(options.depth, MAX_DEPTH) {
+        return Err(ToolError::BadDepth);
+    }
+    if !in_range(options.k, MAX_K) {
+        return Err(ToolError::BadK);
+    }
+    if !in_range(options.workers, MAX_WORKERS) {
+        return Err(ToolError::BadWorkers);
+    }
+    if !in_range(options.width, MAX_WIDTH) {
+        return Err(ToolError::BadWidth);
+    }
+    if !in_range(options.pieces, MAX_PIECES as u64) {
+        return Err(ToolError::BadPieces);
+    }
+    Ok(())
+}
+
+/// Why there is no plan.
+#[derive(Drop)]
+enum NoPlan {
+    Bad(TreeFault),
+    Memory,
+}
+
+/// The plan of a tree over so many pieces.
+fn plan_of(alloc: Global, tree: &Tree, pieces: usize) -> Result<Plan, NoPlan>
+    requires some { 1 ≤ pieces }
+    requires few { pieces ≤ MAX_PIECES }
+    ensures pieces { IfOk result (λ plan. length (leaves plan) ≡ pieces) }
+    ensures tree { OnOk result (IsTree tree.now pieces) }
+    ensures refused { (fault : TreeFault) → result ≡ Err (NoPlan.Bad fault) → TreeRefused tree.now pieces fault }
+{
+    match tree {
+        Tree::Chain => Plan::chain(alloc, pieces).map_err(|_| NoPlan::Memory),
+        Tree::Balanced => Plan::balanced(alloc, pieces).map_err(|_| NoPlan::Memory),
+        Tree::Text(text) => match Plan::parse(alloc, text, pieces) {
+            Ok(plan) => Ok(plan),
+            Err(PlanFault::Syntax(at)) => Err(NoPlan::Bad(TreeFault::Syntax(at))),
+            Err(PlanFault::UnknownPiece(piece)) => Err(NoPlan::Bad(TreeFault::UnknownPiece(piece))),
+            Err(PlanFault::RepeatedPiece(piece)) => {
+                Err(NoPlan::Bad(TreeFault::RepeatedPiece(piece)))
+            }
+            Err(PlanFault::MissingPiece(piece)) => Err(NoPlan::Bad(TreeFault::MissingPiece(piece))),
+            Err(PlanFault::Memory) => Err(NoPlan::Memory),
+        },
+    }
+}
+
+/// The settings of an analysis, with the family drawn from the seed.
+fn settings_of(alloc: Global, options: &ReportOptions) -> Result<Options, AllocError>
+    requires { bad_option options.now ≡ None }
+    ensures { IfOk result (λ settings. settings.k ≡ options.now.k) }
+{
+    let family = match Family::draw(alloc, options.seed, options.depth) {
+        Ok(family) => family,
+        Err(DrawFault::BadDepth) => unreachable!(),
+        Err(DrawFault::Memory) => return Err(AllocError),
     };
-    let candidates = Candidates::of(alloc, &summary)?;
-    let weights = weights_of(alloc, &candidates, stream)?;
-    Ok(candidates.select(&weights, stream.total(), k)?)
+    match Options::new(options.k, options.workers, options.width, family) {
+        Ok(settings) => Ok(settings),
+        Err(OptionsFault::BadK | OptionsFault::BadWorkers | OptionsFault::BadWidth) => {
+            unreachable!()
+        }
+    }
+}
+
+/// The heavy keys of a stream that is cut evenly.
+fn heavy_keys<T: Threads + Wait + Sync>(
+    rt: &T,
+    alloc: Global,
+    stream: &Stream,
+    pieces: usize,
+    plan: &Plan,
+    settings: &Options,
+) -> Result<Vec<Heavy>, AllocError>
+    requires some { 1 ≤ pieces }
+    requires few { pieces ≤ MAX_PIECES }
+    requires plan { length (leaves plan.now) ≡ pieces }
+    ensures { IfOk result (λ rows. rows.items ≡ heavy stream.now 1 (settings.now.k + 1)) }
+{
+    let cutting = match Cutting::even(alloc, stream.len(), pieces) {
+        Ok(cutting) => cutting,
+        Err(CuttingFault::Memory) => return Err(AllocError),
+        Err(CuttingFault::NoPieces | CuttingFault::TooManyPieces | CuttingFault::WrongSum) => {
+            unreachable!()
+        }
+    };
+    match analyse(rt, alloc, stream, &cutting, plan, settings, &OpenGate) {
+        Ok(outcome) => Ok(outcome.heavy),
+        Err(RunError::PlanMismatch) => unreachable!(),
+        Err(RunError::Memory) => Err(AllocError),
+    }
 }
 
 /// The error of a command whose input was not read.
-fn read_fault(error: ReadError) -> ToolError
+pub(crate) fn read_fault(error: ReadError) -> ToolError
     ensures { result ≡ read_fault error }
 {
     match error {
@@ -55,31 +168,42 @@ fn read_fault(error: ReadError) -> ToolError
 
 /// Reads records as [`read_stream`](crate::read_stream) does, and writes the report of their stream:
 /// exactly the keys whose weight is more than the total divided by k + 1, with their true weights, by
-/// falling weight and then by rising key.
+/// falling weight and then by rising key. The stream is cut evenly and analysed by workers in threads
+/// of their own; the report is the same for all other options.
 ///
-/// A refusal other than [`ToolError::WriteFault`] has written nothing.
+/// The options are tested before anything is read, in the order depth, k, workers, width, pieces and
+/// tree. A refusal other than [`ToolError::WriteFault`] has written nothing.
 pub fn run_report<T: Threads + Wait + Sync, R: Read + Drop, S: Sink>(
-    _rt: &T,
+    rt: &T,
     alloc: Global,
     options: &ReportOptions,
     reader: R,
     sink: &mut S,
 ) -> Result<(), ToolError>
     requires { S.has_failed sink.old ≡ false }
-    ensures reported { OnOk result (IsReported options.now.k (R.remaining reader) (S.taken sink.old) (S.taken sink.new)) }
-    ensures refused { IfErr result (λ fault. ReportRefused options.now.k (R.remaining reader) (S.taken sink.old) (S.taken sink.new) fault) }
-    ensures bad_k { IsErrOf result ToolError.BadK ↔ ((options.now.k ≡ 0) ⊎ (MAX_K < options.now.k)) }
+    ensures reported { OnOk result (IsReported options.now (R.remaining reader) (S.taken sink.old) (S.taken sink.new)) }
+    ensures refused { IfErr result (λ fault. ReportRefused options.now (R.remaining reader) (S.taken sink.old) (S.taken sink.new) fault) }
+    ensures bad_option { IfSome (bad_option options.now) (λ fault. result ≡ Err fault) }
     ensures failed { S.has_failed sink.new ≡ failed_by result }
 {
-    let k = options.k;
-    if k == 0 || k > MAX_K {
-        return Err(ToolError::BadK);
+    match check_options(options) {
+        Ok(()) => {}
+        Err(fault) => return Err(fault),
     }
+    let pieces = options.pieces as usize;
+    let plan = match plan_of(alloc, &options.tree, pieces) {
+        Ok(plan) => plan,
+        Err(NoPlan::Bad(fault)) => return Err(ToolError::BadTree(fault)),
+        Err(NoPlan::Memory) => return Err(ToolError::Memory),
+    };
+    let Ok(settings) = settings_of(alloc, options) else {
+        return Err(ToolError::Memory);
+    };
     let stream = match read_stream(alloc, reader) {
         Ok(stream) => stream,
         Err(error) => return Err(read_fault(error)),
     };
-    let Ok(rows) = heavy_keys(alloc, k, &stream) else {
+    let Ok(rows) = heavy_keys(rt, alloc, &stream, pieces, &plan, &settings) else {
         return Err(ToolError::Memory);
     };
     match write_report(alloc, sink, &rows) {

@@ -99,6 +99,8 @@ impl Cutting {
     /// below `len % pieces`.
     pub fn even(alloc: Global, len: usize, pieces: usize) -> Result<Cutting, CuttingFault>
         ensures even { IfOk result (λ cutting. cutting ≡ even_lengths len pieces) }
+        ensures adds_up { IfOk result (λ cutting. sum cutting ≡ len) }
+        ensures pieces { IfOk result (λ cutting. length cutting ≡ pieces) }
         ensures no_pieces { IsErrOf result CuttingFault.NoPieces ↔ (pieces ≡ 0) }
         ensures too_many { IsErrOf result CuttingFault.TooManyPieces ↔ (MAX_PIECES < pieces) }
         ensures right_sum { ¬ IsErrOf result CuttingFault.WrongSum }
