@@ -2,7 +2,8 @@
 
 use crate::{
     BadRecordCause, ConfirmFault, Heavy, Out, ReadError, ReportFault, ReportOptions, Sink,
-    ToolError, WriteFault, confirm, put, read_stream, report_text, run_report, write_report,
+    ToolError, Tree, TreeFault, WriteFault, confirm, put, read_stream, report_text, run_report,
+    write_report,
 };
 use hh_counters::Summary;
 use hh_stream::Key;
@@ -150,10 +151,23 @@ fn records_of_one_field_weigh_one(rt: HostRuntime) -> Result<(), Fail> {
     Ok(())
 }
 
+/// The options that the program takes where none are given, and k.
+fn options(k: u64) -> ReportOptions {
+    ReportOptions {
+        k,
+        workers: 4,
+        pieces: 4,
+        tree: Tree::Balanced,
+        width: 1024,
+        depth: 4,
+        seed: 0,
+    }
+}
+
 /// What a report of a text writes, where the writer takes so many bytes, and the refusal.
 fn report_of(
     rt: &(impl Abort + AllocGlobal + Threads + Wait + Sync),
-    k: u64,
+    options: &ReportOptions,
     text: &[u8],
     left: usize,
 ) -> (Vec<u8>, Option<ToolError>) {
@@ -163,7 +177,7 @@ fn report_of(
         taken: &mut taken,
         flushes: true,
     });
-    let fault = run_report(rt, rt.alloc(), &ReportOptions { k }, text, &mut out).err();
+    let fault = run_report(rt, rt.alloc(), options, text, &mut out).err();
     drop(out);
     (taken, fault)
 }
@@ -181,7 +195,7 @@ fn reports_of_texts(rt: HostRuntime) {
         (b"a\nb\na\n", 1, b"a,2\n"),
     ];
     for (text, k, report) in texts {
-        let (taken, fault) = report_of(&rt, k, text, 99);
+        let (taken, fault) = report_of(&rt, &options(k), text, 99);
         assert_eq!(rt; taken.as_slice(), report);
         assert_eq!(rt; fault, None);
     }
@@ -205,10 +219,72 @@ fn refused_reports(rt: HostRuntime) {
         (2, text, 2, ToolError::WriteFault { written: 2 }, b"a,"),
     ];
     for (k, text, left, fault, written) in runs {
-        let (taken, refusal) = report_of(&rt, k, text, left);
+        let (taken, refusal) = report_of(&rt, &options(k), text, left);
         assert_eq!(rt; refusal, Some(fault));
         assert_eq!(rt; taken.as_slice(), written);
     }
+}
+
+#[test]
+fn every_way_gives_one_report(rt: HostRuntime) -> Result<(), Fail> {
+    let text = b"a,5\nb,3\nc,2\na,1\n".as_slice();
+    for (pieces, workers) in [(1, 1), (1, 4), (2, 1), (2, 4), (7, 1), (7, 4)] {
+        for tree in [Tree::Chain, Tree::Balanced] {
+            let mut options = options(2);
+            options.pieces = pieces;
+            options.workers = workers;
+            options.tree = tree;
+            let (taken, fault) = report_of(&rt, &options, text, 99);
+            assert_eq!(rt; taken.as_slice(), b"a,6\n".as_slice());
+            assert_eq!(rt; fault, None);
+        }
+    }
+    let mut options = options(1);
+    options.pieces = 3;
+    options.tree = Tree::Text(b"(0 (1 2))".to_vec(rt.alloc())?);
+    let (taken, fault) = report_of(&rt, &options, b"a,2\nb,1\nc,1\n", 99);
+    assert_eq!(rt; taken.len(), 0);
+    assert_eq!(rt; fault, None);
+    Ok(())
+}
+
+#[test]
+fn options_are_tested_in_order(rt: HostRuntime) -> Result<(), Fail> {
+    let mut options = ReportOptions {
+        k: 0,
+        workers: 65,
+        pieces: 1025,
+        tree: Tree::Text(b"(0 1)".to_vec(rt.alloc())?),
+        width: 65_537,
+        depth: 17,
+        seed: 0,
+    };
+    let text = b"a,0\n".as_slice();
+    assert_eq!(rt;
+        report_of(&rt, &options, text, 9).1,
+        Some(ToolError::BadDepth)
+    );
+    options.depth = 16;
+    assert_eq!(rt; report_of(&rt, &options, text, 9).1, Some(ToolError::BadK));
+    options.k = 65_535;
+    assert_eq!(rt;
+        report_of(&rt, &options, text, 9).1,
+        Some(ToolError::BadWorkers)
+    );
+    options.workers = 1;
+    assert_eq!(rt;
+        report_of(&rt, &options, text, 9).1,
+        Some(ToolError::BadWidth)
+    );
+    options.width = 1;
+    assert_eq!(rt;
+        report_of(&rt, &options, text, 9).1,
+        Some(ToolError::BadPieces)
+    );
+    options.pieces = 3;
+    let missing = ToolError::BadTree(TreeFault::MissingPiece(2));
+    assert_eq!(rt; report_of(&rt, &options, text, 9).1, Some(missing));
+    Ok(())
 }
 
 #[test]
@@ -235,7 +311,31 @@ fn confirmed_keys_of_a_summary(rt: HostRuntime) -> Result<(), Fail> {
 fn texts_and_statuses_of_faults(rt: HostRuntime) -> Result<(), Fail> {
     let cause = BadRecordCause::TotalTooLarge;
     let faults = [
+        (ToolError::BadDepth, "depth must be 1 to 16", 2),
         (ToolError::BadK, "k must be 1 to 65535", 2),
+        (ToolError::BadWorkers, "workers must be 1 to 64", 2),
+        (ToolError::BadWidth, "width must be 1 to 65536", 2),
+        (ToolError::BadPieces, "pieces must be 1 to 1024", 2),
+        (
+            ToolError::BadTree(TreeFault::Syntax(3)),
+            "tree: syntax at byte 3",
+            2,
+        ),
+        (
+            ToolError::BadTree(TreeFault::UnknownPiece(3)),
+            "tree: no piece 3",
+            2,
+        ),
+        (
+            ToolError::BadTree(TreeFault::RepeatedPiece(1)),
+            "tree: piece 1 twice",
+            2,
+        ),
+        (
+            ToolError::BadTree(TreeFault::MissingPiece(2)),
+            "tree: piece 2 missing",
+            2,
+        ),
         (ToolError::ReadFault, "input could not be read", 1),
         (
             ToolError::BadRecord { number: 2, cause },

@@ -2,8 +2,8 @@
 #![tactic(auto)]
 
 use clap::error::ErrorKind;
-use clap::{Arg, Command, value_parser};
-use heavy::{Out, ReportOptions, ToolError, run_report};
+use clap::{Arg, ArgMatches, Command, value_parser};
+use heavy::{Out, ReportOptions, ToolError, Tree, run_report};
 use std::alloc::{AllocError, Global};
 use std::process::ExitCode;
 use std::{env, io};
@@ -12,7 +12,7 @@ use std::{env, io};
 const USAGE: u8 = 2;
 
 /// What a command line asks for.
-#[derive(Clone, Copy)]
+#[derive(Drop)]
 enum Request {
     /// The report of standard input.
     Report(ReportOptions),
@@ -20,21 +20,78 @@ enum Request {
     End(u8),
 }
 
+/// An option with a number.
+fn number<'a>(alloc: Global, name: &'a str, help: &'a str, default: &'a str) -> Arg<'a> {
+    Arg::new(alloc, name)
+        .long(name)
+        .help(help)
+        .value_parser(value_parser!(u64))
+        .default_value(default)
+}
+
+/// The command that prints a report.
+fn report_command<'a>(alloc: Global) -> Result<Command<'a>, AllocError> {
+    let tree = Arg::new(alloc, "tree")
+        .long("tree")
+        .help("How the pieces' summaries are merged: balanced, chain or a plan as ((0 1) 2)")
+        .default_value("balanced");
+    Command::new(alloc, "report")
+        .about("Print the heavy keys of the records on standard input, with their weights")
+        .arg(number(
+            alloc,
+            "k",
+            "Report the keys above 1/(k+1) of the total weight",
+            "100",
+        ))?
+        .arg(number(alloc, "workers", "Threads that work at once", "4"))?
+        .arg(number(alloc, "pieces", "Pieces that the records are cut into", "4"))?
+        .arg(tree)?
+        .arg(number(alloc, "width", "Width of the Count-Min table", "1024"))?
+        .arg(number(alloc, "depth", "Depth of the Count-Min table", "4"))?
+        .arg(number(alloc, "seed", "Seed of the table's hash family", "0"))
+}
+
 /// The command line that the program reads.
 fn command<'a>(alloc: Global) -> Result<Command<'a>, AllocError> {
-    let k = Arg::new(alloc, "k")
-        .long("k")
-        .help("Report the keys above 1/(k+1) of the total weight")
-        .value_parser(value_parser!(u64))
-        .default_value("100");
-    let report = Command::new(alloc, "report")
-        .about("Print the heavy keys of the records on standard input, with their weights")
-        .arg(k)?;
     Command::new(alloc, "heavy")
         .bin_name("heavy")?
         .about("Finds the frequent keys of large weighted streams")
         .subcommand_required(true)
-        .subcommand(report)
+        .subcommand(report_command(alloc)?)
+}
+
+/// The tree that a word names.
+fn tree_of(alloc: Global, word: &str) -> Result<Tree, AllocError> {
+    match word {
+        "balanced" => Ok(Tree::Balanced),
+        "chain" => Ok(Tree::Chain),
+        text => Ok(Tree::Text(text.as_bytes().to_vec(alloc)?)),
+    }
+}
+
+/// The options of a report.
+fn report_request(alloc: Global, found: &ArgMatches) -> Result<Request, AllocError> {
+    let (Some(k), Some(workers), Some(pieces), Some(width), Some(depth), Some(seed), Some(tree)) = (
+        found.get_one::<u64>("k"),
+        found.get_one::<u64>("workers"),
+        found.get_one::<u64>("pieces"),
+        found.get_one::<u64>("width"),
+        found.get_one::<u64>("depth"),
+        found.get_one::<u64>("seed"),
+        found.get_str("tree"),
+    ) else {
+        return Ok(Request::End(USAGE));
+    };
+    let tree = tree_of(alloc, tree)?;
+    Ok(Request::Report(ReportOptions {
+        k,
+        workers,
+        pieces,
+        tree,
+        width,
+        depth,
+        seed,
+    }))
 }
 
 /// What the words of the command line ask for. Help and faults of the command line are printed.
@@ -63,10 +120,7 @@ fn read_request(rt: &HostRuntime) -> Result<Request, ToolError> {
         }
     };
     match matches.subcommand() {
-        Some(("report", found)) => match found.get_one::<u64>("k") {
-            Some(k) => Ok(Request::Report(ReportOptions { k })),
-            None => Ok(Request::End(USAGE)),
-        },
+        Some(("report", found)) => report_request(alloc, found).map_err(|_| ToolError::Memory),
         _ => Ok(Request::End(USAGE)),
     }
 }
