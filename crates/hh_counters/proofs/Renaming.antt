@@ -61,14 +61,6 @@ renamed_moves b d m n x there one free r c q =
     by false true p r = drop (same_key x q) ∙ ap (cond (same_key x q) false) (sym own ∙ ap (λ k. has b k q) (same_counter m c r))
     by false false p r = refl
 
-pub renamed_none_empty : (b d : Buckets) (m n : ℕ) → Renames b d m n → NoneEmpty b → NoneEmpty d
-renamed_none_empty b d m n r none c s at = by (is_eq (nat_cmp n c)) (is_eq (nat_cmp m c)) (sym (r c) ∙ at)
-  where
-    by : (e f : Bool) → cond e (get nat_cmp b m) (cond f None (get nat_cmp b c)) ≡ Some s → s.keys ≡ [] → ⊥
-    by true f is = none m s is
-    by false true is = absurd (cc is)
-    by false false is = none c s is
-
 -- the three edits of the map: an empty bucket at n, the one of m taken out, and put at n
 pub renamed_by_edits : (b : Buckets) (m n : ℕ) (empty s : BTreeSet Bytes) (b1 b2 d : Buckets) → IsSome (get nat_cmp b m) → get nat_cmp b n ≡ None
     → ((c : ℕ) → get nat_cmp b1 c ≡ cond (is_eq (nat_cmp n c)) (Some empty) (get nat_cmp b c)) → Some s ≡ get nat_cmp b1 m
