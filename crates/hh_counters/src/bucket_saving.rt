@@ -202,11 +202,11 @@ fn add_item(
         return Ok(());
     }
     let Some((least, _)) = first(buckets) else {
-        return Ok(());
+        unreachable!("a full index has a first bucket");
     };
     enter(alloc, index, buckets, key, least + weight)?;
     let Some(_) = drop_first(index, buckets) else {
-        return Ok(());
+        unreachable!("the newcomer has a bucket");
     };
     Ok(())
 }
