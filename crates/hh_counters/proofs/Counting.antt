@@ -3,7 +3,7 @@ use Rattle.std.proofs.Common.{◌≡◌, ◌↔◌, ℕ, zero, suc, ◌+◌, ◌
 use Rattle.std.specs.Prelude.{replicate, position, slice_get, slice_set, Contains, IsSome}
 use Rattle.std.specs.List.{AllByRecursion, list_any}
 use Rattle.std.specs.List.Sorted.{IsStrictlySortedBy}
-use Rattle.std.specs.Cmp.{Equal-is, eq_by_cmp_equiv}
+use Rattle.std.specs.Cmp.{eq_by_cmp_equiv}
 use Rattle.std.proofs.lemmas.Option.{slice_get-get_or, slice_get_within, get_or_from_slice_get}
 use Rattle.std.proofs.lemmas.List.{get_or_default, get_or-take, length-take, take_more}
 use Rattle.std.proofs.lemmas.List.Folds.{list_any_none}
@@ -13,7 +13,7 @@ use Rattle.std.proofs.lemmas.Map.Views.{list_any-from_Contains}
 use Rattle.indexmap.specs.IndexSet.{insert_key}
 use Rattle.hh_stream.specs.Weights.{Bytes, Entry, key_cmp, same_key, at_key, weight_of, total_of}
 use Rattle.hh_counters.specs.Report.{weights_at, counted}
-use Rattle.hh_counters.proofs.Weights.{key_total, key_exact, key_self, flipped, weight_of-append, weight_of-cons, total_of-cons, at_other}
+use Rattle.hh_counters.proofs.Weights.{same_exact, key_total, key_self, flipped, weight_of-append, weight_of-cons, total_of-cons, at_other}
 
 pub counted_from_zero : (ks : List Bytes) (xs : List Entry) → counted ks xs (replicate (length ks) 0) ≡ weights_at ks xs
 counted_from_zero [] xs = refl
@@ -24,11 +24,6 @@ counted-append [] xs ys ns = refl
 counted-append (x ∷ ks) xs ys [] = refl
 counted-append (x ∷ ks) xs ys (n ∷ ns) = ap₂ (λ n (ns : List ℕ). n ∷ ns) (omega (arith, weight_of-append x xs ys)) (counted-append ks xs ys ns)
 
-pub length-counted : (ks : List Bytes) (xs : List Entry) (ns : List ℕ) → length ns ≡ length ks → length (counted ks xs ns) ≡ length ks
-length-counted [] xs ns e = e
-length-counted (x ∷ ks) xs [] e = e
-length-counted (x ∷ ks) xs (n ∷ ns) e = omega (arith, length-counted ks xs ns (omega arith))
-
 -- nothing counted changes nothing
 pub counted_none : (ks : List Bytes) (ns : List ℕ) → length ns ≡ length ks → counted ks [] ns ≡ ns
 counted_none [] ns e = refl
@@ -36,9 +31,6 @@ counted_none (x ∷ ks) [] e = refl
 counted_none (x ∷ ks) (n ∷ ns) e = ap₂ (λ n (ns : List ℕ). n ∷ ns) (omega arith) (counted_none ks ns (omega arith))
 
 -- ---- a look-up
-same_exact : (x y : Bytes) → same_key x y ≡ true → x ≡ y
-same_exact x y e = key_exact x y ((Equal-is (key_cmp x y)).0 e)
-
 found_at : (ks : List Bytes) (x : Bytes) (i : ℕ) → position (same_key x) ks ≡ Some i → slice_get ks i ≡ Some x
 found_at ks x i e =
     let p = position-Some (same_key x) ks i x e in

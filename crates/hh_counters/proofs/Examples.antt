@@ -1,8 +1,9 @@
 -- Small cases worked by hand: what the definitions compute.
-use Rattle.std.specs.Prelude.{◌≡◌, List, [], ◌∷◌, refl}
+use Rattle.std.specs.Prelude.{◌≡◌, List, [], ◌∷◌, ◌++◌, refl}
 use Rattle.hh_stream.specs.Weights.{Bytes, Entry, total_of}
 use Rattle.hh_counters.specs.Counters.{tally, plus, level, lower, join, misra_gries, slack}
 use Rattle.hh_counters.specs.Report.{heavy, by_rank}
+use Rattle.hh_counters.specs.SpaceSaving.{least_of, translate, space_saving}
 
 abbrev a : Bytes
 a = 97 ∷ []
@@ -12,6 +13,9 @@ b = 98 ∷ []
 
 abbrev c : Bytes
 c = 99 ∷ []
+
+abbrev d : Bytes
+d = 100 ∷ []
 
 abbrev four_records : List Entry
 four_records = (a, 5) ∷ (b, 3) ∷ (c, 2) ∷ (a, 1) ∷ []
@@ -71,3 +75,27 @@ right_join_first = refl
 largest_total : misra_gries ((a, 9223372036854775791) ∷ (b, 7) ∷ (c, 9) ∷ []) 2 ≡ (a, 9223372036854775784) ∷ (c, 2) ∷ []
 unfolding misra_gries tally level lower
 largest_total = refl
+
+-- three counters, for k = 2, are enough for the four records
+four_records_monitored : space_saving four_records 2 ≡ (a, 6) ∷ (b, 3) ∷ (c, 2) ∷ []
+four_records_monitored = refl
+
+four_records_translated : translate (space_saving four_records 2) 2 ≡ (a, 4) ∷ (b, 1) ∷ []
+unfolding lower
+four_records_translated = refl
+
+-- d takes over the counter of c, which is dropped
+newcomer_takes_over : space_saving (four_records ++ (d, 4) ∷ []) 2 ≡ (a, 6) ∷ (b, 3) ∷ (d, 6) ∷ []
+newcomer_takes_over = refl
+
+newcomer_translated : translate ((a, 6) ∷ (b, 3) ∷ (d, 6) ∷ []) 2 ≡ (a, 3) ∷ (d, 3) ∷ []
+unfolding lower
+newcomer_translated = refl
+
+-- with a counter free nothing is taken
+nothing_taken : least_of ((a, 5) ∷ (b, 3) ∷ []) 2 ≡ 0
+nothing_taken = refl
+
+-- of equal least counters the least key goes
+least_key_goes : space_saving ((b, 1) ∷ (a, 1) ∷ (c, 1) ∷ []) 1 ≡ (b, 1) ∷ (c, 2) ∷ []
+least_key_goes = refl

@@ -6,7 +6,6 @@ use Rattle.std.specs.List.Sorted.{IsStrictlySortedBy}
 use Rattle.std.specs.Map.{keys_of, lookup}
 use Rattle.std.specs.Ordering.{nat_cmp, ordering_reverse, match_ordering}
 use Rattle.std.specs.BTreeMap.{get as map_get}
-use Rattle.std.specs.BTreeSet.{BTreeSet}
 use Rattle.std.specs.Option.{option_to_list}
 use Rattle.std.proofs.lemmas.Bool.Decides.{nat_tests}
 use Rattle.std.proofs.lemmas.List.{get_or-map, length_push, same_from_push}
@@ -15,11 +14,12 @@ use Rattle.std.proofs.lemmas.Option.{slice_get_within, get_or_from_slice_get}
 use Rattle.hh_stream.specs.Weights.{Bytes, Entry, key_cmp, same_key, at_key, weight_of}
 use Rattle.hh_counters.specs.Counters.{Counters, IsCounters, add_at, tally, least_counter}
 use Rattle.hh_counters.specs.SpaceSaving.{least_of, without, first_with, key_to_drop, taken_over, step, IsMonitor}
-use Rattle.hh_counters.specs.Buckets.{Buckets, has, bucket_has, NoneEmpty, Changes, Moves, HasSame, HasNone, IsFirst, Agree, IsLinked, IsAdded}
-use Rattle.hh_counters.proofs.Weights.{key_exact, flipped, turned, weight_of-cons, weight_of-add_at, weight_of-tally, rising-tally, positive-tally, weight_above, weight_first, above_first, same_counters}
-use Rattle.hh_counters.proofs.Stepping.{same_exact, least_of_free, least_of_full, same_sym, same_self, at_least_all, least_counter-le, counters-add_at, counters-without, weight_of-without, length-add_at_new, by_key}
+use Rattle.hh_counters.specs.Buckets.{Buckets, has, bucket_has, NoneEmpty, Changes, Moves, HasNone, IsFirst, Agree, IsLinked, IsAdded}
+use Rattle.hh_counters.proofs.Weights.{same_exact, same_sym, same_self, key_exact, flipped, turned, weight_of-cons, weight_of-add_at, weight_of-tally, rising-tally, positive-tally, weight_above, weight_first, above_first, same_counters}
+use Rattle.hh_counters.proofs.Stepping.{least_of_free, least_of_full, at_least_all, least_counter-le, counters-add_at, counters-without, weight_of-without, length-add_at_new, by_key}
 use Rattle.hh_counters.proofs.Runs.{Positive}
 use Rattle.hh_counters.proofs.Counting.{weight_of-le-total_of}
+use Rattle.hh_counters.proofs.Renaming.{some_bucket}
 use Rattle.hh_counters.proofs.TakingOver.{without-add_at, monitor_step, monitor_nothing}
 
 -- ---- the view of an index: its tally
@@ -117,11 +117,6 @@ view_taken es fs y d p e u =
     same_counters _ _ (counters-view fs e (positive_taken es fs y p u)) (counters-without (tally es) y (counters-view es d p))
     (λ q. weight_taken es fs y d e u q ∙ ap (λ b. cond b 0 (weight_of q (tally es))) (same_sym y q) ∙ sym (weight_of-without q y (tally es)))
 
-pub view_same : (es fs : List Entry) → Distinct es → PositiveAt es → Distinct fs → ((q : Bytes) → lookup (same_key q) fs ≡ lookup (same_key q) es) → tally fs ≡ tally es
-view_same es fs d p e u =
-    same_counters _ _ (counters-view fs e (λ q. subst (λ o. IfSome o (λ m. 0 < m)) (sym (u q)) (p q))) (counters-view es d p)
-    (λ q. weight_of-view q fs e ∙ ap (λ o. unwrap_or o 0) (u q) ∙ sym (weight_of-view q es d))
-
 -- ---- the buckets agree
 moved_tests : (n w c : ℕ) → 0 < n → 0 < w → cond (is_eq (nat_cmp n c)) false (cond (is_eq (nat_cmp (n + w) c)) true (nat_lt 0 c && (n == c))) ≡ (nat_lt 0 c && (n + w == c))
 moved_tests n w c p h = grind (arith, nat_tests)
@@ -163,10 +158,6 @@ agree_taken s t b d y n at is a m c q = m c q ∙ (elim (same_key y q) as (λ v.
 ] refl (is q))
 
 -- ---- the first key of the first bucket
-some_bucket : (o : Option (BTreeSet Bytes)) (q : Bytes) → bucket_has o q ≡ true → IsSome o
-some_bucket None q e = absurd (true≢false (sym e))
-some_bucket (Some s) q e = refl
-
 -- what stands in the bucket of n has the counter n
 held : (s : Counters) (b : Buckets) (n : ℕ) (q : Bytes) → Agree s b → has b n q ≡ true → (weight_of q s ≡ n) × (0 < n)
 held s b n q a e = tests (weight_of q s) n (sym (a n q) ∙ e)
@@ -400,16 +391,6 @@ first-le-total k m es b n y l first = omega (arith, (held (tally es) b n y l.agr
 -- a map with no entries has no bucket
 pub empty_has_none : (b : Buckets) → b.entries ≡ [] → HasNone b × NoneEmpty b
 empty_has_none b e = (λ n q. ap (λ es. bucket_has (lookup (λ m. is_eq (nat_cmp n m)) es) q) e, λ n s at. absurd (cc (sym at ∙ ap (lookup (λ m. is_eq (nat_cmp n m))) e)))
-
--- what a refusal leaves is linked as before
-pub linked_same : (k m : ℕ) (es fs : List Entry) (b d : Buckets) → fs ≡ es → HasSame b d → NoneEmpty d → IsLinked k m es b → IsLinked k m fs d
-linked_same k m es fs b d e same none l = subst (λ (gs : List Entry). IsLinked k m gs d) (sym e) (record {
-  distinct = l.distinct;
-  positive = l.positive;
-  monitor = l.monitor;
-  agree = λ n q. same n q ∙ l.agree n q;
-  none_empty = none;
-})
 
 -- ---- what an index does
 -- the key that a look-up found is the key that was asked for

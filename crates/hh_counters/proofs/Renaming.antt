@@ -7,8 +7,8 @@ use Rattle.std.specs.BTreeMap.{get}
 use Rattle.std.specs.BTreeSet.{BTreeSet}
 use Rattle.std.proofs.lemmas.Bool.Decides.{nat_tests}
 use Rattle.hh_stream.specs.Weights.{Bytes, same_key}
-use Rattle.hh_counters.specs.Buckets.{Buckets, bucket_has, has, NoneEmpty, Moves, Renames}
-use Rattle.hh_counters.proofs.Stepping.{same_exact, same_sym}
+use Rattle.hh_counters.specs.Buckets.{Buckets, bucket_has, has, Moves, Renames}
+use Rattle.hh_counters.proofs.Weights.{same_exact, same_sym}
 
 or_false : (b : Bool) → (b || false) ≡ b
 or_false true = refl
@@ -32,7 +32,8 @@ same_counter m n h = grind (arith, nat_tests, h)
 not_there : (b : Buckets) (m n : ℕ) → IsSome (get nat_cmp b m) → get nat_cmp b n ≡ None → m ≡ n → ⊥
 not_there b m n some none same = absurd (true≢false (sym (subst IsSome (ap (get nat_cmp b) same ∙ none) some)))
 
-some_bucket : (o : Option (BTreeSet Bytes)) (x : Bytes) → bucket_has o x ≡ true → IsSome o
+-- a bucket that has a key is there
+pub some_bucket : (o : Option (BTreeSet Bytes)) (x : Bytes) → bucket_has o x ≡ true → IsSome o
 some_bucket None x h = absurd (true≢false (sym h))
 some_bucket (Some s) x h = refl
 
@@ -61,14 +62,6 @@ renamed_moves b d m n x there one free r c q =
     by false true p r = drop (same_key x q) ∙ ap (cond (same_key x q) false) (sym own ∙ ap (λ k. has b k q) (same_counter m c r))
     by false false p r = refl
 
-pub renamed_none_empty : (b d : Buckets) (m n : ℕ) → Renames b d m n → NoneEmpty b → NoneEmpty d
-renamed_none_empty b d m n r none c s at = by (is_eq (nat_cmp n c)) (is_eq (nat_cmp m c)) (sym (r c) ∙ at)
-  where
-    by : (e f : Bool) → cond e (get nat_cmp b m) (cond f None (get nat_cmp b c)) ≡ Some s → s.keys ≡ [] → ⊥
-    by true f is = none m s is
-    by false true is = absurd (cc is)
-    by false false is = none c s is
-
 -- the three edits of the map: an empty bucket at n, the one of m taken out, and put at n
 pub renamed_by_edits : (b : Buckets) (m n : ℕ) (empty s : BTreeSet Bytes) (b1 b2 d : Buckets) → IsSome (get nat_cmp b m) → get nat_cmp b n ≡ None
     → ((c : ℕ) → get nat_cmp b1 c ≡ cond (is_eq (nat_cmp n c)) (Some empty) (get nat_cmp b c)) → Some s ≡ get nat_cmp b1 m
@@ -86,18 +79,6 @@ renamed_by_edits b m n empty s b1 b2 d there free u1 is u2 u3 c = u3 c ∙ ap (c
     by : (e f : Bool) → cond e (Some s) (cond f None (cond e (Some empty) (get nat_cmp b c))) ≡ cond e (get nat_cmp b m) (cond f None (get nat_cmp b c))
     by true f = own
     by false f = refl
-
--- the empty bucket is still there once that of m is taken out
-pub still_there : (b : Buckets) (m n : ℕ) (empty : BTreeSet Bytes) (b1 b2 : Buckets) → IsSome (get nat_cmp b m) → get nat_cmp b n ≡ None
-    → ((c : ℕ) → get nat_cmp b1 c ≡ cond (is_eq (nat_cmp n c)) (Some empty) (get nat_cmp b c)) → ((c : ℕ) → get nat_cmp b2 c ≡ cond (is_eq (nat_cmp m c)) None (get nat_cmp b1 c)) → get nat_cmp b2 n ≡ None → ⊥
-still_there b m n empty b1 b2 there free u1 u2 none = by (is_eq (nat_cmp m n)) refl (sym (ap (cond (is_eq (nat_cmp m n)) None) (u1 n)) ∙ sym (u2 n) ∙ none)
-  where
-    itself : is_eq (nat_cmp n n) ≡ true
-    itself = grind (arith, nat_tests)
-
-    by : (e : Bool) → is_eq (nat_cmp m n) ≡ e → cond e None (cond (is_eq (nat_cmp n n)) (Some empty) (get nat_cmp b n)) ≡ None → ⊥
-    by true p h = not_there b m n there free (same_counter m n p)
-    by false p h = absurd (cc (sym (ap (λ v. cond v (Some empty) (get nat_cmp b n)) itself) ∙ h))
 
 pub none_from_absent : (o : Option (BTreeSet Bytes)) → is_some o ≡ false → o ≡ None
 none_from_absent None h = refl

@@ -5,25 +5,14 @@ use Rattle.std.specs.List.{AllByRecursion}
 use Rattle.std.specs.List.Sorted.{IsStrictlySortedBy}
 use Rattle.std.specs.Map.{keys_of}
 use Rattle.std.specs.Ordering.{match_ordering}
-use Rattle.std.specs.Cmp.{Equal-is, eq_by_cmp_equiv}
 use Rattle.std.proofs.lemmas.Bool.Decides.{nat_tests}
 use Rattle.hh_stream.specs.Weights.{Bytes, Entry, key_cmp, same_key, at_key, weight_of, total_of}
 use Rattle.hh_counters.specs.Counters.{Counters, IsCounters, add_at, lower, least_counter, plus}
 use Rattle.hh_counters.specs.SpaceSaving.{least_of, translate, without, IsStep, raised, entered, replaced}
-use Rattle.hh_counters.proofs.Weights.{key_total, key_exact, key_self, weight_of-cons, total_of-cons, weight_of-add_at, total_of-add_at, rising-add_at, positive-add_at, weight_above, weight_first, above_first, at_other, same_counters, counters-plus, weight_of-plus}
+use Rattle.hh_counters.proofs.Weights.{same_exact, same_self, key_exact, weight_of-cons, total_of-cons, weight_of-add_at, total_of-add_at, rising-add_at, positive-add_at, weight_above, weight_first, above_first, at_other, same_counters, counters-plus, weight_of-plus}
 use Rattle.hh_counters.proofs.Level.{least_counter-all, level_above, weight_of-lower, counters-lower}
 use Rattle.hh_counters.proofs.Lowering.{level-least}
 use Rattle.hh_counters.proofs.Reports.{rising-filter}
-
--- ---- one key
-pub same_exact : (x y : Bytes) → same_key x y ≡ true → x ≡ y
-same_exact x y e = key_exact x y ((Equal-is (key_cmp x y)).0 e)
-
-pub same_sym : (x y : Bytes) → same_key x y ≡ same_key y x
-same_sym x y = (eq_by_cmp_equiv key_total).symm x y
-
-pub same_self : (x : Bytes) → same_key x x ≡ true
-same_self x = ap is_eq (key_self x)
 
 -- ---- an entry added
 pub counters-add_at : (s : Counters) (e : Entry) → IsCounters s → 0 < e.1 → IsCounters (add_at s e)

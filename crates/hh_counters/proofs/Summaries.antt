@@ -134,11 +134,6 @@ honest_near c m xs k h x =
     let parts : (k + 1) * weight_of x xs ≡ (k + 1) * weight_of x c + (k + 1) * (weight_of x xs - weight_of x c) = ap (λ n. (k + 1) * n) {x = weight_of x xs} {y = weight_of x c + (weight_of x xs - weight_of x c)} (omega (arith, h.below x)) ∙ mul-add (k + 1) _ _ in
     omega (arith, parts, h.near x, honest_within c m xs k h)
 
-pub near_honest : (c : Counters) (m : ℕ) (xs : List Entry) (k : ℕ) (x : Bytes) → weight_of x c ≤ weight_of x xs → total_of c ≤ m → (k + 1) * (weight_of x xs - weight_of x c) ≤ m - total_of c → (k + 1) * weight_of x xs + total_of c ≤ m + (k + 1) * weight_of x c
-near_honest c m xs k x below within near =
-    let parts : (k + 1) * weight_of x xs ≡ (k + 1) * weight_of x c + (k + 1) * (weight_of x xs - weight_of x c) = ap (λ n. (k + 1) * n) {x = weight_of x xs} {y = weight_of x c + (weight_of x xs - weight_of x c)} (omega arith) ∙ mul-add (k + 1) _ _ in
-    omega (arith, parts, near, within)
-
 -- only the weights matter, not the order of the items
 pub honest_same : (c : Counters) (m : ℕ) (xs ys : List Entry) (k : ℕ) → IsPermutation xs ys → IsHonest c m xs k → IsHonest c m ys k
 honest_same c m xs ys k p h =

@@ -55,9 +55,6 @@ positive_there [] c e h = h.0
 positive_there (d ∷ a) c e h = positive_there a c e h.1
 
 -- ---- the pass
-pub summed_none : (left right : Counters) → IsCounters left → IsCounters right → IsSummed left right 0 0 []
-summed_none left right h g = record { left_in = omega arith; right_in = omega arith; with_left = h; with_right = g; weights = λ x. omega arith }
-
 shifted : (a c : List Entry) (e : Entry) → (a ++ e ∷ []) ++ c ≡ a ++ e ∷ c
 shifted a c e = append_assoc a (e ∷ []) c
 

@@ -1,15 +1,14 @@
 -- Weights of lists, and what adding an entry does to counters.
 use Rattle.std.proofs.Common.{◌≡◌, ℕ, ◌+◌, ◌<◌, Bool, true, false, cond, List, [], ◌∷◌, ◌++◌, Ordering, Less, Equal, Greater, is_eq, refl, sym, ap, ◌∙◌, add-zero, arith}
-use Rattle.std.specs.Prelude.{fold, All}
+use Rattle.std.specs.Prelude.{fold}
 use Rattle.std.specs.List.{AllByRecursion}
 use Rattle.std.specs.List.Sorted.{IsStrictlySortedBy}
 use Rattle.std.specs.Map.{keys_of}
-use Rattle.std.specs.Cmp.{IsTotalOrder}
+use Rattle.std.specs.Cmp.{IsTotalOrder, Equal-is, eq_by_cmp_equiv}
 use Rattle.std.specs.Ordering.{match_ordering, ordering_reverse}
 use Rattle.std.proofs.lemmas.Cmp.{nat_list_cmp_total, tied_itself}
 use Rattle.std.proofs.lemmas.Map.Lookups.{exact_bytes}
 use Rattle.std.proofs.lemmas.List.Sums.{sum_by-cons, sum_by-append, fold-append}
-use Rattle.std.proofs.lemmas.List.Elements.{recursion_from_All}
 use Rattle.hh_stream.specs.Weights.{Bytes, Entry, key_cmp, same_key, at_key, weight_of, total_of}
 use Rattle.hh_counters.specs.Counters.{Counters, IsCounters, add_at, tally, plus}
 
@@ -25,6 +24,15 @@ key_self x = tied_itself key_total x
 
 pub flipped : (x y : Bytes) (r : Ordering) → key_cmp x y ≡ r → key_cmp y x ≡ ordering_reverse r
 flipped x y r p = key_total.antisymm y x ∙ ap ordering_reverse p
+
+pub same_exact : (x y : Bytes) → same_key x y ≡ true → x ≡ y
+same_exact x y e = key_exact x y ((Equal-is (key_cmp x y)).0 e)
+
+pub same_sym : (x y : Bytes) → same_key x y ≡ same_key y x
+same_sym x y = (eq_by_cmp_equiv key_total).symm x y
+
+pub same_self : (x : Bytes) → same_key x x ≡ true
+same_self x = ap is_eq (key_self x)
 
 -- ---- sums
 pub weight_of-cons : (x : Bytes) (e : Entry) (xs : List Entry) → weight_of x (e ∷ xs) ≡ at_key x e + weight_of x xs
@@ -192,12 +200,6 @@ pub same_counters : (c d : Counters) → IsCounters c → IsCounters d → ((x :
 same_counters c d h g same = same_counters_at c d h.rising h.positive g.rising g.positive same
 
 -- ---- adding entries to counters
-pub total_of-fold : (c : Counters) (xs : List Entry) → total_of (fold add_at c xs) ≡ total_of c + total_of xs
-total_of-fold c xs = total_of-tally_from c xs
-
-pub counters-fold : (c : Counters) (xs : List Entry) → IsCounters c → All (λ (e : Entry). 0 < e.1) xs → IsCounters (fold add_at c xs)
-counters-fold c xs h p = record { rising = rising-tally_from c xs h.rising; positive = positive-tally_from c xs h.positive (recursion_from_All (λ (e : Entry). 0 < e.1) xs p) }
-
 pub tally_of_counters : (c : Counters) → IsCounters c → tally c ≡ c
 tally_of_counters c h = same_counters (tally c) c (counters-tally c h.positive) h (λ x. weight_of-tally x c)
 

@@ -1,6 +1,6 @@
 //! Space-Saving in buckets.
 
-ghost use Rattle.std.specs.Prelude.{◌≡◌, ◌≢◌, ◌+◌, ◌-◌, ◌^◌, ◌<◌, ◌≤◌, ◌↔◌, ◌⊎◌, [], IsSome, IsErr, IfOk, IsErrOf, OnOk, OnErr, IfErr, IfSome, MatchOption, true, false, None, Some, length, slice_get};
+ghost use Rattle.std.specs.Prelude.{◌≡◌, ◌≢◌, ◌+◌, ◌-◌, ◌^◌, ◌<◌, ◌≤◌, ◌↔◌, ◌⊎◌, [], IsSome, IfOk, IsErrOf, OnOk, OnErr, IfErr, IfSome, MatchOption, true, false, None, Some, length, slice_get};
 ghost use Rattle.std.specs.Map.{keys_of, lookup};
 ghost use Rattle.std.specs.List.{IsDistinct};
 ghost use Rattle.indexmap.specs.IndexMap.{get as index_get, index_of, IsUnique, Updates};
@@ -10,7 +10,7 @@ ghost use Rattle.hh_counters.specs.Buckets.{has, NoneEmpty, Changes, Moves, HasS
 
 use crate::buckets::{first, pop_first, put, shift};
 use crate::monitor::Monitor;
-use crate::summary::{AddFault, BadK, MAX_K, Summary};
+use crate::summary::{AddFault, MAX_K, Summary};
 use hh_stream::{Key, MAX_TOTAL};
 use indexmap::IndexMap;
 use std::alloc::{AllocError, Global};
@@ -22,7 +22,7 @@ use std::marker::Model;
 ///
 /// An item costs one look-up by hash and a few steps in ordered maps, however many counters there
 /// are. A contract sees k, the total and the counters by rising key.
-#[derive(Drop)]
+#[derive(Debug, Drop)]
 pub struct BucketSaving {
     alloc: Global,
     k: u64,
@@ -42,22 +42,39 @@ impl Model for BucketSaving {
     ghost invariant = { λ s. IsLinked s.k s.total s.index.entries s.buckets };
 }
 
+/// Why there is no new Space-Saving.
+#[derive(Clone, Copy, Debug, PartialEq, Eq)]
+pub enum NewFault {
+    /// k is not 1 to [`MAX_K`].
+    BadK,
+    /// The allocator had no memory.
+    Memory,
+}
+
+// The most keys for which room is made at the start.
+const FIRST_ROOM: usize = 1024;
+
 impl BucketSaving {
-    /// Space-Saving of no items.
-    pub fn new(alloc: Global, k: u64) -> Result<BucketSaving, BadK>
+    /// Space-Saving of no items, with room for the first keys.
+    pub fn new(alloc: Global, k: u64) -> Result<BucketSaving, NewFault>
         ensures empty { IfOk result (λ s. s ≡ record { k = k; total = 0; counters = [] }) }
-        ensures bad_k { IsErr result ↔ ((k ≡ 0) ⊎ (MAX_K < k)) }
+        ensures bad_k { IsErrOf result NewFault.BadK ↔ ((k ≡ 0) ⊎ (MAX_K < k)) }
     {
         if k == 0 || k > MAX_K {
-            return Err(BadK);
+            return Err(NewFault::BadK);
         }
-        Ok(BucketSaving {
-            alloc,
-            k,
-            total: 0,
-            index: IndexMap::new(alloc),
-            buckets: BTreeMap::new(alloc),
-        })
+        // a newcomer enters before the key that it replaces goes
+        let most = k as usize + 2;
+        match IndexMap::with_capacity(alloc, most.min(FIRST_ROOM)) {
+            Ok(index) => Ok(BucketSaving {
+                alloc,
+                k,
+                total: 0,
+                index,
+                buckets: BTreeMap::new(alloc),
+            }),
+            Err(_) => Err(NewFault::Memory),
+        }
     }
 }
 
@@ -185,11 +202,11 @@ fn add_item(
         return Ok(());
     }
     let Some((least, _)) = first(buckets) else {
-        return Ok(());
+        unreachable!("a full index has a first bucket");
     };
     enter(alloc, index, buckets, key, least + weight)?;
     let Some(_) = drop_first(index, buckets) else {
-        return Ok(());
+        unreachable!("the newcomer has a bucket");
     };
     Ok(())
 }

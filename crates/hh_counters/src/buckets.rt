@@ -95,7 +95,7 @@ fn rename(
 {
     buckets.insert(to, BTreeSet::new(alloc))?;
     let Some(bucket) = buckets.remove(&from) else {
-        return Ok(());
+        unreachable!("the counter has a bucket");
     };
     // the counter has a bucket by now, so this takes no memory
     buckets.insert(to, bucket)?;

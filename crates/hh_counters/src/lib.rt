@@ -14,7 +14,7 @@ mod summary;
 #[cfg(test)]
 mod tests;
 
-pub use bucket_saving::BucketSaving;
+pub use bucket_saving::{BucketSaving, NewFault};
 pub use candidates::Candidates;
 pub use monitor::Monitor;
 pub use report::Heavy;

@@ -1,7 +1,7 @@
 //! What every form of Space-Saving keeps and promises.
 
 ghost use Rattle.std.specs.Prelude.{◌≡◌, ◌+◌, ◌<◌, ◌≤◌, ◌↔◌, ◌==◌, OnOk, OnErr, IfOk, IfErr, IsErrOf, length};
-ghost use Rattle.hh_stream.specs.Weights.{weight_of};
+ghost use Rattle.hh_stream.specs.Weights.{weight_of, total_of};
 ghost use Rattle.hh_counters.specs.Counters.{Sketch};
 ghost use Rattle.hh_counters.specs.SpaceSaving.{least_of, monitored, translated};
 
@@ -24,11 +24,13 @@ pub trait Monitor: Drop {
     /// The sum of the weights of all items, which is the sum of the counters.
     fn total(&self) -> u64
         ensures total { result ≡ (seen self.now).total }
+        ensures sum { result ≡ total_of (seen self.now).counters }
         ensures bounded { result ≤ MAX_TOTAL };
 
     /// How many keys are monitored.
     fn len(&self) -> usize
-        ensures { result ≡ length (seen self.now).counters };
+        ensures len { result ≡ length (seen self.now).counters }
+        ensures few { result ≤ (seen self.now).k + 1 };
 
     /// Whether no key is monitored.
     fn is_empty(&self) -> bool

@@ -1,7 +1,7 @@
 //! Both forms of Space-Saving on small streams.
 
 use super::{FOUR_RECORDS, shown, stream_of};
-use crate::{AddFault, BadK, BucketSaving, Monitor, SpaceSaving, Summary};
+use crate::{AddFault, BadK, BucketSaving, Monitor, NewFault, SpaceSaving, Summary};
 use hh_stream::{Item, Key, MAX_TOTAL};
 use std::alloc::Global;
 use std::test::Fail;
@@ -92,7 +92,7 @@ fn monitors_have_k_from_1_to_65535(rt: HostRuntime) {
     assert_eq!(rt; SpaceSaving::new(alloc, 0).err(), Some(BadK));
     assert_eq!(rt; SpaceSaving::new(alloc, 65536).err(), Some(BadK));
     assert!(rt; SpaceSaving::new(alloc, 65535).is_ok());
-    assert!(rt; BucketSaving::new(alloc, 0).is_err());
+    assert_eq!(rt; BucketSaving::new(alloc, 0).err(), Some(NewFault::BadK));
     assert!(rt; BucketSaving::new(alloc, 65535).is_ok());
 }
 

@@ -21,9 +21,8 @@ returns-then-len-k-clause-added c =
     added_new c.args.k c.args.total c.args.index.now.entries c.enter.new.index.entries c.args.buckets.now c.enter.new.buckets c.args.key.now c.args.weight
     c.requires.positive c.requires.bounded c.requires.linked (sym c.in_default.ensures.value) (omega arith) (c.enter.ensures.distinct c.requires.linked.distinct) c.in_ok-enter.ensures.entered.0 c.in_ok-enter.ensures.put (c.enter.ensures.none_empty c.requires.linked.none_empty)
 
-pub returns-in_default-first-clause-added : goal.returns-in_default-first-clause-added
-returns-in_default-first-clause-added c =
-    absurd (none_first c.args.k c.args.total c.args.index.now.entries c.args.buckets.now c.requires.linked (omega arith) c.in_default-first.ensures)
+pub unreachable-requires : goal.unreachable-requires
+unreachable-requires c = none_first c.args.k c.args.total c.args.index.now.entries c.args.buckets.now c.requires.linked (omega arith) c.in_default-first.ensures
 
 pub overflow_add-least : goal.overflow_add-least
 overflow_add-least c =
