@@ -79,7 +79,7 @@ fn is_of_four_items(alloc: Global, outcome: &Outcome) -> Result<bool, Fail> {
         && summary.get(&Key::new(alloc, b"b")?) == 1;
     let cells = outcome.table.cells() == [2, 0, 6, 3, 0, 2, 3, 6].as_slice();
     let heavy = outcome.heavy.len() == 1
-        && outcome.heavy[0].key.bytes() == b"a"
+        && outcome.heavy[0].key.bytes() == b"a".as_slice()
         && outcome.heavy[0].weight == 6;
     Ok(counters && cells && heavy && outcome.table.total() == 11)
 }
