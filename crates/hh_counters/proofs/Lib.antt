@@ -13,3 +13,4 @@ pub mod TakingOver
 pub mod Linked
 pub mod Sorting
 pub mod Renaming
+pub mod Monitoring

@@ -81,3 +81,7 @@ pub record IsFirstLeast (s : Counters) (i : ℕ) : Type 0 where
   pub in_range : i < length s
   pub no_less : (j : ℕ) (d : Entry) → j < length s → (slice_index_or s i d).1 ≤ (slice_index_or s j d).1
   pub first : (j : ℕ) (d : Entry) → j < i → (slice_index_or s i d).1 < (slice_index_or s j d).1
+
+-- what a monitor shows after the items
+abbrev pub monitor_of : ℕ → List Entry → Sketch
+monitor_of k xs = record { k = k; total = total_of xs; counters = space_saving xs k }

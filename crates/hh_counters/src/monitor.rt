@@ -1,12 +1,13 @@
 //! What every form of Space-Saving keeps and promises.
 
-ghost use Rattle.std.specs.Prelude.{◌≡◌, ◌+◌, ◌<◌, ◌≤◌, ◌↔◌, ◌==◌, OnOk, OnErr, IfOk, IfErr, IsErrOf, length};
+ghost use Rattle.std.specs.Prelude.{◌≡◌, ◌+◌, ◌<◌, ◌≤◌, ◌↔◌, ◌==◌, OnOk, OnErr, IfOk, IfErr, IsErrOf, length, []};
 ghost use Rattle.hh_stream.specs.Weights.{weight_of, total_of};
-ghost use Rattle.hh_counters.specs.Counters.{Sketch};
-ghost use Rattle.hh_counters.specs.SpaceSaving.{least_of, monitored, translated};
+ghost use Rattle.hh_counters.specs.Counters.{Sketch, sketch_of};
+ghost use Rattle.hh_counters.specs.SpaceSaving.{least_of, monitor_of, monitored, translated};
 
 use crate::summary::{AddFault, Summary};
-use hh_stream::{Key, MAX_TOTAL};
+use hh_stream::{Item, Key, MAX_TOTAL};
+use std::alloc::AllocError;
 
 /// Space-Saving over a weighted stream: at most k + 1 monitored keys with counters (Metwally,
 /// Agrawal and El Abbadi 2005).
@@ -61,4 +62,25 @@ pub trait Monitor: Drop {
     fn into_summary(self) -> Result<Summary, Self>
         ensures translated { IfOk result (λ s. s ≡ translated (seen self)) }
         ensures handed_back { IfErr result (λ m. seen m ≡ seen self) };
+}
+
+/// The summary of Misra and Gries of the items, by a monitor that has seen none: it adds them one by
+/// one, and is translated at the end.
+pub fn monitored_summary<M: Monitor>(monitor: M, items: &[Item]) -> Result<Summary, AllocError>
+    requires empty { M.seen monitor ≡ monitor_of (M.seen monitor).k [] }
+    requires bounded { total_of items.now ≤ MAX_TOTAL }
+    ensures { IfOk result (λ summary. summary ≡ sketch_of (M.seen monitor).k items.now) }
+{
+    let mut monitor = monitor;
+    for item in items {
+        match monitor.add(item.key(), item.weight()) {
+            Ok(()) => {}
+            Err(AddFault::TotalTooLarge) => unreachable!(),
+            Err(AddFault::Memory) => return Err(AllocError),
+        }
+    }
+    match monitor.into_summary() {
+        Ok(summary) => Ok(summary),
+        Err(_) => Err(AllocError),
+    }
 }

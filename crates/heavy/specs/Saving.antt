@@ -1,0 +1,43 @@
+-- What the commands on saved files answer.
+use Rattle.std.specs.Prelude.{◌≡◌, ◌≢◌, ℕ, ◌≤◌, ◌<◌, ◌⊎◌, List, Option, IfSome, Ok, Err, Result, ⊤}
+use Rattle.hh_stream.specs.Weights.{Entry, total_of}
+use Rattle.hh_counters.specs.Counters.{Sketch, sketch_of}
+use Rattle.hh_saved.specs.Reading.{saved_of}
+use Rattle.hh_saved.specs.Spelling.{Spells}
+use Rattle.hh_saved.specs.declared.saved.Saved.{Saved}
+use Rattle.hh_saved.specs.declared.saved.Saved.TheVariants.{Counters, Cells}
+use Rattle.heavy.specs.Reports.{confirmed}
+use Rattle.heavy.specs.Rows.{rows_of}
+use Rattle.heavy.specs.Streams.{stream_of}
+use Rattle.heavy.specs.declared.error.ToolError.{ToolError}
+use Rattle.heavy.specs.declared.error.ToolError.TheVariants as tool
+
+-- the bytes spell what f makes of the stream of a text
+abbrev pub SavesStream : (List Entry → Saved) → List ℕ → List ℕ → Type 0
+SavesStream f text bytes = (xs : List Entry) × (stream_of text ≡ Ok xs) × Spells bytes (f xs)
+
+-- what a refusal to read records tells, where they were read: not before the tests that come first
+abbrev pub RecordsRefused : Option (List ℕ) → ToolError → Type 0
+RecordsRefused left tool.ReadFault = ⊤
+RecordsRefused left (tool.BadRecord n c) = IfSome left (λ text. stream_of text ≡ Err (n, c))
+RecordsRefused left tool.Memory = ⊤
+RecordsRefused left _ = ⊥
+
+-- the first test that fails comes before anything is read
+abbrev pub RefusedAfter : Option ToolError → Option (List ℕ) → ToolError → Type 0
+RefusedAfter None left e = RecordsRefused left e
+RefusedAfter (Some f) left e = e ≡ f
+
+-- the rows of the summary's keys that are heavy in the stream of the text
+abbrev pub ConfirmsRows : List ℕ → List ℕ → List ℕ → Type 0
+ConfirmsRows file text rows = (s : Sketch) × (xs : List Entry) × (saved_of file ≡ Ok (Counters s)) × (stream_of text ≡ Ok xs) × (s.total ≡ total_of xs) × (rows ≡ rows_of (confirmed s xs))
+
+-- what a refusal to confirm tells: of the file, of its kind, of the records, and of the totals
+abbrev pub ConfirmRefused : List ℕ → Option (List ℕ) → ToolError → Type 0
+ConfirmRefused file left (tool.BadFile n f) = (n ≡ 1) × (saved_of file ≡ Err f)
+ConfirmRefused file left tool.NotCounters = (t : _) × (saved_of file ≡ Ok (Cells t))
+ConfirmRefused file left tool.ReadFault = (s : Sketch) × (saved_of file ≡ Ok (Counters s))
+ConfirmRefused file left (tool.BadRecord n c) = (s : Sketch) × (saved_of file ≡ Ok (Counters s)) × IfSome left (λ text. stream_of text ≡ Err (n, c))
+ConfirmRefused file left tool.TotalDiffers = (s : Sketch) × (saved_of file ≡ Ok (Counters s)) × IfSome left (λ text. (xs : List Entry) × (stream_of text ≡ Ok xs) × (s.total ≢ total_of xs))
+ConfirmRefused file left tool.Memory = ⊤
+ConfirmRefused file left _ = ⊥

@@ -1,0 +1,34 @@
+-- Items added to a monitor one by one.
+use Rattle.std.proofs.Common.{◌≡◌, ◌+◌, ◌<◌, ◌≤◌, ◌∷◌, ◌∙◌, ℕ, List, [], length, take, get_or, sym, ap, subst, arith}
+use Rattle.std.specs.Prelude.{All}
+use Rattle.std.proofs.Math.Seq.{take-length}
+use Rattle.std.proofs.lemmas.List.{take_more}
+use Rattle.std.proofs.lemmas.List.Elements.{All-append, All-from_recursion}
+use Rattle.std.proofs.lemmas.List.Sums.{fold_more, sum_by_more}
+use Rattle.hh_stream.specs.Weights.{Entry, total_of}
+use Rattle.hh_counters.specs.Counters.{Sketch, misra_gries, sketch_of}
+use Rattle.hh_counters.specs.SpaceSaving.{monitor_of, monitored, space_saving, step, translated}
+use Rattle.hh_counters.proofs.Runs.{steps_are_a_run, run_is_misra_gries}
+
+-- one more item
+pub monitor_more : (k : ℕ) (xs : List Entry) (i : ℕ) (e : Entry) → i < length xs → e ≡ get_or xs i e → monitor_of k (take (i + 1) xs) ≡ monitored (monitor_of k (take i xs)) e
+monitor_more k xs i e lt is =
+    let counters = fold_more (λ (s : List Entry) (d : Entry). step s d k) [] xs i e lt ∙ ap (λ (d : Entry). step (space_saving (take i xs) k) d k) (sym is) in
+    let total = sum_by_more (λ (d : Entry). d.1) xs i e lt ∙ ap (λ (d : Entry). total_of (take i xs) + d.1) (sym is) in
+    λ j. record { k = k; total = total j; counters = counters j }
+
+-- a monitor's translation is the summary of its items
+translated_monitor : (k : ℕ) (xs : List Entry) → All (λ (e : Entry). 0 < e.1) xs → translated (monitor_of k xs) ≡ sketch_of k xs
+translated_monitor k xs positive = ap (λ (c : List Entry). record { k = k; total = total_of xs; counters = c }) (run_is_misra_gries xs k (space_saving xs k) positive (steps_are_a_run xs k positive))
+
+-- the items so far have weights
+pub positive_more : (xs : List Entry) (i : ℕ) (e : Entry) → i < length xs → e ≡ get_or xs i e → 0 < e.1 → All (λ (d : Entry). 0 < d.1) (take i xs) → All (λ (d : Entry). 0 < d.1) (take (i + 1) xs)
+positive_more xs i e lt is some before =
+    let one : All (λ (d : Entry). 0 < d.1) (get_or xs i e ∷ []) = All-from_recursion (λ (d : Entry). 0 < d.1) (get_or xs i e ∷ []) (rw (← is) some, tt) in
+    subst (All (λ (d : Entry). 0 < d.1)) (sym (take_more xs i e lt)) (All-append (λ (d : Entry). 0 < d.1) (take i xs) (get_or xs i e ∷ []) before one)
+
+-- the loop over the items has come to its end
+pub monitored_all : (k : ℕ) (xs : List Entry) (i : ℕ) (s : Sketch) → i ≤ length xs → length xs ≤ i → s ≡ monitor_of k (take i xs) → All (λ (d : Entry). 0 < d.1) (take i xs) → translated s ≡ sketch_of k xs
+monitored_all k xs i s low high is positive =
+    let whole : take i xs ≡ xs = ap (λ n. take n xs) (omega (arith, low, high)) ∙ take-length xs in
+    rw is (rw whole (translated_monitor k xs (subst (All (λ (d : Entry). 0 < d.1)) whole positive)))

@@ -1,0 +1,27 @@
+use Rattle.std.proofs.Common.{◌≡◌, ◌∙◌, take, sym, ap, subst, ◌<◌}
+use Rattle.hh_stream.specs.Weights.{Entry}
+use Rattle.hh_counters.specs.Counters.{Sketch}
+use Rattle.hh_counters.specs.SpaceSaving.{monitor_of, monitored}
+use Rattle.hh_counters.proofs.Monitoring.{monitor_more, monitored_all, positive_more}
+use Rattle.hh_counters.proofs.monitor.monitored_summary.Goals as goal
+
+pub loop-item-preserved : goal.loop-item-preserved
+loop-item-preserved g c =
+    let i = c.loop-item.item-index in
+    let k = (g.M.Monitor.seen c.args.monitor).k in
+    let item : Entry = c.item-item.result in
+    let taken : Entry = (c.key.result.now, c.weight.result) in
+    let same : taken ≡ item = λ j. (c.key.ensures j, c.weight.ensures.weight j) in
+    let before = monitor_of k (take i c.args.items.now) in
+    let positive : 0 < item.1 = rw (← c.weight.ensures.weight) c.weight.ensures.positive in (
+      c.in-Ok.ensures.added
+      ∙ ap (λ (s : Sketch). monitored s taken) c.loop-item.invariant.0
+      ∙ ap (monitored before) same
+      ∙ sym (monitor_more k c.args.items.now i item c.loop-item-test.true c.item-item.is),
+      positive_more c.args.items.now i item c.loop-item-test.true c.item-item.is positive c.loop-item.invariant.1,
+    )
+
+pub returns-in-Ok-into_summary : goal.returns-in-Ok-into_summary
+returns-in-Ok-into_summary g c =
+    c.in-Ok-into_summary.ensures.translated
+    ∙ monitored_all (g.M.Monitor.seen c.args.monitor).k c.args.items.now c.loop-item.item-index (g.M.Monitor.seen c.loop-item.monitor) c.loop-item.auto.item-index-end c.loop-item-test.false c.loop-item.invariant.0 c.loop-item.invariant.1
