@@ -1,5 +1,6 @@
 pub mod Reports
 pub mod Rows
+pub mod Saving
 pub mod Sinks
 pub mod Status
 pub mod Streams

@@ -1,14 +1,17 @@
 -- What the commands on saved files answer.
-use Rattle.std.specs.Prelude.{◌≡◌, ◌≢◌, ℕ, ◌≤◌, ◌<◌, ◌⊎◌, List, Option, IfSome, Ok, Err, Result, ⊤}
+use Rattle.std.specs.Prelude.{◌≡◌, ◌≢◌, ℕ, List, not, codes, Option, Some, None, IfSome, Ok, Err, ⊤, if◌then◌else◌}
 use Rattle.hh_stream.specs.Weights.{Entry, total_of}
-use Rattle.hh_counters.specs.Counters.{Sketch, sketch_of}
+use Rattle.hh_counters.specs.Counters.{Sketch}
+use Rattle.hh_countmin.specs.Table.{Grid}
 use Rattle.hh_saved.specs.Reading.{saved_of}
 use Rattle.hh_saved.specs.Spelling.{Spells}
 use Rattle.hh_saved.specs.declared.saved.Saved.{Saved}
 use Rattle.hh_saved.specs.declared.saved.Saved.TheVariants.{Counters, Cells}
-use Rattle.heavy.specs.Reports.{confirmed}
+use Rattle.heavy.specs.Reports.{confirmed, in_range}
 use Rattle.heavy.specs.Rows.{rows_of}
 use Rattle.heavy.specs.Streams.{stream_of}
+use Rattle.heavy.specs.declared.saving.Method.{Method}
+use Rattle.heavy.specs.declared.saving.Method.TheVariants as method
 use Rattle.heavy.specs.declared.error.ToolError.{ToolError}
 use Rattle.heavy.specs.declared.error.ToolError.TheVariants as tool
 
@@ -23,6 +26,18 @@ RecordsRefused left (tool.BadRecord n c) = IfSome left (λ text. stream_of text 
 RecordsRefused left tool.Memory = ⊤
 RecordsRefused left _ = ⊥
 
+-- the tests of a summary's k, and of a table's depth and width
+abbrev pub bad_k : ℕ → Option ToolError
+bad_k k = if not (in_range k 65535) then Some tool.BadK else None
+
+abbrev pub bad_table : ℕ → ℕ → Option ToolError
+bad_table depth width = if not (in_range depth 16) then Some tool.BadDepth else if not (in_range width 65536) then Some tool.BadWidth else None
+
+-- the word that names a method
+abbrev pub word_of : Method → List ℕ
+word_of method.MisraGries = codes "mg"
+word_of method.SpaceSaving = codes "ss"
+
 -- the first test that fails comes before anything is read
 abbrev pub RefusedAfter : Option ToolError → Option (List ℕ) → ToolError → Type 0
 RefusedAfter None left e = RecordsRefused left e
@@ -35,7 +50,7 @@ ConfirmsRows file text rows = (s : Sketch) × (xs : List Entry) × (saved_of fil
 -- what a refusal to confirm tells: of the file, of its kind, of the records, and of the totals
 abbrev pub ConfirmRefused : List ℕ → Option (List ℕ) → ToolError → Type 0
 ConfirmRefused file left (tool.BadFile n f) = (n ≡ 1) × (saved_of file ≡ Err f)
-ConfirmRefused file left tool.NotCounters = (t : _) × (saved_of file ≡ Ok (Cells t))
+ConfirmRefused file left tool.NotCounters = (t : Grid) × (saved_of file ≡ Ok (Cells t))
 ConfirmRefused file left tool.ReadFault = (s : Sketch) × (saved_of file ≡ Ok (Counters s))
 ConfirmRefused file left (tool.BadRecord n c) = (s : Sketch) × (saved_of file ≡ Ok (Counters s)) × IfSome left (λ text. stream_of text ≡ Err (n, c))
 ConfirmRefused file left tool.TotalDiffers = (s : Sketch) × (saved_of file ≡ Ok (Counters s)) × IfSome left (λ text. (xs : List Entry) × (stream_of text ≡ Ok xs) × (s.total ≢ total_of xs))

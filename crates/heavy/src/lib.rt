@@ -6,6 +6,7 @@ mod error;
 mod records;
 mod report;
 mod rows;
+mod saving;
 mod sink;
 #[cfg(test)]
 mod tests;
@@ -16,4 +17,5 @@ pub use hh_counters::Heavy;
 pub use records::{BadRecordCause, ReadError, read_stream};
 pub use report::{ReportOptions, Tree, run_report};
 pub use rows::{ReportFault, report_text, write_report};
+pub use saving::{Method, confirm_bytes, summary_bytes, table_bytes};
 pub use sink::{Out, Sink, SinkFault, WriteFault, put};

@@ -50,7 +50,7 @@ pub struct ReportOptions {
 }
 
 /// Whether a number is from 1 to the most.
-fn in_range(number: u64, most: u64) -> bool
+pub(crate) fn in_range(number: u64, most: u64) -> bool
     ensures { result ≡ in_range number most }
 {
     1 <= number && number <= most

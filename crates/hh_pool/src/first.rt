@@ -13,7 +13,7 @@ ghost use Rattle.hh_pool.specs.Passes.{IsFirstPass, IsFirstPassUpTo, IsFirstAlon
 use crate::gate::Gate;
 use crate::options::Options;
 use crate::pass::{Pass, add_numbers};
-use hh_counters::{OfItemsFault, Summary};
+use hh_counters::{BucketSaving, NewFault, Summary, monitored_summary};
 use hh_countmin::{Table, TableFault};
 use hh_shared::{SharedSums, SumSeat};
 use hh_stream::{Cutting, Item, MAX_TOTAL, Stream};
@@ -60,7 +60,7 @@ pub fn first_pass<G: Gate>(
     pass.run(sums, seat, worker)
 }
 
-/// The summary of a piece.
+/// The summary of a piece, by Space-Saving in buckets, which is Misra-Gries once it is translated.
 pub(crate) fn summary_of(
     alloc: Global,
     options: &Options,
@@ -69,10 +69,10 @@ pub(crate) fn summary_of(
     requires { total_of items.now ≤ MAX_TOTAL }
     ensures { IfOk result (λ summary. summary ≡ sketch_of options.now.k items.now) }
 {
-    match Summary::of_items(alloc, options.k(), items) {
-        Ok(summary) => Ok(summary),
-        Err(OfItemsFault::BadK) => unreachable!(),
-        Err(OfItemsFault::Memory) => Err(AllocError),
+    match BucketSaving::new(alloc, options.k()) {
+        Ok(monitor) => monitored_summary(monitor, items),
+        Err(NewFault::BadK) => unreachable!(),
+        Err(NewFault::Memory) => Err(AllocError),
     }
 }
 
