@@ -7,6 +7,8 @@ mod records;
 mod report;
 mod rows;
 mod saving;
+#[cfg(test)]
+mod saving_tests;
 mod sink;
 #[cfg(test)]
 mod tests;

@@ -1,7 +1,7 @@
 //! Streams summarised into saved files, and a saved summary confirmed.
 
 ghost use Rattle.std.specs.Prelude.{◌≡◌, ◌≤◌, true, IsErr, IfOk, IfErr, IfSome, Ok, Err};
-ghost use Rattle.hh_stream.specs.Weights.{total_of};
+ghost use Rattle.hh_stream.specs.Weights.{max_total, total_of};
 ghost use Rattle.hh_counters.specs.Counters.{sketch_of};
 ghost use Rattle.hh_countmin.specs.Family.{drawn_family};
 ghost use Rattle.hh_countmin.specs.Table.{empty_table, table_of};
@@ -50,7 +50,7 @@ impl Method {
 /// The summary of items, by one method or the other.
 fn summary_of(alloc: Global, k: u64, method: Method, items: &[Item]) -> Result<Summary, AllocError>
     requires k { in_range k 65535 ≡ true }
-    requires bounded { total_of items.now ≤ MAX_TOTAL }
+    requires bounded { total_of items.now ≤ max_total }
     ensures { IfOk result (λ summary. summary ≡ sketch_of k items.now) }
 {
     match method {
