@@ -15,9 +15,9 @@ loop-item-preserved g c =
     let before = monitor_of k (take i c.args.items.now) in
     let positive : 0 < item.1 = rw (← c.weight.ensures.weight) c.weight.ensures.positive in (
       c.in-Ok.ensures.added
-      ∙ ap (λ (s : Sketch). monitored s taken) c.loop-item.invariant.0
-      ∙ ap (monitored before) same
-      ∙ sym (monitor_more k c.args.items.now i item c.loop-item-test.true c.item-item.is),
+          ∙ ap (λ (s : Sketch). monitored s taken) c.loop-item.invariant.0
+          ∙ ap (monitored before) same
+          ∙ sym (monitor_more k c.args.items.now i item c.loop-item-test.true c.item-item.is),
       positive_more c.args.items.now i item c.loop-item-test.true c.item-item.is positive c.loop-item.invariant.1,
     )
 

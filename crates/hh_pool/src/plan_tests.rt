@@ -1,0 +1,127 @@
+//! The worked rows on plans and on summaries merged by them.
+
+use crate::{Plan, PlanFault, merge_by};
+use hh_counters::{MergeFault, Summary};
+use hh_stream::Key;
+use std::process::Abort;
+use std::test::Fail;
+
+/// The summary of one item.
+fn one(rt: &(impl Abort + AllocGlobal), k: u64, word: &[u8], weight: u64) -> Summary {
+    let alloc = rt.alloc();
+    let key = Key::new(alloc, word).expect(rt, "a key");
+    assert!(rt; weight > 0);
+    let mut summary = Summary::new(alloc, k).expect(rt, "a summary");
+    summary.add(&key, weight).expect(rt, "an item");
+    summary
+}
+
+#[test]
+fn plans_of_texts(rt: HostRuntime) -> Result<(), Fail> {
+    let alloc = rt.alloc();
+    assert_eq!(rt; Plan::parse(alloc, b"((0 1) 2)", 3)?.count(), 3);
+    let refused: [(&[u8], PlanFault); 13] = [
+        (b"(0 (1 1))", PlanFault::RepeatedPiece(1)),
+        (b"(0 1)", PlanFault::MissingPiece(2)),
+        (b"(0 3)", PlanFault::UnknownPiece(3)),
+        (b"(0", PlanFault::Syntax(2)),
+        (b"(0 1))", PlanFault::Syntax(5)),
+        (b"(0  1)", PlanFault::Syntax(3)),
+        (b"", PlanFault::Syntax(0)),
+        (b"01", PlanFault::Syntax(1)),
+        (b"12345", PlanFault::Syntax(4)),
+        (b"(2 (3 2))", PlanFault::UnknownPiece(3)),
+        (b"(2 (2 3))", PlanFault::RepeatedPiece(2)),
+        (b"(0 0)", PlanFault::RepeatedPiece(0)),
+        (b"x", PlanFault::Syntax(0)),
+    ];
+    for (text, fault) in refused {
+        assert_eq!(rt; Plan::parse(alloc, text, 3).err(), Some(fault));
+    }
+    Ok(())
+}
+
+#[test]
+fn parentheses_are_open_1023_deep(rt: HostRuntime) -> Result<(), Fail> {
+    let text = vec![in rt.alloc(); b'('; 1024]?;
+    assert_eq!(rt;
+        Plan::parse(rt.alloc(), &text, 1).err(),
+        Some(PlanFault::Syntax(1023))
+    );
+    assert_eq!(rt; Plan::chain(rt.alloc(), 1024)?.count(), 1024);
+    assert_eq!(rt; Plan::balanced(rt.alloc(), 1024)?.count(), 1024);
+    Ok(())
+}
+
+/// The merge of as many summaries as the plan has pieces.
+fn merged(
+    rt: &(impl Abort + AllocGlobal),
+    plan: &Plan,
+    summaries: Vec<Summary>,
+) -> Result<Summary, MergeFault> {
+    assert_eq!(rt; plan.count(), summaries.len());
+    merge_by(rt.alloc(), plan, summaries)
+}
+
+/// The summaries of a 2, b 1, c 1, d 1 for k = 1, so many of them.
+fn pieces(rt: &(impl Abort + AllocGlobal), count: usize) -> Vec<Summary> {
+    let mut summaries = Vec::new(rt.alloc());
+    for (i, word) in [b"a", b"b", b"c", b"d"].iter().enumerate() {
+        if i < count {
+            let weight = if i == 0 { 2 } else { 1 };
+            summaries.push(one(rt, 1, *word, weight)).expect(rt, "room");
+        }
+    }
+    summaries
+}
+
+#[test]
+fn merges_follow_the_plan(rt: HostRuntime) -> Result<(), Fail> {
+    let alloc = rt.alloc();
+    let summary = merged(&rt, &Plan::chain(alloc, 4)?, pieces(&rt, 4))?;
+    assert_eq!(rt;
+        (
+            summary.get(&Key::new(alloc, b"d")?),
+            summary.total(),
+            summary.slack()
+        ),
+        (1, 5, 2)
+    );
+    let summary = merged(&rt, &Plan::balanced(alloc, 4)?, pieces(&rt, 4))?;
+    assert_eq!(rt;
+        (
+            summary.get(&Key::new(alloc, b"a")?),
+            summary.total(),
+            summary.slack()
+        ),
+        (1, 5, 2)
+    );
+    let summary = merged(&rt, &Plan::parse(alloc, b"((0 1) 2)", 3)?, pieces(&rt, 3))?;
+    assert_eq!(rt;
+        (summary.len(), summary.total(), summary.slack()),
+        (0, 4, 2)
+    );
+    let summary = merged(&rt, &Plan::parse(alloc, b"(0 (1 2))", 3)?, pieces(&rt, 3))?;
+    assert_eq!(rt;
+        (
+            summary.get(&Key::new(alloc, b"a")?),
+            summary.total(),
+            summary.slack()
+        ),
+        (2, 4, 1)
+    );
+    Ok(())
+}
+
+#[test]
+fn different_k_is_not_merged(rt: HostRuntime) -> Result<(), Fail> {
+    let mut summaries = Vec::new(rt.alloc());
+    summaries.push(one(&rt, 2, b"a", 1))?;
+    summaries.push(one(&rt, 3, b"a", 1))?;
+    let plan = Plan::parse(rt.alloc(), b"(0 1)", 2)?;
+    assert_eq!(rt;
+        merged(&rt, &plan, summaries).err(),
+        Some(MergeFault::DifferentK)
+    );
+    Ok(())
+}
