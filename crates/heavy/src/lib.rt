@@ -4,6 +4,8 @@
 mod ask;
 mod confirmation;
 mod error;
+#[cfg(test)]
+mod file_tests;
 mod files;
 mod merge;
 mod records;
