@@ -1,3 +1,5 @@
+pub mod FileFacts
+pub mod KeyFacts
 pub mod PartFacts
 pub mod ReadFacts
 pub mod TakeFacts

@@ -1,3 +1,4 @@
+pub mod Files
 pub mod Reports
 pub mod Rows
 pub mod Saving

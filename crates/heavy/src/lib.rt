@@ -1,8 +1,13 @@
 //! Exact reports of the heavy keys of large weighted streams.
 #![tactic(auto)]
 
+mod ask;
 mod confirmation;
 mod error;
+#[cfg(test)]
+mod file_tests;
+mod files;
+mod merge;
 mod records;
 mod report;
 mod rows;
@@ -13,9 +18,11 @@ mod sink;
 #[cfg(test)]
 mod tests;
 
+pub use ask::ask_bytes;
 pub use confirmation::{ConfirmFault, confirm};
 pub use error::{KeyCause, MergeCause, ToolError, TreeFault};
 pub use hh_counters::Heavy;
+pub use merge::merge_bytes;
 pub use records::{BadRecordCause, ReadError, read_stream};
 pub use report::{ReportOptions, Tree, run_report};
 pub use rows::{ReportFault, report_text, write_report};

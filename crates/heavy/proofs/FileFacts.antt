@@ -1,0 +1,110 @@
+-- Saved files, merged one after the other.
+use Rattle.std.proofs.Common.{◌≡◌, ℕ, ◌+◌, ◌<◌, ◌≤◌, ◌∙◌, Bool, true, false, List, [], ◌∷◌, length, map, drop, get_or, Result, Ok, Err, ◌⊎◌, inl, inr, sym, refl, ap, arith}
+use Rattle.std.specs.Prelude.{◌≢◌}
+use Rattle.std.specs.Bool.{Decides}
+use Rattle.std.specs.List.{drop-map}
+use Rattle.std.proofs.lemmas.Bool.Decides.{eqb_tells, leb_tells, not_from_Decides}
+use Rattle.std.proofs.lemmas.List.{drop_more, drop_all, length-map}
+use Rattle.hh_stream.specs.Weights.{max_total}
+use Rattle.hh_countmin.specs.Family.{same_family}
+use Rattle.hh_countmin.specs.Table.{Grid, merged as merged_cells}
+use Rattle.hh_countmin.proofs.Families.{same_family-Decides}
+use Rattle.hh_saved.specs.declared.saved.Saved.{Saved}
+use Rattle.hh_saved.specs.declared.saved.Saved.TheVariants.{Cells}
+use Rattle.heavy.specs.declared.error.MergeCause.TheVariants as cause
+use Rattle.heavy.specs.declared.error.ToolError.{ToolError}
+use Rattle.heavy.specs.declared.error.ToolError.TheVariants as tool
+use Rattle.heavy.specs.Files.{Refuses, file_of, of_total, merge_saved, merged_from}
+
+-- ---- two values
+
+pub ok-no_err : {X E : Type 0} {x : X} {e : E} → ◌≡◌ {A = Result X E} (Ok x) (Err e) → ⊥
+ok-no_err h = absurd cc
+
+decided : {P : Type 0} (b : Bool) → Decides b P → ((b ≡ true) × P) ⊎ ((b ≡ false) × (P → ⊥))
+decided true d = inl (refl, d.0 refl)
+decided false d = inr (refl, not_from_Decides false d refl)
+
+of_total-fits : (total : ℕ) (v : Saved) → (max_total < total → ⊥) → of_total total v ≡ Ok v
+of_total-fits total v fits = elim (leb_tells total max_total) [
+  | inl (e, le) ↦ rw e refl
+  | inr (e, lt) ↦ absurd (fits lt)
+]
+
+of_total-too_large : (total : ℕ) (v : Saved) → max_total < total → of_total total v ≡ Err cause.TotalTooLarge
+of_total-too_large total v large = elim (leb_tells total max_total) [
+  | inl (e, le) ↦ absurd (omega (arith, le, large))
+  | inr (e, lt) ↦ rw e refl
+]
+
+module _ (n : ℕ) (s t : Grid) where
+  pub cells-other_family : s.family ≢ t.family → merge_saved n (Cells s) (Cells t) ≡ Err (tool.CannotMerge n cause.DifferentFamily)
+  cells-other_family differ = elim (decided (same_family s.family t.family) (same_family-Decides s.family t.family)) [
+    | inl (e, same) ↦ absurd (differ same)
+    | inr (e, _) ↦ rw e refl
+  ]
+
+  pub cells-other_width : s.family ≡ t.family → s.width ≢ t.width → merge_saved n (Cells s) (Cells t) ≡ Err (tool.CannotMerge n cause.DifferentWidth)
+  cells-other_width same differ = elim (eqb_tells s.width t.width) [
+    | inl (e, width) ↦ absurd (differ width)
+    | inr (e, _) ↦ rw ((same_family-Decides s.family t.family).1 same, e) refl
+  ]
+
+  pub cells-too_large : s.family ≡ t.family → s.width ≡ t.width → max_total < s.total + t.total → merge_saved n (Cells s) (Cells t) ≡ Err (tool.CannotMerge n cause.TotalTooLarge)
+  cells-too_large same width large = elim (eqb_tells s.width t.width) [
+    | inl (e, _) ↦ rw ((same_family-Decides s.family t.family).1 same, e, of_total-too_large (s.total + t.total) (Cells (merged_cells s t)) large) refl
+    | inr (e, differ) ↦ absurd (differ width)
+  ]
+
+  pub cells-merged : (s.family ≢ t.family → ⊥) → ((s.family ≡ t.family) × (s.width ≢ t.width) → ⊥) → ((s.family ≡ t.family) × (s.width ≡ t.width) × (max_total < s.total + t.total) → ⊥)
+      → merge_saved n (Cells s) (Cells t) ≡ Ok (Cells (merged_cells s t))
+  cells-merged same_families same_widths fits = elim (decided (same_family s.family t.family) (same_family-Decides s.family t.family)) [
+    | inl (f, same) ↦ elim (eqb_tells s.width t.width) [
+      | inl (e, width) ↦ rw (f, e, of_total-fits (s.total + t.total) (Cells (merged_cells s t)) (λ lt. fits (same, width, lt))) refl
+      | inr (e, differ) ↦ absurd (same_widths (same, differ))
+    ]
+    | inr (f, differ) ↦ absurd (same_families differ)
+  ]
+
+-- ---- many files
+
+-- a refusal of a part is one of the whole
+pub refuses_along : {X Y : Type 0} (e : ToolError) (part : Result X ToolError) (whole : Result Y ToolError) → (part ≡ Err e → whole ≡ Err e) → Refuses part e → Refuses whole e
+refuses_along tool.Memory part whole so refused = tt
+refuses_along e part whole so refused = so refused
+
+module _ {X : Type 0} (f : X → List ℕ) (xs : List X) where
+  -- what is left of the contents, from the i-th on
+  pub drop_contents : (i : ℕ) (d : X) → i < length xs → drop i (map f xs) ≡ f (get_or xs i d) ∷ drop (i + 1) (map f xs)
+  drop_contents i d lt = drop-map f i xs ∙ ap (map f) (drop_more xs i d lt) ∙ ap (λ (ys : List (List ℕ)). f (get_or xs i d) ∷ ys) (sym (drop-map f (i + 1) xs))
+
+  -- the i-th file, with the number n, is merged into v
+  module _ (i n : ℕ) (d : X) (v : Saved) (whole : Result Saved ToolError) (lt : i < length xs) (so_far : merged_from n v (drop i (map f xs)) ≡ whole) where
+    merge_next : merged_from n v (f (get_or xs i d) ∷ drop (i + 1) (map f xs)) ≡ whole
+    merge_next = ap (merged_from n v) (sym (drop_contents i d lt)) ∙ so_far
+
+    pub merge_goes_on : (next both : Saved) → file_of n (f (get_or xs i d)) ≡ Ok next → merge_saved n v next ≡ Ok both → merged_from (n + 1) both (drop (i + 1) (map f xs)) ≡ whole
+    unfolding merged_from
+    merge_goes_on next both read merged =
+        let one : merged_from n v (f (get_or xs i d) ∷ drop (i + 1) (map f xs)) ≡ merged_from (n + 1) both (drop (i + 1) (map f xs)) = rw (read, merged) refl in
+        sym one ∙ merge_next
+
+    pub merge_unread : (e : ToolError) → Refuses (file_of n (f (get_or xs i d))) e → Refuses whole e
+    unfolding merged_from
+    merge_unread e refused =
+        refuses_along e (file_of n (f (get_or xs i d))) whole
+        (λ h. let one : merged_from n v (f (get_or xs i d) ∷ drop (i + 1) (map f xs)) ≡ Err e = rw h refl in sym merge_next ∙ one) refused
+
+    pub merge_stops : (next : Saved) (e : ToolError) → file_of n (f (get_or xs i d)) ≡ Ok next → Refuses (merge_saved n v next) e → Refuses whole e
+    unfolding merged_from
+    merge_stops next e read refused =
+        refuses_along e (merge_saved n v next) whole
+        (λ h. let one : merged_from n v (f (get_or xs i d) ∷ drop (i + 1) (map f xs)) ≡ Err e = rw (read, h) refl in sym merge_next ∙ one) refused
+
+  -- no file is left
+  pub merge_ends : (i n : ℕ) (v : Saved) (whole : Result Saved ToolError) → length xs ≤ i → merged_from n v (drop i (map f xs)) ≡ whole → whole ≡ Ok v
+  unfolding merged_from
+  merge_ends i n v whole le so_far =
+      let none : drop i (map f xs) ≡ [] = drop_all i (map f xs) (rw (length-map xs f) le) in
+      let one : merged_from n v (drop i (map f xs)) ≡ Ok v = rw none refl in
+      sym so_far ∙ one

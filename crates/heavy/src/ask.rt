@@ -1,0 +1,128 @@
+//! What a saved file tells of keys.
+
+ghost use Rattle.std.specs.Prelude.{◌≡◌, ◌<◌, ◌≤◌, length, Ok, Some, None, IfOk, IfErr, OnOk, MatchResult, map, vec_items};
+ghost use Rattle.std.specs.List.{flat_map};
+ghost use Rattle.std.specs.Io.KnownBytes.{Appends};
+ghost use Rattle.csv.specs.Writing.{text_written};
+ghost use Rattle.heavy.specs.Files.{Refuses, answer_of, answer_row, answers, bad_key, key_fault};
+ghost use Rattle.heavy.specs.Rows.{IsBetweenRows};
+
+use crate::error::{KeyCause, ToolError};
+use crate::files::file_of;
+use csv::{Writer, WriterBuilder};
+use hh_saved::Saved;
+use hh_stream::{Key, KeyFault, MAX_KEY_LEN};
+use itoa::Buffer;
+use std::alloc::{AllocError, Global};
+
+/// Tests the word with this number: a key has 1 to 255 bytes.
+fn check_key(number: u64, word: &[u8]) -> Result<(), ToolError>
+    ensures { MatchResult result (λ _. key_fault number word.now ≡ None) (λ fault. key_fault number word.now ≡ Some fault) }
+{
+    let cause = if word.is_empty() {
+        KeyCause::Empty
+    } else if word.len() > MAX_KEY_LEN {
+        KeyCause::TooLong
+    } else {
+        return Ok(());
+    };
+    Err(ToolError::BadKey { number, cause })
+}
+
+/// Tests the words, which are numbered from 1.
+fn check_keys(words: &[Vec<u8>]) -> Result<(), ToolError>
+    ensures { MatchResult result (λ _. bad_key 1 (map vec_items words.now) ≡ None) (λ fault. bad_key 1 (map vec_items words.now) ≡ Some fault) }
+{
+    for i in 0..words.len() {
+        match check_key(i as u64 + 1, &words[i]) {
+            Ok(()) => {}
+            Err(fault) => return Err(fault),
+        }
+    }
+    Ok(())
+}
+
+/// The least and the most that a key's weight can be.
+fn answer_of(saved: &Saved, key: &Key) -> (u64, u64)
+    ensures { result ≡ answer_of saved.now key.now }
+{
+    match saved {
+        Saved::Counters(summary) => {
+            let low = summary.get(key);
+            // The counters of a summary add up to at most its total.
+            prove!(summary.k() > 0);
+            (low, low + summary.slack())
+        }
+        Saved::Cells(table) => (0, table.estimate(key)),
+    }
+}
+
+/// Writes the row of a key after the others.
+fn write_answer(writer: &mut Writer<Vec<u8>>, saved: &Saved, key: &Key) -> Result<(), AllocError>
+    requires { IsBetweenRows writer.old }
+    ensures between { OnOk result (IsBetweenRows writer.new) }
+    ensures text { OnOk result (Appends (text_written (λ text. Some text.items) writer.old) (text_written (λ text. Some text.items) writer.new) (answer_row saved.now key.now)) }
+{
+    let (low, high) = answer_of(saved, key);
+    let mut low_digits = Buffer::new();
+    let low = low_digits.format(low).as_bytes();
+    let mut high_digits = Buffer::new();
+    let high = high_digits.format(high).as_bytes();
+    match writer.write_fields(&[key.bytes(), low, high]) {
+        Ok(()) => Ok(()),
+        Err(_) => Err(AllocError),
+    }
+}
+
+/// The key of a word that passed its test.
+fn key_of(alloc: Global, word: &[u8]) -> Result<Key, AllocError>
+    requires { (0 < length word.now) × (length word.now ≤ MAX_KEY_LEN) }
+    ensures { IfOk result (λ key. key ≡ word.now) }
+{
+    match Key::new(alloc, word) {
+        Ok(key) => Ok(key),
+        Err(KeyFault::Memory) => Err(AllocError),
+        Err(KeyFault::Empty | KeyFault::TooLong) => unreachable!(),
+    }
+}
+
+/// The rows of words that passed their tests.
+fn answers_text(alloc: Global, saved: &Saved, words: &[Vec<u8>]) -> Result<Vec<u8>, AllocError>
+    requires { bad_key 1 (map vec_items words.now) ≡ None }
+    ensures { IfOk result (λ text. text.items ≡ flat_map (λ word. answer_row saved.now word.items) words.now) }
+{
+    let mut writer = WriterBuilder::new().from_writer(Vec::new(alloc));
+    for word in words {
+        let key = key_of(alloc, word)?;
+        write_answer(&mut writer, saved, &key)?;
+    }
+    match writer.into_inner() {
+        Ok(text) => Ok(text),
+        Err(_) => Err(AllocError),
+    }
+}
+
+/// What a saved file tells of keys: for each, in order, a row `key,low,high` as `csv` writes it, ended
+/// by a line feed. The key's weight in the stream is at least `low` and at most `high`. Of a counter
+/// summary these are the key's counter, and that and the summary's slack; of a table 0 and the key's
+/// estimate.
+///
+/// The file is tested first ([`ToolError::BadFile`], as file 1), and then the keys in order
+/// ([`ToolError::BadKey`], numbered from 1), before any row is made.
+pub fn ask_bytes(alloc: Global, file: &[u8], keys: &[Vec<u8>]) -> Result<Vec<u8>, ToolError>
+    ensures rows { IfOk result (λ text. answers file.now (map vec_items keys.now) ≡ Ok text.items) }
+    ensures refused { IfErr result (λ fault. Refuses (answers file.now (map vec_items keys.now)) fault) }
+{
+    let saved = match file_of(alloc, 1, file) {
+        Ok(saved) => saved,
+        Err(fault) => return Err(fault),
+    };
+    match check_keys(keys) {
+        Ok(()) => {}
+        Err(fault) => return Err(fault),
+    }
+    match answers_text(alloc, &saved, keys) {
+        Ok(text) => Ok(text),
+        Err(_) => Err(ToolError::Memory),
+    }
+}
