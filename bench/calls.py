@@ -1,0 +1,68 @@
+#!/usr/bin/env python3
+"""Times the calls that a report is made of, beside plain Rust, and prints medians of interleaved runs.
+
+usage: bench/calls.py [RUNS]
+
+Prints for each call, file and k the nanoseconds an item (for `merge`: microseconds a merge), those of
+bench/plain.rs where it has the call, and the ratio. Needs rustc for the plain program; without it that
+column is empty.
+"""
+import statistics
+import subprocess
+import sys
+import tempfile
+from pathlib import Path
+
+import programs
+
+FEW = 100_000
+MANY = 1_000_000
+SIZES = [10, 100, 1_000, 10_000, 65_535]
+
+# (call, file, values of k)
+ROWS = [
+    ("read", ("zipf", MANY, 100_000, 0), [1]),
+    ("read", ("different", MANY, 0, 0), [1]),
+    *[("table", ("uniform", MANY, 100_000, length), [1]) for length in (4, 16, 64)],
+    ("of_items", ("zipf", FEW, 100_000, 0), [10, 100, 1_000, 65_535]),
+    ("of_items", ("different", FEW, 0, 0), [10, 100, 1_000, 65_535]),
+    ("merge", ("different", MANY, 0, 0), [10, 100, 1_000, 65_535]),
+    ("bucket_saving", ("zipf", MANY, 100_000, 0), SIZES),
+    ("bucket_saving", ("uniform", MANY, 200_000, 0), SIZES),
+    ("space_saving", ("zipf", FEW, 100_000, 0), [10, 100, 1_000, 10_000]),
+    ("space_saving", ("uniform", FEW, 200_000, 0), [10, 100, 1_000, 10_000]),
+]
+IN_PLAIN = {"read", "table", "bucket_saving"}
+
+
+def once(program: str, call: str, k: int, path: Path) -> int:
+    with open(path, "rb") as source:
+        run = subprocess.run([program, call, str(k)], stdin=source, capture_output=True, check=True)
+    return int(run.stdout)
+
+
+def main() -> None:
+    runs = int(sys.argv[1]) if len(sys.argv) > 1 else 5
+    with tempfile.TemporaryDirectory() as folder:
+        room = Path(folder)
+        built = {"heavy": programs.heavy_bench()}
+        if (plain := programs.plain(room)) is not None:
+            built["plain"] = plain
+        print(f"{'call':13} {'records':28} {'k':>6} {'heavy':>9} {'plain':>9} {'ratio':>6}")
+        for call, shape, sizes in ROWS:
+            path = programs.records(room, *shape)
+            for k in sizes:
+                names = [name for name in built if name == "heavy" or call in IN_PLAIN]
+                times: dict[str, list[int]] = {name: [] for name in names}
+                for _ in range(runs):
+                    for name in names:
+                        times[name].append(once(built[name], call, k, path))
+                medians = {name: statistics.median(all) for name, all in times.items()}
+                unit = 1000 if call == "merge" else 1
+                cells = f"{medians['heavy'] / unit:9.0f}"
+                if "plain" in medians:
+                    cells += f" {medians['plain']:9.0f} {medians['heavy'] / medians['plain']:6.2f}"
+                print(f"{call:13} {path.name:28} {k:6} {cells}", flush=True)
+
+
+main()

@@ -1,0 +1,64 @@
+#!/usr/bin/env python3
+"""Times `heavy report` beside mawk (or awk) and plain Rust, interleaved, on two files of 10^6 records.
+
+usage: bench/report.py [RUNS]
+
+Prints medians in seconds, and each as a ratio to the awk's and to plain Rust's with as many workers.
+"""
+import shutil
+import statistics
+import subprocess
+import sys
+import tempfile
+import time
+from pathlib import Path
+
+import programs
+
+GROUP_BY = "{ w[$1] += $2; n += $2 } END { for (x in w) if (101 * w[x] > n) print x \",\" w[x] }"
+WORKERS = (1, 2, 4)
+
+
+def commands(room: Path) -> dict[str, list[str]]:
+    """What is run, by name."""
+    heavy, plain = programs.heavy(), programs.plain(room)
+    found = {f"heavy {n}": [heavy, "report", "--k", "100", "--workers", str(n)] for n in WORKERS}
+    if plain:
+        found |= {f"plain {n}": [plain, "report", "100", str(n)] for n in WORKERS}
+    awk = shutil.which("mawk") or shutil.which("awk")
+    if awk:
+        found["awk"] = [awk, "-F,", GROUP_BY]
+    return found
+
+
+def once(command: list[str], path: Path) -> float:
+    with open(path, "rb") as source:
+        start = time.perf_counter()
+        subprocess.run(command, stdin=source, stdout=subprocess.DEVNULL, check=True)
+        return time.perf_counter() - start
+
+
+def main() -> None:
+    runs = int(sys.argv[1]) if len(sys.argv) > 1 else 7
+    with tempfile.TemporaryDirectory() as folder:
+        room = Path(folder)
+        all_commands = commands(room)
+        for shape in ("zipf", "different"):
+            path = programs.records(room, shape)
+            times: dict[str, list[float]] = {name: [] for name in all_commands}
+            for _ in range(runs):
+                for name, command in all_commands.items():
+                    times[name].append(once(command, path))
+            medians = {name: statistics.median(all) for name, all in times.items()}
+            print(shape)
+            for name, median in medians.items():
+                line = f"  {name:8} {median:7.3f} s"
+                if "awk" in medians:
+                    line += f"   {median / medians['awk']:5.2f} of awk"
+                same = "plain " + name[-1]
+                if name.startswith("heavy") and same in medians:
+                    line += f"   {median / medians[same]:5.2f} of plain"
+                print(line, flush=True)
+
+
+main()
