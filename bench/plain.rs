@@ -102,19 +102,20 @@ impl<'a> Saving<'a> {
     }
 }
 
-fn modulo_p(x: u128) -> u64 {
-    let once = (x as u64 & P) + ((x >> 61) as u64 & P) + (x >> 122) as u64;
-    let twice = (once & P) + (once >> 61);
-    if twice >= P { twice - P } else { twice }
+/// `a * b + c` modulo 2^61 - 1, for numbers below it.
+fn multiply_add(a: u64, b: u64, c: u64) -> u64 {
+    let wide = u128::from(a) * u128::from(b) + u128::from(c);
+    let sum = (wide as u64 & P) + (wide >> 61) as u64;
+    if sum < P { sum } else { sum - P }
 }
 
 fn table_add(cells: &mut [u64], key: &[u8], weight: u64) {
     let mut fingerprint = 0;
     for &byte in key {
-        fingerprint = modulo_p(u128::from(fingerprint) * u128::from(Z) + u128::from(byte) + 1);
+        fingerprint = multiply_add(fingerprint, Z, u64::from(byte) + 1);
     }
     for (r, &(a, b)) in ROWS.iter().enumerate() {
-        let hash = modulo_p(u128::from(a) * u128::from(fingerprint) + u128::from(b));
+        let hash = multiply_add(a, fingerprint, b);
         cells[r * WIDTH + hash as usize % WIDTH] += weight;
     }
 }

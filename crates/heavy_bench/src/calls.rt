@@ -44,9 +44,9 @@ impl Call {
 }
 
 /// The nanoseconds since the start, for each of so many steps.
-fn for_each(rt: &HostRuntime, start: Instant, steps: usize) -> Result<u64, BenchFault> {
+fn for_each(rt: &HostRuntime, start: Instant, steps: usize) -> Result<u128, BenchFault> {
     match start.elapsed(rt) {
-        Ok(elapsed) => Ok((elapsed.as_nanos() / (steps.max(1) as u128)) as u64),
+        Ok(elapsed) => Ok(elapsed.as_nanos() / (steps.max(1) as u128)),
         Err(_) => Err(BenchFault::Clock),
     }
 }
@@ -103,7 +103,7 @@ fn merge_all(into: &mut Summary, summaries: &[Summary]) -> Result<(), BenchFault
 }
 
 /// The time of the merges of eight pieces' summaries into an empty one.
-fn merges(rt: &HostRuntime, k: u64, stream: &Stream) -> Result<u64, BenchFault> {
+fn merges(rt: &HostRuntime, k: u64, stream: &Stream) -> Result<u128, BenchFault> {
     let summaries = summaries(rt.alloc(), k, stream)?;
     let mut whole = Summary::new(rt.alloc(), k).map_err(|_| BenchFault::Refused)?;
     let start = now(rt)?;
@@ -112,7 +112,7 @@ fn merges(rt: &HostRuntime, k: u64, stream: &Stream) -> Result<u64, BenchFault> 
 }
 
 /// The time of a call on the stream of standard input, for each item or merge, in nanoseconds.
-pub fn nanoseconds(rt: &HostRuntime, call: Call, k: u64) -> Result<u64, BenchFault> {
+pub fn nanoseconds(rt: &HostRuntime, call: Call, k: u64) -> Result<u128, BenchFault> {
     let alloc = rt.alloc();
     let reading = now(rt)?;
     let stream = read_stream(alloc, rt.stdin()).map_err(|_| BenchFault::Records)?;

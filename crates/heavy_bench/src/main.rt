@@ -26,7 +26,7 @@ fn request(rt: &HostRuntime) -> Result<(Call, u64), BenchFault> {
     }
 }
 
-fn measured(rt: &HostRuntime) -> Result<u64, BenchFault> {
+fn measured(rt: &HostRuntime) -> Result<u128, BenchFault> {
     let (call, k) = request(rt)?;
     nanoseconds(rt, call, k)
 }
