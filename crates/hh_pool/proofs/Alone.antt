@@ -7,8 +7,7 @@ use Rattle.hh_stream.specs.Weights.{Bytes, Entry, total_of}
 use Rattle.hh_stream.specs.Cuttings.{whole_of}
 use Rattle.hh_counters.specs.Counters.{Sketch, sketch_of}
 use Rattle.hh_counters.specs.Report.{counted, weights_at}
-use Rattle.hh_countmin.specs.Table.{Grid, empty_table, table_of}
-use Rattle.hh_countmin.proofs.Tables.{empty_table-is}
+use Rattle.hh_countmin.specs.Table.{Grid, table_of}
 use Rattle.hh_pool.specs.Settings.{Settings}
 use Rattle.hh_pool.specs.Passes.{piece_of, IsFirstAloneUpTo}
 use Rattle.hh_pool.proofs.Pieces.{sum_by-flat_map}
@@ -26,8 +25,8 @@ total-more pieces n low =
     let weigh = sum_by-flat_map (λ (e : Entry). e.1) (λ piece. piece) in
     omega (arith, weigh (take n pieces), weigh pieces, sum_by_more_le total_of pieces n [] low)
 
-pub alone_begins : (pieces : List (List Entry)) (settings : Settings) (grid : Grid) → grid ≡ empty_table settings.family settings.width → IsFirstAloneUpTo pieces settings 0 [] grid
-alone_begins pieces settings grid e = record { summaries = refl; table = e ∙ empty_table-is settings.family settings.width }
+pub alone_begins : (pieces : List (List Entry)) (settings : Settings) (grid : Grid) → grid ≡ table_of settings.family settings.width [] → IsFirstAloneUpTo pieces settings 0 [] grid
+alone_begins pieces settings grid e = record { summaries = refl; table = e }
 
 pub alone_more : (pieces : List (List Entry)) (settings : Settings) (n : ℕ) (sketches more : List Sketch) (was grid : Grid) → n < length pieces → more ≡ sketches ++ sketch_of settings.k (piece_of pieces n) ∷ []
     → grid ≡ table_of settings.family settings.width (whole_of (take n pieces) ++ piece_of pieces n) → IsFirstAloneUpTo pieces settings n sketches was → IsFirstAloneUpTo pieces settings (n + 1) more grid

@@ -1,11 +1,10 @@
 -- What the closed sums are, and that the merged summary can be made.
-use Rattle.std.proofs.Common.{◌≡◌, ℕ, ◌+◌, ◌*◌, ◌%◌, ◌^◌, ◌<◌, ◌≤◌, cond, Bool, true, false, List, [], length, get_or, map, refl, sym, ap, ◌∙◌, subst, arith}
+use Rattle.std.proofs.Common.{◌≡◌, ℕ, ◌+◌, ◌*◌, ◌%◌, ◌^◌, ◌<◌, ◌≤◌, List, [], length, get_or, map, refl, sym, ap, ◌∙◌, subst, arith}
 use Rattle.std.specs.Prelude.{All}
 use Rattle.std.specs.List.{range_with_len}
 use Rattle.std.proofs.lemmas.List.{get_or-map, length-map}
 use Rattle.std.proofs.lemmas.List.FromFn.{fill_by_all}
 use Rattle.std.proofs.lemmas.List.Elements.{All-map}
-use Rattle.std.proofs.lemmas.List.Sums.{sum_by-le-sum_by}
 use Rattle.std.proofs.lemmas.Grind.{same_number_lists}
 use Rattle.std.proofs.lemmas.Nat.{mul-add-lt}
 use Rattle.std.proofs.lemmas.Option.{slice_get-get_or}
@@ -13,37 +12,28 @@ use Rattle.hh_stream.specs.Weights.{Bytes, Entry, at_key, weight_of, total_of, m
 use Rattle.hh_stream.specs.Cuttings.{whole_of}
 use Rattle.hh_counters.specs.Counters.{Sketch, sketch_of}
 use Rattle.hh_counters.specs.Report.{weights_at}
-use Rattle.hh_counters.proofs.Counting.{weight_of-le-total_of}
-use Rattle.hh_countmin.specs.Family.{Coefficients}
 use Rattle.hh_countmin.specs.Table.{at_cell, cell_sum, table_of}
-use Rattle.hh_countmin.proofs.Cells.{same_cells}
+use Rattle.hh_countmin.specs.Laws.{CellsAreCellSums}
 use Rattle.hh_shared.specs.Tally.{added, sum_at, IsDistinctBelow, HasAllBelow}
 use Rattle.hh_shared.specs.Seats.{Holding}
 use Rattle.hh_pool.specs.Settings.{Settings}
 use Rattle.hh_pool.specs.Passes.{piece_of, summaries_at, IsFirstPass, IsSecondPass}
-use Rattle.hh_pool.proofs.Pieces.{sum_by-all_items}
+use Rattle.hh_pool.proofs.Pieces.{sum_by-all_items, weight_of-le, cell_sum-le}
 use Rattle.hh_pool.proofs.Tried.{weight_behind_number}
-
-at_most : (b : Bool) (n : ℕ) → cond b n 0 ≤ n
-at_most true n = omega arith
-at_most false n = omega arith
-
-cell_sum-le : (family : Coefficients) (width r c : ℕ) (xs : List Entry) → cell_sum family width r c xs ≤ total_of xs
-cell_sum-le family width r c xs = sum_by-le-sum_by (at_cell family width r c) (λ (e : Entry). e.1) xs (λ e. at_most _ e.1)
 
 exact : (n sum : ℕ) → sum ≡ n → n ≤ max_total → sum % 2 ^ 64 ≡ n
 exact n sum e low = omega arith
 
 -- the closed sums of the first pass are the cells of the whole table
-pub closed_cells : (pieces : List (List Entry)) (xs : List Entry) (settings : Settings) (seat : Holding) (kept : List (ℕ × Sketch)) (values : List ℕ)
+pub closed_cells : CellsAreCellSums → (pieces : List (List Entry)) (xs : List Entry) (settings : Settings) (seat : Holding) (kept : List (ℕ × Sketch)) (values : List ℕ)
     → whole_of pieces ≡ xs → total_of xs ≤ max_total → IsFirstPass pieces settings seat kept → IsDistinctBelow (length pieces) seat.claims → HasAllBelow (length pieces) seat.claims
     → length values ≡ length settings.family.rows * settings.width → ((cell : ℕ) → cell < length settings.family.rows * settings.width → get_or values cell 0 ≡ sum_at seat.adds cell)
     → values ≡ (table_of settings.family settings.width xs).cells
-closed_cells pieces xs settings seat kept values whole low p distinct all long each =
+closed_cells law pieces xs settings seat kept values whole low p distinct all long each =
     let family = settings.family in
     let width = settings.width in
     let depth = length family.rows in
-    same_cells (λ r c. cell_sum family width r c xs) depth width values long (λ r c row cell.
+    (law family width xs).1 values long (λ r c row cell.
     let all_items : added (r * width + c) seat.adds ≡ cell_sum family width r c xs =
     p.adds r c row cell ∙ (sum_by-all_items (at_cell family width r c) pieces seat.claims distinct all ∙ ap (cell_sum family width r c) whole) in
     each (r * width + c) (omega (arith, mul-add-lt r width c depth row cell))
@@ -60,7 +50,7 @@ closed_weights pieces xs keys seat values whole low p distinct all long each =
     let at = slice_get-get_or keys i [] (omega arith) in
     let all_items : added i seat.adds ≡ weight_of key xs = p.adds i key at ∙ (sum_by-all_items (at_key key) pieces seat.claims distinct all ∙ ap (weight_of key) whole) in
     each i (omega arith)
-    ∙ (exact (weight_of key xs) (added i seat.adds) all_items (omega (arith, weight_of-le-total_of key xs)) ∙ sym (weight_behind_number keys xs i key at)))
+    ∙ (exact (weight_of key xs) (added i seat.adds) all_items (omega (arith, weight_of-le key xs)) ∙ sym (weight_behind_number keys xs i key at)))
 
 -- each summary found is its piece's
 pub found_are : (k : ℕ) (pieces : List (List Entry)) (claims : List ℕ) (found : List (ℕ × Sketch)) → found ≡ summaries_at k pieces claims → All (λ (it : ℕ × Sketch). it.1 ≡ sketch_of k (piece_of pieces it.0)) found

@@ -1,3 +1,4 @@
+pub mod NumberSums
 pub mod TreeFacts
 pub mod MergeFacts
 pub mod ValueFacts

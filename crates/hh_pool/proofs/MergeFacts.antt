@@ -4,8 +4,9 @@ use Rattle.std.specs.Prelude.{slice_index_or}
 use Rattle.std.proofs.lemmas.Bool.Decides.{nat_tests}
 use Rattle.hh_counters.specs.Counters.{Sketch}
 use Rattle.hh_counters.specs.declared.summary.MergeFault.{MergeFault}
-use Rattle.hh_pool.specs.Trees.{HasPlaces, IsMergeTree, MergeTree, Piece, Merge, leaves, merge_result, no_sketch, times, tree_result}
-use Rattle.hh_pool.proofs.TreeFacts.{times-append}
+use Rattle.hh_pool.specs.Trees.{HasPlaces, IsMergeTree, MergeTree, Piece, Merge, leaves, merge_result, no_sketch, tree_result}
+use Rattle.hh_shared.specs.Tally.{times}
+use Rattle.hh_pool.proofs.NumberSums.{times-append}
 
 -- how many merges a tree has
 abbrev pub merges : MergeTree → ℕ

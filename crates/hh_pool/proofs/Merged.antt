@@ -11,19 +11,16 @@ use Rattle.hh_stream.specs.Cuttings.{whole_of}
 use Rattle.hh_counters.specs.Counters.{Counters, Sketch, sketch_of, merged, misra_gries, IsHonest}
 use Rattle.hh_counters.specs.declared.summary.MergeFault.{MergeFault}
 use Rattle.hh_counters.specs.Report.{heavy, selected, weights_at}
-use Rattle.hh_counters.proofs.Summaries.{honest-misra_gries}
-use Rattle.hh_counters.proofs.Reports.{report_from_candidates}
-use Rattle.hh_shared.proofs.Tallies.{all-length, times-append, times-one}
-use Rattle.hh_pool.specs.Trees.{MergeTree, Piece, Merge, IsMergeTree, MergesHonestly, leaves, merge_both, merge_result, no_sketch, times, tree_result, tree_value}
+use Rattle.hh_counters.specs.Laws.{MisraGriesIsHonest, CandidatesSuffice}
+use Rattle.hh_shared.specs.Tally.{times}
+use Rattle.hh_pool.specs.Trees.{MergeTree, Piece, Merge, IsMergeTree, MergesHonestly, leaves, merge_both, merge_result, no_sketch, tree_result, tree_value}
 use Rattle.hh_pool.specs.Outcomes.{IsMerged}
+use Rattle.hh_pool.proofs.NumberSums.{length-once, times-append, times-here}
 use Rattle.hh_pool.proofs.ValueFacts.{sum-leaves}
 
 -- a plan of p pieces has p leaves
 pub length-leaves : (t : MergeTree) (p : ℕ) → IsMergeTree t p → length (leaves t) ≡ p
-length-leaves t p h =
-    all-length p (leaves t)
-    (record { once = λ i. ⊎_elim (λ (low : i < p). omega (arith, h.once i low)) (λ (high : p ≤ i). omega (arith, h.within i high)) (cases_lt i p); below = λ i some. ⊎_elim (λ (low : i < p). low) (λ (high : p ≤ i). absurd (omega (arith, h.within i high))) (cases_lt i p) })
-    (record { has = λ i low. omega (arith, h.once i low) })
+length-leaves t p h = length-once p (leaves t) h.once h.within
 
 abbrev total_at : List Sketch → ℕ → ℕ
 total_at ss i = (get_or ss i no_sketch).total
@@ -34,7 +31,7 @@ merge_fits s t same fits = grind (arith, nat_tests)
 -- summaries with one k, whose totals fit together, are merged
 pub tree_merges : (t : MergeTree) (ss : List Sketch) (k : ℕ) → ((i : ℕ) → 0 < times i (leaves t) → (get_or ss i no_sketch).k ≡ k) → sum_by (total_at ss) (leaves t) ≤ max_total
     → (s : Sketch) × (tree_result t ss ≡ Ok s) × (s.k ≡ k) × (s.total ≡ sum_by (total_at ss) (leaves t))
-tree_merges (Piece i) ss k one_k fits = (get_or ss i no_sketch, refl, one_k i (omega (arith, times-one i)), omega arith)
+tree_merges (Piece i) ss k one_k fits = (get_or ss i no_sketch, refl, one_k i (omega (arith, times-here i [])), omega arith)
 tree_merges (Merge l r) ss k one_k fits =
     let both = sum_by-append (total_at ss) (leaves l) (leaves r) in
     let a = tree_merges l ss k (λ i some. one_k i (omega (arith, times-append i (leaves l) (leaves r)))) (omega arith) in
@@ -67,17 +64,17 @@ pieces_merge t k pieces plan fits =
     (one.0, one.1)
 
 -- what merge_by says of the summaries of a stream's pieces
-pub merged_is : (t : MergeTree) (k : ℕ) (pieces : List (List Entry)) (xs : List Entry) (ss : List Sketch) (s : Sketch) → 0 < length pieces → whole_of pieces ≡ xs → ss ≡ map (sketch_of k) pieces
+pub merged_is : MisraGriesIsHonest → (t : MergeTree) (k : ℕ) (pieces : List (List Entry)) (xs : List Entry) (ss : List Sketch) (s : Sketch) → 0 < length pieces → whole_of pieces ≡ xs → ss ≡ map (sketch_of k) pieces
     → All (λ (piece : Sketch). piece.k ≡ s.k) ss → s.total ≡ sum_by (λ (piece : Sketch). piece.total) ss → s.counters ≡ tree_value t (map (λ (piece : Sketch). piece.counters) ss) s.k → MergesHonestly ss s
     → IsMerged t k pieces xs s
-merged_is t k pieces xs ss s some whole e same_k total counters honest =
+merged_is law t k pieces xs ss s some whole e same_k total counters honest =
     let sketches = map (sketch_of k) pieces in
     let count : length sketches ≡ length pieces = length-map pieces (sketch_of k) in
     let first : (get_or sketches 0 no_sketch).k ≡ s.k = subst (All (λ (piece : Sketch). piece.k ≡ s.k)) e same_k 0 no_sketch (omega arith) in
     let k_is : s.k ≡ k = sym first ∙ ap (λ (piece : Sketch). piece.k) (sketch-at k pieces 0 some) in
     let total_is = total ∙ (ap (sum_by (λ (piece : Sketch). piece.total)) e ∙ (total-sketches k pieces ∙ ap total_of whole)) in
     let each : (i : ℕ) → i < length sketches → IsHonest (get_or sketches i no_sketch).counters (get_or sketches i no_sketch).total (get_or pieces i []) s.k =
-    (λ i low. subst (λ (z : Sketch × ℕ). IsHonest z.0.counters z.0.total (get_or pieces i []) z.1) (λ j. (sym (sketch-at k pieces i (omega arith)) j, sym k_is j)) (honest-misra_gries (get_or pieces i []) k)) in
+    (λ i low. subst (λ (z : Sketch × ℕ). IsHonest z.0.counters z.0.total (get_or pieces i []) z.1) (λ j. (sym (sketch-at k pieces i (omega arith)) j, sym k_is j)) (law (get_or pieces i []) k)) in
     let whole_honest = subst (λ zs. MergesHonestly zs s) e honest pieces (sym count) each in
     record {
       same_k = k_is;
@@ -87,10 +84,10 @@ merged_is t k pieces xs ss s some whole e same_k total counters honest =
     }
 
 -- the second pass over the keys of honest counters finds the heavy keys
-pub heavy_is : (c : Counters) (xs : List Entry) (k total : ℕ) (keys : List Bytes) (weights : List ℕ) → IsHonest c (total_of xs) xs k → total ≡ total_of xs → keys ≡ keys_of c → weights ≡ weights_at keys xs
+pub heavy_is : CandidatesSuffice → (c : Counters) (xs : List Entry) (k total : ℕ) (keys : List Bytes) (weights : List ℕ) → IsHonest c (total_of xs) xs k → total ≡ total_of xs → keys ≡ keys_of c → weights ≡ weights_at keys xs
     → selected 1 (k + 1) total (zip keys weights) ≡ heavy xs 1 (k + 1)
-heavy_is c xs k total keys weights honest total_is keys_are weights_are =
-    (λ i. selected 1 (k + 1) (total_is i) (zip (keys_are i) ((weights_are ∙ ap (λ ks. weights_at ks xs) keys_are) i))) ∙ report_from_candidates c xs k 1 (k + 1) honest (omega arith)
+heavy_is law c xs k total keys weights honest total_is keys_are weights_are =
+    (λ i. selected 1 (k + 1) (total_is i) (zip (keys_are i) ((weights_are ∙ ap (λ ks. weights_at ks xs) keys_are) i))) ∙ (law c xs k 1 (k + 1)).1 honest (omega arith)
 
 -- so no refusal comes
 pub no_refusal : (t : MergeTree) (k : ℕ) (pieces : List (List Entry)) (ss : List Sketch) (e : MergeFault) → IsMergeTree t (length pieces) → total_of (whole_of pieces) ≤ max_total → ss ≡ map (sketch_of k) pieces → tree_result t ss ≡ Err e → ⊥

@@ -1,17 +1,16 @@
 -- The numbers of a tree's pieces, and the marks of those that came.
-use Rattle.std.proofs.Common.{◌≡◌, ◌≢◌, ◌+◌, ◌<◌, ◌≤◌, ◌==◌, ◌∷◌, ◌++◌, ◌∙◌, ℕ, suc, Bool, true, false, List, [], length, take, drop, set, get_or, refl, sym, ap, add-one, inl, inr, ◌⊎◌, arith}
+use Rattle.std.proofs.Common.{◌≡◌, ◌≢◌, ◌+◌, ◌<◌, ◌≤◌, ◌==◌, ◌∷◌, ◌++◌, ◌∙◌, ℕ, Bool, true, false, List, [], length, take, drop, set, get_or, refl, sym, ap, add-one, inl, inr, ◌⊎◌, arith}
 use Rattle.std.specs.Prelude.{nat_lt}
-use Rattle.std.proofs.lemmas.Bool.{false≢true}
 use Rattle.std.proofs.lemmas.Bool.Decides.{eqb_tells, nat_tests}
-use Rattle.std.proofs.lemmas.List.{take-append-drop, take_more, get_or_default}
+use Rattle.std.proofs.lemmas.List.{take-append-drop, take_more}
 use Rattle.std.proofs.Common.{drop-cons, get_or-set_other, get_or-set_same}
 use Rattle.std.proofs.Math.ListN.{length-set}
-use Rattle.hh_pool.specs.Trees.{IsMergeTree, MergeTree, leaves, times}
+use Rattle.hh_pool.specs.Trees.{IsMergeTree, MergeTree, leaves}
+use Rattle.hh_shared.specs.Tally.{times}
 use Rattle.hh_pool.specs.PlanTexts.{AreMarked, AreOwn, NumbersRefused, PlanRefused, Spells}
 use Rattle.hh_pool.specs.declared.reading.PlanFault.{PlanFault}
 use Rattle.hh_pool.specs.declared.reading.PlanFault.TheVariants as fault
-use Rattle.hh_pool.proofs.TreeFacts.{times-append}
-use Rattle.hh_pool.proofs.ValueFacts.{times-elsewhere, times-here}
+use Rattle.hh_pool.proofs.NumberSums.{times-append, times-elsewhere, times-here}
 
 -- a list at a place
 pub split-at : (xs : List ℕ) (n d : ℕ) → n < length xs → xs ≡ take n xs ++ get_or xs n d ∷ drop (n + 1) xs

@@ -1,13 +1,15 @@
 -- Sums over the items of pieces.
-use Rattle.std.proofs.Common.{◌≡◌, ℕ, zero, suc, ◌+◌, ◌≤◌, List, [], ◌∷◌, length, refl, sym, ap, ◌∙◌, arith}
+use Rattle.std.proofs.Common.{◌≡◌, ℕ, suc, ◌+◌, ◌≤◌, cond, Bool, true, false, List, [], ◌∷◌, length, refl, sym, ap, ◌∙◌, arith}
 use Rattle.std.specs.Prelude.{sum_by}
 use Rattle.std.specs.List.{flat_map}
-use Rattle.std.proofs.lemmas.List.Sums.{sum_by-cons, sum_by-append}
-use Rattle.hh_stream.specs.Weights.{Entry}
+use Rattle.std.proofs.lemmas.List.Sums.{sum_by-cons, sum_by-append, sum_by-le-sum_by}
+use Rattle.hh_stream.specs.Weights.{Bytes, Entry, at_key, weight_of, total_of}
 use Rattle.hh_stream.specs.Cuttings.{pieces_of, whole_of}
+use Rattle.hh_countmin.specs.Family.{Coefficients}
+use Rattle.hh_countmin.specs.Table.{at_cell, cell_sum}
 use Rattle.hh_shared.specs.Tally.{IsDistinctBelow, HasAllBelow}
-use Rattle.hh_shared.proofs.Tallies.{sum_below, sum_by-all, sum_by-distinct}
 use Rattle.hh_pool.specs.Passes.{piece_of, items_at}
+use Rattle.hh_pool.proofs.NumberSums.{sum-all, sum-distinct}
 
 module _ {X A : Type 0} where
   -- a sum over the parts is a sum of the parts' sums
@@ -15,25 +17,24 @@ module _ {X A : Type 0} where
   sum_by-flat_map f g [] = refl
   sum_by-flat_map f g (x ∷ xs) = sum_by-append f (g x) (flat_map g xs) ∙ (ap (λ n. sum_by f (g x) + n) (sum_by-flat_map f g xs) ∙ sym (sum_by-cons (λ y. sum_by f (g y)) x xs))
 
-sum_below-first : (n : ℕ) (f : ℕ → ℕ) → sum_below (suc n) f ≡ f 0 + sum_below n (λ j. f (suc j))
-sum_below-first zero f = omega arith
-sum_below-first (suc n) f = omega (arith, sum_below-first n f)
+part : (b : Bool) (n : ℕ) → cond b n 0 ≤ n
+part true n = omega arith
+part false n = omega arith
 
--- a sum over all pieces, by number
-sum_below-pieces : (f : Entry → ℕ) (pieces : List (List Entry)) → sum_below (length pieces) (λ j. sum_by f (piece_of pieces j)) ≡ sum_by f (whole_of pieces)
-sum_below-pieces f [] = refl
-sum_below-pieces f (p ∷ ps) =
-    let first = sum_below-first (length ps) (λ j. sum_by f (piece_of (p ∷ ps) j)) in
-    omega (arith, first, sum_below-pieces f ps, sum_by-append f p (whole_of ps))
+-- no key weighs more than all, nor does a cell
+pub weight_of-le : (x : Bytes) (xs : List Entry) → weight_of x xs ≤ total_of xs
+weight_of-le x xs = sum_by-le-sum_by (at_key x) (λ (e : Entry). e.1) xs (λ e. part _ e.1)
+
+pub cell_sum-le : (family : Coefficients) (width r c : ℕ) (xs : List Entry) → cell_sum family width r c xs ≤ total_of xs
+cell_sum-le family width r c xs = sum_by-le-sum_by (at_cell family width r c) (λ (e : Entry). e.1) xs (λ e. part _ e.1)
 
 -- where each piece was claimed once, a sum over the claimed pieces is a sum over all items
 pub sum_by-all_items : (f : Entry → ℕ) (pieces : List (List Entry)) (claims : List ℕ) → IsDistinctBelow (length pieces) claims → HasAllBelow (length pieces) claims → sum_by f (items_at pieces claims) ≡ sum_by f (whole_of pieces)
-sum_by-all_items f pieces claims d all = sum_by-flat_map f (piece_of pieces) claims ∙ (sum_by-all (length pieces) (λ j. sum_by f (piece_of pieces j)) claims d all ∙ sum_below-pieces f pieces)
+sum_by-all_items f pieces claims d all = sum_by-flat_map f (piece_of pieces) claims ∙ (sum-all (sum_by f) [] pieces claims d all ∙ sym (sum_by-flat_map f (λ piece. piece) pieces))
 
 -- a sum over distinct pieces is at most a sum over all items
 pub sum_by-items : (f : Entry → ℕ) (pieces : List (List Entry)) (claims : List ℕ) → IsDistinctBelow (length pieces) claims → sum_by f (items_at pieces claims) ≤ sum_by f (whole_of pieces)
-sum_by-items f pieces claims d =
-    omega (arith, sum_by-flat_map f (piece_of pieces) claims, sum_by-distinct (length pieces) (λ j. sum_by f (piece_of pieces j)) claims d, sum_below-pieces f pieces)
+sum_by-items f pieces claims d = omega (arith, sum_by-flat_map f (piece_of pieces) claims, sum-distinct (sum_by f) [] pieces claims d, sum_by-flat_map f (λ piece. piece) pieces)
 
 pub length-pieces_of : {A : Type 0} (ns : List ℕ) (xs : List A) → length (pieces_of ns xs) ≡ length ns
 length-pieces_of [] xs = refl

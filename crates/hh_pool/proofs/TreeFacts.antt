@@ -1,12 +1,10 @@
 -- How often each number is a leaf of a tree.
-use Rattle.std.proofs.Common.{◌≡◌, ◌+◌, ◌-◌, ◌/◌, ◌≤◌, ◌==◌, ◌∷◌, ◌++◌, ℕ, zero, suc, List, [], zero-add, arith}
-use Rattle.std.specs.Prelude.{min, cond}
-use Rattle.std.proofs.lemmas.List.Sums.{sum_by-append}
+use Rattle.std.proofs.Common.{◌≡◌, ◌+◌, ◌-◌, ◌/◌, ◌≤◌, ◌∷◌, ℕ, zero, suc, [], zero-add, arith}
+use Rattle.std.specs.Prelude.{min}
 use Rattle.std.proofs.lemmas.Bool.Decides.{nat_tests}
-use Rattle.hh_pool.specs.Trees.{MergeTree, Piece, Merge, IsBalanced, IsMergeTree, chain_of, leaves, times}
-
-pub times-append : (i : ℕ) (xs ys : List ℕ) → times i (xs ++ ys) ≡ times i xs + times i ys
-times-append i xs ys = sum_by-append (λ j. cond (j == i) 1 0) xs ys
+use Rattle.hh_pool.specs.Trees.{MergeTree, Piece, Merge, IsBalanced, IsMergeTree, chain_of, leaves}
+use Rattle.hh_shared.specs.Tally.{times}
+use Rattle.hh_pool.proofs.NumberSums.{times-append}
 
 -- 1 from b on
 abbrev from : ℕ → ℕ → ℕ

@@ -12,18 +12,16 @@ use mathlib.Core.Logic.{dite}
 use native.Mathlib.Decide.{ℕ_discrete}
 use Rattle.hh_stream.specs.Weights.{Bytes, Entry, at_key, weight_of, total_of}
 use Rattle.hh_stream.specs.Cuttings.{whole_of}
-use Rattle.hh_pool.proofs.Pieces.{sum_by-items}
+use Rattle.hh_pool.proofs.NumberSums.{times-append, times-push, added-append}
+use Rattle.hh_pool.proofs.Pieces.{sum_by-items, weight_of-le}
 use Rattle.std.proofs.lemmas.List.Sums.{sum_by-append}
 use Rattle.hh_counters.specs.Report.{weights_at, counted}
-use Rattle.hh_counters.proofs.Counting.{weight_of-le-total_of}
 use Rattle.hh_counters.specs.Counters.{Sketch, sketch_of}
 use Rattle.hh_countmin.specs.Family.{Coefficients}
-use Rattle.hh_countmin.specs.Table.{Grid, cell_at, cell_sum, table_of, empty_table}
-use Rattle.hh_countmin.proofs.Cells.{cell_at-cells_by, cell_sum-append}
-use Rattle.hh_countmin.proofs.Tables.{empty_table-is}
+use Rattle.hh_countmin.specs.Table.{Grid, at_cell, cell_at, cell_sum, table_of}
+use Rattle.hh_countmin.specs.Laws.{CellsAreCellSums}
 use Rattle.hh_shared.specs.Tally.{times, added, IsDistinctBelow}
 use Rattle.hh_shared.specs.Seats.{Sums, Holding, fresh, joined}
-use Rattle.hh_shared.proofs.Tallies.{times-append, times-push, added-append}
 use Rattle.hh_pool.specs.Settings.{Settings}
 use Rattle.hh_pool.specs.Passes.{piece_of, items_at, summaries_at, HasTried, IsFirstPass, IsSecondPass, IsFirstPassUpTo, IsSecondPassUpTo}
 
@@ -81,13 +79,13 @@ pub claim-behind_cell : (family : Coefficients) (width : ℕ) (pieces : List (Li
 claim-behind_cell family width pieces [] grid e cell some = absurd (omega (arith, ap (λ g. get_or g.cells cell 0) e, all_zero (range_with_len 0 (length family.rows * width)) cell))
 claim-behind_cell family width pieces (i ∷ is) grid e cell some = omega arith
 
-pub first_begins : (pieces : List (List Entry)) (settings : Settings) (sums : Sums) (grid : Grid) → grid ≡ empty_table settings.family settings.width → IsFirstPassUpTo pieces settings 0 (fresh sums) [] grid
+pub first_begins : (pieces : List (List Entry)) (settings : Settings) (sums : Sums) (grid : Grid) → grid ≡ table_of settings.family settings.width [] → IsFirstPassUpTo pieces settings 0 (fresh sums) [] grid
 first_begins pieces settings sums grid e = record {
   tried = λ i low. absurd (omega arith);
   distinct = record { once = λ j. omega arith; below = λ j some. absurd (omega arith) };
   none_added = refl;
   summaries = refl;
-  table = e ∙ empty_table-is settings.family settings.width;
+  table = e;
 }
 
 pub first_met : (pieces : List (List Entry)) (settings : Settings) (n : ℕ) (seat after : Holding) (kept : List (ℕ × Sketch)) (grid : Grid) → after ≡ record seat { met = seat.met ++ n ∷ [] } → IsFirstPassUpTo pieces settings n seat kept grid → IsFirstPassUpTo pieces settings (n + 1) after kept grid
@@ -109,15 +107,15 @@ first_claimed pieces settings n seat after kept more grid e distinct f g was p =
     }
 
 -- the cells of the worker's own table are added to the shared ones
-pub first_ends : (pieces : List (List Entry)) (settings : Settings) (seat after : Holding) (kept : List (ℕ × Sketch)) (grid : Grid)
+pub first_ends : CellsAreCellSums → (pieces : List (List Entry)) (settings : Settings) (seat after : Holding) (kept : List (ℕ × Sketch)) (grid : Grid)
     → after ≡ record seat { adds = after.adds } → ((cell : ℕ) → added cell after.adds ≡ added cell seat.adds + get_or grid.cells cell 0)
     → IsFirstPassUpTo pieces settings (length pieces) seat kept grid → IsFirstPass pieces settings after kept
-first_ends pieces settings seat after kept grid e adds p =
+first_ends law pieces settings seat after kept grid e adds p =
     let claims = ap (λ h. h.claims) e in
     record {
       tried = subst (HasTried (length pieces)) (sym e) p.tried;
       adds = λ r c row cell.
-          let cells = ap (λ g. cell_at settings.width g.cells r c) p.table ∙ cell_at-cells_by (λ x y. cell_sum settings.family settings.width x y (items_at pieces seat.claims)) (length settings.family.rows) settings.width r c row cell in
+          let cells = ap (λ g. cell_at settings.width g.cells r c) p.table ∙ (law settings.family settings.width (items_at pieces seat.claims)).0 r c row cell in
           let items = ap (λ is. cell_sum settings.family settings.width r c (items_at pieces is)) claims in
           omega (arith, adds (r * settings.width + c), ap (added (r * settings.width + c)) p.none_added);
       summaries = p.summaries ∙ ap (summaries_at settings.k pieces) (sym claims);
@@ -127,7 +125,7 @@ pub first_joined : (pieces : List (List Entry)) (settings : Settings) (one other
 first_joined pieces settings one other kept more p q = record {
   tried = tried-joined (length pieces) one other p.tried;
   adds = λ r c row cell.
-      let items = ap (cell_sum settings.family settings.width r c) (items_at-append pieces one.claims other.claims) ∙ cell_sum-append settings.family settings.width r c (items_at pieces one.claims) (items_at pieces other.claims) in
+      let items = ap (cell_sum settings.family settings.width r c) (items_at-append pieces one.claims other.claims) ∙ sum_by-append (at_cell settings.family settings.width r c) (items_at pieces one.claims) (items_at pieces other.claims) in
       omega (arith, added-append (r * settings.width + c) one.adds other.adds, p.adds r c row cell, q.adds r c row cell);
   summaries = (λ i. p.summaries i ++ q.summaries i) ∙ sym (map-append _ one.claims other.claims);
 }
@@ -174,7 +172,7 @@ second_claimed pieces keys n seat after numbers more e distinct f p =
 -- each weight in these items, with so much more, is below a limit
 pub weights_fit : (xs : List Entry) (more limit : ℕ) → total_of xs + more < limit → (keys : List Bytes) → All (λ (m : ℕ). m + more < limit) (weights_at keys xs)
 weights_fit xs more limit low [] = All-nil (λ (m : ℕ). m + more < limit)
-weights_fit xs more limit low (k ∷ ks) = All-cons (λ (m : ℕ). m + more < limit) (weight_of k xs) (weights_at ks xs) (omega (arith, weight_of-le-total_of k xs)) (weights_fit xs more limit low ks)
+weights_fit xs more limit low (k ∷ ks) = All-cons (λ (m : ℕ). m + more < limit) (weight_of k xs) (weights_at ks xs) (omega (arith, weight_of-le k xs)) (weights_fit xs more limit low ks)
 
 pub weight_behind_number : (keys : List Bytes) (xs : List Entry) (i : ℕ) (key : Bytes) → slice_get keys i ≡ Some key → get_or (weights_at keys xs) i 0 ≡ weight_of key xs
 weight_behind_number keys xs i key at = get_or_from_slice_get (weights_at keys xs) i (weight_of key xs) 0 (slice_get-map (λ (x : Bytes). weight_of x xs) keys i ∙ ap (option_map (λ (x : Bytes). weight_of x xs)) at)

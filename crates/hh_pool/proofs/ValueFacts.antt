@@ -1,10 +1,9 @@
 -- What a merged summary is: the tree's value, the sum of the totals, and honest where the pieces are.
-use Rattle.std.proofs.Common.{◌≡◌, ◌≢◌, ◌+◌, ◌*◌, ◌<◌, ◌≤◌, ◌==◌, ◌∷◌, ◌++◌, ◌∙◌, ℕ, zero, suc, Bool, true, false, List, [], length, map, take, Result, Ok, Err, refl, sym, ap, subst, add-one, inl, inr, ◌⊎◌, arith}
-use Rattle.std.specs.Prelude.{cond, nat_le, sum_by, slice_index_or, All}
-use Rattle.std.proofs.lemmas.Bool.{eq-eqb, ne_eqb}
+use Rattle.std.proofs.Common.{◌≡◌, ◌≢◌, ◌+◌, ◌<◌, ◌==◌, ◌∷◌, ◌++◌, ◌∙◌, ℕ, zero, suc, Bool, true, false, List, [], length, map, Result, Ok, Err, refl, sym, ap, inl, inr, ◌⊎◌, arith}
+use Rattle.std.specs.Prelude.{nat_le, sum_by, slice_index_or, All}
 use Rattle.std.proofs.lemmas.Bool.Decides.{eqb_tells}
 use Rattle.std.proofs.Math.Seq.{take-length}
-use Rattle.std.proofs.lemmas.List.Sums.{sum_by-append, sum_by-cons, sum_by_more}
+use Rattle.std.proofs.lemmas.List.Sums.{sum_by-append, sum_by-cons}
 use Rattle.std.proofs.Math.ListN.{get_or-map}
 use Rattle.std.proofs.lemmas.List.Elements.{All-from_get_or}
 use Rattle.hh_stream.specs.Cuttings.{whole_of}
@@ -12,73 +11,10 @@ use Rattle.hh_stream.specs.Weights.{Bytes, Entry, at_key, max_total, total_of, w
 use Rattle.hh_counters.specs.Counters.{IsHonest, Sketch, merged}
 use Rattle.hh_counters.specs.Laws.{JoinOfHonestIsHonest}
 use Rattle.hh_counters.specs.declared.summary.MergeFault.{MergeFault}
-use Rattle.hh_pool.specs.Trees.{IsMergeTree, MergeTree, MergesHonestly, Piece, Merge, items_of, leaves, merge_both, no_sketch, times, tree_result, tree_value}
+use Rattle.hh_pool.specs.Trees.{IsMergeTree, MergeTree, MergesHonestly, Piece, Merge, items_of, leaves, merge_both, no_sketch, tree_result, tree_value}
+use Rattle.hh_shared.specs.Tally.{times}
 use Rattle.hh_pool.proofs.MergeFacts.{plan-places}
-use Rattle.hh_pool.proofs.TreeFacts.{times-append}
-
-times-cons : (i x : ℕ) (xs : List ℕ) → times i (x ∷ xs) ≡ cond (x == i) 1 0 + times i xs
-times-cons i x xs = sum_by-cons (λ j. cond (j == i) 1 0) x xs
-
--- each number below n, as often as it stands in xs
-abbrev weighed : (ℕ → ℕ) → List ℕ → ℕ → ℕ
-weighed f xs zero = 0
-weighed f xs (suc n) = weighed f xs n + times n xs * f n
-
-weighed-nil : (f : ℕ → ℕ) (n : ℕ) → weighed f [] n ≡ 0
-weighed-nil f zero = refl
-weighed-nil f (suc n) = omega (arith, weighed-nil f n)
-
--- a number in front is counted at its place alone
-pub times-here : (x : ℕ) (xs : List ℕ) → times x (x ∷ xs) ≡ 1 + times x xs
-times-here x xs = rw (times-cons x x xs, eq-eqb x x refl) refl
-
-pub times-elsewhere : (i x : ℕ) (xs : List ℕ) → x ≢ i → times i (x ∷ xs) ≡ times i xs
-times-elsewhere i x xs other = rw (times-cons i x xs, ne_eqb x i other) (omega arith)
-
-weighed-above : (f : ℕ → ℕ) (x : ℕ) (xs : List ℕ) (n : ℕ) → n ≤ x → weighed f (x ∷ xs) n ≡ weighed f xs n
-weighed-above f x xs zero le = refl
-weighed-above f x xs (suc n) le =
-    let rest : weighed f (x ∷ xs) n ≡ weighed f xs n = weighed-above f x xs n (omega (arith, le)) in
-    let other : x ≢ n = omega (arith, le) in
-    rw (rest, times-elsewhere n x xs other) refl
-
-weighed-step : (f : ℕ → ℕ) (x : ℕ) (xs : List ℕ) (n : ℕ) → x < suc n → (x < n → weighed f (x ∷ xs) n ≡ f x + weighed f xs n)
-    → ((x == n) ≡ true) × (x ≡ n) ⊎ ((x == n) ≡ false) × (x ≢ n)
-    → weighed f (x ∷ xs) n + times n (x ∷ xs) * f n ≡ f x + (weighed f xs n + times n xs * f n)
-weighed-step f x xs n lt lower (inl e) =
-    let rest : weighed f (x ∷ xs) n ≡ weighed f xs n = weighed-above f x xs n (omega (arith, e.1)) in
-    let one : times n (x ∷ xs) ≡ 1 + times n xs = subst (λ (m : ℕ). times m (x ∷ xs) ≡ 1 + times m xs) e.1 (times-here x xs) in
-    let same : f x ≡ f n = ap f e.1 in
-    rw (one, rest, same) (omega arith)
-weighed-step f x xs n lt lower (inr e) =
-    let below : x < n = omega (arith, lt, e.1) in
-    rw (times-elsewhere n x xs e.1, lower below) (omega arith)
-
-weighed-below : (f : ℕ → ℕ) (x : ℕ) (xs : List ℕ) (n : ℕ) → x < n → weighed f (x ∷ xs) n ≡ f x + weighed f xs n
-weighed-below f x xs zero lt = absurd (omega (arith, lt))
-weighed-below f x xs (suc n) lt = weighed-step f x xs n lt (weighed-below f x xs n) (eqb_tells x n)
-
--- a sum over a list whose numbers are all below p
-sum-weighed : (f : ℕ → ℕ) (xs : List ℕ) (p : ℕ) → ((i : ℕ) → p ≤ i → times i xs ≡ 0) → sum_by f xs ≡ weighed f xs p
-sum-weighed f [] p h = sym (weighed-nil f p)
-sum-weighed f (x ∷ xs) p h =
-    let below : x < p = below-p (times-here x xs) in
-    let rest = sum-weighed f xs p (λ i le. omega (arith, h i le, times-cons i x xs)) in
-    sum_by-cons f x xs ∙ ap (λ (m : ℕ). f x + m) rest ∙ sym (weighed-below f x xs p below)
-  where
-    below-p : times x (x ∷ xs) ≡ 1 + times x xs → x < p
-    below-p here = grind (arith, here, h x)
-
--- where each number below p comes once, the sum goes over the first p elements of a list
-sum-once : {X : Type 0} (g : X → ℕ) (d : X) (ss : List X) (xs : List ℕ) (n : ℕ) → n ≤ length ss → ((i : ℕ) → i < n → times i xs ≡ 1)
-    → weighed (λ i. g (slice_index_or ss i d)) xs n ≡ sum_by g (take n ss)
-sum-once g d ss xs zero le h = refl
-sum-once g d ss xs (suc n) le h =
-    let below : n < length ss = omega (arith, le) in
-    let rest = sum-once g d ss xs n (omega (arith, le)) (λ i lt. h i (omega (arith, lt))) in
-    let one : times n xs ≡ 1 = h n (omega arith) in
-    let more : sum_by g (take (suc n) ss) ≡ sum_by g (take n ss) + g (slice_index_or ss n d) = rw (← add-one n) (sum_by_more g ss n d below) in
-    rw (rest, one, more) (omega arith)
+use Rattle.hh_pool.proofs.NumberSums.{sum-once, sum-weighed, times-append, times-elsewhere, times-here}
 
 -- a sum over the leaves of a merge tree is the sum over the list
 pub sum-leaves : {X : Type 0} (g : X → ℕ) (d : X) (t : MergeTree) (ss : List X) → IsMergeTree t (length ss) → sum_by (λ i. g (slice_index_or ss i d)) (leaves t) ≡ sum_by g ss

@@ -1,8 +1,9 @@
 -- The texts of plans, and how they are read.
-use Rattle.std.specs.Prelude.{◌≡◌, ◌≢◌, ℕ, ◌+◌, ◌-◌, ◌*◌, ◌<◌, ◌≤◌, ◌==◌, ◌&&◌, max, nat_lt, nat_le, Bool, true, false, slice_index_or, List, [], ◌∷◌, ◌++◌, length, take, Option, Some, None, ⊤, if◌then◌else◌}
+use Rattle.std.specs.Prelude.{◌≡◌, ℕ, ◌+◌, ◌-◌, ◌*◌, ◌<◌, ◌≤◌, ◌==◌, ◌&&◌, max, nat_lt, nat_le, Bool, true, false, slice_index_or, List, [], ◌∷◌, ◌++◌, length, take, Option, Some, None, ⊤, if◌then◌else◌}
 use Rattle.std.specs.Option.{option_and_then}
 use Rattle.std.specs.Fmt.{decimal}
-use Rattle.hh_pool.specs.Trees.{IsMergeTree, MergeTree, Piece, Merge, leaves, times}
+use Rattle.hh_shared.specs.Tally.{times}
+use Rattle.hh_pool.specs.Trees.{MergeTree, Piece, Merge, leaves}
 use Rattle.hh_pool.specs.declared.reading.PlanFault.{PlanFault}
 use Rattle.hh_pool.specs.declared.reading.PlanFault.TheVariants as fault
 

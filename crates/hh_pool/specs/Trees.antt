@@ -1,10 +1,11 @@
 -- Merge trees over numbered pieces, and what they make of the pieces' summaries.
-use Rattle.std.specs.Prelude.{◌≡◌, ℕ, zero, suc, ◌+◌, ◌-◌, ◌/◌, ◌<◌, ◌≤◌, ◌==◌, nat_le, List, [], ◌∷◌, ◌++◌, length, count_by, slice_index_or, Result, Ok, Err, refl, if◌then◌else◌}
+use Rattle.std.specs.Prelude.{◌≡◌, ℕ, zero, suc, ◌+◌, ◌-◌, ◌/◌, ◌<◌, ◌≤◌, ◌==◌, nat_le, List, [], ◌∷◌, ◌++◌, length, slice_index_or, Result, Ok, Err, refl, if◌then◌else◌}
 use Rattle.std.proofs.Common.{sym, ap, ◌∙◌}
 use base.Stored.{Coded, Gv, gnil, gnum, gcons}
 use Rattle.hh_stream.specs.Weights.{Entry, max_total}
 use Rattle.hh_counters.specs.Counters.{Counters, IsHonest, Sketch, join, merged}
 use Rattle.hh_stream.specs.Cuttings.{whole_of}
+use Rattle.hh_shared.specs.Tally.{times}
 use Rattle.hh_counters.specs.declared.summary.MergeFault.{MergeFault}
 use Rattle.hh_counters.specs.declared.summary.MergeFault.TheVariants as fault
 
@@ -35,10 +36,6 @@ tree_code = record { code = stored; inj = λ s t e. sym (restored-stored s) ∙ 
 abbrev pub leaves : MergeTree → List ℕ
 leaves (Piece i) = i ∷ []
 leaves (Merge l r) = leaves l ++ leaves r
-
--- how often a number stands in a list
-abbrev pub times : ℕ → List ℕ → ℕ
-times i xs = count_by (λ j. j == i) xs
 
 -- each number below p is a leaf exactly once, and no other number is
 pub record IsMergeTree (t : MergeTree) (p : ℕ) : Type 0 where

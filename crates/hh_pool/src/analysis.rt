@@ -18,9 +18,12 @@ use crate::outcome::{Outcome, RunError};
 use crate::plan::Plan;
 use crate::second::SecondPass;
 use crate::workers::run_apart;
+use hh_counters::laws::{candidates_suffice, misra_gries_is_honest};
 use hh_counters::{Candidates, MergeFault, Summary};
 use hh_countmin::Table;
+use hh_countmin::laws::{cells_are_cell_sums, tables_fit};
 use hh_shared::SharedSums;
+use hh_stream::laws::pieces_make_the_whole;
 use hh_stream::{Cutting, MAX_PIECES, Stream};
 use std::alloc::{AllocError, Global};
 use std::sync::Wait;
@@ -50,6 +53,7 @@ fn table_of_cells(stream: &Stream, options: &Options, cells: Vec<u64>) -> Result
     requires { cells.items ≡ (table_of options.now.family options.now.width stream.now).cells }
     ensures { IfOk result (λ table. table ≡ table_of options.now.family options.now.width stream.now) }
 {
+    tables_fit();
     let family = options.family().copy()?;
     Ok(Table::from_cells(family, options.width(), stream.total(), cells))
 }
@@ -67,6 +71,8 @@ fn summarise<R: Threads + Wait + Sync, G: Gate + Sync>(
     ensures summaries { IfOk result (λ r. r.0.items ≡ map (sketch_of options.now.k) (pieces_of cutting.now stream.now)) }
     ensures table { IfOk result (λ r. r.1 ≡ table_of options.now.family options.now.width stream.now) }
 {
+    pieces_make_the_whole();
+    cells_are_cell_sums();
     let pass = FirstPass {
         alloc,
         stream,
@@ -104,6 +110,7 @@ fn weigh<R: Threads + Wait + Sync, G: Gate + Sync>(
     requires few { length candidates.now ≤ 65535 }
     ensures { IfOk result (λ weights. weights.items ≡ weights_at candidates.now stream.now) }
 {
+    pieces_make_the_whole();
     let pass = SecondPass {
         alloc,
         stream,
@@ -139,6 +146,9 @@ fn run_passes<R: Threads + Wait + Sync, G: Gate + Sync>(
     ensures table { IfOk result (λ outcome. outcome.table ≡ table_of options.now.family options.now.width stream.now) }
     ensures heavy { IfOk result (λ outcome. outcome.heavy.items ≡ heavy stream.now 1 (options.now.k + 1)) }
 {
+    pieces_make_the_whole();
+    misra_gries_is_honest();
+    candidates_suffice();
     let (summaries, table) = summarise(rt, alloc, stream, cutting, options, gate)?;
     let total = stream.total();
     let summary = match merge_by(alloc, plan, summaries) {

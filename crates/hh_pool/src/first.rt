@@ -5,7 +5,7 @@ ghost use Rattle.hh_stream.specs.Weights.{Entry, total_of};
 ghost use Rattle.hh_stream.specs.Cuttings.{pieces_of};
 ghost use Rattle.hh_counters.specs.Counters.{sketch_of};
 ghost use Rattle.hh_countmin.specs.Family.{Coefficients};
-ghost use Rattle.hh_countmin.specs.Table.{empty_table, table_of};
+ghost use Rattle.hh_countmin.specs.Table.{table_of};
 ghost use Rattle.hh_shared.specs.Tally.{added};
 ghost use Rattle.hh_shared.specs.Seats.{fresh};
 ghost use Rattle.hh_pool.specs.Passes.{IsFirstPass, IsFirstPassUpTo, IsFirstAloneUpTo};
@@ -14,8 +14,10 @@ use crate::gate::Gate;
 use crate::options::Options;
 use crate::pass::{Pass, add_numbers};
 use hh_counters::{BucketSaving, NewFault, Summary, monitored_summary};
+use hh_countmin::laws::{cells_are_cell_sums, tables_follow_items};
 use hh_countmin::{Table, TableFault};
 use hh_shared::{SharedSums, SumSeat};
+use hh_stream::laws::pieces_make_the_whole;
 use hh_stream::{Cutting, Item, MAX_TOTAL, Stream};
 use std::alloc::{AllocError, Global};
 
@@ -78,8 +80,9 @@ pub(crate) fn summary_of(
 
 /// The table of no items.
 pub(crate) fn empty_table(alloc: Global, options: &Options) -> Result<Table, AllocError>
-    ensures { IfOk result (λ table. table ≡ empty_table options.now.family options.now.width) }
+    ensures { IfOk result (λ table. table ≡ table_of options.now.family options.now.width []) }
 {
+    tables_follow_items();
     match Table::new(alloc, options.family().copy()?, options.width()) {
         Ok(table) => Ok(table),
         Err(TableFault::BadWidth) => unreachable!(),
@@ -92,6 +95,7 @@ pub(crate) fn add_items(table: &mut Table, items: &[Item])
     requires { table.old.total + total_of items.now ≤ MAX_TOTAL }
     ensures { (family : Coefficients) (width : ℕ) (xs : List Entry) → table.old ≡ table_of family width xs → table.new ≡ table_of family width (xs ++ items.now) }
 {
+    tables_follow_items();
     for item in items {
         let Ok(()) = table.add(item.key(), item.weight()) else {
             unreachable!();
@@ -129,8 +133,6 @@ impl<'a, G: Gate> FirstPass<'a, G> {
         }
         self.gate.before(1, worker, piece as u64);
         let items = self.cutting.piece(self.stream, piece);
-        // It bounds the total of the worker's table.
-        let _total = self.stream.total();
         let summary = summary_of(self.alloc, self.options, items)?;
         made.summaries.push((piece, summary))?;
         add_items(&mut made.table, items);
@@ -146,6 +148,7 @@ impl<'a, G: Gate> FirstPass<'a, G> {
         ensures summaries { IfOk result (λ r. r.0.items ≡ map (sketch_of self.now.options.now.k) (pieces_of self.now.cutting.now self.now.stream.now)) }
         ensures table { IfOk result (λ r. r.1 ≡ table_of self.now.options.now.family self.now.options.now.width self.now.stream.now) }
     {
+        pieces_make_the_whole();
         let mut summaries = Vec::new(self.alloc);
         let mut table = empty_table(self.alloc, self.options)?;
         for piece in 0..self.cutting.count() {
@@ -168,8 +171,6 @@ impl<'a, G: Gate> FirstPass<'a, G> {
     {
         self.gate.before(1, self.options.workers(), piece as u64);
         let items = self.cutting.piece(self.stream, piece);
-        // It bounds the total of the table.
-        let _total = self.stream.total();
         summaries.push(summary_of(self.alloc, self.options, items)?)?;
         add_items(table, items);
         Ok(())
@@ -191,6 +192,7 @@ impl<'a, G: Gate> Pass for FirstPass<'a, G> {
         mut seat: SumSeat,
         worker: u64,
     ) -> Result<(SumSeat, Vec<(usize, Summary)>), AllocError> {
+        cells_are_cell_sums();
         let mut made = Made {
             summaries: Vec::new(self.alloc),
             table: empty_table(self.alloc, self.options)?,

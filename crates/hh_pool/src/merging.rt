@@ -4,8 +4,9 @@ ghost use Rattle.std.specs.Prelude.{◌≡◌, ◌≢◌, ℕ, List, length, map
 ghost use Rattle.hh_stream.specs.Weights.{Entry};
 ghost use Rattle.hh_stream.specs.Cuttings.{whole_of};
 ghost use Rattle.hh_counters.specs.Counters.{IsHonest, Sketch};
+ghost use Rattle.hh_shared.specs.Tally.{times};
 ghost use Rattle.hh_pool.specs.Plans.{shape};
-ghost use Rattle.hh_pool.specs.Trees.{HasPlaces, IsMergeTree, MergesHonestly, leaves, merge_result, no_sketch, times, tree_result, tree_value};
+ghost use Rattle.hh_pool.specs.Trees.{HasPlaces, IsMergeTree, MergesHonestly, leaves, merge_result, no_sketch, tree_result, tree_value};
 
 use crate::plan::{Plan, Tree};
 use hh_counters::laws::join_of_honest_is_honest;

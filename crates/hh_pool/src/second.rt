@@ -10,6 +10,7 @@ use crate::gate::Gate;
 use crate::pass::{Pass, add_numbers};
 use hh_counters::Candidates;
 use hh_shared::{SharedSums, SumSeat};
+use hh_stream::laws::pieces_make_the_whole;
 use hh_stream::{Cutting, Stream};
 use std::alloc::{AllocError, Global};
 
@@ -76,8 +77,6 @@ impl<'a, G: Gate> SecondPass<'a, G> {
         if sums.claim(seat, piece) {
             self.gate.before(2, worker, piece as u64);
             let items = self.cutting.piece(self.stream, piece);
-            // It bounds the numbers.
-            let _total = self.stream.total();
             self.candidates.count_piece(items, numbers);
         }
     }
@@ -90,6 +89,7 @@ impl<'a, G: Gate> SecondPass<'a, G> {
         requires { sum self.now.cutting.now ≡ length self.now.stream.now }
         ensures { IfOk result (λ weights. weights.items ≡ weights_at self.now.candidates.now self.now.stream.now) }
     {
+        pieces_make_the_whole();
         let mut weights = vec![in self.alloc; 0u64; self.candidates.len()]?;
         for piece in 0..self.cutting.count() {
             self.do_piece(&mut weights, workers, piece);
@@ -106,8 +106,6 @@ impl<'a, G: Gate> SecondPass<'a, G> {
     {
         self.gate.before(2, workers, piece as u64);
         let items = self.cutting.piece(self.stream, piece);
-        // It bounds the weights.
-        let _total = self.stream.total();
         self.candidates.count_piece(items, weights);
     }
 }

@@ -1,12 +1,12 @@
 -- Where the pieces of a cutting lie, and what even pieces add up to.
-use Rattle.std.proofs.Common.{◌≡◌, ◌+◌, ◌-◌, ◌*◌, ◌/◌, ◌%◌, ◌<◌, ◌≤◌, ◌∷◌, ◌++◌, ◌∙◌, ℕ, zero, suc, List, [], length, map, take, drop, get_or, Bool, true, false, refl, sym, ap, arith, length-drop}
-use Rattle.std.specs.Prelude.{sum, sum_by, nat_lt, min, if◌then◌else◌}
+use Rattle.std.proofs.Common.{◌≡◌, ◌+◌, ◌-◌, ◌*◌, ◌/◌, ◌%◌, ◌<◌, ◌≤◌, ◌∷◌, ℕ, zero, suc, List, [], length, map, take, drop, get_or, refl, ap, arith, length-drop, length-take}
+use Rattle.std.specs.Prelude.{sum, nat_lt, min, if◌then◌else◌}
 use Rattle.std.specs.List.{range_with_len}
 use Rattle.std.proofs.lemmas.List.{drop-drop, take-append-drop}
 use Rattle.std.proofs.lemmas.List.Sums.{sum_by-cons, sum_by-take-drop, sum_by-take-le}
 use Rattle.std.proofs.lemmas.Bool.Decides.{nat_tests}
 use Rattle.hh_stream.specs.Weights.{Entry, total_of}
-use Rattle.hh_stream.specs.Cuttings.{even_length, even_lengths, pieces_of, whole_of}
+use Rattle.hh_stream.specs.Cuttings.{even_lengths, pieces_of, whole_of}
 
 -- piece i begins where the pieces before it end
 pieces-at : {A : Type 0} (ns : List ℕ) (xs : List A) (i d : ℕ) → i < length ns
@@ -38,6 +38,15 @@ pieces-whole [] (x ∷ xs) e = let bad : 0 ≡ suc (length xs) = e in absurd (om
 pieces-whole (n ∷ ns) xs e =
     let rest : sum ns ≡ length (drop n xs) = omega (arith, e, sum_by-cons (λ x. x) n ns, length-drop n xs) in
     rw (pieces-whole ns (drop n xs) rest) (take-append-drop n xs)
+
+-- the pieces have their lengths
+pub pieces-lengths : {A : Type 0} (ns : List ℕ) (xs : List A) → sum ns ≡ length xs → map length (pieces_of ns xs) ≡ ns
+pieces-lengths [] xs e = refl
+pieces-lengths (n ∷ ns) xs e =
+    let cons = sum_by-cons (λ x. x) n ns in
+    let first : length (take n xs) ≡ n = omega (arith, e, cons, length-take n xs) in
+    let rest : sum ns ≡ length (drop n xs) = omega (arith, e, cons, length-drop n xs) in
+    λ i. first i ∷ pieces-lengths ns (drop n xs) rest i
 
 -- so many even lengths, from the a-th on, take what goes up and one for each that stands below r
 sum-even-from : (q r a k : ℕ) → sum (map (λ i. q + (if nat_lt i r then 1 else 0)) (range_with_len a k)) + min r a ≡ k * q + min r (a + k)

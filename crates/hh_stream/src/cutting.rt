@@ -161,6 +161,7 @@ impl Cutting {
         ensures piece { result.now ≡ slice_index_or (pieces_of self.now stream.now) i [] }
         ensures whole { whole_of (pieces_of self.now stream.now) ≡ stream.now }
         ensures bounded { total_of result.now ≤ max_total }
+        ensures stream { total_of stream.now ≤ max_total }
     {
         let start = sum_of(&self.lengths[..i]);
         let length = self.lengths[i];

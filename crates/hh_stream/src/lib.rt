@@ -3,6 +3,7 @@
 
 mod cutting;
 mod key;
+pub mod laws;
 mod stream;
 #[cfg(test)]
 mod tests;

@@ -3,7 +3,6 @@ use Rattle.std.specs.Prelude.{zip}
 use Rattle.std.proofs.lemmas.List.{length-map}
 use Rattle.hh_stream.specs.Weights.{Entry, total_of}
 use Rattle.hh_stream.specs.Cuttings.{pieces_of}
-use Rattle.hh_stream.proofs.CuttingFacts.{pieces-whole}
 use Rattle.hh_counters.specs.Counters.{Sketch, sketch_of}
 use Rattle.hh_counters.specs.Report.{selected}
 use Rattle.hh_pool.specs.Trees.{IsMergeTree}
@@ -29,7 +28,7 @@ unreachable-requires g c =
     let stream = c.args.stream.now in
     let pieces = pieces_of lengths stream in
     let plan = subst (IsMergeTree c.args.plan.now) (sym (length-pieces_of lengths stream)) c.requires.plan in
-    let whole = ap total_of (pieces-whole lengths stream c.requires.same_len) in
+    let whole = ap total_of (c.pieces_make_the_whole.ensures.whole lengths stream c.requires.same_len) in
     let refused = c.in-Err-DifferentK.ensures.refused (λ memory. let kind = c.in-Err-DifferentK.field-0-is in cc) in
     no_refusal c.args.plan.now c.args.options.now.k pieces c.in_ok-summaries.summaries.items c.in-Err-DifferentK.field-0 plan (omega (arith, whole, c.total-total.ensures.total, c.total-total.ensures.bounded)) c.in_ok-summaries.ensures.summaries refused
 
@@ -39,7 +38,7 @@ unreachable-requires-in-Err-TotalTooLarge g c =
     let stream = c.args.stream.now in
     let pieces = pieces_of lengths stream in
     let plan = subst (IsMergeTree c.args.plan.now) (sym (length-pieces_of lengths stream)) c.requires.plan in
-    let whole = ap total_of (pieces-whole lengths stream c.requires.same_len) in
+    let whole = ap total_of (c.pieces_make_the_whole.ensures.whole lengths stream c.requires.same_len) in
     let refused = c.in-Err-TotalTooLarge.ensures.refused (λ memory. let kind = c.in-Err-TotalTooLarge.field-0-is in cc) in
     no_refusal c.args.plan.now c.args.options.now.k pieces c.in_ok-summaries.summaries.items c.in-Err-TotalTooLarge.field-0 plan (omega (arith, whole, c.total-total.ensures.total, c.total-total.ensures.bounded)) c.in_ok-summaries.ensures.summaries refused
 
@@ -55,7 +54,7 @@ returns-clause-summary g c =
     let lengths = c.args.cutting.now in
     let stream = c.args.stream.now in
     let by = c.in-Ok.ensures in
-    merged_is c.args.plan.now c.args.options.now.k (pieces_of lengths stream) stream c.in_ok-summaries.summaries.items c.in-Ok.summary (omega (arith, length-pieces_of lengths stream, c.requires.some)) (pieces-whole lengths stream c.requires.same_len)
+    merged_is c.misra_gries_is_honest.ensures c.args.plan.now c.args.options.now.k (pieces_of lengths stream) stream c.in_ok-summaries.summaries.items c.in-Ok.summary (omega (arith, length-pieces_of lengths stream, c.requires.some)) (c.pieces_make_the_whole.ensures.whole lengths stream c.requires.same_len)
     c.in_ok-summaries.ensures.summaries by.k by.total by.counters by.honest
 
 pub returns-clause-heavy : goal.returns-clause-heavy
@@ -66,8 +65,8 @@ returns-clause-heavy g c =
     let k = c.args.options.now.k in
     let keys = c.in_ok-candidates.candidates in
     let merged =
-    merged_is c.args.plan.now k (pieces_of lengths stream) stream c.in_ok-summaries.summaries.items c.in-Ok.summary (omega (arith, length-pieces_of lengths stream, c.requires.some)) (pieces-whole lengths stream c.requires.same_len)
+    merged_is c.misra_gries_is_honest.ensures c.args.plan.now k (pieces_of lengths stream) stream c.in_ok-summaries.summaries.items c.in-Ok.summary (omega (arith, length-pieces_of lengths stream, c.requires.some)) (c.pieces_make_the_whole.ensures.whole lengths stream c.requires.same_len)
     c.in_ok-summaries.ensures.summaries by.k by.total by.counters by.honest in
     c.in_ok-heavy.ensures
     ∙ ((λ i. selected 1 (c.k.ensures.k i + 1) c.total-total.result (zip keys (c.deref.ensures.value i)))
-    ∙ heavy_is c.in-Ok.summary.counters stream k c.total-total.result keys c.in_ok-weights.weights.items merged.honest c.total-total.ensures.total c.in_ok-candidates.ensures c.in_ok-weights.ensures)
+    ∙ heavy_is c.candidates_suffice.ensures c.in-Ok.summary.counters stream k c.total-total.result keys c.in_ok-weights.weights.items merged.honest c.total-total.ensures.total c.in_ok-candidates.ensures c.in_ok-weights.ensures)

@@ -2,7 +2,6 @@ use Rattle.std.proofs.Common.{◌≡◌, ◌≤◌, ◌*◌, ◌∙◌, length, 
 use Rattle.std.specs.List.{range_with_len}
 use Rattle.hh_stream.specs.Weights.{total_of, max_total}
 use Rattle.hh_stream.specs.Cuttings.{pieces_of}
-use Rattle.hh_stream.proofs.CuttingFacts.{pieces-whole}
 use Rattle.hh_counters.specs.Counters.{sketch_of}
 use Rattle.hh_shared.specs.Tally.{IsDistinctBelow, HasAllBelow}
 use Rattle.hh_pool.specs.Passes.{piece_of}
@@ -23,7 +22,7 @@ table_of_cells-requires g c =
     let depth = c.depth.ensures.depth ∙ ap (λ f. length f.rows) c.family.ensures.family in
     let cells : c.in_ok-sums.sums.cells ≡ length options.family.rows * options.width = c.in_ok-sums.ensures.cells ∙ (λ i. depth i * c.width.ensures.width i) in
     let closed = c.in_ok-cells.ensures in
-    closed_cells (pieces_of lengths stream) stream options seat _ c.in_ok-cells.cells.items (pieces-whole lengths stream c.requires) low c.in_ok-seat.ensures.done distinct all
+    closed_cells c.cells_are_cell_sums.ensures (pieces_of lengths stream) stream options seat _ c.in_ok-cells.cells.items (c.pieces_make_the_whole.ensures.whole lengths stream c.requires) low c.in_ok-seat.ensures.done distinct all
     (omega (arith, closed.len, c.in_ok-cells.cells.ok))
     (λ cell inside. closed.sums cell (omega arith))
 

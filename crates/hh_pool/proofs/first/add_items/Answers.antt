@@ -3,7 +3,6 @@ use Rattle.std.proofs.lemmas.List.{take_more}
 use Rattle.std.proofs.lemmas.List.Sums.{sum_by_push}
 use Rattle.hh_stream.specs.Weights.{Entry, total_of}
 use Rattle.hh_countmin.specs.Table.{Grid, added, table_of}
-use Rattle.hh_countmin.proofs.Tables.{added-table_of}
 use Rattle.hh_pool.proofs.first.add_items.Goals as goal
 
 pub loop-item-preserved : goal.loop-item-preserved
@@ -19,5 +18,5 @@ loop-item-preserved c =
       table = λ family width xs was.
           after
           ∙ (ap (λ (t : Grid). added t e) (c.loop-item.invariant.table family width xs was)
-          ∙ (added-table_of family width (xs ++ take i items) e ∙ ap (table_of family width) (append_assoc xs (take i items) (e ∷ []) ∙ ap (λ ys. xs ++ ys) (sym more))));
+          ∙ ((c.tables_follow_items.ensures family width (xs ++ take i items) [] e).1 ∙ ap (table_of family width) (append_assoc xs (take i items) (e ∷ []) ∙ ap (λ ys. xs ++ ys) (sym more))));
     }

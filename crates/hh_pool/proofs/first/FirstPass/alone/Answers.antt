@@ -1,7 +1,6 @@
 use Rattle.std.proofs.Common.{◌≤◌, ◌∙◌, List, length, map, sym, ap, subst, arith}
 use Rattle.std.proofs.lemmas.List.{take_all}
 use Rattle.hh_stream.specs.Cuttings.{pieces_of, whole_of}
-use Rattle.hh_stream.proofs.CuttingFacts.{pieces-whole}
 use Rattle.hh_counters.specs.Counters.{Sketch, sketch_of}
 use Rattle.hh_countmin.specs.Table.{table_of}
 use Rattle.hh_pool.specs.Passes.{IsFirstAloneUpTo}
@@ -28,4 +27,4 @@ returns-clause-table g c =
     let options = c.args.self.now.options.now in
     let pieces = pieces_of lengths stream in
     let all : length pieces ≤ c.loop-piece.piece = omega (arith, length-pieces_of lengths stream) in
-    c.loop-piece.invariant.table ∙ ap (table_of options.family options.width) (ap whole_of (take_all c.loop-piece.piece pieces all) ∙ pieces-whole lengths stream c.requires)
+    c.loop-piece.invariant.table ∙ ap (table_of options.family options.width) (ap whole_of (take_all c.loop-piece.piece pieces all) ∙ c.pieces_make_the_whole.ensures.whole lengths stream c.requires)

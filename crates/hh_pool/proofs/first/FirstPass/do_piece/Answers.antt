@@ -11,7 +11,7 @@ pub add_items-requires : goal.add_items-requires
 add_items-requires g c =
     let pieces = pieces_of c.args.self.now.cutting.now c.args.self.now.stream.now in
     let within : c.args.piece < length pieces = omega (arith, c.requires.piece, length-pieces_of c.args.self.now.cutting.now c.args.self.now.stream.now) in
-    omega (arith, total-more pieces c.args.piece within, ap total_of c.piece-items.ensures.whole, ap total_of c.piece-items.ensures.piece, ap (λ (t : Grid). t.total) c.requires.before.table, c.total-total.ensures.bounded, c.total-total.ensures.total)
+    omega (arith, total-more pieces c.args.piece within, ap total_of c.piece-items.ensures.whole, ap total_of c.piece-items.ensures.piece, ap (λ (t : Grid). t.total) c.requires.before.table, c.piece-items.ensures.stream)
 
 pub returns : goal.returns
 returns g c =

@@ -19,7 +19,7 @@ add_items-requires g c =
     let claims = ap (λ h. h.claims) c.if-not-claim.ensures.claimed_or_met in
     let distinct = subst (λ (z : ℕ × List ℕ). IsDistinctBelow z.0 z.1) (λ i. (count i, claims i)) c.if-not-claim.ensures.distinct in
     let most = next_total pieces c.args.seat.now.claims c.args.piece distinct in
-    omega (arith, most, ap total_of c.piece-items.ensures.whole, ap total_of c.piece-items.ensures.piece, ap (λ (t : Grid). t.total) c.requires.before.table, c.total-total.ensures.bounded, c.total-total.ensures.total)
+    omega (arith, most, ap total_of c.piece-items.ensures.whole, ap total_of c.piece-items.ensures.piece, ap (λ (t : Grid). t.total) c.requires.before.table, c.piece-items.ensures.stream)
 
 pub returns-clause-after : goal.returns-clause-after
 returns-clause-after g c =

@@ -2,7 +2,6 @@ use Rattle.std.proofs.Common.{◌≡◌, ◌≤◌, ◌∙◌, length, replicate
 use Rattle.std.proofs.lemmas.Grind.{common_steps}
 use Rattle.std.proofs.lemmas.List.{take_all}
 use Rattle.hh_stream.specs.Cuttings.{pieces_of, whole_of}
-use Rattle.hh_stream.proofs.CuttingFacts.{pieces-whole}
 use Rattle.hh_counters.specs.Report.{weights_at}
 use Rattle.hh_pool.proofs.Pieces.{length-pieces_of}
 use Rattle.hh_pool.proofs.Tried.{no_weights}
@@ -19,4 +18,4 @@ returns g c =
     let stream = c.args.self.now.stream.now in
     let pieces = pieces_of lengths stream in
     let all : length pieces ≤ c.loop-piece.piece = omega (arith, length-pieces_of lengths stream) in
-    c.loop-piece.invariant ∙ ap (weights_at c.args.self.now.candidates.now) (ap whole_of (take_all c.loop-piece.piece pieces all) ∙ pieces-whole lengths stream c.requires)
+    c.loop-piece.invariant ∙ ap (weights_at c.args.self.now.candidates.now) (ap whole_of (take_all c.loop-piece.piece pieces all) ∙ c.pieces_make_the_whole.ensures.whole lengths stream c.requires)

@@ -14,7 +14,7 @@ count_piece-requires-clause-bounded g c k d low =
     let within : c.args.piece < length pieces = omega (arith, c.requires.piece, length-pieces_of c.args.self.now.cutting.now c.args.self.now.stream.now) in
     let before = whole_of (take c.args.piece pieces) in
     let limit : total_of before + total_of c.piece-items.result.now < 2 ^ 64 =
-    omega (arith, total-more pieces c.args.piece within, ap total_of c.piece-items.ensures.whole, ap total_of c.piece-items.ensures.piece, c.total-total.ensures.bounded, c.total-total.ensures.total) in
+    omega (arith, total-more pieces c.args.piece within, ap total_of c.piece-items.ensures.whole, ap total_of c.piece-items.ensures.piece, c.piece-items.ensures.stream) in
     let fits = weights_fit before (total_of c.piece-items.result.now) (2 ^ 64) limit c.args.self.now.candidates.now in
     subst (All (λ (m : ℕ). m + total_of c.piece-items.result.now < 2 ^ 64)) (sym c.requires.before) fits k d low
 

@@ -16,7 +16,7 @@ count_piece-requires-clause-bounded g c k d low =
     let claims = ap (λ h. h.claims) c.if-claim.ensures.claimed_or_met in
     let distinct = subst (λ (z : ℕ × List ℕ). IsDistinctBelow z.0 z.1) (λ i. (count i, claims i)) c.if-claim.ensures.distinct in
     let most = next_total pieces c.args.seat.now.claims c.args.piece distinct in
-    let low' : total_of (items_at pieces c.args.seat.now.claims) + total_of c.piece-items.result.now < 2 ^ 64 = omega (arith, most, ap total_of c.piece-items.ensures.whole, ap total_of c.piece-items.ensures.piece, c.total-total.ensures.bounded, c.total-total.ensures.total) in
+    let low' : total_of (items_at pieces c.args.seat.now.claims) + total_of c.piece-items.result.now < 2 ^ 64 = omega (arith, most, ap total_of c.piece-items.ensures.whole, ap total_of c.piece-items.ensures.piece, c.piece-items.ensures.stream) in
     let fits = weights_fit (items_at pieces c.args.seat.now.claims) (total_of c.piece-items.result.now) (2 ^ 64) low' c.args.self.now.candidates.now in
     subst (All (λ (m : ℕ). m + total_of c.piece-items.result.now < 2 ^ 64)) (sym c.requires.before.numbers) fits k d low
 
