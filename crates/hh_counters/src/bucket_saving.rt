@@ -187,7 +187,8 @@ fn add_item(
     requires positive { 0 < weight }
     requires bounded { total + weight < 2 ^ 63 }
     requires linked { IsLinked k total index.old.entries buckets.old }
-    ensures added { OnOk result (IsAdded k total index.old.entries index.new.entries buckets.new (key.now, weight)) }
+    ensures added { OnOk result
+        (IsAdded k total index.old.entries index.new.entries buckets.new (key.now, weight)) }
     ensures unchanged { OnErr result (index.new.entries ≡ index.old.entries) }
     ensures same { OnErr result (HasSame buckets.old buckets.new) }
     ensures none_empty { NoneEmpty buckets.new }

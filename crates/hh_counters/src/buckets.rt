@@ -73,7 +73,8 @@ pub fn shift(
 
 // Whether the bucket of the counter has just one key.
 fn holds_one(buckets: &BTreeMap<u64, BTreeSet<Key>>, counter: u64) -> bool
-    ensures { IsTrue result → IfSome (get nat_cmp buckets.now counter) (λ bucket. length bucket.keys ≡ 1) }
+    ensures { IsTrue result
+        → IfSome (get nat_cmp buckets.now counter) (λ bucket. length bucket.keys ≡ 1) }
 {
     match buckets.get(&counter) {
         Some(bucket) => bucket.len() == 1,

@@ -101,7 +101,8 @@ impl Candidates {
         requires lengths { length numbers.now ≡ length self.now }
         requires some_k { 1 ≤ k }
         requires bounded_k { k ≤ MAX_K }
-        ensures { IfOk result (λ rows. rows.items ≡ selected 1 (k + 1) total (zip self.now numbers.now)) }
+        ensures { IfOk result
+            (λ rows. rows.items ≡ selected 1 (k + 1) total (zip self.now numbers.now)) }
     {
         let alloc = *self.keys.allocator();
         selected_rows(alloc, self.keys.as_slice(), numbers, 1, k + 1, total)

@@ -15,8 +15,13 @@ use std::cmp::Ordering;
 /// Where the key is, or where it would go.
 pub fn place_of(entries: &[(Key, u64)], key: &Key) -> Result<usize, usize>
     requires { IsStrictlySortedBy key_cmp (keys_of entries.now) }
-    ensures found { IfOk result (λ i. i < length entries.now × HoldsAt (λ (e : Entry). e.0 ≡ key.now) entries.now i) }
-    ensures absent { IfErr result (λ i. i ≤ length entries.now × AllWithin (λ (e : Entry). key_cmp e.0 key.now ≡ Less) entries.now 0 i × AllWithin (λ (e : Entry). key_cmp key.now e.0 ≡ Less) entries.now i (length entries.now)) }
+    ensures found { IfOk result
+        (λ i. i < length entries.now × HoldsAt (λ (e : Entry). e.0 ≡ key.now) entries.now i) }
+    ensures absent { IfErr result
+        (λ i. i ≤ length entries.now
+        × AllWithin (λ (e : Entry). key_cmp e.0 key.now ≡ Less) entries.now 0 i
+        × AllWithin (λ (e : Entry). key_cmp key.now e.0 ≡ Less) entries.now i
+        (length entries.now)) }
 {
     entries.binary_search_by(|e| e.0.cmp(key))
 }
@@ -148,7 +153,8 @@ pub fn add_item(
     requires few { length entries.old.items ≤ k }
     requires positive { 0 < weight }
     requires bounded { total_of entries.old.items + weight < 2 ^ 63 }
-    ensures joined { OnOk result (entries.new.items ≡ join entries.old.items ((key.now, weight) ∷ []) k) }
+    ensures joined { OnOk result
+        (entries.new.items ≡ join entries.old.items ((key.now, weight) ∷ []) k) }
     ensures unchanged { OnErr result (entries.new.items ≡ entries.old.items) }
 {
     add_entry(entries, key, weight)?;

@@ -55,7 +55,8 @@ pub trait Monitor: Drop {
         requires { 0 < weight }
         ensures added { OnOk result (seen self.new ≡ monitored (seen self.old) (key.now, weight)) }
         ensures unchanged { OnErr result (seen self.new ≡ seen self.old) }
-        ensures too_large { IsErrOf result AddFault.TotalTooLarge ↔ (MAX_TOTAL < (seen self.old).total + weight) };
+        ensures too_large { IsErrOf result AddFault.TotalTooLarge
+            ↔ (MAX_TOTAL < (seen self.old).total + weight) };
 
     /// The summary of Misra and Gries of the same items: each counter less the least one. Where
     /// memory is refused, the value comes back as it was.

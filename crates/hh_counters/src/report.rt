@@ -53,7 +53,8 @@ fn heavy_rows(
     total: u64,
 ) -> Result<Vec<Heavy>, AllocError>
     requires { length numbers.now ≡ length keys.now }
-    ensures { IfOk result (λ rows. rows.items ≡ filter (is_heavy p q total) (zip keys.now numbers.now)) }
+    ensures { IfOk result
+        (λ rows. rows.items ≡ filter (is_heavy p q total) (zip keys.now numbers.now)) }
 {
     let mut rows = Vec::new(alloc);
     for i in 0..keys.len() {

@@ -125,7 +125,8 @@ fn replace_least(entries: &mut Vec<(Key, u64)>, key: &Key, weight: u64) -> Resul
     requires absent { weight_of key.now entries.old.items ≡ 0 }
     requires positive { 0 < weight }
     requires bounded { total_of entries.old.items + weight < 2 ^ 63 }
-    ensures replaced { OnOk result (entries.new.items ≡ taken_over entries.old.items (key.now, weight)) }
+    ensures replaced { OnOk result
+        (entries.new.items ≡ taken_over entries.old.items (key.now, weight)) }
     ensures unchanged { OnErr result (entries.new.items ≡ entries.old.items) }
 {
     let place = least_place(entries);

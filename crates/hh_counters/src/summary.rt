@@ -184,7 +184,8 @@ impl Summary {
     /// The i-th key by rising key, with its counter.
     pub fn entry(&self, i: usize) -> (&Key, u64)
         requires { i < length self.now.counters }
-        ensures { (result.0.now, result.1) ≡ slice_index_or self.now.counters i (result.0.now, result.1) }
+        ensures { (result.0.now, result.1)
+            ≡ slice_index_or self.now.counters i (result.0.now, result.1) }
     {
         let entry = &self.entries[i];
         (&entry.0, entry.1)
@@ -196,7 +197,8 @@ impl Summary {
         requires { 0 < weight }
         ensures added { OnOk result (self.new ≡ added self.old (key.now, weight)) }
         ensures unchanged { OnErr result (self.new ≡ self.old) }
-        ensures too_large { IsErrOf result AddFault.TotalTooLarge ↔ (MAX_TOTAL < self.old.total + weight) }
+        ensures too_large { IsErrOf result AddFault.TotalTooLarge
+            ↔ (MAX_TOTAL < self.old.total + weight) }
     {
         if weight > MAX_TOTAL - self.total {
             return Err(AddFault::TotalTooLarge);
@@ -217,7 +219,8 @@ impl Summary {
         ensures merged { OnOk result (self.new ≡ merged self.old other.now) }
         ensures unchanged { OnErr result (self.new ≡ self.old) }
         ensures different_k { IsErrOf result MergeFault.DifferentK ↔ (self.old.k ≢ other.now.k) }
-        ensures too_large { IsErrOf result MergeFault.TotalTooLarge ↔ ((self.old.k ≡ other.now.k) × (MAX_TOTAL < self.old.total + other.now.total)) }
+        ensures too_large { IsErrOf result MergeFault.TotalTooLarge
+            ↔ ((self.old.k ≡ other.now.k) × (MAX_TOTAL < self.old.total + other.now.total)) }
     {
         if self.k != other.k {
             return Err(MergeFault::DifferentK);

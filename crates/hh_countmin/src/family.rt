@@ -65,7 +65,8 @@ impl Family {
     /// coefficients a and b of each row.
     pub fn draw(alloc: Global, seed: u64, depth: u64) -> Result<Family, DrawFault>
         ensures drawn { IfOk result (λ family. family ≡ drawn_family seed depth) }
-        ensures bad_depth { IsErrOf result DrawFault.BadDepth ↔ ((depth ≡ 0) ⊎ (MAX_DEPTH < depth)) }
+        ensures bad_depth { IsErrOf result DrawFault.BadDepth
+            ↔ ((depth ≡ 0) ⊎ (MAX_DEPTH < depth)) }
     {
         if depth == 0 || depth > MAX_DEPTH {
             return Err(DrawFault::BadDepth);
@@ -83,8 +84,10 @@ impl Family {
     pub fn from_parts(alloc: Global, z: u64, rows: &[(u64, u64)]) -> Result<Family, PartsFault>
         ensures parts { IfOk result (λ family. family ≡ record { z = z; rows = rows.now }) }
         ensures in_range { IfOk result IsFamily }
-        ensures bad_depth { IsErrOf result PartsFault.BadDepth ↔ ((length rows.now ≡ 0) ⊎ (MAX_DEPTH < length rows.now)) }
-        ensures bad_coefficient { IsErrOf result PartsFault.BadCoefficient ↔ (IsDepth (length rows.now) × ¬ (AreCoefficients z rows.now)) }
+        ensures bad_depth { IsErrOf result PartsFault.BadDepth
+            ↔ ((length rows.now ≡ 0) ⊎ (MAX_DEPTH < length rows.now)) }
+        ensures bad_coefficient { IsErrOf result PartsFault.BadCoefficient
+            ↔ (IsDepth (length rows.now) × ¬ (AreCoefficients z rows.now)) }
     {
         if rows.is_empty() || rows.len() as u64 > MAX_DEPTH {
             return Err(PartsFault::BadDepth);
@@ -198,7 +201,8 @@ fn factor(word: u64) -> u64
 
 // The next row that the words make.
 fn draw_row(generator: &mut Pcg64) -> (u64, u64)
-    ensures row { result ≡ (factor_of (pcg64 generator.old).0, addend_of (pcg64 (pcg64 generator.old).1).0) }
+    ensures row { result
+        ≡ (factor_of (pcg64 generator.old).0, addend_of (pcg64 (pcg64 generator.old).1).0) }
     ensures after { generator.new ≡ (pcg64 (pcg64 generator.old).1).1 }
 {
     let a = factor(generator.next_word());
@@ -211,7 +215,8 @@ fn draw_rows(
     generator: &mut Pcg64,
     depth: u64,
 ) -> Result<Vec<(u64, u64)>, AllocError>
-    ensures { IfOk result (λ rows. rows.items ≡ rows_of_words (first_words pcg64 (2 * depth) generator.old)) }
+    ensures { IfOk result
+        (λ rows. rows.items ≡ rows_of_words (first_words pcg64 (2 * depth) generator.old)) }
 {
     let mut rows = Vec::new(alloc);
     for _ in 0..depth {

@@ -27,7 +27,13 @@ impl Model for Table {
 
     ghost Value = { Grid };
 
-    ghost view = { λ table. record { family = table.family; width = table.width; total = table.total; cells = table.cells.items } };
+    ghost view = { λ table.
+        record {
+          family = table.family;
+          width = table.width;
+          total = table.total;
+          cells = table.cells.items;
+        } };
 
     ghost invariant = { λ table. Fits table.family table.width table.total table.cells.items };
 }
@@ -60,7 +66,8 @@ impl Table {
     /// A table whose cells are all 0.
     pub fn new(alloc: Global, family: Family, width: u64) -> Result<Table, TableFault>
         ensures table { IfOk result (λ table. table ≡ empty_table family width) }
-        ensures bad_width { IsErrOf result TableFault.BadWidth ↔ ((width ≡ 0) ⊎ (MAX_WIDTH < width)) }
+        ensures bad_width { IsErrOf result TableFault.BadWidth
+            ↔ ((width ≡ 0) ⊎ (MAX_WIDTH < width)) }
     {
         if width == 0 || width > MAX_WIDTH {
             return Err(TableFault::BadWidth);
@@ -93,7 +100,8 @@ impl Table {
     /// The table with these cells, which lie row by row.
     pub fn from_cells(family: Family, width: u64, total: u64, cells: Vec<u64>) -> Table
         requires { Fits family width total cells.items }
-        ensures { result ≡ record { family = family; width = width; total = total; cells = cells.items } }
+        ensures { result
+            ≡ record { family = family; width = width; total = total; cells = cells.items } }
     {
         Table {
             family,
@@ -130,9 +138,13 @@ impl Table {
         ensures merged { OnOk result (self.new ≡ merged self.old other.now) }
         ensures unchanged { OnErr result (self.new ≡ self.old) }
 
-        ensures different_family { IsErrOf result MergeFault.DifferentFamily ↔ (self.old.family ≢ other.now.family) }
-        ensures different_width { IsErrOf result MergeFault.DifferentWidth ↔ ((self.old.family ≡ other.now.family) × (self.old.width ≢ other.now.width)) }
-        ensures too_large { IsErrOf result MergeFault.TotalTooLarge ↔ ((self.old.family ≡ other.now.family) × (self.old.width ≡ other.now.width) × (MAX_TOTAL < self.old.total + other.now.total)) }
+        ensures different_family { IsErrOf result MergeFault.DifferentFamily
+            ↔ (self.old.family ≢ other.now.family) }
+        ensures different_width { IsErrOf result MergeFault.DifferentWidth
+            ↔ ((self.old.family ≡ other.now.family) × (self.old.width ≢ other.now.width)) }
+        ensures too_large { IsErrOf result MergeFault.TotalTooLarge
+            ↔ ((self.old.family ≡ other.now.family) × (self.old.width ≡ other.now.width)
+            × (MAX_TOTAL < self.old.total + other.now.total)) }
     {
         if !are_one(&self.family, &other.family) {
             return Err(MergeFault::DifferentFamily);
@@ -174,7 +186,9 @@ impl Table {
     fn cell_of_fingerprint(&self, r: u64, fingerprint: u64) -> u64
         requires row { r < length self.now.family.rows }
         requires fingerprint { fingerprint < MODULUS }
-        ensures { result ≡ cell_at self.now.width self.now.cells r (cell_of_fingerprint (row_of self.now.family r) fingerprint self.now.width) }
+        ensures { result
+            ≡ cell_at self.now.width self.now.cells r
+            (cell_of_fingerprint (row_of self.now.family r) fingerprint self.now.width) }
     {
         self.cell_at(
             r,
@@ -226,7 +240,11 @@ fn raise_cells(cells: &mut [u64], family: &Family, width: u64, fingerprint: u64,
     requires width { IsWidth width }
     requires fingerprint { fingerprint < MODULUS }
     requires room { EachIndex cells.old (λ i. slice_index cells.old i + weight < 2 ^ 64) }
-    ensures { cells.new ≡ cells_by (λ r c. cell_at width cells.old r c + cond (cell_of_fingerprint (row_of family.now r) fingerprint width == c) weight 0) (length family.now.rows) width }
+    ensures { cells.new
+        ≡ cells_by
+        (λ r c. cell_at width cells.old r c
+        + cond (cell_of_fingerprint (row_of family.now r) fingerprint width == c) weight 0)
+        (length family.now.rows) width }
 {
     for r in 0..family.depth() {
         let cell = r * width + family.cell_of_fingerprint(r, fingerprint, width);
@@ -237,8 +255,10 @@ fn raise_cells(cells: &mut [u64], family: &Family, width: u64, fingerprint: u64,
 // Adds other cells, one by one.
 fn add_cells(cells: &mut [u64], others: &[u64])
     requires as_many { length cells.old ≡ length others.now }
-    requires room { EachIndex cells.old (λ i. slice_index cells.old i + slice_index others.now i < 2 ^ 64) }
-    ensures { EachIndex cells.new (λ i. slice_index cells.new i ≡ slice_index cells.old i + slice_index others.now i) }
+    requires room { EachIndex cells.old
+        (λ i. slice_index cells.old i + slice_index others.now i < 2 ^ 64) }
+    ensures { EachIndex cells.new
+        (λ i. slice_index cells.new i ≡ slice_index cells.old i + slice_index others.now i) }
 {
     for i in 0..cells.len() {
         cells[i] += others[i];

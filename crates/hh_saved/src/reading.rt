@@ -291,7 +291,8 @@ fn row_of<'a>(
     bytes: &'a [u8],
 ) -> Result<&'a [u8], SavedFault>
     requires { width ≤ 65536 }
-    ensures { Gives (λ rest. (cells.new.items, rest.now)) result (with_front cells.old.items (row_at width total bytes.now)) }
+    ensures { Gives (λ rest. (cells.new.items, rest.now)) result
+        (with_front cells.old.items (row_at width total bytes.now)) }
 {
     let (field, rest) = bytes_of(8 * width, bytes)?;
     let start = cells.len();

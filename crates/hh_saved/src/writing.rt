@@ -73,7 +73,8 @@ fn put_summary(out: &mut Vec<u8>, summary: &Summary) -> Result<(), AllocError>
 }
 
 fn put_entries(out: &mut Vec<u8>, summary: &Summary) -> Result<(), AllocError>
-    ensures spelled { OnOk result (out.new.items ≡ out.old.items ++ flat_map entry_bytes summary.now.counters) }
+    ensures spelled { OnOk result
+        (out.new.items ≡ out.old.items ++ flat_map entry_bytes summary.now.counters) }
     ensures keys { OnOk result (AllByRecursion (λ e. IsKey e.0) summary.now.counters) }
 {
     for i in 0..summary.len() {
@@ -84,7 +85,8 @@ fn put_entries(out: &mut Vec<u8>, summary: &Summary) -> Result<(), AllocError>
 }
 
 fn put_entry(out: &mut Vec<u8>, key: &Key, counter: u64) -> Result<(), AllocError>
-    ensures spelled { OnOk result (out.new.items ≡ out.old.items ++ entry_bytes (key.now, counter)) }
+    ensures spelled { OnOk result
+        (out.new.items ≡ out.old.items ++ entry_bytes (key.now, counter)) }
     ensures key { IsKey key.now }
 {
     let bytes = key.bytes();

@@ -27,7 +27,8 @@ impl Model for Cutting {
 
     ghost view = { λ cutting. cutting.lengths.items };
 
-    ghost invariant = { λ cutting. IsCutting cutting.lengths.items × (cutting.len ≡ sum cutting.lengths.items) };
+    ghost invariant = { λ cutting. IsCutting cutting.lengths.items
+        × (cutting.len ≡ sum cutting.lengths.items) };
 }
 
 /// Why there is no such cutting.
@@ -117,8 +118,11 @@ impl Cutting {
         ensures lengths { IfOk result (λ cutting. cutting ≡ lengths.now) }
         ensures adds_up { IfOk result (λ cutting. sum cutting ≡ len) }
         ensures no_pieces { IsErrOf result CuttingFault.NoPieces ↔ (length lengths.now ≡ 0) }
-        ensures too_many { IsErrOf result CuttingFault.TooManyPieces ↔ (MAX_PIECES < length lengths.now) }
-        ensures wrong_sum { IsErrOf result CuttingFault.WrongSum ↔ ((0 < length lengths.now) × (length lengths.now ≤ MAX_PIECES) × (sum lengths.now ≢ len)) }
+        ensures too_many { IsErrOf result CuttingFault.TooManyPieces
+            ↔ (MAX_PIECES < length lengths.now) }
+        ensures wrong_sum { IsErrOf result CuttingFault.WrongSum
+            ↔ ((0 < length lengths.now) × (length lengths.now ≤ MAX_PIECES)
+            × (sum lengths.now ≢ len)) }
     {
         check_count(lengths.len())?;
         if !adds_up(lengths, len) {

@@ -135,7 +135,9 @@ impl Ord for Key {
 impl Hash for Key {
     ghost hash_input = { fed.slice fed.u8 };
 
-    ghost respects_eq = { λ x y e. ap (fed.slice fed.u8) (slice_cmp-IsAntisymmetric nat_cmp-IsAntisymmetric x y ((Equal-is (slice_cmp nat_cmp x y)).0 e)) };
+    ghost respects_eq = { λ x y e. ap (fed.slice fed.u8)
+        (slice_cmp-IsAntisymmetric nat_cmp-IsAntisymmetric x y
+        ((Equal-is (slice_cmp nat_cmp x y)).0 e)) };
 
     fn hash<H: Hasher>(&self, state: &mut H) {
         self.bytes().hash(state);

@@ -61,7 +61,8 @@ impl Model for Stream {
 
     ghost view = { λ stream. stream.items.items };
 
-    ghost invariant = { λ stream. (stream.total ≡ total_of stream.items.items) × (stream.total ≤ max_total) };
+    ghost invariant = { λ stream. (stream.total ≡ total_of stream.items.items)
+        × (stream.total ≤ max_total) };
 }
 
 /// Why an item was not pushed.
@@ -99,8 +100,10 @@ impl Stream {
         ensures unchanged { OnErr result (self.new ≡ self.old) }
         ensures handed_back { IfErr result (λ refused. refused.key ≡ key) }
 
-        ensures zero_weight { IsErrAnd result (λ refused. refused.fault ≡ PushFault.ZeroWeight) ↔ (weight ≡ 0) }
-        ensures too_large { IsErrAnd result (λ refused. refused.fault ≡ PushFault.TotalTooLarge) ↔ ((0 < weight) × (MAX_TOTAL < total_of self.old + weight)) }
+        ensures zero_weight { IsErrAnd result (λ refused. refused.fault ≡ PushFault.ZeroWeight)
+            ↔ (weight ≡ 0) }
+        ensures too_large { IsErrAnd result (λ refused. refused.fault ≡ PushFault.TotalTooLarge)
+            ↔ ((0 < weight) × (MAX_TOTAL < total_of self.old + weight)) }
     {
         if weight == 0 {
             return Err(PushRefused {

@@ -1,8 +1,8 @@
-//! Both forms of Space-Saving on small streams.
+//! Both forms of Space-Saving on small streams, and side by side on a longer one.
 
-use super::{FOUR_RECORDS, shown, stream_of};
-use crate::{AddFault, BadK, BucketSaving, Monitor, NewFault, SpaceSaving, Summary};
-use hh_stream::{Item, Key, MAX_TOTAL};
+use super::{FOUR_RECORDS, key_of, shown, stream_of};
+use crate::{AddFault, BucketSaving, Monitor, SpaceSaving, Summary, monitored_summary};
+use hh_stream::{Item, Key, MAX_TOTAL, Stream};
 use std::alloc::Global;
 use std::test::Fail;
 
@@ -42,69 +42,104 @@ fn run<M: Monitor>(alloc: Global, monitor: M, items: &[(&str, u64)]) -> Result<S
     Ok(text)
 }
 
-// The same run by both forms.
-fn both(alloc: Global, k: u64, items: &[(&str, u64)]) -> Result<(String, String), Fail> {
+// The same run by both forms, which say the same.
+fn both(alloc: Global, k: u64, items: &[(&str, u64)]) -> Result<String, Fail> {
     let plain = run(alloc, SpaceSaving::new(alloc, k)?, items)?;
     let buckets = run(alloc, BucketSaving::new(alloc, k)?, items)?;
-    Ok((plain, buckets))
+    if plain != buckets {
+        return Err(Fail::new("the two forms differ"));
+    }
+    Ok(plain)
 }
 
 #[test]
-fn four_records_fill_three_counters(rt: HostRuntime) -> Result<(), Fail> {
-    let (plain, buckets) = both(rt.alloc(), 2, &FOUR_RECORDS)?;
-    let expected = "a 6 b 3 c 2 of 11, least 2 to a 4 b 1 of 11, slack 2";
-    assert_eq!(rt; plain.as_str(), expected);
-    assert_eq!(rt; buckets.as_str(), expected);
+fn both_forms_count_small_streams(rt: HostRuntime) -> Result<(), Fail> {
+    for (k, items, expected) in [
+        (
+            2,
+            FOUR_RECORDS.as_slice(),
+            "a 6 b 3 c 2 of 11, least 2 to a 4 b 1 of 11, slack 2",
+        ),
+        (
+            2,
+            [("a", 5), ("b", 3), ("c", 2), ("a", 1), ("d", 4)].as_slice(),
+            "a 6 b 3 d 6 of 15, least 3 to a 3 d 3 of 15, slack 3",
+        ),
+        (
+            2,
+            [("a", 5), ("b", 3)].as_slice(),
+            "a 5 b 3 of 8, least 0 to a 5 b 3 of 8, slack 0",
+        ),
+        (
+            1,
+            [("b", 1), ("a", 1), ("c", 1)].as_slice(),
+            "b 1 c 2 of 3, least 1 to c 1 of 3, slack 1",
+        ),
+    ] {
+        let text = both(rt.alloc(), k, items)?;
+        assert_eq!(rt; text.as_str(), expected);
+    }
     Ok(())
 }
 
 #[test]
-fn newcomer_takes_over_the_least_counter(rt: HostRuntime) -> Result<(), Fail> {
-    let five = [("a", 5), ("b", 3), ("c", 2), ("a", 1), ("d", 4)];
-    let (plain, buckets) = both(rt.alloc(), 2, &five)?;
-    let expected = "a 6 b 3 d 6 of 15, least 3 to a 3 d 3 of 15, slack 3";
-    assert_eq!(rt; plain.as_str(), expected);
-    assert_eq!(rt; buckets.as_str(), expected);
+fn plain_form_has_k_from_1_to_65535(rt: HostRuntime) {
+    for (k, refused) in [(0, true), (1, false), (65_535, false), (65_536, true)] {
+        let monitor = SpaceSaving::new(rt.alloc(), k);
+        assert_eq!(rt; monitor.is_err(), refused);
+    }
+}
+
+#[test]
+fn buckets_have_k_from_1_to_65535(rt: HostRuntime) {
+    for (k, refused) in [(0, true), (1, false), (65_535, false), (65_536, true)] {
+        let monitor = BucketSaving::new(rt.alloc(), k);
+        assert_eq!(rt; monitor.is_err(), refused);
+    }
+}
+
+#[test]
+fn new_plain_form_is_empty(rt: HostRuntime) -> Result<(), Fail> {
+    let monitor = SpaceSaving::new(rt.alloc(), 2)?;
+    assert!(rt; monitor.k() == 2 && monitor.is_empty());
     Ok(())
 }
 
 #[test]
-fn nothing_is_taken_while_a_counter_is_free(rt: HostRuntime) -> Result<(), Fail> {
-    let (plain, buckets) = both(rt.alloc(), 2, &[("a", 5), ("b", 3)])?;
-    let expected = "a 5 b 3 of 8, least 0 to a 5 b 3 of 8, slack 0";
-    assert_eq!(rt; plain.as_str(), expected);
-    assert_eq!(rt; buckets.as_str(), expected);
+fn new_buckets_are_empty(rt: HostRuntime) -> Result<(), Fail> {
+    let monitor = BucketSaving::new(rt.alloc(), 2)?;
+    assert!(rt; monitor.k() == 2 && monitor.is_empty());
     Ok(())
-}
-
-#[test]
-fn of_equal_least_counters_the_least_key_goes(rt: HostRuntime) -> Result<(), Fail> {
-    let (plain, buckets) = both(rt.alloc(), 1, &[("b", 1), ("a", 1), ("c", 1)])?;
-    let expected = "b 1 c 2 of 3, least 1 to c 1 of 3, slack 1";
-    assert_eq!(rt; plain.as_str(), expected);
-    assert_eq!(rt; buckets.as_str(), expected);
-    Ok(())
-}
-
-#[test]
-fn monitors_have_k_from_1_to_65535(rt: HostRuntime) {
-    let alloc = rt.alloc();
-    assert_eq!(rt; SpaceSaving::new(alloc, 0).err(), Some(BadK));
-    assert_eq!(rt; SpaceSaving::new(alloc, 65536).err(), Some(BadK));
-    assert!(rt; SpaceSaving::new(alloc, 65535).is_ok());
-    assert_eq!(rt; BucketSaving::new(alloc, 0).err(), Some(NewFault::BadK));
-    assert!(rt; BucketSaving::new(alloc, 65535).is_ok());
 }
 
 #[test]
 fn monitored_total_has_a_largest_value(rt: HostRuntime) -> Result<(), Fail> {
-    let alloc = rt.alloc();
-    let a = Key::new(alloc, b"a")?;
-    let mut monitor = BucketSaving::new(alloc, 1)?;
-    monitor.add(&a, MAX_TOTAL)?;
-    assert_eq!(rt; monitor.add(&a, 1).err(), Some(AddFault::TotalTooLarge));
-    assert_eq!(rt; monitor.get(&a), MAX_TOTAL);
+    let key = key_of(rt.alloc(), "a")?;
+    let mut monitor = BucketSaving::new(rt.alloc(), 1)?;
+    monitor.add(&key, MAX_TOTAL)?;
+    let fault = monitor.add(&key, 1).err();
+    assert_eq!(rt; fault, Some(AddFault::TotalTooLarge));
+    assert_eq!(rt; monitor.get(&key), MAX_TOTAL);
     Ok(())
+}
+
+// The one-byte keys 0 to 40.
+fn keys_of_one_byte(alloc: Global) -> Result<Vec<Key>, Fail> {
+    let mut keys = Vec::new(alloc);
+    for byte in 0..41u8 {
+        keys.push(Key::new(alloc, &[byte])?)?;
+    }
+    Ok(keys)
+}
+
+// 10,000 items on 21 of these keys.
+fn long_stream(alloc: Global) -> Result<Stream, Fail> {
+    let mut stream = Stream::new(alloc);
+    for i in 0..10_000u64 {
+        let byte = (i * i % 41) as u8;
+        stream.push(Key::new(alloc, &[byte])?, 1 + i % 7)?;
+    }
+    Ok(stream)
 }
 
 // Whether both have the same total, length, least counter and counters of these keys.
@@ -115,27 +150,50 @@ fn agree(plain: &SpaceSaving, buckets: &BucketSaving, keys: &[Key]) -> bool {
         && keys.iter().all(|key| plain.get(key) == buckets.get(key))
 }
 
-#[test]
-fn both_forms_agree_after_each_of_10000_items(rt: HostRuntime) -> Result<(), Fail> {
-    let alloc = rt.alloc();
-    let mut keys = Vec::new(alloc);
-    for byte in 0..41u8 {
-        keys.push(Key::new(alloc, &[byte])?)?;
-    }
-    let mut stream = hh_stream::Stream::new(alloc);
-    for i in 0..10_000u64 {
-        let byte = (i * i % 41) as u8;
-        stream.push(Key::new(alloc, &[byte])?, 1 + i % 7)?;
-    }
+// Whether both agree after each of the items.
+fn agree_after_each(alloc: Global, items: &[Item], keys: &[Key]) -> Result<bool, Fail> {
     let mut plain = SpaceSaving::new(alloc, 10)?;
     let mut buckets = BucketSaving::new(alloc, 10)?;
-    for item in stream.items() {
+    for item in items {
         plain.add(item.key(), item.weight())?;
         buckets.add(item.key(), item.weight())?;
-        assert!(rt; agree(&plain, &buckets, &keys));
+        if !agree(&plain, &buckets, keys) {
+            return Ok(false);
+        }
     }
-    let expected = shown(alloc, &Summary::of_items(alloc, 10, stream.items())?)?;
-    assert_eq!(rt; translated(alloc, plain)?, expected.clone()?);
-    assert_eq!(rt; translated(alloc, buckets)?, expected);
+    Ok(true)
+}
+
+#[test]
+fn both_forms_agree_after_each_of_10000_items(rt: HostRuntime) -> Result<(), Fail> {
+    let keys = keys_of_one_byte(rt.alloc())?;
+    let stream = long_stream(rt.alloc())?;
+    assert!(rt; agree_after_each(rt.alloc(), stream.items(), &keys)?);
+    Ok(())
+}
+
+// The summary of the 10,000 items, added one by one, as text.
+fn long_counters(alloc: Global) -> Result<String, Fail> {
+    let stream = long_stream(alloc)?;
+    shown(alloc, &Summary::of_items(alloc, 10, stream.items())?)
+}
+
+#[test]
+fn plain_form_translates_10000_items(rt: HostRuntime) -> Result<(), Fail> {
+    let stream = long_stream(rt.alloc())?;
+    let monitor = SpaceSaving::new(rt.alloc(), 10)?;
+    let summary = monitored_summary(monitor, stream.items())?;
+    let text = shown(rt.alloc(), &summary)?;
+    assert_eq!(rt; text, long_counters(rt.alloc())?);
+    Ok(())
+}
+
+#[test]
+fn buckets_translate_10000_items(rt: HostRuntime) -> Result<(), Fail> {
+    let stream = long_stream(rt.alloc())?;
+    let monitor = BucketSaving::new(rt.alloc(), 10)?;
+    let summary = monitored_summary(monitor, stream.items())?;
+    let text = shown(rt.alloc(), &summary)?;
+    assert_eq!(rt; text, long_counters(rt.alloc())?);
     Ok(())
 }
