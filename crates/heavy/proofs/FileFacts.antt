@@ -8,7 +8,6 @@ use Rattle.std.proofs.lemmas.List.{drop_more, drop_all, length-map}
 use Rattle.hh_stream.specs.Weights.{max_total}
 use Rattle.hh_countmin.specs.Family.{same_family}
 use Rattle.hh_countmin.specs.Table.{Grid, merged as merged_cells}
-use Rattle.hh_countmin.proofs.Families.{same_family-Decides}
 use Rattle.hh_saved.specs.declared.saved.Saved.{Saved}
 use Rattle.hh_saved.specs.declared.saved.Saved.TheVariants.{Cells}
 use Rattle.heavy.specs.declared.error.MergeCause.TheVariants as cause
@@ -37,9 +36,9 @@ of_total-too_large total v large = elim (leb_tells total max_total) [
   | inr (e, lt) ↦ rw e refl
 ]
 
-module _ (n : ℕ) (s t : Grid) where
+module _ (n : ℕ) (s t : Grid) (one : Decides (same_family s.family t.family) (s.family ≡ t.family)) where
   pub cells-other_family : s.family ≢ t.family → merge_saved n (Cells s) (Cells t) ≡ Err (tool.CannotMerge n cause.DifferentFamily)
-  cells-other_family differ = elim (decided (same_family s.family t.family) (same_family-Decides s.family t.family)) [
+  cells-other_family differ = elim (decided (same_family s.family t.family) one) [
     | inl (e, same) ↦ absurd (differ same)
     | inr (e, _) ↦ rw e refl
   ]
@@ -47,18 +46,18 @@ module _ (n : ℕ) (s t : Grid) where
   pub cells-other_width : s.family ≡ t.family → s.width ≢ t.width → merge_saved n (Cells s) (Cells t) ≡ Err (tool.CannotMerge n cause.DifferentWidth)
   cells-other_width same differ = elim (eqb_tells s.width t.width) [
     | inl (e, width) ↦ absurd (differ width)
-    | inr (e, _) ↦ rw ((same_family-Decides s.family t.family).1 same, e) refl
+    | inr (e, _) ↦ rw (one.1 same, e) refl
   ]
 
   pub cells-too_large : s.family ≡ t.family → s.width ≡ t.width → max_total < s.total + t.total → merge_saved n (Cells s) (Cells t) ≡ Err (tool.CannotMerge n cause.TotalTooLarge)
   cells-too_large same width large = elim (eqb_tells s.width t.width) [
-    | inl (e, _) ↦ rw ((same_family-Decides s.family t.family).1 same, e, of_total-too_large (s.total + t.total) (Cells (merged_cells s t)) large) refl
+    | inl (e, _) ↦ rw (one.1 same, e, of_total-too_large (s.total + t.total) (Cells (merged_cells s t)) large) refl
     | inr (e, differ) ↦ absurd (differ width)
   ]
 
   pub cells-merged : (s.family ≢ t.family → ⊥) → ((s.family ≡ t.family) × (s.width ≢ t.width) → ⊥) → ((s.family ≡ t.family) × (s.width ≡ t.width) × (max_total < s.total + t.total) → ⊥)
       → merge_saved n (Cells s) (Cells t) ≡ Ok (Cells (merged_cells s t))
-  cells-merged same_families same_widths fits = elim (decided (same_family s.family t.family) (same_family-Decides s.family t.family)) [
+  cells-merged same_families same_widths fits = elim (decided (same_family s.family t.family) one) [
     | inl (f, same) ↦ elim (eqb_tells s.width t.width) [
       | inl (e, width) ↦ rw (f, e, of_total-fits (s.total + t.total) (Cells (merged_cells s t)) (λ lt. fits (same, width, lt))) refl
       | inr (e, differ) ↦ absurd (same_widths (same, differ))

@@ -18,7 +18,8 @@ use Rattle.heavy.specs.declared.error.ToolError.{ToolError}
 use Rattle.heavy.specs.declared.error.ToolError.TheVariants as tool
 
 infixl 10 ◌>>=◌
-abbrev pub ◌>>=◌ : {A B : Type 0} → Result A ToolError → (A → Result B ToolError) → Result B ToolError
+abbrev pub ◌>>=◌ : {A B : Type 0}
+    → Result A ToolError → (A → Result B ToolError) → Result B ToolError
 (Ok x) >>= f = f x
 (Err e) >>= f = Err e
 
@@ -42,7 +43,9 @@ abbrev pub of_total : ℕ → Saved → Result Saved MergeCause
 of_total total v = if nat_le total max_total then Ok v else Err cause.TotalTooLarge
 
 abbrev pub counters_of_both : Sketch → Sketch → Result Saved MergeCause
-counters_of_both s t = if s.k == t.k then of_total (s.total + t.total) (Counters (merged_counters s t)) else Err cause.DifferentK
+counters_of_both s t =
+    if s.k == t.k then of_total (s.total + t.total) (Counters (merged_counters s t))
+    else Err cause.DifferentK
 
 abbrev pub cells_of_both : Grid → Grid → Result Saved MergeCause
 cells_of_both s t =
@@ -80,12 +83,15 @@ merged_files (file ∷ files) = do
 
 -- a key's weight is at least the first number, and at most the second
 abbrev pub answer_of : Saved → Bytes → ℕ × ℕ
-answer_of (Counters s) x = (weight_of x s.counters, weight_of x s.counters + slack s.counters s.total s.k)
+answer_of (Counters s) x =
+    (weight_of x s.counters, weight_of x s.counters + slack s.counters s.total s.k)
 answer_of (Cells t) x = (0, estimate_in t x)
 
--- the text of one row: the key and the two numbers, as csv's default writer writes them, and a line feed
+-- the text of one row: the key and the two numbers as csv's default writer writes them, and a line
+-- feed
 abbrev pub answer_row : Saved → Bytes → List ℕ
-answer_row v x = row_text default_writer (x ∷ decimal (answer_of v x).0 ∷ decimal (answer_of v x).1 ∷ [])
+answer_row v x =
+    row_text default_writer (x ∷ decimal (answer_of v x).0 ∷ decimal (answer_of v x).1 ∷ [])
 
 abbrev pub answer_rows : Saved → List Bytes → List ℕ
 answer_rows v keys = flat_map (answer_row v) keys

@@ -52,7 +52,8 @@ read_fault read.Memory = tool.Memory
 
 -- the rows of the report of a text for k, where the text is a stream
 abbrev pub ReportsRows : ℕ → List ℕ → List ℕ → Type 0
-ReportsRows k text rows = (xs : List Entry) × (stream_of text ≡ Ok xs) × (rows ≡ rows_of (heavy xs 1 (k + 1)))
+ReportsRows k text rows =
+    (xs : List Entry) × (stream_of text ≡ Ok xs) × (rows ≡ rows_of (heavy xs 1 (k + 1)))
 
 -- from 1 to the most
 abbrev pub in_range : ℕ → ℕ → Bool
@@ -90,20 +91,28 @@ TreeRefused (tree.Text t) pieces f = PlanRefused t.items pieces (plan_fault f)
 abbrev pub AreOptions : ReportOptions → Type 0
 AreOptions o = (bad_option o ≡ None) × IsTree o.tree o.pieces
 
--- a whole report was written: what the sink took is the rows of the report of all bytes that the reader had left
+-- a whole report was written: what the sink took is the rows of the report of all bytes that the
+-- reader had left
 abbrev pub IsReported : ReportOptions → Option (List ℕ) → Option (List ℕ) → Option (List ℕ) → Type 0
-IsReported o left old new = AreOptions o × IfSome left (λ text. (rows : List ℕ) × ReportsRows o.k text rows × Appends old new rows)
+IsReported o left old new =
+    AreOptions o
+    × IfSome left (λ text. (rows : List ℕ) × ReportsRows o.k text rows × Appends old new rows)
 
 -- what each refusal of a report tells, and what it leaves in the sink
-abbrev pub ReportRefused : ReportOptions → Option (List ℕ) → Option (List ℕ) → Option (List ℕ) → ToolError → Type 0
+abbrev pub ReportRefused : ReportOptions
+    → Option (List ℕ) → Option (List ℕ) → Option (List ℕ) → ToolError → Type 0
 ReportRefused o left old new tool.BadDepth = (bad_option o ≡ Some tool.BadDepth) × Keeps old new
 ReportRefused o left old new tool.BadK = (bad_option o ≡ Some tool.BadK) × Keeps old new
 ReportRefused o left old new tool.BadWorkers = (bad_option o ≡ Some tool.BadWorkers) × Keeps old new
 ReportRefused o left old new tool.BadWidth = (bad_option o ≡ Some tool.BadWidth) × Keeps old new
 ReportRefused o left old new tool.BadPieces = (bad_option o ≡ Some tool.BadPieces) × Keeps old new
-ReportRefused o left old new (tool.BadTree f) = (bad_option o ≡ None) × TreeRefused o.tree o.pieces f × Keeps old new
+ReportRefused o left old new (tool.BadTree f) =
+    (bad_option o ≡ None) × TreeRefused o.tree o.pieces f × Keeps old new
 ReportRefused o left old new tool.ReadFault = AreOptions o × Keeps old new
-ReportRefused o left old new (tool.BadRecord n c) = AreOptions o × Keeps old new × IfSome left (λ text. stream_of text ≡ Err (n, c))
-ReportRefused o left old new (tool.WriteFault n) = AreOptions o × IfSome left (λ text. (rows : List ℕ) × ReportsRows o.k text rows × TakesFirst old new rows n)
+ReportRefused o left old new (tool.BadRecord n c) =
+    AreOptions o × Keeps old new × IfSome left (λ text. stream_of text ≡ Err (n, c))
+ReportRefused o left old new (tool.WriteFault n) =
+    AreOptions o
+    × IfSome left (λ text. (rows : List ℕ) × ReportsRows o.k text rows × TakesFirst old new rows n)
 ReportRefused o left old new tool.Memory = (bad_option o ≡ None) × Keeps old new
 ReportRefused o left old new _ = ⊥

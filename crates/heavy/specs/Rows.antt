@@ -16,4 +16,5 @@ rows_of es = flat_map row_of es
 
 -- a default writer between two records
 abbrev pub IsBetweenRows : {W : Type 0} → Writer W → Type 0
-IsBetweenRows w = (fields_written w ≡ 0) × (has_written w ≡ false) × (writer_setup w ≡ default_writer)
+IsBetweenRows w =
+    (fields_written w ≡ 0) × (has_written w ≡ false) × (writer_setup w ≡ default_writer)

@@ -31,7 +31,10 @@ abbrev pub bad_k : ℕ → Option ToolError
 bad_k k = if not (in_range k 65535) then Some tool.BadK else None
 
 abbrev pub bad_table : ℕ → ℕ → Option ToolError
-bad_table depth width = if not (in_range depth 16) then Some tool.BadDepth else if not (in_range width 65536) then Some tool.BadWidth else None
+bad_table depth width =
+    if not (in_range depth 16) then Some tool.BadDepth
+    else if not (in_range width 65536) then Some tool.BadWidth
+    else None
 
 -- the word that names a method
 abbrev pub word_of : Method → List ℕ
@@ -45,14 +48,20 @@ RefusedAfter (Some f) left e = e ≡ f
 
 -- the rows of the summary's keys that are heavy in the stream of the text
 abbrev pub ConfirmsRows : List ℕ → List ℕ → List ℕ → Type 0
-ConfirmsRows file text rows = (s : Sketch) × (xs : List Entry) × (saved_of file ≡ Ok (Counters s)) × (stream_of text ≡ Ok xs) × (s.total ≡ total_of xs) × (rows ≡ rows_of (confirmed s xs))
+ConfirmsRows file text rows =
+    (s : Sketch) × (xs : List Entry) × (saved_of file ≡ Ok (Counters s)) × (stream_of text ≡ Ok xs)
+    × (s.total ≡ total_of xs) × (rows ≡ rows_of (confirmed s xs))
 
 -- what a refusal to confirm tells: of the file, of its kind, of the records, and of the totals
 abbrev pub ConfirmRefused : List ℕ → Option (List ℕ) → ToolError → Type 0
 ConfirmRefused file left (tool.BadFile n f) = (n ≡ 1) × (saved_of file ≡ Err f)
 ConfirmRefused file left tool.NotCounters = (t : Grid) × (saved_of file ≡ Ok (Cells t))
 ConfirmRefused file left tool.ReadFault = (s : Sketch) × (saved_of file ≡ Ok (Counters s))
-ConfirmRefused file left (tool.BadRecord n c) = (s : Sketch) × (saved_of file ≡ Ok (Counters s)) × IfSome left (λ text. stream_of text ≡ Err (n, c))
-ConfirmRefused file left tool.TotalDiffers = (s : Sketch) × (saved_of file ≡ Ok (Counters s)) × IfSome left (λ text. (xs : List Entry) × (stream_of text ≡ Ok xs) × (s.total ≢ total_of xs))
+ConfirmRefused file left (tool.BadRecord n c) =
+    (s : Sketch) × (saved_of file ≡ Ok (Counters s))
+    × IfSome left (λ text. stream_of text ≡ Err (n, c))
+ConfirmRefused file left tool.TotalDiffers =
+    (s : Sketch) × (saved_of file ≡ Ok (Counters s))
+    × IfSome left (λ text. (xs : List Entry) × (stream_of text ≡ Ok xs) × (s.total ≢ total_of xs))
 ConfirmRefused file left tool.Memory = ⊤
 ConfirmRefused file left _ = ⊥

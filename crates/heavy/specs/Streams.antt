@@ -27,7 +27,10 @@ value_of f = fold (λ a d. a * 10 + (d - 48)) 0 f
 
 -- a weight after a total of t, or why it can't be added
 abbrev pub admitted : ℕ → ℕ → Result ℕ BadRecordCause
-admitted t w = if w == 0 then Err cause.ZeroWeight else if nat_le (t + w) max_total then Ok w else Err cause.TotalTooLarge
+admitted t w =
+    if w == 0 then Err cause.ZeroWeight
+    else if nat_le (t + w) max_total then Ok w
+    else Err cause.TotalTooLarge
 
 -- the weight that a field writes, and 1 where there is none
 abbrev pub weight_after : ℕ → Option (List ℕ) → Result ℕ BadRecordCause
@@ -67,7 +70,8 @@ reading_next (Err c) n more = Err (n, c)
 -- the items xs, and then those of the records from number n on
 unfoldable pub items_from : ℕ → List Entry → List Fields → Reading
 items_from n xs [] = Ok xs
-items_from n xs (r ∷ rs) = reading_next (judged (total_of xs) r) n (λ p. items_from (n + 1) (xs ++ p ∷ []) rs)
+items_from n xs (r ∷ rs) =
+    reading_next (judged (total_of xs) r) n (λ p. items_from (n + 1) (xs ++ p ∷ []) rs)
 
 -- what a text reads as, over all the records that csv reads from it
 abbrev pub stream_of : List ℕ → Reading

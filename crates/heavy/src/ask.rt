@@ -17,7 +17,9 @@ use std::alloc::{AllocError, Global};
 
 /// Tests the word with this number: a key has 1 to 255 bytes.
 fn check_key(number: u64, word: &[u8]) -> Result<(), ToolError>
-    ensures { MatchResult result (λ _. key_fault number word.now ≡ None) (λ fault. key_fault number word.now ≡ Some fault) }
+    ensures { MatchResult result
+        (λ _. key_fault number word.now ≡ None)
+        (λ fault. key_fault number word.now ≡ Some fault) }
 {
     let cause = if word.is_empty() {
         KeyCause::Empty
@@ -31,7 +33,9 @@ fn check_key(number: u64, word: &[u8]) -> Result<(), ToolError>
 
 /// Tests the words, which are numbered from 1.
 fn check_keys(words: &[Vec<u8>]) -> Result<(), ToolError>
-    ensures { MatchResult result (λ _. bad_key 1 (map vec_items words.now) ≡ None) (λ fault. bad_key 1 (map vec_items words.now) ≡ Some fault) }
+    ensures { MatchResult result
+        (λ _. bad_key 1 (map vec_items words.now) ≡ None)
+        (λ fault. bad_key 1 (map vec_items words.now) ≡ Some fault) }
 {
     for i in 0..words.len() {
         match check_key(i as u64 + 1, &words[i]) {
@@ -49,8 +53,7 @@ fn answer_of(saved: &Saved, key: &Key) -> (u64, u64)
     match saved {
         Saved::Counters(summary) => {
             let low = summary.get(key);
-            // The counters of a summary add up to at most its total.
-            prove!(summary.k() > 0);
+            prove!(summary.sum() <= summary.total());
             (low, low + summary.slack())
         }
         Saved::Cells(table) => (0, table.estimate(key)),
@@ -61,7 +64,10 @@ fn answer_of(saved: &Saved, key: &Key) -> (u64, u64)
 fn write_answer(writer: &mut Writer<Vec<u8>>, saved: &Saved, key: &Key) -> Result<(), AllocError>
     requires { IsBetweenRows writer.old }
     ensures between { OnOk result (IsBetweenRows writer.new) }
-    ensures text { OnOk result (Appends (text_written (λ text. Some text.items) writer.old) (text_written (λ text. Some text.items) writer.new) (answer_row saved.now key.now)) }
+    ensures text { OnOk result (Appends
+        (text_written (λ text. Some text.items) writer.old)
+        (text_written (λ text. Some text.items) writer.new)
+        (answer_row saved.now key.now)) }
 {
     let (low, high) = answer_of(saved, key);
     let mut low_digits = Buffer::new();
@@ -89,7 +95,8 @@ fn key_of(alloc: Global, word: &[u8]) -> Result<Key, AllocError>
 /// The rows of words that passed their tests.
 fn answers_text(alloc: Global, saved: &Saved, words: &[Vec<u8>]) -> Result<Vec<u8>, AllocError>
     requires { bad_key 1 (map vec_items words.now) ≡ None }
-    ensures { IfOk result (λ text. text.items ≡ flat_map (λ word. answer_row saved.now word.items) words.now) }
+    ensures { IfOk result (λ text.
+        text.items ≡ flat_map (λ word. answer_row saved.now word.items) words.now) }
 {
     let mut writer = WriterBuilder::new().from_writer(Vec::new(alloc));
     for word in words {
@@ -102,16 +109,17 @@ fn answers_text(alloc: Global, saved: &Saved, words: &[Vec<u8>]) -> Result<Vec<u
     }
 }
 
-/// What a saved file tells of keys: for each, in order, a row `key,low,high` as `csv` writes it, ended
-/// by a line feed. The key's weight in the stream is at least `low` and at most `high`. Of a counter
-/// summary these are the key's counter, and that and the summary's slack; of a table 0 and the key's
-/// estimate.
+/// What a saved file tells of keys: for each, in order, a row `key,low,high` as `csv` writes it,
+/// ended by a line feed. The key's weight in the stream is at least `low` and at most `high`. Of a
+/// counter summary these are the key's counter, and that and the summary's slack; of a table 0 and
+/// the key's estimate.
 ///
 /// The file is tested first ([`ToolError::BadFile`], as file 1), and then the keys in order
 /// ([`ToolError::BadKey`], numbered from 1), before any row is made.
 pub fn ask_bytes(alloc: Global, file: &[u8], keys: &[Vec<u8>]) -> Result<Vec<u8>, ToolError>
     ensures rows { IfOk result (λ text. answers file.now (map vec_items keys.now) ≡ Ok text.items) }
-    ensures refused { IfErr result (λ fault. Refuses (answers file.now (map vec_items keys.now)) fault) }
+    ensures refused { IfErr result (λ fault.
+        Refuses (answers file.now (map vec_items keys.now)) fault) }
 {
     let saved = match file_of(alloc, 1, file) {
         Ok(saved) => saved,

@@ -45,15 +45,16 @@ pub fn weights_of(
 /// The keys of a summary that are heavy in a stream, with their true weights: those above the
 /// total divided by the summary's k + 1, by falling weight and then by rising key.
 ///
-/// Where the summary is that of the stream, or a merge of its pieces' summaries, these are all heavy
-/// keys of the stream.
+/// Where the summary is that of the stream, or a merge of its pieces' summaries, these are all
+/// heavy keys of the stream.
 pub fn confirm(
     alloc: Global,
     summary: &Summary,
     stream: &Stream,
 ) -> Result<Vec<Heavy>, ConfirmFault>
     ensures rows { IfOk result (λ rows. rows.items ≡ confirmed summary.now stream.now) }
-    ensures total_differs { IsErrOf result ConfirmFault.TotalDiffers ↔ (summary.now.total ≢ total_of stream.now) }
+    ensures total_differs { IsErrOf result ConfirmFault.TotalDiffers
+        ↔ (summary.now.total ≢ total_of stream.now) }
 {
     candidates_suffice();
     if summary.total() != stream.total() {

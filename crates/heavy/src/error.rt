@@ -106,7 +106,8 @@ pub enum ToolError {
 }
 
 impl ToolError {
-    /// The exit status that tells the fault: 1 a device's fault, 2 usage, 3 refused input, 4 memory.
+    /// The exit status that tells the fault: 1 a device's fault, 2 usage, 3 refused input,
+    /// 4 memory.
     pub fn status(&self) -> u8
         ensures { result ≡ status_of self.now }
     {

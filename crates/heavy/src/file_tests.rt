@@ -1,52 +1,14 @@
-//! The worked rows on saved files.
+//! The worked rows on saved files, merged and asked, and each of their fields spoiled.
 
+use crate::saved_examples::{
+    ANOTHER_FAMILY, ANOTHER_K, ANOTHER_WIDTH, CELLS, COUNTERS, LARGEST, LARGEST_TOTAL, MERGED,
+    NO_ITEMS, ONE, OTHER_KEYS, TWICE, TWO,
+};
 use crate::{KeyCause, MergeCause, ToolError, ask_bytes, merge_bytes};
 use hh_saved::SavedFault;
 use std::alloc::Global;
 use std::process::Abort;
 use std::test::Fail;
-
-// The summary with two counters of a 5, b 3, c 2, a 1, and that merged with itself.
-const COUNTERS: &[u8] =
-    b"HHS1\x01\x00\x02\x00\x00\x00\x00\x00\x00\x00\x0b\x00\x02\x01a\x00\x00\x00\x00\x00\x00\x00\x04\x01b\x00\x00\x00\x00\x00\x00\x00\x01";
-
-const TWICE: &[u8] =
-    b"HHS1\x01\x00\x02\x00\x00\x00\x00\x00\x00\x00\x16\x00\x02\x01a\x00\x00\x00\x00\x00\x00\x00\x08\x01b\x00\x00\x00\x00\x00\x00\x00\x02";
-
-// A summary with other keys, and what it makes of the first.
-const OTHER_KEYS: &[u8] =
-    b"HHS1\x01\x00\x02\x00\x00\x00\x00\x00\x00\x00\x05\x00\x02\x01b\x00\x00\x00\x00\x00\x00\x00\x02\x01c\x00\x00\x00\x00\x00\x00\x00\x03";
-
-const MERGED: &[u8] =
-    b"HHS1\x01\x00\x02\x00\x00\x00\x00\x00\x00\x00\x10\x00\x01\x01a\x00\x00\x00\x00\x00\x00\x00\x01";
-
-// Summaries with no counter.
-const NO_ITEMS: &[u8] = b"HHS1\x01\x00\x02\x00\x00\x00\x00\x00\x00\x00\x00\x00\x00";
-
-const ANOTHER_K: &[u8] = b"HHS1\x01\x00\x03\x00\x00\x00\x00\x00\x00\x00\x00\x00\x00";
-
-const LARGEST_TOTAL: &[u8] = b"HHS1\x01\x00\x02\x7f\xff\xff\xff\xff\xff\xff\xff\x00\x00";
-
-// The table of a 5, e 2, b 1 of the family z = 256 with rows (1, 0) and (3, 1), of width 4, and
-// the same with the last row (3, 2).
-const CELLS: &[u8] =
-    b"HHS1\x02\x00\x00\x00\x04\x02\x00\x00\x00\x00\x00\x00\x01\x00\x00\x00\x00\x00\x00\x00\x00\x01\x00\x00\x00\x00\x00\x00\x00\x00\x00\x00\x00\x00\x00\x00\x00\x03\x00\x00\x00\x00\x00\x00\x00\x01\x00\x00\x00\x00\x00\x00\x00\x08\x00\x00\x00\x00\x00\x00\x00\x00\x00\x00\x00\x00\x00\x00\x00\x00\x00\x00\x00\x00\x00\x00\x00\x07\x00\x00\x00\x00\x00\x00\x00\x01\x00\x00\x00\x00\x00\x00\x00\x00\x00\x00\x00\x00\x00\x00\x00\x00\x00\x00\x00\x00\x00\x00\x00\x01\x00\x00\x00\x00\x00\x00\x00\x07";
-
-const ANOTHER_FAMILY: &[u8] =
-    b"HHS1\x02\x00\x00\x00\x04\x02\x00\x00\x00\x00\x00\x00\x01\x00\x00\x00\x00\x00\x00\x00\x00\x01\x00\x00\x00\x00\x00\x00\x00\x00\x00\x00\x00\x00\x00\x00\x00\x03\x00\x00\x00\x00\x00\x00\x00\x02\x00\x00\x00\x00\x00\x00\x00\x08\x00\x00\x00\x00\x00\x00\x00\x00\x00\x00\x00\x00\x00\x00\x00\x00\x00\x00\x00\x00\x00\x00\x00\x07\x00\x00\x00\x00\x00\x00\x00\x01\x00\x00\x00\x00\x00\x00\x00\x00\x00\x00\x00\x00\x00\x00\x00\x00\x00\x00\x00\x00\x00\x00\x00\x01\x00\x00\x00\x00\x00\x00\x00\x07";
-
-// Tables of one row, of width 1 and 2.
-const ONE: &[u8] =
-    b"HHS1\x02\x00\x00\x00\x01\x01\x00\x00\x00\x00\x00\x00\x01\x00\x00\x00\x00\x00\x00\x00\x00\x01\x00\x00\x00\x00\x00\x00\x00\x00\x00\x00\x00\x00\x00\x00\x00\x01\x00\x00\x00\x00\x00\x00\x00\x01";
-
-const TWO: &[u8] =
-    b"HHS1\x02\x00\x00\x00\x01\x01\x00\x00\x00\x00\x00\x00\x01\x00\x00\x00\x00\x00\x00\x00\x00\x01\x00\x00\x00\x00\x00\x00\x00\x00\x00\x00\x00\x00\x00\x00\x00\x02\x00\x00\x00\x00\x00\x00\x00\x02";
-
-const LARGEST: &[u8] =
-    b"HHS1\x02\x00\x00\x00\x01\x01\x00\x00\x00\x00\x00\x00\x01\x00\x00\x00\x00\x00\x00\x00\x00\x01\x00\x00\x00\x00\x00\x00\x00\x00\x7f\xff\xff\xff\xff\xff\xff\xff\x7f\xff\xff\xff\xff\xff\xff\xff";
-
-const ANOTHER_WIDTH: &[u8] =
-    b"HHS1\x02\x00\x00\x00\x02\x01\x00\x00\x00\x00\x00\x00\x01\x00\x00\x00\x00\x00\x00\x00\x00\x01\x00\x00\x00\x00\x00\x00\x00\x00\x00\x00\x00\x00\x00\x00\x00\x01\x00\x00\x00\x00\x00\x00\x00\x01\x00\x00\x00\x00\x00\x00\x00\x00";
 
 // One byte more than a key has.
 const LONG: &[u8] = &[b'x'; 256];
@@ -66,22 +28,28 @@ fn bad_file(number: u64, fault: SavedFault) -> ToolError {
     ToolError::BadFile { number, fault }
 }
 
-fn cannot_merge(number: u64, cause: MergeCause) -> ToolError {
-    ToolError::CannotMerge { number, cause }
-}
-
 fn bad_key(number: u64, cause: KeyCause) -> ToolError {
     ToolError::BadKey { number, cause }
 }
 
-/// The files, merged.
-fn merged(
-    rt: &(impl Abort + AllocGlobal),
-    files: &[&[u8]],
-) -> Result<Result<Vec<u8>, ToolError>, Fail> {
+/// Compares what the files merge to with a spelling.
+fn merges(rt: &(impl Abort + AllocGlobal), files: &[&[u8]], spelling: &[u8]) -> Result<(), Fail> {
     let files = vectors(rt.alloc(), files)?;
     assert!(rt; !files.is_empty());
-    Ok(merge_bytes(rt.alloc(), &files))
+    assert_eq!(rt; merge_bytes(rt.alloc(), &files)?.as_slice(), spelling);
+    Ok(())
+}
+
+/// Compares why the files are not merged with a fault.
+fn is_unmerged(
+    rt: &(impl Abort + AllocGlobal),
+    files: &[&[u8]],
+    fault: ToolError,
+) -> Result<(), Fail> {
+    let files = vectors(rt.alloc(), files)?;
+    assert!(rt; !files.is_empty());
+    assert_eq!(rt; merge_bytes(rt.alloc(), &files).err(), Some(fault));
+    Ok(())
 }
 
 /// What the file tells of the keys.
@@ -95,55 +63,150 @@ fn asked(
 }
 
 #[test]
-fn files_merge_to_one_spelling(rt: HostRuntime) -> Result<(), Fail> {
-    let rows: [(&[&[u8]], &[u8]); 6] = [
+fn summaries_merge_to_one_spelling(rt: HostRuntime) -> Result<(), Fail> {
+    let rows: [(&[&[u8]], &[u8]); 4] = [
         (&[COUNTERS], COUNTERS),
         (&[COUNTERS, COUNTERS], TWICE),
         (&[COUNTERS, OTHER_KEYS], MERGED),
         (&[COUNTERS, NO_ITEMS, OTHER_KEYS], MERGED),
-        (&[CELLS], CELLS),
-        (&[ONE, ONE], TWO),
     ];
     for (files, spelling) in rows {
-        assert_eq!(rt; merged(&rt, files)??.as_slice(), spelling);
+        merges(&rt, files, spelling)?;
     }
     Ok(())
 }
 
 #[test]
+fn tables_merge_to_one_spelling(rt: HostRuntime) -> Result<(), Fail> {
+    merges(&rt, &[CELLS], CELLS)?;
+    merges(&rt, &[ONE, ONE], TWO)
+}
+
+#[test]
+fn files_of_another_kind(rt: HostRuntime) -> Result<(), Fail> {
+    let number = 2;
+    is_unmerged(&rt, &[COUNTERS, CELLS], ToolError::MixedKinds { number })?;
+    is_unmerged(
+        &rt,
+        &[COUNTERS, CELLS, b"H"],
+        ToolError::MixedKinds { number },
+    )?;
+    let number = 3;
+    is_unmerged(
+        &rt,
+        &[CELLS, CELLS, COUNTERS],
+        ToolError::MixedKinds { number },
+    )
+}
+
+#[test]
 fn files_that_are_not_merged(rt: HostRuntime) -> Result<(), Fail> {
-    let rows: [(&[&[u8]], ToolError); 10] = [
-        (&[COUNTERS, CELLS], ToolError::MixedKinds { number: 2 }),
-        (
-            &[CELLS, CELLS, COUNTERS],
-            ToolError::MixedKinds { number: 3 },
-        ),
-        (
-            &[COUNTERS, ANOTHER_K],
-            cannot_merge(2, MergeCause::DifferentK),
-        ),
-        (
-            &[COUNTERS, LARGEST_TOTAL],
-            cannot_merge(2, MergeCause::TotalTooLarge),
-        ),
-        (
-            &[CELLS, ANOTHER_FAMILY],
-            cannot_merge(2, MergeCause::DifferentFamily),
-        ),
-        (
-            &[ONE, ANOTHER_WIDTH],
-            cannot_merge(2, MergeCause::DifferentWidth),
-        ),
-        (&[ONE, LARGEST], cannot_merge(2, MergeCause::TotalTooLarge)),
-        (&[COUNTERS, b"H"], bad_file(2, SavedFault::Truncated)),
-        (&[b"HHS2", CELLS, b"H"], bad_file(1, SavedFault::BadMagic)),
-        (
-            &[COUNTERS, CELLS, b"H"],
-            ToolError::MixedKinds { number: 2 },
-        ),
+    let rows: [(&[u8], &[u8], MergeCause); 5] = [
+        (COUNTERS, ANOTHER_K, MergeCause::DifferentK),
+        (COUNTERS, LARGEST_TOTAL, MergeCause::TotalTooLarge),
+        (CELLS, ANOTHER_FAMILY, MergeCause::DifferentFamily),
+        (ONE, ANOTHER_WIDTH, MergeCause::DifferentWidth),
+        (ONE, LARGEST, MergeCause::TotalTooLarge),
     ];
-    for (files, fault) in rows {
-        assert_eq!(rt; merged(&rt, files)?.err(), Some(fault));
+    for (first, second, cause) in rows {
+        is_unmerged(
+            &rt,
+            &[first, second],
+            ToolError::CannotMerge { number: 2, cause },
+        )?;
+    }
+    Ok(())
+}
+
+#[test]
+fn files_that_are_no_spelling(rt: HostRuntime) -> Result<(), Fail> {
+    is_unmerged(&rt, &[COUNTERS, b"H"], bad_file(2, SavedFault::Truncated))?;
+    is_unmerged(
+        &rt,
+        &[b"HHS2", CELLS, b"H"],
+        bad_file(1, SavedFault::BadMagic),
+    )
+}
+
+/// Compares the fault of a file with a field at a place that is merged as the second.
+fn is_spoiled(
+    rt: &(impl Abort + AllocGlobal),
+    file: &[u8],
+    at: usize,
+    field: &[u8],
+    fault: SavedFault,
+) -> Result<(), Fail> {
+    let mut spoiled = file.to_vec(rt.alloc())?;
+    for (place, byte) in spoiled.iter_mut().skip(at).zip(field) {
+        *place = *byte;
+    }
+    is_unmerged(rt, &[file, &spoiled], bad_file(2, fault))
+}
+
+#[test]
+fn summaries_with_a_spoiled_field(rt: HostRuntime) -> Result<(), Fail> {
+    let fields: [(usize, &[u8], SavedFault); 9] = [
+        (0, b"\x49", SavedFault::BadMagic),
+        (4, b"\x03", SavedFault::BadKind),
+        (5, b"\x00\x00", SavedFault::BadK),
+        (7, b"\x80", SavedFault::TotalTooLarge),
+        (15, b"\x00\x03", SavedFault::BadCount),
+        (17, b"\x00", SavedFault::BadKey),
+        (28, b"a", SavedFault::KeyOrder),
+        (36, b"\x00", SavedFault::BadCounter),
+        (26, b"\x0b", SavedFault::SumTooLarge),
+    ];
+    for (at, field, fault) in fields {
+        is_spoiled(&rt, COUNTERS, at, field, fault)?;
+    }
+    Ok(())
+}
+
+#[test]
+fn tables_with_a_spoiled_field(rt: HostRuntime) -> Result<(), Fail> {
+    let fields: [(usize, &[u8], SavedFault); 9] = [
+        (5, b"\x00\x00\x00\x00", SavedFault::BadWidth),
+        (5, b"\x00\x01\x00\x01", SavedFault::BadWidth),
+        (9, b"\x00", SavedFault::BadDepth),
+        (9, b"\x11", SavedFault::BadDepth),
+        (16, b"\x00", SavedFault::BadCoefficient),
+        (25, b"\x00", SavedFault::BadCoefficient),
+        (
+            26,
+            b"\x1f\xff\xff\xff\xff\xff\xff\xff",
+            SavedFault::BadCoefficient,
+        ),
+        (81, b"\x06", SavedFault::RowSum),
+        (57, b"\x09", SavedFault::RowSum),
+    ];
+    for (at, field, fault) in fields {
+        is_spoiled(&rt, CELLS, at, field, fault)?;
+    }
+    Ok(())
+}
+
+#[test]
+fn files_that_end_too_early(rt: HostRuntime) -> Result<(), Fail> {
+    for file in [COUNTERS, MERGED, NO_ITEMS, CELLS] {
+        for len in 0..file.len() {
+            let fault = bad_file(2, SavedFault::Truncated);
+            is_unmerged(&rt, &[file, &file[..len]], fault)?;
+        }
+    }
+    Ok(())
+}
+
+/// Compares the fault of a file with a byte more that is merged as the second.
+fn is_trailed(rt: &(impl Abort + AllocGlobal), file: &[u8]) -> Result<(), Fail> {
+    let mut longer = file.to_vec(rt.alloc())?;
+    longer.push(0)?;
+    is_unmerged(rt, &[file, &longer], bad_file(2, SavedFault::Trailing))
+}
+
+#[test]
+fn files_with_a_byte_more(rt: HostRuntime) -> Result<(), Fail> {
+    for file in [COUNTERS, MERGED, NO_ITEMS, CELLS] {
+        is_trailed(&rt, file)?;
     }
     Ok(())
 }

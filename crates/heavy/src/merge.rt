@@ -10,13 +10,17 @@ use crate::error::{MergeCause, ToolError};
 use crate::files::file_of;
 use hh_counters::Summary;
 use hh_countmin::Table;
+use hh_countmin::laws::equal_families_are_one;
 use hh_saved::{Saved, write};
 use std::alloc::Global;
 
 /// Merges the summary of the file with this number.
 fn merge_counters(summary: &mut Summary, number: u64, other: &Summary) -> Result<(), ToolError>
-    ensures merged { OnOk result (merge_saved number (Counters summary.old) (Counters other.now) ≡ Ok (Counters summary.new)) }
-    ensures refused { IfErr result (λ fault. Refuses (merge_saved number (Counters summary.old) (Counters other.now)) fault) }
+    ensures merged { OnOk result
+        (merge_saved number (Counters summary.old) (Counters other.now)
+        ≡ Ok (Counters summary.new)) }
+    ensures refused { IfErr result (λ fault.
+        Refuses (merge_saved number (Counters summary.old) (Counters other.now)) fault) }
 {
     let cause = match summary.merge(other) {
         Ok(()) => return Ok(()),
@@ -29,9 +33,12 @@ fn merge_counters(summary: &mut Summary, number: u64, other: &Summary) -> Result
 
 /// Merges the table of the file with this number.
 fn merge_cells(table: &mut Table, number: u64, other: &Table) -> Result<(), ToolError>
-    ensures merged { OnOk result (merge_saved number (Cells table.old) (Cells other.now) ≡ Ok (Cells table.new)) }
-    ensures refused { IfErr result (λ fault. Refuses (merge_saved number (Cells table.old) (Cells other.now)) fault) }
+    ensures merged { OnOk result
+        (merge_saved number (Cells table.old) (Cells other.now) ≡ Ok (Cells table.new)) }
+    ensures refused { IfErr result (λ fault.
+        Refuses (merge_saved number (Cells table.old) (Cells other.now)) fault) }
 {
+    equal_families_are_one();
     let cause = match table.merge(other) {
         Ok(()) => return Ok(()),
         Err(hh_countmin::MergeFault::DifferentFamily) => MergeCause::DifferentFamily,
@@ -44,7 +51,8 @@ fn merge_cells(table: &mut Table, number: u64, other: &Table) -> Result<(), Tool
 /// Merges the value of the file with this number.
 fn merge_saved(merged: &mut Saved, number: u64, next: &Saved) -> Result<(), ToolError>
     ensures merged { OnOk result (merge_saved number merged.old next.now ≡ Ok merged.new) }
-    ensures refused { IfErr result (λ fault. Refuses (merge_saved number merged.old next.now) fault) }
+    ensures refused { IfErr result (λ fault.
+        Refuses (merge_saved number merged.old next.now) fault) }
 {
     match merged {
         Saved::Counters(summary) => match next {
@@ -62,7 +70,8 @@ fn merge_saved(merged: &mut Saved, number: u64, next: &Saved) -> Result<(), Tool
 fn merge_files(alloc: Global, files: &[Vec<u8>]) -> Result<Saved, ToolError>
     requires { 0 < length files.now }
     ensures merged { IfOk result (λ saved. merged_files (map vec_items files.now) ≡ Ok saved) }
-    ensures refused { IfErr result (λ fault. Refuses (merged_files (map vec_items files.now)) fault) }
+    ensures refused { IfErr result (λ fault.
+        Refuses (merged_files (map vec_items files.now)) fault) }
 {
     let mut merged = match file_of(alloc, 1, &files[0]) {
         Ok(saved) => saved,
@@ -87,12 +96,15 @@ fn merge_files(alloc: Global, files: &[Vec<u8>]) -> Result<Saved, ToolError>
 ///
 /// Files are numbered from 1. The first file that is refused is told, and why: first
 /// [`ToolError::BadFile`], its bytes are no spelling; then [`ToolError::MixedKinds`], it is a table
-/// where the first file is a summary, or the other way round; then [`ToolError::CannotMerge`], it is of
-/// another k, hash family or width than the first, or the total of the files up to it is too large.
+/// where the first file is a summary, or the other way round; then [`ToolError::CannotMerge`], it
+/// is of another k, hash family or width than the first, or the total of the files up to it is too
+/// large.
 pub fn merge_bytes(alloc: Global, files: &[Vec<u8>]) -> Result<Vec<u8>, ToolError>
     requires { 0 < length files.now }
-    ensures merged { IfOk result (λ bytes. (saved : Saved) × (merged_files (map vec_items files.now) ≡ Ok saved) × Spells bytes.items saved) }
-    ensures refused { IfErr result (λ fault. Refuses (merged_files (map vec_items files.now)) fault) }
+    ensures merged { IfOk result (λ bytes. (saved : Saved)
+        × (merged_files (map vec_items files.now) ≡ Ok saved) × Spells bytes.items saved) }
+    ensures refused { IfErr result (λ fault.
+        Refuses (merged_files (map vec_items files.now)) fault) }
 {
     let saved = match merge_files(alloc, files) {
         Ok(saved) => saved,

@@ -61,7 +61,9 @@ enum RecordFault {
 
 /// The weight that 1 to 20 digits write, at most the largest `u64`.
 fn weight_in(field: &[u8]) -> Option<u64>
-    ensures { MatchOption result (is_weight field.now ≡ false) (λ weight. (is_weight field.now ≡ true) × (weight ≡ min (value_of field.now) u64.MAX)) }
+    ensures { MatchOption result
+        (is_weight field.now ≡ false)
+        (λ weight. (is_weight field.now ≡ true) × (weight ≡ min (value_of field.now) u64.MAX)) }
 {
     if field.is_empty() || field.len() > 20 {
         return None;
@@ -78,7 +80,8 @@ fn weight_in(field: &[u8]) -> Option<u64>
 
 /// The key and the weight's field of a record of one or two fields.
 fn parts_of(row: &ByteRecord) -> Option<(&[u8], Option<&[u8]>)>
-    ensures { option_map (λ parts. (parts.0.now, option_map (λ field. field.now) parts.1)) result ≡ parts_of (fields_of row.now) }
+    ensures { option_map (λ parts. (parts.0.now, option_map (λ field. field.now) parts.1)) result
+        ≡ parts_of (fields_of row.now) }
 {
     if row.len() == 0 || row.len() > 2 {
         return None;
@@ -91,10 +94,13 @@ fn parts_of(row: &ByteRecord) -> Option<(&[u8], Option<&[u8]>)>
 
 /// Adds the item of a record to a stream.
 fn add_record(alloc: Global, stream: &mut Stream, row: &ByteRecord) -> Result<(), RecordFault>
-    ensures added { OnOk result ((item : Entry) × (judged (total_of stream.old) (fields_of row.now) ≡ Ok item) × (stream.new ≡ stream.old ++ item ∷ [])) }
+    ensures added { OnOk result ((item : Entry)
+        × (judged (total_of stream.old) (fields_of row.now) ≡ Ok item)
+        × (stream.new ≡ stream.old ++ item ∷ [])) }
     ensures grows { OnOk result (total_of stream.old < total_of stream.new) }
     ensures bounded { OnOk result (total_of stream.new ≤ max_total) }
-    ensures refused { IfErr result (λ fault. RecordRefused (total_of stream.old) (fields_of row.now) fault) }
+    ensures refused { IfErr result (λ fault.
+        RecordRefused (total_of stream.old) (fields_of row.now) fault) }
 {
     let Some((key, field)) = parts_of(row) else {
         return Err(RecordFault::Bad(BadRecordCause::FieldCount));
@@ -132,13 +138,15 @@ fn numbered(number: u64, fault: RecordFault) -> ReadError
     }
 }
 
-/// The stream of a text of records, each a key and, after a comma, its weight. A record of one field
-/// has weight 1. Records are what `csv` reads: there is no header row, fields may be quoted, and a key
-/// may be any 1 to 255 bytes.
+/// The stream of a text of records, each a key and, after a comma, its weight. A record of one
+/// field has weight 1. Records are what `csv` reads: there is no header row, fields may be quoted,
+/// and a key may be any 1 to 255 bytes.
 ///
-/// The first record that fails a test ends the reading: its number, from 1 on, and the cause are told.
+/// The first record that fails a test ends the reading: its number, from 1 on, and the cause are
+/// told.
 pub fn read_stream<R: Read + Drop>(alloc: Global, reader: R) -> Result<Stream, ReadError>
-    ensures stream { IfOk result (λ stream. IfSome (R.remaining reader) (λ text. stream_of text ≡ Ok stream)) }
+    ensures stream { IfOk result (λ stream.
+        IfSome (R.remaining reader) (λ text. stream_of text ≡ Ok stream)) }
     ensures refused { IfErr result (λ error. ReadRefused (R.remaining reader) error) }
 {
     let mut records = ReaderBuilder::new()

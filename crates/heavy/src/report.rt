@@ -58,7 +58,9 @@ pub(crate) fn in_range(number: u64, most: u64) -> bool
 
 /// Tests the options, but for the tree.
 fn check_options(options: &ReportOptions) -> Result<(), ToolError>
-    ensures { MatchResult result (λ _. bad_option options.now ≡ None) (λ fault. bad_option options.now ≡ Some fault) }
+    ensures { MatchResult result
+        (λ _. bad_option options.now ≡ None)
+        (λ fault. bad_option options.now ≡ Some fault) }
 {
     if !in_range(options.depth, MAX_DEPTH) {
         return Err(ToolError::BadDepth);
@@ -91,7 +93,8 @@ fn plan_of(alloc: Global, tree: &Tree, pieces: usize) -> Result<Plan, NoPlan>
     requires few { pieces ≤ MAX_PIECES }
     ensures pieces { IfOk result (λ plan. length (leaves plan) ≡ pieces) }
     ensures tree { OnOk result (IsTree tree.now pieces) }
-    ensures refused { (fault : TreeFault) → result ≡ Err (NoPlan.Bad fault) → TreeRefused tree.now pieces fault }
+    ensures refused { (fault : TreeFault) → result ≡ Err (NoPlan.Bad fault)
+        → TreeRefused tree.now pieces fault }
 {
     match tree {
         Tree::Chain => Plan::chain(alloc, pieces).map_err(|_| NoPlan::Memory),
@@ -166,13 +169,13 @@ pub(crate) fn read_fault(error: ReadError) -> ToolError
     }
 }
 
-/// Reads records as [`read_stream`](crate::read_stream) does, and writes the report of their stream:
-/// exactly the keys whose weight is more than the total divided by k + 1, with their true weights, by
-/// falling weight and then by rising key. The stream is cut evenly and analysed by workers in threads
-/// of their own; the report is the same for all other options.
+/// Reads records as [`read_stream`](crate::read_stream) does, and writes the report of their
+/// stream: exactly the keys whose weight is more than the total divided by k + 1, with their true
+/// weights, by falling weight and then by rising key. The stream is cut evenly and analysed by
+/// workers in threads of their own; the report is the same for all other options.
 ///
-/// The options are tested before anything is read, in the order depth, k, workers, width, pieces and
-/// tree. A refusal other than [`ToolError::WriteFault`] has written nothing.
+/// The options are tested before anything is read, in the order depth, k, workers, width, pieces
+/// and tree. A refusal other than [`ToolError::WriteFault`] has written nothing.
 pub fn run_report<T: Threads + Wait + Sync, R: Read + Drop, S: Sink>(
     rt: &T,
     alloc: Global,
@@ -181,8 +184,11 @@ pub fn run_report<T: Threads + Wait + Sync, R: Read + Drop, S: Sink>(
     sink: &mut S,
 ) -> Result<(), ToolError>
     requires { S.has_failed sink.old ≡ false }
-    ensures reported { OnOk result (IsReported options.now (R.remaining reader) (S.taken sink.old) (S.taken sink.new)) }
-    ensures refused { IfErr result (λ fault. ReportRefused options.now (R.remaining reader) (S.taken sink.old) (S.taken sink.new) fault) }
+    ensures reported { OnOk result
+        (IsReported options.now (R.remaining reader) (S.taken sink.old) (S.taken sink.new)) }
+    ensures refused { IfErr result (λ fault.
+        ReportRefused options.now (R.remaining reader)
+        (S.taken sink.old) (S.taken sink.new) fault) }
     ensures bad_option { IfSome (bad_option options.now) (λ fault. result ≡ Err fault) }
     ensures failed { S.has_failed sink.new ≡ failed_by result }
 {

@@ -16,7 +16,10 @@ use std::alloc::{AllocError, Global};
 fn write_row(writer: &mut Writer<Vec<u8>>, row: &Heavy) -> Result<(), AllocError>
     requires { IsBetweenRows writer.old }
     ensures between { OnOk result (IsBetweenRows writer.new) }
-    ensures text { OnOk result (Appends (text_written (λ text. Some text.items) writer.old) (text_written (λ text. Some text.items) writer.new) (row_of row.now)) }
+    ensures text { OnOk result (Appends
+        (text_written (λ text. Some text.items) writer.old)
+        (text_written (λ text. Some text.items) writer.new)
+        (row_of row.now)) }
 {
     let mut digits = Buffer::new();
     let weight = digits.format(row.weight).as_bytes();
@@ -53,7 +56,8 @@ pub enum ReportFault {
 pub fn write_report<S: Sink>(alloc: Global, sink: &mut S, rows: &[Heavy]) -> Result<(), ReportFault>
     requires { S.has_failed sink.old ≡ false }
     ensures all { OnOk result (Appends (S.taken sink.old) (S.taken sink.new) (rows_of rows.now)) }
-    ensures refused { IfErr result (λ fault. RowsRefused rows.now (S.taken sink.old) (S.taken sink.new) fault) }
+    ensures refused { IfErr result (λ fault.
+        RowsRefused rows.now (S.taken sink.old) (S.taken sink.new) fault) }
     ensures failed { S.has_failed sink.new ≡ is_write_fault result }
 {
     let Ok(text) = report_text(alloc, rows) else {

@@ -87,7 +87,8 @@ pub fn summary_bytes<R: Read + Drop>(
     method: Method,
     reader: R,
 ) -> Result<Vec<u8>, ToolError>
-    ensures saved { IfOk result (λ bytes. IfSome (R.remaining reader) (λ text. SavesStream (λ xs. Counters (sketch_of k xs)) text bytes.items)) }
+    ensures saved { IfOk result (λ bytes. IfSome (R.remaining reader) (λ text.
+        SavesStream (λ xs. Counters (sketch_of k xs)) text bytes.items)) }
     ensures refused { IfErr result (λ fault. RefusedAfter (bad_k k) (R.remaining reader) fault) }
     ensures bad_k { IfSome (bad_k k) (λ fault. result ≡ Err fault) }
 {
@@ -146,8 +147,10 @@ pub fn table_bytes<R: Read + Drop>(
     seed: u64,
     reader: R,
 ) -> Result<Vec<u8>, ToolError>
-    ensures saved { IfOk result (λ bytes. IfSome (R.remaining reader) (λ text. SavesStream (λ xs. Cells (table_of (drawn_family seed depth) width xs)) text bytes.items)) }
-    ensures refused { IfErr result (λ fault. RefusedAfter (bad_table depth width) (R.remaining reader) fault) }
+    ensures saved { IfOk result (λ bytes. IfSome (R.remaining reader) (λ text.
+        SavesStream (λ xs. Cells (table_of (drawn_family seed depth) width xs)) text bytes.items)) }
+    ensures refused { IfErr result (λ fault.
+        RefusedAfter (bad_table depth width) (R.remaining reader) fault) }
     ensures bad_table { IfSome (bad_table depth width) (λ fault. result ≡ Err fault) }
 {
     if !in_range(depth, MAX_DEPTH) {
@@ -168,14 +171,15 @@ pub fn table_bytes<R: Read + Drop>(
     saved_bytes(alloc, &Saved::Cells(table))
 }
 
-/// The report text of the saved summary's keys that are heavy in the stream of the reader's records,
-/// as [`confirm`](crate::confirm) finds them.
+/// The report text of the saved summary's keys that are heavy in the stream of the reader's
+/// records, as [`confirm`](crate::confirm) finds them.
 pub fn confirm_bytes<R: Read + Drop>(
     alloc: Global,
     file: &[u8],
     reader: R,
 ) -> Result<Vec<u8>, ToolError>
-    ensures rows { IfOk result (λ rows. IfSome (R.remaining reader) (λ text. ConfirmsRows file.now text rows.items)) }
+    ensures rows { IfOk result (λ rows.
+        IfSome (R.remaining reader) (λ text. ConfirmsRows file.now text rows.items)) }
     ensures refused { IfErr result (λ fault. ConfirmRefused file.now (R.remaining reader) fault) }
 {
     let summary = match read(alloc, file) {

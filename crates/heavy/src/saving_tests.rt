@@ -1,15 +1,23 @@
 //! The worked rows on saved summaries and tables.
 
-use crate::{Method, ToolError, confirm_bytes, summary_bytes, table_bytes};
-use hh_saved::{Saved, read};
+use crate::saved_examples::{CELLS, COUNTERS, NO_ITEMS};
+use crate::tests::Broken;
+use crate::{BadRecordCause, Method, ToolError, confirm_bytes, summary_bytes, table_bytes};
+use hh_countmin::{Family, Table};
+use hh_saved::{Saved, SavedFault, read};
 use hh_stream::Key;
+use std::process::Abort;
 use std::test::Fail;
 
 const RECORDS: &[u8] = b"a,5\nb,3\nc,2\na,1\n";
 
-/// The summary of k = 2 with total 11 and the counters a 4, b 1.
-const SUMMARY: [u8; 37] =
-    *b"HHS1\x01\x00\x02\x00\x00\x00\x00\x00\x00\x00\x0b\x00\x02\x01a\x00\x00\x00\x00\x00\x00\x00\x04\x01b\x00\x00\x00\x00\x00\x00\x00\x01";
+// A record with a weight of 0, which no command reads before its other tests.
+const BAD: &[u8] = b"a,0\n";
+
+const BAD_RECORD: ToolError = ToolError::BadRecord {
+    number: 1,
+    cause: BadRecordCause::ZeroWeight,
+};
 
 #[test]
 fn both_methods_save_one_summary(rt: HostRuntime) -> Result<(), Fail> {
@@ -18,16 +26,45 @@ fn both_methods_save_one_summary(rt: HostRuntime) -> Result<(), Fail> {
         let method = Method::of(word)?;
         assert_eq!(rt;
             summary_bytes(alloc, 2, method, RECORDS)?.as_slice(),
-            SUMMARY.as_slice()
+            COUNTERS
         );
         assert_eq!(rt;
-            summary_bytes(alloc, 0, method, b"a,0\n".as_slice()).err(),
-            Some(ToolError::BadK)
+            summary_bytes(alloc, 2, method, b"".as_slice())?.as_slice(),
+            NO_ITEMS
         );
     }
-    assert_eq!(rt; Method::of(b"x").err(), Some(ToolError::BadMethod));
-    assert_eq!(rt; ToolError::BadMethod.status(), 2);
     Ok(())
+}
+
+#[test]
+fn words_that_name_no_method(rt: HostRuntime) {
+    for word in [b"x".as_slice(), b"", b"m", b"mgs", b"SS"] {
+        assert_eq!(rt; Method::of(word).err(), Some(ToolError::BadMethod));
+    }
+}
+
+#[test]
+fn summaries_that_are_not_saved(rt: HostRuntime) {
+    let tests: [(u64, &[u8], ToolError); 4] = [
+        (0, BAD, ToolError::BadK),
+        (65_536, BAD, ToolError::BadK),
+        (1, BAD, BAD_RECORD),
+        (65_535, BAD, BAD_RECORD),
+    ];
+    for (k, text, fault) in tests {
+        let refused = summary_bytes(rt.alloc(), k, Method::MisraGries, text);
+        assert_eq!(rt; refused.err(), Some(fault));
+    }
+    let refused = summary_bytes(rt.alloc(), 2, Method::SpaceSaving, Broken);
+    assert_eq!(rt; refused.err(), Some(ToolError::ReadFault));
+}
+
+/// The table that a file spells.
+fn table_in(rt: &(impl Abort + AllocGlobal), file: &[u8]) -> Result<Table, Fail> {
+    match read(rt.alloc(), file)? {
+        Saved::Cells(table) => Ok(table),
+        Saved::Counters(_) => panic!(rt; "not a table"),
+    }
 }
 
 #[test]
@@ -35,38 +72,55 @@ fn saved_table_is_read_back(rt: HostRuntime) -> Result<(), Fail> {
     let alloc = rt.alloc();
     let bytes = table_bytes(alloc, 4, 2, 7, b"a,5\ne,2\nb,1\n".as_slice())?;
     assert_eq!(rt; bytes.len(), 122);
-    let Saved::Cells(table) = read(alloc, &bytes)? else {
-        panic!(rt; "not a table");
-    };
-    assert_eq!(rt; table.width(), 4);
-    assert_eq!(rt; table.total(), 8);
-    assert_eq!(rt; table.family().z(), 9_351_779_398_707_216);
+    let table = table_in(&rt, &bytes)?;
+    assert_eq!(rt; (table.width(), table.total()), (4, 8));
+    assert!(rt; *table.family() == Family::draw(alloc, 7, 2)?);
     for (word, weight) in [(b"a", 5), (b"e", 2), (b"b", 1)] {
         assert!(rt; table.estimate(&Key::new(alloc, word)?) >= weight);
     }
-    let refused = table_bytes(alloc, 0, 0, 7, RECORDS).err();
-    assert_eq!(rt; refused, Some(ToolError::BadDepth));
-    let refused = table_bytes(alloc, 0, 1, 7, RECORDS).err();
-    assert_eq!(rt; refused, Some(ToolError::BadWidth));
     Ok(())
 }
 
 #[test]
+fn tables_that_are_not_saved(rt: HostRuntime) {
+    let tests = [
+        (0, 0, ToolError::BadDepth),
+        (0, 17, ToolError::BadDepth),
+        (0, 16, ToolError::BadWidth),
+        (65_537, 1, ToolError::BadWidth),
+        (65_536, 1, BAD_RECORD),
+        (1, 16, BAD_RECORD),
+    ];
+    for (width, depth, fault) in tests {
+        let refused = table_bytes(rt.alloc(), width, depth, 7, BAD);
+        assert_eq!(rt; refused.err(), Some(fault));
+    }
+    let refused = table_bytes(rt.alloc(), 4, 2, 7, Broken);
+    assert_eq!(rt; refused.err(), Some(ToolError::ReadFault));
+}
+
+#[test]
 fn saved_summary_is_confirmed(rt: HostRuntime) -> Result<(), Fail> {
-    let alloc = rt.alloc();
-    assert_eq!(rt;
-        confirm_bytes(alloc, &SUMMARY, RECORDS)?.as_slice(),
-        b"a,6\n".as_slice()
-    );
-    let other = b"a,5\n".as_slice();
-    assert_eq!(rt;
-        confirm_bytes(alloc, &SUMMARY, other).err(),
-        Some(ToolError::TotalDiffers)
-    );
-    let table = table_bytes(alloc, 4, 2, 7, other)?;
-    assert_eq!(rt;
-        confirm_bytes(alloc, &table, other).err(),
-        Some(ToolError::NotCounters)
-    );
+    let rows = confirm_bytes(rt.alloc(), COUNTERS, RECORDS)?;
+    assert_eq!(rt; rows.as_slice(), b"a,6\n".as_slice());
+    let rows = confirm_bytes(rt.alloc(), NO_ITEMS, b"".as_slice())?;
+    assert!(rt; rows.is_empty());
     Ok(())
+}
+
+#[test]
+fn files_that_are_not_confirmed(rt: HostRuntime) {
+    let number = 1;
+    let fault = SavedFault::BadKind;
+    let tests: [(&[u8], &[u8], ToolError); 4] = [
+        (b"HHS1\x03", BAD, ToolError::BadFile { number, fault }),
+        (CELLS, BAD, ToolError::NotCounters),
+        (COUNTERS, BAD, BAD_RECORD),
+        (COUNTERS, b"a,5\n", ToolError::TotalDiffers),
+    ];
+    for (file, text, fault) in tests {
+        assert_eq!(rt; confirm_bytes(rt.alloc(), file, text).err(), Some(fault));
+    }
+    let refused = confirm_bytes(rt.alloc(), COUNTERS, Broken);
+    assert_eq!(rt; refused.err(), Some(ToolError::ReadFault));
 }

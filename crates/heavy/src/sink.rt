@@ -22,7 +22,8 @@ pub trait Sink {
     fn take(&mut self, bytes: &[u8]) -> Result<usize, SinkFault>
         ensures count { IfOk result (λ count. count ≤ length bytes.now) }
         ensures takes { WriteAppends (taken self.old) (taken self.new) result bytes.now }
-        ensures fails { has_failed self.new ≡ (has_failed self.old || take_fails result bytes.now) };
+        ensures fails { has_failed self.new
+            ≡ (has_failed self.old || take_fails result bytes.now) };
 
     /// Hands on what was taken. It takes no byte, whatever it answers.
     fn flush(&mut self) -> Result<(), SinkFault>
@@ -102,7 +103,8 @@ pub struct WriteFault {
 pub fn put<S: Sink>(sink: &mut S, bytes: &[u8]) -> Result<(), WriteFault>
     requires { S.has_failed sink.old ≡ false }
     ensures all { OnOk result (Appends (S.taken sink.old) (S.taken sink.new) bytes.now) }
-    ensures part { IfErr result (λ fault. TakesFirst (S.taken sink.old) (S.taken sink.new) bytes.now fault.written) }
+    ensures part { IfErr result (λ fault.
+        TakesFirst (S.taken sink.old) (S.taken sink.new) bytes.now fault.written) }
     ensures within { IfErr result (λ fault. fault.written ≤ length bytes.now) }
     ensures failed { is_err result ≡ S.has_failed sink.new }
 {

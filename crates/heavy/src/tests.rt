@@ -1,25 +1,22 @@
-//! The worked rows on records, reports and sinks, and what no clause says.
+//! The worked rows on records, rows, sinks and confirmed summaries, and what no clause says.
 
 use crate::{
-    BadRecordCause, ConfirmFault, Heavy, Out, ReadError, ReportFault, ReportOptions, Sink,
-    ToolError, Tree, TreeFault, WriteFault, confirm, put, read_stream, report_text, run_report,
-    write_report,
+    BadRecordCause, ConfirmFault, Heavy, Out, ReadError, ReportFault, Sink, WriteFault, confirm,
+    put, read_stream, report_text, write_report,
 };
 use hh_counters::Summary;
-use hh_stream::Key;
+use hh_stream::{Key, Stream};
 use std::io;
 use std::io::{Read, Write};
 use std::process::Abort;
-use std::sync::Wait;
 use std::test::Fail;
-use std::thread::Threads;
 
 /// A writer that takes at most so many bytes in all, and then fails.
 #[derive(Drop)]
-struct Short<'a> {
-    left: usize,
-    taken: &'a mut Vec<u8>,
-    flushes: bool,
+pub(crate) struct Short<'a> {
+    pub(crate) left: usize,
+    pub(crate) taken: &'a mut Vec<u8>,
+    pub(crate) flushes: bool,
 }
 
 impl Write for Short<'_> {
@@ -44,7 +41,7 @@ impl Write for Short<'_> {
 
 /// A reader that fails.
 #[derive(Drop)]
-struct Broken;
+pub(crate) struct Broken;
 
 impl Read for Broken {
     fn read(&mut self, _buf: &mut [u8]) -> io::Result<usize> {
@@ -64,16 +61,12 @@ fn put_stops_where_the_writer_fails(rt: HostRuntime) -> Result<(), Fail> {
         let done = put(&mut out, b"12345");
         let failed = out.failed();
         drop(out);
-        assert_eq!(rt; taken.len() as u64, written);
+        assert_eq!(rt; taken.as_slice(), &b"12345"[..written]);
         assert_eq!(rt; failed, left < 5 || !flushes);
-        assert_eq!(rt;
-            done.err(),
-            if failed {
-                Some(WriteFault { written })
-            } else {
-                None
-            }
-        );
+        let fault = WriteFault {
+            written: written as u64,
+        };
+        assert_eq!(rt; done.err(), if failed { Some(fault) } else { None });
     }
     Ok(())
 }
@@ -100,47 +93,68 @@ fn write_report_of_one_row(rt: HostRuntime) -> Result<(), Fail> {
     Ok(())
 }
 
+/// Compares how the reading of a text ends with a record's number and cause.
+fn is_refused(rt: &(impl Abort + AllocGlobal), text: &[u8], number: u64, cause: BadRecordCause) {
+    assert_eq!(rt;
+        read_stream(rt.alloc(), text).err(),
+        Some(ReadError::BadRecord { number, cause })
+    );
+}
+
 #[test]
-fn refused_records(rt: HostRuntime) -> Result<(), Fail> {
-    let alloc = rt.alloc();
-    let mut long = vec![in alloc; b'x'; 256]?;
-    long.push(b'\n')?;
-    let texts: [(&[u8], u64, BadRecordCause); 11] = [
-        (b"a,0\n", 1, BadRecordCause::ZeroWeight),
-        (b",4\n", 1, BadRecordCause::EmptyKey),
-        (&long, 1, BadRecordCause::KeyTooLong),
-        (b"a,1,2\n", 1, BadRecordCause::FieldCount),
-        (b"a,-1\n", 1, BadRecordCause::BadWeight),
-        (b"a,\n", 1, BadRecordCause::BadWeight),
+fn a_record_that_fails_a_test(rt: HostRuntime) {
+    let texts: [(&[u8], BadRecordCause); 9] = [
+        (b"a,0\n", BadRecordCause::ZeroWeight),
+        (b",4\n", BadRecordCause::EmptyKey),
+        (b"a,1,2\n", BadRecordCause::FieldCount),
+        (b"a,-1\n", BadRecordCause::BadWeight),
+        (b"a,\n", BadRecordCause::BadWeight),
+        (b"a,99999999999999999999\n", BadRecordCause::TotalTooLarge),
+        (b"a,9223372036854775808\n", BadRecordCause::TotalTooLarge),
+        (b",x\n", BadRecordCause::EmptyKey),
+        (b",,\n", BadRecordCause::FieldCount),
+    ];
+    for (text, cause) in texts {
+        is_refused(&rt, text, 1, cause);
+    }
+}
+
+#[test]
+fn a_later_record_that_fails_a_test(rt: HostRuntime) {
+    let texts: [(&[u8], u64, BadRecordCause); 3] = [
         (
             b"a,1\nb,000000000000000000001\n",
             2,
             BadRecordCause::BadWeight,
         ),
         (
-            b"a,99999999999999999999\n",
-            1,
-            BadRecordCause::TotalTooLarge,
-        ),
-        (
             b"x,9223372036854775807\ny,1\n",
             2,
             BadRecordCause::TotalTooLarge,
         ),
-        (b",x\n", 1, BadRecordCause::EmptyKey),
         (b"a\nb,2\nc,1x\n,\n", 3, BadRecordCause::BadWeight),
     ];
     for (text, number, cause) in texts {
-        assert_eq!(rt;
-            read_stream(alloc, text).err(),
-            Some(ReadError::BadRecord { number, cause })
-        );
+        is_refused(&rt, text, number, cause);
     }
+}
+
+#[test]
+fn keys_have_at_most_255_bytes(rt: HostRuntime) -> Result<(), Fail> {
+    let mut text = vec![in rt.alloc(); b'x'; 255]?;
+    let stream = read_stream(rt.alloc(), text.as_slice())?;
+    assert_eq!(rt; (stream.len(), stream.total()), (1, 1));
+    text.push(b'x')?;
+    is_refused(&rt, &text, 1, BadRecordCause::KeyTooLong);
+    Ok(())
+}
+
+#[test]
+fn a_reader_that_fails(rt: HostRuntime) {
     assert_eq!(rt;
-        read_stream(alloc, Broken).err(),
+        read_stream(rt.alloc(), Broken).err(),
         Some(ReadError::ReadFault)
     );
-    Ok(())
 }
 
 #[test]
@@ -151,144 +165,8 @@ fn records_of_one_field_weigh_one(rt: HostRuntime) -> Result<(), Fail> {
     Ok(())
 }
 
-/// The options that the program takes where none are given, and k.
-fn options(k: u64) -> ReportOptions {
-    ReportOptions {
-        k,
-        workers: 4,
-        pieces: 4,
-        tree: Tree::Balanced,
-        width: 1024,
-        depth: 4,
-        seed: 0,
-    }
-}
-
-/// What a report of a text writes, where the writer takes so many bytes, and the refusal.
-fn report_of(
-    rt: &(impl Abort + AllocGlobal + Threads + Wait + Sync),
-    options: &ReportOptions,
-    text: &[u8],
-    left: usize,
-) -> (Vec<u8>, Option<ToolError>) {
-    let mut taken = Vec::new(rt.alloc());
-    let mut out = Out::new(Short {
-        left,
-        taken: &mut taken,
-        flushes: true,
-    });
-    let fault = run_report(rt, rt.alloc(), options, text, &mut out).err();
-    drop(out);
-    (taken, fault)
-}
-
 #[test]
-fn reports_of_texts(rt: HostRuntime) {
-    let texts: [(&[u8], u64, &[u8]); 8] = [
-        (b"", 2, b""),
-        (b"a,5\nb,3\nc,2\na,1\n", 2, b"a,6\n"),
-        (b"a\nb\nc\n", 2, b""),
-        (b"a\nb\nb\n", 2, b"b,2\n"),
-        (b"x,9223372036854775807\n", 2, b"x,9223372036854775807\n"),
-        (b"\"a,b\",3\n", 1, b"\"a,b\",3\n"),
-        (b"b,2\na,2\n", 3, b"a,2\nb,2\n"),
-        (b"a\nb\na\n", 1, b"a,2\n"),
-    ];
-    for (text, k, report) in texts {
-        let (taken, fault) = report_of(&rt, &options(k), text, 99);
-        assert_eq!(rt; taken.as_slice(), report);
-        assert_eq!(rt; fault, None);
-    }
-}
-
-#[test]
-fn refused_reports(rt: HostRuntime) {
-    let text = b"a,5\nb,3\nc,2\na,1\n".as_slice();
-    let number = 2;
-    let cause = BadRecordCause::TotalTooLarge;
-    let runs: [(u64, &[u8], usize, ToolError, &[u8]); 4] = [
-        (0, text, 9, ToolError::BadK, b""),
-        (65_536, b"a,0\n", 9, ToolError::BadK, b""),
-        (
-            2,
-            b"x,9223372036854775807\ny,1\n",
-            9,
-            ToolError::BadRecord { number, cause },
-            b"",
-        ),
-        (2, text, 2, ToolError::WriteFault { written: 2 }, b"a,"),
-    ];
-    for (k, text, left, fault, written) in runs {
-        let (taken, refusal) = report_of(&rt, &options(k), text, left);
-        assert_eq!(rt; refusal, Some(fault));
-        assert_eq!(rt; taken.as_slice(), written);
-    }
-}
-
-#[test]
-fn every_way_gives_one_report(rt: HostRuntime) -> Result<(), Fail> {
-    let text = b"a,5\nb,3\nc,2\na,1\n".as_slice();
-    for (pieces, workers) in [(1, 1), (1, 4), (2, 1), (2, 4), (7, 1), (7, 4)] {
-        for tree in [Tree::Chain, Tree::Balanced] {
-            let mut options = options(2);
-            options.pieces = pieces;
-            options.workers = workers;
-            options.tree = tree;
-            let (taken, fault) = report_of(&rt, &options, text, 99);
-            assert_eq!(rt; taken.as_slice(), b"a,6\n".as_slice());
-            assert_eq!(rt; fault, None);
-        }
-    }
-    let mut options = options(1);
-    options.pieces = 3;
-    options.tree = Tree::Text(b"(0 (1 2))".to_vec(rt.alloc())?);
-    let (taken, fault) = report_of(&rt, &options, b"a,2\nb,1\nc,1\n", 99);
-    assert_eq!(rt; taken.len(), 0);
-    assert_eq!(rt; fault, None);
-    Ok(())
-}
-
-#[test]
-fn options_are_tested_in_order(rt: HostRuntime) -> Result<(), Fail> {
-    let mut options = ReportOptions {
-        k: 0,
-        workers: 65,
-        pieces: 1025,
-        tree: Tree::Text(b"(0 1)".to_vec(rt.alloc())?),
-        width: 65_537,
-        depth: 17,
-        seed: 0,
-    };
-    let text = b"a,0\n".as_slice();
-    assert_eq!(rt;
-        report_of(&rt, &options, text, 9).1,
-        Some(ToolError::BadDepth)
-    );
-    options.depth = 16;
-    assert_eq!(rt; report_of(&rt, &options, text, 9).1, Some(ToolError::BadK));
-    options.k = 65_535;
-    assert_eq!(rt;
-        report_of(&rt, &options, text, 9).1,
-        Some(ToolError::BadWorkers)
-    );
-    options.workers = 1;
-    assert_eq!(rt;
-        report_of(&rt, &options, text, 9).1,
-        Some(ToolError::BadWidth)
-    );
-    options.width = 1;
-    assert_eq!(rt;
-        report_of(&rt, &options, text, 9).1,
-        Some(ToolError::BadPieces)
-    );
-    options.pieces = 3;
-    let missing = ToolError::BadTree(TreeFault::MissingPiece(2));
-    assert_eq!(rt; report_of(&rt, &options, text, 9).1, Some(missing));
-    Ok(())
-}
-
-#[test]
-fn confirmed_keys_of_a_summary(rt: HostRuntime) -> Result<(), Fail> {
+fn a_summary_confirmed_by_its_stream(rt: HostRuntime) -> Result<(), Fail> {
     let alloc = rt.alloc();
     let stream = read_stream(alloc, b"a,5\nb,3\nc,2\na,1\n".as_slice())?;
     let summary = Summary::of_items(alloc, 2, stream.items())?;
@@ -299,69 +177,31 @@ fn confirmed_keys_of_a_summary(rt: HostRuntime) -> Result<(), Fail> {
         confirm(alloc, &summary, &other).err(),
         Some(ConfirmFault::TotalDiffers)
     );
-    let mut entries = Vec::new(alloc);
-    entries.push((Key::new(alloc, b"b")?, 2))?;
-    assert!(rt; Summary::fits(2, 5, &entries));
-    let stranger = Summary::from_entries(2, 5, entries);
-    assert_eq!(rt; confirm(alloc, &stranger, &other)?.len(), 0);
     Ok(())
 }
 
 #[test]
-fn texts_and_statuses_of_faults(rt: HostRuntime) -> Result<(), Fail> {
-    let cause = BadRecordCause::TotalTooLarge;
-    let faults = [
-        (ToolError::BadDepth, "depth must be 1 to 16", 2),
-        (ToolError::BadK, "k must be 1 to 65535", 2),
-        (ToolError::BadWorkers, "workers must be 1 to 64", 2),
-        (ToolError::BadWidth, "width must be 1 to 65536", 2),
-        (ToolError::BadPieces, "pieces must be 1 to 1024", 2),
-        (
-            ToolError::BadTree(TreeFault::Syntax(3)),
-            "tree: syntax at byte 3",
-            2,
-        ),
-        (
-            ToolError::BadTree(TreeFault::UnknownPiece(3)),
-            "tree: no piece 3",
-            2,
-        ),
-        (
-            ToolError::BadTree(TreeFault::RepeatedPiece(1)),
-            "tree: piece 1 twice",
-            2,
-        ),
-        (
-            ToolError::BadTree(TreeFault::MissingPiece(2)),
-            "tree: piece 2 missing",
-            2,
-        ),
-        (ToolError::ReadFault, "input could not be read", 1),
-        (
-            ToolError::BadRecord { number: 2, cause },
-            "record 2: total too large",
-            3,
-        ),
-        (
-            ToolError::WriteFault { written: 3 },
-            "output could not be written",
-            1,
-        ),
-        (ToolError::Memory, "out of memory", 4),
-    ];
-    for (fault, text, status) in faults {
-        assert_eq!(rt; fault.to_string(rt.alloc())?.as_str(), text);
-        assert_eq!(rt; fault.status(), status);
+fn a_summary_without_the_heavy_key(rt: HostRuntime) -> Result<(), Fail> {
+    let alloc = rt.alloc();
+    let mut entries = Vec::new(alloc);
+    entries.push((Key::new(alloc, b"b")?, 2))?;
+    assert!(rt; Summary::fits(2, 5, &entries));
+    let stranger = Summary::from_entries(2, 5, entries);
+    let stream = read_stream(alloc, b"a,5\n".as_slice())?;
+    assert_eq!(rt; confirm(alloc, &stranger, &stream)?.len(), 0);
+    Ok(())
+}
+
+// Each third key takes the counters of the two before it away.
+#[test]
+fn many_keys_of_weight_one(rt: HostRuntime) -> Result<(), Fail> {
+    let alloc = rt.alloc();
+    let mut stream = Stream::new(alloc);
+    for number in 0..20_000u32 {
+        stream.push(Key::new(alloc, &number.to_be_bytes())?, 1)?;
     }
-    let causes = [
-        (BadRecordCause::FieldCount, "wrong number of fields"),
-        (BadRecordCause::EmptyKey, "empty key"),
-        (BadRecordCause::KeyTooLong, "key too long"),
-        (BadRecordCause::BadWeight, "bad weight"),
-        (BadRecordCause::ZeroWeight, "zero weight"),
-    ];
-    for (cause, text) in causes {
-        assert_eq!(rt; cause.to_string(rt.alloc())?.as_str(), text);
-    }
+    let summary = Summary::of_items(alloc, 2, stream.items())?;
+    assert_eq!(rt; (stream.len(), summary.len()), (20_000, 2));
+    assert_eq!(rt; confirm(alloc, &summary, &stream)?.len(), 0);
     Ok(())
 }
