@@ -199,6 +199,3 @@ pub fn analyse<R: Threads + Wait + Sync, G: Gate + Sync>(
         Err(AllocError) => Err(RunError::Memory),
     }
 }
-
-#[cfg(test)]
-mod tests;

@@ -10,8 +10,6 @@ mod options;
 mod outcome;
 mod pass;
 mod plan;
-#[cfg(test)]
-mod plan_tests;
 mod reading;
 mod second;
 mod workers;

@@ -1,7 +1,7 @@
 //! The worked rows on plans and on summaries merged by them.
 
-use crate::{Plan, PlanFault, merge_by};
 use hh_counters::{MergeFault, Summary};
+use hh_pool::{Plan, PlanFault, merge_by};
 use hh_stream::Key;
 use std::process::Abort;
 use std::test::Fail;
@@ -75,41 +75,33 @@ fn pieces(rt: &(impl Abort + AllocGlobal), count: usize) -> Vec<Summary> {
     summaries
 }
 
+// What the merge of the pieces by a plan has: how many counters, those of a and d, the total and the
+// slack.
+fn merge_of(
+    rt: &(impl Abort + AllocGlobal),
+    plan: &Plan,
+) -> Result<(usize, u64, u64, u64, u64), Fail> {
+    let summary = merged(rt, plan, pieces(rt, plan.count()))?;
+    let a = summary.get(&Key::new(rt.alloc(), b"a")?);
+    let d = summary.get(&Key::new(rt.alloc(), b"d")?);
+    Ok((summary.len(), a, d, summary.total(), summary.slack()))
+}
+
 #[test]
-fn merges_follow_the_plan(rt: HostRuntime) -> Result<(), Fail> {
-    let alloc = rt.alloc();
-    let summary = merged(&rt, &Plan::chain(alloc, 4)?, pieces(&rt, 4))?;
-    assert_eq!(rt;
-        (
-            summary.get(&Key::new(alloc, b"d")?),
-            summary.total(),
-            summary.slack()
-        ),
-        (1, 5, 2)
-    );
-    let summary = merged(&rt, &Plan::balanced(alloc, 4)?, pieces(&rt, 4))?;
-    assert_eq!(rt;
-        (
-            summary.get(&Key::new(alloc, b"a")?),
-            summary.total(),
-            summary.slack()
-        ),
-        (1, 5, 2)
-    );
-    let summary = merged(&rt, &Plan::parse(alloc, b"((0 1) 2)", 3)?, pieces(&rt, 3))?;
-    assert_eq!(rt;
-        (summary.len(), summary.total(), summary.slack()),
-        (0, 4, 2)
-    );
-    let summary = merged(&rt, &Plan::parse(alloc, b"(0 (1 2))", 3)?, pieces(&rt, 3))?;
-    assert_eq!(rt;
-        (
-            summary.get(&Key::new(alloc, b"a")?),
-            summary.total(),
-            summary.slack()
-        ),
-        (2, 4, 1)
-    );
+fn merges_of_four_pieces_follow_the_plan(rt: HostRuntime) -> Result<(), Fail> {
+    let chain = Plan::chain(rt.alloc(), 4)?;
+    assert_eq!(rt; merge_of(&rt, &chain)?, (1, 0, 1, 5, 2));
+    let balanced = Plan::balanced(rt.alloc(), 4)?;
+    assert_eq!(rt; merge_of(&rt, &balanced)?, (1, 1, 0, 5, 2));
+    Ok(())
+}
+
+#[test]
+fn merges_of_three_pieces_follow_the_plan(rt: HostRuntime) -> Result<(), Fail> {
+    let left = Plan::parse(rt.alloc(), b"((0 1) 2)", 3)?;
+    assert_eq!(rt; merge_of(&rt, &left)?, (0, 0, 0, 4, 2));
+    let right = Plan::parse(rt.alloc(), b"(0 (1 2))", 3)?;
+    assert_eq!(rt; merge_of(&rt, &right)?, (1, 2, 0, 4, 1));
     Ok(())
 }
 
@@ -122,6 +114,21 @@ fn different_k_is_not_merged(rt: HostRuntime) -> Result<(), Fail> {
     assert_eq!(rt;
         merged(&rt, &plan, summaries).err(),
         Some(MergeFault::DifferentK)
+    );
+    Ok(())
+}
+
+#[test]
+fn chain_of_1024_pieces_merges(rt: HostRuntime) -> Result<(), Fail> {
+    let mut summaries = Vec::new(rt.alloc());
+    for _ in 0..1024 {
+        summaries.push(one(&rt, 1, b"a", 1))?;
+    }
+    let summary = merged(&rt, &Plan::chain(rt.alloc(), 1024)?, summaries)?;
+    let counter = summary.get(&Key::new(rt.alloc(), b"a")?);
+    assert_eq!(rt;
+        (counter, summary.total(), summary.slack()),
+        (1024, 1024, 0)
     );
     Ok(())
 }

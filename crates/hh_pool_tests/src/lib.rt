@@ -1,0 +1,14 @@
+//! The worked rows on plans, merges, passes and analyses. They are a crate of their own, since a crate
+//! with tests is proved twice.
+#![tactic(auto)]
+
+#[cfg(test)]
+mod analyses;
+#[cfg(test)]
+mod fixtures;
+#[cfg(test)]
+mod meetings;
+#[cfg(test)]
+mod passes;
+#[cfg(test)]
+mod plans;

@@ -1,0 +1,169 @@
+//! A gate that hears of each piece, and that only workers at once can pass.
+
+ghost use Rattle.std.specs.Prelude.{◌≤◌};
+
+use crate::fixtures::{analysed, four_items, is_of_four_items, options};
+use hh_pool::{Gate, Plan};
+use hh_stream::{Cutting, Key, Stream};
+use std::alloc::Global;
+use std::process::Abort;
+use std::sync::Wait;
+use std::sync::atomic::AtomicU64;
+use std::sync::atomic::Ordering::SeqCst;
+use std::test::Fail;
+use std::thread::{Threads, yield_now};
+
+// Holds the pieces below `held` in each pass until all `wanted` calls of that pass have come, for so
+// many turns at most. A call is counted as 1 in the digit of its piece, to the base of 256.
+#[derive(Drop)]
+struct Meeting {
+    first: AtomicU64,
+    second: AtomicU64,
+    wanted: u64,
+    held: u64,
+    limit: u64,
+    reached: AtomicU64,
+    strangers: AtomicU64,
+    workers: u64,
+}
+
+// One call for each of two pieces, and of four.
+const TWO: u64 = 0x0101;
+
+const FOUR: u64 = 0x0101_0101;
+
+fn digit_of(piece: u64) -> u64 {
+    match piece {
+        0 => 1,
+        1 => 0x100,
+        2 => 0x1_0000,
+        _ => 0x100_0000,
+    }
+}
+
+impl Meeting {
+    fn new(workers: u64, wanted: u64, held: u64, limit: u64) -> Meeting {
+        Meeting {
+            first: AtomicU64::new(0),
+            second: AtomicU64::new(0),
+            wanted,
+            held,
+            limit,
+            reached: AtomicU64::new(0),
+            strangers: AtomicU64::new(0),
+            workers,
+        }
+    }
+
+    fn calls(&self, pass: u64) -> &AtomicU64 {
+        if pass == 1 { &self.first } else { &self.second }
+    }
+
+    fn hold(&self, calls: &AtomicU64) {
+        for _ in 0..self.limit {
+            if calls.load(SeqCst) >= self.wanted {
+                return;
+            }
+            yield_now();
+        }
+        self.reached.store(1, SeqCst);
+    }
+
+    // Whether each piece was called for once in each pass, and by a worker.
+    fn is_exact(&self) -> bool {
+        let first = self.first.load(SeqCst);
+        let second = self.second.load(SeqCst);
+        first == self.wanted && second == self.wanted && self.strangers.load(SeqCst) == 0
+    }
+}
+
+impl Gate for Meeting {
+    fn before(&self, pass: u64, worker: u64, piece: u64) {
+        let calls = self.calls(pass);
+        calls.fetch_add(digit_of(piece), SeqCst);
+        if worker >= self.workers {
+            self.strangers.fetch_add(1, SeqCst);
+        }
+        if piece < self.held {
+            self.hold(calls);
+        }
+    }
+}
+
+// The four items in so many even pieces, for k = 2, with a gate. Whether the outcome is as ever, with
+// one call of the gate for each piece and pass.
+fn meets<R: Threads + Wait + Abort + Sync>(
+    rt: &R,
+    alloc: Global,
+    pieces: usize,
+    workers: u64,
+    gate: &Meeting,
+) -> Result<bool, Fail>
+    requires { (1 ≤ pieces) × (pieces ≤ 4) }
+{
+    let stream = four_items(alloc)?;
+    let cutting = Cutting::even(alloc, stream.len(), pieces)?;
+    let plan = Plan::chain(alloc, pieces)?;
+    let options = options(alloc, 2, workers)?;
+    let outcome = analysed(rt, alloc, &stream, &cutting, &plan, &options, gate)?;
+    Ok(is_of_four_items(alloc, &outcome)? && gate.is_exact())
+}
+
+#[test]
+fn two_workers_at_once(rt: HostRuntime) -> Result<(), Fail> {
+    let gate = Meeting::new(2, TWO, 1, 10_000_000);
+    assert!(rt; meets(&rt, rt.alloc(), 2, 2, &gate)?);
+    assert_eq!(rt; gate.reached.load(SeqCst), 0);
+    Ok(())
+}
+
+#[test]
+fn one_worker_reaches_the_limit(rt: HostRuntime) -> Result<(), Fail> {
+    let gate = Meeting::new(1, TWO, 1, 1_000);
+    assert!(rt; meets(&rt, rt.alloc(), 2, 1, &gate)?);
+    assert_eq!(rt; gate.reached.load(SeqCst), 1);
+    Ok(())
+}
+
+#[test]
+fn four_workers_at_once(rt: HostRuntime) -> Result<(), Fail> {
+    let gate = Meeting::new(4, FOUR, 4, 10_000_000);
+    assert!(rt; meets(&rt, rt.alloc(), 4, 4, &gate)?);
+    assert_eq!(rt; gate.reached.load(SeqCst), 0);
+    Ok(())
+}
+
+// 2,000 different keys of two bytes, and a.
+fn many_items(alloc: Global) -> Result<Stream, Fail> {
+    let mut stream = Stream::new(alloc);
+    for i in 0u16..2000 {
+        stream.push(Key::new(alloc, &i.to_be_bytes())?, 1)?;
+    }
+    stream.push(Key::new(alloc, b"a")?, 1)?;
+    Ok(stream)
+}
+
+// With k = 2 each three different keys of the first piece take each other's counters away, 2 are left
+// of 2,000, and those and a do the same at the merge.
+#[test]
+fn workers_do_the_first_pass(rt: HostRuntime) -> Result<(), Fail> {
+    let alloc = rt.alloc();
+    let stream = many_items(alloc)?;
+    let cutting = Cutting::by_lengths(alloc, stream.len(), &[2000, 1])?;
+    let gate = Meeting::new(1, TWO, 0, 0);
+    let options = options(alloc, 2, 1)?;
+    let outcome = analysed(
+        &rt,
+        alloc,
+        &stream,
+        &cutting,
+        &Plan::chain(alloc, 2)?,
+        &options,
+        &gate,
+    )?;
+    assert!(rt; gate.is_exact());
+    assert_eq!(rt; (outcome.summary.len(), outcome.summary.slack()), (0, 667));
+    assert_eq!(rt; outcome.table.total(), 2001);
+    assert!(rt; outcome.heavy.is_empty());
+    Ok(())
+}

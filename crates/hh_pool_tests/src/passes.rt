@@ -1,0 +1,98 @@
+//! The worked rows on the two passes, by two seats one after the other.
+
+ghost use Rattle.std.specs.Prelude.{◌≡◌};
+
+use crate::fixtures::{four_items, plain_family};
+use hh_counters::{Candidates, Summary};
+use hh_pool::{OpenGate, Options, first_pass, second_pass};
+use hh_shared::{SharedSums, SumSeat};
+use hh_stream::{Cutting, Key};
+use std::alloc::Global;
+use std::process::Abort;
+use std::test::Fail;
+
+// Whether the summary has this number and these two counters alone.
+fn has_counters(
+    alloc: Global,
+    found: &(usize, Summary),
+    number: usize,
+    first: (&[u8], u64),
+    second: (&[u8], u64),
+) -> Result<bool, Fail> {
+    let summary = &found.1;
+    let one = summary.get(&Key::new(alloc, first.0)?);
+    let other = summary.get(&Key::new(alloc, second.0)?);
+    Ok((found.0, summary.len(), one, other) == (number, 2, first.1, second.1))
+}
+
+// The sums, once both seats are joined.
+fn closed(rt: &impl Abort, sums: SharedSums, one: SumSeat, other: SumSeat) -> Result<Vec<u64>, Fail>
+    requires one { one.sums ≡ sums }
+    requires other { other.sums ≡ sums }
+{
+    let mut one = one;
+    sums.join(&mut one, other);
+    assert!(rt; sums.holds_all(&one));
+    Ok(sums.close(one)?)
+}
+
+#[test]
+fn first_of_two_seats_summarises_all_pieces(rt: HostRuntime) -> Result<(), Fail> {
+    let alloc = rt.alloc();
+    let stream = four_items(alloc)?;
+    let cutting = Cutting::even(alloc, stream.len(), 2)?;
+    assert_eq!(rt; cutting.len(), stream.len());
+    let family = plain_family(alloc)?;
+    let cells = (family.depth() * 4) as usize;
+    let options = Options::new(2, 2, 4, family)?;
+    let (sums, mut one) = SharedSums::new(alloc, cutting.count(), cells)?;
+    let other = sums.split(&mut one);
+    let (one, found) = first_pass(alloc, &sums, one, &stream, &cutting, &options, &OpenGate, 0)?;
+    let (other, none) = first_pass(
+        alloc, &sums, other, &stream, &cutting, &options, &OpenGate, 1,
+    )?;
+    assert_eq!(rt; (found.len(), none.len()), (2, 0));
+    assert!(rt; has_counters(alloc, &found[0], 0, (b"a", 5), (b"b", 3))?);
+    assert!(rt; has_counters(alloc, &found[1], 1, (b"a", 1), (b"c", 2))?);
+    let cells = closed(&rt, sums, one, other)?;
+    assert_eq!(rt; cells.as_slice(), [2, 0, 6, 3, 0, 2, 3, 6].as_slice());
+    Ok(())
+}
+
+#[test]
+fn first_of_two_seats_counts_all_candidates(rt: HostRuntime) -> Result<(), Fail> {
+    let alloc = rt.alloc();
+    let stream = four_items(alloc)?;
+    let cutting = Cutting::even(alloc, stream.len(), 2)?;
+    assert_eq!(rt; cutting.len(), stream.len());
+    let candidates = Candidates::of(alloc, &Summary::of_items(alloc, 2, stream.items())?)?;
+    assert_eq!(rt; candidates.len(), 2);
+    let (sums, mut one) = SharedSums::new(alloc, cutting.count(), candidates.len())?;
+    let other = sums.split(&mut one);
+    let one = second_pass(
+        alloc,
+        &sums,
+        one,
+        &stream,
+        &cutting,
+        &candidates,
+        &OpenGate,
+        0,
+    )?;
+    let other = second_pass(
+        alloc,
+        &sums,
+        other,
+        &stream,
+        &cutting,
+        &candidates,
+        &OpenGate,
+        1,
+    )?;
+    assert!(rt; !sums.holds_all(&other));
+    assert_eq!(rt;
+        closed(&rt, sums, one, other)?.as_slice(),
+        [6, 3].as_slice()
+    );
+    Ok(())
+}
