@@ -1,12 +1,12 @@
 -- Where the pieces of a cutting lie, and what even pieces add up to.
-use Rattle.std.proofs.Common.{◌≡◌, ◌+◌, ◌-◌, ◌*◌, ◌/◌, ◌%◌, ◌<◌, ◌≤◌, ◌∷◌, ◌++◌, ◌∙◌, ℕ, zero, suc, List, [], length, map, take, drop, get_or, Bool, true, false, refl, sym, ap, arith, length-drop}
-use Rattle.std.specs.Prelude.{sum, sum_by, nat_lt, min, if◌then◌else◌}
+use Rattle.std.proofs.Common.{◌≡◌, ◌+◌, ◌-◌, ◌*◌, ◌/◌, ◌%◌, ◌<◌, ◌≤◌, ◌∷◌, ℕ, zero, suc, List, [], length, map, take, drop, get_or, refl, ap, arith, length-drop}
+use Rattle.std.specs.Prelude.{sum, nat_lt, min, if◌then◌else◌}
 use Rattle.std.specs.List.{range_with_len}
 use Rattle.std.proofs.lemmas.List.{drop-drop, take-append-drop}
 use Rattle.std.proofs.lemmas.List.Sums.{sum_by-cons, sum_by-take-drop, sum_by-take-le}
 use Rattle.std.proofs.lemmas.Bool.Decides.{nat_tests}
 use Rattle.hh_stream.specs.Weights.{Entry, total_of}
-use Rattle.hh_stream.specs.Cuttings.{even_length, even_lengths, pieces_of, whole_of}
+use Rattle.hh_stream.specs.Cuttings.{even_lengths, pieces_of, whole_of}
 
 -- piece i begins where the pieces before it end
 pieces-at : {A : Type 0} (ns : List ℕ) (xs : List A) (i d : ℕ) → i < length ns

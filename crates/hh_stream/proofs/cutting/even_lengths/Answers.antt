@@ -1,4 +1,4 @@
-use Rattle.std.proofs.Common.{zero-add, sym, ◌∙◌, arith}
+use Rattle.std.proofs.Common.{zero-add, arith}
 use Rattle.std.proofs.lemmas.Grind.{common_steps}
 use Rattle.std.proofs.lemmas.List.FromFn.{map-range_with_len_more}
 use Rattle.hh_stream.specs.Cuttings.{even_length}
