@@ -6,7 +6,7 @@ use Rattle.std.proofs.lemmas.List.{take_more}
 use Rattle.std.proofs.lemmas.List.Elements.{All-append, All-from_recursion}
 use Rattle.std.proofs.lemmas.List.Sums.{fold_more, sum_by_more}
 use Rattle.hh_stream.specs.Weights.{Entry, total_of}
-use Rattle.hh_counters.specs.Counters.{Sketch, misra_gries, sketch_of}
+use Rattle.hh_counters.specs.Counters.{Sketch, sketch_of}
 use Rattle.hh_counters.specs.SpaceSaving.{monitor_of, monitored, space_saving, step, translated}
 use Rattle.hh_counters.proofs.Runs.{steps_are_a_run, run_is_misra_gries}
 

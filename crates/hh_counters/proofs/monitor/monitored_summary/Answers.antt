@@ -1,4 +1,4 @@
-use Rattle.std.proofs.Common.{◌≡◌, ◌∙◌, take, sym, ap, subst, ◌<◌}
+use Rattle.std.proofs.Common.{◌≡◌, ◌∙◌, take, sym, ap, ◌<◌}
 use Rattle.hh_stream.specs.Weights.{Entry}
 use Rattle.hh_counters.specs.Counters.{Sketch}
 use Rattle.hh_counters.specs.SpaceSaving.{monitor_of, monitored}
