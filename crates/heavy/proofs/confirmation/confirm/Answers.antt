@@ -1,5 +1,4 @@
 use Rattle.std.proofs.Common.{◌+◌}
-use Rattle.hh_stream.specs.Weights.{total_of}
 use Rattle.heavy.proofs.confirmation.confirm.Goals as goal
 
 pub returns-clause-rows : goal.returns-clause-rows

@@ -1,4 +1,4 @@
-use Rattle.std.proofs.Common.{◌≡◌, ◌++◌, length, replicate, map, take, drop, [], ◌∙◌, sym, ap}
+use Rattle.std.proofs.Common.{◌≡◌, length, [], ◌∙◌, sym, ap}
 use Rattle.std.proofs.Math.Seq.{take-append_seam}
 use Rattle.std.proofs.lemmas.List.{length-map}
 use Rattle.hh_stream.specs.Weights.{weight_of}
