@@ -3,62 +3,76 @@
 
 mod arguments;
 mod files;
+mod request;
+#[cfg(test)]
+mod tests;
+mod words;
 
-use arguments::{Request, read_request};
 use files::{read_file, read_files};
 use heavy::{
     Method, Out, ToolError, ask_bytes, confirm_bytes, merge_bytes, put, run_report, summary_bytes,
     table_bytes,
 };
+use request::{NoRequest, Question, Request, read_request};
 use std::process::ExitCode;
 
-/// The bytes that a command on files or records answers.
-fn answer(rt: &HostRuntime, request: Request) -> Result<Vec<u8>, ToolError> {
+/// The exit status of the command line's own faults.
+const USAGE: u8 = 2;
+
+/// The bytes that a question is answered by.
+fn answer(rt: &HostRuntime, question: Question) -> Result<Vec<u8>, ToolError> {
     let alloc = rt.alloc();
-    match request {
-        Request::Summarise { k, method } => {
-            let method = Method::of(method.as_slice())?;
-            summary_bytes(alloc, k, method, rt.stdin())
+    match question {
+        Question::Summarise { k, method } => {
+            summary_bytes(alloc, k, Method::of(&method)?, rt.stdin())
         }
-        Request::Table { width, depth, seed } => {
+        Question::Table { width, depth, seed } => {
             table_bytes(alloc, width, depth, seed, rt.stdin())
         }
-        Request::Merge { files } => {
-            let files = read_files(rt, &files)?;
-            if files.is_empty() {
-                return Ok(Vec::new(alloc));
-            }
-            merge_bytes(alloc, &files)
-        }
-        Request::Ask { file, keys } => ask_bytes(alloc, &read_file(rt, 1, &file)?, &keys),
-        Request::Confirm { file } => { confirm_bytes(alloc, &read_file(rt, 1, &file)?, rt.stdin()) }
-        Request::Report(_) | Request::End(_) => Ok(Vec::new(alloc)),
+        Question::Merge { first, others } => merge_bytes(alloc, &read_files(rt, &first, &others)?),
+        Question::Ask { file, keys } => ask_bytes(alloc, &read_file(rt, 1, &file)?, &keys),
+        Question::Confirm { file } => confirm_bytes(alloc, &read_file(rt, 1, &file)?, rt.stdin()),
     }
 }
 
-/// Writes the bytes that a command on files or records answers.
-fn write_answer(rt: &HostRuntime, request: Request) -> Result<(), ToolError> {
-    let bytes = answer(rt, request)?;
+/// Writes the bytes that a question is answered by.
+fn write_answer(rt: &HostRuntime, question: Question) -> Result<(), ToolError> {
+    let bytes = answer(rt, question)?;
     put(&mut Out::new(rt.stdout()), &bytes).map_err(|fault| ToolError::WriteFault {
         written: fault.written,
     })
 }
 
+/// Tells a fault of the product, and gives its status.
+fn status_after(rt: &HostRuntime, fault: ToolError) -> ExitCode {
+    let _ = eprintln!(rt; "heavy: {fault}");
+    ExitCode::from(fault.status())
+}
+
+/// Prints help or a fault of the command line as `clap` words it. Help that could not be printed is a
+/// device's fault.
+fn status_told(rt: &HostRuntime, error: clap::Error) -> ExitCode {
+    let is_help = error.exit_code() == 0;
+    match error.print(rt) {
+        Err(_) if is_help => status_after(rt, ToolError::WriteFault { written: 0 }),
+        _ if is_help => ExitCode::SUCCESS,
+        _ => ExitCode::from(USAGE),
+    }
+}
+
 fn main(rt: HostRuntime) -> ExitCode {
     let outcome = match read_request(&rt) {
-        Ok(Request::End(status)) => return ExitCode::from(status),
         Ok(Request::Report(options)) => {
             let mut out = Out::new(rt.stdout());
             run_report(&rt, rt.alloc(), &options, rt.stdin(), &mut out)
         }
-        Ok(request) => write_answer(&rt, request),
-        Err(fault) => Err(fault),
+        Ok(Request::Answer(question)) => write_answer(&rt, question),
+        Err(NoRequest::Told(error)) => return status_told(&rt, error),
+        Err(NoRequest::Missing) => return ExitCode::from(USAGE),
+        Err(NoRequest::Memory) => Err(ToolError::Memory),
     };
     match outcome {
         Ok(()) => ExitCode::SUCCESS,
-        Err(fault) => {
-            let _ = eprintln!(rt; "heavy: {fault}");
-            ExitCode::from(fault.status())
-        }
+        Err(fault) => status_after(&rt, fault),
     }
 }

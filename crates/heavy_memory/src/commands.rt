@@ -1,0 +1,137 @@
+//! The calls of `heavy`.
+
+use crate::lab::{Lab, Said, no_such_call};
+use crate::records::{call as record_call, summary_file};
+use crate::show::{Hex, Taken};
+use heavy::{
+    Method, Out, ReportOptions, ToolError, Tree, ask_bytes, confirm_bytes, merge_bytes, put,
+    run_report, summary_bytes, table_bytes,
+};
+use std::sync::Wait;
+use std::test::Fail;
+use std::thread::Threads;
+
+pub fn call<R: Threads + Wait + Sync>(rt: &R, lab: &Lab, name: &str) -> Result<Said, Fail> {
+    match name {
+        "run_report" => reported(rt, lab),
+        "summary_bytes mg" => summary(lab, Method::MisraGries),
+        "summary_bytes ss" => summary(lab, Method::SpaceSaving),
+        "table_bytes" => table(lab),
+        "merge_bytes" => merged(lab, true),
+        "merge_bytes tables" => merged(lab, false),
+        "ask_bytes" => asked(lab),
+        "confirm_bytes" => confirmed(lab),
+        "put" => written(lab),
+        _ => record_call(lab, name),
+    }
+}
+
+/// Room for what is written, which takes no memory: no report here has as many bytes, or a byte 0.
+pub const ROOM: [u8; 256] = [0; 256];
+
+// What a call that gives bytes answered.
+fn said(lab: &Lab, made: Result<Vec<u8>, ToolError>) -> Result<Said, Fail> {
+    match made {
+        Err(ToolError::Memory) => lab.refused(),
+        Err(fault) => Err(fault.into()),
+        Ok(bytes) => lab.answer(Hex(bytes.as_slice())),
+    }
+}
+
+fn reported<R: Threads + Wait + Sync>(rt: &R, lab: &Lab) -> Result<Said, Fail> {
+    let text = lab.text()?;
+    let options = ReportOptions {
+        k: 2,
+        workers: 2,
+        pieces: 4,
+        tree: Tree::Balanced,
+        width: 4,
+        depth: 2,
+        seed: 0,
+    };
+    let mut room = ROOM;
+    lab.begin()?;
+    let done = run_report(
+        rt,
+        lab.alloc,
+        &options,
+        text.as_slice(),
+        &mut Out::new(room.as_mut_slice()),
+    );
+    lab.end()?;
+    lab.show(Taken(room.as_slice()))?;
+    match done {
+        Err(ToolError::Memory) => lab.refused(),
+        Err(fault) => Err(fault.into()),
+        Ok(()) => lab.answer(Taken(room.as_slice())),
+    }
+}
+
+fn summary(lab: &Lab, method: Method) -> Result<Said, Fail> {
+    let text = lab.text()?;
+    lab.begin()?;
+    let made = summary_bytes(lab.alloc, 2, method, text.as_slice());
+    lab.end()?;
+    said(lab, made)
+}
+
+fn table(lab: &Lab) -> Result<Said, Fail> {
+    let text = lab.text()?;
+    lab.begin()?;
+    let made = table_bytes(lab.alloc, 4, 2, 7, text.as_slice());
+    lab.end()?;
+    said(lab, made)
+}
+
+// Two summaries, or two tables.
+fn merged(lab: &Lab, are_summaries: bool) -> Result<Said, Fail> {
+    let mut files = Vec::new(lab.alloc);
+    for _ in 0..2 {
+        if are_summaries {
+            files.push(summary_file(lab)?)?;
+        } else {
+            files.push(table_bytes(lab.alloc, 4, 2, 7, lab.text()?.as_slice())?)?;
+        }
+    }
+    if files.is_empty() {
+        return Err(Fail::new("no file"));
+    }
+    lab.begin()?;
+    let made = merge_bytes(lab.alloc, files.as_slice());
+    lab.end()?;
+    said(lab, made)
+}
+
+fn asked(lab: &Lab) -> Result<Said, Fail> {
+    let file = summary_file(lab)?;
+    let mut keys = Vec::new(lab.alloc);
+    for letter in [b'a', b'z'] {
+        keys.push(lab.bytes(letter)?)?;
+    }
+    lab.begin()?;
+    let made = ask_bytes(lab.alloc, file.as_slice(), keys.as_slice());
+    lab.end()?;
+    said(lab, made)
+}
+
+fn confirmed(lab: &Lab) -> Result<Said, Fail> {
+    let file = summary_file(lab)?;
+    let text = lab.text()?;
+    lab.begin()?;
+    let made = confirm_bytes(lab.alloc, file.as_slice(), text.as_slice());
+    lab.end()?;
+    said(lab, made)
+}
+
+// Bytes put into a sink, and the calls that take no memory.
+fn written(lab: &Lab) -> Result<Said, Fail> {
+    let mut room = ROOM;
+    lab.begin()?;
+    let mut out = Out::new(room.as_mut_slice());
+    let done = put(&mut out, b"five!").is_ok();
+    let status = ToolError::Memory.status();
+    let method = Method::of(b"ss").is_ok();
+    lab.end()?;
+    lab.show(Taken(room.as_slice()))?;
+    lab.answer(format_args!("{done} {status} {method}"))
+}

@@ -1,0 +1,129 @@
+//! What the calls are made with, and what is printed of them.
+
+use hh_counters::Summary;
+use hh_countmin::Family;
+use hh_stream::{Key, Stream};
+use std::alloc::Global;
+use std::fmt::Display;
+use std::hint::black_box;
+use std::test::Fail;
+
+/// A request for a block of this size marks where a call begins, and one of the other where it ends.
+const BEGIN: usize = 100_003;
+
+const END: usize = 100_019;
+
+/// How many bytes a long key has. It takes memory, and a key of one byte takes none.
+const LONG: usize = 40;
+
+/// What a call said.
+#[derive(Clone, Copy, PartialEq, Eq)]
+pub enum Said {
+    /// Its answer, which was printed.
+    Answer,
+    /// That memory was refused.
+    Memory,
+}
+
+/// The fault of a command line that names no call.
+pub fn no_such_call(name: &str) -> Fail {
+    Fail::new(format_args!("no call {name}"))
+}
+
+/// Where calls are made.
+#[derive(Drop)]
+pub struct Lab<'a> {
+    rt: &'a HostRuntime,
+    pub alloc: Global,
+    is_long: bool,
+}
+
+impl<'a> Lab<'a> {
+    /// Where calls are made with keys of 1 byte or, if they are long, of 40.
+    pub fn new(rt: &'a HostRuntime, is_long: bool) -> Lab<'a> {
+        Lab {
+            rt,
+            alloc: rt.alloc(),
+            is_long,
+        }
+    }
+
+    fn mark(&self, size: usize) -> Result<(), Fail> {
+        let block = Vec::<u8>::with_capacity(self.alloc, size)?;
+        let _kept = black_box(block);
+        Ok(())
+    }
+
+    /// Marks where a call begins.
+    pub fn begin(&self) -> Result<(), Fail> {
+        self.mark(BEGIN)
+    }
+
+    /// Marks where it has ended.
+    pub fn end(&self) -> Result<(), Fail> {
+        self.mark(END)
+    }
+
+    /// Prints what an object shows.
+    pub fn show<D: Display + Drop>(&self, what: D) -> Result<(), Fail> {
+        println!(self.rt; "shows {what}")?;
+        Ok(())
+    }
+
+    /// Prints what a call answered.
+    pub fn answer<D: Display + Drop>(&self, what: D) -> Result<Said, Fail> {
+        println!(self.rt; "answer {what}")?;
+        Ok(Said::Answer)
+    }
+
+    /// Prints that a call answered Memory.
+    pub fn refused(&self) -> Result<Said, Fail> {
+        println!(self.rt; "memory")?;
+        Ok(Said::Memory)
+    }
+
+    /// The same, after so many calls of a gate.
+    pub fn refused_after(&self, calls: u64) -> Result<Said, Fail> {
+        println!(self.rt; "memory after {calls}")?;
+        Ok(Said::Memory)
+    }
+
+    /// The bytes of a key.
+    pub fn bytes(&self, letter: u8) -> Result<Vec<u8>, Fail> {
+        let len = if self.is_long { LONG } else { 1 };
+        Ok(vec![in self.alloc; letter; len]?)
+    }
+
+    pub fn key(&self, letter: u8) -> Result<Key, Fail> {
+        Ok(Key::new(self.alloc, self.bytes(letter)?.as_slice())?)
+    }
+
+    /// The items a 5, b 3, c 2 and a 1.
+    pub fn stream(&self) -> Result<Stream, Fail> {
+        let mut stream = Stream::new(self.alloc);
+        for (letter, weight) in [(b'a', 5), (b'b', 3), (b'c', 2), (b'a', 1)] {
+            stream.push(self.key(letter)?, weight)?;
+        }
+        Ok(stream)
+    }
+
+    /// The same as a text of records.
+    pub fn text(&self) -> Result<Vec<u8>, Fail> {
+        let mut text = Vec::new(self.alloc);
+        for (letter, weight) in [(b'a', b'5'), (b'b', b'3'), (b'c', b'2'), (b'a', b'1')] {
+            text.extend_from_slice(self.bytes(letter)?.as_slice())?;
+            text.extend_from_slice(&[b',', weight, b'\n'])?;
+        }
+        Ok(text)
+    }
+
+    /// The summary of the items for k = 2: a 4, b 1.
+    pub fn summary(&self) -> Result<Summary, Fail> {
+        Ok(Summary::of_items(self.alloc, 2, self.stream()?.items())?)
+    }
+
+    /// A family of two rows.
+    pub fn family(&self) -> Result<Family, Fail> {
+        Ok(Family::from_parts(self.alloc, 256, &[(1, 0), (3, 1)])?)
+    }
+}

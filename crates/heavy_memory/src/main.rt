@@ -1,0 +1,63 @@
+//! Runs one public call, so that a test can refuse its requests for memory one by one.
+//!
+//! `heavy_memory CRATE CALL short|long` sets a call up with ample memory, marks where it begins and
+//! where it ends, and prints what it answered and what the objects that were lent to it show before and
+//! after. After a want of memory the same call is made again. The keys have 1 byte or 40.
+#![tactic(auto)]
+
+mod commands;
+mod counters;
+mod countmin;
+mod lab;
+mod monitors;
+mod pool;
+mod records;
+mod saved;
+mod shared;
+mod show;
+mod stream;
+
+use lab::{Lab, Said};
+use std::env;
+use std::sync::Wait;
+use std::test::Fail;
+use std::thread::Threads;
+
+/// Makes the call of this name.
+fn call<R: Threads + Wait + Sync>(rt: &R, lab: &Lab, of: &str, name: &str) -> Result<Said, Fail> {
+    match of {
+        "hh_stream" => stream::call(lab, name),
+        "hh_counters" => counters::call(lab, name),
+        "hh_countmin" => countmin::call(lab, name),
+        "hh_saved" => saved::call(lab, name),
+        "hh_shared" => shared::call(lab, name),
+        "hh_pool" => pool::call(rt, lab, name),
+        "heavy" => commands::call(rt, lab, name),
+        _ => Err(lab::no_such_call(name)),
+    }
+}
+
+/// Makes the call that the command line names, and once more where memory was refused.
+fn tried<R: Threads + Wait + Sync>(rt: &R, host: &HostRuntime) -> Result<(), Fail> {
+    let mut words = env::args(host)?;
+    let (Some(_), Some(of), Some(name), Some(keys)) = (
+        words.next(),
+        words.next(),
+        words.next(),
+        words.next(),
+    ) else {
+        return Err(Fail::new("usage: heavy_memory CRATE CALL short|long"));
+    };
+    let lab = Lab::new(host, keys.as_str() == "long");
+    match call(rt, &lab, of.as_str(), name.as_str())? {
+        Said::Answer => Ok(()),
+        Said::Memory => {
+            let _again = call(rt, &lab, of.as_str(), name.as_str())?;
+            Ok(())
+        }
+    }
+}
+
+fn main(rt: HostRuntime) -> Result<(), Fail> {
+    tried(&rt, &rt)
+}

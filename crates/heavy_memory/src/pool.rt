@@ -1,0 +1,220 @@
+//! The calls of `hh_pool`.
+
+use crate::lab::{Lab, Said, no_such_call};
+use crate::show::{Cells, Counters, Report};
+use hh_counters::{Candidates, MergeFault, Summary};
+use hh_pool::{
+    Gate, OpenGate, Options, Plan, PlanFault, RunError, analyse, first_pass, merge_by, second_pass,
+};
+use hh_shared::SharedSums;
+use hh_stream::{Cutting, Key, Stream};
+use std::alloc::AllocError;
+use std::sync::Wait;
+use std::sync::atomic::AtomicU64;
+use std::sync::atomic::Ordering::SeqCst;
+use std::test::Fail;
+use std::thread::Threads;
+
+pub fn call<R: Threads + Wait + Sync>(rt: &R, lab: &Lab, name: &str) -> Result<Said, Fail> {
+    match name {
+        "Plan::chain" => plan_chain(lab),
+        "Plan::balanced" => plan_balanced(lab),
+        "Plan::parse" => plan_parse(lab),
+        "merge_by" => merged(lab),
+        "first_pass" => first(lab),
+        "second_pass" => second(lab),
+        "analyse" => analysed(rt, lab),
+        "analyse many keys" => analysed_many(rt, lab),
+        "readers" => readers(lab),
+        _ => Err(no_such_call(name)),
+    }
+}
+
+fn plan_chain(lab: &Lab) -> Result<Said, Fail> {
+    lab.begin()?;
+    let made = Plan::chain(lab.alloc, 4);
+    lab.end()?;
+    match made {
+        Err(AllocError) => lab.refused(),
+        Ok(plan) => lab.answer(plan.count()),
+    }
+}
+
+fn plan_balanced(lab: &Lab) -> Result<Said, Fail> {
+    lab.begin()?;
+    let made = Plan::balanced(lab.alloc, 4);
+    lab.end()?;
+    match made {
+        Err(AllocError) => lab.refused(),
+        Ok(plan) => lab.answer(plan.count()),
+    }
+}
+
+fn plan_parse(lab: &Lab) -> Result<Said, Fail> {
+    lab.begin()?;
+    let made = Plan::parse(lab.alloc, b"((0 3) (1 2))", 4);
+    lab.end()?;
+    match made {
+        Err(PlanFault::Memory) => lab.refused(),
+        made => lab.answer(made?.count()),
+    }
+}
+
+// The summaries of the four items in two pieces.
+fn summaries(lab: &Lab) -> Result<Vec<Summary>, Fail> {
+    let stream = lab.stream()?;
+    let mut summaries = Vec::new(lab.alloc);
+    for half in stream.items().chunks(2) {
+        summaries.push(Summary::of_items(lab.alloc, 2, half)?)?;
+    }
+    Ok(summaries)
+}
+
+fn merged(lab: &Lab) -> Result<Said, Fail> {
+    let plan = Plan::chain(lab.alloc, 2)?;
+    let summaries = summaries(lab)?;
+    if summaries.len() != plan.count() {
+        return Err(Fail::new("not two summaries"));
+    }
+    lab.begin()?;
+    let made = merge_by(lab.alloc, &plan, summaries);
+    lab.end()?;
+    match made {
+        Err(MergeFault::Memory) => lab.refused(),
+        made => lab.answer(Counters(&made?)),
+    }
+}
+
+fn options(lab: &Lab, workers: u64) -> Result<Options, Fail> {
+    Ok(Options::new(2, workers, 4, lab.family()?)?)
+}
+
+fn first(lab: &Lab) -> Result<Said, Fail> {
+    let stream = lab.stream()?;
+    let cutting = Cutting::even(lab.alloc, stream.len(), 2)?;
+    let family = lab.family()?;
+    let cells = (family.depth() * 4) as usize;
+    let options = Options::new(2, 1, 4, family)?;
+    if cutting.len() != stream.len() {
+        return Err(Fail::new("not the stream's cutting"));
+    }
+    let (sums, seat) = SharedSums::new(lab.alloc, cutting.count(), cells)?;
+    lab.begin()?;
+    let done = first_pass(
+        lab.alloc, &sums, seat, &stream, &cutting, &options, &OpenGate, 0,
+    );
+    lab.end()?;
+    match done {
+        Err(AllocError) => lab.refused(),
+        Ok((seat, found)) => {
+            for (_, summary) in &found {
+                lab.show(Counters(summary))?;
+            }
+            lab.answer(sums.holds_all(&seat))
+        }
+    }
+}
+
+fn second(lab: &Lab) -> Result<Said, Fail> {
+    let stream = lab.stream()?;
+    let cutting = Cutting::even(lab.alloc, stream.len(), 2)?;
+    let candidates = Candidates::of(lab.alloc, &lab.summary()?)?;
+    if cutting.len() != stream.len() || candidates.len() != 2 {
+        return Err(Fail::new("not the stream's cutting"));
+    }
+    let (sums, seat) = SharedSums::new(lab.alloc, cutting.count(), candidates.len())?;
+    lab.begin()?;
+    let done = second_pass(
+        lab.alloc,
+        &sums,
+        seat,
+        &stream,
+        &cutting,
+        &candidates,
+        &OpenGate,
+        0,
+    );
+    lab.end()?;
+    match done {
+        Err(AllocError) => lab.refused(),
+        Ok(seat) => lab.answer(sums.holds_all(&seat)),
+    }
+}
+
+// The four items in four pieces, by two workers.
+fn analysed<R: Threads + Wait + Sync>(rt: &R, lab: &Lab) -> Result<Said, Fail> {
+    let stream = lab.stream()?;
+    let cutting = Cutting::even(lab.alloc, stream.len(), 4)?;
+    let plan = Plan::balanced(lab.alloc, 4)?;
+    let options = options(lab, 2)?;
+    if cutting.len() != stream.len() {
+        return Err(Fail::new("not the stream's cutting"));
+    }
+    lab.begin()?;
+    let done = analyse(rt, lab.alloc, &stream, &cutting, &plan, &options, &OpenGate);
+    lab.end()?;
+    match done {
+        Err(RunError::Memory) => lab.refused(),
+        Err(fault) => Err(fault.into()),
+        Ok(outcome) => {
+            lab.show(Counters(&outcome.summary))?;
+            lab.show(Cells(&outcome.table))?;
+            lab.answer(Report(outcome.heavy.as_slice()))
+        }
+    }
+}
+
+/// A gate that counts its calls.
+#[derive(Drop)]
+struct Counting {
+    calls: AtomicU64,
+}
+
+impl Gate for Counting {
+    fn before(&self, _pass: u64, _worker: u64, _piece: u64) {
+        self.calls.fetch_add(1, SeqCst);
+    }
+}
+
+// A piece of 2,000 different keys of two bytes, and one of the item a, by one worker, with the number
+// of times that the gate was called.
+fn analysed_many<R: Threads + Wait + Sync>(rt: &R, lab: &Lab) -> Result<Said, Fail> {
+    let mut stream = Stream::new(lab.alloc);
+    for i in 0u16..2000 {
+        stream.push(Key::new(lab.alloc, &i.to_be_bytes())?, 1)?;
+    }
+    stream.push(lab.key(b'a')?, 1)?;
+    let cutting = Cutting::by_lengths(lab.alloc, stream.len(), &[2000, 1])?;
+    let plan = Plan::chain(lab.alloc, 2)?;
+    let options = options(lab, 1)?;
+    let gate = Counting {
+        calls: AtomicU64::new(0),
+    };
+    if cutting.len() != stream.len() {
+        return Err(Fail::new("not the stream's cutting"));
+    }
+    lab.begin()?;
+    let done = analyse(rt, lab.alloc, &stream, &cutting, &plan, &options, &gate);
+    lab.end()?;
+    let calls = gate.calls.load(SeqCst);
+    match done {
+        Err(RunError::Memory) => lab.refused_after(calls),
+        Err(fault) => Err(fault.into()),
+        Ok(outcome) => {
+            lab.show(Counters(&outcome.summary))?;
+            lab.answer(format_args!("{calls} calls: {}", Report(outcome.heavy.as_slice())))
+        }
+    }
+}
+
+// The calls that take no memory.
+fn readers(lab: &Lab) -> Result<Said, Fail> {
+    let plan = Plan::balanced(lab.alloc, 4)?;
+    let family = lab.family()?;
+    lab.begin()?;
+    OpenGate.before(1, 0, 0);
+    let pieces = plan.count();
+    let made = Options::new(2, 1, 4, family).is_ok();
+    lab.end()?;
+    lab.answer(format_args!("{pieces} {made}"))
+}

@@ -1,0 +1,171 @@
+#!/usr/bin/env python3
+"""Runs the program by its command line: each command, each option's default and effect, each refusal and its
+status, and words that are no text.
+
+usage: tests/command_line.py
+"""
+import os
+import tempfile
+from pathlib import Path
+
+import programs
+import reference
+
+RECORDS = b"a,5\nb,3\nc,2\na,1\n"
+# 150 keys of rising weight: more than the 100 counters that are the default.
+MANY = b"".join(b"k%d,%d\n" % (i, i) for i in range(1, 151))
+# two keys above a hundred-and-first part of the total, one of them above a third
+SKEWED = b"big,600\nmiddle,50\n" + b"".join(b"s%d,2\n" % i for i in range(150))
+
+
+class Line:
+    """Runs command lines in a folder with saved files."""
+
+    def __init__(self, room: str) -> None:
+        self.room = room
+        self.program = programs.built("heavy_cli")
+        self.tally = programs.Tally()
+
+    def run(self, words: list, given: bytes = RECORDS) -> tuple[int, bytes, bytes]:
+        ended = programs.run([self.program, *words], given, cwd=self.room)
+        return ended.status, ended.out, ended.err
+
+    def save(self, name: str | bytes, words: list, given: bytes = RECORDS) -> bytes:
+        data = self.run(words, given)[1]
+        Path(self.room, os.fsdecode(name)).write_bytes(data)
+        return data
+
+    def expect(self, words: list, expected: tuple[int, bytes, bytes], given: bytes = RECORDS) -> None:
+        found = self.run(words, given)
+        self.tally.check(" ".join(os.fsdecode(word) for word in words), found == expected, (found, expected))
+
+    def refuses(self, words: list, text: str, status: int = 2, given: bytes = RECORDS) -> None:
+        self.expect(words, (status, b"", f"heavy: {text}\n".encode()), given)
+
+
+def try_records(line: Line) -> None:
+    """The commands that read records, by their defaults and their options."""
+    line.expect(["report"], reference.answer(reference.report, SKEWED, 100), SKEWED)
+    line.expect(["report", "--k", "2"], (0, b"a,6\n", b""))
+    line.expect(["report", "--k", "9"], (0, b"a,6\nb,3\nc,2\n", b""))
+    line.expect(["report", "--k=2"], (0, b"a,6\n", b""))
+    line.expect(["report", "--k", "2"], (0, b"", b""), b"")
+    for words in (["--workers", "1"], ["--pieces", "7"], ["--tree", "chain"], ["--seed", "9"], ["--depth", "16"]):
+        line.expect(["report", "--k", "2", *words], (0, b"a,6\n", b""))
+    for method in ([], ["--method", "mg"], ["--method", "ss"]):
+        expected = reference.answer(reference.summarise, MANY, 100)
+        line.expect(["summarise", *method], expected, MANY)
+        line.expect(["summarise", "--k", "2", *method], reference.answer(reference.summarise, RECORDS, 2))
+
+
+def try_tables(line: Line) -> None:
+    """A table's width, depth and seed stand in its file; its cells are those of the records."""
+    tables = {}
+    for words in ([], ["--width", "8"], ["--depth", "2"], ["--width", "1", "--depth", "16"], ["--seed", "7"]):
+        status, data, _ = line.run(["table", *words])
+        table = reference.read(data)
+        given = dict(zip(words[::2], words[1::2]))
+        shape = (int(given.get("--width", 1024)), int(given.get("--depth", 4)))
+        cells = [[0] * table.width for _ in table.rows]
+        for key, weight in reference.items_of(RECORDS):
+            for row, place in zip(cells, reference.places(table, key)):
+                row[place] += weight
+        well = status == 0 and (table.width, len(table.rows)) == shape and (table.total, table.cells) == (11, cells)
+        line.tally.check(f"table {' '.join(words)}", well)
+        tables[tuple(words)] = table
+    same = line.run(["table", "--seed", "0"])[1] == line.run(["table"])[1]
+    line.tally.check("the default seed is 0", same and tables[("--seed", "7")].z != tables[()].z)
+
+
+def try_refused_options(line: Line) -> None:
+    """Each option out of range, and the order in which they are tested."""
+    faults = [
+        ("--depth", ["0", "17"], "depth must be 1 to 16"),
+        ("--k", ["0", "65536", "18446744073709551615"], "k must be 1 to 65535"),
+        ("--workers", ["0", "65"], "workers must be 1 to 64"),
+        ("--width", ["0", "65537"], "width must be 1 to 65536"),
+        ("--pieces", ["0", "1025"], "pieces must be 1 to 1024"),
+    ]
+    for option, numbers, text in faults:
+        for number in numbers:
+            line.refuses(["report", option, number], text, given=b"bad,record,here\n")
+    for i in range(len(faults)):
+        words = [word for option, numbers, _ in reversed(faults[i:]) for word in (option, numbers[0])]
+        line.refuses(["report", *words, "--tree", "("], faults[i][2])
+    line.refuses(["summarise", "--k", "0"], faults[1][2])
+    line.refuses(["summarise", "--k", "0", "--method", "MG"], "method must be mg or ss")
+    line.refuses(["table", "--width", "0", "--depth", "0"], faults[0][2])
+    line.refuses(["table", "--width", "0"], faults[3][2])
+
+
+def try_trees(line: Line) -> None:
+    """Plans, also the longest and the deepest, and one that is no text."""
+    chain = "0"
+    for piece in range(1, 1024):
+        chain = f"({chain} {piece})"
+    most = ["report", "--k", "2", "--pieces", "1024"]
+    line.expect([*most, "--tree", chain], (0, b"a,6\n", b""))
+    line.refuses([*most, "--tree", "(" * 1024], "tree: syntax at byte 1023")
+    three = ["report", "--k", "2", "--pieces", "3", "--tree"]
+    for tree in ("((0 1) 2)", "(0 (2 1))", "chain", "balanced"):
+        line.expect([*three, tree], (0, b"a,6\n", b""))
+    line.refuses([*three, "(0 (1 1))"], "tree: piece 1 twice")
+    line.refuses([*three, "(0 1)"], "tree: piece 2 missing")
+    line.refuses([*three, "(0 3)"], "tree: no piece 3")
+    for tree, at in [("(0", 2), ("(0 1))", 5), ("(0  1)", 3), ("", 0), ("Chain", 0), (b"\xff", 0)]:
+        line.refuses([*three, tree], f"tree: syntax at byte {at}")
+
+
+def try_files(line: Line) -> None:
+    """The commands on files, in their order, and with words that are no text or begin with a dash."""
+    files = [line.save(f"{i}.heavy", ["summarise", "--k", "2"], b"%c,%d\nq,1\n" % (97 + i, i + 3)) for i in range(3)]
+    names = ["0.heavy", "1.heavy", "2.heavy"]
+    for order in ([0], [0, 1], [1, 0], [2, 0, 1], [0, 0, 0]):
+        expected = reference.answer(reference.merge, [files[i] for i in order])
+        line.expect(["merge", *(names[i] for i in order)], expected)
+    line.save("k3", ["summarise", "--k", "3"])
+    line.save("table", ["table", "--width", "8"])
+    line.refuses(["merge", "0.heavy", "1.heavy", "k3"], "file 3: another k", 3)
+    line.refuses(["merge", "0.heavy", "table"], "file 2: another kind", 3)
+    line.refuses(["merge", "0.heavy", "none"], "file 2: could not be read", 1)
+    keys = [b"c", b"a", b"", b"x" * 256, b"\xff", b"-a", b"a,b", "ä".encode(), b"\xf4\x8f\xbc\x80"]
+    for given in ([keys[0], keys[1]], keys[4:], keys[2:4], [keys[1], keys[3], keys[2]]):
+        line.expect(["ask", "2.heavy", "--", *given], reference.answer(reference.ask, files[2], given))
+    saved = line.save("-four", ["summarise", "--k", "2"])
+    line.expect(["ask", "--", "-four", "-a"], reference.answer(reference.ask, saved, [b"-a"]))
+    line.expect(["confirm", "--", "-four"], (0, b"a,6\n", b""))
+    line.expect(["merge", "--", "-four", "0.heavy"], reference.answer(reference.merge, [saved, files[0]]))
+    line.refuses(["confirm", "--", "-four"], "file 1: its total is not the input's", 3, b"a,5\n")
+    line.refuses(["confirm", "table"], "file 1: not a counter summary", 3)
+    line.refuses(["ask", b"\xff", "a"], "file 1: could not be read", 1)
+
+
+def try_usage(line: Line) -> None:
+    """Faults of the command line are clap's, with status 2; help has status 0."""
+    wrong = [
+        [], ["nothing"], ["report", "--nothing"], ["report", "--k", "x"], ["report", "--k", "-1"], ["report", "--k"],
+        ["report", "word"], ["report", "--k", "18446744073709551616"], ["merge"], ["ask", "0.heavy"], ["confirm"],
+        ["confirm", "0.heavy", "1.heavy"], ["ask", "0.heavy", "-a"], [b"\xff"], ["report", "--k", b"\xff"],
+    ]
+    for words in wrong:
+        status, out, err = line.run(words)
+        line.tally.check(f"usage: {words}", (status, out) == (2, b"") and err != b"", (status, out, err))
+    for words in ([], ["report"], ["summarise"], ["table"], ["merge"], ["ask"], ["confirm"]):
+        status, out, err = line.run([*words, "--help"])
+        line.tally.check(f"help: {words}", (status, err) == (0, b"") and b"Usage: heavy" in out, (status, err))
+
+
+def main() -> None:
+    with tempfile.TemporaryDirectory() as room:
+        line = Line(room)
+        try_records(line)
+        try_tables(line)
+        try_refused_options(line)
+        try_trees(line)
+        try_files(line)
+        try_usage(line)
+        line.tally.end("command line")
+
+
+if __name__ == "__main__":
+    main()

@@ -1,0 +1,87 @@
+"""How hostile input is made, and how what the program says of it is compared."""
+import os
+import random
+import sys
+import tempfile
+import time
+from concurrent.futures import ThreadPoolExecutor
+from dataclasses import dataclass
+from random import Random
+
+import programs
+
+# A run that takes more processor time is wrong, whatever it answers; and no run has more address space.
+MOST_SECONDS = 1.0
+KILOBYTES = "100000"
+LIMITED = ["sh", "-c", 'ulimit -v "$0"; exec "$@"', KILOBYTES]
+
+
+@dataclass
+class Case:
+    """A command with saved files, words behind them and an input, and what it has to say: its status, standard
+    output and standard error."""
+
+    command: list[str]
+    files: list[bytes]
+    words: list[bytes]
+    given: bytes
+    expected: tuple[int, bytes, bytes]
+
+
+def mutate(draw: Random, data: bytearray, pieces: list[bytes]) -> None:
+    """Changes some bytes: one flipped, a piece put over or between, a part cut out, doubled or exchanged."""
+    at = draw.randrange(len(data) + 1)
+    end = min(len(data), at + draw.choice([1, 1, 2, 8, 9, 16]))
+    match draw.randrange(7):
+        case 0 if data:
+            data[at % len(data)] ^= 1 << draw.randrange(8)
+        case 1:
+            piece = draw.choice(pieces)
+            data[at : at + len(piece)] = piece
+        case 2:
+            data[at:at] = draw.choice(pieces)
+        case 3:
+            del data[at:end]
+        case 4:
+            data[at:at] = data[at:end]
+        case 5:
+            del data[at:]
+        case 6 if data:
+            data[at % len(data)] = draw.choice([0, 1, 2, 16, 17, 0x49, 0x7F, 0x80, 0xFF])
+
+
+def ran(program: str, room: str, number: int, case: Case) -> str | None:
+    """What was wrong with a run, if anything."""
+    paths = [f"{room}/{number}-{i}" for i in range(len(case.files))]
+    for path, data in zip(paths, case.files):
+        with open(path, "wb") as file:
+            file.write(data)
+    ended = programs.run([*LIMITED, program, *case.command, *paths, "--", *case.words], case.given)
+    for path in paths:
+        os.remove(path)
+    said = (ended.status, ended.out, ended.err)
+    if said != case.expected:
+        return f"{said} in place of {case.expected}"
+    if ended.seconds > MOST_SECONDS:
+        return f"{ended.seconds:.2f} seconds"
+    return None
+
+
+def main(name: str, make) -> None:
+    """Runs so many cases of a seed, and ends with status 1 where one was wrong."""
+    cases = int(sys.argv[1]) if len(sys.argv) > 1 else 2_000
+    seed = int(sys.argv[2]) if len(sys.argv) > 2 else time.time_ns() % 1_000_000_007
+    program = programs.built("heavy_cli")
+    differed = 0
+    with tempfile.TemporaryDirectory() as room, ThreadPoolExecutor() as pool:
+
+        def one(number: int) -> bool:
+            case = make(random.Random(f"{seed}/{number}"))
+            wrong = ran(program, room, number, case)
+            if wrong:
+                print(f"DIFFERED: case {number} of seed {seed}: {case}: {wrong}", flush=True)
+            return wrong is not None
+
+        differed = sum(pool.map(one, range(cases)))
+    print(f"{name}: seed {seed}, {cases} cases, {differed} differed")
+    sys.exit(1 if differed else 0)

@@ -1,0 +1,65 @@
+#!/usr/bin/env python3
+"""Feeds random and mutated saved files to `ask`, `merge` and `confirm`, and compares what they say with
+tests/reference.py: a file has to be accepted exactly where it is the encoding of something, and else the fault
+is the first from the left.
+
+usage: tests/hostile_files.py [CASES [SEED]]
+
+Prints the seed, how many cases ran and differed.
+"""
+import hostile
+import reference
+from reference import PRIME, Summary, Table
+
+NUMBERS = [0, 1, 2, 3, 255, 256, 2**16 - 1, 2**16, 2**31, PRIME - 1, PRIME, 2**63 - 1, 2**63, 2**64 - 1]
+KEYS = [b"a", b"b", b"c", b"ab", b"z", b"\0", b"\xff", b"a,b", b'"', b"\r\n", b"k" * 30, b"k" * 255]
+RECORDS = b"a,5\nb,3\nc,2\na,1\n"
+
+
+def summary(draw) -> Summary:
+    k = draw.choice([1, 2, 3, 5, 65535])
+    keys = draw.sample(KEYS, draw.randrange(min(k, len(KEYS)) + 1))
+    counters = {key: draw.choice([1, 2, 5, 2**40]) for key in keys}
+    total = max(sum(counters.values()), draw.choice([0, 11, 2**62, 2**63 - 1]))
+    return Summary(k, total, counters)
+
+
+def table(draw) -> Table:
+    width, depth = draw.choice([1, 2, 4, 7]), draw.choice([1, 2, 16])
+    total = draw.choice([0, 8, 2**63 - 1])
+    cells = []
+    for _ in range(depth):
+        first = draw.randrange(total + 1)
+        cells.append([first] + [0] * (width - 1))
+        cells[-1][draw.randrange(width)] += total - first
+    rows = [(draw.randrange(1, PRIME), draw.randrange(PRIME)) for _ in range(depth)]
+    return Table(width, draw.randrange(1, PRIME), rows, total, cells)
+
+
+def file(draw) -> bytes:
+    """A saved file with up to three faults, or bytes of no meaning."""
+    if draw.random() < 0.02:
+        return draw.randbytes(draw.randrange(60))
+    data = bytearray(reference.written(summary(draw) if draw.random() < 0.6 else table(draw)))
+    for _ in range(draw.choice([0, 1, 1, 1, 2, 3])):
+        hostile.mutate(draw, data, [number.to_bytes(8, "big") for number in NUMBERS])
+    return bytes(data)
+
+
+def case(draw) -> hostile.Case:
+    data = file(draw)
+    match draw.randrange(4):
+        case 0:
+            other = reference.written(reference.misra_gries(reference.items_of(RECORDS), 2))
+            files = [data, other] if draw.random() < 0.5 else [other, data]
+            return hostile.Case(["merge"], files, [], b"", reference.answer(reference.merge, files))
+        case 1:
+            return hostile.Case(["merge"], [data, data], [], b"", reference.answer(reference.merge, [data, data]))
+        case 2:
+            return hostile.Case(["confirm"], [data], [], RECORDS, reference.answer(reference.confirm, data, RECORDS))
+    keys = draw.sample(KEYS, 2)
+    keys = [key for key in keys if 0 not in key] or [b"a"]
+    return hostile.Case(["ask"], [data], keys, b"", reference.answer(reference.ask, data, keys))
+
+
+hostile.main("hostile files", case)

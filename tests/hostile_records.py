@@ -1,0 +1,59 @@
+#!/usr/bin/env python3
+"""Feeds mutated records to `report`, `summarise` and `confirm`, and compares what they say with tests/reference.py:
+the same items, or the same first bad record with its number and cause.
+
+usage: tests/hostile_records.py [CASES [SEED]]
+
+Prints the seed, how many cases ran and differed.
+"""
+import hostile
+import reference
+
+FIELDS = [
+    b"a", b"b", b"c", b"ab", b"", b'"a,b"', b'"a""b"', b'"a\nb"', b'"a\r\nb"', b'a"b', b'"a"b', b"\xff", b"\0", b" a",
+    b"\xef\xbb\xbfa", b"k" * 255, b"k" * 256, b"\xff" * 255, b'"', b'""',
+]
+WEIGHTS = [
+    b"1", b"2", b"3", b"7", b"0", b"00", b"007", b"-1", b"+1", b"1.0", b" 1", b"1 ", b"", b'"5"', b"x", b"9" * 20,
+    b"9" * 21, b"0" * 20, b"0" * 19 + b"1", b"0" * 20 + b"1", b"9223372036854775807", b"9223372036854775806",
+]
+ENDS = [b"\n", b"\n", b"\n", b"\r\n", b"\r", b"\n\n", b""]
+PIECES = [b",", b'"', b"\n", b"\r", b"\r\n", b"\0", b"\xff", b"\xef\xbb\xbf", b"0", b"9", b" ", b'""']
+
+
+def record(draw) -> bytes:
+    fields = [draw.choice(FIELDS)] if draw.random() < 0.15 else [draw.choice(FIELDS[:4])]
+    if draw.random() < 0.8:
+        fields.append(draw.choice(WEIGHTS) if draw.random() < 0.15 else draw.choice(WEIGHTS[:4]))
+    if draw.random() < 0.02:
+        fields.append(b"1")
+    return b",".join(fields)
+
+
+def text(draw) -> bytes:
+    parts = [b"\xef\xbb\xbf"] if draw.random() < 0.05 else []
+    for _ in range(draw.randrange(12)):
+        parts += [record(draw), draw.choice(ENDS)]
+    data = bytearray(b"".join(parts))
+    for _ in range(draw.choice([0, 0, 1, 1, 2])):
+        hostile.mutate(draw, data, PIECES)
+    return bytes(data)
+
+
+def case(draw) -> hostile.Case:
+    given, k = text(draw), draw.choice([1, 2, 3, 9, 65535])
+    options = ["--k", str(k)]
+    match draw.randrange(4):
+        case 0:
+            method = draw.choice(["mg", "ss"])
+            expected = reference.answer(reference.summarise, given, k)
+            return hostile.Case(["summarise", *options, "--method", method], [], [], given, expected)
+        case 1:
+            status, saved, said = reference.answer(reference.summarise, given, k)
+            if status == 0:
+                return hostile.Case(["confirm"], [saved], [], given, reference.answer(reference.confirm, saved, given))
+    options += ["--workers", draw.choice("123"), "--pieces", draw.choice("125"), "--width", "8", "--depth", "1"]
+    return hostile.Case(["report", *options], [], [], given, reference.answer(reference.report, given, k))
+
+
+hostile.main("hostile records", case)

@@ -1,0 +1,80 @@
+"""The built programs, and how a test runs one."""
+import os
+import subprocess
+import sys
+import tempfile
+from dataclasses import dataclass
+from pathlib import Path
+
+TOP = Path(__file__).resolve().parent.parent
+
+
+def built(crate: str) -> str:
+    """The program of a crate, which `rt ci` has left there; else it is proved and built first."""
+    program = TOP / "crates" / crate / "out" / crate
+    if not program.exists():
+        print(f"building {crate}", file=sys.stderr, flush=True)
+        log = subprocess.run(["rt", "run"], cwd=TOP / "crates" / crate, stdin=subprocess.DEVNULL, capture_output=True)
+        if not program.exists():
+            sys.exit(log.stdout.decode(errors="replace") + log.stderr.decode(errors="replace"))
+    return str(program)
+
+
+def clang() -> str:
+    """The toolchain's own clang."""
+    guide = subprocess.run(["rt", "doc"], capture_output=True, text=True, check=True).stdout.split()[-1]
+    return str(Path(guide).parent / "toolchain" / "bin" / "clang")
+
+
+def preloaded(source: str, room: str) -> str:
+    """A library to preload, compiled from a file beside this one."""
+    library = f"{room}/{Path(source).stem}.so"
+    compiler = clang()
+    linker = str(Path(compiler).parent / "ld.lld")
+    words = ["-shared", "-fPIC", "-O1", "-nostdlib", f"--ld-path={linker}", "-o", library]
+    subprocess.run([compiler, *words, str(TOP / "tests" / source)], check=True)
+    return library
+
+
+@dataclass(frozen=True)
+class Ended:
+    """How a run ended."""
+
+    status: int
+    out: bytes
+    err: bytes
+    seconds: float
+
+
+def run(words: list[bytes | str], given: bytes = b"", env: dict[str, str] | None = None, **how) -> Ended:
+    """Runs a program on these bytes, and measures the processor time that it takes."""
+    with tempfile.TemporaryFile() as stdin, tempfile.TemporaryFile() as out, tempfile.TemporaryFile() as err:
+        stdin.write(given)
+        stdin.seek(0)
+        how = {"stdin": stdin, "stdout": out, "stderr": err, **how}
+        process = subprocess.Popen(words, env=env or {}, **how)
+        _, status, used = os.wait4(process.pid, 0)
+        process.returncode = os.waitstatus_to_exitcode(status)
+        out.seek(0)
+        err.seek(0)
+        return Ended(process.returncode, out.read(), err.read(), used.ru_utime + used.ru_stime)
+
+
+class Tally:
+    """Counts what passed, and tells what failed."""
+
+    def __init__(self) -> None:
+        self.passed = 0
+        self.failed = 0
+
+    def check(self, name: str, holds: bool, said: object = "") -> None:
+        if holds:
+            self.passed += 1
+        else:
+            self.failed += 1
+            print(f"FAILED: {name}: {said}", flush=True)
+
+    def end(self, name: str) -> None:
+        """Prints the closing line, and ends with the status that it says."""
+        print(f"{name}: {self.passed} passed, {self.failed} failed", flush=True)
+        sys.exit(1 if self.failed else 0)

@@ -1,0 +1,342 @@
+"""What the program has to answer, written a second time: a reader of records and of saved files, Misra-Gries, and
+the commands. It follows docs/FORMATS.md and shares nothing with the program."""
+from dataclasses import dataclass
+
+MAX_TOTAL = 2**63 - 1
+MAX_KEY = 255
+PRIME = 2**61 - 1
+
+Item = tuple[bytes, int]
+
+
+class Refused(Exception):
+    """A refusal: its text and its exit status."""
+
+    def __init__(self, text: str, status: int = 3) -> None:
+        super().__init__(text)
+        self.text = text
+        self.status = status
+
+
+# ---- records
+
+
+def fields_of(text: bytes) -> list[list[bytes]]:
+    """The records of a text, as csv reads them by default: fields may be quoted, a line ends by a carriage return, a
+    line feed or both, and a line without bytes is none. A byte order mark in front is left out."""
+    text = text.removeprefix(b"\xef\xbb\xbf")
+    records: list[list[bytes]] = []
+    at, end = 0, len(text)
+    while True:
+        while at < end and text[at] in b"\r\n":
+            at += 1
+        if at >= end:
+            return records
+        record, is_open = [], True
+        while is_open:
+            field = bytearray()
+            if at < end and text[at] == 0x22:
+                at += 1
+                while at < end:
+                    if text[at] != 0x22:
+                        field.append(text[at])
+                        at += 1
+                    elif text[at + 1 : at + 2] == b'"':
+                        field.append(0x22)
+                        at += 2
+                    else:
+                        at += 1
+                        break
+            while at < end and text[at] not in b",\r\n":
+                field.append(text[at])
+                at += 1
+            record.append(bytes(field))
+            is_open = at < end and text[at] == 0x2C
+            at += 1
+        records.append(record)
+
+
+def items_of(text: bytes) -> list[Item]:
+    """The stream of a text, or the refusal of its first bad record."""
+    items: list[Item] = []
+    total = 0
+    for number, record in enumerate(fields_of(text), 1):
+        cause, weight = None, 1
+        if len(record) > 2:
+            cause = "wrong number of fields"
+        elif not record[0]:
+            cause = "empty key"
+        elif len(record[0]) > MAX_KEY:
+            cause = "key too long"
+        elif len(record) == 2 and not (1 <= len(record[1]) <= 20 and all(b in b"0123456789" for b in record[1])):
+            cause = "bad weight"
+        else:
+            weight = int(record[1]) if len(record) == 2 else 1
+            if weight == 0:
+                cause = "zero weight"
+            elif total + weight > MAX_TOTAL:
+                cause = "total too large"
+        if cause:
+            raise Refused(f"record {number}: {cause}")
+        items.append((record[0], weight))
+        total += weight
+    return items
+
+
+def weights_of(items: list[Item]) -> dict[bytes, int]:
+    weights: dict[bytes, int] = {}
+    for key, weight in items:
+        weights[key] = weights.get(key, 0) + weight
+    return weights
+
+
+def total_of(items: list[Item]) -> int:
+    return sum(weight for _, weight in items)
+
+
+# ---- reports
+
+
+def field_text(field: bytes) -> bytes:
+    if any(byte in b',"\r\n' for byte in field):
+        return b'"' + field.replace(b'"', b'""') + b'"'
+    return field
+
+
+def row_text(*fields: bytes | int) -> bytes:
+    texts = [str(field).encode() if isinstance(field, int) else field_text(field) for field in fields]
+    return b",".join(texts) + b"\n"
+
+
+def rows_text(rows: list[Item]) -> bytes:
+    return b"".join(row_text(key, weight) for key, weight in rows)
+
+
+def heavy(items: list[Item], p: int, q: int) -> list[Item]:
+    """The keys with more than p/q of the total, by falling weight and then by rising key."""
+    total = total_of(items)
+    rows = [(key, weight) for key, weight in weights_of(items).items() if q * weight > p * total]
+    return sorted(rows, key=lambda row: (-row[1], row[0]))
+
+
+# ---- summaries
+
+
+@dataclass
+class Summary:
+    k: int
+    total: int
+    counters: dict[bytes, int]
+
+    def slack(self) -> int:
+        return (self.total - sum(self.counters.values())) // (self.k + 1)
+
+
+@dataclass
+class Table:
+    width: int
+    z: int
+    rows: list[tuple[int, int]]
+    total: int
+    cells: list[list[int]]
+
+
+def cut(counters: dict[bytes, int], k: int) -> dict[bytes, int]:
+    """The counters less the largest but k, those above 0."""
+    ranked = sorted(counters.values(), reverse=True)
+    level = ranked[k] if len(ranked) > k else 0
+    return {key: counter - level for key, counter in counters.items() if counter > level}
+
+
+def misra_gries(items: list[Item], k: int) -> Summary:
+    counters: dict[bytes, int] = {}
+    for key, weight in items:
+        counters[key] = counters.get(key, 0) + weight
+        if len(counters) > k:
+            counters = cut(counters, k)
+    return Summary(k, total_of(items), counters)
+
+
+def places(table: Table, key: bytes) -> list[int]:
+    """The cell of a key in each row."""
+    fingerprint = 0
+    for byte in key:
+        fingerprint = (fingerprint * table.z + byte + 1) % PRIME
+    return [(a * fingerprint + b) % PRIME % table.width for a, b in table.rows]
+
+
+def estimate(table: Table, key: bytes) -> int:
+    return min(row[place] for row, place in zip(table.cells, places(table, key)))
+
+
+# ---- saved files
+
+
+def number(value: int, size: int) -> bytes:
+    return value.to_bytes(size, "big")
+
+
+def written(saved: Summary | Table) -> bytes:
+    if isinstance(saved, Summary):
+        parts = [b"HHS1\x01", number(saved.k, 2), number(saved.total, 8), number(len(saved.counters), 2)]
+        for key in sorted(saved.counters):
+            parts += [number(len(key), 1), key, number(saved.counters[key], 8)]
+        return b"".join(parts)
+    parts = [b"HHS1\x02", number(saved.width, 4), number(len(saved.rows), 1), number(saved.z, 8)]
+    parts += [number(a, 8) + number(b, 8) for a, b in saved.rows]
+    parts.append(number(saved.total, 8))
+    parts += [number(cell, 8) for row in saved.cells for cell in row]
+    return b"".join(parts)
+
+
+class Fields:
+    """Bytes read field by field."""
+
+    def __init__(self, data: bytes) -> None:
+        self.data = data
+        self.at = 0
+
+    def take(self, size: int) -> bytes:
+        if len(self.data) - self.at < size:
+            raise Refused("truncated")
+        self.at += size
+        return self.data[self.at - size : self.at]
+
+    def number(self, size: int, holds, fault: str) -> int:
+        value = int.from_bytes(self.take(size), "big")
+        if not holds(value):
+            raise Refused(fault)
+        return value
+
+
+def read_summary(fields: Fields) -> Summary:
+    k = fields.number(2, lambda n: n > 0, "bad k")
+    total = fields.number(8, lambda n: n <= MAX_TOTAL, "total too large")
+    count = fields.number(2, lambda n: n <= k, "bad count")
+    counters: dict[bytes, int] = {}
+    before, added = b"", 0
+    for _ in range(count):
+        key = fields.take(fields.number(1, lambda n: n > 0, "bad key"))
+        if key <= before:
+            raise Refused("keys out of order")
+        counter = fields.number(8, lambda n: n > 0, "bad counter")
+        before, added = key, added + counter
+        if added > total:
+            raise Refused("counters above total")
+        counters[key] = counter
+    return Summary(k, total, counters)
+
+
+def read_table(fields: Fields) -> Table:
+    width = fields.number(4, lambda n: 1 <= n <= 65536, "bad width")
+    depth = fields.number(1, lambda n: 1 <= n <= 16, "bad depth")
+    family = Fields(fields.take(8 + 16 * depth))
+    z = int.from_bytes(family.take(8), "big")
+    rows = [(int.from_bytes(family.take(8), "big"), int.from_bytes(family.take(8), "big")) for _ in range(depth)]
+    if not (1 <= z < PRIME and all(1 <= a < PRIME and b < PRIME for a, b in rows)):
+        raise Refused("bad coefficient")
+    total = fields.number(8, lambda n: n <= MAX_TOTAL, "total too large")
+    cells = []
+    for _ in range(depth):
+        row = Fields(fields.take(8 * width))
+        cells.append([int.from_bytes(row.take(8), "big") for _ in range(width)])
+        if sum(cells[-1]) != total:
+            raise Refused("row does not sum to total")
+    return Table(width, z, rows, total, cells)
+
+
+def read(data: bytes) -> Summary | Table:
+    """The value that the bytes spell, or the first fault from the left."""
+    fields = Fields(data)
+    if fields.take(4) != b"HHS1":
+        raise Refused("bad magic")
+    kind = fields.number(1, lambda n: n in (1, 2), "bad kind")
+    saved = read_summary(fields) if kind == 1 else read_table(fields)
+    if fields.at < len(data):
+        raise Refused("trailing bytes")
+    return saved
+
+
+def read_file(data: bytes, place: int = 1) -> Summary | Table:
+    try:
+        return read(data)
+    except Refused as fault:
+        raise Refused(f"file {place}: {fault.text}") from None
+
+
+# ---- commands
+
+
+def report(text: bytes, k: int) -> bytes:
+    return rows_text(heavy(items_of(text), 1, k + 1))
+
+
+def summarise(text: bytes, k: int) -> bytes:
+    return written(misra_gries(items_of(text), k))
+
+
+def ask(data: bytes, keys: list[bytes]) -> bytes:
+    saved = read_file(data)
+    for place, key in enumerate(keys, 1):
+        if not key:
+            raise Refused(f"key {place}: empty")
+        if len(key) > MAX_KEY:
+            raise Refused(f"key {place}: too long")
+    rows = []
+    for key in keys:
+        if isinstance(saved, Summary):
+            low = saved.counters.get(key, 0)
+            rows.append(row_text(key, low, low + saved.slack()))
+        else:
+            rows.append(row_text(key, 0, estimate(saved, key)))
+    return b"".join(rows)
+
+
+def merge_two(one: Summary | Table, other: Summary | Table, place: int) -> Summary | Table:
+    def refuse(cause: str) -> None:
+        raise Refused(f"file {place}: {cause}")
+
+    if type(one) is not type(other):
+        refuse("another kind")
+    if isinstance(one, Summary):
+        if one.k != other.k:
+            refuse("another k")
+        if one.total + other.total > MAX_TOTAL:
+            refuse("total too large")
+        added = dict(one.counters)
+        for key, counter in other.counters.items():
+            added[key] = added.get(key, 0) + counter
+        return Summary(one.k, one.total + other.total, cut(added, one.k))
+    if (one.z, one.rows) != (other.z, other.rows):
+        refuse("another hash family")
+    if one.width != other.width:
+        refuse("another width")
+    if one.total + other.total > MAX_TOTAL:
+        refuse("total too large")
+    cells = [[a + b for a, b in zip(*rows)] for rows in zip(one.cells, other.cells)]
+    return Table(one.width, one.z, one.rows, one.total + other.total, cells)
+
+
+def merge(files: list[bytes]) -> bytes:
+    merged = read_file(files[0])
+    for place, data in enumerate(files[1:], 2):
+        merged = merge_two(merged, read_file(data, place), place)
+    return written(merged)
+
+
+def confirm(data: bytes, text: bytes) -> bytes:
+    saved = read_file(data)
+    if not isinstance(saved, Summary):
+        raise Refused("file 1: not a counter summary")
+    items = items_of(text)
+    if total_of(items) != saved.total:
+        raise Refused("file 1: its total is not the input's")
+    return rows_text([row for row in heavy(items, 1, saved.k + 1) if row[0] in saved.counters])
+
+
+def answer(command, *given) -> tuple[int, bytes, bytes]:
+    """The status, standard output and standard error of a command."""
+    try:
+        return 0, command(*given), b""
+    except Refused as fault:
+        return fault.status, b"", f"heavy: {fault.text}\n".encode()

@@ -1,0 +1,212 @@
+#!/usr/bin/env python3
+"""Runs each public call, and each command of the program, with its first request for memory refused, then the
+second, and so on until a run meets no refusal.
+
+usage: tests/refused_memory.py
+
+Each run has to answer as with ample memory, or to answer Memory and leave everything as it was, after which the
+same call answers as ever. The calls that take no memory have to meet no refusal at all. Prints one line: how
+many calls, runs and wrong answers there were.
+"""
+import os
+import sys
+import tempfile
+from concurrent.futures import ThreadPoolExecutor
+from pathlib import Path
+
+import programs
+
+# The program heavy_memory marks a call by requests of these sizes.
+MARKS = {"REFUSE_FROM": "100003", "REFUSE_TO": "100019"}
+
+# The public calls that can answer Memory, by crate.
+CALLS = {
+    "hh_stream": ["Key::new", "Key::copy", "Stream::push", "Cutting::even", "Cutting::by_lengths"],
+    "hh_counters": [
+        "Summary::add", "Summary::of_items", "Summary::merge", "Candidates::of", "Candidates::select",
+        "SpaceSaving::add", "SpaceSaving::into_summary", "BucketSaving::new", "BucketSaving::add",
+        "BucketSaving::add monitored", "BucketSaving::into_summary", "monitored_summary",
+    ],
+    "hh_countmin": ["Family::draw", "Family::from_parts", "Family::copy", "Table::new"],
+    "hh_saved": ["write", "write table", "read", "read table"],
+    "hh_shared": ["SharedSums::new", "SharedSums::close"],
+    "hh_pool": [
+        "Plan::chain", "Plan::balanced", "Plan::parse", "merge_by", "first_pass", "second_pass", "analyse",
+    ],
+    "heavy": [
+        "read_stream", "report_text", "write_report", "confirm", "summary_bytes mg", "summary_bytes ss",
+        "table_bytes", "merge_bytes", "merge_bytes tables", "ask_bytes", "confirm_bytes", "run_report",
+    ],
+}
+
+# Calls that take no memory, many in one run, and calls whose answer comes before any growth.
+TAKE_NONE = {
+    "hh_stream": ["readers"],
+    "hh_counters": ["readers", "monitor readers", "SpaceSaving::add monitored"],
+    "hh_countmin": ["readers"],
+    "hh_saved": ["read truncated summary", "read truncated table"],
+    "hh_shared": ["steps"],
+    "hh_pool": ["readers"],
+    "heavy": ["put"],
+}
+
+RECORDS = b"a,5\nb,3\nc,2\na,1\n"
+LONG_RECORDS = RECORDS.replace(b"a", b"a" * 40).replace(b"b", b"b" * 40).replace(b"c", b"c" * 40)
+OUT_OF_MEMORY = b"heavy: out of memory\n"
+
+
+class Refusing:
+    """Runs programs under the library that refuses, and counts."""
+
+    def __init__(self, library: str) -> None:
+        self.library = library
+        self.runs = 0
+        self.wrong = 0
+
+    def run(self, words: list[str], at: int, given: bytes, marks: dict[str, str]) -> tuple[programs.Ended, bool]:
+        """The run in which request number `at` is refused, none for 0, and whether one was."""
+        ear, mouth = os.pipe()
+        try:
+            env = {"LD_PRELOAD": self.library, "REFUSE_AT": str(at), "REFUSE_TOLD_ON": str(mouth), **marks}
+            ended = programs.run(words, given, env, pass_fds=(mouth,))
+        finally:
+            os.close(mouth)
+        told = os.read(ear, 64)
+        os.close(ear)
+        self.runs += 1
+        return ended, told != b""
+
+    def tell(self, words: list[str], at: int, said: object) -> None:
+        self.wrong += 1
+        print(f"WRONG: {' '.join(words[1:])}, request {at} refused: {said}", flush=True)
+
+    def in_turn(self, words: list[str], given: bytes, marks: dict[str, str], is_lawful) -> int:
+        """Refuses request 1, 2, and so on; the number of requests that a run makes."""
+        ample, _ = self.run(words, 0, given, marks)
+        for at in range(1, 1_000_000):
+            ended, was_refused = self.run(words, at, given, marks)
+            if not is_lawful(ample, ended):
+                self.tell(words, at, (ended.status, ended.out[-300:], ended.err[-300:]))
+            if not was_refused:
+                return at - 1
+        return 0
+
+
+def same(ample: programs.Ended, ended: programs.Ended) -> bool:
+    return (ended.status, ended.out, ended.err) == (ample.status, ample.out, ample.err)
+
+
+def is_lawful_call(ample: programs.Ended, ended: programs.Ended) -> bool:
+    """The ample answer, or Memory with everything as it was, and then the ample answer."""
+    if ample.status != 0 or b"answer " not in ample.out:
+        return False
+    lines = ample.out.splitlines(keepends=True)
+    before = []
+    for line in lines:
+        if not line.startswith(b"shows "):
+            break
+        before.append(line)
+    again = b"".join(before) + b"memory\n" + ample.out
+    return same(ample, ended) or (ended.status, ended.out, ended.err) == (0, again, b"")
+
+
+def is_lawful_run(ample: programs.Ended, ended: programs.Ended) -> bool:
+    """The ample answer, or status 4 with its line and nothing on standard output."""
+    return same(ample, ended) or (ended.status, ended.out, ended.err) == (4, b"", OUT_OF_MEMORY)
+
+
+def try_calls(refusing: Refusing, program: str) -> int:
+    """All calls with short and with long keys; how many there are."""
+    rows = [(of, name, length) for of, names in CALLS.items() for name in names for length in ("short", "long")]
+    none = [(of, name, length) for of, names in TAKE_NONE.items() for name in names for length in ("short", "long")]
+
+    def one(row: tuple[str, str, str]) -> None:
+        words = [program, *row]
+        made = refusing.in_turn(words, b"", MARKS, is_lawful_call)
+        is_free = row in none or row[1:] in (("Key::new", "short"), ("Key::copy", "short"))
+        if (made == 0) != is_free and row[1] not in FREE_OR_NOT:
+            refusing.tell(words, 0, f"it made {made} requests")
+
+    with ThreadPoolExecutor() as pool:
+        list(pool.map(one, rows + none))
+    return sum(len(names) for names in CALLS.values()) + sum(len(names) for names in TAKE_NONE.values())
+
+
+# A monitored key is copied where it moves, if it is long; translating a plain monitor takes nothing.
+FREE_OR_NOT = {"BucketSaving::add monitored", "SpaceSaving::into_summary"}
+
+
+def try_many_keys(refusing: Refusing, program: str) -> None:
+    """Confirming the summary of 20,000 long keys makes no request for each key."""
+    words = [program, "heavy", "confirm many keys", "long"]
+    ample, _ = refusing.run(words, 0, b"", MARKS)
+    ended, was_refused = refusing.run(words, 41, b"", MARKS)
+    if ample.out != b"answer \n" or not same(ample, ended) or was_refused:
+        refusing.tell(words, 41, ended)
+
+
+def try_first_piece(refusing: Refusing, program: str) -> None:
+    """Of the refused runs of an analysis by one worker, most stop in the first pass over the first piece, of 2,000
+    keys: so it is done by the worker, once, after one call of the gate."""
+    words = [program, "hh_pool", "analyse many keys", "short"]
+    ample, _ = refusing.run(words, 0, b"", MARKS)
+    once = more = 0
+    for at in range(1, 1_000_000):
+        ended, was_refused = refusing.run(words, at, b"", MARKS)
+        if not was_refused:
+            break
+        first, _, rest = ended.out.partition(b"\n")
+        if first.startswith(b"memory after ") and rest == ample.out:
+            calls = int(first.split()[2])
+            once, more = once + (calls == 1), more + (calls > 1)
+        elif not same(ample, ended):
+            refusing.tell(words, at, ended)
+    if not (ample.out.endswith(b"answer 4 calls: \n") and once > more and more < 500):
+        refusing.tell(words, 0, f"{once} runs stopped after one call of the gate, {more} after more: {ample}")
+
+
+def try_commands(refusing: Refusing, program: str, room: str) -> int:
+    """All commands, from the first request of the process on; how many there are."""
+    saved, table = f"{room}/summary", f"{room}/table"
+    Path(saved).write_bytes(programs.run([program, "summarise", "--k", "2"], RECORDS).out)
+    Path(table).write_bytes(programs.run([program, "table", "--depth", "2", "--width", "4"], RECORDS).out)
+    rows = [
+        (["report", "--k", "2"], RECORDS),
+        (["report", "--k", "2", "--workers", "2", "--tree", "((0 1) (2 3))"], LONG_RECORDS),
+        (["report", "--k", "0"], RECORDS),
+        (["report", "--k", "2"], b"a,0\n"),
+        (["summarise", "--k", "2"], LONG_RECORDS),
+        (["summarise", "--k", "2", "--method", "ss"], LONG_RECORDS),
+        (["summarise", "--method", "no"], RECORDS),
+        (["table", "--depth", "2", "--width", "4"], LONG_RECORDS),
+        (["merge", saved, saved], b""),
+        (["merge", table, table], b""),
+        (["merge", saved, table], b""),
+        (["merge", f"{room}/none"], b""),
+        (["ask", saved, "a", "z" * 40], b""),
+        (["confirm", saved], RECORDS),
+        (["--help"], b""),
+        (["report", "--help"], b""),
+        (["report", "--nothing"], b""),
+        (["ask", saved], b""),
+        ([], b""),
+    ]
+    with ThreadPoolExecutor() as pool:
+        list(pool.map(lambda row: refusing.in_turn([program, *row[0]], row[1], {}, is_lawful_run), rows))
+    return len(rows)
+
+
+def main() -> None:
+    with tempfile.TemporaryDirectory() as room:
+        refusing = Refusing(programs.preloaded("refuse.c", room))
+        memory = programs.built("heavy_memory")
+        calls = try_calls(refusing, memory)
+        try_many_keys(refusing, memory)
+        try_first_piece(refusing, memory)
+        commands = try_commands(refusing, programs.built("heavy_cli"), room)
+    print(f"refused memory: {calls + 2} calls, {commands} command lines, {refusing.runs} runs, {refusing.wrong} wrong")
+    sys.exit(1 if refusing.wrong else 0)
+
+
+if __name__ == "__main__":
+    main()
