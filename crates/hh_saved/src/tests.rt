@@ -96,6 +96,11 @@ fn each_spoiled_field_of_a_summary_has_its_fault(rt: HostRuntime) -> Result<(), 
         (28, b"a".as_slice(), SavedFault::KeyOrder),
         (36, b"\x00".as_slice(), SavedFault::BadCounter),
         (26, b"\x0b".as_slice(), SavedFault::SumTooLarge),
+        (
+            19,
+            b"\xff\xff\xff\xff\xff\xff\xff\xff".as_slice(),
+            SavedFault::SumTooLarge,
+        ),
     ];
     for (at, field, wanted) in cases {
         let bytes = spoiled(&rt, COUNTERS, at, field)?;
@@ -120,6 +125,12 @@ fn each_spoiled_field_of_a_table_has_its_fault(rt: HostRuntime) -> Result<(), Fa
         ),
         (81, b"\x06".as_slice(), SavedFault::RowSum),
         (57, b"\x09".as_slice(), SavedFault::RowSum),
+        // a row whose sum is 2^64 + 8
+        (
+            58,
+            b"\xff\xff\xff\xff\xff\xff\xff\xff\x00\x00\x00\x00\x00\x00\x00\x09\x00\x00\x00\x00\x00\x00\x00\x00\x00\x00\x00\x00\x00\x00\x00\x00".as_slice(),
+            SavedFault::RowSum,
+        ),
     ];
     for (at, field, wanted) in cases {
         let bytes = spoiled(&rt, CELLS, at, field)?;
@@ -143,6 +154,16 @@ fn prefixes_are_truncated_and_more_bytes_trail(rt: HostRuntime) -> Result<(), Fa
         assert_eq!(rt; fault(&rt, &longer), Some(SavedFault::Trailing));
     }
     Ok(())
+}
+
+#[test]
+fn heads_that_promise_much_are_truncated(rt: HostRuntime) {
+    for bytes in [
+        b"HHS1\x01\xff\xff\x00\x00\x00\x00\x00\x00\x00\x00\xff\xff".as_slice(),
+        b"HHS1\x02\x00\x01\x00\x00\x10".as_slice(),
+    ] {
+        assert_eq!(rt; fault(&rt, bytes), Some(SavedFault::Truncated));
+    }
 }
 
 #[test]

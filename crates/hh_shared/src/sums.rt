@@ -1,6 +1,6 @@
 //! The sums that threads share, and the seats by which they claim and add.
 
-ghost use Rattle.std.specs.Prelude.{◌≡◌, ◌+◌, ◌<◌, ◌≤◌, ◌↔◌, ℕ, [], ◌∷◌, ◌++◌, length, slice_index, vec_len, IfOk, IsTrue, MatchBool};
+ghost use Rattle.std.specs.Prelude.{◌≡◌, ◌+◌, ◌<◌, ◌≤◌, ◌↔◌, ℕ, [], ◌∷◌, ◌++◌, length, slice_index, vec_len, IsOk, IfOk, IsTrue, MatchBool};
 ghost use Rattle.hh_shared.specs.Tally.{sum_at, IsDistinctBelow, HasAllBelow, AreDisjoint};
 ghost use Rattle.hh_shared.specs.Seats.{fresh, joined};
 
@@ -156,6 +156,7 @@ impl SharedSums {
         requires seat { seat.sums ≡ self }
         requires all { HasAllBelow self.claims seat.claims }
         ensures len { IfOk result (λ sums. vec_len sums ≡ self.cells) }
+        ensures none { self.cells ≡ 0 → IsOk result }
         ensures sums { IfOk result (λ sums. (cell : ℕ) → cell < self.cells → slice_index sums.items cell ≡ sum_at seat.adds cell) }
     {
         let SumSeat { seat, count: _ } = seat;
