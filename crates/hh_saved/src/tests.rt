@@ -177,3 +177,45 @@ fn keys_rise(rt: HostRuntime) -> Result<(), Fail> {
     assert_eq!(rt; fault(&rt, &exchanged), Some(SavedFault::KeyOrder));
     Ok(())
 }
+
+#[test]
+fn as_many_counters_as_k_allows_are_saved(rt: HostRuntime) -> Result<(), Fail> {
+    let mut summary = Summary::new(rt.alloc(), 65_535)?;
+    for number in 0..65_535u16 {
+        summary.add(&key(&rt, &number.to_be_bytes())?, 1)?;
+    }
+    let bytes = write(rt.alloc(), &Saved::Counters(summary))?;
+    assert_eq!(rt; bytes.len(), 17 + 65_535 * 11);
+    let Saved::Counters(summary) = read(rt.alloc(), &bytes)? else {
+        panic!(rt; "a summary was read as a table");
+    };
+    assert_eq!(rt; (summary.len(), summary.total()), (65_535, 65_535));
+    Ok(())
+}
+
+#[test]
+fn a_family_of_16_rows_is_saved(rt: HostRuntime) -> Result<(), Fail> {
+    let family = Family::draw(rt.alloc(), 7, 16)?;
+    let table = Table::new(rt.alloc(), family.copy()?, 3)?;
+    let bytes = write(rt.alloc(), &Saved::Cells(table))?;
+    assert_eq!(rt; bytes.len(), 26 + 16 * 16 + 16 * 24);
+    let Saved::Cells(table) = read(rt.alloc(), &bytes)? else {
+        panic!(rt; "a table was read as a summary");
+    };
+    assert!(rt; *table.family() == family);
+    Ok(())
+}
+
+#[test]
+fn a_key_of_255_bytes_is_saved(rt: HostRuntime) -> Result<(), Fail> {
+    let longest = key(&rt, &[0xff; 255])?;
+    let mut summary = Summary::new(rt.alloc(), 1)?;
+    summary.add(&longest, 9)?;
+    let bytes = write(rt.alloc(), &Saved::Counters(summary))?;
+    assert_eq!(rt; bytes.len(), 17 + 255 + 9);
+    let Saved::Counters(summary) = read(rt.alloc(), &bytes)? else {
+        panic!(rt; "a summary was read as a table");
+    };
+    assert_eq!(rt; summary.get(&longest), 9);
+    Ok(())
+}
