@@ -317,6 +317,27 @@ select_more p q n ks ns i k e l is =
     let at : get_or zs i (k, 0) ≡ (k, get_or ns i 0) = get_or-zip ks ns i (k, 0) l (omega arith) ∙ (λ j. (sym is j, get_or ns i 0)) in
     filter_more (is_heavy p q n) zs i (k, 0) long ∙ ap (λ (z : Entry). filter (is_heavy p q n) (take i zs) ++ cond (is_heavy p q n z) (z ∷ []) []) at
 
+-- where nothing of a list passes, no entry does
+rest_fails : (b : Bool) (e : Entry) (es : List Entry) → cond b (e ∷ es) es ≡ [] → es ≡ []
+rest_fails true e es none = absurd cc
+rest_fails false e es none = none
+
+nothing_passes : (p : Entry → Bool) (es : List Entry) (i : ℕ) (d : Entry) → filter p es ≡ [] → i < length es → p (get_or es i d) ≡ true → ⊥
+nothing_passes p [] i d none lt pass = omega arith
+nothing_passes p (e ∷ es) zero d none lt pass = let kept : e ∷ filter p es ≡ [] = rw pass at none in absurd cc
+nothing_passes p (e ∷ es) (suc i) d none lt pass = nothing_passes p es i d (rest_fails (p e) e (filter p es) none) (omega arith) pass
+
+pub nothing_heavy : (p q n : ℕ) (ks : List Bytes) (ns : List ℕ) (i : ℕ) → length ns ≡ length ks → i < length ks → filter (is_heavy p q n) (zip ks ns) ≡ [] → nat_lt (p * n) (q * get_or ns i 0) ≡ true → ⊥
+nothing_heavy p q n ks ns i e l none heavy =
+    let zs = zip ks ns in
+    let at : get_or zs i ([], 0) ≡ (get_or ks i [], get_or ns i 0) = get_or-zip ks ns i ([], 0) l (omega arith) in
+    nothing_passes (is_heavy p q n) zs i ([], 0) none (omega (arith, length-zip ks ns)) (ap (is_heavy p q n) at ∙ heavy)
+
+-- nothing in order is nothing
+pub by_rank_nothing : (es : List Entry) → by_rank es ≡ [] → es ≡ []
+by_rank_nothing [] none = refl
+by_rank_nothing (e ∷ es) none = absurd (subst (In e) none (by_rank-in e (e ∷ es) (inl refl)))
+
 pub rising-zip : (p : Entry → Bool) (ks : List Bytes) (ns : List ℕ) → length ns ≡ length ks → IsStrictlySortedBy key_cmp ks → IsStrictlySortedBy key_cmp (keys_of (filter p (zip ks ns)))
 rising-zip p ks ns e h = rising-filter p (zip ks ns) (subst (IsStrictlySortedBy key_cmp) (sym (keys_of-zip ks ns e)) h)
 

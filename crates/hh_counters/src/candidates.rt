@@ -1,6 +1,6 @@
 //! The keys of a summary as candidates for the report.
 
-ghost use Rattle.std.specs.Prelude.{◌≡◌, ℕ, ◌+◌, ◌<◌, ◌≤◌, ◌^◌, ◌↔◌, ◌==◌, All, Contains, IsSome, IfSome, IfOk, Some, length, slice_get, zip};
+ghost use Rattle.std.specs.Prelude.{◌≡◌, ℕ, ◌+◌, ◌<◌, ◌≤◌, ◌^◌, ◌↔◌, ◌==◌, [], All, Contains, IsSome, IfSome, IsOk, IfOk, Some, length, slice_get, zip};
 ghost use Rattle.std.specs.List.Sorted.{IsStrictlySortedBy};
 ghost use Rattle.std.specs.Map.{keys_of};
 ghost use Rattle.hh_stream.specs.Weights.{key_cmp, total_of};
@@ -101,8 +101,11 @@ impl Candidates {
         requires lengths { length numbers.now ≡ length self.now }
         requires some_k { 1 ≤ k }
         requires bounded_k { k ≤ MAX_K }
-        ensures { IfOk result
+        ensures rows { IfOk result
             (λ rows. rows.items ≡ selected 1 (k + 1) total (zip self.now numbers.now)) }
+
+        // a report without rows takes no memory
+        ensures none { selected 1 (k + 1) total (zip self.now numbers.now) ≡ [] → IsOk result }
     {
         let alloc = *self.keys.allocator();
         selected_rows(alloc, self.keys.as_slice(), numbers, 1, k + 1, total)

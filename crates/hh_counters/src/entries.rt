@@ -1,6 +1,6 @@
 //! Work on lists of keys with counters, by rising key.
 
-ghost use Rattle.std.specs.Prelude.{◌≡◌, ℕ, ◌+◌, ◌<◌, ◌≤◌, ◌^◌, ◌↔◌, ◌-◌, [], ◌∷◌, ◌++◌, map, All, OnOk, OnErr, IsTrue, IfOk, IfErr, length, HoldsAt, slice_index_or};
+ghost use Rattle.std.specs.Prelude.{◌≡◌, ℕ, ◌+◌, ◌<◌, ◌≤◌, ◌^◌, ◌↔◌, ◌-◌, [], ◌∷◌, ◌++◌, map, All, OnOk, OnErr, IsOk, IsTrue, IfOk, IfErr, length, HoldsAt, slice_index_or};
 ghost use Rattle.std.specs.List.{AllWithin};
 ghost use Rattle.std.specs.List.Sorted.{IsStrictlySortedBy};
 ghost use Rattle.std.specs.Map.{keys_of};
@@ -131,6 +131,9 @@ pub fn add_entry(entries: &mut Vec<(Key, u64)>, key: &Key, weight: u64) -> Resul
     requires bounded { total_of entries.old.items + weight < 2 ^ 64 }
     ensures ok { OnOk result (entries.new.items ≡ add_at entries.old.items (key.now, weight)) }
     ensures err { OnErr result (entries.new.items ≡ entries.old.items) }
+
+    // a key that is there takes no memory
+    ensures known { 0 < weight_of key.now entries.old.items → IsOk result }
 {
     match place_of(entries, key) {
         Ok(place) => {
@@ -156,6 +159,7 @@ pub fn add_item(
     ensures joined { OnOk result
         (entries.new.items ≡ join entries.old.items ((key.now, weight) ∷ []) k) }
     ensures unchanged { OnErr result (entries.new.items ≡ entries.old.items) }
+    ensures known { 0 < weight_of key.now entries.old.items → IsOk result }
 {
     add_entry(entries, key, weight)?;
     if entries.len() as u64 > k {

@@ -1,6 +1,6 @@
 //! The rows of a report, and their choice among candidates.
 
-ghost use Rattle.std.specs.Prelude.{◌≡◌, ◌*◌, nat_lt, IfOk, filter, length, zip};
+ghost use Rattle.std.specs.Prelude.{◌≡◌, ◌*◌, nat_lt, [], IsOk, IfOk, filter, length, zip};
 ghost use Rattle.std.specs.List.Sorted.{IsStrictlySortedBy};
 ghost use Rattle.hh_stream.specs.Weights.{key_cmp};
 ghost use Rattle.hh_counters.specs.Report.{is_heavy, selected};
@@ -36,7 +36,8 @@ pub fn selected_rows(
 ) -> Result<Vec<Heavy>, AllocError>
     requires rising { IsStrictlySortedBy key_cmp keys.now }
     requires lengths { length numbers.now ≡ length keys.now }
-    ensures { IfOk result (λ rows. rows.items ≡ selected p q total (zip keys.now numbers.now)) }
+    ensures rows { IfOk result (λ rows. rows.items ≡ selected p q total (zip keys.now numbers.now)) }
+    ensures none { selected p q total (zip keys.now numbers.now) ≡ [] → IsOk result }
 {
     let mut rows = heavy_rows(alloc, keys, numbers, p, q, total)?;
     rows.sort_unstable_by(|a, b| b.weight.cmp(&a.weight).then(a.key.cmp(&b.key)));
@@ -53,8 +54,9 @@ fn heavy_rows(
     total: u64,
 ) -> Result<Vec<Heavy>, AllocError>
     requires { length numbers.now ≡ length keys.now }
-    ensures { IfOk result
+    ensures rows { IfOk result
         (λ rows. rows.items ≡ filter (is_heavy p q total) (zip keys.now numbers.now)) }
+    ensures none { filter (is_heavy p q total) (zip keys.now numbers.now) ≡ [] → IsOk result }
 {
     let mut rows = Vec::new(alloc);
     for i in 0..keys.len() {

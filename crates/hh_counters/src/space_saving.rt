@@ -1,9 +1,9 @@
 //! Space-Saving in its plain form.
 
-ghost use Rattle.std.specs.Prelude.{◌≡◌, ℕ, ◌+◌, ◌<◌, ◌≤◌, ◌^◌, ◌↔◌, ◌⊎◌, [], IfOk, IsErr, OnOk, OnErr, IsErrOf, length, slice_index_or};
+ghost use Rattle.std.specs.Prelude.{◌≡◌, ℕ, ◌+◌, ◌<◌, ◌≤◌, ◌^◌, ◌↔◌, ◌⊎◌, [], IfOk, IsOk, IsErr, OnOk, OnErr, IsErrOf, length, slice_index_or};
 ghost use Rattle.hh_stream.specs.Weights.{Entry, key_cmp, weight_of, total_of};
 ghost use Rattle.hh_counters.specs.Counters.{IsCounters, Sketch};
-ghost use Rattle.hh_counters.specs.SpaceSaving.{IsFirstLeast, IsMonitor, step, taken_over};
+ghost use Rattle.hh_counters.specs.SpaceSaving.{IsFirstLeast, IsMonitor, monitored, step, taken_over, translated};
 
 use crate::entries::{add_entry, counter_of, least_counter, lower_all};
 use crate::monitor::Monitor;
@@ -77,7 +77,17 @@ impl Monitor for SpaceSaving {
         counter_of(&self.entries, key)
     }
 
-    fn add(&mut self, key: &Key, weight: u64) -> Result<(), AddFault> {
+    fn add(&mut self, key: &Key, weight: u64) -> Result<(), AddFault>
+        requires { 0 < weight }
+        ensures added { OnOk result (self.new ≡ monitored self.old (key.now, weight)) }
+        ensures unchanged { OnErr result (self.new ≡ self.old) }
+        ensures too_large { IsErrOf result AddFault.TotalTooLarge
+            ↔ (MAX_TOTAL < self.old.total + weight) }
+
+        // a monitored key takes no memory
+        ensures known { 0 < weight_of key.now self.old.counters
+            → self.old.total + weight ≤ MAX_TOTAL → IsOk result }
+    {
         if weight > MAX_TOTAL - self.total {
             return Err(AddFault::TotalTooLarge);
         }
@@ -90,8 +100,12 @@ impl Monitor for SpaceSaving {
         }
     }
 
-    // It takes no memory.
-    fn into_summary(self) -> Result<Summary, SpaceSaving> {
+    fn into_summary(self) -> Result<Summary, SpaceSaving>
+        ensures translated { IfOk result (λ s. s ≡ translated self) }
+
+        // it takes no memory
+        ensures done { IsOk result }
+    {
         let least = self.least();
         let SpaceSaving {
             k,
@@ -111,6 +125,7 @@ fn add_item(entries: &mut Vec<(Key, u64)>, key: &Key, weight: u64, k: u64) -> Re
     requires bounded { total_of entries.old.items + weight < 2 ^ 63 }
     ensures step { OnOk result (entries.new.items ≡ step entries.old.items (key.now, weight) k) }
     ensures unchanged { OnErr result (entries.new.items ≡ entries.old.items) }
+    ensures known { 0 < weight_of key.now entries.old.items → IsOk result }
 {
     if 0 < counter_of(entries, key) || entries.len() as u64 <= k {
         return add_entry(entries, key, weight);

@@ -1,6 +1,6 @@
 //! Misra-Gries summaries.
 
-ghost use Rattle.std.specs.Prelude.{◌≡◌, ℕ, ◌+◌, ◌<◌, ◌≤◌, ◌^◌, ◌↔◌, ◌⊎◌, [], ◌≢◌, ◌==◌, IsTrue, IsErr, IsErrOf, IfOk, OnOk, OnErr, length, slice_index_or};
+ghost use Rattle.std.specs.Prelude.{◌≡◌, ℕ, ◌+◌, ◌<◌, ◌≤◌, ◌^◌, ◌↔◌, ◌⊎◌, [], ◌≢◌, ◌==◌, IsTrue, IsOk, IsErr, IsErrOf, IfOk, OnOk, OnErr, length, slice_index_or};
 ghost use Rattle.hh_stream.specs.Weights.{weight_of, total_of};
 ghost use Rattle.hh_counters.specs.Counters.{Fits, IsCounters, Sketch, added, merged, sketch_of, slack};
 
@@ -90,6 +90,9 @@ impl Summary {
         requires { total_of items.now ≤ MAX_TOTAL }
         ensures misra_gries { IfOk result (λ s. s ≡ sketch_of k items.now) }
         ensures bad_k { IsErrOf result OfItemsFault.BadK ↔ ((k ≡ 0) ⊎ (MAX_K < k)) }
+
+        // no items take no memory
+        ensures nothing { items.now ≡ [] → 1 ≤ k → k ≤ MAX_K → IsOk result }
     {
         let Ok(mut summary) = Summary::new(alloc, k) else {
             return Err(OfItemsFault::BadK);
@@ -199,6 +202,10 @@ impl Summary {
         ensures unchanged { OnErr result (self.new ≡ self.old) }
         ensures too_large { IsErrOf result AddFault.TotalTooLarge
             ↔ (MAX_TOTAL < self.old.total + weight) }
+
+        // a key that has a counter takes no memory
+        ensures known { 0 < weight_of key.now self.old.counters
+            → self.old.total + weight ≤ MAX_TOTAL → IsOk result }
     {
         if weight > MAX_TOTAL - self.total {
             return Err(AddFault::TotalTooLarge);

@@ -6,3 +6,4 @@ pub mod Fields
 pub mod Grids
 pub mod Loops
 pub mod Values
+pub mod Heads

@@ -29,6 +29,16 @@ abbrev pub Gives : {X Y : Type 0} → (X → Y) → Result X SavedFault → Resu
 Gives view (Ok x) read = read ≡ Ok (view x)
 Gives view (Err e) read = Fails e read
 
+-- what a function that takes no memory returned, seen by view, is what reading gives
+abbrev pub Reads : {X Y : Type 0} → (X → Y) → Result X SavedFault → Result Y SavedFault → Type 0
+Reads view (Ok x) read = read ≡ Ok (view x)
+Reads view (Err e) read = read ≡ Err e
+
+-- where reading the head fails, so did the function, with the same fault
+abbrev pub StopsAt : {X Y : Type 0} → Result X SavedFault → Result Y SavedFault → Type 0
+StopsAt result (Ok y) = Unit {0}
+StopsAt result (Err e) = result ≡ Err e
+
 -- a number, and the bytes after it
 abbrev pub number_at : Width → List ℕ → Result (ℕ × List ℕ) SavedFault
 number_at w bytes =
@@ -162,3 +172,39 @@ saved_of bytes = do
 -- the first fault of the bytes, where they spell nothing
 abbrev pub fault_of : List ℕ → Option SavedFault
 fault_of bytes = result_err (saved_of bytes)
+
+-- ---- what is read before any memory is taken, and the bytes after it
+
+-- the first entry, where there is one: its key takes the first memory
+unfoldable pub entries_head_at : ℕ → ℕ → List ℕ → Result (List ℕ) SavedFault
+entries_head_at zero left bytes = Ok bytes
+entries_head_at (suc n) left bytes = do
+  first ← entry_at [] left bytes
+  Ok first.1
+
+unfoldable pub sketch_head_at : List ℕ → Result (List ℕ) SavedFault
+sketch_head_at bytes = do
+  k ← number_where w16 (λ n. nat_lt 0 n) faults.BadK bytes
+  total ← total_at k.1
+  count ← number_where w16 (λ n. nat_le n k.0) faults.BadCount total.1
+  entries_head_at count.0 total.0 count.1
+
+-- the bytes of the family, whose coefficients take the first memory
+unfoldable pub grid_head_at : List ℕ → Result (List ℕ) SavedFault
+grid_head_at bytes = do
+  width ← number_where w32 (λ n. nat_le 1 n && nat_le n 65536) faults.BadWidth bytes
+  depth ← number_where w8 (λ n. nat_le 1 n && nat_le n 16) faults.BadDepth width.1
+  family ← bytes_at (8 + 16 * depth.0) depth.1
+  Ok family.1
+
+unfoldable pub body_head_at : ℕ → List ℕ → Result (List ℕ) SavedFault
+body_head_at kind bytes =
+    if kind == 1 then sketch_head_at bytes
+    else (if kind == 2 then grid_head_at bytes
+    else Err faults.BadKind)
+
+unfoldable pub head_at : List ℕ → Result (List ℕ) SavedFault
+head_at bytes = do
+  first ← number_where w32 (λ n. n == magic) faults.BadMagic bytes
+  kind ← number_at w8 first.1
+  body_head_at kind.0 kind.1

@@ -4,7 +4,7 @@ ghost use Rattle.std.specs.Prelude.{◌≡◌, ◌⊎◌, ◌≤◌, ◌<◌, �
 ghost use Rattle.std.specs.Int.{w8, w16, w32, w64, from_be_bytes};
 ghost use Rattle.hh_saved.specs.declared.saved.Saved.{Saved};
 ghost use Rattle.hh_saved.specs.Spelling.{Spells};
-ghost use Rattle.hh_saved.specs.Reading.{Gives, number_at, bytes_at, total_at, with_front, last_key_of, key_at, entry_at, entries_at, sketch_at, blocks_in, pair_of, family_at, cells_in, row_at, rows_at, grid_at, body_at, value_at, saved_of};
+ghost use Rattle.hh_saved.specs.Reading.{Gives, Reads, StopsAt, number_at, bytes_at, total_at, with_front, last_key_of, key_at, entry_at, entries_at, sketch_at, blocks_in, pair_of, family_at, cells_in, row_at, rows_at, grid_at, body_at, value_at, saved_of, entries_head_at, sketch_head_at, grid_head_at, body_head_at, head_at};
 
 use crate::fault::SavedFault;
 use crate::format::{CELLS, COUNTERS, MAGIC};
@@ -28,13 +28,17 @@ pub fn read(alloc: Global, bytes: &[u8]) -> Result<Saved, SavedFault>
 
     // Which fault it is.
     ensures exact { Gives (λ v. v) result (saved_of bytes.now) }
+
+    // A fault before any memory is taken is found whatever the memory.
+    ensures early { (fault : SavedFault) → head_at bytes.now ≡ Err fault → result ≡ Err fault }
 {
     all_of(alloc, bytes)
 }
 
 #[tactic(auto, unfolding(crate::specs::Reading::saved_of))]
 fn all_of(alloc: Global, bytes: &[u8]) -> Result<Saved, SavedFault>
-    ensures { Gives (λ v. v) result (saved_of bytes.now) }
+    ensures all { Gives (λ v. v) result (saved_of bytes.now) }
+    ensures early { StopsAt result (head_at bytes.now) }
 {
     let (saved, rest) = value_of(alloc, bytes)?;
     if !rest.is_empty() {
@@ -43,9 +47,10 @@ fn all_of(alloc: Global, bytes: &[u8]) -> Result<Saved, SavedFault>
     Ok(saved)
 }
 
-#[tactic(auto, unfolding(crate::specs::Reading::value_at))]
+#[tactic(auto, unfolding(crate::specs::Reading::value_at, crate::specs::Reading::head_at))]
 fn value_of(alloc: Global, bytes: &[u8]) -> Result<(Saved, &[u8]), SavedFault>
-    ensures { Gives (λ x. (x.0, x.1.now)) result (value_at bytes.now) }
+    ensures value { Gives (λ x. (x.0, x.1.now)) result (value_at bytes.now) }
+    ensures early { StopsAt result (head_at bytes.now) }
 {
     let (magic, rest) = u32_of(bytes)?;
     if magic != MAGIC {
@@ -55,9 +60,10 @@ fn value_of(alloc: Global, bytes: &[u8]) -> Result<(Saved, &[u8]), SavedFault>
     body_of(alloc, kind, rest)
 }
 
-#[tactic(auto, unfolding(crate::specs::Reading::body_at))]
+#[tactic(auto, unfolding(crate::specs::Reading::body_at, crate::specs::Reading::body_head_at))]
 fn body_of(alloc: Global, kind: u8, bytes: &[u8]) -> Result<(Saved, &[u8]), SavedFault>
-    ensures { Gives (λ x. (x.0, x.1.now)) result (body_at kind bytes.now) }
+    ensures body { Gives (λ x. (x.0, x.1.now)) result (body_at kind bytes.now) }
+    ensures early { StopsAt result (body_head_at kind bytes.now) }
 {
     if kind == COUNTERS {
         let (summary, rest) = summary_of(alloc, bytes)?;
@@ -73,7 +79,7 @@ fn body_of(alloc: Global, kind: u8, bytes: &[u8]) -> Result<(Saved, &[u8]), Save
 // ---- fields
 
 fn bytes_of(len: usize, bytes: &[u8]) -> Result<(&[u8], &[u8]), SavedFault>
-    ensures { Gives (λ x. (x.0.now, x.1.now)) result (bytes_at len bytes.now) }
+    ensures { Reads (λ x. (x.0.now, x.1.now)) result (bytes_at len bytes.now) }
 {
     if bytes.len() < len {
         return Err(SavedFault::Truncated);
@@ -82,7 +88,7 @@ fn bytes_of(len: usize, bytes: &[u8]) -> Result<(&[u8], &[u8]), SavedFault>
 }
 
 fn u8_of(bytes: &[u8]) -> Result<(u8, &[u8]), SavedFault>
-    ensures { Gives (λ x. (x.0, x.1.now)) result (number_at w8 bytes.now) }
+    ensures { Reads (λ x. (x.0, x.1.now)) result (number_at w8 bytes.now) }
 {
     if bytes.is_empty() {
         return Err(SavedFault::Truncated);
@@ -92,7 +98,7 @@ fn u8_of(bytes: &[u8]) -> Result<(u8, &[u8]), SavedFault>
 }
 
 fn u16_of(bytes: &[u8]) -> Result<(u16, &[u8]), SavedFault>
-    ensures { Gives (λ x. (x.0, x.1.now)) result (number_at w16 bytes.now) }
+    ensures { Reads (λ x. (x.0, x.1.now)) result (number_at w16 bytes.now) }
 {
     if bytes.len() < 2 {
         return Err(SavedFault::Truncated);
@@ -102,7 +108,7 @@ fn u16_of(bytes: &[u8]) -> Result<(u16, &[u8]), SavedFault>
 }
 
 fn u32_of(bytes: &[u8]) -> Result<(u32, &[u8]), SavedFault>
-    ensures { Gives (λ x. (x.0, x.1.now)) result (number_at w32 bytes.now) }
+    ensures { Reads (λ x. (x.0, x.1.now)) result (number_at w32 bytes.now) }
 {
     if bytes.len() < 4 {
         return Err(SavedFault::Truncated);
@@ -113,7 +119,7 @@ fn u32_of(bytes: &[u8]) -> Result<(u32, &[u8]), SavedFault>
 }
 
 fn u64_of(bytes: &[u8]) -> Result<(u64, &[u8]), SavedFault>
-    ensures { Gives (λ x. (x.0, x.1.now)) result (number_at w64 bytes.now) }
+    ensures { Reads (λ x. (x.0, x.1.now)) result (number_at w64 bytes.now) }
 {
     if bytes.len() < 8 {
         return Err(SavedFault::Truncated);
@@ -133,7 +139,7 @@ fn number_of(block: &[u8]) -> u64
 }
 
 fn total_of(bytes: &[u8]) -> Result<(u64, &[u8]), SavedFault>
-    ensures { Gives (λ x. (x.0, x.1.now)) result (total_at bytes.now) }
+    ensures { Reads (λ x. (x.0, x.1.now)) result (total_at bytes.now) }
 {
     let (total, rest) = u64_of(bytes)?;
     if total > MAX_TOTAL {
@@ -146,7 +152,7 @@ fn total_of(bytes: &[u8]) -> Result<(u64, &[u8]), SavedFault>
 
 #[tactic(auto, unfolding(crate::specs::Reading::key_at))]
 fn key_of<'a>(before: &[u8], bytes: &'a [u8]) -> Result<(&'a [u8], &'a [u8]), SavedFault>
-    ensures key { Gives (λ x. (x.0.now, x.1.now)) result (key_at before.now bytes.now) }
+    ensures key { Reads (λ x. (x.0.now, x.1.now)) result (key_at before.now bytes.now) }
     ensures len { IfOk result (λ x. (0 < length x.0.now) × (length x.0.now ≤ 255)) }
 {
     let (len, rest) = u8_of(bytes)?;
@@ -160,15 +166,17 @@ fn key_of<'a>(before: &[u8], bytes: &'a [u8]) -> Result<(&'a [u8], &'a [u8]), Sa
     Ok((key, rest))
 }
 
+// The fields of an entry, all of which are read before its key takes memory.
 #[tactic(auto, unfolding(crate::specs::Reading::entry_at))]
-fn entry_of<'a>(
-    alloc: Global,
+fn fields_of<'a>(
     before: &[u8],
     left: u64,
     bytes: &'a [u8],
-) -> Result<((Key, u64), &'a [u8]), SavedFault>
-    ensures entry { Gives (λ x. (x.0, x.1.now)) result (entry_at before.now left bytes.now) }
+) -> Result<((&'a [u8], u64), &'a [u8]), SavedFault>
+    ensures fields { Reads (λ x. ((x.0.0.now, x.0.1), x.1.now)) result
+        (entry_at before.now left bytes.now) }
     ensures left { IfOk result (λ x. x.0.1 ≤ left) }
+    ensures len { IfOk result (λ x. (0 < length x.0.0.now) × (length x.0.0.now ≤ 255)) }
 {
     let (key, rest) = key_of(before, bytes)?;
     let (counter, rest) = u64_of(rest)?;
@@ -178,6 +186,20 @@ fn entry_of<'a>(
     if counter > left {
         return Err(SavedFault::SumTooLarge);
     }
+    Ok(((key, counter), rest))
+}
+
+fn entry_of<'a>(
+    alloc: Global,
+    before: &[u8],
+    left: u64,
+    bytes: &'a [u8],
+) -> Result<((Key, u64), &'a [u8]), SavedFault>
+    ensures entry { Gives (λ x. (x.0, x.1.now)) result (entry_at before.now left bytes.now) }
+    ensures left { IfOk result (λ x. x.0.1 ≤ left) }
+    ensures early { StopsAt result (entry_at before.now left bytes.now) }
+{
+    let ((key, counter), rest) = fields_of(before, left, bytes)?;
     match Key::new(alloc, key) {
         Ok(key) => Ok(((key, counter), rest)),
         Err(KeyFault::Memory) => Err(SavedFault::Memory),
@@ -201,7 +223,9 @@ fn entries_of(
     total: u64,
     bytes: &[u8],
 ) -> Result<(Vec<(Key, u64)>, &[u8]), SavedFault>
-    ensures { Gives (λ x. (x.0.items, x.1.now)) result (entries_at count [] total bytes.now) }
+    ensures entries { Gives (λ x. (x.0.items, x.1.now)) result
+        (entries_at count [] total bytes.now) }
+    ensures early { StopsAt result (entries_head_at count total bytes.now) }
 {
     let mut entries = Vec::new(alloc);
     let mut left = total;
@@ -215,9 +239,10 @@ fn entries_of(
     Ok((entries, rest))
 }
 
-#[tactic(auto, unfolding(crate::specs::Reading::sketch_at))]
+#[tactic(auto, unfolding(crate::specs::Reading::sketch_at, crate::specs::Reading::sketch_head_at))]
 fn summary_of(alloc: Global, bytes: &[u8]) -> Result<(Summary, &[u8]), SavedFault>
-    ensures { Gives (λ x. (x.0, x.1.now)) result (sketch_at bytes.now) }
+    ensures summary { Gives (λ x. (x.0, x.1.now)) result (sketch_at bytes.now) }
+    ensures early { StopsAt result (sketch_head_at bytes.now) }
 {
     let (k, rest) = u16_of(bytes)?;
     if k == 0 {
@@ -258,7 +283,8 @@ fn pairs_of(alloc: Global, depth: usize, bytes: &[u8]) -> Result<Vec<(u64, u64)>
 #[tactic(auto, unfolding(crate::specs::Reading::family_at))]
 fn family_of(alloc: Global, depth: usize, bytes: &[u8]) -> Result<(Family, &[u8]), SavedFault>
     requires { (1 ≤ depth) × (depth ≤ 16) }
-    ensures { Gives (λ x. (x.0, x.1.now)) result (family_at depth bytes.now) }
+    ensures family { Gives (λ x. (x.0, x.1.now)) result (family_at depth bytes.now) }
+    ensures early { StopsAt result (bytes_at (8 + 16 * depth) bytes.now) }
 {
     let (field, rest) = bytes_of(8 + 16 * depth, bytes)?;
     let (first, others) = field.split_at(8);
@@ -321,9 +347,10 @@ fn rows_of(
     Ok((cells, rest))
 }
 
-#[tactic(auto, unfolding(crate::specs::Reading::grid_at))]
+#[tactic(auto, unfolding(crate::specs::Reading::grid_at, crate::specs::Reading::grid_head_at))]
 fn table_of(alloc: Global, bytes: &[u8]) -> Result<(Table, &[u8]), SavedFault>
-    ensures { Gives (λ x. (x.0, x.1.now)) result (grid_at bytes.now) }
+    ensures table { Gives (λ x. (x.0, x.1.now)) result (grid_at bytes.now) }
+    ensures early { StopsAt result (grid_head_at bytes.now) }
 {
     let (width, rest) = u32_of(bytes)?;
     let width = u64::from(width);

@@ -96,6 +96,11 @@ fn each_spoiled_field_of_a_summary_has_its_fault(rt: HostRuntime) -> Result<(), 
         (28, b"a".as_slice(), SavedFault::KeyOrder),
         (36, b"\x00".as_slice(), SavedFault::BadCounter),
         (26, b"\x0b".as_slice(), SavedFault::SumTooLarge),
+        (
+            19,
+            b"\xff\xff\xff\xff\xff\xff\xff\xff".as_slice(),
+            SavedFault::SumTooLarge,
+        ),
     ];
     for (at, field, wanted) in cases {
         let bytes = spoiled(&rt, COUNTERS, at, field)?;
@@ -120,6 +125,12 @@ fn each_spoiled_field_of_a_table_has_its_fault(rt: HostRuntime) -> Result<(), Fa
         ),
         (81, b"\x06".as_slice(), SavedFault::RowSum),
         (57, b"\x09".as_slice(), SavedFault::RowSum),
+        // a row whose sum is 2^64 + 8
+        (
+            58,
+            b"\xff\xff\xff\xff\xff\xff\xff\xff\x00\x00\x00\x00\x00\x00\x00\x09\x00\x00\x00\x00\x00\x00\x00\x00\x00\x00\x00\x00\x00\x00\x00\x00".as_slice(),
+            SavedFault::RowSum,
+        ),
     ];
     for (at, field, wanted) in cases {
         let bytes = spoiled(&rt, CELLS, at, field)?;
@@ -146,6 +157,16 @@ fn prefixes_are_truncated_and_more_bytes_trail(rt: HostRuntime) -> Result<(), Fa
 }
 
 #[test]
+fn heads_that_promise_much_are_truncated(rt: HostRuntime) {
+    for bytes in [
+        b"HHS1\x01\xff\xff\x00\x00\x00\x00\x00\x00\x00\x00\xff\xff".as_slice(),
+        b"HHS1\x02\x00\x01\x00\x00\x10".as_slice(),
+    ] {
+        assert_eq!(rt; fault(&rt, bytes), Some(SavedFault::Truncated));
+    }
+}
+
+#[test]
 fn keys_rise(rt: HostRuntime) -> Result<(), Fail> {
     let exchanged = spoiled(
         &rt,
@@ -154,5 +175,47 @@ fn keys_rise(rt: HostRuntime) -> Result<(), Fail> {
         b"\x01b\x00\x00\x00\x00\x00\x00\x00\x01\x01a\x00\x00\x00\x00\x00\x00\x00\x04",
     )?;
     assert_eq!(rt; fault(&rt, &exchanged), Some(SavedFault::KeyOrder));
+    Ok(())
+}
+
+#[test]
+fn as_many_counters_as_k_allows_are_saved(rt: HostRuntime) -> Result<(), Fail> {
+    let mut summary = Summary::new(rt.alloc(), 65_535)?;
+    for number in 0..65_535u16 {
+        summary.add(&key(&rt, &number.to_be_bytes())?, 1)?;
+    }
+    let bytes = write(rt.alloc(), &Saved::Counters(summary))?;
+    assert_eq!(rt; bytes.len(), 17 + 65_535 * 11);
+    let Saved::Counters(summary) = read(rt.alloc(), &bytes)? else {
+        panic!(rt; "a summary was read as a table");
+    };
+    assert_eq!(rt; (summary.len(), summary.total()), (65_535, 65_535));
+    Ok(())
+}
+
+#[test]
+fn a_family_of_16_rows_is_saved(rt: HostRuntime) -> Result<(), Fail> {
+    let family = Family::draw(rt.alloc(), 7, 16)?;
+    let table = Table::new(rt.alloc(), family.copy()?, 3)?;
+    let bytes = write(rt.alloc(), &Saved::Cells(table))?;
+    assert_eq!(rt; bytes.len(), 26 + 16 * 16 + 16 * 24);
+    let Saved::Cells(table) = read(rt.alloc(), &bytes)? else {
+        panic!(rt; "a table was read as a summary");
+    };
+    assert!(rt; *table.family() == family);
+    Ok(())
+}
+
+#[test]
+fn a_key_of_255_bytes_is_saved(rt: HostRuntime) -> Result<(), Fail> {
+    let longest = key(&rt, &[0xff; 255])?;
+    let mut summary = Summary::new(rt.alloc(), 1)?;
+    summary.add(&longest, 9)?;
+    let bytes = write(rt.alloc(), &Saved::Counters(summary))?;
+    assert_eq!(rt; bytes.len(), 17 + 255 + 9);
+    let Saved::Counters(summary) = read(rt.alloc(), &bytes)? else {
+        panic!(rt; "a summary was read as a table");
+    };
+    assert_eq!(rt; summary.get(&longest), 9);
     Ok(())
 }

@@ -1,7 +1,13 @@
 -- The sums and their seats as contracts see them.
 use Rattle.std.specs.Prelude.{◌≡◌, ℕ, ◌+◌, ◌<◌, ◌≤◌, List, [], ◌++◌}
 use Rattle.atomic_table.specs.Seated.{TableId}
-use Rattle.hh_shared.specs.declared.sums.TheConstants.{MAX_CLAIMS, MAX_CELLS}
+
+-- the most claims and the most cells
+abbrev pub max_claims : ℕ
+max_claims = 1024
+
+abbrev pub max_cells : ℕ
+max_cells = 1048576
 
 -- which sums these are: their table, and how many claims and cells it has
 pub record Sums : Type 0 where
@@ -30,5 +36,5 @@ pub record IsLaid (key : ℕ × ℕ) (table : TableId) (claims cells : ℕ) : Ty
   pub words : table.words ≡ claims + cells
   pub slots : table.slots ≡ 0
   pub some_claim : 0 < claims
-  pub few_claims : claims ≤ MAX_CLAIMS
-  pub few_cells : cells ≤ MAX_CELLS
+  pub few_claims : claims ≤ max_claims
+  pub few_cells : cells ≤ max_cells

@@ -1,8 +1,8 @@
 //! The sums that threads share, and the seats by which they claim and add.
 
-ghost use Rattle.std.specs.Prelude.{◌≡◌, ◌+◌, ◌<◌, ◌≤◌, ◌↔◌, ℕ, [], ◌∷◌, ◌++◌, length, slice_index, vec_len, IfOk, IsTrue, MatchBool};
+ghost use Rattle.std.specs.Prelude.{◌≡◌, ◌+◌, ◌<◌, ◌≤◌, ◌↔◌, ℕ, [], ◌∷◌, ◌++◌, length, slice_index, vec_len, IsOk, IfOk, IsTrue, MatchBool};
 ghost use Rattle.hh_shared.specs.Tally.{sum_at, IsDistinctBelow, HasAllBelow, AreDisjoint};
-ghost use Rattle.hh_shared.specs.Seats.{fresh, joined};
+ghost use Rattle.hh_shared.specs.Seats.{max_claims, max_cells, fresh, joined};
 
 use crate::rule::{Add, Claim, Lists, Look, SplitOff, TakeIn, Tallied};
 use atomic_table::{Seat, Table};
@@ -65,8 +65,8 @@ impl SharedSums {
         claims: usize,
         cells: usize,
     ) -> Result<(SharedSums, SumSeat), AllocError>
-        requires claims { (0 < claims) × (claims ≤ MAX_CLAIMS) }
-        requires cells { cells ≤ MAX_CELLS }
+        requires claims { (0 < claims) × (claims ≤ max_claims) }
+        requires cells { cells ≤ max_cells }
         ensures claims { IfOk result (λ made. made.0.claims ≡ claims) }
         ensures cells { IfOk result (λ made. made.0.cells ≡ cells) }
         ensures seat { IfOk result (λ made. made.1 ≡ fresh made.0) }
@@ -90,8 +90,11 @@ impl SharedSums {
         ensures unchanged { seat.new ≡ seat.old }
         ensures split_off { result ≡ fresh self.now }
     {
-        let seat = self.table.shared.split_seat::<SplitOff>(&mut seat.seat);
-        SumSeat { seat, count: 0 }
+        let half = self.table.shared.split_seat::<SplitOff>(&mut seat.seat);
+        SumSeat {
+            seat: half,
+            count: 0,
+        }
     }
 
     /// Claims a number for the seat, unless some seat has claimed it before: then the answer is false,
@@ -156,6 +159,7 @@ impl SharedSums {
         requires seat { seat.sums ≡ self }
         requires all { HasAllBelow self.claims seat.claims }
         ensures len { IfOk result (λ sums. vec_len sums ≡ self.cells) }
+        ensures none { self.cells ≡ 0 → IsOk result }
         ensures sums { IfOk result (λ sums. (cell : ℕ) → cell < self.cells → slice_index sums.items cell ≡ sum_at seat.adds cell) }
     {
         let SumSeat { seat, count: _ } = seat;

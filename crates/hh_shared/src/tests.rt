@@ -3,7 +3,7 @@
 ghost use Rattle.std.specs.Prelude.{◌≡◌};
 ghost use Rattle.std.specs.Thread.{IsSync};
 
-use crate::{SharedSums, SumSeat};
+use crate::{MAX_CELLS, MAX_CLAIMS, SharedSums, SumSeat};
 use std::alloc::AllocError;
 use std::process::Abort;
 use std::test::*;
@@ -52,6 +52,16 @@ fn a_dropped_seat_keeps_its_claims(rt: HostRuntime) -> Result<(), Fail> {
     assert!(rt; sums.claim(&mut seat, 0));
     assert!(rt; !sums.claim(&mut seat, 1));
     assert!(rt; !sums.holds_all(&seat));
+    Ok(())
+}
+
+#[test]
+fn sums_have_as_many_claims_and_cells_as_allowed(rt: HostRuntime) -> Result<(), Fail> {
+    let (sums, mut seat) = SharedSums::new(rt.alloc(), MAX_CLAIMS, MAX_CELLS)?;
+    for number in 0..MAX_CLAIMS {
+        assert!(rt; sums.claim(&mut seat, number));
+    }
+    assert!(rt; sums.holds_all(&seat));
     Ok(())
 }
 

@@ -1,11 +1,19 @@
-use Rattle.std.proofs.Common.{◌≡◌, ◌+◌, ◌<◌, ◌≤◌, length, ap, ◌∙◌, subst}
+use Rattle.std.proofs.Common.{◌≡◌, ℕ, ◌+◌, ◌<◌, ◌≤◌, length, ap, ◌∙◌, subst, arith}
 use Rattle.std.specs.Prelude.{slice_set, slice_index_or}
 use Rattle.std.specs.List.{insert, AllWithin}
 use Rattle.std.specs.declared.cmp.Ordering.TheVariants.{Less}
-use Rattle.hh_stream.specs.Weights.{Bytes, Entry, key_cmp}
+use Rattle.hh_stream.specs.Weights.{Bytes, Entry, key_cmp, weight_of}
 use Rattle.hh_counters.specs.Counters.{Counters}
-use Rattle.hh_counters.proofs.Places.{set_is_add_at, insert_is_add_at}
+use Rattle.hh_counters.proofs.Places.{set_is_add_at, insert_is_add_at, weight_absent}
 use Rattle.hh_counters.proofs.entries.add_entry.Goals as goal
+
+-- each key is below or above, at the place where it would go
+abbrev IsGap : Bytes → ℕ → Counters → Type 0
+IsGap key i d = (i ≤ length d) × AllWithin (λ (e : Entry). key_cmp e.0 key ≡ Less) d 0 i × AllWithin (λ (e : Entry). key_cmp key e.0 ≡ Less) d i (length d)
+
+-- there is no counter then
+not_known : (items : Counters) (i : ℕ) (key : Bytes) → IsGap key i items → 0 < weight_of key items → ⊥
+not_known items i key gap known = omega (arith, weight_absent items i key gap.1 gap.2)
 
 pub returns-in-Ok-clause-ok : goal.returns-in-Ok-clause-ok
 returns-in-Ok-clause-ok c =
@@ -18,7 +26,15 @@ returns-in-Ok-clause-ok c =
 pub returns-in_ok-insert-in-Err-clause-ok : goal.returns-in_ok-insert-in-Err-clause-ok
 returns-in_ok-insert-in-Err-clause-ok c =
     let items = c.args.entries.now.items in
-    let gap = subst (λ (d : Counters). (c.in-Err.place ≤ length d) × AllWithin (λ (e : Entry). key_cmp e.0 c.args.key.now ≡ Less) d 0 c.in-Err.place × AllWithin (λ (e : Entry). key_cmp c.args.key.now e.0 ≡ Less) d c.in-Err.place (length d)) c.deref.ensures.value c.in-Err.ensures.absent in
+    let gap = subst (IsGap c.args.key.now c.in-Err.place) c.deref.ensures.value c.in-Err.ensures.absent in
     c.in_ok-insert-in-Err.ensures.items
     ∙ ap (λ (k : Bytes). insert items c.in-Err.place (k, c.args.weight)) c.in_ok-copy-in-Err.ensures.equal
     ∙ insert_is_add_at items c.in-Err.place (c.args.key.now, c.args.weight) gap.0 gap.1 gap.2
+
+pub returns-in_err-copy-in-Err-clause-known : goal.returns-in_err-copy-in-Err-clause-known
+returns-in_err-copy-in-Err-clause-known c = λ known.
+    absurd (not_known c.args.entries.now.items c.in-Err.place c.args.key.now (subst (IsGap c.args.key.now c.in-Err.place) c.deref.ensures.value c.in-Err.ensures.absent) known)
+
+pub returns-in_err-insert-in-Err-clause-known : goal.returns-in_err-insert-in-Err-clause-known
+returns-in_err-insert-in-Err-clause-known c = λ known.
+    absurd (not_known c.args.entries.now.items c.in-Err.place c.args.key.now (subst (IsGap c.args.key.now c.in-Err.place) c.deref.ensures.value c.in-Err.ensures.absent) known)

@@ -4,7 +4,7 @@ use Rattle.std.proofs.lemmas.List.{get_or_default}
 use Rattle.std.proofs.lemmas.Slice.Zip.{length-zip}
 use Rattle.hh_stream.specs.Weights.{Bytes, Entry}
 use Rattle.hh_counters.specs.Report.{is_heavy}
-use Rattle.hh_counters.proofs.Reports.{select_more}
+use Rattle.hh_counters.proofs.Reports.{select_more, nothing_heavy}
 use Rattle.hh_counters.proofs.report.heavy_rows.Goals as goal
 use Rattle.hh_counters.proofs.report.heavy_rows.Goals.{then-is_share+in_ok-copy+in_ok-push, else-is_share}
 
@@ -31,5 +31,13 @@ loop-i-preserved c =
           ∙ sym (select_more c.args.p c.args.q c.args.total ks ns i k c.requires c.loop-i-test.true (get_or_default ks i [] k c.loop-i-test.true))
     ]
 
-pub returns : goal.returns
-returns c = c.loop-i.invariant ∙ ap (filter (is_heavy c.args.p c.args.q c.args.total)) (take_all c.loop-i.i (zip c.args.keys.now c.args.numbers.now) (omega (arith, length-zip c.args.keys.now c.args.numbers.now, c.loop-i-test.false)))
+pub returns-clause-rows : goal.returns-clause-rows
+returns-clause-rows c = c.loop-i.invariant ∙ ap (filter (is_heavy c.args.p c.args.q c.args.total)) (take_all c.loop-i.i (zip c.args.keys.now c.args.numbers.now) (omega (arith, length-zip c.args.keys.now c.args.numbers.now, c.loop-i-test.false)))
+
+pub returns-in_err-copy-clause-none : goal.returns-in_err-copy-clause-none
+returns-in_err-copy-clause-none c = λ none.
+    absurd (nothing_heavy c.args.p c.args.q c.args.total c.args.keys.now c.args.numbers.now c.loop-i.i c.requires c.loop-i-test.true none (sym c.is_share.ensures ∙ c.if-is_share.true))
+
+pub returns-in_err-push-clause-none : goal.returns-in_err-push-clause-none
+returns-in_err-push-clause-none c = λ none.
+    absurd (nothing_heavy c.args.p c.args.q c.args.total c.args.keys.now c.args.numbers.now c.loop-i.i c.requires c.loop-i-test.true none (sym c.is_share.ensures ∙ c.if-is_share.true))

@@ -6,8 +6,8 @@ use Rattle.hh_saved.proofs.Blocks.{length-blocks_in}
 use Rattle.hh_saved.proofs.Families.{in_range-Decides, in_range-refused, family_at-is}
 use Rattle.hh_saved.proofs.reading.family_of.Goals as goal
 
-pub returns-in-Ok : goal.returns-in-Ok
-returns-in-Ok c =
+pub returns-in-Ok-clause-family : goal.returns-in-Ok-clause-family
+returns-in-Ok-clause-family c =
     let depth = c.args.depth in
     let family = c.in-Ok.family in
     let z = c.number_of.ensures ∙ ap (from_be_bytes w64) c.split_at.ensures.front in
@@ -15,8 +15,8 @@ returns-in-Ok c =
     let is = c.in-Ok.ensures.parts ∙ ap₂ (λ (n : ℕ) (xs : List (ℕ × ℕ)). record { z = n; rows = xs }) z rows in
     family_at-is depth c.args.bytes.now c.in_ok-field.field.now c.in_ok-field.rest.now family true c.in_ok-field.ensures is ((in_range-Decides family).1 c.in-Ok.ensures.in_range.in_range)
 
-pub returns-in-Err-BadCoefficient : goal.returns-in-Err-BadCoefficient
-returns-in-Err-BadCoefficient c =
+pub returns-in-Err-BadCoefficient-clause-family : goal.returns-in-Err-BadCoefficient-clause-family
+returns-in-Err-BadCoefficient-clause-family c =
     let depth = c.args.depth in
     let family : Coefficients = record { z = c.number_of.result; rows = c.deref.result.now } in
     let z = c.number_of.ensures ∙ ap (from_be_bytes w64) c.split_at.ensures.front in

@@ -16,7 +16,7 @@ from_cells-requires c =
     let fits : IsBytes c.args.bytes.now = λ i. omega (arith, c.type_inv.bytes i) in
     let t0 = number_takes w32 (2 ^ 32) wide32 c.args.bytes.now (width.width, width.rest.now) fits width.ensures in
     let t1 = number_takes w8 (2 ^ 8) wide8 width.rest.now (depth.depth, depth.rest.now) t0.0.rest_fits depth.ensures in
-    let t2 = family_takes c.from-depth.result depth.rest.now (family.family, family.rest.now) t1.0.rest_fits family.ensures in
+    let t2 = family_takes c.from-depth.result depth.rest.now (family.family, family.rest.now) t1.0.rest_fits family.ensures.family in
     let t3 = total_takes family.rest.now (total.total, total.rest.now) t2.0.rest_fits total.ensures in
     let t4 = rows_take c.from-depth.result c.from-width.result total.total total.rest.now (cells.cells.items, cells.rest.now) t3.0.rest_fits cells.ensures in
     cells_fit family.family c.from-width.result total.total cells.cells.items (omega arith) (omega arith) t3.1
