@@ -10,17 +10,11 @@ use Rattle.hh_pool.proofs.Pieces.{length-pieces_of}
 use Rattle.hh_pool.proofs.Merged.{no_refusal, merged_is, heavy_is}
 use Rattle.hh_pool.proofs.analysis.run_passes.Goals as goal
 
-pub merge_by-requires-clause-tree : goal.merge_by-requires-clause-tree
-merge_by-requires-clause-tree g c =
+pub merge_by-requires : goal.merge_by-requires
+merge_by-requires g c =
     let pieces = pieces_of c.args.cutting.now c.args.stream.now in
     let count = ap length c.in_ok-summaries.ensures.summaries ∙ (length-map pieces (sketch_of c.args.options.now.k) ∙ length-pieces_of c.args.cutting.now c.args.stream.now) in
     subst (IsMergeTree c.args.plan.now) (sym count) c.requires.plan
-
-pub merge_by-requires-clause-few : goal.merge_by-requires-clause-few
-merge_by-requires-clause-few g c =
-    let pieces = pieces_of c.args.cutting.now c.args.stream.now in
-    let count = ap length c.in_ok-summaries.ensures.summaries ∙ (length-map pieces (sketch_of c.args.options.now.k) ∙ length-pieces_of c.args.cutting.now c.args.stream.now) in
-    omega (arith, c.requires.few)
 
 pub unreachable-requires : goal.unreachable-requires
 unreachable-requires g c =
