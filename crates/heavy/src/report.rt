@@ -115,18 +115,20 @@ fn plan_of(alloc: Global, tree: &Tree, pieces: usize) -> Result<Plan, NoPlan>
 /// The settings of an analysis, with the family drawn from the seed.
 fn settings_of(alloc: Global, options: &ReportOptions) -> Result<Options, AllocError>
     requires { bad_option options.now ≡ None }
-    ensures { IfOk result (λ settings. settings.k ≡ options.now.k) }
+    ensures k { IfOk result (λ settings. settings.k ≡ options.now.k) }
+    ensures p { IfOk result (λ settings. settings.p ≡ 1) }
+    ensures q { IfOk result (λ settings. settings.q ≡ options.now.k + 1) }
 {
     let family = match Family::draw(alloc, options.seed, options.depth) {
         Ok(family) => family,
         Err(DrawFault::BadDepth) => unreachable!(),
         Err(DrawFault::Memory) => return Err(AllocError),
     };
-    match Options::new(options.k, options.workers, options.width, family) {
+    let k = options.k;
+    match Options::new(k, 1, k + 1, options.workers, options.width, family) {
         Ok(settings) => Ok(settings),
-        Err(OptionsFault::BadK | OptionsFault::BadWorkers | OptionsFault::BadWidth) => {
-            unreachable!()
-        }
+        Err(OptionsFault::BadK | OptionsFault::BadWorkers) => unreachable!(),
+        Err(OptionsFault::BadWidth | OptionsFault::BadThreshold) => unreachable!(),
     }
 }
 
@@ -142,7 +144,7 @@ fn heavy_keys<T: Threads + Wait + Sync>(
     requires some { 1 ≤ pieces }
     requires few { pieces ≤ MAX_PIECES }
     requires plan { length (leaves plan.now) ≡ pieces }
-    ensures { IfOk result (λ rows. rows.items ≡ heavy stream.now 1 (settings.now.k + 1)) }
+    ensures { IfOk result (λ rows. rows.items ≡ heavy stream.now settings.now.p settings.now.q) }
 {
     let cutting = match Cutting::even(alloc, stream.len(), pieces) {
         Ok(cutting) => cutting,
