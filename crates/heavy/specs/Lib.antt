@@ -1,4 +1,5 @@
 pub mod Files
+pub mod Limits
 pub mod Reports
 pub mod Rows
 pub mod Saving

@@ -1,16 +1,19 @@
 -- What a report leaves in a sink, and what its refusals tell.
-use Rattle.std.specs.Prelude.{◌≡◌, ◌+◌, ◌&&◌, not, nat_le, ℕ, List, filter, Bool, true, false, Option, Some, None, IfSome, Result, Ok, Err, ⊤, if◌then◌else◌}
+use Rattle.std.specs.Prelude.{◌≡◌, ◌+◌, ◌-◌, not, ℕ, List, filter, Bool, true, false, Option, Some, None, Result, Ok, Err, if◌then◌else◌}
 use Rattle.std.specs.Io.KnownBytes.{Appends, Keeps}
 use Rattle.hh_stream.specs.Weights.{Entry}
 use Rattle.hh_counters.specs.Report.{has_counter, heavy}
 use Rattle.hh_counters.specs.Counters.{Sketch}
+use Rattle.hh_countmin.specs.Family.{drawn_family}
 use Rattle.hh_pool.specs.PlanTexts.{PlanRefused, Spells}
-use Rattle.hh_pool.specs.Trees.{IsMergeTree, MergeTree}
+use Rattle.hh_pool.specs.Settings.{Settings}
+use Rattle.hh_pool.specs.Trees.{IsBalanced, IsMergeTree, MergeTree, chain_of}
 use Rattle.hh_pool.specs.declared.reading.PlanFault.{PlanFault}
 use Rattle.hh_pool.specs.declared.reading.PlanFault.TheVariants as plan
+use Rattle.heavy.specs.Limits.{in_range, most_depth, most_k, most_pieces, most_width, most_workers}
 use Rattle.heavy.specs.Rows.{rows_of}
 use Rattle.heavy.specs.Sinks.{TakesFirst}
-use Rattle.heavy.specs.Streams.{stream_of}
+use Rattle.heavy.specs.Streams.{ReadsAs}
 use Rattle.heavy.specs.declared.error.ToolError.{ToolError}
 use Rattle.heavy.specs.declared.error.ToolError.TheVariants as tool
 use Rattle.heavy.specs.declared.error.TreeFault.{TreeFault}
@@ -27,7 +30,7 @@ use Rattle.heavy.specs.declared.rows.ReportFault.TheVariants as fault
 abbrev pub confirmed : Sketch → List Entry → List Entry
 confirmed s xs = filter (has_counter s.counters) (heavy xs 1 (s.k + 1))
 
--- what a refusal to write rows leaves in a sink
+-- what a refusal to write rows leaves in a sink, and that `written` counts bytes of these rows
 abbrev pub RowsRefused : List Entry → Option (List ℕ) → Option (List ℕ) → ReportFault → Type 0
 RowsRefused rows old new (fault.WriteFault n) = TakesFirst old new (rows_of rows) n
 RowsRefused rows old new fault.Memory = Keeps old new
@@ -50,30 +53,40 @@ read_fault read.ReadFault = tool.ReadFault
 read_fault (read.BadRecord n c) = tool.BadRecord n c
 read_fault read.Memory = tool.Memory
 
--- the rows of the report of a text for k, where the text is a stream
-abbrev pub ReportsRows : ℕ → List ℕ → List ℕ → Type 0
-ReportsRows k text rows =
-    (xs : List Entry) × (stream_of text ≡ Ok xs) × (rows ≡ rows_of (heavy xs 1 (k + 1)))
-
--- from 1 to the most
-abbrev pub in_range : ℕ → ℕ → Bool
-in_range n most = nat_le 1 n && nat_le n most
+-- the rows of the report of a stream for k
+abbrev pub report_of : ℕ → List Entry → List ℕ
+report_of k xs = rows_of (heavy xs 1 (k + 1))
 
 -- the first test that options fail, before their tree
 abbrev pub bad_option : ReportOptions → Option ToolError
 bad_option o =
-    if not (in_range o.depth 16) then Some tool.BadDepth
-    else if not (in_range o.k 65535) then Some tool.BadK
-    else if not (in_range o.workers 64) then Some tool.BadWorkers
-    else if not (in_range o.width 65536) then Some tool.BadWidth
-    else if not (in_range o.pieces 1024) then Some tool.BadPieces
+    if not (in_range o.depth most_depth) then Some tool.BadDepth
+    else if not (in_range o.k most_k) then Some tool.BadK
+    else if not (in_range o.workers most_workers) then Some tool.BadWorkers
+    else if not (in_range o.width most_width) then Some tool.BadWidth
+    else if not (in_range o.pieces most_pieces) then Some tool.BadPieces
     else None
+
+-- the settings of an analysis for these options
+abbrev pub settings_of : ReportOptions → Settings
+settings_of o = record {
+  k = o.k;
+  p = 1;
+  q = o.k + 1;
+  workers = o.workers;
+  width = o.width;
+  family = drawn_family o.seed o.depth;
+}
+
+-- the merge tree that a tree names over so many pieces
+abbrev pub Names : Tree → ℕ → MergeTree → Type 0
+Names tree.Chain pieces plan = plan ≡ chain_of (pieces - 1)
+Names tree.Balanced pieces plan = IsBalanced plan 0 pieces
+Names (tree.Text t) pieces plan = Spells t.items plan × IsMergeTree plan pieces
 
 -- the tree is one of so many pieces
 abbrev pub IsTree : Tree → ℕ → Type 0
-IsTree tree.Chain pieces = ⊤
-IsTree tree.Balanced pieces = ⊤
-IsTree (tree.Text t) pieces = (plan : MergeTree) × Spells t.items plan × IsMergeTree plan pieces
+IsTree t pieces = (plan : MergeTree) × Names t pieces plan
 
 -- a fault of a plan's text as a fault of its tree
 abbrev pub plan_fault : TreeFault → PlanFault
@@ -91,12 +104,12 @@ TreeRefused (tree.Text t) pieces f = PlanRefused t.items pieces (plan_fault f)
 abbrev pub AreOptions : ReportOptions → Type 0
 AreOptions o = (bad_option o ≡ None) × IsTree o.tree o.pieces
 
--- a whole report was written: what the sink took is the rows of the report of all bytes that the
--- reader had left
+-- a whole report was written: what the sink took is the rows of the report of a stream, that of all
+-- bytes that the reader had left
 abbrev pub IsReported : ReportOptions → Option (List ℕ) → Option (List ℕ) → Option (List ℕ) → Type 0
 IsReported o left old new =
     AreOptions o
-    × IfSome left (λ text. (rows : List ℕ) × ReportsRows o.k text rows × Appends old new rows)
+    × (xs : List Entry) × ReadsAs left (Ok xs) × Appends old new (report_of o.k xs)
 
 -- what each refusal of a report tells, and what it leaves in the sink
 abbrev pub ReportRefused : ReportOptions
@@ -110,9 +123,9 @@ ReportRefused o left old new (tool.BadTree f) =
     (bad_option o ≡ None) × TreeRefused o.tree o.pieces f × Keeps old new
 ReportRefused o left old new tool.ReadFault = AreOptions o × Keeps old new
 ReportRefused o left old new (tool.BadRecord n c) =
-    AreOptions o × Keeps old new × IfSome left (λ text. stream_of text ≡ Err (n, c))
+    AreOptions o × Keeps old new × ReadsAs left (Err (n, c))
 ReportRefused o left old new (tool.WriteFault n) =
     AreOptions o
-    × IfSome left (λ text. (rows : List ℕ) × ReportsRows o.k text rows × TakesFirst old new rows n)
+    × (xs : List Entry) × ReadsAs left (Ok xs) × TakesFirst old new (report_of o.k xs) n
 ReportRefused o left old new tool.Memory = (bad_option o ≡ None) × Keeps old new
 ReportRefused o left old new _ = ⊥

@@ -1,5 +1,5 @@
 -- What the commands on saved files answer.
-use Rattle.std.specs.Prelude.{◌≡◌, ◌≢◌, ℕ, List, not, codes, Option, Some, None, IfSome, Ok, Err, ⊤, if◌then◌else◌}
+use Rattle.std.specs.Prelude.{◌≡◌, ◌≢◌, ℕ, List, not, codes, Option, Some, None, Ok, Err, ⊤, if◌then◌else◌}
 use Rattle.hh_stream.specs.Weights.{Entry, total_of}
 use Rattle.hh_counters.specs.Counters.{Sketch}
 use Rattle.hh_countmin.specs.Table.{Grid}
@@ -7,33 +7,34 @@ use Rattle.hh_saved.specs.Reading.{saved_of}
 use Rattle.hh_saved.specs.Spelling.{Spells}
 use Rattle.hh_saved.specs.declared.saved.Saved.{Saved}
 use Rattle.hh_saved.specs.declared.saved.Saved.TheVariants.{Counters, Cells}
-use Rattle.heavy.specs.Reports.{confirmed, in_range}
+use Rattle.heavy.specs.Limits.{in_range, most_depth, most_k, most_width}
+use Rattle.heavy.specs.Reports.{confirmed}
 use Rattle.heavy.specs.Rows.{rows_of}
-use Rattle.heavy.specs.Streams.{stream_of}
+use Rattle.heavy.specs.Streams.{ReadsAs}
 use Rattle.heavy.specs.declared.saving.Method.{Method}
 use Rattle.heavy.specs.declared.saving.Method.TheVariants as method
 use Rattle.heavy.specs.declared.error.ToolError.{ToolError}
 use Rattle.heavy.specs.declared.error.ToolError.TheVariants as tool
 
--- the bytes spell what f makes of the stream of a text
-abbrev pub SavesStream : (List Entry → Saved) → List ℕ → List ℕ → Type 0
-SavesStream f text bytes = (xs : List Entry) × (stream_of text ≡ Ok xs) × Spells bytes (f xs)
+-- the bytes spell what f makes of a stream, that of all bytes that the reader had left
+abbrev pub SavesStream : (List Entry → Saved) → Option (List ℕ) → List ℕ → Type 0
+SavesStream f left bytes = (xs : List Entry) × ReadsAs left (Ok xs) × Spells bytes (f xs)
 
 -- what a refusal to read records tells, where they were read: not before the tests that come first
 abbrev pub RecordsRefused : Option (List ℕ) → ToolError → Type 0
 RecordsRefused left tool.ReadFault = ⊤
-RecordsRefused left (tool.BadRecord n c) = IfSome left (λ text. stream_of text ≡ Err (n, c))
+RecordsRefused left (tool.BadRecord n c) = ReadsAs left (Err (n, c))
 RecordsRefused left tool.Memory = ⊤
 RecordsRefused left _ = ⊥
 
 -- the tests of a summary's k, and of a table's depth and width
 abbrev pub bad_k : ℕ → Option ToolError
-bad_k k = if not (in_range k 65535) then Some tool.BadK else None
+bad_k k = if not (in_range k most_k) then Some tool.BadK else None
 
 abbrev pub bad_table : ℕ → ℕ → Option ToolError
 bad_table depth width =
-    if not (in_range depth 16) then Some tool.BadDepth
-    else if not (in_range width 65536) then Some tool.BadWidth
+    if not (in_range depth most_depth) then Some tool.BadDepth
+    else if not (in_range width most_width) then Some tool.BadWidth
     else None
 
 -- the word that names a method
@@ -46,10 +47,11 @@ abbrev pub RefusedAfter : Option ToolError → Option (List ℕ) → ToolError �
 RefusedAfter None left e = RecordsRefused left e
 RefusedAfter (Some f) left e = e ≡ f
 
--- the rows of the summary's keys that are heavy in the stream of the text
-abbrev pub ConfirmsRows : List ℕ → List ℕ → List ℕ → Type 0
-ConfirmsRows file text rows =
-    (s : Sketch) × (xs : List Entry) × (saved_of file ≡ Ok (Counters s)) × (stream_of text ≡ Ok xs)
+-- the file holds a summary, and these are the rows of its keys that are heavy in a stream of its
+-- total, that of all bytes that the reader had left
+abbrev pub ConfirmsRows : List ℕ → Option (List ℕ) → List ℕ → Type 0
+ConfirmsRows file left rows =
+    (s : Sketch) × (xs : List Entry) × (saved_of file ≡ Ok (Counters s)) × ReadsAs left (Ok xs)
     × (s.total ≡ total_of xs) × (rows ≡ rows_of (confirmed s xs))
 
 -- what a refusal to confirm tells: of the file, of its kind, of the records, and of the totals
@@ -58,10 +60,9 @@ ConfirmRefused file left (tool.BadFile n f) = (n ≡ 1) × (saved_of file ≡ Er
 ConfirmRefused file left tool.NotCounters = (t : Grid) × (saved_of file ≡ Ok (Cells t))
 ConfirmRefused file left tool.ReadFault = (s : Sketch) × (saved_of file ≡ Ok (Counters s))
 ConfirmRefused file left (tool.BadRecord n c) =
-    (s : Sketch) × (saved_of file ≡ Ok (Counters s))
-    × IfSome left (λ text. stream_of text ≡ Err (n, c))
+    (s : Sketch) × (saved_of file ≡ Ok (Counters s)) × ReadsAs left (Err (n, c))
 ConfirmRefused file left tool.TotalDiffers =
-    (s : Sketch) × (saved_of file ≡ Ok (Counters s))
-    × IfSome left (λ text. (xs : List Entry) × (stream_of text ≡ Ok xs) × (s.total ≢ total_of xs))
+    (s : Sketch) × (xs : List Entry) × (saved_of file ≡ Ok (Counters s)) × ReadsAs left (Ok xs)
+    × (s.total ≢ total_of xs)
 ConfirmRefused file left tool.Memory = ⊤
 ConfirmRefused file left _ = ⊥

@@ -2,6 +2,8 @@
 use Rattle.std.specs.Prelude.{◌≡◌, ◌==◌, ◌&&◌, ◌+◌, ◌-◌, ◌*◌, not, nat_le, ℕ, Bool, List, [], ◌∷◌, ◌++◌, length, fold, Option, Some, None, IfSome, Result, Ok, Err, ⊤, if◌then◌else◌}
 use Rattle.std.specs.List.{list_all}
 use Rattle.csv.specs.Reading.{default_config, records, strip_bom}
+use Rattle.csv.specs.declared.error.ErrorKind.{ErrorKind}
+use Rattle.csv.specs.declared.error.ErrorKind.TheVariants as kind
 use Rattle.hh_stream.specs.Weights.{Bytes, Entry, total_of, max_total, max_key_len}
 use Rattle.heavy.specs.declared.records.BadRecordCause.{BadRecordCause}
 use Rattle.heavy.specs.declared.records.BadRecordCause.TheVariants as cause
@@ -77,11 +79,21 @@ items_from n xs (r ∷ rs) =
 abbrev pub stream_of : List ℕ → Reading
 stream_of text = items_from 1 [] (records default_config (strip_bom text))
 
+-- what all the bytes that a reader had left read as, where they are known
+abbrev pub ReadsAs : Option (List ℕ) → Reading → Type 0
+ReadsAs left reading = IfSome left (λ text. stream_of text ≡ reading)
+
 -- what a refusal tells of the reader's bytes, where these are known
 abbrev pub ReadRefused : Option (List ℕ) → ReadError → Type 0
-ReadRefused known read.ReadFault = ⊤
-ReadRefused known (read.BadRecord n c) = IfSome known (λ text. stream_of text ≡ Err (n, c))
-ReadRefused known read.Memory = ⊤
+ReadRefused left read.ReadFault = ⊤
+ReadRefused left (read.BadRecord n c) = ReadsAs left (Err (n, c))
+ReadRefused left read.Memory = ⊤
+
+-- how a fault of csv's reader ends the reading: its want of memory is Memory, and any other fault
+-- is one of the reader underneath
+abbrev pub fault_of : ErrorKind → ReadError
+fault_of kind.OutOfMemory = read.Memory
+fault_of _ = read.ReadFault
 
 -- what a refusal tells of a record after a total of t
 abbrev pub RecordRefused : ℕ → Fields → RecordFault → Type 0

@@ -4,6 +4,7 @@ ghost use Rattle.std.specs.Prelude.{◌≡◌, ◌<◌, ◌≤◌, length, Ok, S
 ghost use Rattle.std.specs.List.{flat_map};
 ghost use Rattle.std.specs.Io.KnownBytes.{Appends};
 ghost use Rattle.csv.specs.Writing.{text_written};
+ghost use Rattle.hh_stream.specs.Weights.{max_key_len};
 ghost use Rattle.heavy.specs.Files.{Refuses, answer_of, answer_row, answers, bad_key, key_fault};
 ghost use Rattle.heavy.specs.Rows.{IsBetweenRows};
 
@@ -82,7 +83,7 @@ fn write_answer(writer: &mut Writer<Vec<u8>>, saved: &Saved, key: &Key) -> Resul
 
 /// The key of a word that passed its test.
 fn key_of(alloc: Global, word: &[u8]) -> Result<Key, AllocError>
-    requires { (0 < length word.now) × (length word.now ≤ MAX_KEY_LEN) }
+    requires { (0 < length word.now) × (length word.now ≤ max_key_len) }
     ensures { IfOk result (λ key. key ≡ word.now) }
 {
     match Key::new(alloc, word) {

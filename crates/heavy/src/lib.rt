@@ -4,25 +4,14 @@
 mod ask;
 mod confirmation;
 mod error;
-#[cfg(test)]
-mod fault_tests;
-#[cfg(test)]
-mod file_tests;
 mod files;
 mod merge;
 mod records;
 mod report;
-#[cfg(test)]
-mod report_tests;
+mod retrying;
 mod rows;
-#[cfg(test)]
-mod saved_examples;
 mod saving;
-#[cfg(test)]
-mod saving_tests;
 mod sink;
-#[cfg(test)]
-mod tests;
 
 pub use ask::ask_bytes;
 pub use confirmation::{ConfirmFault, confirm};

@@ -1,9 +1,10 @@
 //! Saved files, merged.
 
-ghost use Rattle.std.specs.Prelude.{◌≡◌, ◌<◌, Ok, IfOk, IfErr, OnOk, map, length, vec_items};
+ghost use Rattle.std.specs.Prelude.{◌≡◌, ◌<◌, Ok, Err, IfOk, IfErr, OnOk, MatchResult, map, length, vec_items};
 ghost use Rattle.hh_saved.specs.Spelling.{Spells};
 ghost use Rattle.hh_saved.specs.declared.saved.Saved.{Saved};
 ghost use Rattle.hh_saved.specs.declared.saved.Saved.TheVariants.{Counters, Cells};
+ghost use Rattle.heavy.specs.declared.error.ToolError.{ToolError};
 ghost use Rattle.heavy.specs.Files.{Refuses, merge_saved, merged_files};
 
 use crate::error::{MergeCause, ToolError};
@@ -21,6 +22,9 @@ fn merge_counters(summary: &mut Summary, number: u64, other: &Summary) -> Result
         ≡ Ok (Counters summary.new)) }
     ensures refused { IfErr result (λ fault.
         Refuses (merge_saved number (Counters summary.old) (Counters other.now)) fault) }
+    ensures told { (fault : ToolError)
+        → merge_saved number (Counters summary.old) (Counters other.now) ≡ Err fault
+        → result ≡ Err fault }
 {
     let cause = match summary.merge(other) {
         Ok(()) => return Ok(()),
@@ -33,10 +37,9 @@ fn merge_counters(summary: &mut Summary, number: u64, other: &Summary) -> Result
 
 /// Merges the table of the file with this number.
 fn merge_cells(table: &mut Table, number: u64, other: &Table) -> Result<(), ToolError>
-    ensures merged { OnOk result
-        (merge_saved number (Cells table.old) (Cells other.now) ≡ Ok (Cells table.new)) }
-    ensures refused { IfErr result (λ fault.
-        Refuses (merge_saved number (Cells table.old) (Cells other.now)) fault) }
+    ensures { MatchResult result
+        (λ _. merge_saved number (Cells table.old) (Cells other.now) ≡ Ok (Cells table.new))
+        (λ fault. merge_saved number (Cells table.old) (Cells other.now) ≡ Err fault) }
 {
     equal_families_are_one();
     let cause = match table.merge(other) {
@@ -53,6 +56,8 @@ fn merge_saved(merged: &mut Saved, number: u64, next: &Saved) -> Result<(), Tool
     ensures merged { OnOk result (merge_saved number merged.old next.now ≡ Ok merged.new) }
     ensures refused { IfErr result (λ fault.
         Refuses (merge_saved number merged.old next.now) fault) }
+    ensures told { (fault : ToolError)
+        → merge_saved number merged.old next.now ≡ Err fault → result ≡ Err fault }
 {
     match merged {
         Saved::Counters(summary) => match next {

@@ -1,10 +1,12 @@
 //! Records of keys and weights, read as a stream.
 
-ghost use Rattle.std.specs.Prelude.{◌≡◌, ◌<◌, ◌≤◌, ◌++◌, ◌∷◌, [], false, true, min, Ok, MatchOption, IfOk, IfErr, OnOk, OnErr, IfSome, option_map};
+ghost use Rattle.std.specs.Prelude.{◌≡◌, ◌<◌, ◌≤◌, ◌++◌, ◌∷◌, [], false, true, min, Ok, MatchOption, IfOk, IfErr, OnOk, option_map};
+ghost use Rattle.csv.specs.Reading.{stops_reader};
 ghost use Rattle.csv.specs.Records.{fields_of};
 ghost use Rattle.hh_stream.specs.Weights.{Entry, total_of, max_total};
-ghost use Rattle.heavy.specs.Streams.{is_weight, judged, numbered, parts_of, stream_of, value_of, ReadRefused, RecordRefused};
+ghost use Rattle.heavy.specs.Streams.{fault_of, is_weight, judged, numbered, parts_of, value_of, ReadRefused, ReadsAs, RecordRefused};
 
+use crate::retrying::Retrying;
 use csv::{ByteRecord, ErrorKind, ReaderBuilder};
 use hh_stream::{Key, KeyFault, PushFault, Stream};
 use std::alloc::Global;
@@ -138,15 +140,25 @@ fn numbered(number: u64, fault: RecordFault) -> ReadError
     }
 }
 
-/// The stream of a text of records, each a key and, after a comma, its weight. A record of one
-/// field has weight 1. Records are what `csv` reads: there is no header row, fields may be quoted,
-/// and a key may be any 1 to 255 bytes.
-///
-/// The first record that fails a test ends the reading: its number, from 1 on, and the cause are
-/// told.
-pub fn read_stream<R: Read + Drop>(alloc: Global, reader: R) -> Result<Stream, ReadError>
-    ensures stream { IfOk result (λ stream.
-        IfSome (R.remaining reader) (λ text. stream_of text ≡ Ok stream)) }
+/// The error that a fault of `csv`'s reader is: its want of memory, or a failure of the reader
+/// underneath.
+fn fault_of(fault: &ErrorKind) -> ReadError
+    requires { stops_reader fault.now ≡ true }
+    ensures { result ≡ fault_of fault.now }
+{
+    match fault {
+        ErrorKind::Io(_) => ReadError::ReadFault,
+        ErrorKind::OutOfMemory => ReadError::Memory,
+        ErrorKind::UnequalLengths { .. } => unreachable!(),
+        ErrorKind::Utf8 { .. } => unreachable!(),
+        ErrorKind::Serialize(_) => unreachable!(),
+        ErrorKind::Deserialize { .. } => unreachable!(),
+    }
+}
+
+/// The stream of the records of a reader.
+fn read_records<R: Read + Drop>(alloc: Global, reader: R) -> Result<Stream, ReadError>
+    ensures stream { IfOk result (λ stream. ReadsAs (R.remaining reader) (Ok stream)) }
     ensures refused { IfErr result (λ error. ReadRefused (R.remaining reader) error) }
 {
     let mut records = ReaderBuilder::new()
@@ -160,16 +172,7 @@ pub fn read_stream<R: Read + Drop>(alloc: Global, reader: R) -> Result<Stream, R
         match records.read_byte_record(&mut row) {
             Ok(true) => {}
             Ok(false) => return Ok(stream),
-            Err(error) => {
-                return Err(match error.kind() {
-                    ErrorKind::Io(_) => ReadError::ReadFault,
-                    ErrorKind::OutOfMemory => ReadError::Memory,
-                    ErrorKind::UnequalLengths { .. } => unreachable!(),
-                    ErrorKind::Utf8 { .. } => unreachable!(),
-                    ErrorKind::Serialize(_) => unreachable!(),
-                    ErrorKind::Deserialize { .. } => unreachable!(),
-                });
-            }
+            Err(error) => return Err(fault_of(error.kind())),
         }
         number += 1;
         match add_record(alloc, &mut stream, &row) {
@@ -177,4 +180,17 @@ pub fn read_stream<R: Read + Drop>(alloc: Global, reader: R) -> Result<Stream, R
             Err(fault) => return Err(numbered(number, fault)),
         }
     }
+}
+
+/// The stream of a text of records, each a key and, after a comma, its weight. A record of one
+/// field has weight 1. Records are what `csv` reads: there is no header row, fields may be quoted,
+/// and a key may be any 1 to 255 bytes.
+///
+/// The first record that fails a test ends the reading: its number, from 1 on, and the cause are
+/// told. A read that a signal interrupts is tried again.
+pub fn read_stream<R: Read + Drop>(alloc: Global, reader: R) -> Result<Stream, ReadError>
+    ensures stream { IfOk result (λ stream. ReadsAs (R.remaining reader) (Ok stream)) }
+    ensures refused { IfErr result (λ error. ReadRefused (R.remaining reader) error) }
+{
+    read_records(alloc, Retrying::new(reader))
 }

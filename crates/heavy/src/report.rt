@@ -1,10 +1,10 @@
 //! A report from a reader to a sink.
 
-ghost use Rattle.std.specs.Prelude.{◌≡◌, ◌<◌, ◌≤◌, ◌+◌, false, length, IfOk, IfErr, IfSome, OnOk, MatchResult, Err, None, Some};
-ghost use Rattle.hh_pool.specs.Settings.{IsK};
+ghost use Rattle.std.specs.Prelude.{◌≡◌, ◌+◌, false, true, length, IfOk, IfErr, IfSome, OnOk, MatchResult, Err, None, Some};
 ghost use Rattle.hh_pool.specs.Trees.{leaves};
 ghost use Rattle.hh_counters.specs.Report.{heavy};
-ghost use Rattle.heavy.specs.Reports.{IsReported, IsTree, ReportRefused, TreeRefused, bad_option, failed_by, in_range, read_fault};
+ghost use Rattle.heavy.specs.Limits.{in_range, most_pieces};
+ghost use Rattle.heavy.specs.Reports.{IsReported, Names, ReportRefused, TreeRefused, bad_option, failed_by, read_fault, settings_of};
 
 use crate::error::{ToolError, TreeFault};
 use crate::records::{ReadError, read_stream};
@@ -89,10 +89,9 @@ enum NoPlan {
 
 /// The plan of a tree over so many pieces.
 fn plan_of(alloc: Global, tree: &Tree, pieces: usize) -> Result<Plan, NoPlan>
-    requires some { 1 ≤ pieces }
-    requires few { pieces ≤ MAX_PIECES }
+    requires { in_range pieces most_pieces ≡ true }
     ensures pieces { IfOk result (λ plan. length (leaves plan) ≡ pieces) }
-    ensures tree { OnOk result (IsTree tree.now pieces) }
+    ensures tree { IfOk result (λ plan. Names tree.now pieces plan) }
     ensures refused { (fault : TreeFault) → result ≡ Err (NoPlan.Bad fault)
         → TreeRefused tree.now pieces fault }
 {
@@ -115,9 +114,7 @@ fn plan_of(alloc: Global, tree: &Tree, pieces: usize) -> Result<Plan, NoPlan>
 /// The settings of an analysis, with the family drawn from the seed.
 fn settings_of(alloc: Global, options: &ReportOptions) -> Result<Options, AllocError>
     requires { bad_option options.now ≡ None }
-    ensures k { IfOk result (λ settings. settings.k ≡ options.now.k) }
-    ensures p { IfOk result (λ settings. settings.p ≡ 1) }
-    ensures q { IfOk result (λ settings. settings.q ≡ options.now.k + 1) }
+    ensures { IfOk result (λ settings. settings ≡ settings_of options.now) }
 {
     let family = match Family::draw(alloc, options.seed, options.depth) {
         Ok(family) => family,
@@ -141,8 +138,7 @@ fn heavy_keys<T: Threads + Wait + Sync>(
     plan: &Plan,
     settings: &Options,
 ) -> Result<Vec<Heavy>, AllocError>
-    requires some { 1 ≤ pieces }
-    requires few { pieces ≤ MAX_PIECES }
+    requires pieces { in_range pieces most_pieces ≡ true }
     requires plan { length (leaves plan.now) ≡ pieces }
     ensures { IfOk result (λ rows. rows.items ≡ heavy stream.now settings.now.p settings.now.q) }
 {
@@ -192,6 +188,7 @@ pub fn run_report<T: Threads + Wait + Sync, R: Read + Drop, S: Sink>(
         ReportRefused options.now (R.remaining reader)
         (S.taken sink.old) (S.taken sink.new) fault) }
     ensures bad_option { IfSome (bad_option options.now) (λ fault. result ≡ Err fault) }
+    ensures flushed { OnOk result (S.is_flushed sink.new ≡ true) }
     ensures failed { S.has_failed sink.new ≡ failed_by result }
 {
     match check_options(options) {

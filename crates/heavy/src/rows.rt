@@ -1,6 +1,6 @@
 //! The rows of a report.
 
-ghost use Rattle.std.specs.Prelude.{◌≡◌, false, IfOk, IfErr, OnOk, Some};
+ghost use Rattle.std.specs.Prelude.{◌≡◌, false, true, IfOk, IfErr, OnOk, Some};
 ghost use Rattle.std.specs.Io.KnownBytes.{Appends};
 ghost use Rattle.csv.specs.Writing.{text_written};
 ghost use Rattle.heavy.specs.Rows.{IsBetweenRows, row_of, rows_of};
@@ -58,6 +58,7 @@ pub fn write_report<S: Sink>(alloc: Global, sink: &mut S, rows: &[Heavy]) -> Res
     ensures all { OnOk result (Appends (S.taken sink.old) (S.taken sink.new) (rows_of rows.now)) }
     ensures refused { IfErr result (λ fault.
         RowsRefused rows.now (S.taken sink.old) (S.taken sink.new) fault) }
+    ensures flushed { OnOk result (S.is_flushed sink.new ≡ true) }
     ensures failed { S.has_failed sink.new ≡ is_write_fault result }
 {
     let Ok(text) = report_text(alloc, rows) else {

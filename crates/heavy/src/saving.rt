@@ -7,7 +7,8 @@ ghost use Rattle.hh_countmin.specs.Family.{drawn_family};
 ghost use Rattle.hh_countmin.specs.Table.{empty_table, table_of};
 ghost use Rattle.hh_saved.specs.Spelling.{Spells};
 ghost use Rattle.hh_saved.specs.declared.saved.Saved.TheVariants.{Cells, Counters};
-ghost use Rattle.heavy.specs.Reports.{in_range, read_fault};
+ghost use Rattle.heavy.specs.Limits.{in_range, most_depth, most_k, most_width};
+ghost use Rattle.heavy.specs.Reports.{read_fault};
 ghost use Rattle.heavy.specs.Saving.{ConfirmRefused, ConfirmsRows, RefusedAfter, SavesStream, bad_k, bad_table, word_of};
 
 use crate::confirmation::{ConfirmFault, confirm};
@@ -49,7 +50,7 @@ impl Method {
 
 /// The summary of items, by one method or the other.
 fn summary_of(alloc: Global, k: u64, method: Method, items: &[Item]) -> Result<Summary, AllocError>
-    requires k { in_range k 65535 ≡ true }
+    requires k { in_range k most_k ≡ true }
     requires bounded { total_of items.now ≤ max_total }
     ensures { IfOk result (λ summary. summary ≡ sketch_of k items.now) }
 {
@@ -87,8 +88,8 @@ pub fn summary_bytes<R: Read + Drop>(
     method: Method,
     reader: R,
 ) -> Result<Vec<u8>, ToolError>
-    ensures saved { IfOk result (λ bytes. IfSome (R.remaining reader) (λ text.
-        SavesStream (λ xs. Counters (sketch_of k xs)) text bytes.items)) }
+    ensures saved { IfOk result (λ bytes.
+        SavesStream (λ xs. Counters (sketch_of k xs)) (R.remaining reader) bytes.items) }
     ensures refused { IfErr result (λ fault. RefusedAfter (bad_k k) (R.remaining reader) fault) }
     ensures bad_k { IfSome (bad_k k) (λ fault. result ≡ Err fault) }
 {
@@ -107,8 +108,8 @@ pub fn summary_bytes<R: Read + Drop>(
 
 /// The table of no items, with the family that is drawn from the seed.
 fn empty_table(alloc: Global, width: u64, depth: u64, seed: u64) -> Result<Table, AllocError>
-    requires depth { in_range depth 16 ≡ true }
-    requires width { in_range width 65536 ≡ true }
+    requires depth { in_range depth most_depth ≡ true }
+    requires width { in_range width most_width ≡ true }
     ensures { IfOk result (λ table. table ≡ empty_table (drawn_family seed depth) width) }
 {
     let family = match Family::draw(alloc, seed, depth) {
@@ -147,8 +148,9 @@ pub fn table_bytes<R: Read + Drop>(
     seed: u64,
     reader: R,
 ) -> Result<Vec<u8>, ToolError>
-    ensures saved { IfOk result (λ bytes. IfSome (R.remaining reader) (λ text.
-        SavesStream (λ xs. Cells (table_of (drawn_family seed depth) width xs)) text bytes.items)) }
+    ensures saved { IfOk result (λ bytes.
+        SavesStream (λ xs. Cells (table_of (drawn_family seed depth) width xs))
+        (R.remaining reader) bytes.items) }
     ensures refused { IfErr result (λ fault.
         RefusedAfter (bad_table depth width) (R.remaining reader) fault) }
     ensures bad_table { IfSome (bad_table depth width) (λ fault. result ≡ Err fault) }
@@ -179,7 +181,7 @@ pub fn confirm_bytes<R: Read + Drop>(
     reader: R,
 ) -> Result<Vec<u8>, ToolError>
     ensures rows { IfOk result (λ rows.
-        IfSome (R.remaining reader) (λ text. ConfirmsRows file.now text rows.items)) }
+        ConfirmsRows file.now (R.remaining reader) rows.items) }
     ensures refused { IfErr result (λ fault. ConfirmRefused file.now (R.remaining reader) fault) }
 {
     let summary = match read(alloc, file) {

@@ -89,7 +89,7 @@ fn candidates_select(lab: &Lab) -> Result<Said, Fail> {
         return Err(Fail::new("not two candidates"));
     }
     lab.begin()?;
-    let made = candidates.select(&[6, 3], 11, 3);
+    let made = candidates.select(&[6, 3], 11, 1, 4);
     lab.end()?;
     match made {
         Err(AllocError) => lab.refused(),

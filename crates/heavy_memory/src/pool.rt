@@ -86,7 +86,7 @@ fn merged(lab: &Lab) -> Result<Said, Fail> {
 }
 
 fn options(lab: &Lab, workers: u64) -> Result<Options, Fail> {
-    Ok(Options::new(2, workers, 4, lab.family()?)?)
+    Ok(Options::new(2, 1, 3, workers, 4, lab.family()?)?)
 }
 
 fn first(lab: &Lab) -> Result<Said, Fail> {
@@ -94,7 +94,7 @@ fn first(lab: &Lab) -> Result<Said, Fail> {
     let cutting = Cutting::even(lab.alloc, stream.len(), 2)?;
     let family = lab.family()?;
     let cells = (family.depth() * 4) as usize;
-    let options = Options::new(2, 1, 4, family)?;
+    let options = Options::new(2, 1, 3, 1, 4, family)?;
     if cutting.len() != stream.len() {
         return Err(Fail::new("not the stream's cutting"));
     }
@@ -214,7 +214,7 @@ fn readers(lab: &Lab) -> Result<Said, Fail> {
     lab.begin()?;
     OpenGate.before(1, 0, 0);
     let pieces = plan.count();
-    let made = Options::new(2, 1, 4, family).is_ok();
+    let made = Options::new(2, 1, 3, 1, 4, family).is_ok();
     lab.end()?;
     lab.answer(format_args!("{pieces} {made}"))
 }

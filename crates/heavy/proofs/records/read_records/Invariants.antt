@@ -3,7 +3,7 @@ use Rattle.csv.specs.Reading.{Ready, default_config, is_flexible, reader_config,
 use Rattle.csv.specs.declared.reader.Trim.TheVariants as trim
 use Rattle.hh_stream.specs.Weights.{total_of, max_total}
 use Rattle.heavy.proofs.ReadFacts.{ReadSoFar}
-use Rattle.heavy.proofs.records.read_stream.Given as goal
+use Rattle.heavy.proofs.records.read_records.Given as goal
 
 abbrev pub invariant-loop-stream : goal.invariant-loop-stream
 invariant-loop-stream g l = (reader_trim l.records ≡ trim.None) × Ready l.records × (is_flexible l.records ≡ true)

@@ -1,6 +1,6 @@
 //! The texts of faults, and their exit statuses.
 
-use crate::{BadRecordCause, KeyCause, MergeCause, ToolError, TreeFault};
+use heavy::{BadRecordCause, KeyCause, MergeCause, ToolError, TreeFault};
 use hh_saved::SavedFault;
 use std::process::Abort;
 use std::test::Fail;

@@ -1,6 +1,6 @@
 use Rattle.std.proofs.Common.{arith, inl, inr, ◌∙◌}
 use Rattle.heavy.proofs.ReadFacts.{read-start, read-more, read-end, read-refused}
-use Rattle.heavy.proofs.records.read_stream.Goals as goal
+use Rattle.heavy.proofs.records.read_records.Goals as goal
 
 pub loop-stream-init : goal.loop-stream-init
 loop-stream-init g c =

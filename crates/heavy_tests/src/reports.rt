@@ -1,8 +1,9 @@
 //! The worked rows on reports.
 
-use crate::tests::{Broken, Short};
-use crate::{BadRecordCause, Out, ReportOptions, ToolError, Tree, TreeFault, run_report};
-use std::io::Read;
+use crate::devices::{Manner, Source, Target};
+use heavy::{BadRecordCause, Out, ReportOptions, ToolError, Tree, TreeFault, run_report};
+use std::alloc::Global;
+use std::io::{ErrorKind, Read};
 use std::process::Abort;
 use std::sync::Wait;
 use std::test::Fail;
@@ -23,19 +24,15 @@ fn options(k: u64) -> ReportOptions {
     }
 }
 
-/// What a report writes, where the writer takes so many bytes, and the refusal.
+/// What a writer takes of a report, and the refusal.
 fn report_of<R: Read + Drop>(
     rt: &(impl Abort + AllocGlobal + Threads + Wait + Sync),
     options: &ReportOptions,
     reader: R,
-    left: usize,
+    manner: Manner,
 ) -> (Vec<u8>, Option<ToolError>) {
     let mut taken = Vec::new(rt.alloc());
-    let mut out = Out::new(Short {
-        left,
-        taken: &mut taken,
-        flushes: true,
-    });
+    let mut out = Out::new(Target::new(manner, &mut taken));
     let fault = run_report(rt, rt.alloc(), options, reader, &mut out).err();
     drop(out);
     (taken, fault)
@@ -48,7 +45,7 @@ fn reports(
     text: &[u8],
     rows: &[u8],
 ) {
-    let (taken, fault) = report_of(rt, options, text, 99);
+    let (taken, fault) = report_of(rt, options, text, Manner::taking(99));
     assert_eq!(rt; taken.as_slice(), rows);
     assert_eq!(rt; fault, None);
 }
@@ -60,14 +57,34 @@ fn refuses(
     text: &[u8],
     fault: ToolError,
 ) {
-    let (taken, refusal) = report_of(rt, options, text, 99);
+    let (taken, refusal) = report_of(rt, options, text, Manner::taking(99));
     assert_eq!(rt; refusal, Some(fault));
     assert!(rt; taken.is_empty());
 }
 
+/// Compares the refusal of options, with which nothing is read or written.
+fn refuses_unread(
+    rt: &(impl Abort + AllocGlobal + Threads + Wait + Sync),
+    options: &ReportOptions,
+    fault: ToolError,
+) {
+    let mut reads = 0;
+    let source = Source {
+        bytes: b"a,0\n",
+        at_once: 99,
+        reads: &mut reads,
+        fails_at: 1,
+        fault: ErrorKind::BrokenPipe,
+    };
+    let (taken, refusal) = report_of(rt, options, source, Manner::taking(99));
+    assert_eq!(rt; refusal, Some(fault));
+    assert!(rt; taken.is_empty());
+    assert_eq!(rt; reads, 0);
+}
+
 #[test]
 fn reports_of_texts(rt: HostRuntime) {
-    let texts: [(&[u8], u64, &[u8]); 8] = [
+    let texts: [(&[u8], u64, &[u8]); 9] = [
         (b"", 2, b""),
         (RECORDS, 2, b"a,6\n"),
         (b"a\nb\nc\n", 2, b""),
@@ -76,6 +93,7 @@ fn reports_of_texts(rt: HostRuntime) {
         (b"\"a,b\",3\n", 1, b"\"a,b\",3\n"),
         (b"b,2\na,2\n", 3, b"a,2\nb,2\n"),
         (b"a\nb\na\n", 1, b"a,2\n"),
+        (b"a,5\r\nb,3\r\n", 2, b"a,5\nb,3\n"),
     ];
     for (text, k, rows) in texts {
         reports(&rt, &options(k), text, rows);
@@ -126,7 +144,7 @@ fn the_largest_options(rt: HostRuntime) {
 #[test]
 fn k_out_of_range(rt: HostRuntime) {
     for k in [0, 65_536, u64::MAX] {
-        refuses(&rt, &options(k), b"a,0\n", ToolError::BadK);
+        refuses_unread(&rt, &options(k), ToolError::BadK);
     }
 }
 
@@ -140,16 +158,60 @@ fn refused_records_write_nothing(rt: HostRuntime) {
         b"x,9223372036854775807\ny,1\n",
         ToolError::BadRecord { number, cause },
     );
-    let (taken, fault) = report_of(&rt, &options(2), Broken, 99);
-    assert_eq!(rt; fault, Some(ToolError::ReadFault));
-    assert!(rt; taken.is_empty());
+}
+
+/// What a report of the records writes, where the read with a number fails; the refusal, and how many
+/// reads there were.
+fn report_from(
+    rt: &(impl Abort + AllocGlobal + Threads + Wait + Sync),
+    fails_at: u64,
+    fault: ErrorKind,
+) -> (Vec<u8>, Option<ToolError>, u64) {
+    let mut reads = 0;
+    let source = Source {
+        bytes: RECORDS,
+        at_once: 4,
+        reads: &mut reads,
+        fails_at,
+        fault,
+    };
+    let (taken, refusal) = report_of(rt, &options(2), source, Manner::taking(99));
+    (taken, refusal, reads)
 }
 
 #[test]
-fn a_report_that_is_cut_off(rt: HostRuntime) {
-    let (taken, fault) = report_of(&rt, &options(2), RECORDS, 2);
-    assert_eq!(rt; fault, Some(ToolError::WriteFault { written: 2 }));
-    assert_eq!(rt; taken.as_slice(), b"a,".as_slice());
+fn each_read_of_a_report_fails(rt: HostRuntime) {
+    let (_, _, reads) = report_from(&rt, 0, ErrorKind::BrokenPipe);
+    assert!(rt; 4 < reads && reads < 99);
+    for fails_at in 1..=reads {
+        let (taken, refusal, _) = report_from(&rt, fails_at, ErrorKind::BrokenPipe);
+        assert_eq!(rt; refusal, Some(ToolError::ReadFault));
+        assert!(rt; taken.is_empty());
+    }
+}
+
+#[test]
+fn each_read_of_a_report_is_interrupted(rt: HostRuntime) {
+    let (_, _, reads) = report_from(&rt, 0, ErrorKind::Interrupted);
+    assert!(rt; 4 < reads && reads < 99);
+    for fails_at in 1..=reads {
+        let (taken, refusal, tries) = report_from(&rt, fails_at, ErrorKind::Interrupted);
+        assert_eq!(rt; refusal, None);
+        assert_eq!(rt; taken.as_slice(), b"a,6\n".as_slice());
+        assert!(rt; tries > reads);
+    }
+}
+
+#[test]
+fn reports_to_writers(rt: HostRuntime) {
+    for (manner, written) in Manner::of_four_bytes() {
+        let (taken, refusal) = report_of(&rt, &options(2), RECORDS, manner);
+        let told = written.map(|written| ToolError::WriteFault { written });
+        assert_eq!(rt; refusal, told);
+        let len = written.unwrap_or(4) as usize;
+        assert_eq!(rt; taken.len(), len);
+        assert!(rt; b"a,6\n".starts_with(taken.as_slice()));
+    }
 }
 
 /// The options of which this many, in the order of the tests, are in range.
@@ -176,7 +238,7 @@ fn options_are_tested_in_order(rt: HostRuntime) -> Result<(), Fail> {
         ToolError::BadTree(TreeFault::MissingPiece(2)),
     ];
     for (count, fault) in faults.into_iter().enumerate() {
-        refuses(&rt, &options_in_range(&rt, count)?, b"a,0\n", fault);
+        refuses_unread(&rt, &options_in_range(&rt, count)?, fault);
     }
     Ok(())
 }
@@ -185,13 +247,13 @@ fn options_are_tested_in_order(rt: HostRuntime) -> Result<(), Fail> {
 fn options_of_0(rt: HostRuntime) {
     let mut options = options(1);
     options.pieces = 0;
-    refuses(&rt, &options, b"a,0\n", ToolError::BadPieces);
+    refuses_unread(&rt, &options, ToolError::BadPieces);
     options.width = 0;
-    refuses(&rt, &options, b"a,0\n", ToolError::BadWidth);
+    refuses_unread(&rt, &options, ToolError::BadWidth);
     options.workers = 0;
-    refuses(&rt, &options, b"a,0\n", ToolError::BadWorkers);
+    refuses_unread(&rt, &options, ToolError::BadWorkers);
     options.depth = 0;
-    refuses(&rt, &options, b"a,0\n", ToolError::BadDepth);
+    refuses_unread(&rt, &options, ToolError::BadDepth);
 }
 
 #[test]
@@ -209,7 +271,28 @@ fn refused_trees(rt: HostRuntime) -> Result<(), Fail> {
         let mut options = options(2);
         options.pieces = 3;
         options.tree = Tree::Text(tree.to_vec(rt.alloc())?);
-        refuses(&rt, &options, b"a,0\n", ToolError::BadTree(fault));
+        refuses_unread(&rt, &options, ToolError::BadTree(fault));
     }
+    Ok(())
+}
+
+/// The text of the chain of 1,024 pieces: so many parentheses open at once.
+fn long_chain(alloc: Global) -> Result<Vec<u8>, Fail> {
+    let mut text = vec![in alloc; b'('; 1023]?;
+    text.push(b'0')?;
+    for piece in 1..1024 {
+        text.extend_from_slice(format!(in alloc; " {piece})")?.as_bytes())?;
+    }
+    Ok(text)
+}
+
+#[test]
+fn the_deepest_tree(rt: HostRuntime) -> Result<(), Fail> {
+    let mut options = options(2);
+    options.pieces = 1024;
+    options.tree = Tree::Text(long_chain(rt.alloc())?);
+    reports(&rt, &options, RECORDS, b"a,6\n");
+    options.tree = Tree::Text(vec![in rt.alloc(); b'('; 1024]?);
+    refuses_unread(&rt, &options, ToolError::BadTree(TreeFault::Syntax(1023)));
     Ok(())
 }

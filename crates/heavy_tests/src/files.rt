@@ -4,7 +4,7 @@ use crate::saved_examples::{
     ANOTHER_FAMILY, ANOTHER_K, ANOTHER_WIDTH, CELLS, COUNTERS, LARGEST, LARGEST_TOTAL, MERGED,
     NO_ITEMS, ONE, OTHER_KEYS, TWICE, TWO,
 };
-use crate::{KeyCause, MergeCause, ToolError, ask_bytes, merge_bytes};
+use heavy::{KeyCause, MergeCause, ToolError, ask_bytes, merge_bytes};
 use hh_saved::SavedFault;
 use std::alloc::Global;
 use std::process::Abort;

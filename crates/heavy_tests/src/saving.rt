@@ -1,0 +1,237 @@
+//! The worked rows on saved summaries and tables.
+
+use crate::devices::Source;
+use crate::saved_examples::{CELLS, COUNTERS, NO_ITEMS};
+use heavy::{BadRecordCause, Method, ToolError, confirm_bytes, summary_bytes, table_bytes};
+use hh_countmin::{Family, Table};
+use hh_saved::{Saved, SavedFault, read};
+use hh_stream::Key;
+use std::alloc::Global;
+use std::io::ErrorKind;
+use std::process::Abort;
+use std::test::Fail;
+
+const RECORDS: &[u8] = b"a,5\nb,3\nc,2\na,1\n";
+
+// A record with a weight of 0, which no command reads before its other tests.
+const BAD: &[u8] = b"a,0\n";
+
+const BAD_RECORD: ToolError = ToolError::BadRecord {
+    number: 1,
+    cause: BadRecordCause::ZeroWeight,
+};
+
+#[test]
+fn both_methods_save_one_summary(rt: HostRuntime) -> Result<(), Fail> {
+    let alloc = rt.alloc();
+    for word in [b"mg", b"ss"] {
+        let method = Method::of(word)?;
+        assert_eq!(rt;
+            summary_bytes(alloc, 2, method, RECORDS)?.as_slice(),
+            COUNTERS
+        );
+        assert_eq!(rt;
+            summary_bytes(alloc, 2, method, b"".as_slice())?.as_slice(),
+            NO_ITEMS
+        );
+    }
+    Ok(())
+}
+
+#[test]
+fn words_that_name_no_method(rt: HostRuntime) {
+    for word in [b"x".as_slice(), b"", b"m", b"mgs", b"SS"] {
+        assert_eq!(rt; Method::of(word).err(), Some(ToolError::BadMethod));
+    }
+}
+
+#[test]
+fn summaries_that_are_not_saved(rt: HostRuntime) {
+    let tests: [(u64, &[u8], ToolError); 4] = [
+        (0, BAD, ToolError::BadK),
+        (65_536, BAD, ToolError::BadK),
+        (1, BAD, BAD_RECORD),
+        (65_535, BAD, BAD_RECORD),
+    ];
+    for (k, text, fault) in tests {
+        let refused = summary_bytes(rt.alloc(), k, Method::MisraGries, text);
+        assert_eq!(rt; refused.err(), Some(fault));
+    }
+}
+
+/// The table that a file spells.
+fn table_in(rt: &(impl Abort + AllocGlobal), file: &[u8]) -> Result<Table, Fail> {
+    match read(rt.alloc(), file)? {
+        Saved::Cells(table) => Ok(table),
+        Saved::Counters(_) => panic!(rt; "not a table"),
+    }
+}
+
+#[test]
+fn saved_table_is_read_back(rt: HostRuntime) -> Result<(), Fail> {
+    let alloc = rt.alloc();
+    let bytes = table_bytes(alloc, 4, 2, 7, b"a,5\ne,2\nb,1\n".as_slice())?;
+    assert_eq!(rt; bytes.len(), 122);
+    let table = table_in(&rt, &bytes)?;
+    assert_eq!(rt; (table.width(), table.total()), (4, 8));
+    assert!(rt; *table.family() == Family::draw(alloc, 7, 2)?);
+    for (word, weight) in [(b"a", 5), (b"e", 2), (b"b", 1)] {
+        assert!(rt; table.estimate(&Key::new(alloc, word)?) >= weight);
+    }
+    Ok(())
+}
+
+#[test]
+fn tables_that_are_not_saved(rt: HostRuntime) {
+    let tests = [
+        (0, 0, ToolError::BadDepth),
+        (0, 17, ToolError::BadDepth),
+        (0, 16, ToolError::BadWidth),
+        (65_537, 1, ToolError::BadWidth),
+        (65_536, 1, BAD_RECORD),
+        (1, 16, BAD_RECORD),
+    ];
+    for (width, depth, fault) in tests {
+        let refused = table_bytes(rt.alloc(), width, depth, 7, BAD);
+        assert_eq!(rt; refused.err(), Some(fault));
+    }
+}
+
+#[test]
+fn saved_summary_is_confirmed(rt: HostRuntime) -> Result<(), Fail> {
+    let rows = confirm_bytes(rt.alloc(), COUNTERS, RECORDS)?;
+    assert_eq!(rt; rows.as_slice(), b"a,6\n".as_slice());
+    let rows = confirm_bytes(rt.alloc(), NO_ITEMS, b"".as_slice())?;
+    assert!(rt; rows.is_empty());
+    Ok(())
+}
+
+#[test]
+fn files_that_are_not_confirmed(rt: HostRuntime) {
+    let number = 1;
+    let fault = SavedFault::BadKind;
+    let tests: [(&[u8], &[u8], ToolError); 4] = [
+        (b"HHS1\x03", BAD, ToolError::BadFile { number, fault }),
+        (CELLS, BAD, ToolError::NotCounters),
+        (COUNTERS, BAD, BAD_RECORD),
+        (COUNTERS, b"a,5\n", ToolError::TotalDiffers),
+    ];
+    for (file, text, fault) in tests {
+        assert_eq!(rt; confirm_bytes(rt.alloc(), file, text).err(), Some(fault));
+    }
+}
+
+/// A command that reads records, and what it is given beside them.
+#[derive(Clone, Copy)]
+enum Command<'a> {
+    Summary { k: u64, method: Method },
+    Table { width: u64, depth: u64 },
+    Confirm { file: &'a [u8] },
+}
+
+const MISRA_GRIES: Command<'static> = Command::Summary {
+    k: 2,
+    method: Method::MisraGries,
+};
+
+const SPACE_SAVING: Command<'static> = Command::Summary {
+    k: 2,
+    method: Method::SpaceSaving,
+};
+
+const TABLE: Command<'static> = Command::Table { width: 4, depth: 2 };
+
+const CONFIRM: Command<'static> = Command::Confirm { file: COUNTERS };
+
+/// The bytes that a command gives of the records, where the read with a number fails; and how many
+/// reads there were.
+fn given(
+    alloc: Global,
+    command: Command<'_>,
+    fails_at: u64,
+    fault: ErrorKind,
+) -> (Result<Vec<u8>, ToolError>, u64) {
+    let mut reads = 0;
+    let source = Source {
+        bytes: RECORDS,
+        at_once: 4,
+        reads: &mut reads,
+        fails_at,
+        fault,
+    };
+    let bytes = match command {
+        Command::Summary { k, method } => summary_bytes(alloc, k, method, source),
+        Command::Table { width, depth } => table_bytes(alloc, width, depth, 7, source),
+        Command::Confirm { file } => confirm_bytes(alloc, file, source),
+    };
+    (bytes, reads)
+}
+
+#[test]
+fn each_read_of_a_command_fails(rt: HostRuntime) {
+    for command in [MISRA_GRIES, SPACE_SAVING, TABLE, CONFIRM] {
+        let (_, reads) = given(rt.alloc(), command, 0, ErrorKind::BrokenPipe);
+        assert!(rt; 4 < reads && reads < 99);
+        for fails_at in 1..=reads {
+            let (refused, _) = given(rt.alloc(), command, fails_at, ErrorKind::BrokenPipe);
+            assert_eq!(rt; refused.err(), Some(ToolError::ReadFault));
+        }
+    }
+}
+
+#[test]
+fn each_read_of_a_command_is_interrupted(rt: HostRuntime) -> Result<(), Fail> {
+    for command in [MISRA_GRIES, SPACE_SAVING, TABLE, CONFIRM] {
+        let (bytes, reads) = given(rt.alloc(), command, 0, ErrorKind::Interrupted);
+        let bytes = bytes?;
+        assert!(rt; 4 < reads && reads < 99);
+        for fails_at in 1..=reads {
+            let (same, tries) = given(rt.alloc(), command, fails_at, ErrorKind::Interrupted);
+            assert_eq!(rt; same?.as_slice(), bytes.as_slice());
+            assert!(rt; tries > reads);
+        }
+    }
+    Ok(())
+}
+
+#[test]
+fn refused_before_anything_is_read(rt: HostRuntime) {
+    let method = Method::SpaceSaving;
+    let (number, fault) = (1, SavedFault::BadKind);
+    let commands = [
+        (Command::Summary { k: 0, method }, ToolError::BadK),
+        (Command::Summary { k: 65_536, method }, ToolError::BadK),
+        (Command::Table { width: 0, depth: 0 }, ToolError::BadDepth),
+        (
+            Command::Table {
+                width: 4,
+                depth: 17,
+            },
+            ToolError::BadDepth,
+        ),
+        (
+            Command::Table {
+                width: 0,
+                depth: 16,
+            },
+            ToolError::BadWidth,
+        ),
+        (
+            Command::Table {
+                width: 65_537,
+                depth: 1,
+            },
+            ToolError::BadWidth,
+        ),
+        (
+            Command::Confirm { file: b"HHS1\x03" },
+            ToolError::BadFile { number, fault },
+        ),
+        (Command::Confirm { file: CELLS }, ToolError::NotCounters),
+    ];
+    for (command, fault) in commands {
+        let (refused, reads) = given(rt.alloc(), command, 1, ErrorKind::BrokenPipe);
+        assert_eq!(rt; refused.err(), Some(fault));
+        assert_eq!(rt; reads, 0);
+    }
+}
