@@ -20,15 +20,30 @@ pub enum Request {
 #[derive(Drop)]
 pub enum Question {
     /// The saved summary of standard input.
-    Summarise { k: u64, method: Vec<u8> },
+    Summarise {
+        k: u64,
+        method: Vec<u8>,
+    },
     /// The saved table of standard input.
-    Table { width: u64, depth: u64, seed: u64 },
+    Table {
+        width: u64,
+        depth: u64,
+        seed: u64,
+    },
     /// Saved files merged.
-    Merge { first: Vec<u8>, others: Vec<Vec<u8>> },
+    Merge {
+        first: Vec<u8>,
+        others: Vec<Vec<u8>>,
+    },
     /// What a saved file says of keys.
-    Ask { file: Vec<u8>, keys: Vec<Vec<u8>> },
+    Ask {
+        file: Vec<u8>,
+        keys: Vec<Vec<u8>>,
+    },
     /// The heavy keys of a saved summary in standard input.
-    Confirm { file: Vec<u8> },
+    Confirm {
+        file: Vec<u8>,
+    },
 }
 
 /// Why a command line asks for nothing.
