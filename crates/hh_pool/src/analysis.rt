@@ -48,7 +48,8 @@ fn in_order(alloc: Global, mut found: Vec<(usize, Summary)>) -> Result<Vec<Summa
 /// The table of the stream, whose cells these are.
 fn table_of_cells(stream: &Stream, options: &Options, cells: Vec<u64>) -> Result<Table, AllocError>
     requires { cells.items ≡ (table_of options.now.family options.now.width stream.now).cells }
-    ensures { IfOk result (λ table. table ≡ table_of options.now.family options.now.width stream.now) }
+    ensures { IfOk result
+        (λ table. table ≡ table_of options.now.family options.now.width stream.now) }
 {
     tables_fit();
     let family = options.family().copy()?;
@@ -65,8 +66,10 @@ fn summarise<R: Threads + Wait + Sync, G: Gate + Sync>(
     gate: &G,
 ) -> Result<(Vec<Summary>, Table), AllocError>
     requires { sum cutting.now ≡ length stream.now }
-    ensures summaries { IfOk result (λ r. r.0.items ≡ map (sketch_of options.now.k) (pieces_of cutting.now stream.now)) }
-    ensures table { IfOk result (λ r. r.1 ≡ table_of options.now.family options.now.width stream.now) }
+    ensures summaries { IfOk result (λ r.
+        r.0.items ≡ map (sketch_of options.now.k) (pieces_of cutting.now stream.now)) }
+    ensures table { IfOk result
+        (λ r. r.1 ≡ table_of options.now.family options.now.width stream.now) }
 {
     pieces_make_the_whole();
     cells_are_cell_sums();
@@ -137,9 +140,12 @@ fn run_passes<R: Threads + Wait + Sync, G: Gate + Sync>(
     requires plan { IsMergeTree plan.now (length cutting.now) }
     requires some { 0 < length cutting.now }
     requires few { length cutting.now ≤ max_pieces }
-    ensures summary { IfOk result (λ outcome. IsMerged plan.now options.now.k (pieces_of cutting.now stream.now) stream.now outcome.summary) }
-    ensures table { IfOk result (λ outcome. outcome.table ≡ table_of options.now.family options.now.width stream.now) }
-    ensures heavy { IfOk result (λ outcome. outcome.heavy.items ≡ heavy stream.now options.now.p options.now.q) }
+    ensures summary { let pieces = pieces_of cutting.now stream.now in IfOk result (λ outcome.
+        IsMerged plan.now options.now.k pieces stream.now outcome.summary) }
+    ensures table { IfOk result (λ outcome.
+        outcome.table ≡ table_of options.now.family options.now.width stream.now) }
+    ensures heavy { IfOk result (λ outcome.
+        outcome.heavy.items ≡ heavy stream.now options.now.p options.now.q) }
 {
     pieces_make_the_whole();
     misra_gries_is_honest();
@@ -182,10 +188,14 @@ pub fn analyse<R: Threads + Wait + Sync, G: Gate + Sync>(
     gate: &G,
 ) -> Result<Outcome, RunError>
     requires { sum cutting.now ≡ length stream.now }
-    ensures plan_mismatch { IsErrOf result RunError.PlanMismatch ↔ (length (leaves plan.now) ≢ length cutting.now) }
-    ensures summary { IfOk result (λ outcome. IsMerged plan.now options.now.k (pieces_of cutting.now stream.now) stream.now outcome.summary) }
-    ensures table { IfOk result (λ outcome. outcome.table ≡ table_of options.now.family options.now.width stream.now) }
-    ensures heavy { IfOk result (λ outcome. outcome.heavy.items ≡ heavy stream.now options.now.p options.now.q) }
+    ensures plan_mismatch { IsErrOf result RunError.PlanMismatch
+        ↔ (length (leaves plan.now) ≢ length cutting.now) }
+    ensures summary { let pieces = pieces_of cutting.now stream.now in IfOk result (λ outcome.
+        IsMerged plan.now options.now.k pieces stream.now outcome.summary) }
+    ensures table { IfOk result (λ outcome.
+        outcome.table ≡ table_of options.now.family options.now.width stream.now) }
+    ensures heavy { IfOk result (λ outcome.
+        outcome.heavy.items ≡ heavy stream.now options.now.p options.now.q) }
 {
     if plan.count() != cutting.count() {
         return Err(RunError::PlanMismatch);
