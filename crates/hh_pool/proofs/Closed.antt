@@ -1,5 +1,5 @@
 -- What the closed sums are, and that the merged summary can be made.
-use Rattle.std.proofs.Common.{◌≡◌, ℕ, ◌+◌, ◌*◌, ◌%◌, ◌^◌, ◌<◌, ◌≤◌, List, [], length, get_or, map, refl, sym, ap, ◌∙◌, subst, arith}
+use Rattle.std.proofs.Common.{◌≡◌, ℕ, ◌+◌, ◌*◌, ◌%◌, ◌^◌, ◌<◌, ◌≤◌, List, [], ◌∷◌, length, get_or, map, refl, sym, ap, ◌∙◌, subst, arith}
 use Rattle.std.specs.Prelude.{All}
 use Rattle.std.specs.List.{range_with_len}
 use Rattle.std.proofs.lemmas.List.{get_or-map, length-map}
@@ -57,6 +57,11 @@ pub found_are : (k : ℕ) (pieces : List (List Entry)) (claims : List ℕ) (foun
 found_are k pieces claims found e =
     let P : ℕ × Sketch → Type 0 = λ it. it.1 ≡ sketch_of k (piece_of pieces it.0) in
     subst (All P) (sym e) (All-map P (λ i. (i, sketch_of k (piece_of pieces i))) claims (λ j d low. refl))
+
+-- the numbers of the summaries are the claimed ones
+pub numbers_at : (k : ℕ) (pieces : List (List Entry)) (claims : List ℕ) → map (λ (it : ℕ × Sketch). it.0) (summaries_at k pieces claims) ≡ claims
+numbers_at k pieces [] = refl
+numbers_at k pieces (i ∷ is) = λ j. i ∷ numbers_at k pieces is j
 
 -- the summaries by number are those of the pieces
 pub by_number : (k : ℕ) (pieces : List (List Entry)) → map (λ i. sketch_of k (piece_of pieces i)) (range_with_len 0 (length pieces)) ≡ map (sketch_of k) pieces

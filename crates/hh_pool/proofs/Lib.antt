@@ -9,3 +9,4 @@ pub mod Tried
 pub mod Alone
 pub mod Closed
 pub mod Merged
+pub mod Ordered

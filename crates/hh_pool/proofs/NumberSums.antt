@@ -96,7 +96,7 @@ at-most-sum g d ss xs (suc n) le h =
     let more : sum_by g (take (suc n) ss) ≡ sum_by g (take n ss) + g (slice_index_or ss n d) = rw (← add-one n) (sum_by_more g ss n d below) in
     omega (arith, rest, one, more)
 
-none-above : (p i : ℕ) (xs : List ℕ) → ((j : ℕ) → 0 < times j xs → j < p) → p ≤ i → times i xs ≡ 0
+pub none-above : (p i : ℕ) (xs : List ℕ) → ((j : ℕ) → 0 < times j xs → j < p) → p ≤ i → times i xs ≡ 0
 none-above p i xs below le = by (times i xs) refl
   where
     by : (n : ℕ) → times i xs ≡ n → times i xs ≡ 0

@@ -6,6 +6,7 @@ ghost use Rattle.hh_stream.specs.Cuttings.{max_pieces, pieces_of};
 ghost use Rattle.hh_counters.specs.Counters.{Sketch, sketch_of};
 ghost use Rattle.hh_counters.specs.Report.{weights_at, heavy};
 ghost use Rattle.hh_countmin.specs.Table.{table_of};
+ghost use Rattle.hh_shared.specs.Tally.{HasAllBelow, IsDistinctBelow};
 ghost use Rattle.hh_pool.specs.Settings.{IsWorkers};
 ghost use Rattle.hh_pool.specs.Trees.{IsMergeTree, leaves};
 ghost use Rattle.hh_pool.specs.Outcomes.{IsMerged};
@@ -29,29 +30,26 @@ use std::alloc::{AllocError, Global};
 use std::sync::Wait;
 use std::thread::Threads;
 
-/// The summaries in the order of their numbers, where they are those of 0, 1 and so on up to `count`.
-fn in_order(
-    alloc: Global,
-    mut found: Vec<(usize, Summary)>,
-    count: usize,
-) -> Result<Option<Vec<Summary>>, AllocError>
-    ensures { (f : ℕ → Sketch) → All (λ it. it.1 ≡ f it.0) found.items → IfOk result (λ all. IfSome all (λ summaries. summaries.items ≡ map f (range_with_len 0 count))) }
+/// The summaries in the order of their numbers.
+fn in_order(alloc: Global, mut found: Vec<(usize, Summary)>) -> Result<Vec<Summary>, AllocError>
+    ensures { (f : ℕ → Sketch) (count : ℕ) → All (λ it. it.1 ≡ f it.0) found.items
+        → IsDistinctBelow count (map (λ it. it.0) found.items)
+        → HasAllBelow count (map (λ it. it.0) found.items)
+        → IfOk result (λ summaries. summaries.items ≡ map f (range_with_len 0 count)) }
 {
-    found.sort_unstable_by(|a, b| b.0.cmp(&a.0));
+    found.sort_unstable_by(|a, b| a.0.cmp(&b.0));
     let mut summaries = Vec::new(alloc);
-    for number in 0..count {
-        match found.pop() {
-            Some((n, summary)) if n == number => summaries.push(summary)?,
-            _ => return Ok(None),
-        }
+    for (_, summary) in found {
+        summaries.push(summary)?;
     }
-    Ok(Some(summaries))
+    Ok(summaries)
 }
 
 /// The table of the stream, whose cells these are.
 fn table_of_cells(stream: &Stream, options: &Options, cells: Vec<u64>) -> Result<Table, AllocError>
     requires { cells.items ≡ (table_of options.now.family options.now.width stream.now).cells }
-    ensures { IfOk result (λ table. table ≡ table_of options.now.family options.now.width stream.now) }
+    ensures { IfOk result
+        (λ table. table ≡ table_of options.now.family options.now.width stream.now) }
 {
     tables_fit();
     let family = options.family().copy()?;
@@ -68,8 +66,10 @@ fn summarise<R: Threads + Wait + Sync, G: Gate + Sync>(
     gate: &G,
 ) -> Result<(Vec<Summary>, Table), AllocError>
     requires { sum cutting.now ≡ length stream.now }
-    ensures summaries { IfOk result (λ r. r.0.items ≡ map (sketch_of options.now.k) (pieces_of cutting.now stream.now)) }
-    ensures table { IfOk result (λ r. r.1 ≡ table_of options.now.family options.now.width stream.now) }
+    ensures summaries { IfOk result (λ r.
+        r.0.items ≡ map (sketch_of options.now.k) (pieces_of cutting.now stream.now)) }
+    ensures table { IfOk result
+        (λ r. r.1 ≡ table_of options.now.family options.now.width stream.now) }
 {
     pieces_make_the_whole();
     cells_are_cell_sums();
@@ -86,9 +86,7 @@ fn summarise<R: Threads + Wait + Sync, G: Gate + Sync>(
     if !sums.holds_all(&seat) {
         return pass.alone();
     }
-    let Some(summaries) = in_order(alloc, found, cutting.count())? else {
-        return pass.alone();
-    };
+    let summaries = in_order(alloc, found)?;
     // It bounds the sums.
     let _total = stream.total();
     let cells = sums.close(seat)?;
@@ -142,9 +140,12 @@ fn run_passes<R: Threads + Wait + Sync, G: Gate + Sync>(
     requires plan { IsMergeTree plan.now (length cutting.now) }
     requires some { 0 < length cutting.now }
     requires few { length cutting.now ≤ max_pieces }
-    ensures summary { IfOk result (λ outcome. IsMerged plan.now options.now.k (pieces_of cutting.now stream.now) stream.now outcome.summary) }
-    ensures table { IfOk result (λ outcome. outcome.table ≡ table_of options.now.family options.now.width stream.now) }
-    ensures heavy { IfOk result (λ outcome. outcome.heavy.items ≡ heavy stream.now options.now.p options.now.q) }
+    ensures summary { let pieces = pieces_of cutting.now stream.now in IfOk result (λ outcome.
+        IsMerged plan.now options.now.k pieces stream.now outcome.summary) }
+    ensures table { IfOk result (λ outcome.
+        outcome.table ≡ table_of options.now.family options.now.width stream.now) }
+    ensures heavy { IfOk result (λ outcome.
+        outcome.heavy.items ≡ heavy stream.now options.now.p options.now.q) }
 {
     pieces_make_the_whole();
     misra_gries_is_honest();
@@ -187,10 +188,14 @@ pub fn analyse<R: Threads + Wait + Sync, G: Gate + Sync>(
     gate: &G,
 ) -> Result<Outcome, RunError>
     requires { sum cutting.now ≡ length stream.now }
-    ensures plan_mismatch { IsErrOf result RunError.PlanMismatch ↔ (length (leaves plan.now) ≢ length cutting.now) }
-    ensures summary { IfOk result (λ outcome. IsMerged plan.now options.now.k (pieces_of cutting.now stream.now) stream.now outcome.summary) }
-    ensures table { IfOk result (λ outcome. outcome.table ≡ table_of options.now.family options.now.width stream.now) }
-    ensures heavy { IfOk result (λ outcome. outcome.heavy.items ≡ heavy stream.now options.now.p options.now.q) }
+    ensures plan_mismatch { IsErrOf result RunError.PlanMismatch
+        ↔ (length (leaves plan.now) ≢ length cutting.now) }
+    ensures summary { let pieces = pieces_of cutting.now stream.now in IfOk result (λ outcome.
+        IsMerged plan.now options.now.k pieces stream.now outcome.summary) }
+    ensures table { IfOk result (λ outcome.
+        outcome.table ≡ table_of options.now.family options.now.width stream.now) }
+    ensures heavy { IfOk result (λ outcome.
+        outcome.heavy.items ≡ heavy stream.now options.now.p options.now.q) }
 {
     if plan.count() != cutting.count() {
         return Err(RunError::PlanMismatch);

@@ -50,7 +50,8 @@ pub fn first_pass<G: Gate>(
     requires claims { sums.now.claims ≡ length cutting.now }
     requires cells { sums.now.cells ≡ length options.now.family.rows * options.now.width }
     ensures sums { IfOk result (λ r. r.0.sums ≡ sums.now) }
-    ensures pass { IfOk result (λ r. IsFirstPass (pieces_of cutting.now stream.now) options.now r.0 r.1.items) }
+    ensures pass { IfOk result
+        (λ r. IsFirstPass (pieces_of cutting.now stream.now) options.now r.0 r.1.items) }
 {
     let pass = FirstPass {
         alloc,
@@ -93,7 +94,9 @@ pub(crate) fn empty_table(alloc: Global, options: &Options) -> Result<Table, All
 /// Adds each item to the table.
 pub(crate) fn add_items(table: &mut Table, items: &[Item])
     requires { table.old.total + total_of items.now ≤ MAX_TOTAL }
-    ensures { (family : Coefficients) (width : ℕ) (xs : List Entry) → table.old ≡ table_of family width xs → table.new ≡ table_of family width (xs ++ items.now) }
+    ensures { (family : Coefficients) (width : ℕ) (xs : List Entry)
+        → table.old ≡ table_of family width xs
+        → table.new ≡ table_of family width (xs ++ items.now) }
 {
     tables_follow_items();
     for item in items {
@@ -124,9 +127,13 @@ impl<'a, G: Gate> FirstPass<'a, G> {
         requires piece { piece < sums.now.claims }
         requires claims { sums.now.claims ≡ length self.now.cutting.now }
         requires same_len { sum self.now.cutting.now ≡ length self.now.stream.now }
-        requires before { IsFirstPassUpTo (pieces_of self.now.cutting.now self.now.stream.now) self.now.options.now piece seat.old made.old.summaries.items made.old.table }
+        requires before { let pieces = pieces_of self.now.cutting.now self.now.stream.now in
+            IsFirstPassUpTo pieces self.now.options.now piece
+            seat.old made.old.summaries.items made.old.table }
         ensures sums { seat.new.sums ≡ seat.old.sums }
-        ensures after { OnOk result (IsFirstPassUpTo (pieces_of self.now.cutting.now self.now.stream.now) self.now.options.now (piece + 1) seat.new made.new.summaries.items made.new.table) }
+        ensures after { let pieces = pieces_of self.now.cutting.now self.now.stream.now in
+            OnOk result (IsFirstPassUpTo pieces self.now.options.now (piece + 1)
+            seat.new made.new.summaries.items made.new.table) }
     {
         if !sums.claim(seat, piece) {
             return Ok(());
@@ -145,8 +152,10 @@ impl<'a, G: Gate> FirstPass<'a, G> {
     /// table of the stream.
     pub(crate) fn alone(&self) -> Result<(Vec<Summary>, Table), AllocError>
         requires { sum self.now.cutting.now ≡ length self.now.stream.now }
-        ensures summaries { IfOk result (λ r. r.0.items ≡ map (sketch_of self.now.options.now.k) (pieces_of self.now.cutting.now self.now.stream.now)) }
-        ensures table { IfOk result (λ r. r.1 ≡ table_of self.now.options.now.family self.now.options.now.width self.now.stream.now) }
+        ensures summaries { let pieces = pieces_of self.now.cutting.now self.now.stream.now in
+            IfOk result (λ r. r.0.items ≡ map (sketch_of self.now.options.now.k) pieces) }
+        ensures table { let options = self.now.options.now in
+            IfOk result (λ r. r.1 ≡ table_of options.family options.width self.now.stream.now) }
     {
         pieces_make_the_whole();
         let mut summaries = Vec::new(self.alloc);
@@ -166,8 +175,11 @@ impl<'a, G: Gate> FirstPass<'a, G> {
     ) -> Result<(), AllocError>
         requires same_len { sum self.now.cutting.now ≡ length self.now.stream.now }
         requires piece { piece < length self.now.cutting.now }
-        requires before { IsFirstAloneUpTo (pieces_of self.now.cutting.now self.now.stream.now) self.now.options.now piece summaries.old.items table.old }
-        ensures { OnOk result (IsFirstAloneUpTo (pieces_of self.now.cutting.now self.now.stream.now) self.now.options.now (piece + 1) summaries.new.items table.new) }
+        requires before { let pieces = pieces_of self.now.cutting.now self.now.stream.now in
+            IsFirstAloneUpTo pieces self.now.options.now piece summaries.old.items table.old }
+        ensures { let pieces = pieces_of self.now.cutting.now self.now.stream.now in
+            OnOk result (IsFirstAloneUpTo pieces self.now.options.now (piece + 1)
+            summaries.new.items table.new) }
     {
         self.gate.before(1, self.options.workers(), piece as u64);
         let items = self.cutting.piece(self.stream, piece);
@@ -182,7 +194,9 @@ impl<'a, G: Gate> Pass for FirstPass<'a, G> {
 
     ghost use Rattle.hh_pool.specs.Passes.{AreFirstPasses, IsFirstPass};
 
-    ghost fits = { λ p sums. (sum p.cutting.now ≡ length p.stream.now) × (sums.claims ≡ length p.cutting.now) × (sums.cells ≡ length p.options.now.family.rows * p.options.now.width) };
+    ghost fits = { λ p sums. (sum p.cutting.now ≡ length p.stream.now)
+        × (sums.claims ≡ length p.cutting.now)
+        × (sums.cells ≡ length p.options.now.family.rows * p.options.now.width) };
 
     ghost done = { λ p seat summaries.
         IsFirstPass (pieces_of p.cutting.now p.stream.now) p.options.now seat summaries.items };

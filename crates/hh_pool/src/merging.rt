@@ -27,7 +27,8 @@ fn take_summary(alloc: Global, summary: &mut Summary) -> Summary
 /// One summary merged with another.
 fn merge_two(left: Summary, right: &Summary) -> Result<Summary, MergeFault>
     ensures merged { IfOk result (λ s. merge_result left right.now ≡ Ok s) }
-    ensures refused { IfErr result (λ e. e ≢ MergeFault.Memory → merge_result left right.now ≡ Err e) }
+    ensures refused { IfErr result (λ e.
+        e ≢ MergeFault.Memory → merge_result left right.now ≡ Err e) }
 {
     let mut merged = left;
     match merged.merge(right) {
@@ -41,8 +42,10 @@ fn merge_tree(alloc: Global, tree: &Tree, summaries: &mut [Summary]) -> Result<S
     requires places { HasPlaces (shape tree.now) (length summaries.old) }
     requires fits { length summaries.old ≤ max_pieces }
     ensures merged { IfOk result (λ s. tree_result (shape tree.now) summaries.old ≡ Ok s) }
-    ensures refused { IfErr result (λ e. e ≢ MergeFault.Memory → tree_result (shape tree.now) summaries.old ≡ Err e) }
-    ensures others { (i : ℕ) → times i (leaves (shape tree.now)) ≡ 0 → slice_index_or summaries.new i no_sketch ≡ slice_index_or summaries.old i no_sketch }
+    ensures refused { IfErr result (λ e.
+        e ≢ MergeFault.Memory → tree_result (shape tree.now) summaries.old ≡ Err e) }
+    ensures others { (i : ℕ) → times i (leaves (shape tree.now)) ≡ 0
+        → slice_index_or summaries.new i no_sketch ≡ slice_index_or summaries.old i no_sketch }
 {
     match tree {
         Tree::Leaf(i) => Ok(take_summary(alloc, &mut summaries[*i])),
@@ -68,11 +71,13 @@ fn merge_tree(alloc: Global, tree: &Tree, summaries: &mut [Summary]) -> Result<S
 pub fn merge_by(alloc: Global, plan: &Plan, summaries: Vec<Summary>) -> Result<Summary, MergeFault>
     requires { IsMergeTree plan.now (length summaries.items) }
     ensures merged { IfOk result (λ s. tree_result plan.now summaries.items ≡ Ok s) }
-    ensures refused { IfErr result (λ e. e ≢ MergeFault.Memory → tree_result plan.now summaries.items ≡ Err e) }
+    ensures refused { IfErr result (λ e.
+        e ≢ MergeFault.Memory → tree_result plan.now summaries.items ≡ Err e) }
 
     ensures k { IfOk result (λ s. All (λ piece. piece.k ≡ s.k) summaries.items) }
     ensures total { IfOk result (λ s. s.total ≡ sum_by (λ piece. piece.total) summaries.items) }
-    ensures counters { IfOk result (λ s. s.counters ≡ tree_value plan.now (map (λ piece. piece.counters) summaries.items) s.k) }
+    ensures counters { IfOk result (λ s.
+        s.counters ≡ tree_value plan.now (map (λ piece. piece.counters) summaries.items) s.k) }
     ensures honest { IfOk result (λ s. MergesHonestly summaries.items s) }
 {
     join_of_honest_is_honest();

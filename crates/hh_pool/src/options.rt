@@ -29,9 +29,17 @@ impl Model for Options {
 
     ghost Value = { Settings };
 
-    ghost view = { λ o. record { k = o.k; p = o.p; q = o.q; workers = o.workers; width = o.width; family = o.family } };
+    ghost view = { λ o. record {
+      k = o.k;
+      p = o.p;
+      q = o.q;
+      workers = o.workers;
+      width = o.width;
+      family = o.family;
+    } };
 
-    ghost invariant = { λ o. IsK o.k × IsThreshold o.k o.p o.q × IsWorkers o.workers × IsWidth o.width };
+    ghost invariant = { λ o.
+        IsK o.k × IsThreshold o.k o.p o.q × IsWorkers o.workers × IsWidth o.width };
 }
 
 /// Why there are no such options.
@@ -60,8 +68,14 @@ impl Options {
         width: u64,
         family: Family,
     ) -> Result<Options, OptionsFault>
-        ensures options { IfOk result (λ options.
-            options ≡ record { k = k; p = p; q = q; workers = workers; width = width; family = family }) }
+        ensures options { IfOk result (λ options. options ≡ record {
+          k = k;
+          p = p;
+          q = q;
+          workers = workers;
+          width = width;
+          family = family;
+        }) }
         ensures bad_k { IsErrOf result OptionsFault.BadK ↔ ((k ≡ 0) ⊎ (65535 < k)) }
         ensures bad_workers { IsErrOf result OptionsFault.BadWorkers
             ↔ (IsK k × ((workers ≡ 0) ⊎ (64 < workers))) }

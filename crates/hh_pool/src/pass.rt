@@ -34,17 +34,20 @@ pub(crate) trait Pass {
 
     /// What two workers kept, for their joined seats.
     fn together(&self, one: Self::Kept, other: Self::Kept) -> Result<Self::Kept, AllocError>
-        ensures { IfOk result (λ both. (a b : Holding) →
-            all_done self.now a one → all_done self.now b other → all_done self.now (joined a b) both) };
+        ensures { IfOk result (λ both. (a b : Holding)
+            → all_done self.now a one → all_done self.now b other
+            → all_done self.now (joined a b) both) };
 }
 
 /// Adds to each cell the number at its place, those that are not 0.
 pub(crate) fn add_numbers(sums: &SharedSums, seat: &mut SumSeat, numbers: &[u64])
     requires seat { seat.old.sums ≡ sums.now }
     requires cells { length numbers.now ≤ sums.now.cells }
-    requires holds_a_claim { (cell : ℕ) → 0 < slice_index numbers.now cell → 0 < length seat.old.claims }
+    requires holds_a_claim { (cell : ℕ) → 0 < slice_index numbers.now cell
+        → 0 < length seat.old.claims }
     ensures unchanged { seat.new ≡ record seat.old { adds = seat.new.adds } }
-    ensures added { (cell : ℕ) → added cell seat.new.adds ≡ added cell seat.old.adds + slice_index numbers.now cell }
+    ensures added { (cell : ℕ) →
+        added cell seat.new.adds ≡ added cell seat.old.adds + slice_index numbers.now cell }
 {
     for (cell, &number) in numbers.iter().enumerate() {
         if number != 0 {

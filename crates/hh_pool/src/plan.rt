@@ -17,8 +17,8 @@ pub(crate) enum Tree {
     Node(Box<Tree>, Box<Tree>),
 }
 
-/// A plan to merge the summaries of 1 to [`MAX_PIECES`](hh_stream::MAX_PIECES) pieces: a tree in which each piece's number is a
-/// leaf exactly once. A contract sees the tree.
+/// A plan to merge the summaries of 1 to [`MAX_PIECES`](hh_stream::MAX_PIECES) pieces: a tree in
+/// which each piece's number is a leaf exactly once. A contract sees the tree.
 #[derive(Debug, Drop)]
 pub struct Plan {
     tree: Tree,
@@ -37,7 +37,8 @@ impl Model for Plan {
 
     ghost view = { λ plan. shape plan.tree };
 
-    ghost invariant = { λ plan. IsMergeTree (shape plan.tree) plan.count × (1 ≤ plan.count) × (plan.count ≤ max_pieces) };
+    ghost invariant = { λ plan. IsMergeTree (shape plan.tree) plan.count × (1 ≤ plan.count)
+        × (plan.count ≤ max_pieces) };
 }
 
 /// The chain of so many pieces.

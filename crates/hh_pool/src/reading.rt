@@ -57,7 +57,8 @@ fn after_tree(
     outer: VecDeque<Open>,
     byte: u8,
 ) -> Result<Option<Reading>, AllocError>
-    ensures { IfOk result (λ next. option_map reading_of next ≡ after_tree (shape tree) (map open_of outer.items) byte) }
+    ensures { IfOk result (λ next.
+        option_map reading_of next ≡ after_tree (shape tree) (map open_of outer.items) byte) }
 {
     let mut outer = outer;
     match outer.pop_front() {
@@ -77,7 +78,8 @@ fn after_tree(
 
 /// A tree begins with a digit or an opening parenthesis.
 fn at_start(outer: VecDeque<Open>, byte: u8) -> Result<Option<Reading>, AllocError>
-    ensures { IfOk result (λ next. option_map reading_of next ≡ at_start (map open_of outer.items) byte) }
+    ensures { IfOk result (λ next.
+        option_map reading_of next ≡ at_start (map open_of outer.items) byte) }
 {
     let mut outer = outer;
     if byte.is_ascii_digit() {
@@ -186,8 +188,11 @@ fn marks_of(alloc: Global, numbers: &[usize], pieces: usize) -> Result<Vec<bool>
 
 /// The least place that isn't marked.
 fn least_unmarked(marks: &[bool]) -> Option<usize>
-    ensures none { IfNone result ((i : ℕ) → i < length marks.now → slice_index_or marks.now i false ≡ true) }
-    ensures least { IfSome result (λ i. (i < length marks.now) × (slice_index_or marks.now i false ≡ false) × ((j : ℕ) → j < i → slice_index_or marks.now j false ≡ true)) }
+    ensures none { IfNone result ((i : ℕ) → i < length marks.now
+        → slice_index_or marks.now i false ≡ true) }
+    ensures least { IfSome result (λ i. (i < length marks.now)
+        × (slice_index_or marks.now i false ≡ false)
+        × ((j : ℕ) → j < i → slice_index_or marks.now j false ≡ true)) }
 {
     for i in 0..marks.len() {
         if !marks[i] {
@@ -200,7 +205,8 @@ fn least_unmarked(marks: &[bool]) -> Option<usize>
 /// Whether a tree's numbers are those of so many pieces, each once.
 fn check_numbers(alloc: Global, tree: &Tree, pieces: usize) -> Result<(), PlanFault>
     ensures merges { OnOk result (IsMergeTree (shape tree.now) pieces) }
-    ensures refused { IfErr result (λ fault. NumbersRefused pieces (leaves (shape tree.now)) fault) }
+    ensures refused { IfErr result
+        (λ fault. NumbersRefused pieces (leaves (shape tree.now)) fault) }
 {
     let mut numbers = Vec::new(alloc);
     let Ok(()) = add_numbers(tree, &mut numbers) else {

@@ -43,7 +43,8 @@ pub fn second_pass<G: Gate>(
     requires claims { sums.now.claims ≡ length cutting.now }
     requires cells { sums.now.cells ≡ length candidates.now }
     ensures sums { IfOk result (λ seat. seat.sums ≡ sums.now) }
-    ensures pass { IfOk result (λ seat. IsSecondPass (pieces_of cutting.now stream.now) candidates.now seat) }
+    ensures pass { IfOk result
+        (λ seat. IsSecondPass (pieces_of cutting.now stream.now) candidates.now seat) }
 {
     let pass = SecondPass {
         alloc,
@@ -70,9 +71,11 @@ impl<'a, G: Gate> SecondPass<'a, G> {
         requires piece { piece < sums.now.claims }
         requires claims { sums.now.claims ≡ length self.now.cutting.now }
         requires same_len { sum self.now.cutting.now ≡ length self.now.stream.now }
-        requires before { IsSecondPassUpTo (pieces_of self.now.cutting.now self.now.stream.now) self.now.candidates.now piece seat.old numbers.old }
+        requires before { let pieces = pieces_of self.now.cutting.now self.now.stream.now in
+            IsSecondPassUpTo pieces self.now.candidates.now piece seat.old numbers.old }
         ensures sums { seat.new.sums ≡ seat.old.sums }
-        ensures after { IsSecondPassUpTo (pieces_of self.now.cutting.now self.now.stream.now) self.now.candidates.now (piece + 1) seat.new numbers.new }
+        ensures after { let pieces = pieces_of self.now.cutting.now self.now.stream.now in
+            IsSecondPassUpTo pieces self.now.candidates.now (piece + 1) seat.new numbers.new }
     {
         if sums.claim(seat, piece) {
             self.gate.before(2, worker, piece as u64);
@@ -87,7 +90,8 @@ impl<'a, G: Gate> SecondPass<'a, G> {
     /// what the gate hears.
     pub(crate) fn alone(&self, workers: u64) -> Result<Vec<u64>, AllocError>
         requires { sum self.now.cutting.now ≡ length self.now.stream.now }
-        ensures { IfOk result (λ weights. weights.items ≡ weights_at self.now.candidates.now self.now.stream.now) }
+        ensures { IfOk result (λ weights.
+            weights.items ≡ weights_at self.now.candidates.now self.now.stream.now) }
     {
         pieces_make_the_whole();
         let mut weights = vec![in self.alloc; 0u64; self.candidates.len()]?;
@@ -101,8 +105,10 @@ impl<'a, G: Gate> SecondPass<'a, G> {
     fn do_piece(&self, weights: &mut [u64], workers: u64, piece: usize)
         requires same_len { sum self.now.cutting.now ≡ length self.now.stream.now }
         requires piece { piece < length self.now.cutting.now }
-        requires before { weights.old ≡ weights_at self.now.candidates.now (whole_of (take piece (pieces_of self.now.cutting.now self.now.stream.now))) }
-        ensures { weights.new ≡ weights_at self.now.candidates.now (whole_of (take (piece + 1) (pieces_of self.now.cutting.now self.now.stream.now))) }
+        requires before { let pieces = pieces_of self.now.cutting.now self.now.stream.now in
+            weights.old ≡ weights_at self.now.candidates.now (whole_of (take piece pieces)) }
+        ensures { let pieces = pieces_of self.now.cutting.now self.now.stream.now in
+            weights.new ≡ weights_at self.now.candidates.now (whole_of (take (piece + 1) pieces)) }
     {
         self.gate.before(2, workers, piece as u64);
         let items = self.cutting.piece(self.stream, piece);
@@ -113,7 +119,8 @@ impl<'a, G: Gate> SecondPass<'a, G> {
 impl<'a, G: Gate> Pass for SecondPass<'a, G> {
     type Kept = ();
 
-    ghost fits = { λ p sums. (sum p.cutting.now ≡ length p.stream.now) × (sums.claims ≡ length p.cutting.now) × (sums.cells ≡ length p.candidates.now) };
+    ghost fits = { λ p sums. (sum p.cutting.now ≡ length p.stream.now)
+        × (sums.claims ≡ length p.cutting.now) × (sums.cells ≡ length p.candidates.now) };
 
     ghost done = { λ p seat _.
         IsSecondPass (pieces_of p.cutting.now p.stream.now) p.candidates.now seat };

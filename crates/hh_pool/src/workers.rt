@@ -20,7 +20,8 @@ pub(crate) struct Promised<P: Pass> {
 }
 
 impl<P: Pass> Promise<Result<(SumSeat, P::Kept), AllocError>> for Promised<P> {
-    ghost kept_by = { λ p r. IfOk r (λ x. (x.0.sums ≡ p.sums.value) × P.all_done p.pass.value x.0 x.1) };
+    ghost kept_by = { λ p r. IfOk r (λ x. (x.0.sums ≡ p.sums.value)
+        × P.all_done p.pass.value x.0 x.1) };
 }
 
 /// Runs so many workers with one seat, numbered from `first` on: where they are more than one, half of
@@ -59,16 +60,22 @@ fn run_workers<R: Threads + Wait + Sync, P: Pass + Sync>(
             ),
             AllocError,
         >
-            requires { IsSync R.row × IsSync P.row × IsSend P.Kept.row × (0 < low) × (first + low < 2 ^ 64) × (0 < high) × (next + high < 2 ^ 64) × P.fits pass.now sums.now × (seat ≡ fresh sums.now) × (half ≡ fresh sums.now) }
-            ensures { IfOk result (λ b. IfOk b.0 (λ r. (r.0.sums ≡ sums.entry.now) × P.all_done pass.entry.now r.0 r.1) × IfOk b.1 (λ r. (r.0.sums ≡ sums.entry.now) × P.all_done pass.entry.now r.0 r.1)) }
+            requires { IsSync R.row × IsSync P.row × IsSend P.Kept.row × (0 < low)
+                × (first + low < 2 ^ 64) × (0 < high) × (next + high < 2 ^ 64)
+                × P.fits pass.now sums.now × (seat ≡ fresh sums.now) × (half ≡ fresh sums.now) }
+            ensures { IfOk result (λ b.
+                IfOk b.0 (λ r. (r.0.sums ≡ sums.entry.now) × P.all_done pass.entry.now r.0 r.1)
+                × IfOk b.1 (λ r. (r.0.sums ≡ sums.entry.now) × P.all_done pass.entry.now r.0 r.1)) }
         {
             let promise = Promised {
                 sums: Snapshot::of(sums),
                 pass: Snapshot::of(pass),
             };
             let front = move || -> Result<(SumSeat, P::Kept), AllocError>
-                requires { IsSync R.row × IsSync P.row × IsSend P.Kept.row × (0 < low) × (first + low < 2 ^ 64) × P.fits pass.now sums.now × (seat ≡ fresh sums.now) }
-                ensures { IfOk result (λ r. (r.0.sums ≡ sums.entry.now) × P.all_done pass.entry.now r.0 r.1) }
+                requires { IsSync R.row × IsSync P.row × IsSend P.Kept.row × (0 < low)
+                    × (first + low < 2 ^ 64) × P.fits pass.now sums.now × (seat ≡ fresh sums.now) }
+                ensures { IfOk result (λ r. (r.0.sums ≡ sums.entry.now)
+                    × P.all_done pass.entry.now r.0 r.1) }
             { run_workers(rt, sums, seat, pass, first, low) };
             let child = scope.spawn_with(promise, front)?;
             let other = run_workers(rt, sums, half, pass, next, high);
@@ -102,16 +109,20 @@ pub(crate) fn run_apart<R: Threads + Wait + Sync, P: Pass + Sync>(
         thread::scope_env(),
         rt,
         |scope| -> Result<(SumSeat, P::Kept), AllocError>
-            requires { IsSync R.row × IsSync P.row × IsSend P.Kept.row × (0 < workers) × (workers ≤ 64) × P.fits pass.now sums.now × (seat ≡ fresh sums.now) }
-            ensures { IfOk result (λ r. (r.0.sums ≡ sums.entry.now) × P.all_done pass.entry.now r.0 r.1) }
+            requires { IsSync R.row × IsSync P.row × IsSend P.Kept.row × (0 < workers)
+                × (workers ≤ 64) × P.fits pass.now sums.now × (seat ≡ fresh sums.now) }
+            ensures { IfOk result (λ r. (r.0.sums ≡ sums.entry.now)
+                × P.all_done pass.entry.now r.0 r.1) }
         {
             let promise = Promised {
                 sums: Snapshot::of(sums),
                 pass: Snapshot::of(pass),
             };
             let all = move || -> Result<(SumSeat, P::Kept), AllocError>
-                requires { IsSync R.row × IsSync P.row × IsSend P.Kept.row × (0 < workers) × (workers ≤ 64) × P.fits pass.now sums.now × (seat ≡ fresh sums.now) }
-                ensures { IfOk result (λ r. (r.0.sums ≡ sums.entry.now) × P.all_done pass.entry.now r.0 r.1) }
+                requires { IsSync R.row × IsSync P.row × IsSend P.Kept.row × (0 < workers)
+                    × (workers ≤ 64) × P.fits pass.now sums.now × (seat ≡ fresh sums.now) }
+                ensures { IfOk result (λ r. (r.0.sums ≡ sums.entry.now)
+                    × P.all_done pass.entry.now r.0 r.1) }
             { run_workers(rt, sums, seat, pass, 0, workers) };
             let child = scope.spawn_with(promise, all)?;
             child.join(rt)

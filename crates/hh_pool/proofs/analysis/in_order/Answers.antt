@@ -1,25 +1,32 @@
-use Rattle.std.proofs.Common.{◌≡◌, ◌++◌, ◌∷◌, ◌∙◌, ℕ, List, [], length, sym, ap, refl, subst, arith, length-append}
-use Rattle.std.specs.Prelude.{All}
-use Rattle.std.proofs.lemmas.List.{get_or_append_left, get_or_push}
-use Rattle.std.proofs.lemmas.List.FromFn.{map-range_with_len_more}
+use Rattle.std.proofs.Common.{◌++◌, ◌∷◌, ◌∙◌, ℕ, List, [], map, is_lt, sym, ap, arith, rules}
+use Rattle.std.specs.Ordering.{nat_cmp}
+use Rattle.std.proofs.lemmas.Cmp.{nat_cmp_total}
+use Rattle.std.proofs.lemmas.Fn.{always_returns_same}
+use Rattle.std.proofs.lemmas.List.{append_assoc, append-nil, nil_from_length}
+use Rattle.std.proofs.lemmas.List.MinMax.{ranks_by}
 use Rattle.hh_counters.specs.Counters.{Sketch}
+use Rattle.hh_pool.proofs.Ordered.{ordered}
 use Rattle.hh_pool.proofs.analysis.in_order.Goals as goal
 
--- what holds of each element holds of all but the last, and of the last
-popped : {X : Type 0} (P : X → Type 0) (ys xs : List X) (x : X) → ys ≡ xs ++ x ∷ [] → All P ys → All P xs × P x
-popped P ys xs x e all =
-    let both = subst (All P) e all in (
-      (λ k d low. subst P (get_or_append_left xs (x ∷ []) d k low) (both k d (omega (arith, length-append xs (x ∷ []))))),
-      subst P (get_or_push xs x x (length xs) refl) (both (length xs) x (omega (arith, length-append xs (x ∷ [])))),
-    )
+-- the summaries of numbered ones
+abbrev alone : List (ℕ × Sketch) → List Sketch
+alone found = map (λ (it : ℕ × Sketch). it.1) found
 
-pub loop-number-preserved : goal.loop-number-preserved
-loop-number-preserved c f all =
-    let before = c.loop-number.invariant f all in
-    let parts = popped (λ (it : ℕ × Sketch). it.1 ≡ f it.0) _ _ _ c.in-Some.ensures.items before.left in
-    let number = c.loop-number.number in
-    record {
-      left = parts.0;
-      taken = c.in_ok-push-in-Some.ensures.items
-          ∙ ((λ i. before.taken i ++ (parts.1 ∙ ap f c.if-n-number.true) i ∷ []) ∙ sym (map-range_with_len_more f 0 number number (omega arith)));
-    }
+pub loop-summary-init : goal.loop-summary-init
+loop-summary-init c = ap (λ taken. taken ++ alone c.into_iter-summary-iterator.result.rest.items) (sym c.new-summaries.ensures.items)
+
+pub loop-summary-preserved : goal.loop-summary-preserved
+loop-summary-preserved c =
+    let taken = c.loop-summary.summaries.items in
+    let left = c.next.new.self.rest.items in
+    c.loop-summary.invariant
+    ∙ (ap (λ found. taken ++ alone found) c.in-Some.ensures.steps.0
+    ∙ (sym (append_assoc taken (c.in-Some.summary ∷ []) (alone left)) ∙ ap (λ (more : List Sketch). more ++ alone left) (sym c.in_ok-push.ensures.items)))
+
+pub returns : goal.returns
+returns c f count theirs distinct all =
+    let none = nil_from_length c.loop-summary.summary-iterator.rest.items (omega (arith, c.in-None.ensures.steps.0, c.loop-summary.summary-iterator.rest.ok)) in
+    let sorted = c.sort_unstable_by.ensures.sorted (λ x y. is_lt (nat_cmp x.0 y.0)) (ranks_by nat_cmp_total (λ (it : ℕ × Sketch). it.0)) (always_returns_same _ _ _ (λ a r g k. search rules)) in
+    let taken = c.loop-summary.summaries.items in
+    sym (c.loop-summary.invariant ∙ (ap (λ found. taken ++ alone found) none ∙ append-nil taken))
+    ∙ (ap alone c.into_iter-summary-iterator.ensures.into_iter_gives.0 ∙ ordered f count c.args.found.items _ theirs distinct all c.sort_unstable_by.ensures.permutation sorted)

@@ -1,12 +1,11 @@
-use Rattle.std.proofs.Common.{◌≡◌, ◌≤◌, ◌*◌, ◌∙◌, length, map, refl, sym, ap, subst, arith}
-use Rattle.std.specs.List.{range_with_len}
+use Rattle.std.proofs.Common.{◌≡◌, ◌≤◌, ◌*◌, ◌∙◌, ℕ, length, map, refl, sym, ap, subst, arith}
 use Rattle.hh_stream.specs.Weights.{total_of, max_total}
 use Rattle.hh_stream.specs.Cuttings.{pieces_of}
-use Rattle.hh_counters.specs.Counters.{sketch_of}
+use Rattle.hh_counters.specs.Counters.{Sketch, sketch_of}
 use Rattle.hh_shared.specs.Tally.{IsDistinctBelow, HasAllBelow}
 use Rattle.hh_pool.specs.Passes.{piece_of}
 use Rattle.hh_pool.proofs.Pieces.{length-pieces_of}
-use Rattle.hh_pool.proofs.Closed.{closed_cells, found_are, by_number}
+use Rattle.hh_pool.proofs.Closed.{closed_cells, found_are, by_number, numbers_at}
 use Rattle.hh_pool.proofs.analysis.summarise.Goals as goal
 
 pub table_of_cells-requires : goal.table_of_cells-requires
@@ -28,9 +27,16 @@ table_of_cells-requires g c =
 
 pub returns-clause-summaries : goal.returns-clause-summaries
 returns-clause-summaries g c =
-    let pieces = pieces_of c.args.cutting.now c.args.stream.now in
+    let lengths = c.args.cutting.now in
+    let stream = c.args.stream.now in
+    let pieces = pieces_of lengths stream in
     let k = c.args.options.now.k in
-    let count = c.count-2.ensures.count ∙ sym (length-pieces_of c.args.cutting.now c.args.stream.now) in
-    let found = found_are k pieces c.in_ok-seat.seat.claims c.in_ok-seat.found.items c.in_ok-seat.ensures.all_done.summaries in
-    let ordered = rw c.in-Some.is at (c.in_ok-summaries.ensures (λ i. sketch_of k (piece_of pieces i)) found) in
-    ordered ∙ (ap (λ n. map (λ i. sketch_of k (piece_of pieces i)) (range_with_len 0 n)) count ∙ by_number k pieces)
+    let seat = c.in_ok-seat.seat in
+    let count = c.in_ok-sums.ensures.claims ∙ (c.count.ensures.count ∙ sym (length-pieces_of lengths stream)) in
+    let distinct = subst (λ n. IsDistinctBelow n seat.claims) count c.if-not-holds_all.ensures.distinct in
+    let all = subst (λ n. HasAllBelow n seat.claims) count (c.if-not-holds_all.ensures.all.0 refl) in
+    let kept = c.in_ok-seat.ensures.all_done.summaries in
+    let numbers = sym (ap (map (λ (it : ℕ × Sketch). it.0)) kept ∙ numbers_at k pieces seat.claims) in
+    let found = found_are k pieces seat.claims c.in_ok-seat.found.items kept in
+    c.in_ok-summaries.ensures (λ i. sketch_of k (piece_of pieces i)) (length pieces) found (subst (IsDistinctBelow (length pieces)) numbers distinct) (subst (HasAllBelow (length pieces)) numbers all)
+    ∙ by_number k pieces
