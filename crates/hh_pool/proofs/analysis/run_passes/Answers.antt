@@ -62,6 +62,6 @@ returns-clause-heavy g c =
     merged_is c.misra_gries_is_honest.ensures c.args.plan.now k (pieces_of lengths stream) stream c.in_ok-summaries.summaries.items c.in-Ok.summary (omega (arith, length-pieces_of lengths stream, c.requires.some)) (c.pieces_make_the_whole.ensures.whole lengths stream c.requires.same_len)
     c.in_ok-summaries.ensures.summaries by.k by.total by.counters by.honest in
     let asked = c.threshold-p.ensures in
-    c.in_ok-heavy.ensures
+    c.in_ok-heavy.ensures.rows
     ∙ ((λ i. selected (asked.p i) (asked.q i) c.total-total.result (zip keys (c.deref.ensures.value i)))
     ∙ heavy_is c.candidates_suffice.ensures c.in-Ok.summary.counters stream k c.args.options.now.p c.args.options.now.q c.total-total.result keys c.in_ok-weights.weights.items merged.honest asked.in_range.1 c.total-total.ensures.total c.in_ok-candidates.ensures c.in_ok-weights.ensures)
