@@ -62,5 +62,5 @@ pub fn confirm(
     }
     let candidates = Candidates::of(alloc, summary)?;
     let weights = weights_of(alloc, &candidates, stream)?;
-    Ok(candidates.select(&weights, stream.total(), summary.k())?)
+    Ok(candidates.select(&weights, stream.total(), 1, summary.k() + 1)?)
 }

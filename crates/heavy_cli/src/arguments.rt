@@ -2,7 +2,7 @@
 
 use clap::error::ErrorKind;
 use clap::{Arg, ArgAction, ArgMatches, Command, value_parser};
-use heavy::{ReportOptions, ToolError, Tree};
+use heavy::{ReportOptions, Share, ToolError, Tree};
 use std::alloc::{AllocError, Global};
 use std::{env, io};
 
@@ -163,6 +163,7 @@ fn report_request(alloc: Global, found: &ArgMatches) -> Result<Request, AllocErr
     let tree = tree_of(alloc, tree)?;
     Ok(Request::Report(ReportOptions {
         k,
+        threshold: Share::OfCounters,
         workers,
         pieces,
         tree,

@@ -1,5 +1,5 @@
 -- The heavy keys, in the order of the report.
-use Rattle.std.specs.Prelude.{◌≡◌, ℕ, ◌+◌, ◌*◌, ◌<◌, Bool, cond, nat_lt, List, [], ◌∷◌, map, filter, fold, Contains, ◌↔◌}
+use Rattle.std.specs.Prelude.{◌≡◌, ℕ, ◌+◌, ◌*◌, ◌<◌, ◌≤◌, Bool, cond, nat_lt, List, [], ◌∷◌, map, filter, fold, Contains, ◌↔◌}
 use Rattle.std.specs.List.Sorted.{IsStrictlySortedBy}
 use Rattle.std.specs.declared.cmp.Ordering.{Ordering}
 use Rattle.std.specs.Ordering.{nat_cmp, ordering_then, is_lt}
@@ -17,6 +17,10 @@ ranked_in (d ∷ ds) e = cond (is_lt (rank_cmp e d)) (e ∷ d ∷ ds) (d ∷ ran
 
 unfoldable pub by_rank : List Entry → List Entry
 by_rank es = fold ranked_in [] es
+
+-- p/q is more than nothing and at most the whole, and its terms are at most 2^32
+abbrev pub IsShare : ℕ → ℕ → Type 0
+IsShare p q = (1 ≤ p) × (p ≤ q) × (q ≤ 4294967296)
 
 -- more than p/q of n
 abbrev pub is_heavy : ℕ → ℕ → ℕ → Entry → Bool

@@ -4,10 +4,10 @@ ghost use Rattle.std.specs.Prelude.{◌≡◌, ℕ, ◌+◌, ◌<◌, ◌≤◌,
 ghost use Rattle.std.specs.List.Sorted.{IsStrictlySortedBy};
 ghost use Rattle.std.specs.Map.{keys_of};
 ghost use Rattle.hh_stream.specs.Weights.{key_cmp, total_of};
-ghost use Rattle.hh_counters.specs.Report.{counted, selected};
+ghost use Rattle.hh_counters.specs.Report.{IsShare, counted, selected};
 
 use crate::report::{Heavy, selected_rows};
-use crate::summary::{MAX_K, Summary};
+use crate::summary::Summary;
 use hh_stream::{Item, Key};
 use indexmap::IndexSet;
 use std::alloc::{AllocError, Global};
@@ -95,16 +95,21 @@ impl Candidates {
         }
     }
 
-    /// The rows of the report: the keys whose number is more than the total divided by k + 1, each
-    /// with its number, by falling number and then by rising key.
-    pub fn select(&self, numbers: &[u64], total: u64, k: u64) -> Result<Vec<Heavy>, AllocError>
+    /// The rows of the report: the keys whose number is more than p/q of the total, each with its
+    /// number, by falling number and then by rising key. p/q is at most 1, and q at most
+    /// [`MAX_Q`](crate::MAX_Q).
+    pub fn select(
+        &self,
+        numbers: &[u64],
+        total: u64,
+        p: u64,
+        q: u64,
+    ) -> Result<Vec<Heavy>, AllocError>
         requires lengths { length numbers.now ≡ length self.now }
-        requires some_k { 1 ≤ k }
-        requires bounded_k { k ≤ MAX_K }
-        ensures { IfOk result
-            (λ rows. rows.items ≡ selected 1 (k + 1) total (zip self.now numbers.now)) }
+        requires share { IsShare p q }
+        ensures { IfOk result (λ rows. rows.items ≡ selected p q total (zip self.now numbers.now)) }
     {
         let alloc = *self.keys.allocator();
-        selected_rows(alloc, self.keys.as_slice(), numbers, 1, k + 1, total)
+        selected_rows(alloc, self.keys.as_slice(), numbers, p, q, total)
     }
 }

@@ -17,6 +17,6 @@ mod tests;
 pub use bucket_saving::{BucketSaving, NewFault};
 pub use candidates::Candidates;
 pub use monitor::{Monitor, monitored_summary};
-pub use report::Heavy;
+pub use report::{Heavy, MAX_Q};
 pub use space_saving::SpaceSaving;
 pub use summary::{AddFault, BadK, MAX_K, MergeFault, OfItemsFault, Summary};

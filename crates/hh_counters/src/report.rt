@@ -9,6 +9,9 @@ use hh_stream::Key;
 use std::alloc::{AllocError, Global};
 use std::marker::Model;
 
+/// The largest q of a share p/q.
+pub const MAX_Q: u64 = 4_294_967_296;
+
 /// A row of a report: a key with its weight in the stream. A contract sees the pair.
 #[derive(Debug, Drop)]
 pub struct Heavy {

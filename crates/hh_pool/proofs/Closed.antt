@@ -17,7 +17,7 @@ use Rattle.hh_countmin.specs.Laws.{CellsAreCellSums}
 use Rattle.hh_shared.specs.Tally.{added, sum_at, IsDistinctBelow, HasAllBelow}
 use Rattle.hh_shared.specs.Seats.{Holding}
 use Rattle.hh_pool.specs.Settings.{Settings}
-use Rattle.hh_pool.specs.Passes.{piece_of, summaries_at, IsFirstPass, IsSecondPass}
+use Rattle.hh_pool.specs.Passes.{piece_of, summaries_at, AreFirstPasses, AreSecondPasses}
 use Rattle.hh_pool.proofs.Pieces.{sum_by-all_items, weight_of-le, cell_sum-le}
 use Rattle.hh_pool.proofs.Tried.{weight_behind_number}
 
@@ -26,7 +26,7 @@ exact n sum e low = omega arith
 
 -- the closed sums of the first pass are the cells of the whole table
 pub closed_cells : CellsAreCellSums → (pieces : List (List Entry)) (xs : List Entry) (settings : Settings) (seat : Holding) (kept : List (ℕ × Sketch)) (values : List ℕ)
-    → whole_of pieces ≡ xs → total_of xs ≤ max_total → IsFirstPass pieces settings seat kept → IsDistinctBelow (length pieces) seat.claims → HasAllBelow (length pieces) seat.claims
+    → whole_of pieces ≡ xs → total_of xs ≤ max_total → AreFirstPasses pieces settings seat kept → IsDistinctBelow (length pieces) seat.claims → HasAllBelow (length pieces) seat.claims
     → length values ≡ length settings.family.rows * settings.width → ((cell : ℕ) → cell < length settings.family.rows * settings.width → get_or values cell 0 ≡ sum_at seat.adds cell)
     → values ≡ (table_of settings.family settings.width xs).cells
 closed_cells law pieces xs settings seat kept values whole low p distinct all long each =
@@ -41,7 +41,7 @@ closed_cells law pieces xs settings seat kept values whole low p distinct all lo
 
 -- the closed sums of the second pass are the candidates' weights
 pub closed_weights : (pieces : List (List Entry)) (xs : List Entry) (keys : List Bytes) (seat : Holding) (values : List ℕ)
-    → whole_of pieces ≡ xs → total_of xs ≤ max_total → IsSecondPass pieces keys seat → IsDistinctBelow (length pieces) seat.claims → HasAllBelow (length pieces) seat.claims
+    → whole_of pieces ≡ xs → total_of xs ≤ max_total → AreSecondPasses pieces keys seat → IsDistinctBelow (length pieces) seat.claims → HasAllBelow (length pieces) seat.claims
     → length values ≡ length keys → ((cell : ℕ) → cell < length keys → get_or values cell 0 ≡ sum_at seat.adds cell)
     → values ≡ weights_at keys xs
 closed_weights pieces xs keys seat values whole low p distinct all long each =

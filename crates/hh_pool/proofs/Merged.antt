@@ -1,5 +1,5 @@
 -- The merged summary can be made, and is what the analysis says.
-use Rattle.std.proofs.Common.{◌≡◌, ℕ, ◌+◌, ◌<◌, ◌≤◌, List, [], ◌∷◌, length, get_or, map, refl, sym, ap, ◌∙◌, subst, arith, ⊎_elim}
+use Rattle.std.proofs.Common.{◌≡◌, ℕ, ◌+◌, ◌*◌, ◌<◌, ◌≤◌, List, [], ◌∷◌, length, get_or, map, refl, sym, ap, ◌∙◌, subst, arith, ⊎_elim}
 use Rattle.std.specs.Prelude.{All, Ok, Err, sum_by, zip}
 use Rattle.std.specs.Map.{keys_of}
 use Rattle.std.proofs.lemmas.List.{get_or-map, length-map}
@@ -84,10 +84,10 @@ merged_is law t k pieces xs ss s some whole e same_k total counters honest =
     }
 
 -- the second pass over the keys of honest counters finds the heavy keys
-pub heavy_is : CandidatesSuffice → (c : Counters) (xs : List Entry) (k total : ℕ) (keys : List Bytes) (weights : List ℕ) → IsHonest c (total_of xs) xs k → total ≡ total_of xs → keys ≡ keys_of c → weights ≡ weights_at keys xs
-    → selected 1 (k + 1) total (zip keys weights) ≡ heavy xs 1 (k + 1)
-heavy_is law c xs k total keys weights honest total_is keys_are weights_are =
-    (λ i. selected 1 (k + 1) (total_is i) (zip (keys_are i) ((weights_are ∙ ap (λ ks. weights_at ks xs) keys_are) i))) ∙ (law c xs k 1 (k + 1)).1 honest (omega arith)
+pub heavy_is : CandidatesSuffice → (c : Counters) (xs : List Entry) (k p q total : ℕ) (keys : List Bytes) (weights : List ℕ) → IsHonest c (total_of xs) xs k → q ≤ p * (k + 1) → total ≡ total_of xs → keys ≡ keys_of c → weights ≡ weights_at keys xs
+    → selected p q total (zip keys weights) ≡ heavy xs p q
+heavy_is law c xs k p q total keys weights honest enough total_is keys_are weights_are =
+    (λ i. selected p q (total_is i) (zip (keys_are i) ((weights_are ∙ ap (λ ks. weights_at ks xs) keys_are) i))) ∙ (law c xs k p q).1 honest enough
 
 -- so no refusal comes
 pub no_refusal : (t : MergeTree) (k : ℕ) (pieces : List (List Entry)) (ss : List Sketch) (e : MergeFault) → IsMergeTree t (length pieces) → total_of (whole_of pieces) ≤ max_total → ss ≡ map (sketch_of k) pieces → tree_result t ss ≡ Err e → ⊥

@@ -1,13 +1,14 @@
 -- One piece more, and what two workers have made together.
 use Rattle.std.proofs.Common.{◌≡◌, ℕ, zero, suc, ◌+◌, ◌*◌, ◌<◌, ◌≤◌, eqb, cond, eq-eqb, ne_eqb, List, [], ◌∷◌, ◌++◌, length, get_or, map, replicate, take, length-take, zero-add, ⊎_elim, refl, sym, ap, ◌∙◌, subst, arith}
-use Rattle.std.proofs.lemmas.List.{map-append, get_or-take, get_or_past, append-nil}
+use Rattle.std.proofs.lemmas.List.{map-append, get_or-take, get_or_past, append-nil, get_or_append_left, get_or_push, length-append}
 use Rattle.std.specs.List.{range_with_len}
 use Rattle.std.specs.Prelude.{All, slice_get, Some}
 use Rattle.std.proofs.lemmas.Option.{get_or_from_slice_get, slice_get-map}
 use Rattle.std.specs.Option.{option_map}
-use Rattle.std.proofs.lemmas.List.Elements.{All-nil, All-cons}
+use Rattle.std.proofs.lemmas.List.Elements.{All-nil, All-cons, All-push}
+use Rattle.std.specs.List.Sorted.{IsStrictlyIncreasing}
 use Rattle.std.proofs.lemmas.Grind.{flat_map-append}
-use Rattle.std.proofs.lemmas.Bool.{cases_order}
+use Rattle.std.proofs.lemmas.Bool.{cases_lt, cases_order}
 use mathlib.Core.Logic.{dite}
 use native.Mathlib.Decide.{ℕ_discrete}
 use Rattle.hh_stream.specs.Weights.{Bytes, Entry, at_key, weight_of, total_of}
@@ -23,7 +24,7 @@ use Rattle.hh_countmin.specs.Laws.{CellsAreCellSums}
 use Rattle.hh_shared.specs.Tally.{times, added, IsDistinctBelow}
 use Rattle.hh_shared.specs.Seats.{Sums, Holding, fresh, joined}
 use Rattle.hh_pool.specs.Settings.{Settings}
-use Rattle.hh_pool.specs.Passes.{piece_of, items_at, summaries_at, HasTried, IsFirstPass, IsSecondPass, IsFirstPassUpTo, IsSecondPassUpTo}
+use Rattle.hh_pool.specs.Passes.{piece_of, items_at, summaries_at, HasTried, HasTriedUpTo, AreFirstPasses, AreSecondPasses, IsFirstPass, IsSecondPass, IsFirstPassUpTo, IsSecondPassUpTo}
 
 pub items_at-push : (pieces : List (List Entry)) (claims : List ℕ) (i : ℕ) → items_at pieces (claims ++ i ∷ []) ≡ items_at pieces claims ++ piece_of pieces i
 items_at-push pieces claims i = flat_map-append (piece_of pieces) claims (i ∷ []) ∙ ap (λ xs. items_at pieces claims ++ xs) (append-nil (piece_of pieces i))
@@ -79,18 +80,51 @@ pub claim-behind_cell : (family : Coefficients) (width : ℕ) (pieces : List (Li
 claim-behind_cell family width pieces [] grid e cell some = absurd (omega (arith, ap (λ g. get_or g.cells cell 0) e, all_zero (range_with_len 0 (length family.rows * width)) cell))
 claim-behind_cell family width pieces (i ∷ is) grid e cell some = omega arith
 
-pub first_begins : (pieces : List (List Entry)) (settings : Settings) (sums : Sums) (grid : Grid) → grid ≡ table_of settings.family settings.width [] → IsFirstPassUpTo pieces settings 0 (fresh sums) [] grid
-first_begins pieces settings sums grid e = record {
+-- numbers that rise, and one above them
+rising-push : (xs : List ℕ) (n : ℕ) → IsStrictlyIncreasing xs → All (λ i. i < n) xs → IsStrictlyIncreasing (xs ++ n ∷ [])
+rising-push xs n rises low k within = ⊎_elim
+    (λ (l : k + 1 < length xs). omega (arith, rises k l, get_or_append_left xs (n ∷ []) 0 k (omega arith), get_or_append_left xs (n ∷ []) 0 (k + 1) l))
+    (λ (h : length xs ≤ k + 1).
+    let last : k + 1 ≡ length xs = omega (arith, within, length-append xs (n ∷ [])) in
+    omega (arith, low k 0 (omega arith), get_or_append_left xs (n ∷ []) 0 k (omega arith), get_or_push xs n 0 (k + 1) (sym last)))
+    (cases_lt (k + 1) (length xs))
+
+-- what a worker has tried: nothing, one piece more that it met, and one more that it claimed
+nothing_tried : (pieces : List (List Entry)) (sums : Sums) → HasTriedUpTo pieces 0 (fresh sums)
+nothing_tried pieces sums = record {
   tried = λ i low. absurd (omega arith);
   distinct = record { once = λ j. omega arith; below = λ j some. absurd (omega arith) };
+  rising = λ k low. absurd (omega arith);
+  low = All-nil (λ (i : ℕ). i < 0);
   none_added = refl;
-  summaries = refl;
-  table = e;
 }
+
+one_more_met : (pieces : List (List Entry)) (n : ℕ) (seat : Holding) → HasTriedUpTo pieces n seat → HasTriedUpTo pieces (n + 1) (record seat { met = seat.met ++ n ∷ [] })
+one_more_met pieces n seat p = record {
+  tried = tried-met n seat p.tried;
+  distinct = p.distinct;
+  rising = p.rising;
+  low = λ k d within. omega (arith, p.low k d within);
+  none_added = p.none_added;
+}
+
+one_more_claimed : (pieces : List (List Entry)) (n : ℕ) (seat after : Holding) → after ≡ record seat { claims = seat.claims ++ n ∷ [] } → IsDistinctBelow (length pieces) after.claims → HasTriedUpTo pieces n seat → HasTriedUpTo pieces (n + 1) after
+one_more_claimed pieces n seat after e distinct p =
+    let claims = ap (λ h. h.claims) e in
+    record {
+      tried = subst (HasTried (n + 1)) (sym e) (tried-claim n seat p.tried);
+      distinct = distinct;
+      rising = subst IsStrictlyIncreasing (sym claims) (rising-push seat.claims n p.rising p.low);
+      low = subst (All (λ (i : ℕ). i < n + 1)) (sym claims) (All-push (λ (i : ℕ). i < n + 1) seat.claims n (λ k d within. omega (arith, p.low k d within)) (omega arith));
+      none_added = ap (λ h. h.adds) e ∙ p.none_added;
+    }
+
+pub first_begins : (pieces : List (List Entry)) (settings : Settings) (sums : Sums) (grid : Grid) → grid ≡ table_of settings.family settings.width [] → IsFirstPassUpTo pieces settings 0 (fresh sums) [] grid
+first_begins pieces settings sums grid e = record { so_far = nothing_tried pieces sums; summaries = refl; table = e }
 
 pub first_met : (pieces : List (List Entry)) (settings : Settings) (n : ℕ) (seat after : Holding) (kept : List (ℕ × Sketch)) (grid : Grid) → after ≡ record seat { met = seat.met ++ n ∷ [] } → IsFirstPassUpTo pieces settings n seat kept grid → IsFirstPassUpTo pieces settings (n + 1) after kept grid
 first_met pieces settings n seat after kept grid e p = subst (λ h. IsFirstPassUpTo pieces settings (n + 1) h kept grid) (sym e)
-    (record { tried = tried-met n seat p.tried; distinct = p.distinct; none_added = p.none_added; summaries = p.summaries; table = p.table })
+    (record { so_far = one_more_met pieces n seat p.so_far; summaries = p.summaries; table = p.table })
 
 pub first_claimed : (pieces : List (List Entry)) (settings : Settings) (n : ℕ) (seat after : Holding) (kept more : List (ℕ × Sketch)) (grid : Grid)
     → after ≡ record seat { claims = seat.claims ++ n ∷ [] } → IsDistinctBelow (length pieces) after.claims → more ≡ kept ++ (n, sketch_of settings.k (piece_of pieces n)) ∷ []
@@ -99,9 +133,7 @@ pub first_claimed : (pieces : List (List Entry)) (settings : Settings) (n : ℕ)
 first_claimed pieces settings n seat after kept more grid e distinct f g was p =
     let claims = ap (λ h. h.claims) e in
     record {
-      tried = subst (HasTried (n + 1)) (sym e) (tried-claim n seat p.tried);
-      distinct = distinct;
-      none_added = ap (λ h. h.adds) e ∙ p.none_added;
+      so_far = one_more_claimed pieces n seat after e distinct p.so_far;
       summaries = f ∙ (ap (λ k. k ++ (n, sketch_of settings.k (piece_of pieces n)) ∷ []) p.summaries ∙ (sym (map-append _ seat.claims (n ∷ [])) ∙ ap (summaries_at settings.k pieces) (sym claims)));
       table = g ∙ ap (table_of settings.family settings.width) (sym (items_at-push pieces seat.claims n) ∙ ap (items_at pieces) (sym claims));
     }
@@ -113,15 +145,18 @@ pub first_ends : CellsAreCellSums → (pieces : List (List Entry)) (settings : S
 first_ends law pieces settings seat after kept grid e adds p =
     let claims = ap (λ h. h.claims) e in
     record {
-      tried = subst (HasTried (length pieces)) (sym e) p.tried;
-      adds = λ r c row cell.
-          let cells = ap (λ g. cell_at settings.width g.cells r c) p.table ∙ (law settings.family settings.width (items_at pieces seat.claims)).0 r c row cell in
-          let items = ap (λ is. cell_sum settings.family settings.width r c (items_at pieces is)) claims in
-          omega (arith, adds (r * settings.width + c), ap (added (r * settings.width + c)) p.none_added);
-      summaries = p.summaries ∙ ap (summaries_at settings.k pieces) (sym claims);
+      rising = subst IsStrictlyIncreasing (sym claims) p.so_far.rising;
+      work = record {
+        tried = subst (HasTried (length pieces)) (sym e) p.so_far.tried;
+        adds = λ r c row cell.
+            let cells = ap (λ g. cell_at settings.width g.cells r c) p.table ∙ (law settings.family settings.width (items_at pieces seat.claims)).0 r c row cell in
+            let items = ap (λ is. cell_sum settings.family settings.width r c (items_at pieces is)) claims in
+            omega (arith, adds (r * settings.width + c), ap (added (r * settings.width + c)) p.so_far.none_added);
+        summaries = p.summaries ∙ ap (summaries_at settings.k pieces) (sym claims);
+      };
     }
 
-pub first_joined : (pieces : List (List Entry)) (settings : Settings) (one other : Holding) (kept more : List (ℕ × Sketch)) → IsFirstPass pieces settings one kept → IsFirstPass pieces settings other more → IsFirstPass pieces settings (joined one other) (kept ++ more)
+pub first_joined : (pieces : List (List Entry)) (settings : Settings) (one other : Holding) (kept more : List (ℕ × Sketch)) → AreFirstPasses pieces settings one kept → AreFirstPasses pieces settings other more → AreFirstPasses pieces settings (joined one other) (kept ++ more)
 first_joined pieces settings one other kept more p q = record {
   tried = tried-joined (length pieces) one other p.tried;
   adds = λ r c row cell.
@@ -141,16 +176,11 @@ no_weights (k ∷ ks) = ap (λ ns. 0 ∷ ns) (no_weights ks)
 
 -- the same of the second pass
 pub second_begins : (pieces : List (List Entry)) (keys : List Bytes) (sums : Sums) (numbers : List ℕ) → numbers ≡ replicate (length keys) 0 → IsSecondPassUpTo pieces keys 0 (fresh sums) numbers
-second_begins pieces keys sums numbers e = record {
-  tried = λ i low. absurd (omega arith);
-  distinct = record { once = λ j. omega arith; below = λ j some. absurd (omega arith) };
-  none_added = refl;
-  numbers = e ∙ no_weights keys;
-}
+second_begins pieces keys sums numbers e = record { so_far = nothing_tried pieces sums; numbers = e ∙ no_weights keys }
 
 pub second_met : (pieces : List (List Entry)) (keys : List Bytes) (n : ℕ) (seat after : Holding) (numbers : List ℕ) → after ≡ record seat { met = seat.met ++ n ∷ [] } → IsSecondPassUpTo pieces keys n seat numbers → IsSecondPassUpTo pieces keys (n + 1) after numbers
 second_met pieces keys n seat after numbers e p = subst (λ h. IsSecondPassUpTo pieces keys (n + 1) h numbers) (sym e)
-    (record { tried = tried-met n seat p.tried; distinct = p.distinct; none_added = p.none_added; numbers = p.numbers })
+    (record { so_far = one_more_met pieces n seat p.so_far; numbers = p.numbers })
 
 -- counting goes on where it stopped
 pub counted-weights_at : (keys : List Bytes) (xs ys : List Entry) → counted keys ys (weights_at keys xs) ≡ weights_at keys (xs ++ ys)
@@ -163,9 +193,7 @@ pub second_claimed : (pieces : List (List Entry)) (keys : List Bytes) (n : ℕ) 
 second_claimed pieces keys n seat after numbers more e distinct f p =
     let claims = ap (λ h. h.claims) e in
     record {
-      tried = subst (HasTried (n + 1)) (sym e) (tried-claim n seat p.tried);
-      distinct = distinct;
-      none_added = ap (λ h. h.adds) e ∙ p.none_added;
+      so_far = one_more_claimed pieces n seat after e distinct p.so_far;
       numbers = f ∙ (ap (counted keys (piece_of pieces n)) p.numbers ∙ (counted-weights_at keys (items_at pieces seat.claims) (piece_of pieces n) ∙ ap (weights_at keys) (sym (items_at-push pieces seat.claims n) ∙ ap (items_at pieces) (sym claims))));
     }
 
@@ -194,12 +222,15 @@ pub second_ends : (pieces : List (List Entry)) (keys : List Bytes) (seat after :
 second_ends pieces keys seat after numbers e adds p =
     let claims = ap (λ h. h.claims) e in
     record {
-      tried = subst (HasTried (length pieces)) (sym e) p.tried;
-      adds = λ i key at.
-          omega (arith, adds i, ap (added i) p.none_added, ap (λ ns. get_or ns i 0) p.numbers, weight_behind_number keys (items_at pieces seat.claims) i key at, ap (λ is. weight_of key (items_at pieces is)) claims);
+      rising = subst IsStrictlyIncreasing (sym claims) p.so_far.rising;
+      work = record {
+        tried = subst (HasTried (length pieces)) (sym e) p.so_far.tried;
+        adds = λ i key at.
+            omega (arith, adds i, ap (added i) p.so_far.none_added, ap (λ ns. get_or ns i 0) p.numbers, weight_behind_number keys (items_at pieces seat.claims) i key at, ap (λ is. weight_of key (items_at pieces is)) claims);
+      };
     }
 
-pub second_joined : (pieces : List (List Entry)) (keys : List Bytes) (one other : Holding) → IsSecondPass pieces keys one → IsSecondPass pieces keys other → IsSecondPass pieces keys (joined one other)
+pub second_joined : (pieces : List (List Entry)) (keys : List Bytes) (one other : Holding) → AreSecondPasses pieces keys one → AreSecondPasses pieces keys other → AreSecondPasses pieces keys (joined one other)
 second_joined pieces keys one other p q = record {
   tried = tried-joined (length pieces) one other p.tried;
   adds = λ i key at.

@@ -2,7 +2,7 @@
 
 ghost use Rattle.std.specs.Prelude.{◌≡◌, ◌≢◌, ◌+◌, ◌≤◌, ◌<◌, ◌∷◌, ◌↔◌, ℕ, All, length, map, sum, IfOk, IfSome, IsErrOf};
 ghost use Rattle.std.specs.List.{range_with_len};
-ghost use Rattle.hh_stream.specs.Cuttings.{pieces_of};
+ghost use Rattle.hh_stream.specs.Cuttings.{max_pieces, pieces_of};
 ghost use Rattle.hh_counters.specs.Counters.{Sketch, sketch_of};
 ghost use Rattle.hh_counters.specs.Report.{weights_at, heavy};
 ghost use Rattle.hh_countmin.specs.Table.{table_of};
@@ -24,7 +24,7 @@ use hh_countmin::Table;
 use hh_countmin::laws::{cells_are_cell_sums, tables_fit};
 use hh_shared::SharedSums;
 use hh_stream::laws::pieces_make_the_whole;
-use hh_stream::{Cutting, MAX_PIECES, Stream};
+use hh_stream::{Cutting, Stream};
 use std::alloc::{AllocError, Global};
 use std::sync::Wait;
 use std::thread::Threads;
@@ -141,10 +141,10 @@ fn run_passes<R: Threads + Wait + Sync, G: Gate + Sync>(
     requires same_len { sum cutting.now ≡ length stream.now }
     requires plan { IsMergeTree plan.now (length cutting.now) }
     requires some { 0 < length cutting.now }
-    requires few { length cutting.now ≤ MAX_PIECES }
+    requires few { length cutting.now ≤ max_pieces }
     ensures summary { IfOk result (λ outcome. IsMerged plan.now options.now.k (pieces_of cutting.now stream.now) stream.now outcome.summary) }
     ensures table { IfOk result (λ outcome. outcome.table ≡ table_of options.now.family options.now.width stream.now) }
-    ensures heavy { IfOk result (λ outcome. outcome.heavy.items ≡ heavy stream.now 1 (options.now.k + 1)) }
+    ensures heavy { IfOk result (λ outcome. outcome.heavy.items ≡ heavy stream.now options.now.p options.now.q) }
 {
     pieces_make_the_whole();
     misra_gries_is_honest();
@@ -160,7 +160,8 @@ fn run_passes<R: Threads + Wait + Sync, G: Gate + Sync>(
     let candidates = Candidates::of(alloc, &summary)?;
     let workers = options.workers();
     let weights = weigh(rt, alloc, stream, cutting, &candidates, workers, gate)?;
-    let heavy = candidates.select(&weights, total, options.k())?;
+    let (p, q) = options.threshold();
+    let heavy = candidates.select(&weights, total, p, q)?;
     Ok(Outcome {
         summary,
         table,
@@ -173,7 +174,7 @@ fn run_passes<R: Threads + Wait + Sync, G: Gate + Sync>(
 /// summary's keys. The outcome is the same for every number of workers and whatever worker does which
 /// piece: the counters are those of the plan's merges, honest for the stream (Agarwal et al., PODS
 /// 2012), the table is the stream's, cell for cell (Cormode and Muthukrishnan 2005), and the heavy keys
-/// are exact.
+/// are exactly those above the options' threshold, with their true weights.
 ///
 /// It starts the workers, numbered from 0, in threads of their own, and waits for them.
 pub fn analyse<R: Threads + Wait + Sync, G: Gate + Sync>(
@@ -189,7 +190,7 @@ pub fn analyse<R: Threads + Wait + Sync, G: Gate + Sync>(
     ensures plan_mismatch { IsErrOf result RunError.PlanMismatch ↔ (length (leaves plan.now) ≢ length cutting.now) }
     ensures summary { IfOk result (λ outcome. IsMerged plan.now options.now.k (pieces_of cutting.now stream.now) stream.now outcome.summary) }
     ensures table { IfOk result (λ outcome. outcome.table ≡ table_of options.now.family options.now.width stream.now) }
-    ensures heavy { IfOk result (λ outcome. outcome.heavy.items ≡ heavy stream.now 1 (options.now.k + 1)) }
+    ensures heavy { IfOk result (λ outcome. outcome.heavy.items ≡ heavy stream.now options.now.p options.now.q) }
 {
     if plan.count() != cutting.count() {
         return Err(RunError::PlanMismatch);

@@ -180,11 +180,15 @@ impl<'a, G: Gate> FirstPass<'a, G> {
 impl<'a, G: Gate> Pass for FirstPass<'a, G> {
     type Kept = Vec<(usize, Summary)>;
 
-    ghost use Rattle.hh_pool.specs.Passes.{IsFirstPass};
+    ghost use Rattle.hh_pool.specs.Passes.{AreFirstPasses, IsFirstPass};
 
     ghost fits = { λ p sums. (sum p.cutting.now ≡ length p.stream.now) × (sums.claims ≡ length p.cutting.now) × (sums.cells ≡ length p.options.now.family.rows * p.options.now.width) };
 
-    ghost done = { λ p seat summaries. IsFirstPass (pieces_of p.cutting.now p.stream.now) p.options.now seat summaries.items };
+    ghost done = { λ p seat summaries.
+        IsFirstPass (pieces_of p.cutting.now p.stream.now) p.options.now seat summaries.items };
+
+    ghost all_done = { λ p seat summaries.
+        AreFirstPasses (pieces_of p.cutting.now p.stream.now) p.options.now seat summaries.items };
 
     fn run(
         &self,

@@ -2,7 +2,7 @@
 
 ghost use Rattle.std.specs.Prelude.{◌≡◌, ◌≢◌, ℕ, List, length, map, sum_by, ◌≤◌, All, Ok, Err, IfOk, IfErr, slice_index_or};
 ghost use Rattle.hh_stream.specs.Weights.{Entry};
-ghost use Rattle.hh_stream.specs.Cuttings.{whole_of};
+ghost use Rattle.hh_stream.specs.Cuttings.{max_pieces, whole_of};
 ghost use Rattle.hh_counters.specs.Counters.{IsHonest, Sketch};
 ghost use Rattle.hh_shared.specs.Tally.{times};
 ghost use Rattle.hh_pool.specs.Plans.{shape};
@@ -11,7 +11,6 @@ ghost use Rattle.hh_pool.specs.Trees.{HasPlaces, IsMergeTree, MergesHonestly, le
 use crate::plan::{Plan, Tree};
 use hh_counters::laws::join_of_honest_is_honest;
 use hh_counters::{MergeFault, Summary};
-use hh_stream::MAX_PIECES;
 use std::alloc::Global;
 use std::mem;
 
@@ -40,7 +39,7 @@ fn merge_two(left: Summary, right: &Summary) -> Result<Summary, MergeFault>
 /// Merges the summaries of a tree's pieces, which it takes from their places.
 fn merge_tree(alloc: Global, tree: &Tree, summaries: &mut [Summary]) -> Result<Summary, MergeFault>
     requires places { HasPlaces (shape tree.now) (length summaries.old) }
-    requires fits { length summaries.old ≤ MAX_PIECES }
+    requires fits { length summaries.old ≤ max_pieces }
     ensures merged { IfOk result (λ s. tree_result (shape tree.now) summaries.old ≡ Ok s) }
     ensures refused { IfErr result (λ e. e ≢ MergeFault.Memory → tree_result (shape tree.now) summaries.old ≡ Err e) }
     ensures others { (i : ℕ) → times i (leaves (shape tree.now)) ≡ 0 → slice_index_or summaries.new i no_sketch ≡ slice_index_or summaries.old i no_sketch }
@@ -67,8 +66,7 @@ fn merge_tree(alloc: Global, tree: &Tree, summaries: &mut [Summary]) -> Result<S
 /// Whatever the plan, where each summary is honest for a list of items, the result is honest for all
 /// of them (Agarwal et al., Mergeable Summaries, PODS 2012).
 pub fn merge_by(alloc: Global, plan: &Plan, summaries: Vec<Summary>) -> Result<Summary, MergeFault>
-    requires tree { IsMergeTree plan.now (length summaries.items) }
-    requires few { length summaries.items ≤ MAX_PIECES }
+    requires { IsMergeTree plan.now (length summaries.items) }
     ensures merged { IfOk result (λ s. tree_result plan.now summaries.items ≡ Ok s) }
     ensures refused { IfErr result (λ e. e ≢ MergeFault.Memory → tree_result plan.now summaries.items ≡ Err e) }
 

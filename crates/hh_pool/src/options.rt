@@ -1,21 +1,23 @@
 //! What an analysis is asked for.
 
-ghost use Rattle.std.specs.Prelude.{◌≡◌, ◌<◌, ◌≤◌, ◌↔◌, ◌⊎◌, length, IfOk, IsErrOf};
+ghost use Rattle.std.specs.Prelude.{◌≡◌, ◌+◌, ◌*◌, ◌<◌, ◌≤◌, ◌↔◌, ◌⊎◌, length, IfOk, IsErrOf};
 ghost use Rattle.hh_countmin.specs.Family.{IsWidth, IsFamily};
-ghost use Rattle.hh_pool.specs.Settings.{IsK, IsWorkers};
+ghost use Rattle.hh_pool.specs.Settings.{IsK, IsThreshold, IsWorkers};
 
-use hh_counters::MAX_K;
+use hh_counters::{MAX_K, MAX_Q};
 use hh_countmin::{Family, MAX_WIDTH};
 use std::marker::Model;
 
 /// The most workers.
 pub const MAX_WORKERS: u64 = 64;
 
-/// How a stream is analysed: the k of its summaries, the number of workers, and the width and hash
-/// family of its table.
+/// How a stream is analysed: the k of its summaries, the threshold p/q of its report, the number of
+/// workers, and the width and hash family of its table.
 #[derive(Debug, Drop)]
 pub struct Options {
     k: u64,
+    p: u64,
+    q: u64,
     workers: u64,
     width: u64,
     family: Family,
@@ -23,13 +25,13 @@ pub struct Options {
 
 impl Model for Options {
     ghost use Rattle.hh_countmin.specs.Family.{IsWidth};
-    ghost use Rattle.hh_pool.specs.Settings.{Settings, IsK, IsWorkers};
+    ghost use Rattle.hh_pool.specs.Settings.{Settings, IsK, IsThreshold, IsWorkers};
 
     ghost Value = { Settings };
 
-    ghost view = { λ options. record { k = options.k; workers = options.workers; width = options.width; family = options.family } };
+    ghost view = { λ o. record { k = o.k; p = o.p; q = o.q; workers = o.workers; width = o.width; family = o.family } };
 
-    ghost invariant = { λ options. IsK options.k × IsWorkers options.workers × IsWidth options.width };
+    ghost invariant = { λ o. IsK o.k × IsThreshold o.k o.p o.q × IsWorkers o.workers × IsWidth o.width };
 }
 
 /// Why there are no such options.
@@ -41,15 +43,33 @@ pub enum OptionsFault {
     BadWorkers,
     /// The width is not 1 to 65,536.
     BadWidth,
+    /// The threshold is not p/q with 1 <= p <= q <= [`MAX_Q`], or it is below 1/(k + 1).
+    BadThreshold,
 }
 
 impl Options {
-    /// The options with these parts. They take no memory.
-    pub fn new(k: u64, workers: u64, width: u64, family: Family) -> Result<Options, OptionsFault>
-        ensures options { IfOk result (λ options. options ≡ record { k = k; workers = workers; width = width; family = family }) }
-        ensures bad_k { IsErrOf result OptionsFault.BadK ↔ ((k ≡ 0) ⊎ (MAX_K < k)) }
-        ensures bad_workers { IsErrOf result OptionsFault.BadWorkers ↔ (IsK k × ((workers ≡ 0) ⊎ (MAX_WORKERS < workers))) }
-        ensures bad_width { IsErrOf result OptionsFault.BadWidth ↔ (IsK k × IsWorkers workers × ((width ≡ 0) ⊎ (MAX_WIDTH < width))) }
+    /// The options with these parts. The report has the keys above p/q of the total weight. That is
+    /// at least 1/(k + 1), since a key above it always has a counter. They take no memory.
+    ///
+    /// The refusals are tested in the order BadK, BadWorkers, BadWidth, BadThreshold.
+    pub fn new(
+        k: u64,
+        p: u64,
+        q: u64,
+        workers: u64,
+        width: u64,
+        family: Family,
+    ) -> Result<Options, OptionsFault>
+        ensures options { IfOk result (λ options.
+            options ≡ record { k = k; p = p; q = q; workers = workers; width = width; family = family }) }
+        ensures bad_k { IsErrOf result OptionsFault.BadK ↔ ((k ≡ 0) ⊎ (65535 < k)) }
+        ensures bad_workers { IsErrOf result OptionsFault.BadWorkers
+            ↔ (IsK k × ((workers ≡ 0) ⊎ (64 < workers))) }
+        ensures bad_width { IsErrOf result OptionsFault.BadWidth
+            ↔ (IsK k × IsWorkers workers × ((width ≡ 0) ⊎ (65536 < width))) }
+        ensures bad_threshold { IsErrOf result OptionsFault.BadThreshold
+            ↔ (IsK k × IsWorkers workers × IsWidth width
+            × ((p ≡ 0) ⊎ (q < p) ⊎ (4294967296 < q) ⊎ (p * (k + 1) < q))) }
     {
         if k == 0 || k > MAX_K {
             return Err(OptionsFault::BadK);
@@ -60,8 +80,13 @@ impl Options {
         if width == 0 || width > MAX_WIDTH {
             return Err(OptionsFault::BadWidth);
         }
+        if p == 0 || p > q || q > MAX_Q || p * (k + 1) < q {
+            return Err(OptionsFault::BadThreshold);
+        }
         Ok(Options {
             k,
+            p,
+            q,
             workers,
             width,
             family,
@@ -73,6 +98,15 @@ impl Options {
         ensures in_range { IsK self.now.k }
     {
         self.k
+    }
+
+    /// The p and q of the threshold.
+    pub(crate) fn threshold(&self) -> (u64, u64)
+        ensures p { result.0 ≡ self.now.p }
+        ensures q { result.1 ≡ self.now.q }
+        ensures in_range { IsThreshold self.now.k self.now.p self.now.q }
+    {
+        (self.p, self.q)
     }
 
     pub(crate) fn workers(&self) -> u64

@@ -10,8 +10,8 @@ pub struct Outcome {
     pub summary: Summary,
     /// The Count-Min table of the stream.
     pub table: Table,
-    /// The keys that are heavy in the stream with their weights, by falling weight and then rising
-    /// key.
+    /// The keys above the threshold's share of the stream's total with their weights, by falling
+    /// weight and then rising key.
     pub heavy: Vec<Heavy>,
 }
 

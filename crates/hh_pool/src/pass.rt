@@ -14,8 +14,10 @@ pub(crate) trait Pass {
 
     /// What the pass asks of the sums.
     ghost fits: { Self → Sums → Type 0 };
-    /// What a seat and what was kept say of the pieces claimed.
+    /// What a worker's seat and what it kept say of the pieces that it claimed.
     ghost done: { Self → Holding → Self.Kept → Type 0 };
+    /// What the joined seat of workers and what they kept say of the pieces that they claimed.
+    ghost all_done: { Self → Holding → Self.Kept → Type 0 };
 
     /// What the worker of this number does.
     fn run(
@@ -27,11 +29,13 @@ pub(crate) trait Pass {
         requires fits { fits self.now sums.now }
         requires seat { seat ≡ fresh sums.now }
         ensures sums { IfOk result (λ r. r.0.sums ≡ sums.now) }
-        ensures done { IfOk result (λ r. done self.now r.0 r.1) };
+        ensures done { IfOk result (λ r. done self.now r.0 r.1) }
+        ensures all_done { IfOk result (λ r. all_done self.now r.0 r.1) };
 
     /// What two workers kept, for their joined seats.
     fn together(&self, one: Self::Kept, other: Self::Kept) -> Result<Self::Kept, AllocError>
-        ensures { IfOk result (λ both. (a b : Holding) → done self.now a one → done self.now b other → done self.now (joined a b) both) };
+        ensures { IfOk result (λ both. (a b : Holding) →
+            all_done self.now a one → all_done self.now b other → all_done self.now (joined a b) both) };
 }
 
 /// Adds to each cell the number at its place, those that are not 0.

@@ -1,12 +1,12 @@
 //! Plans: merge trees over numbered pieces.
 
 ghost use Rattle.std.specs.Prelude.{◌≡◌, ◌+◌, ◌-◌, ◌<◌, ◌≤◌, length, IfOk, IfErr};
+ghost use Rattle.hh_stream.specs.Cuttings.{max_pieces};
 ghost use Rattle.hh_pool.specs.PlanTexts.{PlanRefused, Spells};
 ghost use Rattle.hh_pool.specs.Plans.{shape};
 ghost use Rattle.hh_pool.specs.Trees.{IsBalanced, IsMergeTree, chain_of, leaves};
 
 use crate::reading::{PlanFault, read_merge_tree};
-use hh_stream::MAX_PIECES;
 use std::alloc::{AllocError, Global};
 use std::marker::Model;
 
@@ -17,7 +17,7 @@ pub(crate) enum Tree {
     Node(Box<Tree>, Box<Tree>),
 }
 
-/// A plan to merge the summaries of 1 to [`MAX_PIECES`] pieces: a tree in which each piece's number is a
+/// A plan to merge the summaries of 1 to [`MAX_PIECES`](hh_stream::MAX_PIECES) pieces: a tree in which each piece's number is a
 /// leaf exactly once. A contract sees the tree.
 #[derive(Debug, Drop)]
 pub struct Plan {
@@ -27,6 +27,7 @@ pub struct Plan {
 
 impl Model for Plan {
     ghost use Rattle.std.specs.Prelude.{◌≤◌};
+    ghost use Rattle.hh_stream.specs.Cuttings.{max_pieces};
     ghost use Rattle.hh_pool.specs.Plans.{shape};
     ghost use Rattle.hh_pool.specs.Trees.{IsMergeTree, MergeTree, tree_code};
 
@@ -36,7 +37,7 @@ impl Model for Plan {
 
     ghost view = { λ plan. shape plan.tree };
 
-    ghost invariant = { λ plan. IsMergeTree (shape plan.tree) plan.count × (1 ≤ plan.count) × (plan.count ≤ 1024) };
+    ghost invariant = { λ plan. IsMergeTree (shape plan.tree) plan.count × (1 ≤ plan.count) × (plan.count ≤ max_pieces) };
 }
 
 /// The chain of so many pieces.
@@ -54,7 +55,7 @@ fn chain_tree(alloc: Global, pieces: usize) -> Result<Tree, AllocError>
 /// The balanced tree of so many pieces, numbered from `first` on.
 fn balanced_tree(alloc: Global, first: usize, pieces: usize) -> Result<Tree, AllocError>
     requires some { 1 ≤ pieces }
-    requires fits { first + pieces ≤ 1024 }
+    requires fits { first + pieces ≤ max_pieces }
     ensures { IfOk result (λ tree. IsBalanced (shape tree) first pieces) }
 {
     if pieces == 1 {
@@ -70,8 +71,9 @@ impl Plan {
     /// The pieces merged one after the other: `((0 1) 2)` and so on.
     pub fn chain(alloc: Global, pieces: usize) -> Result<Plan, AllocError>
         requires some { 1 ≤ pieces }
-        requires few { pieces ≤ MAX_PIECES }
+        requires few { pieces ≤ max_pieces }
         ensures chain { IfOk result (λ plan. plan ≡ chain_of (pieces - 1)) }
+        ensures tree { IfOk result (λ plan. IsMergeTree plan pieces) }
         ensures pieces { IfOk result (λ plan. length (leaves plan) ≡ pieces) }
     {
         Ok(Plan {
@@ -83,8 +85,9 @@ impl Plan {
     /// A balanced tree: of more than one piece, the first half, rounded up, are the left tree.
     pub fn balanced(alloc: Global, pieces: usize) -> Result<Plan, AllocError>
         requires some { 1 ≤ pieces }
-        requires few { pieces ≤ MAX_PIECES }
+        requires few { pieces ≤ max_pieces }
         ensures balanced { IfOk result (λ plan. IsBalanced plan 0 pieces) }
+        ensures tree { IfOk result (λ plan. IsMergeTree plan pieces) }
         ensures pieces { IfOk result (λ plan. length (leaves plan) ≡ pieces) }
     {
         Ok(Plan {
@@ -100,7 +103,7 @@ impl Plan {
     /// the first one that is unknown or came before is told, and then the least one that is missing.
     pub fn parse(alloc: Global, text: &[u8], pieces: usize) -> Result<Plan, PlanFault>
         requires some { 1 ≤ pieces }
-        requires few { pieces ≤ MAX_PIECES }
+        requires few { pieces ≤ max_pieces }
         ensures spelled { IfOk result (λ plan. Spells text.now plan) }
         ensures tree { IfOk result (λ plan. IsMergeTree plan pieces) }
         ensures pieces { IfOk result (λ plan. length (leaves plan) ≡ pieces) }
@@ -117,16 +120,18 @@ impl Plan {
 
     /// The number of pieces.
     pub fn count(&self) -> usize
+        ensures pieces { result ≡ length (leaves self.now) }
         ensures tree { IsMergeTree self.now result }
         ensures some { 1 ≤ result }
-        ensures few { result ≤ MAX_PIECES }
+        ensures few { result ≤ max_pieces }
     {
         self.count
     }
 
     /// The tree.
     pub(crate) fn tree(&self) -> &Tree
-        ensures { shape result.now ≡ self.now }
+        ensures tree { shape result.now ≡ self.now }
+        ensures few { length (leaves self.now) ≤ max_pieces }
     {
         &self.tree
     }

@@ -4,7 +4,7 @@ ghost use Rattle.std.specs.Prelude.{◌≡◌, ◌+◌, ◌<◌, ◌≤◌, leng
 ghost use Rattle.hh_stream.specs.Cuttings.{pieces_of, whole_of};
 ghost use Rattle.hh_counters.specs.Report.{weights_at};
 ghost use Rattle.hh_shared.specs.Seats.{fresh};
-ghost use Rattle.hh_pool.specs.Passes.{IsSecondPass, IsSecondPassUpTo};
+ghost use Rattle.hh_pool.specs.Passes.{AreSecondPasses, IsSecondPass, IsSecondPassUpTo};
 
 use crate::gate::Gate;
 use crate::pass::{Pass, add_numbers};
@@ -115,7 +115,11 @@ impl<'a, G: Gate> Pass for SecondPass<'a, G> {
 
     ghost fits = { λ p sums. (sum p.cutting.now ≡ length p.stream.now) × (sums.claims ≡ length p.cutting.now) × (sums.cells ≡ length p.candidates.now) };
 
-    ghost done = { λ p seat _. IsSecondPass (pieces_of p.cutting.now p.stream.now) p.candidates.now seat };
+    ghost done = { λ p seat _.
+        IsSecondPass (pieces_of p.cutting.now p.stream.now) p.candidates.now seat };
+
+    ghost all_done = { λ p seat _.
+        AreSecondPasses (pieces_of p.cutting.now p.stream.now) p.candidates.now seat };
 
     fn run(
         &self,

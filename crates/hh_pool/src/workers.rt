@@ -4,7 +4,6 @@ ghost use Rattle.std.specs.Prelude.{◌≡◌, ◌+◌, ◌^◌, ◌<◌, ◌≤
 ghost use Rattle.std.specs.Thread.{IsSync, IsSend};
 ghost use Rattle.hh_shared.specs.Seats.{fresh};
 
-use crate::options::MAX_WORKERS;
 use crate::pass::Pass;
 use hh_shared::{SharedSums, SumSeat};
 use std::alloc::AllocError;
@@ -21,7 +20,7 @@ pub(crate) struct Promised<P: Pass> {
 }
 
 impl<P: Pass> Promise<Result<(SumSeat, P::Kept), AllocError>> for Promised<P> {
-    ghost kept_by = { λ p r. IfOk r (λ x. (x.0.sums ≡ p.sums.value) × P.done p.pass.value x.0 x.1) };
+    ghost kept_by = { λ p r. IfOk r (λ x. (x.0.sums ≡ p.sums.value) × P.all_done p.pass.value x.0 x.1) };
 }
 
 /// Runs so many workers with one seat, numbered from `first` on: where they are more than one, half of
@@ -41,7 +40,7 @@ fn run_workers<R: Threads + Wait + Sync, P: Pass + Sync>(
     requires fits { P.fits pass.now sums.now }
     requires seat { seat ≡ fresh sums.now }
     ensures sums { IfOk result (λ r. r.0.sums ≡ sums.now) }
-    ensures done { IfOk result (λ r. P.done pass.now r.0 r.1) }
+    ensures all_done { IfOk result (λ r. P.all_done pass.now r.0 r.1) }
 {
     if count == 1 {
         return pass.run(sums, seat, first);
@@ -61,7 +60,7 @@ fn run_workers<R: Threads + Wait + Sync, P: Pass + Sync>(
             AllocError,
         >
             requires { IsSync R.row × IsSync P.row × IsSend P.Kept.row × (0 < low) × (first + low < 2 ^ 64) × (0 < high) × (next + high < 2 ^ 64) × P.fits pass.now sums.now × (seat ≡ fresh sums.now) × (half ≡ fresh sums.now) }
-            ensures { IfOk result (λ b. IfOk b.0 (λ r. (r.0.sums ≡ sums.entry.now) × P.done pass.entry.now r.0 r.1) × IfOk b.1 (λ r. (r.0.sums ≡ sums.entry.now) × P.done pass.entry.now r.0 r.1)) }
+            ensures { IfOk result (λ b. IfOk b.0 (λ r. (r.0.sums ≡ sums.entry.now) × P.all_done pass.entry.now r.0 r.1) × IfOk b.1 (λ r. (r.0.sums ≡ sums.entry.now) × P.all_done pass.entry.now r.0 r.1)) }
         {
             let promise = Promised {
                 sums: Snapshot::of(sums),
@@ -69,7 +68,7 @@ fn run_workers<R: Threads + Wait + Sync, P: Pass + Sync>(
             };
             let front = move || -> Result<(SumSeat, P::Kept), AllocError>
                 requires { IsSync R.row × IsSync P.row × IsSend P.Kept.row × (0 < low) × (first + low < 2 ^ 64) × P.fits pass.now sums.now × (seat ≡ fresh sums.now) }
-                ensures { IfOk result (λ r. (r.0.sums ≡ sums.entry.now) × P.done pass.entry.now r.0 r.1) }
+                ensures { IfOk result (λ r. (r.0.sums ≡ sums.entry.now) × P.all_done pass.entry.now r.0 r.1) }
             { run_workers(rt, sums, seat, pass, first, low) };
             let child = scope.spawn_with(promise, front)?;
             let other = run_workers(rt, sums, half, pass, next, high);
@@ -93,26 +92,26 @@ pub(crate) fn run_apart<R: Threads + Wait + Sync, P: Pass + Sync>(
     workers: u64,
 ) -> Result<(SumSeat, P::Kept), AllocError>
     requires some { 0 < workers }
-    requires few { workers ≤ MAX_WORKERS }
+    requires few { workers ≤ 64 }
     requires fits { P.fits pass.now sums.now }
     requires seat { seat ≡ fresh sums.now }
     ensures sums { IfOk result (λ r. r.0.sums ≡ sums.now) }
-    ensures done { IfOk result (λ r. P.done pass.now r.0 r.1) }
+    ensures all_done { IfOk result (λ r. P.all_done pass.now r.0 r.1) }
 {
     thread::scope(
         thread::scope_env(),
         rt,
         |scope| -> Result<(SumSeat, P::Kept), AllocError>
-            requires { IsSync R.row × IsSync P.row × IsSend P.Kept.row × (0 < workers) × (workers ≤ MAX_WORKERS) × P.fits pass.now sums.now × (seat ≡ fresh sums.now) }
-            ensures { IfOk result (λ r. (r.0.sums ≡ sums.entry.now) × P.done pass.entry.now r.0 r.1) }
+            requires { IsSync R.row × IsSync P.row × IsSend P.Kept.row × (0 < workers) × (workers ≤ 64) × P.fits pass.now sums.now × (seat ≡ fresh sums.now) }
+            ensures { IfOk result (λ r. (r.0.sums ≡ sums.entry.now) × P.all_done pass.entry.now r.0 r.1) }
         {
             let promise = Promised {
                 sums: Snapshot::of(sums),
                 pass: Snapshot::of(pass),
             };
             let all = move || -> Result<(SumSeat, P::Kept), AllocError>
-                requires { IsSync R.row × IsSync P.row × IsSend P.Kept.row × (0 < workers) × (workers ≤ MAX_WORKERS) × P.fits pass.now sums.now × (seat ≡ fresh sums.now) }
-                ensures { IfOk result (λ r. (r.0.sums ≡ sums.entry.now) × P.done pass.entry.now r.0 r.1) }
+                requires { IsSync R.row × IsSync P.row × IsSend P.Kept.row × (0 < workers) × (workers ≤ 64) × P.fits pass.now sums.now × (seat ≡ fresh sums.now) }
+                ensures { IfOk result (λ r. (r.0.sums ≡ sums.entry.now) × P.all_done pass.entry.now r.0 r.1) }
             { run_workers(rt, sums, seat, pass, 0, workers) };
             let child = scope.spawn_with(promise, all)?;
             child.join(rt)

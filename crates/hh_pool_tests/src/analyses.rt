@@ -13,18 +13,40 @@ use std::thread::Threads;
 fn options_are_checked_in_order(rt: HostRuntime) -> Result<(), Fail> {
     let alloc = rt.alloc();
     let refused = [
-        (0, 0, 0, OptionsFault::BadK),
-        (65_536, 1, 1, OptionsFault::BadK),
-        (1, 0, 0, OptionsFault::BadWorkers),
-        (1, MAX_WORKERS + 1, 1, OptionsFault::BadWorkers),
-        (1, 1, 0, OptionsFault::BadWidth),
-        (1, 1, 65_537, OptionsFault::BadWidth),
+        (0, 0, 0, 0, 0, OptionsFault::BadK),
+        (65_536, 1, 1, 1, 1, OptionsFault::BadK),
+        (1, 0, 0, 0, 0, OptionsFault::BadWorkers),
+        (1, 1, 2, MAX_WORKERS + 1, 1, OptionsFault::BadWorkers),
+        (1, 0, 0, 1, 0, OptionsFault::BadWidth),
+        (1, 1, 2, 1, 65_537, OptionsFault::BadWidth),
+        (2, 0, 0, 1, 1, OptionsFault::BadThreshold),
+        (2, 3, 2, 1, 1, OptionsFault::BadThreshold),
+        (
+            2,
+            4_294_967_297,
+            4_294_967_297,
+            1,
+            1,
+            OptionsFault::BadThreshold,
+        ),
+        (9, 1, 11, 1, 1, OptionsFault::BadThreshold),
     ];
-    for (k, workers, width, fault) in refused {
+    for (k, p, q, workers, width, fault) in refused {
         let family = plain_family(alloc)?;
-        assert_eq!(rt; Options::new(k, workers, width, family).err(), Some(fault));
+        assert_eq!(rt;
+            Options::new(k, p, q, workers, width, family).err(),
+            Some(fault)
+        );
     }
-    Options::new(65_535, MAX_WORKERS, 65_536, plain_family(alloc)?)?;
+    Ok(())
+}
+
+#[test]
+fn options_reach_their_limits(rt: HostRuntime) -> Result<(), Fail> {
+    let alloc = rt.alloc();
+    for (p, q) in [(1, 65_536), (4_294_967_296, 4_294_967_296)] {
+        Options::new(65_535, p, q, MAX_WORKERS, 65_536, plain_family(alloc)?)?;
+    }
     Ok(())
 }
 
@@ -77,6 +99,51 @@ fn counters_follow_the_plan(rt: HostRuntime) -> Result<(), Fail> {
         let plan = Plan::parse(alloc, text, 3)?;
         let outcome = analysed(&rt, alloc, &stream, &cutting, &plan, &options, &OpenGate)?;
         assert_eq!(rt; numbers_of(alloc, &outcome)?, (0, counter, 4, slack));
+    }
+    Ok(())
+}
+
+// The report of these items for p/q, as "a 6 b 3 ".
+fn report_above<R: Threads + Wait + Abort + Sync>(
+    rt: &R,
+    alloc: Global,
+    items: &[(&[u8], u64)],
+    k: u64,
+    p: u64,
+    q: u64,
+) -> Result<String, Fail> {
+    let stream = stream_of(alloc, items)?;
+    let cutting = Cutting::even(alloc, stream.len(), 2)?;
+    let plan = Plan::chain(alloc, 2)?;
+    let options = Options::new(k, p, q, 2, 4, plain_family(alloc)?)?;
+    let outcome = analysed(rt, alloc, &stream, &cutting, &plan, &options, &OpenGate)?;
+    let mut text = String::new(alloc);
+    for row in &outcome.heavy {
+        for byte in row.key.bytes() {
+            text.push(char::from(*byte))?;
+        }
+        write!(text, " {} ", row.weight)?;
+    }
+    Ok(text)
+}
+
+// Half of a b is no more than half of it.
+#[test]
+fn report_lists_keys_above_the_threshold(rt: HostRuntime) -> Result<(), Fail> {
+    let four: [(&[u8], u64); 4] = [(b"a", 5), (b"b", 3), (b"c", 2), (b"a", 1)];
+    let two: [(&[u8], u64); 2] = [(b"a", 1), (b"b", 1)];
+    let rows: [(&[(&[u8], u64)], u64, u64, u64, &str); 7] = [
+        (&four, 2, 1, 2, "a 6 "),
+        (&four, 2, 2, 3, ""),
+        (&four, 2, 1, 1, ""),
+        (&four, 9, 1, 10, "a 6 b 3 c 2 "),
+        (&four, 9, 1, 4, "a 6 b 3 "),
+        (&four, 9, 3, 12, "a 6 b 3 "),
+        (&two, 2, 1, 2, ""),
+    ];
+    for (items, k, p, q, report) in rows {
+        let text = report_above(&rt, rt.alloc(), items, k, p, q)?;
+        assert_eq!(rt; text.as_str(), report);
     }
     Ok(())
 }

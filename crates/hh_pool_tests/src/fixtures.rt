@@ -1,5 +1,7 @@
 //! The streams, families and outcomes that the tests share.
 
+ghost use Rattle.std.specs.Prelude.{◌≤◌};
+
 use hh_counters::Heavy;
 use hh_countmin::{Family, Table};
 use hh_pool::{Gate, Options, Outcome, Plan, RunError, analyse};
@@ -29,8 +31,12 @@ pub(crate) fn plain_family(alloc: Global) -> Result<Family, Fail> {
     Ok(Family::from_parts(alloc, 256, &[(1, 0), (3, 1)])?)
 }
 
-pub(crate) fn options(alloc: Global, k: u64, workers: u64) -> Result<Options, Fail> {
-    Ok(Options::new(k, workers, 4, plain_family(alloc)?)?)
+// With the threshold 1/(k + 1).
+pub(crate) fn options(alloc: Global, k: u64, workers: u64) -> Result<Options, Fail>
+    requires { k ≤ 65535 }
+{
+    let family = plain_family(alloc)?;
+    Ok(Options::new(k, 1, k + 1, workers, 4, family)?)
 }
 
 pub(crate) fn analysed<R: Threads + Wait + Abort + Sync, G: Gate + Sync>(

@@ -44,7 +44,7 @@ fn first_of_two_seats_summarises_all_pieces(rt: HostRuntime) -> Result<(), Fail>
     assert_eq!(rt; cutting.len(), stream.len());
     let family = plain_family(alloc)?;
     let cells = (family.depth() * 4) as usize;
-    let options = Options::new(2, 2, 4, family)?;
+    let options = Options::new(2, 1, 3, 2, 4, family)?;
     let (sums, mut one) = SharedSums::new(alloc, cutting.count(), cells)?;
     let other = sums.split(&mut one);
     let (one, found) = first_pass(alloc, &sums, one, &stream, &cutting, &options, &OpenGate, 0)?;

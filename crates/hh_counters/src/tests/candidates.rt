@@ -1,6 +1,7 @@
 //! The candidates a and b of the four records.
 
 ghost use Rattle.std.specs.Prelude.{◌≡◌, length};
+ghost use Rattle.hh_counters.specs.Report.{IsShare};
 
 use super::{FOUR_RECORDS, key_of, stream_of, summary_of};
 use crate::Candidates;
@@ -50,12 +51,20 @@ fn candidates_are_counted(rt: HostRuntime) -> Result<(), Fail> {
     Ok(())
 }
 
-// The rows that are selected of these numbers of two candidates, as "a 6 b 6 ".
-fn selected(alloc: Global, candidates: &Candidates, numbers: &[u64; 2]) -> Result<String, Fail>
-    requires { length candidates.now ≡ 2 }
+// The rows that are selected of these numbers of two candidates, those above p/q of 11, as
+// "a 6 b 6 ".
+fn selected(
+    alloc: Global,
+    candidates: &Candidates,
+    numbers: &[u64; 2],
+    p: u64,
+    q: u64,
+) -> Result<String, Fail>
+    requires two { length candidates.now ≡ 2 }
+    requires share { IsShare p q }
 {
     let mut text = String::new(alloc);
-    for row in &candidates.select(numbers, 11, 2)? {
+    for row in &candidates.select(numbers, 11, p, q)? {
         for byte in row.key.bytes() {
             text.push(char::from(*byte))?;
         }
@@ -69,7 +78,19 @@ fn report_lists_heavy_candidates(rt: HostRuntime) -> Result<(), Fail> {
     let candidates = candidates_of(rt.alloc())?;
     assert_eq!(rt; candidates.len(), 2);
     for (numbers, rows) in [([6, 3], "a 6 "), ([6, 6], "a 6 b 6 "), ([4, 7], "b 7 a 4 ")] {
-        let text = selected(rt.alloc(), &candidates, &numbers)?;
+        let text = selected(rt.alloc(), &candidates, &numbers, 1, 3)?;
+        assert_eq!(rt; text.as_str(), rows);
+    }
+    Ok(())
+}
+
+#[test]
+fn report_lists_candidates_above_a_share(rt: HostRuntime) -> Result<(), Fail> {
+    let candidates = candidates_of(rt.alloc())?;
+    assert_eq!(rt; candidates.len(), 2);
+    for (p, q, rows) in [(1, 4, "a 6 b 3 "), (3, 11, "a 6 "), (6, 11, ""), (1, 1, "")] {
+        assert!(rt; 1 <= p && p <= q && q <= 11);
+        let text = selected(rt.alloc(), &candidates, &[6, 3], p, q)?;
         assert_eq!(rt; text.as_str(), rows);
     }
     Ok(())

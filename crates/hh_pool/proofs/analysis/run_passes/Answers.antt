@@ -10,17 +10,11 @@ use Rattle.hh_pool.proofs.Pieces.{length-pieces_of}
 use Rattle.hh_pool.proofs.Merged.{no_refusal, merged_is, heavy_is}
 use Rattle.hh_pool.proofs.analysis.run_passes.Goals as goal
 
-pub merge_by-requires-clause-tree : goal.merge_by-requires-clause-tree
-merge_by-requires-clause-tree g c =
+pub merge_by-requires : goal.merge_by-requires
+merge_by-requires g c =
     let pieces = pieces_of c.args.cutting.now c.args.stream.now in
     let count = ap length c.in_ok-summaries.ensures.summaries ∙ (length-map pieces (sketch_of c.args.options.now.k) ∙ length-pieces_of c.args.cutting.now c.args.stream.now) in
     subst (IsMergeTree c.args.plan.now) (sym count) c.requires.plan
-
-pub merge_by-requires-clause-few : goal.merge_by-requires-clause-few
-merge_by-requires-clause-few g c =
-    let pieces = pieces_of c.args.cutting.now c.args.stream.now in
-    let count = ap length c.in_ok-summaries.ensures.summaries ∙ (length-map pieces (sketch_of c.args.options.now.k) ∙ length-pieces_of c.args.cutting.now c.args.stream.now) in
-    omega (arith, c.requires.few)
 
 pub unreachable-requires : goal.unreachable-requires
 unreachable-requires g c =
@@ -67,6 +61,7 @@ returns-clause-heavy g c =
     let merged =
     merged_is c.misra_gries_is_honest.ensures c.args.plan.now k (pieces_of lengths stream) stream c.in_ok-summaries.summaries.items c.in-Ok.summary (omega (arith, length-pieces_of lengths stream, c.requires.some)) (c.pieces_make_the_whole.ensures.whole lengths stream c.requires.same_len)
     c.in_ok-summaries.ensures.summaries by.k by.total by.counters by.honest in
+    let asked = c.threshold-p.ensures in
     c.in_ok-heavy.ensures
-    ∙ ((λ i. selected 1 (c.k.ensures.k i + 1) c.total-total.result (zip keys (c.deref.ensures.value i)))
-    ∙ heavy_is c.candidates_suffice.ensures c.in-Ok.summary.counters stream k c.total-total.result keys c.in_ok-weights.weights.items merged.honest c.total-total.ensures.total c.in_ok-candidates.ensures c.in_ok-weights.ensures)
+    ∙ ((λ i. selected (asked.p i) (asked.q i) c.total-total.result (zip keys (c.deref.ensures.value i)))
+    ∙ heavy_is c.candidates_suffice.ensures c.in-Ok.summary.counters stream k c.args.options.now.p c.args.options.now.q c.total-total.result keys c.in_ok-weights.weights.items merged.honest asked.in_range.1 c.total-total.ensures.total c.in_ok-candidates.ensures c.in_ok-weights.ensures)

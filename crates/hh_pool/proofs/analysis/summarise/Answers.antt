@@ -22,7 +22,7 @@ table_of_cells-requires g c =
     let depth = c.depth.ensures.depth ∙ ap (λ f. length f.rows) c.family.ensures.family in
     let cells : c.in_ok-sums.sums.cells ≡ length options.family.rows * options.width = c.in_ok-sums.ensures.cells ∙ (λ i. depth i * c.width.ensures.width i) in
     let closed = c.in_ok-cells.ensures in
-    closed_cells c.cells_are_cell_sums.ensures (pieces_of lengths stream) stream options seat _ c.in_ok-cells.cells.items (c.pieces_make_the_whole.ensures.whole lengths stream c.requires) low c.in_ok-seat.ensures.done distinct all
+    closed_cells c.cells_are_cell_sums.ensures (pieces_of lengths stream) stream options seat _ c.in_ok-cells.cells.items (c.pieces_make_the_whole.ensures.whole lengths stream c.requires) low c.in_ok-seat.ensures.all_done distinct all
     (omega (arith, closed.len, c.in_ok-cells.cells.ok))
     (λ cell inside. closed.sums cell (omega arith))
 
@@ -31,6 +31,6 @@ returns-clause-summaries g c =
     let pieces = pieces_of c.args.cutting.now c.args.stream.now in
     let k = c.args.options.now.k in
     let count = c.count-2.ensures.count ∙ sym (length-pieces_of c.args.cutting.now c.args.stream.now) in
-    let found = found_are k pieces c.in_ok-seat.seat.claims c.in_ok-seat.found.items c.in_ok-seat.ensures.done.summaries in
+    let found = found_are k pieces c.in_ok-seat.seat.claims c.in_ok-seat.found.items c.in_ok-seat.ensures.all_done.summaries in
     let ordered = rw c.in-Some.is at (c.in_ok-summaries.ensures (λ i. sketch_of k (piece_of pieces i)) found) in
     ordered ∙ (ap (λ n. map (λ i. sketch_of k (piece_of pieces i)) (range_with_len 0 n)) count ∙ by_number k pieces)

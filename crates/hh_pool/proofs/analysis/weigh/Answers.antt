@@ -24,7 +24,7 @@ returns g c =
     let cells = c.in_ok-sums.ensures.cells ∙ c.len.ensures.len in
     follows_from c.close.result (λ v. vec_len v ≡ c.in_ok-sums.sums.cells) (λ v. (cell : ℕ) → cell < c.in_ok-sums.sums.cells → get_or v.items cell 0 ≡ sum_at seat.adds cell) _
     (λ v len sums.
-    closed_weights (pieces_of lengths stream) stream c.args.candidates.now seat v.items (c.pieces_make_the_whole.ensures.whole lengths stream c.requires.same_len) low c.in_ok-seat.ensures.done distinct all
+    closed_weights (pieces_of lengths stream) stream c.args.candidates.now seat v.items (c.pieces_make_the_whole.ensures.whole lengths stream c.requires.same_len) low c.in_ok-seat.ensures.all_done distinct all
     (omega (arith, len, v.ok))
     (λ cell inside. sums cell (omega arith)))
     c.close.ensures.len c.close.ensures.sums

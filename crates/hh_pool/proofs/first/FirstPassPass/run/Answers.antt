@@ -31,3 +31,6 @@ returns-clause-done g c =
     let tried : c.loop-piece.piece ≡ length pieces = omega (arith, length-pieces_of c.args.self.now.cutting.now c.args.self.now.stream.now) in
     let all = subst (λ n. IsFirstPassUpTo pieces options n seat made.summaries.items made.table) tried c.loop-piece.invariant.so_far in
     first_ends c.cells_are_cell_sums.ensures pieces options seat _ _ made.table c.add_numbers.ensures.unchanged (λ cell. c.add_numbers.ensures.added cell ∙ ap (λ xs. added cell seat.adds + get_or xs cell 0) c.cells.ensures) all
+
+pub returns-clause-all_done : goal.returns-clause-all_done
+returns-clause-all_done g c = (returns-clause-done g c).work

@@ -7,3 +7,6 @@ invariant_of-result c = (balanced-merges _ _ c.in_ok-balanced_tree.ensures, c.re
 
 pub returns-clause-pieces : goal.returns-clause-pieces
 returns-clause-pieces c = length-leaves _ _ (balanced-merges _ _ c.in_ok-balanced_tree.ensures)
+
+pub returns-clause-tree : goal.returns-clause-tree
+returns-clause-tree c = balanced-merges _ _ c.in_ok-balanced_tree.ensures

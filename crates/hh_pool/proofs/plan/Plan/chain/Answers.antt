@@ -7,3 +7,6 @@ invariant_of-result c = (chain-merges _ _ c.requires.some c.in_ok-chain_tree.ens
 
 pub returns-clause-pieces : goal.returns-clause-pieces
 returns-clause-pieces c = length-leaves _ _ (chain-merges _ _ c.requires.some c.in_ok-chain_tree.ensures)
+
+pub returns-clause-tree : goal.returns-clause-tree
+returns-clause-tree c = chain-merges _ _ c.requires.some c.in_ok-chain_tree.ensures

@@ -31,3 +31,6 @@ returns-clause-done g c =
     let tried : c.loop-piece.piece ≡ length pieces = omega (arith, length-pieces_of c.args.self.now.cutting.now c.args.self.now.stream.now) in
     let all = subst (λ n. IsSecondPassUpTo pieces keys n seat numbers) tried c.loop-piece.invariant.so_far in
     second_ends pieces keys seat _ numbers c.add_numbers.ensures.unchanged (λ cell. c.add_numbers.ensures.added cell ∙ ap (λ xs. added cell seat.adds + get_or xs cell 0) c.deref.ensures.value) all
+
+pub returns-clause-all_done : goal.returns-clause-all_done
+returns-clause-all_done g c = (returns-clause-done g c).work
