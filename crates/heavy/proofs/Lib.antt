@@ -1,5 +1,6 @@
 pub mod FileFacts
 pub mod KeyFacts
+pub mod OptionFacts
 pub mod PartFacts
 pub mod ReadFacts
 pub mod TakeFacts

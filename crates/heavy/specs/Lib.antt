@@ -6,3 +6,4 @@ pub mod Saving
 pub mod Sinks
 pub mod Status
 pub mod Streams
+pub mod Thresholds

@@ -1,5 +1,5 @@
 -- What a report leaves in a sink, and what its refusals tell.
-use Rattle.std.specs.Prelude.{◌≡◌, ◌+◌, ◌-◌, not, ℕ, List, filter, Bool, true, false, Option, Some, None, Result, Ok, Err, if◌then◌else◌}
+use Rattle.std.specs.Prelude.{◌≡◌, ◌+◌, ◌-◌, not, ℕ, List, filter, Bool, true, false, Option, Some, None, is_none, Result, Ok, Err, if◌then◌else◌}
 use Rattle.std.specs.Io.KnownBytes.{Appends, Keeps}
 use Rattle.hh_stream.specs.Weights.{Entry}
 use Rattle.hh_counters.specs.Report.{has_counter, heavy}
@@ -14,6 +14,7 @@ use Rattle.heavy.specs.Limits.{in_range, most_depth, most_k, most_pieces, most_w
 use Rattle.heavy.specs.Rows.{rows_of}
 use Rattle.heavy.specs.Sinks.{TakesFirst}
 use Rattle.heavy.specs.Streams.{ReadsAs}
+use Rattle.heavy.specs.Thresholds.{threshold_of}
 use Rattle.heavy.specs.declared.error.ToolError.{ToolError}
 use Rattle.heavy.specs.declared.error.ToolError.TheVariants as tool
 use Rattle.heavy.specs.declared.error.TreeFault.{TreeFault}
@@ -53,10 +54,6 @@ read_fault read.ReadFault = tool.ReadFault
 read_fault (read.BadRecord n c) = tool.BadRecord n c
 read_fault read.Memory = tool.Memory
 
--- the rows of the report of a stream for k
-abbrev pub report_of : ℕ → List Entry → List ℕ
-report_of k xs = rows_of (heavy xs 1 (k + 1))
-
 -- the first test that options fail, before their tree
 abbrev pub bad_option : ReportOptions → Option ToolError
 bad_option o =
@@ -64,15 +61,16 @@ bad_option o =
     else if not (in_range o.k most_k) then Some tool.BadK
     else if not (in_range o.workers most_workers) then Some tool.BadWorkers
     else if not (in_range o.width most_width) then Some tool.BadWidth
+    else if is_none (threshold_of o.k o.threshold) then Some tool.BadThreshold
     else if not (in_range o.pieces most_pieces) then Some tool.BadPieces
     else None
 
--- the settings of an analysis for these options
-abbrev pub settings_of : ReportOptions → Settings
-settings_of o = record {
+-- the settings of an analysis for these options and the threshold p/q
+abbrev pub settings_of : ReportOptions → ℕ → ℕ → Settings
+settings_of o p q = record {
   k = o.k;
-  p = 1;
-  q = o.k + 1;
+  p = p;
+  q = q;
   workers = o.workers;
   width = o.width;
   family = drawn_family o.seed o.depth;
@@ -104,12 +102,19 @@ TreeRefused (tree.Text t) pieces f = PlanRefused t.items pieces (plan_fault f)
 abbrev pub AreOptions : ReportOptions → Type 0
 AreOptions o = (bad_option o ≡ None) × IsTree o.tree o.pieces
 
--- a whole report was written: what the sink took is the rows of the report of a stream, that of all
--- bytes that the reader had left
+-- these are the rows of the keys above the threshold p/q of the options, in the stream of all bytes
+-- that the reader had left
+abbrev pub ReportsRows : ReportOptions → Option (List ℕ) → List ℕ → Type 0
+ReportsRows o left rows =
+    (p : ℕ) × (q : ℕ) × (xs : List Entry)
+    × (threshold_of o.k o.threshold ≡ Some (p, q))
+    × ReadsAs left (Ok xs)
+    × (rows ≡ rows_of (heavy xs p q))
+
+-- a whole report was written
 abbrev pub IsReported : ReportOptions → Option (List ℕ) → Option (List ℕ) → Option (List ℕ) → Type 0
 IsReported o left old new =
-    AreOptions o
-    × (xs : List Entry) × ReadsAs left (Ok xs) × Appends old new (report_of o.k xs)
+    AreOptions o × (rows : List ℕ) × ReportsRows o left rows × Appends old new rows
 
 -- what each refusal of a report tells, and what it leaves in the sink
 abbrev pub ReportRefused : ReportOptions
@@ -118,6 +123,8 @@ ReportRefused o left old new tool.BadDepth = (bad_option o ≡ Some tool.BadDept
 ReportRefused o left old new tool.BadK = (bad_option o ≡ Some tool.BadK) × Keeps old new
 ReportRefused o left old new tool.BadWorkers = (bad_option o ≡ Some tool.BadWorkers) × Keeps old new
 ReportRefused o left old new tool.BadWidth = (bad_option o ≡ Some tool.BadWidth) × Keeps old new
+ReportRefused o left old new tool.BadThreshold =
+    (bad_option o ≡ Some tool.BadThreshold) × Keeps old new
 ReportRefused o left old new tool.BadPieces = (bad_option o ≡ Some tool.BadPieces) × Keeps old new
 ReportRefused o left old new (tool.BadTree f) =
     (bad_option o ≡ None) × TreeRefused o.tree o.pieces f × Keeps old new
@@ -125,7 +132,6 @@ ReportRefused o left old new tool.ReadFault = AreOptions o × Keeps old new
 ReportRefused o left old new (tool.BadRecord n c) =
     AreOptions o × Keeps old new × ReadsAs left (Err (n, c))
 ReportRefused o left old new (tool.WriteFault n) =
-    AreOptions o
-    × (xs : List Entry) × ReadsAs left (Ok xs) × TakesFirst old new (report_of o.k xs) n
+    AreOptions o × (rows : List ℕ) × ReportsRows o left rows × TakesFirst old new rows n
 ReportRefused o left old new tool.Memory = (bad_option o ≡ None) × Keeps old new
 ReportRefused o left old new _ = ⊥

@@ -23,3 +23,4 @@ status_of tool.TotalDiffers = 3
 status_of (tool.WriteFault n) = 1
 status_of (tool.FileFault n) = 1
 status_of tool.Memory = 4
+status_of tool.BadThreshold = 2

@@ -19,9 +19,13 @@ Fields = List (List ℕ)
 abbrev pub is_digit : ℕ → Bool
 is_digit b = nat_le 48 b && nat_le b 57
 
--- a field of 1 to 20 digits
+-- a field of 1 to so many digits
+abbrev pub is_number : ℕ → List ℕ → Bool
+is_number most f = not (length f == 0) && nat_le (length f) most && list_all is_digit f
+
+-- a weight's field has 1 to 20 digits
 abbrev pub is_weight : List ℕ → Bool
-is_weight f = not (length f == 0) && nat_le (length f) 20 && list_all is_digit f
+is_weight f = is_number 20 f
 
 -- the number that digits write
 abbrev pub value_of : List ℕ → ℕ

@@ -63,8 +63,8 @@ impl fmt::Display for KeyCause {
     }
 }
 
-/// What stops a command, in the order in which refusals come. Records, files and keys are numbered
-/// from 1.
+/// What stops a command. Each command says in which order its refusals come. Records, files and keys
+/// are numbered from 1.
 #[derive(Clone, Copy, Debug, PartialEq, Eq, Error)]
 pub enum ToolError {
     #[error("depth must be 1 to 16")]
@@ -103,6 +103,8 @@ pub enum ToolError {
     FileFault { number: u64 },
     #[error("out of memory")]
     Memory,
+    #[error("threshold must be P/Q with 1 <= P <= Q <= 4294967296 and P*(K+1) >= Q")]
+    BadThreshold,
 }
 
 impl ToolError {
@@ -119,7 +121,8 @@ impl ToolError {
             | ToolError::BadWidth
             | ToolError::BadPieces
             | ToolError::BadTree(_)
-            | ToolError::BadMethod => 2,
+            | ToolError::BadMethod
+            | ToolError::BadThreshold => 2,
             ToolError::BadRecord { .. }
             | ToolError::BadFile { .. }
             | ToolError::MixedKinds { .. }

@@ -12,6 +12,7 @@ mod retrying;
 mod rows;
 mod saving;
 mod sink;
+mod threshold;
 
 pub use ask::ask_bytes;
 pub use confirmation::{ConfirmFault, confirm};
@@ -23,3 +24,4 @@ pub use report::{ReportOptions, Tree, run_report};
 pub use rows::{ReportFault, report_text, write_report};
 pub use saving::{Method, confirm_bytes, summary_bytes, table_bytes};
 pub use sink::{Out, Sink, SinkFault, WriteFault, put};
+pub use threshold::Share;

@@ -4,7 +4,7 @@ ghost use Rattle.std.specs.Prelude.{◌≡◌, ◌<◌, ◌≤◌, ◌++◌, ◌
 ghost use Rattle.csv.specs.Reading.{stops_reader};
 ghost use Rattle.csv.specs.Records.{fields_of};
 ghost use Rattle.hh_stream.specs.Weights.{Entry, total_of, max_total};
-ghost use Rattle.heavy.specs.Streams.{fault_of, is_weight, judged, numbered, parts_of, value_of, ReadRefused, ReadsAs, RecordRefused};
+ghost use Rattle.heavy.specs.Streams.{fault_of, is_number, is_weight, judged, numbered, parts_of, value_of, ReadRefused, ReadsAs, RecordRefused};
 
 use crate::retrying::Retrying;
 use csv::{ByteRecord, ErrorKind, ReaderBuilder};
@@ -61,13 +61,14 @@ enum RecordFault {
     Memory,
 }
 
-/// The weight that 1 to 20 digits write, at most the largest `u64`.
-fn weight_in(field: &[u8]) -> Option<u64>
+/// The number that 1 to so many digits write.
+pub(crate) fn number_in(field: &[u8], most: usize) -> Option<u128>
+    requires { most ≤ 20 }
     ensures { MatchOption result
-        (is_weight field.now ≡ false)
-        (λ weight. (is_weight field.now ≡ true) × (weight ≡ min (value_of field.now) u64.MAX)) }
+        (is_number most field.now ≡ false)
+        (λ number. (is_number most field.now ≡ true) × (number ≡ value_of field.now)) }
 {
-    if field.is_empty() || field.len() > 20 {
+    if field.is_empty() || field.len() > most {
         return None;
     }
     let mut value = 0u128;
@@ -77,7 +78,19 @@ fn weight_in(field: &[u8]) -> Option<u64>
         }
         value = value * 10 + u128::from(*digit - b'0');
     }
-    Some(value.min(u128::from(u64::MAX)) as u64)
+    Some(value)
+}
+
+/// The weight that 1 to 20 digits write, at most the largest `u64`.
+fn weight_in(field: &[u8]) -> Option<u64>
+    ensures { MatchOption result
+        (is_weight field.now ≡ false)
+        (λ weight. (is_weight field.now ≡ true) × (weight ≡ min (value_of field.now) u64.MAX)) }
+{
+    match number_in(field, 20) {
+        Some(value) => Some(value.min(u128::from(u64::MAX)) as u64),
+        None => None,
+    }
 }
 
 /// The key and the weight's field of a record of one or two fields.

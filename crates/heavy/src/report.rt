@@ -1,15 +1,17 @@
 //! A report from a reader to a sink.
 
-ghost use Rattle.std.specs.Prelude.{◌≡◌, ◌+◌, false, true, length, IfOk, IfErr, IfSome, OnOk, MatchResult, Err, None, Some};
+ghost use Rattle.std.specs.Prelude.{◌≡◌, false, true, length, IfOk, IfErr, IfSome, OnOk, MatchResult, Err, None, Some};
 ghost use Rattle.hh_pool.specs.Trees.{leaves};
 ghost use Rattle.hh_counters.specs.Report.{heavy};
 ghost use Rattle.heavy.specs.Limits.{in_range, most_pieces};
 ghost use Rattle.heavy.specs.Reports.{IsReported, Names, ReportRefused, TreeRefused, bad_option, failed_by, read_fault, settings_of};
+ghost use Rattle.heavy.specs.Thresholds.{threshold_of};
 
 use crate::error::{ToolError, TreeFault};
 use crate::records::{ReadError, read_stream};
 use crate::rows::{ReportFault, write_report};
 use crate::sink::Sink;
+use crate::threshold::{Share, threshold_of};
 use hh_counters::{Heavy, MAX_K};
 use hh_countmin::{DrawFault, Family, MAX_DEPTH, MAX_WIDTH};
 use hh_pool::{MAX_WORKERS, OpenGate, Options, OptionsFault, Plan, PlanFault, RunError, analyse};
@@ -33,8 +35,10 @@ pub enum Tree {
 /// What a report is of, and how it is made.
 #[derive(Debug, Drop)]
 pub struct ReportOptions {
-    /// The report has the keys above 1/(k + 1) of the total weight: 1 to 65,535.
+    /// The number of counters, 1 to 65,535. They find each key above 1/(k + 1) of the total weight.
     pub k: u64,
+    /// The report has the keys above this share of the total weight.
+    pub threshold: Share,
     /// The number of workers: 1 to 64.
     pub workers: u64,
     /// The number of pieces that the stream is cut into: 1 to 1,024.
@@ -56,11 +60,13 @@ pub(crate) fn in_range(number: u64, most: u64) -> bool
     1 <= number && number <= most
 }
 
-/// Tests the options, but for the tree.
-fn check_options(options: &ReportOptions) -> Result<(), ToolError>
-    ensures { MatchResult result
+/// Tests the options, but for the tree, and gives the p and q of the threshold.
+fn check_options(options: &ReportOptions) -> Result<(u64, u64), ToolError>
+    ensures tests { MatchResult result
         (λ _. bad_option options.now ≡ None)
         (λ fault. bad_option options.now ≡ Some fault) }
+    ensures threshold { IfOk result (λ threshold.
+        threshold_of options.now.k options.now.threshold ≡ Some threshold) }
 {
     if !in_range(options.depth, MAX_DEPTH) {
         return Err(ToolError::BadDepth);
@@ -74,10 +80,13 @@ fn check_options(options: &ReportOptions) -> Result<(), ToolError>
     if !in_range(options.width, MAX_WIDTH) {
         return Err(ToolError::BadWidth);
     }
+    let Some(threshold) = threshold_of(options.k, &options.threshold) else {
+        return Err(ToolError::BadThreshold);
+    };
     if !in_range(options.pieces, MAX_PIECES as u64) {
         return Err(ToolError::BadPieces);
     }
-    Ok(())
+    Ok(threshold)
 }
 
 /// Why there is no plan.
@@ -111,18 +120,23 @@ fn plan_of(alloc: Global, tree: &Tree, pieces: usize) -> Result<Plan, NoPlan>
     }
 }
 
-/// The settings of an analysis, with the family drawn from the seed.
-fn settings_of(alloc: Global, options: &ReportOptions) -> Result<Options, AllocError>
-    requires { bad_option options.now ≡ None }
-    ensures { IfOk result (λ settings. settings ≡ settings_of options.now) }
+/// The settings of an analysis with the threshold p/q, and the family drawn from the seed.
+fn settings_of(
+    alloc: Global,
+    options: &ReportOptions,
+    p: u64,
+    q: u64,
+) -> Result<Options, AllocError>
+    requires options { bad_option options.now ≡ None }
+    requires threshold { threshold_of options.now.k options.now.threshold ≡ Some (p, q) }
+    ensures { IfOk result (λ settings. settings ≡ settings_of options.now p q) }
 {
     let family = match Family::draw(alloc, options.seed, options.depth) {
         Ok(family) => family,
         Err(DrawFault::BadDepth) => unreachable!(),
         Err(DrawFault::Memory) => return Err(AllocError),
     };
-    let k = options.k;
-    match Options::new(k, 1, k + 1, options.workers, options.width, family) {
+    match Options::new(options.k, p, q, options.workers, options.width, family) {
         Ok(settings) => Ok(settings),
         Err(OptionsFault::BadK | OptionsFault::BadWorkers) => unreachable!(),
         Err(OptionsFault::BadWidth | OptionsFault::BadThreshold) => unreachable!(),
@@ -168,12 +182,12 @@ pub(crate) fn read_fault(error: ReadError) -> ToolError
 }
 
 /// Reads records as [`read_stream`](crate::read_stream) does, and writes the report of their
-/// stream: exactly the keys whose weight is more than the total divided by k + 1, with their true
-/// weights, by falling weight and then by rising key. The stream is cut evenly and analysed by
+/// stream: exactly the keys whose weight is more than the threshold's share of the total, with their
+/// true weights, by falling weight and then by rising key. The stream is cut evenly and analysed by
 /// workers in threads of their own; the report is the same for all other options.
 ///
-/// The options are tested before anything is read, in the order depth, k, workers, width, pieces
-/// and tree. A refusal other than [`ToolError::WriteFault`] has written nothing.
+/// The options are tested before anything is read, in the order depth, k, workers, width, threshold,
+/// pieces and tree. A refusal other than [`ToolError::WriteFault`] has written nothing.
 pub fn run_report<T: Threads + Wait + Sync, R: Read + Drop, S: Sink>(
     rt: &T,
     alloc: Global,
@@ -191,17 +205,17 @@ pub fn run_report<T: Threads + Wait + Sync, R: Read + Drop, S: Sink>(
     ensures flushed { OnOk result (S.is_flushed sink.new ≡ true) }
     ensures failed { S.has_failed sink.new ≡ failed_by result }
 {
-    match check_options(options) {
-        Ok(()) => {}
+    let (p, q) = match check_options(options) {
+        Ok(threshold) => threshold,
         Err(fault) => return Err(fault),
-    }
+    };
     let pieces = options.pieces as usize;
     let plan = match plan_of(alloc, &options.tree, pieces) {
         Ok(plan) => plan,
         Err(NoPlan::Bad(fault)) => return Err(ToolError::BadTree(fault)),
         Err(NoPlan::Memory) => return Err(ToolError::Memory),
     };
-    let Ok(settings) = settings_of(alloc, options) else {
+    let Ok(settings) = settings_of(alloc, options, p, q) else {
         return Err(ToolError::Memory);
     };
     let stream = match read_stream(alloc, reader) {

@@ -50,9 +50,14 @@ fn report_command<'a>(alloc: Global) -> Result<Command<'a>, AllocError> {
         .long("tree")
         .help("How the pieces' summaries are merged: balanced, chain or a plan as ((0 1) 2)")
         .default_value("balanced");
+    let threshold = Arg::new(alloc, "threshold")
+        .long("threshold")
+        .value_name("P/Q")
+        .help("Keys above this share are heavy: 1/100, keys with more than a hundredth of the total [default: 1/(k+1)]");
     Command::new(alloc, "report")
         .about("Print the heavy keys of the records on standard input, with their weights")
         .arg(k(alloc))?
+        .arg(threshold)?
         .arg(number(alloc, "workers", "Threads that work at once", "4"))?
         .arg(number(alloc, "pieces", "Pieces that the records are cut into", "4"))?
         .arg(tree)?

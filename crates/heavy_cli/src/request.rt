@@ -4,7 +4,7 @@ use crate::arguments::command;
 use crate::words::{bytes_of, read_words};
 use clap::error::ErrorKind;
 use clap::{ArgMatches, Error};
-use heavy::{ReportOptions, Tree};
+use heavy::{ReportOptions, Share, Tree};
 use std::alloc::{AllocError, Global};
 
 /// What a command line asks for.
@@ -102,9 +102,18 @@ fn tree_of(word: Vec<u8>) -> Tree {
     }
 }
 
+/// The threshold that is asked for, if one is.
+fn threshold_of(alloc: Global, found: &ArgMatches) -> Result<Share, NoRequest> {
+    match found.get_str("threshold") {
+        Some(text) => Ok(Share::Text(bytes_of(alloc, text)?)),
+        None => Ok(Share::OfCounters),
+    }
+}
+
 fn report(alloc: Global, found: &ArgMatches) -> Result<Request, NoRequest> {
     Ok(Request::Report(ReportOptions {
         k: number(found, "k")?,
+        threshold: threshold_of(alloc, found)?,
         workers: number(found, "workers")?,
         pieces: number(found, "pieces")?,
         tree: tree_of(word(alloc, found, "tree")?),

@@ -4,7 +4,7 @@ use crate::lab::{Lab, Said, no_such_call};
 use crate::records::{call as record_call, summary_file};
 use crate::show::{Hex, Taken};
 use heavy::{
-    Method, Out, ReportOptions, ToolError, Tree, ask_bytes, confirm_bytes, merge_bytes, put,
+    Method, Out, ReportOptions, Share, ToolError, Tree, ask_bytes, confirm_bytes, merge_bytes, put,
     run_report, summary_bytes, table_bytes,
 };
 use std::sync::Wait;
@@ -42,6 +42,7 @@ fn reported<R: Threads + Wait + Sync>(rt: &R, lab: &Lab) -> Result<Said, Fail> {
     let text = lab.text()?;
     let options = ReportOptions {
         k: 2,
+        threshold: Share::OfCounters,
         workers: 2,
         pieces: 4,
         tree: Tree::Balanced,

@@ -26,6 +26,10 @@ fn faults_of_usage(rt: HostRuntime) -> Result<(), Fail> {
         (ToolError::BadWidth, "width must be 1 to 65536"),
         (ToolError::BadPieces, "pieces must be 1 to 1024"),
         (ToolError::BadMethod, "method must be mg or ss"),
+        (
+            ToolError::BadThreshold,
+            "threshold must be P/Q with 1 <= P <= Q <= 4294967296 and P*(K+1) >= Q",
+        ),
     ];
     for (fault, text) in faults {
         shows(&rt, fault, text, 2)?;

@@ -21,3 +21,5 @@ mod saved_examples;
 mod saving;
 #[cfg(test)]
 mod sinks;
+#[cfg(test)]
+mod thresholds;

@@ -1,7 +1,7 @@
 //! The worked rows on reports.
 
 use crate::devices::{Manner, Source, Target};
-use heavy::{BadRecordCause, Out, ReportOptions, ToolError, Tree, TreeFault, run_report};
+use heavy::{BadRecordCause, Out, ReportOptions, Share, ToolError, Tree, TreeFault, run_report};
 use std::alloc::Global;
 use std::io::{ErrorKind, Read};
 use std::process::Abort;
@@ -9,12 +9,13 @@ use std::sync::Wait;
 use std::test::Fail;
 use std::thread::Threads;
 
-const RECORDS: &[u8] = b"a,5\nb,3\nc,2\na,1\n";
+pub(crate) const RECORDS: &[u8] = b"a,5\nb,3\nc,2\na,1\n";
 
 /// The options that the program takes where none are given, and k.
-fn options(k: u64) -> ReportOptions {
+pub(crate) fn options(k: u64) -> ReportOptions {
     ReportOptions {
         k,
+        threshold: Share::OfCounters,
         workers: 4,
         pieces: 4,
         tree: Tree::Balanced,
@@ -39,7 +40,7 @@ fn report_of<R: Read + Drop>(
 }
 
 /// Compares the report of a text with these rows.
-fn reports(
+pub(crate) fn reports(
     rt: &(impl Abort + AllocGlobal + Threads + Wait + Sync),
     options: &ReportOptions,
     text: &[u8],
@@ -63,7 +64,7 @@ fn refuses(
 }
 
 /// Compares the refusal of options, with which nothing is read or written.
-fn refuses_unread(
+pub(crate) fn refuses_unread(
     rt: &(impl Abort + AllocGlobal + Threads + Wait + Sync),
     options: &ReportOptions,
     fault: ToolError,
@@ -216,10 +217,12 @@ fn reports_to_writers(rt: HostRuntime) {
 
 /// The options of which this many, in the order of the tests, are in range.
 fn options_in_range(rt: &(impl Abort + AllocGlobal), count: usize) -> Result<ReportOptions, Fail> {
+    let share: &[u8] = if count > 4 { b"1/65536" } else { b"1/65537" };
     Ok(ReportOptions {
         k: if count > 1 { 65_535 } else { 0 },
+        threshold: Share::Text(share.to_vec(rt.alloc())?),
         workers: if count > 2 { 1 } else { 65 },
-        pieces: if count > 4 { 3 } else { 1025 },
+        pieces: if count > 5 { 3 } else { 1025 },
         tree: Tree::Text(b"(0 1)".to_vec(rt.alloc())?),
         width: if count > 3 { 1 } else { 65_537 },
         depth: if count > 0 { 16 } else { 17 },
@@ -234,6 +237,7 @@ fn options_are_tested_in_order(rt: HostRuntime) -> Result<(), Fail> {
         ToolError::BadK,
         ToolError::BadWorkers,
         ToolError::BadWidth,
+        ToolError::BadThreshold,
         ToolError::BadPieces,
         ToolError::BadTree(TreeFault::MissingPiece(2)),
     ];

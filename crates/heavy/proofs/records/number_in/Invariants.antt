@@ -1,7 +1,7 @@
 use Rattle.std.proofs.Common.{◌≡◌, ◌<◌, ◌^◌, take, true}
 use Rattle.std.specs.List.{list_all}
 use Rattle.heavy.specs.Streams.{is_digit, value_of}
-use Rattle.heavy.proofs.records.weight_in.Given as goal
+use Rattle.heavy.proofs.records.number_in.Given as goal
 
 abbrev pub invariant-loop-digit : goal.invariant-loop-digit
 invariant-loop-digit l = (l.value ≡ value_of (take l.digit-index l.field))
