@@ -53,7 +53,9 @@ fn report_command<'a>(alloc: Global) -> Result<Command<'a>, AllocError> {
     let threshold = Arg::new(alloc, "threshold")
         .long("threshold")
         .value_name("P/Q")
-        .help("Keys above this share are heavy: 1/100, keys with more than a hundredth of the total [default: 1/(k+1)]");
+        .help(
+            "Keys above this share are heavy: 1/100, keys with more than a hundredth of the total [default: 1/(k+1)]",
+        );
     Command::new(alloc, "report")
         .about("Print the heavy keys of the records on standard input, with their weights")
         .arg(k(alloc))?
