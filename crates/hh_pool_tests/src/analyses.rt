@@ -76,6 +76,20 @@ fn outcome_is_the_same_for_all_pieces_workers_and_plans(rt: HostRuntime) -> Resu
     Ok(())
 }
 
+#[test]
+fn analyses_reach_their_limits(rt: HostRuntime) -> Result<(), Fail> {
+    let alloc = rt.alloc();
+    let plans = [
+        (Plan::balanced(alloc, 64)?, MAX_WORKERS),
+        (Plan::balanced(alloc, 1024)?, 1),
+        (Plan::chain(alloc, 1024)?, 2),
+    ];
+    for (plan, workers) in plans {
+        assert!(rt; is_as_ever(&rt, alloc, &plan, workers)?);
+    }
+    Ok(())
+}
+
 // How many heavy keys there are, the counter of a, the total and the slack.
 fn numbers_of(alloc: Global, outcome: &Outcome) -> Result<(usize, u64, u64, u64), Fail> {
     let summary = &outcome.summary;

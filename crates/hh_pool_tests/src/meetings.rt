@@ -13,12 +13,20 @@ use std::sync::atomic::Ordering::SeqCst;
 use std::test::Fail;
 use std::thread::{Threads, yield_now};
 
-// Holds the pieces below `held` in each pass until all `wanted` calls of that pass have come, for so
-// many turns at most. A call is counted as 1 in the digit of its piece, to the base of 256.
+// The calls of a pass: one in the digit of its piece, and one in that of its worker, to the base of
+// 256.
 #[derive(Drop)]
-struct Meeting {
-    first: AtomicU64,
-    second: AtomicU64,
+pub(crate) struct Calls {
+    pub(crate) pieces: AtomicU64,
+    pub(crate) workers: AtomicU64,
+}
+
+// Holds the pieces below `held` in each pass until all `wanted` calls of that pass have come, for so
+// many turns at most.
+#[derive(Drop)]
+pub(crate) struct Meeting {
+    pub(crate) first: Calls,
+    pub(crate) second: Calls,
     wanted: u64,
     held: u64,
     limit: u64,
@@ -27,25 +35,34 @@ struct Meeting {
     workers: u64,
 }
 
-// One call for each of two pieces, and of four.
+// One call for each of so many pieces.
 const TWO: u64 = 0x0101;
 
 const FOUR: u64 = 0x0101_0101;
 
-fn digit_of(piece: u64) -> u64 {
-    match piece {
-        0 => 1,
-        1 => 0x100,
-        2 => 0x1_0000,
-        _ => 0x100_0000,
+const SEVEN: u64 = 0x01_0101_0101_0101;
+
+const EIGHT: u64 = 0x0101_0101_0101_0101;
+
+// One in this digit.
+fn digit(number: u64) -> u64 {
+    1u64 << (8 * (number % 8))
+}
+
+impl Calls {
+    fn new() -> Calls {
+        Calls {
+            pieces: AtomicU64::new(0),
+            workers: AtomicU64::new(0),
+        }
     }
 }
 
 impl Meeting {
-    fn new(workers: u64, wanted: u64, held: u64, limit: u64) -> Meeting {
+    pub(crate) fn new(workers: u64, wanted: u64, held: u64, limit: u64) -> Meeting {
         Meeting {
-            first: AtomicU64::new(0),
-            second: AtomicU64::new(0),
+            first: Calls::new(),
+            second: Calls::new(),
             wanted,
             held,
             limit,
@@ -55,13 +72,13 @@ impl Meeting {
         }
     }
 
-    fn calls(&self, pass: u64) -> &AtomicU64 {
+    fn calls(&self, pass: u64) -> &Calls {
         if pass == 1 { &self.first } else { &self.second }
     }
 
-    fn hold(&self, calls: &AtomicU64) {
+    fn hold(&self, pieces: &AtomicU64) {
         for _ in 0..self.limit {
-            if calls.load(SeqCst) >= self.wanted {
+            if pieces.load(SeqCst) >= self.wanted {
                 return;
             }
             yield_now();
@@ -71,21 +88,29 @@ impl Meeting {
 
     // Whether each piece was called for once in each pass, and by a worker.
     fn is_exact(&self) -> bool {
-        let first = self.first.load(SeqCst);
-        let second = self.second.load(SeqCst);
+        let first = self.first.pieces.load(SeqCst);
+        let second = self.second.pieces.load(SeqCst);
         first == self.wanted && second == self.wanted && self.strangers.load(SeqCst) == 0
+    }
+
+    // Whether each of eight workers called once in each pass.
+    fn heard_eight(&self) -> bool {
+        let first = self.first.workers.load(SeqCst);
+        let second = self.second.workers.load(SeqCst);
+        first == EIGHT && second == EIGHT
     }
 }
 
 impl Gate for Meeting {
     fn before(&self, pass: u64, worker: u64, piece: u64) {
         let calls = self.calls(pass);
-        calls.fetch_add(digit_of(piece), SeqCst);
+        calls.workers.fetch_add(digit(worker), SeqCst);
+        calls.pieces.fetch_add(digit(piece), SeqCst);
         if worker >= self.workers {
             self.strangers.fetch_add(1, SeqCst);
         }
         if piece < self.held {
-            self.hold(calls);
+            self.hold(&calls.pieces);
         }
     }
 }
@@ -99,7 +124,7 @@ fn meets<R: Threads + Wait + Abort + Sync>(
     workers: u64,
     gate: &Meeting,
 ) -> Result<bool, Fail>
-    requires { (1 ≤ pieces) × (pieces ≤ 4) }
+    requires { (1 ≤ pieces) × (pieces ≤ 8) }
 {
     let stream = four_items(alloc)?;
     let cutting = Cutting::even(alloc, stream.len(), pieces)?;
@@ -130,6 +155,23 @@ fn four_workers_at_once(rt: HostRuntime) -> Result<(), Fail> {
     let gate = Meeting::new(4, FOUR, 4, 10_000_000);
     assert!(rt; meets(&rt, rt.alloc(), 4, 4, &gate)?);
     assert_eq!(rt; gate.reached.load(SeqCst), 0);
+    Ok(())
+}
+
+// Each worker has one piece in hand, so each one's number comes.
+#[test]
+fn eight_workers_at_once(rt: HostRuntime) -> Result<(), Fail> {
+    let gate = Meeting::new(8, EIGHT, 8, 10_000_000);
+    assert!(rt; meets(&rt, rt.alloc(), 8, 8, &gate)?);
+    assert_eq!(rt; gate.reached.load(SeqCst), 0);
+    assert!(rt; gate.heard_eight());
+    Ok(())
+}
+
+#[test]
+fn seven_pieces_are_called_for_once_each(rt: HostRuntime) -> Result<(), Fail> {
+    let gate = Meeting::new(4, SEVEN, 0, 0);
+    assert!(rt; meets(&rt, rt.alloc(), 7, 4, &gate)?);
     Ok(())
 }
 

@@ -3,12 +3,14 @@
 ghost use Rattle.std.specs.Prelude.{◌≡◌};
 
 use crate::fixtures::{four_items, plain_family};
+use crate::meetings::Meeting;
 use hh_counters::{Candidates, Summary};
 use hh_pool::{OpenGate, Options, first_pass, second_pass};
 use hh_shared::{SharedSums, SumSeat};
 use hh_stream::{Cutting, Key};
 use std::alloc::Global;
 use std::process::Abort;
+use std::sync::atomic::Ordering::SeqCst;
 use std::test::Fail;
 
 // Whether the summary has this number and these two counters alone.
@@ -94,5 +96,38 @@ fn first_of_two_seats_counts_all_candidates(rt: HostRuntime) -> Result<(), Fail>
         closed(&rt, sums, one, other)?.as_slice(),
         [6, 3].as_slice()
     );
+    Ok(())
+}
+
+#[test]
+fn gate_hears_the_number_of_the_worker(rt: HostRuntime) -> Result<(), Fail> {
+    let alloc = rt.alloc();
+    let stream = four_items(alloc)?;
+    let cutting = Cutting::even(alloc, stream.len(), 2)?;
+    assert_eq!(rt; cutting.len(), stream.len());
+    let family = plain_family(alloc)?;
+    let cells = (family.depth() * 4) as usize;
+    let options = Options::new(2, 1, 3, 2, 4, family)?;
+    let (sums, seat) = SharedSums::new(alloc, cutting.count(), cells)?;
+    let gate = Meeting::new(6, 0, 0, 0);
+    let _done = first_pass(alloc, &sums, seat, &stream, &cutting, &options, &gate, 5)?;
+    assert_eq!(rt; gate.first.workers.load(SeqCst), 2 << 40);
+    assert_eq!(rt; gate.first.pieces.load(SeqCst), 0x0101);
+    Ok(())
+}
+
+#[test]
+fn gate_of_the_second_pass_hears_the_number_too(rt: HostRuntime) -> Result<(), Fail> {
+    let alloc = rt.alloc();
+    let stream = four_items(alloc)?;
+    let cutting = Cutting::even(alloc, stream.len(), 2)?;
+    assert_eq!(rt; cutting.len(), stream.len());
+    let candidates = Candidates::of(alloc, &Summary::of_items(alloc, 2, stream.items())?)?;
+    assert_eq!(rt; candidates.len(), 2);
+    let (sums, seat) = SharedSums::new(alloc, cutting.count(), candidates.len())?;
+    let gate = Meeting::new(7, 0, 0, 0);
+    let _seat = second_pass(alloc, &sums, seat, &stream, &cutting, &candidates, &gate, 6)?;
+    assert_eq!(rt; gate.second.workers.load(SeqCst), 2 << 48);
+    assert_eq!(rt; gate.second.pieces.load(SeqCst), 0x0101);
     Ok(())
 }

@@ -3,6 +3,7 @@
 use hh_counters::{MergeFault, Summary};
 use hh_pool::{Plan, PlanFault, merge_by};
 use hh_stream::Key;
+use std::alloc::Global;
 use std::process::Abort;
 use std::test::Fail;
 
@@ -45,11 +46,53 @@ fn plans_of_texts(rt: HostRuntime) -> Result<(), Fail> {
 fn parentheses_are_open_1023_deep(rt: HostRuntime) -> Result<(), Fail> {
     let text = vec![in rt.alloc(); b'('; 1024]?;
     assert_eq!(rt;
-        Plan::parse(rt.alloc(), &text, 1).err(),
+        Plan::parse(rt.alloc(), &text, 1024).err(),
         Some(PlanFault::Syntax(1023))
     );
-    assert_eq!(rt; Plan::chain(rt.alloc(), 1024)?.count(), 1024);
-    assert_eq!(rt; Plan::balanced(rt.alloc(), 1024)?.count(), 1024);
+    Ok(())
+}
+
+// The plan with its whole tree.
+fn shown(alloc: Global, plan: &Plan) -> Result<String, Fail> {
+    Ok(format!(in alloc; "{plan:?}")?)
+}
+
+#[test]
+fn plans_have_the_trees_of_their_texts(rt: HostRuntime) -> Result<(), Fail> {
+    let alloc = rt.alloc();
+    let texts: [(&[u8], Plan); 4] = [
+        (b"0", Plan::chain(alloc, 1)?),
+        (b"(((0 1) 2) 3)", Plan::chain(alloc, 4)?),
+        (b"((0 1) (2 3))", Plan::balanced(alloc, 4)?),
+        (b"(((0 1) 2) (3 4))", Plan::balanced(alloc, 5)?),
+    ];
+    for (text, plan) in texts {
+        let read = Plan::parse(alloc, text, plan.count())?;
+        assert!(rt; shown(alloc, &read)? == shown(alloc, &plan)?);
+    }
+    Ok(())
+}
+
+// The text of the chain of 1,024 pieces.
+fn long_text(alloc: Global) -> Result<String, Fail> {
+    let mut text = String::new(alloc);
+    for _ in 1..1024 {
+        text.push('(')?;
+    }
+    text.push('0')?;
+    for piece in 1..1024 {
+        write!(text, " {piece})")?;
+    }
+    Ok(text)
+}
+
+#[test]
+fn plans_have_up_to_1024_pieces(rt: HostRuntime) -> Result<(), Fail> {
+    let alloc = rt.alloc();
+    let chain = Plan::chain(alloc, 1024)?;
+    let read = Plan::parse(alloc, long_text(alloc)?.as_bytes(), 1024)?;
+    assert!(rt; shown(alloc, &read)? == shown(alloc, &chain)?);
+    assert_eq!(rt; Plan::balanced(alloc, 1024)?.count(), 1024);
     Ok(())
 }
 
