@@ -67,6 +67,6 @@ returns-clause-heavy g c =
     let merged =
     merged_is c.misra_gries_is_honest.ensures c.args.plan.now k (pieces_of lengths stream) stream c.in_ok-summaries.summaries.items c.in-Ok.summary (omega (arith, length-pieces_of lengths stream, c.requires.some)) (c.pieces_make_the_whole.ensures.whole lengths stream c.requires.same_len)
     c.in_ok-summaries.ensures.summaries by.k by.total by.counters by.honest in
-    c.in_ok-heavy.ensures
+    c.in_ok-heavy.ensures.rows
     ∙ ((λ i. selected 1 (c.k.ensures.k i + 1) c.total-total.result (zip keys (c.deref.ensures.value i)))
     ∙ heavy_is c.candidates_suffice.ensures c.in-Ok.summary.counters stream k c.total-total.result keys c.in_ok-weights.weights.items merged.honest c.total-total.ensures.total c.in_ok-candidates.ensures c.in_ok-weights.ensures)
