@@ -104,23 +104,20 @@ fn readers(lab: &Lab) -> Result<Said, Fail> {
     let (a, z) = (lab.key(b'a')?, lab.key(b'z')?);
     let candidates = Candidates::of(lab.alloc, &summary)?;
     let mut numbers = [0u64; 2];
+    let entries = Vec::new(lab.alloc);
     lab.begin()?;
     let empty = Summary::new(lab.alloc, 2)?;
-    let mut found = empty.total() + summary.k() + summary.total() + summary.sum();
-    found += summary.len() as u64 + summary.slack() + summary.get(&a) + summary.get(&z);
-    if !summary.is_empty() {
-        found += summary.entry(0).1;
+    let counters = [summary.k(), summary.total(), summary.sum(), summary.slack()];
+    let gotten = [summary.get(&a), summary.get(&z), empty.total()];
+    let fits = Summary::fits(2, 11, entries.as_slice());
+    if fits {
+        let _made = Summary::from_entries(2, 11, entries);
     }
-    let entries = Vec::new(lab.alloc);
-    if Summary::fits(2, 11, entries.as_slice()) {
-        found += Summary::from_entries(2, 11, entries).total();
-    }
+    let first = if summary.is_empty() { 0 } else { summary.entry(0).1 };
     if candidates.len() == 2 {
         candidates.count_piece(stream.items(), &mut numbers);
-        found += candidates.key(0).bytes().len() as u64;
     }
     let place = candidates.place(&a);
     lab.end()?;
-    let [first, second] = numbers;
-    lab.answer(format_args!("{found} {first} {second} {place:?}"))
+    lab.answer(format_args!("{counters:?} {gotten:?} {fits} {first} {numbers:?} {place:?}"))
 }

@@ -65,19 +65,19 @@ fn readers(lab: &Lab) -> Result<Said, Fail> {
     let mut table = Table::new(lab.alloc, lab.family()?, 4)?;
     let other = Table::new(lab.alloc, lab.family()?, 4)?;
     let family = lab.family()?;
+    let cells = Vec::new(lab.alloc);
     lab.begin()?;
     table.add(&key, 5)?;
     table.merge(&other)?;
-    let mut found = table.estimate(&key) + table.total() + table.width();
+    let of_table = [table.estimate(&key), table.total(), table.width()];
+    let fingerprint = family.fingerprint(&key);
+    let is_same = table.family() == &family;
+    let mut of_row = [0u64; 2];
     if family.depth() == 2 {
-        found += family.z() + family.row(0).0 + family.cell(1, &key, 4) + family.fingerprint(&key);
+        of_row = [family.row(1).0, family.cell(1, &key, 4)];
     }
-    if table.family() == &family && table.width() == 4 {
-        found += 1;
-    }
-    let cells = Vec::new(lab.alloc);
     let fits = Table::fits(&family, 4, 0, cells.as_slice());
     lab.end()?;
     lab.show(Cells(&table))?;
-    lab.answer(format_args!("{found} {fits}"))
+    lab.answer(format_args!("{of_table:?} {fingerprint} {is_same} {of_row:?} {fits}"))
 }

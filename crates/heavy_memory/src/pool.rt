@@ -63,9 +63,14 @@ fn plan_parse(lab: &Lab) -> Result<Said, Fail> {
 // The summaries of the four items in two pieces.
 fn summaries(lab: &Lab) -> Result<Vec<Summary>, Fail> {
     let stream = lab.stream()?;
+    let cutting = Cutting::even(lab.alloc, stream.len(), 2)?;
+    if cutting.len() != stream.len() {
+        return Err(Fail::new("not the stream's cutting"));
+    }
     let mut summaries = Vec::new(lab.alloc);
-    for half in stream.items().chunks(2) {
-        summaries.push(Summary::of_items(lab.alloc, 2, half)?)?;
+    for i in 0..cutting.count() {
+        let piece = cutting.piece(&stream, i);
+        summaries.push(Summary::of_items(lab.alloc, 2, piece)?)?;
     }
     Ok(summaries)
 }

@@ -93,14 +93,18 @@ fn readers(lab: &Lab) -> Result<Said, Fail> {
     let cutting = Cutting::even(lab.alloc, stream.len(), 3)?;
     lab.begin()?;
     let items = stream.items();
-    let mut found = items.len() as u64 + stream.total() + Stream::new(lab.alloc).total();
+    let empty = Stream::new(lab.alloc).len();
+    let mut piece = 0usize;
     if cutting.len() == stream.len() && cutting.count() == 3 {
-        found += cutting.piece(&stream, 0).len() as u64;
+        piece = cutting.piece(&stream, 0).len();
     }
+    let mut are_ordered = true;
+    let mut heaviest = 0u64;
     for item in items {
-        let is_first = item.key() == items[0].key() && item.key() <= items[0].key();
-        found += item.weight() + item.key().bytes().len() as u64 + u64::from(is_first);
+        are_ordered = are_ordered && item.key() == item.key() && item.key() <= item.key();
+        heaviest = heaviest.max(item.weight()).max(item.key().bytes().len() as u64);
     }
+    let total = stream.total();
     lab.end()?;
-    lab.answer(found)
+    lab.answer(format_args!("{empty} {piece} {total} {are_ordered} {heaviest}"))
 }

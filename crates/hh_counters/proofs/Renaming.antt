@@ -1,6 +1,6 @@
 -- A bucket of one key that becomes the bucket of another counter.
 use Rattle.std.proofs.Common.{◌≡◌, ℕ, Bool, true, false, cond, ◌&&◌, ◌||◌, List, [], ◌∷◌, length, Option, Some, None, is_eq, refl, sym, ap, ◌∙◌, subst, true≢false, arith}
-use Rattle.std.specs.Prelude.{IsSome, IfSome, is_some}
+use Rattle.std.specs.Prelude.{IsSome, IsSomeAnd, is_some}
 use Rattle.std.specs.List.{list_any}
 use Rattle.std.specs.Ordering.{nat_cmp}
 use Rattle.std.specs.BTreeMap.{get}
@@ -22,7 +22,7 @@ alone (y ∷ []) x q l h =
     or_false (same_key q y) ∙ ap (same_key q) (sym same) ∙ same_sym q x
 alone (y ∷ z ∷ ks) x q l h = absurd (omega (arith, l))
 
-one_key : (o : Option (BTreeSet Bytes)) (x q : Bytes) → IfSome o (λ s. length s.keys ≡ 1) → bucket_has o x ≡ true → bucket_has o q ≡ same_key x q
+one_key : (o : Option (BTreeSet Bytes)) (x q : Bytes) → IsSomeAnd o (λ s. length s.keys ≡ 1) → bucket_has o x ≡ true → bucket_has o q ≡ same_key x q
 one_key None x q l h = absurd (true≢false (sym h))
 one_key (Some s) x q l h = alone s.keys x q l h
 
@@ -38,7 +38,7 @@ some_bucket None x h = absurd (true≢false (sym h))
 some_bucket (Some s) x h = refl
 
 -- so its key moves
-pub renamed_moves : (b d : Buckets) (m n : ℕ) (x : Bytes) → has b m x ≡ true → IfSome (get nat_cmp b m) (λ s. length s.keys ≡ 1) → get nat_cmp b n ≡ None → Renames b d m n → Moves b d m n x
+pub renamed_moves : (b d : Buckets) (m n : ℕ) (x : Bytes) → has b m x ≡ true → IsSomeAnd (get nat_cmp b m) (λ s. length s.keys ≡ 1) → get nat_cmp b n ≡ None → Renames b d m n → Moves b d m n x
 renamed_moves b d m n x there one free r c q =
     ap (λ o. bucket_has o q) (r c) ∙ by (is_eq (nat_cmp n c)) (is_eq (nat_cmp m c)) refl refl
   where

@@ -20,8 +20,10 @@ use std::marker::Model;
 /// Space-Saving with the monitored keys in buckets by their counters, so that the key to drop is the
 /// first one of the first bucket.
 ///
-/// An item costs one look-up by hash and a few steps in ordered maps, however many counters there
-/// are. A contract sees k, the total and the counters by rising key.
+/// An item costs a look-up by hash and searches in ordered maps, whose steps grow as the logarithm of
+/// the number of counters. A newcomer's key is hashed a second time and copied twice, and the key that
+/// it takes over from is hashed once; a monitored key is copied only where it leaves or joins a bucket
+/// of other keys. A contract sees k, the total and the counters by rising key.
 #[derive(Debug, Drop)]
 pub struct BucketSaving {
     alloc: Global,
@@ -42,7 +44,7 @@ impl Model for BucketSaving {
     ghost invariant = { λ s. IsLinked s.k s.total s.index.entries s.buckets };
 }
 
-/// Why there is no new Space-Saving.
+/// Why there is no new Space-Saving: the first of these that holds.
 #[derive(Clone, Copy, Debug, PartialEq, Eq)]
 pub enum NewFault {
     /// k is not 1 to [`MAX_K`].

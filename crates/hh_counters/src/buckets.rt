@@ -1,6 +1,6 @@
 //! Keys in buckets by their counters. No bucket stays empty.
 
-ghost use Rattle.std.specs.Prelude.{◌≡◌, ◌≢◌, OnOk, OnErr, IsSome, IsTrue, IfSome, MatchOption, None, true, false, length};
+ghost use Rattle.std.specs.Prelude.{◌≡◌, ◌≢◌, ◌↔◌, OnOk, OnErr, IsSome, IsSomeAnd, IsTrue, IfSome, MatchOption, None, true, false, length};
 ghost use Rattle.std.specs.Ordering.{nat_cmp};
 ghost use Rattle.std.specs.BTreeMap.{get, IsUnchanged};
 ghost use Rattle.hh_counters.specs.Buckets.{has, NoneEmpty, Changes, Moves, Renames, HasSame, HasNone, IsLowest, IsFirst};
@@ -74,7 +74,7 @@ pub fn shift(
 // Whether the bucket of the counter has just one key.
 fn holds_one(buckets: &BTreeMap<u64, BTreeSet<Key>>, counter: u64) -> bool
     ensures { IsTrue result
-        → IfSome (get nat_cmp buckets.now counter) (λ bucket. length bucket.keys ≡ 1) }
+        ↔ IsSomeAnd (get nat_cmp buckets.now counter) (λ bucket. length bucket.keys ≡ 1) }
 {
     match buckets.get(&counter) {
         Some(bucket) => bucket.len() == 1,

@@ -1,6 +1,7 @@
 //! Summaries, candidates and monitors of a few items, worked by hand.
 
 mod candidates;
+mod limits;
 mod monitors;
 mod summaries;
 

@@ -40,7 +40,7 @@ impl Model for Family {
     ghost invariant = { λ family. IsFamily (record { z = family.z; rows = family.rows.items }) };
 }
 
-/// Why a family was not drawn.
+/// Why a family was not drawn: the first of these that holds.
 #[derive(Clone, Copy, Debug, PartialEq, Eq)]
 pub enum DrawFault {
     /// The depth is not 1 to 16.
@@ -49,7 +49,7 @@ pub enum DrawFault {
     Memory,
 }
 
-/// Why parts are no family.
+/// Why parts are no family: the first of these that holds.
 #[derive(Clone, Copy, Debug, PartialEq, Eq)]
 pub enum PartsFault {
     /// There are no rows, or more than 16.

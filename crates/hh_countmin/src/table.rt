@@ -12,7 +12,8 @@ use std::marker::Model;
 
 /// A Count-Min table (Cormode and Muthukrishnan 2005): rows of `width` cells, one row for each row of
 /// its hash family. An item adds its weight to one cell of each row, so each row adds up to the total,
-/// and the least of a key's cells is never below the key's weight.
+/// and the least of a key's cells is never below the key's weight. A table made by
+/// [`from_cells`](Table::from_cells) promises as much as its cells do.
 #[derive(Debug, Drop)]
 pub struct Table {
     family: Family,
@@ -38,7 +39,7 @@ impl Model for Table {
     ghost invariant = { λ table. Fits table.family table.width table.total table.cells.items };
 }
 
-/// Why there is no table.
+/// Why there is no table: the first of these that holds.
 #[derive(Clone, Copy, Debug, PartialEq, Eq)]
 pub enum TableFault {
     /// The width is not 1 to 65,536.
@@ -51,7 +52,7 @@ pub enum TableFault {
 #[derive(Clone, Copy, Debug, PartialEq, Eq)]
 pub struct TotalTooLarge;
 
-/// Why a table was not merged.
+/// Why a table was not merged: the first of these that holds.
 #[derive(Clone, Copy, Debug, PartialEq, Eq)]
 pub enum MergeFault {
     /// The hash families differ.
@@ -97,7 +98,9 @@ impl Table {
             && rows_sum_to(cells, family.depth() as usize, width as usize, total)
     }
 
-    /// The table with these cells, which lie row by row.
+    /// The table with these cells, which lie row by row. That they are of some stream is not asked, and
+    /// so nothing is promised of any: an estimate is not below a weight in a stream where the cells came
+    /// from that stream.
     pub fn from_cells(family: Family, width: u64, total: u64, cells: Vec<u64>) -> Table
         requires { Fits family width total cells.items }
         ensures { result

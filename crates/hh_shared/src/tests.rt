@@ -58,10 +58,10 @@ fn a_dropped_seat_keeps_its_claims(rt: HostRuntime) -> Result<(), Fail> {
 #[test]
 fn sums_have_as_many_claims_and_cells_as_allowed(rt: HostRuntime) -> Result<(), Fail> {
     let (sums, mut seat) = SharedSums::new(rt.alloc(), MAX_CLAIMS, MAX_CELLS)?;
-    for number in 0..MAX_CLAIMS {
-        assert!(rt; sums.claim(&mut seat, number));
-    }
-    assert!(rt; sums.holds_all(&seat));
+    assert!(rt; sums.claim(&mut seat, MAX_CLAIMS - 1));
+    sums.add(&mut seat, MAX_CELLS - 1, 5);
+    assert!(rt; !sums.claim(&mut seat, MAX_CLAIMS - 1));
+    assert!(rt; !sums.holds_all(&seat));
     Ok(())
 }
 

@@ -8,9 +8,12 @@ use Rattle.std.specs.Cmp.Lexicographic.{slice_cmp}
 abbrev pub Bytes : Type 0
 Bytes = List ℕ
 
--- the most bytes of a key, and the largest total weight
+-- the most bytes of a key, those of a key that takes no memory, and the largest total weight
 abbrev pub max_key_len : ℕ
 max_key_len = 255
+
+abbrev pub inline_len : ℕ
+inline_len = 24
 
 abbrev pub max_total : ℕ
 max_total = 9223372036854775807

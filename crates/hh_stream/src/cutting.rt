@@ -2,7 +2,7 @@
 
 ghost use Rattle.std.specs.Prelude.{◌≡◌, ◌≢◌, ◌<◌, ◌≤◌, ◌^◌, ◌⊎◌, ◌↔◌, [], length, sum, slice_index_or, IsTrue, OnOk, OnErr, IfOk, IsErrOf};
 ghost use Rattle.hh_stream.specs.Weights.{max_total, total_of};
-ghost use Rattle.hh_stream.specs.Cuttings.{even_lengths, pieces_of, whole_of};
+ghost use Rattle.hh_stream.specs.Cuttings.{max_pieces, even_lengths, pieces_of, whole_of};
 
 use crate::stream::{Item, Stream};
 use std::alloc::{AllocError, Global};
@@ -31,7 +31,7 @@ impl Model for Cutting {
         × (cutting.len ≡ sum cutting.lengths.items) };
 }
 
-/// Why there is no such cutting.
+/// Why there is no such cutting: the first of these that holds.
 #[derive(Clone, Copy, Debug, PartialEq, Eq)]
 pub enum CuttingFault {
     /// There is no piece.
@@ -47,10 +47,10 @@ pub enum CuttingFault {
 /// Whether so many pieces are not too few or too many.
 fn check_count(pieces: usize) -> Result<(), CuttingFault>
     ensures no_pieces { IsErrOf result CuttingFault.NoPieces ↔ (pieces ≡ 0) }
-    ensures too_many { IsErrOf result CuttingFault.TooManyPieces ↔ (MAX_PIECES < pieces) }
+    ensures too_many { IsErrOf result CuttingFault.TooManyPieces ↔ (max_pieces < pieces) }
     ensures right_sum { ¬ IsErrOf result CuttingFault.WrongSum }
-    ensures within { OnOk result ((0 < pieces) × (pieces ≤ MAX_PIECES)) }
-    ensures outside { OnErr result ((pieces ≡ 0) ⊎ (MAX_PIECES < pieces)) }
+    ensures within { OnOk result ((0 < pieces) × (pieces ≤ max_pieces)) }
+    ensures outside { OnErr result ((pieces ≡ 0) ⊎ (max_pieces < pieces)) }
 {
     if pieces == 0 {
         return Err(CuttingFault::NoPieces);
@@ -103,7 +103,7 @@ impl Cutting {
         ensures adds_up { IfOk result (λ cutting. sum cutting ≡ len) }
         ensures pieces { IfOk result (λ cutting. length cutting ≡ pieces) }
         ensures no_pieces { IsErrOf result CuttingFault.NoPieces ↔ (pieces ≡ 0) }
-        ensures too_many { IsErrOf result CuttingFault.TooManyPieces ↔ (MAX_PIECES < pieces) }
+        ensures too_many { IsErrOf result CuttingFault.TooManyPieces ↔ (max_pieces < pieces) }
         ensures right_sum { ¬ IsErrOf result CuttingFault.WrongSum }
     {
         check_count(pieces)?;
@@ -119,9 +119,9 @@ impl Cutting {
         ensures adds_up { IfOk result (λ cutting. sum cutting ≡ len) }
         ensures no_pieces { IsErrOf result CuttingFault.NoPieces ↔ (length lengths.now ≡ 0) }
         ensures too_many { IsErrOf result CuttingFault.TooManyPieces
-            ↔ (MAX_PIECES < length lengths.now) }
+            ↔ (max_pieces < length lengths.now) }
         ensures wrong_sum { IsErrOf result CuttingFault.WrongSum
-            ↔ ((0 < length lengths.now) × (length lengths.now ≤ MAX_PIECES)
+            ↔ ((0 < length lengths.now) × (length lengths.now ≤ max_pieces)
             × (sum lengths.now ≢ len)) }
     {
         check_count(lengths.len())?;
@@ -138,7 +138,7 @@ impl Cutting {
     pub fn count(&self) -> usize
         ensures count { result ≡ length self.now }
         ensures some { 0 < result }
-        ensures few { result ≤ MAX_PIECES }
+        ensures few { result ≤ max_pieces }
     {
         self.lengths.len()
     }

@@ -7,7 +7,7 @@ ghost use Rattle.std.specs.Cmp.{partial_equiv_from_equiv, partial_order_from_tot
 ghost use Rattle.std.specs.Cmp.Lexicographic.{slice_cmp, nat_list_cmp_total};
 ghost use Rattle.std.specs.Ordering.{nat_cmp, as_partial_cmp};
 ghost use Rattle.std.specs.Hash as fed;
-ghost use Rattle.hh_stream.specs.Weights.{IsKey, key_cmp, same_key};
+ghost use Rattle.hh_stream.specs.Weights.{max_key_len, inline_len, IsKey, key_cmp, same_key};
 
 use smallvec::SmallVec;
 use std::alloc::{AllocError, Global};
@@ -40,7 +40,7 @@ impl Model for Key {
     ghost invariant = { λ key. IsKey key.bytes.items };
 }
 
-/// Why bytes are no key.
+/// Why bytes are no key: the first of these that holds.
 #[derive(Clone, Copy, Debug, PartialEq, Eq)]
 pub enum KeyFault {
     /// There are none.
@@ -56,10 +56,10 @@ impl Key {
     pub fn new(alloc: Global, bytes: &[u8]) -> Result<Key, KeyFault>
         ensures key { IfOk result (λ key. key ≡ bytes.now) }
         ensures empty { IsErrOf result KeyFault.Empty ↔ (length bytes.now ≡ 0) }
-        ensures too_long { IsErrOf result KeyFault.TooLong ↔ (MAX_KEY_LEN < length bytes.now) }
+        ensures too_long { IsErrOf result KeyFault.TooLong ↔ (max_key_len < length bytes.now) }
 
         // a short key takes no memory
-        ensures short { 0 < length bytes.now → length bytes.now ≤ INLINE_LEN → IsOk result }
+        ensures short { 0 < length bytes.now → length bytes.now ≤ inline_len → IsOk result }
     {
         if bytes.is_empty() {
             return Err(KeyFault::Empty);
@@ -86,7 +86,7 @@ impl Key {
         ensures equal { IfOk result (λ key. key ≡ self.now) }
 
         // a short key takes no memory
-        ensures short { length self.now ≤ INLINE_LEN → IsOk result }
+        ensures short { length self.now ≤ inline_len → IsOk result }
     {
         Ok(Key {
             bytes: SmallVec::from_slice(*self.bytes.allocator(), self.bytes.as_slice())?,

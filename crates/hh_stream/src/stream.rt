@@ -65,7 +65,7 @@ impl Model for Stream {
         × (stream.total ≤ max_total) };
 }
 
-/// Why an item was not pushed.
+/// Why an item was not pushed: the first of these that holds.
 #[derive(Clone, Copy, Debug, PartialEq, Eq)]
 pub enum PushFault {
     /// The weight is 0.

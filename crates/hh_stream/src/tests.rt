@@ -32,6 +32,7 @@ fn keys_are_ordered_by_bytes(rt: HostRuntime) -> Result<(), Fail> {
     assert!(rt; key != longer);
     let hasher = BuildHasherDefault::<FoldHasher>::new();
     assert_eq!(rt; hasher.hash_one(&key), hasher.hash_one(&key.copy()?));
+    assert!(rt; hasher.hash_one(&key) != hasher.hash_one(&longer));
     Ok(())
 }
 
@@ -69,22 +70,28 @@ fn refused_push_hands_the_key_back(rt: HostRuntime) -> Result<(), Fail> {
     Ok(())
 }
 
-// The lengths of the pieces of a stream of so many items.
-fn lengths_of(rt: &(impl Abort + AllocGlobal), cutting: &Cutting) -> Vec<usize> {
-    let alloc = rt.alloc();
-    let mut stream = Stream::new(alloc);
-    for _ in 0..cutting.len() {
-        let key = Key::new(alloc, b"a").expect(rt, "a key");
-        stream.push(key, 1).expect(rt, "an item");
+// The stream of so many items, which weigh 1, 2, 3 and so on.
+fn rising_stream(rt: &(impl Abort + AllocGlobal), len: usize) -> Stream {
+    let mut stream = Stream::new(rt.alloc());
+    for i in 0..len {
+        let key = Key::new(rt.alloc(), b"a").expect(rt, "a key");
+        stream.push(key, i as u64 + 1).expect(rt, "an item");
     }
+    stream
+}
+
+// The weights in the pieces of such a stream, as "1 2, 3, ".
+fn pieces_of(rt: &(impl Abort + AllocGlobal), cutting: &Cutting) -> String {
+    let stream = rising_stream(rt, cutting.len());
     assert_eq!(rt; cutting.len(), stream.len());
-    let mut lengths = Vec::new(alloc);
+    let mut text = String::new(rt.alloc());
     for i in 0..cutting.count() {
-        lengths
-            .push(cutting.piece(&stream, i).len())
-            .expect(rt, "a length");
+        for item in cutting.piece(&stream, i) {
+            write!(text, "{} ", item.weight()).expect(rt, "a weight");
+        }
+        text.push_str("| ").expect(rt, "an end");
     }
-    lengths
+    text
 }
 
 #[test]
@@ -92,14 +99,11 @@ fn even_pieces(rt: HostRuntime) -> Result<(), Fail> {
     let alloc = rt.alloc();
     let cutting = Cutting::even(alloc, 10, 4)?;
     assert_eq!(rt;
-        lengths_of(&rt, &cutting).as_slice(),
-        [3, 3, 2, 2].as_slice()
+        pieces_of(&rt, &cutting).as_str(),
+        "1 2 3 | 4 5 6 | 7 8 | 9 10 | "
     );
     let cutting = Cutting::even(alloc, 4, 7)?;
-    assert_eq!(rt;
-        lengths_of(&rt, &cutting).as_slice(),
-        [1, 1, 1, 1, 0, 0, 0].as_slice()
-    );
+    assert_eq!(rt; pieces_of(&rt, &cutting).as_str(), "1 | 2 | 3 | 4 | | | | ");
     assert!(rt; Cutting::even(alloc, 0, 1024)?.is_empty());
     assert_eq!(rt;
         Cutting::even(alloc, 4, 0).err(),
@@ -116,9 +120,11 @@ fn even_pieces(rt: HostRuntime) -> Result<(), Fail> {
 fn pieces_by_lengths(rt: HostRuntime) -> Result<(), Fail> {
     let alloc = rt.alloc();
     let cutting = Cutting::by_lengths(alloc, 4, &[3, 1])?;
-    assert_eq!(rt; lengths_of(&rt, &cutting).as_slice(), [3, 1].as_slice());
+    assert_eq!(rt; pieces_of(&rt, &cutting).as_str(), "1 2 3 | 4 | ");
     let cutting = Cutting::by_lengths(alloc, 0, &[0])?;
-    assert_eq!(rt; lengths_of(&rt, &cutting).as_slice(), [0].as_slice());
+    assert_eq!(rt; pieces_of(&rt, &cutting).as_str(), "| ");
+    let cutting = Cutting::by_lengths(alloc, 1024, &[1; 1024])?;
+    assert_eq!(rt; cutting.count(), 1024);
     for (len, lengths, fault) in [
         (4, [].as_slice(), CuttingFault::NoPieces),
         (4, [3, 2].as_slice(), CuttingFault::WrongSum),

@@ -22,6 +22,10 @@ fn items_leave_their_counters(rt: HostRuntime) -> Result<(), Fail> {
             [("a", 1), ("b", 1), ("b", 1)].as_slice(),
             "a 1 b 2 of 3, slack 0",
         ),
+        (
+            [("a", 5), ("b", 3), ("c", 2), ("a", 1), ("d", 4)].as_slice(),
+            "a 3 d 3 of 15, slack 3",
+        ),
     ] {
         let text = counters(rt.alloc(), 2, items)?;
         assert_eq!(rt; text.as_str(), expected);
@@ -118,9 +122,13 @@ fn merges_two_summaries(rt: HostRuntime) -> Result<(), Fail> {
 
 #[test]
 fn summaries_with_different_k_do_not_merge(rt: HostRuntime) -> Result<(), Fail> {
-    let mut summary = summary_of(rt.alloc(), 2, &[("a", 1)])?;
-    let wider = summary_of(rt.alloc(), 3, &[("a", 1)])?;
+    let mut summary = summary_of(rt.alloc(), 2, &FOUR_RECORDS)?;
+    let wider = summary_of(rt.alloc(), 3, &[("b", 2), ("c", 3)])?;
     assert_eq!(rt; summary.merge(&wider).err(), Some(MergeFault::DifferentK));
+    let text = shown(rt.alloc(), &summary)?;
+    assert_eq!(rt; text.as_str(), "a 4 b 1 of 11, slack 2");
+    let text = shown(rt.alloc(), &wider)?;
+    assert_eq!(rt; text.as_str(), "b 2 c 3 of 5, slack 0");
     Ok(())
 }
 

@@ -9,4 +9,4 @@ pub returns-then-not-contains_key-clause-moved : goal.returns-then-not-contains_
 returns-then-not-contains_key-clause-moved c =
     let b = c.args.buckets.now in
     let free : get nat_cmp b c.args.to ≡ None = none_from_absent (get nat_cmp b c.args.to) (sym c.if-not-contains_key.ensures) in
-    on_ok_weaker c.rename.result (renamed_moves b c.rename.new.buckets c.args.from c.args.to c.args.key.now c.requires.there (c.holds_one.ensures c.if-holds_one.true) free) c.rename.ensures.renamed
+    on_ok_weaker c.rename.result (renamed_moves b c.rename.new.buckets c.args.from c.args.to c.args.key.now c.requires.there (c.holds_one.ensures.0 c.if-holds_one.true) free) c.rename.ensures.renamed
