@@ -113,7 +113,11 @@ fn readers(lab: &Lab) -> Result<Said, Fail> {
     if fits {
         let _made = Summary::from_entries(2, 11, entries);
     }
-    let first = if summary.is_empty() { 0 } else { summary.entry(0).1 };
+    let first = if summary.is_empty() {
+        0
+    } else {
+        summary.entry(0).1
+    };
     if candidates.len() == 2 {
         candidates.count_piece(stream.items(), &mut numbers);
     }

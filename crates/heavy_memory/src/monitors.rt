@@ -139,7 +139,12 @@ fn readers(lab: &Lab) -> Result<Said, Fail> {
     lab.begin()?;
     let plain = SpaceSaving::new(lab.alloc, 2)?;
     let of_plain = [plain.k(), plain.total(), plain.least(), plain.get(&a)];
-    let of_buckets = [bucketed.k(), bucketed.total(), bucketed.least(), bucketed.get(&a)];
+    let of_buckets = [
+        bucketed.k(),
+        bucketed.total(),
+        bucketed.least(),
+        bucketed.get(&a),
+    ];
     let lens = [plain.len(), bucketed.len()];
     lab.end()?;
     lab.answer(format_args!("{of_plain:?} {of_buckets:?} {lens:?}"))

@@ -102,7 +102,9 @@ fn readers(lab: &Lab) -> Result<Said, Fail> {
     let mut heaviest = 0u64;
     for item in items {
         are_ordered = are_ordered && item.key() == item.key() && item.key() <= item.key();
-        heaviest = heaviest.max(item.weight()).max(item.key().bytes().len() as u64);
+        heaviest = heaviest
+            .max(item.weight())
+            .max(item.key().bytes().len() as u64);
     }
     let total = stream.total();
     lab.end()?;
