@@ -58,6 +58,25 @@ def try_records(line: Line) -> None:
         line.expect(["summarise", "--k", "2", *method], reference.answer(reference.summarise, RECORDS, 2))
 
 
+def try_thresholds(line: Line) -> None:
+    """A share of one's own, what lies at exactly that share, and texts that name none."""
+    rows = [
+        (2, RECORDS, ["1/2", "01/02", "1/3"], b"a,6\n"),
+        (2, RECORDS, ["2/3", "1/1", "4294967296/4294967296", "6/11"], b""),
+        (9, RECORDS, ["1/10"], b"a,6\nb,3\nc,2\n"),
+        (9, RECORDS, ["1/4", "3/12"], b"a,6\nb,3\n"),
+        (2, b"a\nb\n", ["1/2"], b""),
+    ]
+    for k, given, shares, report in rows:
+        for share in shares:
+            line.expect(["report", "--k", str(k), "--threshold", share], (0, report, b""), given)
+    text = "threshold must be P/Q with 1 <= P <= Q <= 4294967296 and P*(K+1) >= Q"
+    wrong = ["0/0", "3/2", "4294967297/4294967297", "00000000001/1", "1", "1/", "1/2/3", "", "/", "/2", "1/4", "0.01"]
+    for share in [*wrong, "1%", " 1/2", "1/2 ", "+1/2", "1/+2", b"\xff/1"]:
+        line.refuses(["report", "--k", "2", "--threshold", share], text)
+    line.refuses(["report", "--k", "9", "--threshold", "1/11"], text)
+
+
 def try_tables(line: Line) -> None:
     """A table's width, depth and seed stand in its file; its cells are those of the records."""
     tables = {}
@@ -84,6 +103,7 @@ def try_refused_options(line: Line) -> None:
         ("--k", ["0", "65536", "18446744073709551615"], "k must be 1 to 65535"),
         ("--workers", ["0", "65"], "workers must be 1 to 64"),
         ("--width", ["0", "65537"], "width must be 1 to 65536"),
+        ("--threshold", ["1/0"], "threshold must be P/Q with 1 <= P <= Q <= 4294967296 and P*(K+1) >= Q"),
         ("--pieces", ["0", "1025"], "pieces must be 1 to 1024"),
     ]
     for option, numbers, text in faults:
@@ -159,6 +179,7 @@ def main() -> None:
     with tempfile.TemporaryDirectory() as room:
         line = Line(room)
         try_records(line)
+        try_thresholds(line)
         try_tables(line)
         try_refused_options(line)
         try_trees(line)

@@ -52,8 +52,11 @@ def case(draw) -> hostile.Case:
             status, saved, said = reference.answer(reference.summarise, given, k)
             if status == 0:
                 return hostile.Case(["confirm"], [saved], [], given, reference.answer(reference.confirm, saved, given))
+    share = draw.choice([None, None, b"1/2", b"2/3", b"1/10", b"0001/3", b"1/0", b"1/4294967296", b"x"])
+    if share is not None:
+        options += ["--threshold", share.decode()]
     options += ["--workers", draw.choice("123"), "--pieces", draw.choice("125"), "--width", "8", "--depth", "1"]
-    return hostile.Case(["report", *options], [], [], given, reference.answer(reference.report, given, k))
+    return hostile.Case(["report", *options], [], [], given, reference.answer(reference.report, given, k, share))
 
 
 hostile.main("hostile records", case)

@@ -267,8 +267,19 @@ def read_file(data: bytes, place: int = 1) -> Summary | Table:
 # ---- commands
 
 
-def report(text: bytes, k: int) -> bytes:
-    return rows_text(heavy(items_of(text), 1, k + 1))
+def share_of(text: bytes, k: int) -> tuple[int, int]:
+    """The share P/Q that a text names."""
+    numbers = text.split(b"/")
+    if len(numbers) == 2 and all(1 <= len(one) <= 10 and all(b in b"0123456789" for b in one) for one in numbers):
+        p, q = int(numbers[0]), int(numbers[1])
+        if 1 <= p <= q <= 2**32 and p * (k + 1) >= q:
+            return p, q
+    raise Refused("threshold must be P/Q with 1 <= P <= Q <= 4294967296 and P*(K+1) >= Q", 2)
+
+
+def report(text: bytes, k: int, share: bytes | None = None) -> bytes:
+    p, q = (1, k + 1) if share is None else share_of(share, k)
+    return rows_text(heavy(items_of(text), p, q))
 
 
 def summarise(text: bytes, k: int) -> bytes:
