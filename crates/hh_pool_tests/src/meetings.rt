@@ -4,7 +4,7 @@ ghost use Rattle.std.specs.Prelude.{◌≤◌};
 
 use crate::fixtures::{analysed, four_items, is_of_four_items, options};
 use hh_pool::{Gate, Plan};
-use hh_stream::{Cutting, Key, Stream};
+use hh_stream::Cutting;
 use std::alloc::Global;
 use std::process::Abort;
 use std::sync::Wait;
@@ -172,40 +172,5 @@ fn eight_workers_at_once(rt: HostRuntime) -> Result<(), Fail> {
 fn seven_pieces_are_called_for_once_each(rt: HostRuntime) -> Result<(), Fail> {
     let gate = Meeting::new(4, SEVEN, 0, 0);
     assert!(rt; meets(&rt, rt.alloc(), 7, 4, &gate)?);
-    Ok(())
-}
-
-// 2,000 different keys of two bytes, and a.
-fn many_items(alloc: Global) -> Result<Stream, Fail> {
-    let mut stream = Stream::new(alloc);
-    for i in 0u16..2000 {
-        stream.push(Key::new(alloc, &i.to_be_bytes())?, 1)?;
-    }
-    stream.push(Key::new(alloc, b"a")?, 1)?;
-    Ok(stream)
-}
-
-// With k = 2 each three different keys of the first piece take each other's counters away, 2 are left
-// of 2,000, and those and a do the same at the merge.
-#[test]
-fn workers_do_the_first_pass(rt: HostRuntime) -> Result<(), Fail> {
-    let alloc = rt.alloc();
-    let stream = many_items(alloc)?;
-    let cutting = Cutting::by_lengths(alloc, stream.len(), &[2000, 1])?;
-    let gate = Meeting::new(1, TWO, 0, 0);
-    let options = options(alloc, 2, 1)?;
-    let outcome = analysed(
-        &rt,
-        alloc,
-        &stream,
-        &cutting,
-        &Plan::chain(alloc, 2)?,
-        &options,
-        &gate,
-    )?;
-    assert!(rt; gate.is_exact());
-    assert_eq!(rt; (outcome.summary.len(), outcome.summary.slack()), (0, 667));
-    assert_eq!(rt; outcome.table.total(), 2001);
-    assert!(rt; outcome.heavy.is_empty());
     Ok(())
 }
