@@ -122,23 +122,22 @@ def is_lawful_run(ample: programs.Ended, ended: programs.Ended) -> bool:
 
 def try_calls(refusing: Refusing, program: str) -> int:
     """All calls with short and with long keys; how many there are."""
-    rows = [(of, name, length) for of, names in CALLS.items() for name in names for length in ("short", "long")]
-    none = [(of, name, length) for of, names in TAKE_NONE.items() for name in names for length in ("short", "long")]
+    can = [(of, name) for of, names in CALLS.items() for name in names]
+    none = [(of, name) for of, names in TAKE_NONE.items() for name in names]
+    rows = [(of, name, length) for of, name in can + none for length in ("short", "long")]
 
-    def one(row: tuple[str, str, str]) -> None:
-        words = [program, *row]
-        made = refusing.in_turn(words, b"", MARKS, partial(is_lawful_call, row[1]))
-        is_free = row in none or row[1:] in (("Key::new", "short"), ("Key::copy", "short"))
-        if (made == 0) != is_free and row[1] not in FREE_OR_NOT:
-            refusing.tell(words, 0, f"it made {made} requests")
+    def requests(row: tuple[str, str, str]) -> int:
+        return refusing.in_turn([program, *row], b"", MARKS, partial(is_lawful_call, row[1]))
 
     with ThreadPoolExecutor() as pool:
-        list(pool.map(one, rows + none))
-    return sum(len(names) for names in CALLS.values()) + sum(len(names) for names in TAKE_NONE.values())
-
-
-# A monitored key is copied where it moves, if it is long; translating a plain monitor takes nothing.
-FREE_OR_NOT = {"BucketSaving::add monitored", "SpaceSaving::into_summary"}
+        made = dict(zip(rows, pool.map(requests, rows)))
+    for of, name, length in rows:
+        has_short_key = length == "short" and name in ("Key::new", "Key::copy")
+        if made[of, name, length] > 0 and (has_short_key or (of, name) in none):
+            refusing.tell([program, of, name, length], 0, "it took memory")
+        if made[of, name, "long"] == 0 and (of, name) in can and name != "SpaceSaving::into_summary":
+            refusing.tell([program, of, name, length], 0, "it took no memory, so nothing was tried")
+    return len(can) + len(none)
 
 
 def try_many_keys(refusing: Refusing, program: str) -> None:
