@@ -21,12 +21,12 @@ def heavy_bench() -> str:
     return str(crate / "out" / "heavy_bench")
 
 
-def plain(room: Path) -> str | None:
-    """The same in plain Rust, built; none where there is no rustc."""
+def plain(room: Path, name: str = "plain") -> str | None:
+    """A program in plain Rust, built; none where there is no rustc."""
     if not shutil.which("rustc"):
         return None
-    program = str(room / "plain")
-    source = str(TOP / "bench" / "plain.rs")
+    program = str(room / name)
+    source = str(TOP / "bench" / f"{name}.rs")
     subprocess.run(["rustc", "-O", "--edition", "2021", "-o", program, source], check=True)
     return program
 

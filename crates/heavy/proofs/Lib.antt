@@ -1,3 +1,4 @@
+pub mod CountFacts
 pub mod FileFacts
 pub mod KeyFacts
 pub mod OptionFacts

@@ -1,3 +1,4 @@
+pub mod Counting
 pub mod Files
 pub mod Limits
 pub mod Reports
@@ -6,4 +7,5 @@ pub mod Saving
 pub mod Sinks
 pub mod Status
 pub mod Streams
+pub mod Taking
 pub mod Thresholds

@@ -54,6 +54,14 @@ ConfirmsRows file left rows =
     (s : Sketch) × (xs : List Entry) × (saved_of file ≡ Ok (Counters s)) × ReadsAs left (Ok xs)
     × (s.total ≡ total_of xs) × (rows ≡ rows_of (confirmed s xs))
 
+-- what a refusal to count a summary's keys in records tells: of the records, and of the totals
+abbrev pub CountRefused : Sketch → Option (List ℕ) → ToolError → Type 0
+CountRefused s left tool.ReadFault = ⊤
+CountRefused s left (tool.BadRecord n c) = ReadsAs left (Err (n, c))
+CountRefused s left tool.TotalDiffers = (xs : List Entry) × ReadsAs left (Ok xs) × (s.total ≢ total_of xs)
+CountRefused s left tool.Memory = ⊤
+CountRefused s left _ = ⊥
+
 -- what a refusal to confirm tells: of the file, of its kind, of the records, and of the totals
 abbrev pub ConfirmRefused : List ℕ → Option (List ℕ) → ToolError → Type 0
 ConfirmRefused file left (tool.BadFile n f) = (n ≡ 1) × (saved_of file ≡ Err f)

@@ -1,15 +1,24 @@
 //! A second pass over a stream, for the keys of a summary.
 
-ghost use Rattle.std.specs.Prelude.{◌≡◌, ◌≢◌, ◌↔◌, IfOk, IsErrOf};
-ghost use Rattle.hh_stream.specs.Weights.{total_of};
-ghost use Rattle.hh_counters.specs.Report.{weights_at};
+ghost use Rattle.std.specs.Prelude.{◌≡◌, ◌≢◌, ◌↔◌, Ok, List, IfOk, IfErr, IsErrOf};
+ghost use Rattle.std.specs.Map.{keys_of};
+ghost use Rattle.hh_stream.specs.Weights.{Entry, total_of};
+ghost use Rattle.heavy.specs.Counting.{count_of};
 ghost use Rattle.heavy.specs.Reports.{confirmed};
+ghost use Rattle.heavy.specs.Saving.{CountRefused};
+ghost use Rattle.heavy.specs.Streams.{ReadsAs};
 ghost use Rattle.heavy.specs.declared.confirmation.ConfirmFault.TheVariants.{Memory};
 
+use crate::counts::Counts;
+use crate::error::ToolError;
+use crate::records::read_items;
+use crate::report::read_fault;
+use crate::taking::TakeItems;
 use hh_counters::laws::{candidates_suffice, counts_add_up};
-use hh_counters::{Candidates, Heavy, Summary};
+use hh_counters::{Heavy, Summary};
 use hh_stream::Stream;
 use std::alloc::{AllocError, Global};
+use std::io::Read;
 
 /// Why a summary was not confirmed.
 #[derive(Clone, Copy, Debug, PartialEq, Eq)]
@@ -28,20 +37,6 @@ impl From<AllocError> for ConfirmFault {
     }
 }
 
-/// The weight of each candidate in a stream.
-pub fn weights_of(
-    alloc: Global,
-    candidates: &Candidates,
-    stream: &Stream,
-) -> Result<Vec<u64>, AllocError>
-    ensures { IfOk result (λ weights. weights.items ≡ weights_at candidates.now stream.now) }
-{
-    counts_add_up();
-    let mut weights = vec![in alloc; 0u64; candidates.len()]?;
-    candidates.count_piece(stream.items(), &mut weights);
-    Ok(weights)
-}
-
 /// The keys of a summary that are heavy in a stream, with their true weights: those above the
 /// total divided by the summary's k + 1, by falling weight and then by rising key.
 ///
@@ -56,11 +51,50 @@ pub fn confirm(
     ensures total_differs { IsErrOf result ConfirmFault.TotalDiffers
         ↔ (summary.now.total ≢ total_of stream.now) }
 {
-    candidates_suffice();
+    counts_add_up();
     if summary.total() != stream.total() {
         return Err(ConfirmFault::TotalDiffers);
     }
-    let candidates = Candidates::of(alloc, summary)?;
-    let weights = weights_of(alloc, &candidates, stream)?;
-    Ok(candidates.select(&weights, stream.total(), 1, summary.k() + 1)?)
+    let mut counts = Counts::of(alloc, summary)?;
+    counts.add_stream(stream);
+    Ok(heavy_rows(summary, &counts)?)
+}
+
+/// The keys of a summary that are heavy among the items that were counted.
+fn heavy_rows(summary: &Summary, counts: &Counts) -> Result<Vec<Heavy>, AllocError>
+    ensures { IfOk result (λ rows. (xs : List Entry)
+        → counts.now ≡ count_of (keys_of summary.now.counters) xs
+        → rows.items ≡ confirmed summary.now xs) }
+{
+    candidates_suffice();
+    let rows = counts.select(summary.k())?;
+    Ok(rows)
+}
+
+/// The keys of a summary that are heavy in the stream of a reader's records, as [`confirm`] finds
+/// them, in one pass that keeps no record.
+pub(crate) fn confirm_records<R: Read + Drop>(
+    alloc: Global,
+    summary: &Summary,
+    reader: R,
+) -> Result<Vec<Heavy>, ToolError>
+    ensures rows { IfOk result (λ rows. (xs : List Entry) × ReadsAs (R.remaining reader) (Ok xs)
+        × (summary.now.total ≡ total_of xs) × (rows.items ≡ confirmed summary.now xs)) }
+    ensures refused { IfErr result (λ fault.
+        CountRefused summary.now (R.remaining reader) fault) }
+{
+    let Ok(counts) = Counts::of(alloc, summary) else {
+        return Err(ToolError::Memory);
+    };
+    let counts = match read_items(alloc, reader, counts) {
+        Ok(counts) => counts,
+        Err(error) => return Err(read_fault(error)),
+    };
+    if summary.total() != counts.total() {
+        return Err(ToolError::TotalDiffers);
+    }
+    match heavy_rows(summary, &counts) {
+        Ok(rows) => Ok(rows),
+        Err(_) => Err(ToolError::Memory),
+    }
 }

@@ -3,6 +3,7 @@
 
 mod ask;
 mod confirmation;
+mod counts;
 mod error;
 mod files;
 mod merge;
@@ -12,6 +13,7 @@ mod retrying;
 mod rows;
 mod saving;
 mod sink;
+mod taking;
 mod threshold;
 
 pub use ask::ask_bytes;

@@ -1,15 +1,16 @@
-//! Records of keys and weights, read as a stream.
+//! Records of keys and weights, read one by one.
 
-ghost use Rattle.std.specs.Prelude.{◌≡◌, ◌<◌, ◌≤◌, ◌++◌, ◌∷◌, [], false, true, min, Ok, MatchOption, IfOk, IfErr, OnOk, option_map};
+ghost use Rattle.std.specs.Prelude.{◌≡◌, ◌+◌, ◌<◌, ◌≤◌, ◌++◌, ◌∷◌, [], List, false, true, min, Ok, MatchOption, IfOk, IfErr, OnOk, option_map};
 ghost use Rattle.csv.specs.Reading.{stops_reader};
 ghost use Rattle.csv.specs.Records.{fields_of};
 ghost use Rattle.hh_stream.specs.Weights.{Entry, total_of, max_total};
 ghost use Rattle.heavy.specs.Streams.{fault_of, is_number, is_weight, judged, numbered, parts_of, value_of, ReadRefused, ReadsAs, RecordRefused};
 
 use crate::retrying::Retrying;
+use crate::taking::TakeItems;
 use csv::{ByteRecord, ErrorKind, ReaderBuilder};
-use hh_stream::{Key, KeyFault, PushFault, Stream};
-use std::alloc::Global;
+use hh_stream::{Key, KeyFault, MAX_TOTAL, Stream};
+use std::alloc::{AllocError, Global};
 use std::fmt;
 use std::io::Read;
 
@@ -54,7 +55,7 @@ pub enum ReadError {
     Memory,
 }
 
-/// Why a record was not added to a stream.
+/// Why a record was not taken.
 #[derive(Clone, Copy)]
 enum RecordFault {
     Bad(BadRecordCause),
@@ -107,15 +108,21 @@ fn parts_of(row: &ByteRecord) -> Option<(&[u8], Option<&[u8]>)>
     }
 }
 
-/// Adds the item of a record to a stream.
-fn add_record(alloc: Global, stream: &mut Stream, row: &ByteRecord) -> Result<(), RecordFault>
-    ensures added { OnOk result ((item : Entry)
-        × (judged (total_of stream.old) (fields_of row.now) ≡ Ok item)
-        × (stream.new ≡ stream.old ++ item ∷ [])) }
-    ensures grows { OnOk result (total_of stream.old < total_of stream.new) }
-    ensures bounded { OnOk result (total_of stream.new ≤ max_total) }
+/// Hands on the item of a record, as one more after those that were taken.
+fn take_record<T: TakeItems>(
+    alloc: Global,
+    taker: &mut T,
+    row: &ByteRecord,
+) -> Result<(), RecordFault>
+    ensures taken { OnOk result ((item : Entry)
+        × (judged (T.weight_taken taker.old) (fields_of row.now) ≡ Ok item)
+        × (T.weight_taken taker.new ≡ T.weight_taken taker.old + item.1)
+        × ((first : _) (xs : List Entry)
+        → T.made first xs taker.old → T.made first (xs ++ item ∷ []) taker.new)) }
+    ensures grows { OnOk result (T.weight_taken taker.old < T.weight_taken taker.new) }
+    ensures bounded { OnOk result (T.weight_taken taker.new ≤ max_total) }
     ensures refused { IfErr result (λ fault.
-        RecordRefused (total_of stream.old) (fields_of row.now) fault) }
+        RecordRefused (T.weight_taken taker.old) (fields_of row.now) fault) }
 {
     let Some((key, field)) = parts_of(row) else {
         return Err(RecordFault::Bad(BadRecordCause::FieldCount));
@@ -133,13 +140,15 @@ fn add_record(alloc: Global, stream: &mut Stream, row: &ByteRecord) -> Result<()
     let Some(weight) = weight else {
         return Err(RecordFault::Bad(BadRecordCause::BadWeight));
     };
-    match stream.push(key, weight) {
+    if weight == 0 {
+        return Err(RecordFault::Bad(BadRecordCause::ZeroWeight));
+    }
+    if weight > MAX_TOTAL - taker.total() {
+        return Err(RecordFault::Bad(BadRecordCause::TotalTooLarge));
+    }
+    match taker.take(key, weight) {
         Ok(()) => Ok(()),
-        Err(refused) => Err(match refused.fault {
-            PushFault::ZeroWeight => RecordFault::Bad(BadRecordCause::ZeroWeight),
-            PushFault::TotalTooLarge => RecordFault::Bad(BadRecordCause::TotalTooLarge),
-            PushFault::Memory => RecordFault::Memory,
-        }),
+        Err(AllocError) => Err(RecordFault::Memory),
     }
 }
 
@@ -169,9 +178,16 @@ fn fault_of(fault: &ErrorKind) -> ReadError
     }
 }
 
-/// The stream of the records of a reader.
-fn read_records<R: Read + Drop>(alloc: Global, reader: R) -> Result<Stream, ReadError>
-    ensures stream { IfOk result (λ stream. ReadsAs (R.remaining reader) (Ok stream)) }
+/// Hands the item of each record of a reader to a taker of none, and returns the taker.
+fn read_records<R: Read + Drop, T: TakeItems>(
+    alloc: Global,
+    reader: R,
+    taker: T,
+) -> Result<T, ReadError>
+    requires none { T.weight_taken taker ≡ 0 }
+    requires start { T.made taker [] taker }
+    ensures items { IfOk result (λ taken. (xs : List Entry)
+        × ReadsAs (R.remaining reader) (Ok xs) × T.made taker xs taken) }
     ensures refused { IfErr result (λ error. ReadRefused (R.remaining reader) error) }
 {
     let mut records = ReaderBuilder::new()
@@ -179,20 +195,36 @@ fn read_records<R: Read + Drop>(alloc: Global, reader: R) -> Result<Stream, Read
         .flexible(true)
         .from_reader(alloc, reader);
     let mut row = ByteRecord::new(alloc);
-    let mut stream = Stream::new(alloc);
+    let mut taker = taker;
     let mut number = 0u64;
     loop {
         match records.read_byte_record(&mut row) {
             Ok(true) => {}
-            Ok(false) => return Ok(stream),
+            Ok(false) => return Ok(taker),
             Err(error) => return Err(fault_of(error.kind())),
         }
         number += 1;
-        match add_record(alloc, &mut stream, &row) {
+        match take_record(alloc, &mut taker, &row) {
             Ok(()) => {}
             Err(fault) => return Err(numbered(number, fault)),
         }
     }
+}
+
+/// Hands the item of each record of a reader to a taker of none, and returns the taker. A read that
+/// a signal interrupts is tried again.
+pub(crate) fn read_items<R: Read + Drop, T: TakeItems>(
+    alloc: Global,
+    reader: R,
+    taker: T,
+) -> Result<T, ReadError>
+    requires none { T.weight_taken taker ≡ 0 }
+    requires start { T.made taker [] taker }
+    ensures items { IfOk result (λ taken. (xs : List Entry)
+        × ReadsAs (R.remaining reader) (Ok xs) × T.made taker xs taken) }
+    ensures refused { IfErr result (λ error. ReadRefused (R.remaining reader) error) }
+{
+    read_records(alloc, Retrying::new(reader), taker)
 }
 
 /// The stream of a text of records, each a key and, after a comma, its weight. A record of one
@@ -205,5 +237,5 @@ pub fn read_stream<R: Read + Drop>(alloc: Global, reader: R) -> Result<Stream, R
     ensures stream { IfOk result (λ stream. ReadsAs (R.remaining reader) (Ok stream)) }
     ensures refused { IfErr result (λ error. ReadRefused (R.remaining reader) error) }
 {
-    read_records(alloc, Retrying::new(reader))
+    read_items(alloc, reader, Stream::new(alloc))
 }

@@ -1,26 +1,26 @@
 //! Streams summarised into saved files, and a saved summary confirmed.
 
-ghost use Rattle.std.specs.Prelude.{◌≡◌, ◌≤◌, true, IsErr, IfOk, IfErr, IfSome, Ok, Err};
-ghost use Rattle.hh_stream.specs.Weights.{max_total, total_of};
+ghost use Rattle.std.specs.Prelude.{◌≡◌, List, true, IsErr, IfOk, IfErr, IfSome, Ok, Err};
+ghost use Rattle.hh_stream.specs.Weights.{Entry};
 ghost use Rattle.hh_counters.specs.Counters.{sketch_of};
 ghost use Rattle.hh_countmin.specs.Family.{drawn_family};
 ghost use Rattle.hh_countmin.specs.Table.{empty_table, table_of};
 ghost use Rattle.hh_saved.specs.Spelling.{Spells};
 ghost use Rattle.hh_saved.specs.declared.saved.Saved.TheVariants.{Cells, Counters};
 ghost use Rattle.heavy.specs.Limits.{in_range, most_depth, most_k, most_width};
-ghost use Rattle.heavy.specs.Reports.{read_fault};
-ghost use Rattle.heavy.specs.Saving.{ConfirmRefused, ConfirmsRows, RefusedAfter, SavesStream, bad_k, bad_table, word_of};
+ghost use Rattle.heavy.specs.Saving.{ConfirmRefused, ConfirmsRows, RecordsRefused, RefusedAfter, SavesStream, bad_k, bad_table, word_of};
+ghost use Rattle.heavy.specs.Streams.{ReadsAs};
 
-use crate::confirmation::{ConfirmFault, confirm};
+use crate::confirmation::confirm_records;
 use crate::error::ToolError;
-use crate::records::read_stream;
+use crate::records::read_items;
 use crate::report::{in_range, read_fault};
 use crate::rows::report_text;
-use hh_counters::{BucketSaving, MAX_K, NewFault, OfItemsFault, Summary, monitored_summary};
+use hh_counters::laws::summaries_follow_items;
+use hh_counters::{BucketSaving, MAX_K, Monitor, NewFault, Summary};
 use hh_countmin::laws::tables_follow_items;
 use hh_countmin::{DrawFault, Family, MAX_DEPTH, MAX_WIDTH, Table, TableFault};
 use hh_saved::{Saved, SavedFault, read, write};
-use hh_stream::{Item, Stream};
 use std::alloc::{AllocError, Global};
 use std::io::Read;
 
@@ -48,23 +48,61 @@ impl Method {
     }
 }
 
-/// The summary of items, by one method or the other.
-fn summary_of(alloc: Global, k: u64, method: Method, items: &[Item]) -> Result<Summary, AllocError>
-    requires k { in_range k most_k ≡ true }
-    requires bounded { total_of items.now ≤ max_total }
-    ensures { IfOk result (λ summary. summary ≡ sketch_of k items.now) }
+/// The summary of the records of a reader, by one method or the other.
+fn summary_of<R: Read + Drop>(
+    alloc: Global,
+    k: u64,
+    method: Method,
+    reader: R,
+) -> Result<Summary, ToolError>
+    requires { in_range k most_k ≡ true }
+    ensures summary { IfOk result (λ summary. (xs : List Entry)
+        × ReadsAs (R.remaining reader) (Ok xs) × (summary ≡ sketch_of k xs)) }
+    ensures refused { IfErr result (λ fault. RecordsRefused (R.remaining reader) fault) }
 {
     match method {
-        Method::MisraGries => match Summary::of_items(alloc, k, items) {
-            Ok(summary) => Ok(summary),
-            Err(OfItemsFault::BadK) => unreachable!(),
-            Err(OfItemsFault::Memory) => Err(AllocError),
-        },
-        Method::SpaceSaving => match BucketSaving::new(alloc, k) {
-            Ok(monitor) => monitored_summary(monitor, items),
-            Err(NewFault::BadK) => unreachable!(),
-            Err(NewFault::Memory) => Err(AllocError),
-        },
+        Method::MisraGries => counted_summary(alloc, k, reader),
+        Method::SpaceSaving => monitored_summary(alloc, k, reader),
+    }
+}
+
+/// The summary of the records of a reader, whose items are added to it one by one.
+fn counted_summary<R: Read + Drop>(alloc: Global, k: u64, reader: R) -> Result<Summary, ToolError>
+    requires { in_range k most_k ≡ true }
+    ensures summary { IfOk result (λ summary. (xs : List Entry)
+        × ReadsAs (R.remaining reader) (Ok xs) × (summary ≡ sketch_of k xs)) }
+    ensures refused { IfErr result (λ fault. RecordsRefused (R.remaining reader) fault) }
+{
+    summaries_follow_items();
+    let Ok(summary) = Summary::new(alloc, k) else {
+        unreachable!()
+    };
+    match read_items(alloc, reader, summary) {
+        Ok(summary) => Ok(summary),
+        Err(error) => Err(read_fault(error)),
+    }
+}
+
+/// The summary of the records of a reader, whose items are monitored and translated at the end.
+fn monitored_summary<R: Read + Drop>(alloc: Global, k: u64, reader: R) -> Result<Summary, ToolError>
+    requires { in_range k most_k ≡ true }
+    ensures summary { IfOk result (λ summary. (xs : List Entry)
+        × ReadsAs (R.remaining reader) (Ok xs) × (summary ≡ sketch_of k xs)) }
+    ensures refused { IfErr result (λ fault. RecordsRefused (R.remaining reader) fault) }
+{
+    summaries_follow_items();
+    let monitor = match BucketSaving::new(alloc, k) {
+        Ok(monitor) => monitor,
+        Err(NewFault::BadK) => unreachable!(),
+        Err(NewFault::Memory) => return Err(ToolError::Memory),
+    };
+    let monitor = match read_items(alloc, reader, monitor) {
+        Ok(monitor) => monitor,
+        Err(error) => return Err(read_fault(error)),
+    };
+    match monitor.into_summary() {
+        Ok(summary) => Ok(summary),
+        Err(_) => Err(ToolError::Memory),
     }
 }
 
@@ -96,13 +134,7 @@ pub fn summary_bytes<R: Read + Drop>(
     if !in_range(k, MAX_K) {
         return Err(ToolError::BadK);
     }
-    let stream = match read_stream(alloc, reader) {
-        Ok(stream) => stream,
-        Err(error) => return Err(read_fault(error)),
-    };
-    let Ok(summary) = summary_of(alloc, k, method, stream.items()) else {
-        return Err(ToolError::Memory);
-    };
+    let summary = summary_of(alloc, k, method, reader)?;
     saved_bytes(alloc, &Saved::Counters(summary))
 }
 
@@ -121,19 +153,6 @@ fn empty_table(alloc: Global, width: u64, depth: u64, seed: u64) -> Result<Table
         Ok(table) => Ok(table),
         Err(TableFault::BadWidth) => unreachable!(),
         Err(TableFault::Memory) => Err(AllocError),
-    }
-}
-
-/// Adds the items of a stream to a table of none.
-fn add_items(table: &mut Table, stream: &Stream)
-    requires { table.old ≡ empty_table table.old.family table.old.width }
-    ensures { table.new ≡ table_of table.old.family table.old.width stream.now }
-{
-    tables_follow_items();
-    for item in stream.items() {
-        let Ok(()) = table.add(item.key(), item.weight()) else {
-            unreachable!()
-        };
     }
 }
 
@@ -161,16 +180,14 @@ pub fn table_bytes<R: Read + Drop>(
     if !in_range(width, MAX_WIDTH) {
         return Err(ToolError::BadWidth);
     }
+    tables_follow_items();
     let Ok(table) = empty_table(alloc, width, depth, seed) else {
         return Err(ToolError::Memory);
     };
-    let stream = match read_stream(alloc, reader) {
-        Ok(stream) => stream,
-        Err(error) => return Err(read_fault(error)),
-    };
-    let mut table = table;
-    add_items(&mut table, &stream);
-    saved_bytes(alloc, &Saved::Cells(table))
+    match read_items(alloc, reader, table) {
+        Ok(table) => saved_bytes(alloc, &Saved::Cells(table)),
+        Err(error) => Err(read_fault(error)),
+    }
 }
 
 /// The report text of the saved summary's keys that are heavy in the stream of the reader's
@@ -190,15 +207,7 @@ pub fn confirm_bytes<R: Read + Drop>(
         Err(SavedFault::Memory) => return Err(ToolError::Memory),
         Err(fault) => return Err(ToolError::BadFile { number: 1, fault }),
     };
-    let stream = match read_stream(alloc, reader) {
-        Ok(stream) => stream,
-        Err(error) => return Err(read_fault(error)),
-    };
-    let rows = match confirm(alloc, &summary, &stream) {
-        Ok(rows) => rows,
-        Err(ConfirmFault::TotalDiffers) => return Err(ToolError::TotalDiffers),
-        Err(ConfirmFault::Memory) => return Err(ToolError::Memory),
-    };
+    let rows = confirm_records(alloc, &summary, reader)?;
     match report_text(alloc, &rows) {
         Ok(text) => Ok(text),
         Err(_) => Err(ToolError::Memory),

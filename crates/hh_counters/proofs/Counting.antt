@@ -1,6 +1,6 @@
 -- Candidates counted item by item.
 use Rattle.std.proofs.Common.{◌≡◌, ◌↔◌, ℕ, zero, suc, ◌+◌, ◌<◌, ◌≤◌, Bool, true, false, cond, List, [], ◌∷◌, ◌++◌, length, get_or, take, Option, Some, None, Less, is_eq, is_some, refl, sym, ap, ap₂, ◌∙◌, subst, true≢false, arith}
-use Rattle.std.specs.Prelude.{replicate, position, slice_get, slice_set, Contains, IsSome}
+use Rattle.std.specs.Prelude.{All, replicate, position, slice_get, slice_set, Contains, IsSome}
 use Rattle.std.specs.List.{AllByRecursion, list_any}
 use Rattle.std.specs.List.Sorted.{IsStrictlySortedBy}
 use Rattle.std.specs.Cmp.{eq_by_cmp_equiv}
@@ -130,6 +130,20 @@ counted-le [] xs ns p l = omega arith
 counted-le (k ∷ ks) xs [] p l = absurd (omega (arith, l))
 counted-le (k ∷ ks) xs (n ∷ ns) zero l = omega (arith, weight_of-le-total_of k xs)
 counted-le (k ∷ ks) xs (n ∷ ns) (suc p) l = counted-le ks xs ns p (omega arith)
+
+length-counted : (ks : List Bytes) (xs : List Entry) (ns : List ℕ) → length ns ≡ length ks → length (counted ks xs ns) ≡ length ks
+length-counted [] xs ns l = l
+length-counted (k ∷ ks) xs [] l = l
+length-counted (k ∷ ks) xs (n ∷ ns) l = ap suc (length-counted ks xs ns (omega (arith, l)))
+
+-- numbers that are at most m are at most m and the total of what is counted
+pub counts_stay_within : (ks : List Bytes) (xs : List Entry) (ns : List ℕ) (m : ℕ) → length ns ≡ length ks → All (λ n. n ≤ m) ns → (length (counted ks xs ns) ≡ length ks) × All (λ n. n ≤ m + total_of xs) (counted ks xs ns)
+counts_stay_within ks xs ns m l h = (length-counted ks xs ns l, bound)
+  where
+    bound : All (λ n. n ≤ m + total_of xs) (counted ks xs ns)
+    bound i d lt =
+        let within : get_or ns i 0 ≤ m = h i 0 (omega (arith, lt, l, length-counted ks xs ns l)) in
+        omega (arith, get_or_default (counted ks xs ns) i d 0 lt, counted-le ks xs ns i l, within)
 
 -- ---- the keys of a summary
 pub insert_next : (ks : List Bytes) (i : ℕ) (x : Bytes) → IsStrictlySortedBy key_cmp ks → i < length ks → x ≡ get_or ks i x → insert_key same_key (take i ks) x ≡ take (i + 1) ks

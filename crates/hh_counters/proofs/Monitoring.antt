@@ -1,24 +1,27 @@
 -- Items added to a monitor one by one.
-use Rattle.std.proofs.Common.{◌≡◌, ◌+◌, ◌<◌, ◌≤◌, ◌∷◌, ◌∙◌, ℕ, List, [], length, take, get_or, sym, ap, subst, arith}
+use Rattle.std.proofs.Common.{◌≡◌, ◌+◌, ◌<◌, ◌≤◌, ◌∷◌, ◌++◌, ◌∙◌, ℕ, List, [], length, take, get_or, sym, ap, subst, arith}
 use Rattle.std.specs.Prelude.{All}
 use Rattle.std.proofs.Math.Seq.{take-length}
 use Rattle.std.proofs.lemmas.List.{take_more}
 use Rattle.std.proofs.lemmas.List.Elements.{All-append, All-from_recursion}
-use Rattle.std.proofs.lemmas.List.Sums.{fold_more, sum_by_more}
+use Rattle.std.proofs.lemmas.List.Sums.{fold_push, sum_by_push}
 use Rattle.hh_stream.specs.Weights.{Entry, total_of}
 use Rattle.hh_counters.specs.Counters.{Sketch, sketch_of}
 use Rattle.hh_counters.specs.SpaceSaving.{monitor_of, monitored, space_saving, step, translated}
 use Rattle.hh_counters.proofs.Runs.{steps_are_a_run, run_is_misra_gries}
 
+pub monitor_push : (k : ℕ) (xs : List Entry) (e : Entry) → monitor_of k (xs ++ e ∷ []) ≡ monitored (monitor_of k xs) e
+monitor_push k xs e =
+    let total : total_of (xs ++ e ∷ []) ≡ total_of xs + e.1 = sum_by_push (λ (d : Entry). d.1) xs e in
+    λ j. record { k = k; total = total j; counters = fold_push (λ (s : List Entry) (d : Entry). step s d k) [] xs e j }
+
 -- one more item
 pub monitor_more : (k : ℕ) (xs : List Entry) (i : ℕ) (e : Entry) → i < length xs → e ≡ get_or xs i e → monitor_of k (take (i + 1) xs) ≡ monitored (monitor_of k (take i xs)) e
 monitor_more k xs i e lt is =
-    let counters = fold_more (λ (s : List Entry) (d : Entry). step s d k) [] xs i e lt ∙ ap (λ (d : Entry). step (space_saving (take i xs) k) d k) (sym is) in
-    let total = sum_by_more (λ (d : Entry). d.1) xs i e lt ∙ ap (λ (d : Entry). total_of (take i xs) + d.1) (sym is) in
-    λ j. record { k = k; total = total j; counters = counters j }
+    ap (monitor_of k) (take_more xs i e lt) ∙ monitor_push k (take i xs) (get_or xs i e) ∙ ap (monitored (monitor_of k (take i xs))) (sym is)
 
 -- a monitor's translation is the summary of its items
-translated_monitor : (k : ℕ) (xs : List Entry) → All (λ (e : Entry). 0 < e.1) xs → translated (monitor_of k xs) ≡ sketch_of k xs
+pub translated_monitor : (k : ℕ) (xs : List Entry) → All (λ (e : Entry). 0 < e.1) xs → translated (monitor_of k xs) ≡ sketch_of k xs
 translated_monitor k xs positive = ap (λ (c : List Entry). record { k = k; total = total_of xs; counters = c }) (run_is_misra_gries xs k (space_saving xs k) positive (steps_are_a_run xs k positive))
 
 -- the items so far have weights

@@ -1,9 +1,9 @@
 -- What holds of the definitions.
-use Rattle.std.specs.Prelude.{◌≡◌, ℕ, ◌+◌, ◌-◌, ◌*◌, ◌<◌, ◌≤◌, List, ◌++◌, All, filter, zip, length, replicate, Contains, IsPermutation}
+use Rattle.std.specs.Prelude.{◌≡◌, ℕ, ◌+◌, ◌-◌, ◌*◌, ◌<◌, ◌≤◌, List, [], ◌∷◌, ◌++◌, All, filter, zip, length, replicate, Contains, IsPermutation}
 use Rattle.std.specs.Map.{keys_of}
 use Rattle.hh_stream.specs.Weights.{Bytes, Entry, weight_of, total_of}
-use Rattle.hh_counters.specs.Counters.{Counters, IsCounters, IsLevel, level, plus, join, misra_gries, IsHonest, slack}
-use Rattle.hh_counters.specs.SpaceSaving.{least_of, translate, IsRun, space_saving}
+use Rattle.hh_counters.specs.Counters.{Counters, IsCounters, IsLevel, level, plus, join, misra_gries, IsHonest, slack, added, sketch_of}
+use Rattle.hh_counters.specs.SpaceSaving.{least_of, translate, IsRun, space_saving, monitor_of, monitored, translated}
 use Rattle.hh_counters.specs.Report.{heavy, selected, weights_at, counted, has_counter, IsReport}
 
 -- the counters of a stream are honest for it
@@ -71,6 +71,12 @@ CountsAddUp =
     (ks : List Bytes) (xs ys : List Entry) (ns : List ℕ)
     → (counted ks xs (replicate (length ks) 0) ≡ weights_at ks xs) × (counted ks (xs ++ ys) ns ≡ counted ks ys (counted ks xs ns))
 
+-- there is a number for each key still, and none grows by more than the items' total
+abbrev pub CountsStayWithin : Type 0
+CountsStayWithin =
+    (ks : List Bytes) (xs : List Entry) (ns : List ℕ) (m : ℕ) → length ns ≡ length ks → All (λ n. n ≤ m) ns
+    → (length (counted ks xs ns) ≡ length ks) × All (λ n. n ≤ m + total_of xs) (counted ks xs ns)
+
 -- the counters of a run add up to the items' total
 abbrev pub RunSumsToTotal : Type 0
 RunSumsToTotal = (xs : List Entry) (k : ℕ) (s : Counters) → All (λ e. 0 < e.1) xs → IsRun xs k s → total_of s ≡ total_of xs
@@ -89,3 +95,16 @@ TranslationIsMisraGries = (xs : List Entry) (k : ℕ) (s : Counters) → All (λ
 -- the product's steps make a run
 abbrev pub StepsAreARun : Type 0
 StepsAreARun = (xs : List Entry) (k : ℕ) → All (λ e. 0 < e.1) xs → IsRun xs k (space_saving xs k)
+
+-- the summary of no items has no counters, and an item more makes the summary of all
+abbrev pub SummariesFollowItems : Type 0
+SummariesFollowItems =
+    (k : ℕ) (xs : List Entry) (e : Entry)
+    → (sketch_of k [] ≡ record { k = k; total = 0; counters = [] }) × (sketch_of k (xs ++ e ∷ []) ≡ added (sketch_of k xs) e)
+
+-- so it is with a monitor, whose translation at the end is the summary of all
+abbrev pub MonitorsFollowItems : Type 0
+MonitorsFollowItems =
+    (k : ℕ) (xs : List Entry) (e : Entry)
+    → (monitor_of k [] ≡ record { k = k; total = 0; counters = [] }) × (monitor_of k (xs ++ e ∷ []) ≡ monitored (monitor_of k xs) e)
+    × (All (λ e. 0 < e.1) xs → translated (monitor_of k xs) ≡ sketch_of k xs)

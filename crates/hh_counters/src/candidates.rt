@@ -1,6 +1,6 @@
 //! The keys of a summary as candidates for the report.
 
-ghost use Rattle.std.specs.Prelude.{◌≡◌, ℕ, ◌+◌, ◌<◌, ◌≤◌, ◌^◌, ◌↔◌, ◌==◌, [], All, Contains, IsSome, IfSome, IsOk, IfOk, Some, length, slice_get, zip};
+ghost use Rattle.std.specs.Prelude.{◌≡◌, ℕ, ◌+◌, ◌<◌, ◌≤◌, ◌^◌, ◌↔◌, ◌==◌, [], ◌∷◌, All, Contains, IsSome, IfSome, IsOk, IfOk, Some, length, slice_get, zip};
 ghost use Rattle.std.specs.List.Sorted.{IsStrictlySortedBy};
 ghost use Rattle.std.specs.Map.{keys_of};
 ghost use Rattle.hh_stream.specs.Weights.{key_cmp, total_of};
@@ -79,19 +79,28 @@ impl Candidates {
         self.keys.get_index_of(key)
     }
 
+    /// Adds the weight to the number at the key's place, if the key is a candidate.
+    pub fn count(&self, key: &Key, weight: u64, numbers: &mut [u64])
+        requires lengths { length numbers.old ≡ length self.now }
+        requires bounded { All (λ n. n + weight < 2 ^ 64) numbers.old }
+        ensures { numbers.new ≡ counted self.now ((key.now, weight) ∷ []) numbers.old }
+    {
+        if self.keys.is_empty() {
+            return;
+        }
+        if let Some(place) = self.place(key) {
+            numbers[place] += weight;
+        }
+    }
+
     /// Adds to the number at each place the weight of the place's key in the items.
     pub fn count_piece(&self, items: &[Item], numbers: &mut [u64])
         requires lengths { length numbers.old ≡ length self.now }
         requires bounded { All (λ n. n + total_of items.now < 2 ^ 64) numbers.old }
         ensures { numbers.new ≡ counted self.now items.now numbers.old }
     {
-        if self.keys.is_empty() {
-            return;
-        }
         for item in items {
-            if let Some(place) = self.place(item.key()) {
-                numbers[place] += item.weight();
-            }
+            self.count(item.key(), item.weight(), numbers);
         }
     }
 

@@ -1,6 +1,6 @@
 //! Laws of the definitions in `specs/`. Each function does nothing: its contract is the law.
 
-ghost use Rattle.hh_counters.specs.Laws.{MisraGriesIsHonest, JoinOfHonestIsHonest, HeavyKeysHaveCounters, CountersBoundWeights, LevelIsLeast, SumIsByKey, JoinTakesTheLevel, ReportIsExact, ReportIsUnique, HonestIsNear, HonestInAnyOrder, CandidatesSuffice, CountsAddUp, RunSumsToTotal, RunBoundsWeights, TranslationIsMisraGries, StepsAreARun};
+ghost use Rattle.hh_counters.specs.Laws.{MisraGriesIsHonest, JoinOfHonestIsHonest, HeavyKeysHaveCounters, CountersBoundWeights, LevelIsLeast, SumIsByKey, JoinTakesTheLevel, ReportIsExact, ReportIsUnique, HonestIsNear, HonestInAnyOrder, CandidatesSuffice, CountsAddUp, CountsStayWithin, RunSumsToTotal, RunBoundsWeights, TranslationIsMisraGries, StepsAreARun, SummariesFollowItems, MonitorsFollowItems};
 
 /// The Misra-Gries counters of a list of items are honest for it (Misra and Gries 1982).
 pub fn misra_gries_is_honest()
@@ -56,6 +56,11 @@ pub fn counts_add_up()
     ensures { CountsAddUp }
 {}
 
+/// Counting keeps a number for each candidate, and no number grows by more than the items' total.
+pub fn counts_stay_within()
+    ensures { CountsStayWithin }
+{}
+
 /// The counters of any run of Space-Saving, whichever least keys were dropped, add up to the total,
 /// and lie above their keys' weights by at most the least counter.
 pub fn space_saving_bounds_weights()
@@ -68,4 +73,11 @@ pub fn space_saving_bounds_weights()
 pub fn translation_is_misra_gries()
     ensures translation { TranslationIsMisraGries }
     ensures steps { StepsAreARun }
+{}
+
+/// Adding an item takes the summary of a list, and the monitor of a list, to that of the longer list;
+/// the translated monitor is the summary.
+pub fn summaries_follow_items()
+    ensures summaries { SummariesFollowItems }
+    ensures monitors { MonitorsFollowItems }
 {}

@@ -1,8 +1,12 @@
-use Rattle.std.proofs.Common.{◌+◌}
+use Rattle.std.proofs.Common.{[], ap, ◌∙◌}
+use Rattle.std.specs.Map.{keys_of}
+use Rattle.heavy.specs.Counting.{Count, counted_on}
+use Rattle.heavy.proofs.CountFacts.{count-more}
 use Rattle.heavy.proofs.confirmation.confirm.Goals as goal
 
 pub returns-clause-rows : goal.returns-clause-rows
 returns-clause-rows c =
-    let s = c.args.summary.now in
-    let suffice = (c.candidates_suffice.ensures s.counters c.args.stream.now s.k 1 (s.k + 1)).0 c.k.ensures.fits.entries in
-    rw (c.in_ok-select.ensures.rows, c.deref.ensures.value, c.in_ok-weights.ensures, c.in_ok-candidates.ensures, c.k.ensures.k, c.total-3.ensures.total) suffice
+    let xs = c.args.stream.now in
+    let keys = keys_of c.args.summary.now.counters in
+    c.in_ok-heavy_rows.ensures xs
+    (c.add_stream.ensures ∙ ap (λ (n : Count). counted_on n xs) c.in_ok-counts.ensures ∙ count-more c.counts_add_up.ensures keys [] xs)

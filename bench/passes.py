@@ -1,0 +1,109 @@
+#!/usr/bin/env python3
+"""Processor time and peak memory of `heavy summarise`, `table` and `confirm`, beside plain Rust that keeps no record
+either, and beside mawk (or awk), which groups by key.
+
+usage: bench/passes.py [RUNS]
+
+On 10^6 and 10^7 records, by Zipf's law and with all keys different. Prints medians, and ratios to plain Rust.
+"""
+import os
+import shutil
+import statistics
+import subprocess
+import sys
+import tempfile
+import time
+from pathlib import Path
+
+import programs
+
+GROUP_BY = "{ w[$1] += $2; n += $2 } END { for (x in w) if (101 * w[x] > n) print x \",\" w[x] }"
+
+
+def many(room: Path, shape: str) -> Path:
+    """A file of 10^7 records: the Zipf records ten times, or keys that are all different."""
+    path = room / f"{shape}-10000000"
+    with open(path, "wb") as out:
+        for turn in range(10):
+            if shape == "zipf":
+                out.write(programs.records(room, shape).read_bytes())
+            else:
+                numbers = range(turn * 1_000_000, (turn + 1) * 1_000_000)
+                out.write("".join(f"key{number},{number % 100 + 1}\n" for number in numbers).encode())
+    return path
+
+
+def seconds(command: list[str], path: Path) -> float:
+    """The processor time of a run."""
+    with open(path, "rb") as source:
+        running = subprocess.Popen(command, stdin=source, stdout=subprocess.DEVNULL)
+        _, status, used = os.wait4(running.pid, 0)
+    if status != 0:
+        raise SystemExit(f"{command} ended with {status}")
+    return used.ru_utime + used.ru_stime
+
+
+def megabytes(command: list[str], path: Path) -> float:
+    """The peak memory of a run, as the system tells it while the program runs."""
+    peak = 0
+    with open(path, "rb") as source:
+        running = subprocess.Popen(command, stdin=source, stdout=subprocess.DEVNULL)
+        while running.poll() is None:
+            status = Path(f"/proc/{running.pid}/status").read_text()
+            peak = next((int(line.split()[1]) for line in status.splitlines() if line.startswith("VmHWM")), peak)
+            time.sleep(0.002)
+    return peak / 1024
+
+
+def commands(room: Path, path: Path) -> dict[str, list[str]]:
+    """What is run, by name; the program in plain Rust has the name with `plain` before it."""
+    heavy, plain = programs.heavy(), programs.plain(room, "passes")
+    summary, keys = room / "summary", room / "keys"
+    with open(path, "rb") as source, open(summary, "wb") as out:
+        subprocess.run([heavy, "summarise", "--k", "100"], stdin=source, stdout=out, check=True)
+    found = {
+        "summarise": [heavy, "summarise", "--k", "100"],
+        "summarise ss": [heavy, "summarise", "--k", "100", "--method", "ss"],
+        "table": [heavy, "table"],
+        "confirm": [heavy, "confirm", str(summary)],
+    }
+    if plain:
+        with open(path, "rb") as source, open(keys, "wb") as out:
+            subprocess.run([plain, "ss", "100"], stdin=source, stdout=out, check=True)
+        found |= {
+            "plain summarise": [plain, "mg", "100"],
+            "plain summarise ss": [plain, "ss", "100"],
+            "plain table": [plain, "table"],
+            "plain confirm": [plain, "confirm", str(keys)],
+        }
+    awk = shutil.which("mawk") or shutil.which("awk")
+    if awk:
+        found["awk"] = [awk, "-F,", GROUP_BY]
+    return found
+
+
+def compare(room: Path, path: Path, runs: int) -> None:
+    all_commands = commands(room, path)
+    times: dict[str, list[float]] = {name: [] for name in all_commands}
+    for _ in range(runs):
+        for name, command in all_commands.items():
+            times[name].append(seconds(command, path))
+    medians = {name: statistics.median(all) for name, all in times.items()}
+    for name, median in medians.items():
+        line = f"  {name:18} {median:7.3f} s {megabytes(all_commands[name], path):8.1f} MB"
+        if f"plain {name}" in medians:
+            line += f"   {median / medians[f'plain {name}']:5.2f} of plain"
+        print(line, flush=True)
+
+
+def main() -> None:
+    runs = int(sys.argv[1]) if len(sys.argv) > 1 else 5
+    with tempfile.TemporaryDirectory() as folder:
+        room = Path(folder)
+        for shape in ("zipf", "different"):
+            for path in (programs.records(room, shape), many(room, shape)):
+                print(path.name)
+                compare(room, path, runs)
+
+
+main()
