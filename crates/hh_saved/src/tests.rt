@@ -4,6 +4,8 @@ use crate::{Saved, SavedFault, read, write};
 use hh_counters::Summary;
 use hh_countmin::{Family, Table};
 use hh_stream::Key;
+use std::alloc::Global;
+use std::process::Abort;
 use std::test::Fail;
 
 // The summary with two counters of a 5, b 3, c 2, a 1, in version 1 and 2.
@@ -119,27 +121,27 @@ fn both_versions_are_written_as_the_second(rt: HostRuntime) -> Result<(), Fail> 
 }
 
 // The bytes with a field at a place.
-fn spoiled(rt: &HostRuntime, bytes: &[u8], at: usize, field: &[u8]) -> Result<Vec<u8>, Fail> {
-    let mut spoiled = bytes.to_vec(rt.alloc())?;
+fn spoiled(alloc: Global, bytes: &[u8], at: usize, field: &[u8]) -> Result<Vec<u8>, Fail> {
+    let mut spoiled = bytes.to_vec(alloc)?;
     for (place, byte) in spoiled.iter_mut().skip(at).zip(field) {
         *place = *byte;
     }
     Ok(spoiled)
 }
 
-fn fault(rt: &HostRuntime, bytes: &[u8]) -> Option<SavedFault> {
-    read(rt.alloc(), bytes).err()
+fn fault(alloc: Global, bytes: &[u8]) -> Option<SavedFault> {
+    read(alloc, bytes).err()
 }
 
 // Reads the bytes with each field in turn, and compares the faults.
 fn are_spoiled(
-    rt: &HostRuntime,
+    rt: &(impl Abort + AllocGlobal),
     bytes: &[u8],
     cases: &[(usize, &[u8], SavedFault)],
 ) -> Result<(), Fail> {
     for (at, field, wanted) in cases {
-        let spoiled = spoiled(rt, bytes, *at, field)?;
-        assert_eq!(rt; fault(rt, &spoiled), Some(*wanted), "at {at}");
+        let spoiled = spoiled(rt.alloc(), bytes, *at, field)?;
+        assert_eq!(rt; fault(rt.alloc(), &spoiled), Some(*wanted), "at {at}");
     }
     Ok(())
 }
@@ -238,17 +240,17 @@ fn each_spoiled_field_of_a_table_has_its_fault(rt: HostRuntime) -> Result<(), Fa
 }
 
 // Reads each proper prefix of the bytes, and the bytes with one more.
-fn begin_and_end(rt: &HostRuntime, bytes: &[u8]) -> Result<(), Fail> {
+fn begin_and_end(rt: &(impl Abort + AllocGlobal), bytes: &[u8]) -> Result<(), Fail> {
     for len in 0..bytes.len() {
         assert_eq!(rt;
-            fault(rt, &bytes[..len]),
+            fault(rt.alloc(), &bytes[..len]),
             Some(SavedFault::Truncated),
             "at {len}"
         );
     }
     let mut longer = bytes.to_vec(rt.alloc())?;
     longer.push(0)?;
-    assert_eq!(rt; fault(rt, &longer), Some(SavedFault::Trailing));
+    assert_eq!(rt; fault(rt.alloc(), &longer), Some(SavedFault::Trailing));
     Ok(())
 }
 
@@ -269,26 +271,26 @@ fn heads_that_promise_much_are_truncated(rt: HostRuntime) {
         b"HHS1\x02\x00\x01\x00\x00\x10".as_slice(),
         b"HHS2\x02\x00\x01\x00\x00\x10".as_slice(),
     ] {
-        assert_eq!(rt; fault(&rt, bytes), Some(SavedFault::Truncated));
+        assert_eq!(rt; fault(rt.alloc(), bytes), Some(SavedFault::Truncated));
     }
 }
 
 #[test]
 fn keys_rise(rt: HostRuntime) -> Result<(), Fail> {
     let exchanged = spoiled(
-        &rt,
+        rt.alloc(),
         COUNTERS_1,
         17,
         b"\x01b\x00\x00\x00\x00\x00\x00\x00\x01\x01a\x00\x00\x00\x00\x00\x00\x00\x04",
     )?;
-    assert_eq!(rt; fault(&rt, &exchanged), Some(SavedFault::KeyOrder));
+    assert_eq!(rt; fault(rt.alloc(), &exchanged), Some(SavedFault::KeyOrder));
     let exchanged = spoiled(
-        &rt,
+        rt.alloc(),
         COUNTERS_2,
         17,
         b"\x00\x01b\x00\x00\x00\x00\x00\x00\x00\x01\x00\x01a\x00\x00\x00\x00\x00\x00\x00\x04",
     )?;
-    assert_eq!(rt; fault(&rt, &exchanged), Some(SavedFault::KeyOrder));
+    assert_eq!(rt; fault(rt.alloc(), &exchanged), Some(SavedFault::KeyOrder));
     Ok(())
 }
 
@@ -356,9 +358,9 @@ fn the_longest_keys_of_both_versions_are_read(rt: HostRuntime) -> Result<(), Fai
 #[test]
 fn longer_keys_are_refused(rt: HostRuntime) -> Result<(), Fail> {
     let longer = of_one_key(&rt, b"HHS2", b"\x10\x01", 4097)?;
-    assert_eq!(rt; fault(&rt, &longer), Some(SavedFault::BadKey));
+    assert_eq!(rt; fault(rt.alloc(), &longer), Some(SavedFault::BadKey));
     // version 1 has one byte of length, and takes the next for the key
     let longer = of_one_key(&rt, b"HHS1", b"\x01\x00", 256)?;
-    assert_eq!(rt; fault(&rt, &longer), Some(SavedFault::SumTooLarge));
+    assert_eq!(rt; fault(rt.alloc(), &longer), Some(SavedFault::SumTooLarge));
     Ok(())
 }
