@@ -3,9 +3,9 @@
 
 usage: bench/calls.py [RUNS]
 
-Prints for each call, file and k the nanoseconds an item (for `merge`: microseconds a merge), those of
-bench/plain.rs where it has the call, and the ratio. Needs rustc for the plain program; without it that
-column is empty.
+Prints for each call, file and k the nanoseconds an item (for `merge`: microseconds a merge; for `save` and
+`load`, which write and read a saved summary: nanoseconds a counter), those of bench/plain.rs where it has the
+call, and the ratio. Needs rustc for the plain program; without it that column is empty.
 """
 import statistics
 import subprocess
@@ -18,6 +18,8 @@ import programs
 FEW = 100_000
 MANY = 1_000_000
 SIZES = [10, 100, 1_000, 10_000, 65_535]
+# keys of one length each: records, keys, and the bytes of a key
+LENGTHS = [("uniform", 20_000, 10_000, length) for length in (8, 24, 64, 255, 4096)]
 
 # (call, file, values of k)
 ROWS = [
@@ -31,6 +33,7 @@ ROWS = [
     ("bucket_saving", ("uniform", MANY, 200_000, 0), SIZES),
     ("space_saving", ("zipf", FEW, 100_000, 0), [10, 100, 1_000, 10_000]),
     ("space_saving", ("uniform", FEW, 200_000, 0), [10, 100, 1_000, 10_000]),
+    *[(call, shape, [10_000]) for call in ("read", "bucket_saving", "table", "save", "load") for shape in LENGTHS],
 ]
 IN_PLAIN = {"read", "table", "bucket_saving"}
 

@@ -148,7 +148,7 @@ def try_files(line: Line) -> None:
     line.refuses(["merge", "0.heavy", "1.heavy", "k3"], "file 3: another k", 3)
     line.refuses(["merge", "0.heavy", "table"], "file 2: another kind", 3)
     line.refuses(["merge", "0.heavy", "none"], "file 2: could not be read", 1)
-    keys = [b"c", b"a", b"", b"x" * 256, b"\xff", b"-a", b"a,b", "ä".encode(), b"\xf4\x8f\xbc\x80"]
+    keys = [b"c", b"a", b"", b"x" * 4097, b"\xff", b"-a", b"a,b", "ä".encode(), b"\xf4\x8f\xbc\x80"]
     for given in ([keys[0], keys[1]], keys[4:], keys[2:4], [keys[1], keys[3], keys[2]]):
         line.expect(["ask", "2.heavy", "--", *given], reference.answer(reference.ask, files[2], given))
     saved = line.save("-four", ["summarise", "--k", "2"])

@@ -1,5 +1,5 @@
 #!/usr/bin/env python3
-"""Feeds random and mutated saved files to `ask`, `merge` and `confirm`, and compares what they say with
+"""Feeds random and mutated saved files of both versions to `ask`, `merge` and `confirm`, and compares what they say with
 tests/reference.py: a file has to be accepted exactly where it is the encoding of something, and else the fault
 is the first from the left.
 
@@ -12,13 +12,17 @@ import reference
 from reference import PRIME, Summary, Table
 
 NUMBERS = [0, 1, 2, 3, 255, 256, 2**16 - 1, 2**16, 2**31, PRIME - 1, PRIME, 2**63 - 1, 2**63, 2**64 - 1]
-KEYS = [b"a", b"b", b"c", b"ab", b"z", b"\0", b"\xff", b"a,b", b'"', b"\r\n", b"k" * 30, b"k" * 255]
+LENGTHS = [0, 1, 255, 256, 4095, 4096, 4097]
+PIECES = [n.to_bytes(8, "big") for n in NUMBERS] + [n.to_bytes(2, "big") for n in LENGTHS] + list(reference.VERSIONS)
+KEYS = [b"a", b"b", b"c", b"ab", b"z", b"\0", b"\xff", b"a,b", b'"', b"\r\n", b"k" * 30]
+LONG_KEYS = [b"k" * 255, b"k" * 256, b"k" * 4096]
 RECORDS = b"a,5\nb,3\nc,2\na,1\n"
 
 
-def summary(draw) -> Summary:
+def summary(draw, longest: int) -> Summary:
     k = draw.choice([1, 2, 3, 5, 65535])
-    keys = draw.sample(KEYS, draw.randrange(min(k, len(KEYS)) + 1))
+    some = KEYS + LONG_KEYS if draw.random() < 0.3 else KEYS
+    keys = [key for key in draw.sample(some, draw.randrange(min(k, len(some)) + 1)) if len(key) <= longest]
     counters = {key: draw.choice([1, 2, 5, 2**40]) for key in keys}
     total = max(sum(counters.values()), draw.choice([0, 11, 2**62, 2**63 - 1]))
     return Summary(k, total, counters)
@@ -40,9 +44,11 @@ def file(draw) -> bytes:
     """A saved file with up to three faults, or bytes of no meaning."""
     if draw.random() < 0.02:
         return draw.randbytes(draw.randrange(60))
-    data = bytearray(reference.written(summary(draw) if draw.random() < 0.6 else table(draw)))
+    magic = draw.choice(list(reference.VERSIONS))
+    saved = summary(draw, reference.VERSIONS[magic][1]) if draw.random() < 0.6 else table(draw)
+    data = bytearray(reference.written(saved, magic))
     for _ in range(draw.choice([0, 1, 1, 1, 2, 3])):
-        hostile.mutate(draw, data, [number.to_bytes(8, "big") for number in NUMBERS])
+        hostile.mutate(draw, data, PIECES)
     return bytes(data)
 
 
@@ -50,14 +56,15 @@ def case(draw) -> hostile.Case:
     data = file(draw)
     match draw.randrange(4):
         case 0:
-            other = reference.written(reference.misra_gries(reference.items_of(RECORDS), 2))
+            magic = draw.choice(list(reference.VERSIONS))
+            other = reference.written(reference.misra_gries(reference.items_of(RECORDS), 2), magic)
             files = [data, other] if draw.random() < 0.5 else [other, data]
             return hostile.Case(["merge"], files, [], b"", reference.answer(reference.merge, files))
         case 1:
             return hostile.Case(["merge"], [data, data], [], b"", reference.answer(reference.merge, [data, data]))
         case 2:
             return hostile.Case(["confirm"], [data], [], RECORDS, reference.answer(reference.confirm, data, RECORDS))
-    keys = draw.sample(KEYS, 2)
+    keys = draw.sample([*KEYS, *LONG_KEYS, b"k" * 4097], 2)
     keys = [key for key in keys if 0 not in key] or [b"a"]
     return hostile.Case(["ask"], [data], keys, b"", reference.answer(reference.ask, data, keys))
 

@@ -3,8 +3,12 @@ the commands. It follows docs/FORMATS.md and shares nothing with the program."""
 from dataclasses import dataclass
 
 MAX_TOTAL = 2**63 - 1
-MAX_KEY = 255
+MAX_KEY = 4096
 PRIME = 2**61 - 1
+
+# The magic of each version of saved files, with how many bytes the length of a key has, and the most that it says.
+VERSIONS = {b"HHS1": (1, 255), b"HHS2": (2, MAX_KEY)}
+NEWEST = b"HHS2"
 
 Item = tuple[bytes, int]
 
@@ -176,13 +180,14 @@ def number(value: int, size: int) -> bytes:
     return value.to_bytes(size, "big")
 
 
-def written(saved: Summary | Table) -> bytes:
+def written(saved: Summary | Table, magic: bytes = NEWEST) -> bytes:
+    """The spelling in a version, whose keys are no longer than the version allows."""
     if isinstance(saved, Summary):
-        parts = [b"HHS1\x01", number(saved.k, 2), number(saved.total, 8), number(len(saved.counters), 2)]
+        parts = [magic, b"\x01", number(saved.k, 2), number(saved.total, 8), number(len(saved.counters), 2)]
         for key in sorted(saved.counters):
-            parts += [number(len(key), 1), key, number(saved.counters[key], 8)]
+            parts += [number(len(key), VERSIONS[magic][0]), key, number(saved.counters[key], 8)]
         return b"".join(parts)
-    parts = [b"HHS1\x02", number(saved.width, 4), number(len(saved.rows), 1), number(saved.z, 8)]
+    parts = [magic, b"\x02", number(saved.width, 4), number(len(saved.rows), 1), number(saved.z, 8)]
     parts += [number(a, 8) + number(b, 8) for a, b in saved.rows]
     parts.append(number(saved.total, 8))
     parts += [number(cell, 8) for row in saved.cells for cell in row]
@@ -209,14 +214,15 @@ class Fields:
         return value
 
 
-def read_summary(fields: Fields) -> Summary:
+def read_summary(fields: Fields, magic: bytes) -> Summary:
+    size, longest = VERSIONS[magic]
     k = fields.number(2, lambda n: n > 0, "bad k")
     total = fields.number(8, lambda n: n <= MAX_TOTAL, "total too large")
     count = fields.number(2, lambda n: n <= k, "bad count")
     counters: dict[bytes, int] = {}
     before, added = b"", 0
     for _ in range(count):
-        key = fields.take(fields.number(1, lambda n: n > 0, "bad key"))
+        key = fields.take(fields.number(size, lambda n: 1 <= n <= longest, "bad key"))
         if key <= before:
             raise Refused("keys out of order")
         counter = fields.number(8, lambda n: n > 0, "bad counter")
@@ -246,12 +252,13 @@ def read_table(fields: Fields) -> Table:
 
 
 def read(data: bytes) -> Summary | Table:
-    """The value that the bytes spell, or the first fault from the left."""
+    """The value that the bytes spell in a version, or the first fault from the left."""
     fields = Fields(data)
-    if fields.take(4) != b"HHS1":
+    magic = fields.take(4)
+    if magic not in VERSIONS:
         raise Refused("bad magic")
     kind = fields.number(1, lambda n: n in (1, 2), "bad kind")
-    saved = read_summary(fields) if kind == 1 else read_table(fields)
+    saved = read_summary(fields, magic) if kind == 1 else read_table(fields)
     if fields.at < len(data):
         raise Refused("trailing bytes")
     return saved

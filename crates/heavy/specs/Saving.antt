@@ -5,6 +5,7 @@ use Rattle.hh_counters.specs.Counters.{Sketch}
 use Rattle.hh_countmin.specs.Table.{Grid}
 use Rattle.hh_saved.specs.Reading.{saved_of}
 use Rattle.hh_saved.specs.Spelling.{Spells}
+use Rattle.hh_saved.specs.declared.format.Version.TheVariants as version
 use Rattle.hh_saved.specs.declared.saved.Saved.{Saved}
 use Rattle.hh_saved.specs.declared.saved.Saved.TheVariants.{Counters, Cells}
 use Rattle.heavy.specs.Limits.{in_range, most_depth, most_k, most_width}
@@ -16,9 +17,10 @@ use Rattle.heavy.specs.declared.saving.Method.TheVariants as method
 use Rattle.heavy.specs.declared.error.ToolError.{ToolError}
 use Rattle.heavy.specs.declared.error.ToolError.TheVariants as tool
 
--- the bytes spell what f makes of a stream, that of all bytes that the reader had left
+-- the bytes are the spelling in version 2 of what f makes of a stream, that of all bytes that the
+-- reader had left
 abbrev pub SavesStream : (List Entry → Saved) → Option (List ℕ) → List ℕ → Type 0
-SavesStream f left bytes = (xs : List Entry) × ReadsAs left (Ok xs) × Spells bytes (f xs)
+SavesStream f left bytes = (xs : List Entry) × ReadsAs left (Ok xs) × Spells version.Two bytes (f xs)
 
 -- what a refusal to read records tells, where they were read: not before the tests that come first
 abbrev pub RecordsRefused : Option (List ℕ) → ToolError → Type 0

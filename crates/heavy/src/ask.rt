@@ -16,7 +16,7 @@ use hh_stream::{Key, KeyFault, MAX_KEY_LEN};
 use itoa::Buffer;
 use std::alloc::{AllocError, Global};
 
-/// Tests the word with this number: a key has 1 to 255 bytes.
+/// Tests the word with this number: a key has 1 to 4,096 bytes.
 fn check_key(number: u64, word: &[u8]) -> Result<(), ToolError>
     ensures { MatchResult result
         (λ _. key_fault number word.now ≡ None)

@@ -50,7 +50,7 @@ impl fmt::Display for MergeCause {
 pub enum KeyCause {
     /// It has no bytes.
     Empty,
-    /// It has more than 255 bytes.
+    /// It has more than 4,096 bytes.
     TooLong,
 }
 

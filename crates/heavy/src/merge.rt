@@ -2,6 +2,7 @@
 
 ghost use Rattle.std.specs.Prelude.{◌≡◌, ◌<◌, Ok, Err, IfOk, IfErr, OnOk, MatchResult, map, length, vec_items};
 ghost use Rattle.hh_saved.specs.Spelling.{Spells};
+ghost use Rattle.hh_saved.specs.declared.format.Version.TheVariants as version;
 ghost use Rattle.hh_saved.specs.declared.saved.Saved.{Saved};
 ghost use Rattle.hh_saved.specs.declared.saved.Saved.TheVariants.{Counters, Cells};
 ghost use Rattle.heavy.specs.declared.error.ToolError.{ToolError};
@@ -97,7 +98,8 @@ fn merge_files(alloc: Global, files: &[Vec<u8>]) -> Result<Saved, ToolError>
 }
 
 /// Merges saved files: the first with each next one, in order. There is at least one. The result is
-/// the spelling of a summary or a table, as the files are.
+/// the spelling in version 2 of a summary or a table, as the files are, which may be of either
+/// version.
 ///
 /// Files are numbered from 1. The first file that is refused is told, and why: first
 /// [`ToolError::BadFile`], its bytes are no spelling; then [`ToolError::MixedKinds`], it is a table
@@ -107,7 +109,7 @@ fn merge_files(alloc: Global, files: &[Vec<u8>]) -> Result<Saved, ToolError>
 pub fn merge_bytes(alloc: Global, files: &[Vec<u8>]) -> Result<Vec<u8>, ToolError>
     requires { 0 < length files.now }
     ensures merged { IfOk result (λ bytes. (saved : Saved)
-        × (merged_files (map vec_items files.now) ≡ Ok saved) × Spells bytes.items saved) }
+        × (merged_files (map vec_items files.now) ≡ Ok saved) × Spells version.Two bytes.items saved) }
     ensures refused { IfErr result (λ fault.
         Refuses (merged_files (map vec_items files.now)) fault) }
 {

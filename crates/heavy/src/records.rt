@@ -21,7 +21,7 @@ pub enum BadRecordCause {
     FieldCount,
     /// The first field is empty.
     EmptyKey,
-    /// The first field has more than 255 bytes.
+    /// The first field has more than 4,096 bytes.
     KeyTooLong,
     /// The second field is not 1 to 20 ASCII digits.
     BadWeight,
@@ -229,7 +229,7 @@ pub(crate) fn read_items<R: Read + Drop, T: TakeItems>(
 
 /// The stream of a text of records, each a key and, after a comma, its weight. A record of one
 /// field has weight 1. Records are what `csv` reads: there is no header row, fields may be quoted,
-/// and a key may be any 1 to 255 bytes.
+/// and a key may be any 1 to 4,096 bytes.
 ///
 /// The first record that fails a test ends the reading: its number, from 1 on, and the cause are
 /// told. A read that a signal interrupts is tried again.

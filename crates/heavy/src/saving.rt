@@ -6,6 +6,7 @@ ghost use Rattle.hh_counters.specs.Counters.{sketch_of};
 ghost use Rattle.hh_countmin.specs.Family.{drawn_family};
 ghost use Rattle.hh_countmin.specs.Table.{empty_table, table_of};
 ghost use Rattle.hh_saved.specs.Spelling.{Spells};
+ghost use Rattle.hh_saved.specs.declared.format.Version.TheVariants as version;
 ghost use Rattle.hh_saved.specs.declared.saved.Saved.TheVariants.{Cells, Counters};
 ghost use Rattle.heavy.specs.Limits.{in_range, most_depth, most_k, most_width};
 ghost use Rattle.heavy.specs.Saving.{ConfirmRefused, ConfirmsRows, RecordsRefused, RefusedAfter, SavesStream, bad_k, bad_table, word_of};
@@ -106,9 +107,9 @@ fn monitored_summary<R: Read + Drop>(alloc: Global, k: u64, reader: R) -> Result
     }
 }
 
-/// The bytes of a saved value.
+/// The bytes of a saved value, in version 2.
 fn saved_bytes(alloc: Global, saved: &Saved) -> Result<Vec<u8>, ToolError>
-    ensures bytes { IfOk result (λ bytes. Spells bytes.items saved.now) }
+    ensures bytes { IfOk result (λ bytes. Spells version.Two bytes.items saved.now) }
     ensures refused { IfErr result (λ fault. fault ≡ ToolError.Memory) }
 {
     match write(alloc, saved) {

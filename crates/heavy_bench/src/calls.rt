@@ -4,6 +4,7 @@ use crate::fault::BenchFault;
 use heavy::read_stream;
 use hh_counters::{BucketSaving, Monitor, SpaceSaving, Summary};
 use hh_countmin::{Family, Table};
+use hh_saved::{Saved, read, write};
 use hh_stream::{Cutting, Item, Stream};
 use std::alloc::Global;
 use std::time::Instant;
@@ -26,6 +27,10 @@ pub enum Call {
     BucketSaving,
     /// `Table::add` with 4 rows of 1,024 cells, for each item.
     Table,
+    /// `hh_saved::write` of the items' summary, for each counter.
+    Save,
+    /// `hh_saved::read` of what that gives, for each counter.
+    Load,
 }
 
 impl Call {
@@ -38,6 +43,8 @@ impl Call {
             "space_saving" => Some(Call::SpaceSaving),
             "bucket_saving" => Some(Call::BucketSaving),
             "table" => Some(Call::Table),
+            "save" => Some(Call::Save),
+            "load" => Some(Call::Load),
             _ => None,
         }
     }
@@ -82,11 +89,7 @@ fn summaries(alloc: Global, k: u64, stream: &Stream) -> Result<Vec<Summary>, Ben
     let cutting = Cutting::even(alloc, stream.len(), PIECES).map_err(|_| BenchFault::Refused)?;
     let mut summaries = Vec::new(alloc);
     for i in 0..cutting.count() {
-        let mut monitor = BucketSaving::new(alloc, k).map_err(|_| BenchFault::Refused)?;
-        monitor_all(&mut monitor, cutting.piece(stream, i))?;
-        let Ok(summary) = monitor.into_summary() else {
-            return Err(BenchFault::Refused);
-        };
+        let summary = summary_of(alloc, k, cutting.piece(stream, i))?;
         summaries.push(summary).map_err(|_| BenchFault::Refused)?;
     }
     Ok(summaries)
@@ -111,7 +114,35 @@ fn merges(rt: &HostRuntime, k: u64, stream: &Stream) -> Result<u128, BenchFault>
     for_each(rt, start, PIECES)
 }
 
-/// The time of a call on the stream of standard input, for each item or merge, in nanoseconds.
+/// The summary of the items.
+fn summary_of(alloc: Global, k: u64, items: &[Item]) -> Result<Summary, BenchFault> {
+    let mut monitor = BucketSaving::new(alloc, k).map_err(|_| BenchFault::Refused)?;
+    monitor_all(&mut monitor, items)?;
+    monitor.into_summary().map_err(|_| BenchFault::Refused)
+}
+
+/// The time of saving the items' summary, for each counter.
+fn saves(rt: &HostRuntime, k: u64, items: &[Item]) -> Result<u128, BenchFault> {
+    let summary = summary_of(rt.alloc(), k, items)?;
+    let counters = summary.len();
+    let saved = Saved::Counters(summary);
+    let start = now(rt)?;
+    let _bytes = write(rt.alloc(), &saved).map_err(|_| BenchFault::Refused)?;
+    for_each(rt, start, counters)
+}
+
+/// The time of reading the items' saved summary, for each counter.
+fn loads(rt: &HostRuntime, k: u64, items: &[Item]) -> Result<u128, BenchFault> {
+    let summary = summary_of(rt.alloc(), k, items)?;
+    let counters = summary.len();
+    let bytes = write(rt.alloc(), &Saved::Counters(summary)).map_err(|_| BenchFault::Refused)?;
+    let start = now(rt)?;
+    let _saved = read(rt.alloc(), &bytes).map_err(|_| BenchFault::Refused)?;
+    for_each(rt, start, counters)
+}
+
+/// The time of a call on the stream of standard input, for each item, merge or counter, in
+/// nanoseconds.
 pub fn nanoseconds(rt: &HostRuntime, call: Call, k: u64) -> Result<u128, BenchFault> {
     let alloc = rt.alloc();
     let reading = now(rt)?;
@@ -124,6 +155,8 @@ pub fn nanoseconds(rt: &HostRuntime, call: Call, k: u64) -> Result<u128, BenchFa
     match call {
         Call::Read => {}
         Call::Merge => return merges(rt, k, &stream),
+        Call::Save => return saves(rt, k, items),
+        Call::Load => return loads(rt, k, items),
         Call::OfItems => {
             let _summary = Summary::of_items(alloc, k, items).map_err(|_| BenchFault::Refused)?;
         }

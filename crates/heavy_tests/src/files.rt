@@ -1,8 +1,9 @@
 //! The worked rows on saved files, merged and asked, and each of their fields spoiled.
 
 use crate::saved_examples::{
-    ANOTHER_FAMILY, ANOTHER_K, ANOTHER_WIDTH, CELLS, COUNTERS, LARGEST, LARGEST_TOTAL, MERGED,
-    NO_ITEMS, ONE, OTHER_KEYS, TWICE, TWO,
+    ANOTHER_FAMILY, ANOTHER_K, ANOTHER_WIDTH, CELLS, CELLS_1, COUNTERS, COUNTERS_1, LARGEST,
+    LARGEST_TOTAL, MERGED, MERGED_1, NO_ITEMS, NO_ITEMS_1, ONE, OTHER_KEYS, OTHER_KEYS_1, TWICE,
+    TWO,
 };
 use heavy::{KeyCause, MergeCause, ToolError, ask_bytes, merge_bytes};
 use hh_saved::SavedFault;
@@ -11,7 +12,7 @@ use std::process::Abort;
 use std::test::Fail;
 
 // One byte more than a key has.
-const LONG: &[u8] = &[b'x'; 256];
+const LONG: &[u8] = &[b'x'; 4097];
 
 /// The files or keys as vectors.
 fn vectors(alloc: Global, parts: &[&[u8]]) -> Result<Vec<Vec<u8>>, Fail> {
@@ -64,10 +65,16 @@ fn asked(
 
 #[test]
 fn summaries_merge_to_one_spelling(rt: HostRuntime) -> Result<(), Fail> {
-    let rows: [(&[&[u8]], &[u8]); 4] = [
+    let rows: [(&[&[u8]], &[u8]); 10] = [
         (&[COUNTERS], COUNTERS),
+        (&[COUNTERS_1], COUNTERS),
+        (&[NO_ITEMS_1], NO_ITEMS),
         (&[COUNTERS, COUNTERS], TWICE),
+        (&[COUNTERS_1, COUNTERS], TWICE),
+        (&[COUNTERS, COUNTERS_1], TWICE),
         (&[COUNTERS, OTHER_KEYS], MERGED),
+        (&[COUNTERS_1, OTHER_KEYS], MERGED),
+        (&[COUNTERS_1, OTHER_KEYS_1], MERGED),
         (&[COUNTERS, NO_ITEMS, OTHER_KEYS], MERGED),
     ];
     for (files, spelling) in rows {
@@ -79,6 +86,7 @@ fn summaries_merge_to_one_spelling(rt: HostRuntime) -> Result<(), Fail> {
 #[test]
 fn tables_merge_to_one_spelling(rt: HostRuntime) -> Result<(), Fail> {
     merges(&rt, &[CELLS], CELLS)?;
+    merges(&rt, &[CELLS_1], CELLS)?;
     merges(&rt, &[ONE, ONE], TWO)
 }
 
@@ -123,7 +131,7 @@ fn files_that_are_no_spelling(rt: HostRuntime) -> Result<(), Fail> {
     is_unmerged(&rt, &[COUNTERS, b"H"], bad_file(2, SavedFault::Truncated))?;
     is_unmerged(
         &rt,
-        &[b"HHS2", CELLS, b"H"],
+        &[b"HHS3", CELLS, b"H"],
         bad_file(1, SavedFault::BadMagic),
     )
 }
@@ -157,6 +165,28 @@ fn summaries_with_a_spoiled_field(rt: HostRuntime) -> Result<(), Fail> {
         (26, b"\x0b", SavedFault::SumTooLarge),
     ];
     for (at, field, fault) in fields {
+        is_spoiled(&rt, COUNTERS_1, at, field, fault)?;
+    }
+    Ok(())
+}
+
+#[test]
+fn summaries_of_version_2_with_a_spoiled_field(rt: HostRuntime) -> Result<(), Fail> {
+    let fields: [(usize, &[u8], SavedFault); 12] = [
+        (3, b"1", SavedFault::BadKey),
+        (3, b"3", SavedFault::BadMagic),
+        (4, b"\x03", SavedFault::BadKind),
+        (5, b"\x00\x00", SavedFault::BadK),
+        (7, b"\x80", SavedFault::TotalTooLarge),
+        (15, b"\x00\x03", SavedFault::BadCount),
+        (17, b"\x00\x00", SavedFault::BadKey),
+        (17, b"\x10\x01", SavedFault::BadKey),
+        (17, b"\x10\x00", SavedFault::Truncated),
+        (30, b"a", SavedFault::KeyOrder),
+        (38, b"\x00", SavedFault::BadCounter),
+        (27, b"\x0b", SavedFault::SumTooLarge),
+    ];
+    for (at, field, fault) in fields {
         is_spoiled(&rt, COUNTERS, at, field, fault)?;
     }
     Ok(())
@@ -181,13 +211,19 @@ fn tables_with_a_spoiled_field(rt: HostRuntime) -> Result<(), Fail> {
     ];
     for (at, field, fault) in fields {
         is_spoiled(&rt, CELLS, at, field, fault)?;
+        is_spoiled(&rt, CELLS_1, at, field, fault)?;
     }
     Ok(())
 }
 
+// A file of each kind in both versions.
+const FILES: [&[u8]; 8] = [
+    COUNTERS, COUNTERS_1, MERGED, MERGED_1, NO_ITEMS, NO_ITEMS_1, CELLS, CELLS_1,
+];
+
 #[test]
 fn files_that_end_too_early(rt: HostRuntime) -> Result<(), Fail> {
-    for file in [COUNTERS, MERGED, NO_ITEMS, CELLS] {
+    for file in FILES {
         for len in 0..file.len() {
             let fault = bad_file(2, SavedFault::Truncated);
             is_unmerged(&rt, &[file, &file[..len]], fault)?;
@@ -205,7 +241,7 @@ fn is_trailed(rt: &(impl Abort + AllocGlobal), file: &[u8]) -> Result<(), Fail> 
 
 #[test]
 fn files_with_a_byte_more(rt: HostRuntime) -> Result<(), Fail> {
-    for file in [COUNTERS, MERGED, NO_ITEMS, CELLS] {
+    for file in FILES {
         is_trailed(&rt, file)?;
     }
     Ok(())
@@ -213,11 +249,13 @@ fn files_with_a_byte_more(rt: HostRuntime) -> Result<(), Fail> {
 
 #[test]
 fn answers_to_keys(rt: HostRuntime) -> Result<(), Fail> {
-    let rows: [(&[u8], &[&[u8]], &[u8]); 5] = [
+    let rows: [(&[u8], &[&[u8]], &[u8]); 7] = [
         (COUNTERS, &[b"a", b"z"], b"a,4,6\nz,0,2\n"),
+        (COUNTERS_1, &[b"a", b"z"], b"a,4,6\nz,0,2\n"),
         (TWICE, &[b"a"], b"a,8,12\n"),
         (MERGED, &[b"a"], b"a,1,6\n"),
         (CELLS, &[b"a", b"b"], b"a,0,7\nb,0,1\n"),
+        (CELLS_1, &[b"a", b"b"], b"a,0,7\nb,0,1\n"),
         (COUNTERS, &[b"\"", b"a"], b"\"\"\"\",0,2\na,4,6\n"),
     ];
     for (file, keys, answers) in rows {

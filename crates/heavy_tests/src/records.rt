@@ -55,8 +55,8 @@ fn a_later_record_that_fails_a_test(rt: HostRuntime) {
 }
 
 #[test]
-fn keys_have_at_most_255_bytes(rt: HostRuntime) -> Result<(), Fail> {
-    let mut text = vec![in rt.alloc(); b'x'; 255]?;
+fn keys_have_at_most_4096_bytes(rt: HostRuntime) -> Result<(), Fail> {
+    let mut text = vec![in rt.alloc(); b'x'; 4096]?;
     let stream = read_stream(rt.alloc(), text.as_slice())?;
     assert_eq!(rt; (stream.len(), stream.total()), (1, 1));
     text.push(b'x')?;
@@ -136,8 +136,8 @@ fn records_of_texts(rt: HostRuntime) -> Result<(), Fail> {
 }
 
 #[test]
-fn a_key_of_255_bytes_ff(rt: HostRuntime) -> Result<(), Fail> {
-    let text = vec![in rt.alloc(); 0xffu8; 255]?;
+fn a_key_of_4096_bytes_ff(rt: HostRuntime) -> Result<(), Fail> {
+    let text = vec![in rt.alloc(); 0xffu8; 4096]?;
     has_items(
         &rt,
         &read_stream(rt.alloc(), text.as_slice())?,

@@ -1,7 +1,7 @@
 //! The worked rows on saved summaries and tables.
 
 use crate::devices::Source;
-use crate::saved_examples::{CELLS, COUNTERS, NO_ITEMS};
+use crate::saved_examples::{CELLS, COUNTERS, COUNTERS_1, NO_ITEMS};
 use heavy::{BadRecordCause, Method, ToolError, confirm_bytes, summary_bytes, table_bytes};
 use hh_countmin::{Family, Table};
 use hh_saved::{Saved, SavedFault, read};
@@ -39,6 +39,19 @@ fn both_methods_save_one_summary(rt: HostRuntime) -> Result<(), Fail> {
 }
 
 #[test]
+fn summary_of_the_longest_key_is_read_back(rt: HostRuntime) -> Result<(), Fail> {
+    let text = vec![in rt.alloc(); b'x'; 4096]?;
+    let bytes = summary_bytes(rt.alloc(), 1, Method::MisraGries, text.as_slice())?;
+    assert_eq!(rt; bytes.len(), 4123);
+    let Saved::Counters(summary) = read(rt.alloc(), &bytes)? else {
+        panic!(rt; "not a summary");
+    };
+    assert_eq!(rt; (summary.k(), summary.total(), summary.len()), (1, 1, 1));
+    assert_eq!(rt; summary.get(&Key::new(rt.alloc(), &text)?), 1);
+    Ok(())
+}
+
+#[test]
 fn words_that_name_no_method(rt: HostRuntime) {
     for word in [b"x".as_slice(), b"", b"m", b"mgs", b"SS"] {
         assert_eq!(rt; Method::of(word).err(), Some(ToolError::BadMethod));
@@ -72,6 +85,7 @@ fn saved_table_is_read_back(rt: HostRuntime) -> Result<(), Fail> {
     let alloc = rt.alloc();
     let bytes = table_bytes(alloc, 4, 2, 7, b"a,5\ne,2\nb,1\n".as_slice())?;
     assert_eq!(rt; bytes.len(), 122);
+    assert_eq!(rt; &bytes[..4], b"HHS2".as_slice());
     let table = table_in(&rt, &bytes)?;
     assert_eq!(rt; (table.width(), table.total()), (4, 8));
     assert!(rt; *table.family() == Family::draw(alloc, 7, 2)?);
@@ -99,8 +113,10 @@ fn tables_that_are_not_saved(rt: HostRuntime) {
 
 #[test]
 fn saved_summary_is_confirmed(rt: HostRuntime) -> Result<(), Fail> {
-    let rows = confirm_bytes(rt.alloc(), COUNTERS, RECORDS)?;
-    assert_eq!(rt; rows.as_slice(), b"a,6\n".as_slice());
+    for file in [COUNTERS, COUNTERS_1] {
+        let rows = confirm_bytes(rt.alloc(), file, RECORDS)?;
+        assert_eq!(rt; rows.as_slice(), b"a,6\n".as_slice());
+    }
     let rows = confirm_bytes(rt.alloc(), NO_ITEMS, b"".as_slice())?;
     assert!(rt; rows.is_empty());
     Ok(())

@@ -161,7 +161,7 @@ fn cells_make_tables_where_rows_sum_to_the_total(rt: HostRuntime) -> Result<(), 
 
 #[test]
 fn largest_table_counts_the_longest_key(rt: HostRuntime) -> Result<(), Fail> {
-    let longest = Key::new(rt.alloc(), &[0xff; 255])?;
+    let longest = Key::new(rt.alloc(), &[0xff; 4096])?;
     let family = Family::draw(rt.alloc(), 7, 16)?;
     let mut table = Table::new(rt.alloc(), family, 65_536)?;
     table.add(&longest, 9)?;

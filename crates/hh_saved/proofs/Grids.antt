@@ -14,7 +14,7 @@ use Rattle.hh_saved.specs.declared.fault.SavedFault.{SavedFault}
 use Rattle.hh_saved.specs.declared.fault.SavedFault.TheVariants as faults
 use Rattle.hh_saved.specs.Spelling.{pair_bytes, cells_bytes, grid_bytes}
 use Rattle.hh_saved.specs.Reading.{◌>>=◌, number_where, bytes_at, total_at, family_at, cells_in, row_at, rows_at, grid_at}
-use Rattle.hh_saved.proofs.Fields.{IsBytes, bind_ok, passed, ok_is, Takes, Takes-then, wide8, wide32, wide64, where_takes, where_again, bytes_take, bytes_again}
+use Rattle.hh_saved.proofs.Fields.{IsBytes, bind_ok, passed, ok_is, both, and_true, Takes, Takes-then, wide8, wide32, wide64, where_takes, where_again, bytes_take, bytes_again}
 use Rattle.hh_saved.proofs.Blocks.{IsCode, length-blocks_in, flat_map-blocks_in, length-flat_map, blocks_in-flat_map}
 use Rattle.hh_saved.proofs.Entries.{total_takes, total_again}
 use Rattle.hh_saved.proofs.Families.{family_bytes, family_takes, family_again}
@@ -128,13 +128,6 @@ rows_from (suc n) width total cells len sums =
     )
 
 -- ---- tables
-
-both : (a b : Bool) → (a && b) ≡ true → (a ≡ true) × (b ≡ true)
-both true b e = (refl, e)
-both false b e = absurd cc
-
-and_true : (a b : Bool) → a ≡ true → b ≡ true → (a && b) ≡ true
-and_true a b p q = rw (p, q) refl
 
 abbrev is_width : ℕ → Bool
 is_width n = leb 1 n && leb n 65536

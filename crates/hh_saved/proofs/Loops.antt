@@ -2,6 +2,7 @@
 use Rattle.std.proofs.Common.{◌≡◌, ℕ, suc, ◌-◌, ◌+◌, ◌≤◌, ◌<◌, List, [], ◌∷◌, ◌++◌, length, Result, Ok, Err, refl, sym, ap, ◌∙◌, append_assoc, arith}
 use Rattle.std.proofs.lemmas.List.{append-nil, get_or_push, length_push}
 use Rattle.hh_stream.specs.Weights.{Entry}
+use Rattle.hh_saved.specs.declared.format.Version.{Version}
 use Rattle.hh_saved.specs.declared.fault.SavedFault.{SavedFault}
 use Rattle.hh_saved.specs.declared.fault.SavedFault.TheVariants as faults
 use Rattle.hh_saved.proofs.Fields.{ok_is}
@@ -23,32 +24,32 @@ regroup : {X : Type 0} (front first : List X) (read : Result (List X × List ℕ
 regroup {X} front first (Ok x) = ap (λ (xs : List X). Ok (xs, x.1)) (sym (append_assoc front first x.0))
 regroup front first (Err e) = refl
 
-pub entries_go_on : (front : List Entry) (count i left : ℕ) (bytes : List ℕ) (e : Entry) (after : List ℕ) (all : Result (List Entry × List ℕ) SavedFault) → i < count
-    → entry_at (last_key_of front) left bytes ≡ Ok (e, after)
-    → with_front front (entries_at (count - i) (last_key_of front) left bytes) ≡ all
-    → with_front (front ++ e ∷ []) (entries_at (count - (i + 1)) (last_key_of (front ++ e ∷ [])) (left - e.1) after) ≡ all
+pub entries_go_on : (version : Version) (front : List Entry) (count i left : ℕ) (bytes : List ℕ) (e : Entry) (after : List ℕ) (all : Result (List Entry × List ℕ) SavedFault) → i < count
+    → entry_at version (last_key_of front) left bytes ≡ Ok (e, after)
+    → with_front front (entries_at version (count - i) (last_key_of front) left bytes) ≡ all
+    → with_front (front ++ e ∷ []) (entries_at version (count - (i + 1)) (last_key_of (front ++ e ∷ [])) (left - e.1) after) ≡ all
 unfolding entries_at
-entries_go_on front count i left bytes e after all lt read so_far =
+entries_go_on version front count i left bytes e after all lt read so_far =
     let k : count - i ≡ suc (count - (i + 1)) = omega arith in
-    let one : with_front front (entries_at (count - i) (last_key_of front) left bytes) ≡ with_front (front ++ e ∷ []) (entries_at (count - (i + 1)) e.0 (left - e.1) after) =
-    rw (k, read) (regroup front (e ∷ []) (entries_at (count - (i + 1)) e.0 (left - e.1) after)) in
+    let one : with_front front (entries_at version (count - i) (last_key_of front) left bytes) ≡ with_front (front ++ e ∷ []) (entries_at version (count - (i + 1)) e.0 (left - e.1) after) =
+    rw (k, read) (regroup front (e ∷ []) (entries_at version (count - (i + 1)) e.0 (left - e.1) after)) in
     rw (last_key_of-push front e) (sym one ∙ so_far)
 
-pub entries_fail : (fault : SavedFault) (front : List Entry) (count i left : ℕ) (bytes : List ℕ) (all : Result (List Entry × List ℕ) SavedFault) → i < count
-    → Fails fault (entry_at (last_key_of front) left bytes)
-    → with_front front (entries_at (count - i) (last_key_of front) left bytes) ≡ all → Fails fault all
+pub entries_fail : (version : Version) (fault : SavedFault) (front : List Entry) (count i left : ℕ) (bytes : List ℕ) (all : Result (List Entry × List ℕ) SavedFault) → i < count
+    → Fails fault (entry_at version (last_key_of front) left bytes)
+    → with_front front (entries_at version (count - i) (last_key_of front) left bytes) ≡ all → Fails fault all
 unfolding entries_at
-entries_fail fault front count i left bytes all lt fails so_far =
+entries_fail version fault front count i left bytes all lt fails so_far =
     let k : count - i ≡ suc (count - (i + 1)) = omega arith in
-    Fails-along fault (entry_at (last_key_of front) left bytes) all
-    (λ h. let one : with_front front (entries_at (count - i) (last_key_of front) left bytes) ≡ Err fault = rw (k, h) refl in sym so_far ∙ one) fails
+    Fails-along fault (entry_at version (last_key_of front) left bytes) all
+    (λ h. let one : with_front front (entries_at version (count - i) (last_key_of front) left bytes) ≡ Err fault = rw (k, h) refl in sym so_far ∙ one) fails
 
-pub entries_end : (front : List Entry) (count i left : ℕ) (bytes : List ℕ) (all : Result (List Entry × List ℕ) SavedFault) → count ≤ i
-    → with_front front (entries_at (count - i) (last_key_of front) left bytes) ≡ all → all ≡ Ok (front, bytes)
+pub entries_end : (version : Version) (front : List Entry) (count i left : ℕ) (bytes : List ℕ) (all : Result (List Entry × List ℕ) SavedFault) → count ≤ i
+    → with_front front (entries_at version (count - i) (last_key_of front) left bytes) ≡ all → all ≡ Ok (front, bytes)
 unfolding entries_at
-entries_end front count i left bytes all le so_far =
+entries_end version front count i left bytes all le so_far =
     let k : count - i ≡ 0 = omega arith in
-    let one : with_front front (entries_at (count - i) (last_key_of front) left bytes) ≡ Ok (front, bytes) = rw k (ap (λ (es : List Entry). Ok (es, bytes)) (append-nil front)) in
+    let one : with_front front (entries_at version (count - i) (last_key_of front) left bytes) ≡ Ok (front, bytes) = rw k (ap (λ (es : List Entry). Ok (es, bytes)) (append-nil front)) in
     sym so_far ∙ one
 
 -- ---- rows

@@ -8,11 +8,13 @@ use Rattle.hh_stream.specs.Weights.{Bytes, Entry, key_cmp}
 use Rattle.hh_counters.specs.Counters.{Sketch}
 use Rattle.hh_countmin.specs.Family.{Coefficients, modulus}
 use Rattle.hh_countmin.specs.Table.{Grid}
+use Rattle.hh_saved.specs.declared.format.Version.{Version}
+use Rattle.hh_saved.specs.declared.format.Version.TheVariants.{One, Two}
 use Rattle.hh_saved.specs.declared.saved.Saved.{Saved}
 use Rattle.hh_saved.specs.declared.saved.Saved.TheVariants.{Counters, Cells}
 use Rattle.hh_saved.specs.declared.fault.SavedFault.{SavedFault}
 use Rattle.hh_saved.specs.declared.fault.SavedFault.TheVariants as faults
-use Rattle.hh_saved.specs.Spelling.{magic}
+use Rattle.hh_saved.specs.Spelling.{magic_of, len_width, max_len}
 
 infixl 10 ◌>>=◌
 abbrev pub ◌>>=◌ : {A B : Type 0} → Result A SavedFault → (A → Result B SavedFault) → Result B SavedFault
@@ -67,33 +69,37 @@ with_front front read = read >>= λ x. Ok (front ++ x.0, x.1)
 abbrev pub last_key_of : List Entry → Bytes
 last_key_of es = (slice_index_or es (length es - 1) ([], 0)).0
 
+-- the length of a key
+abbrev pub len_at : Version → List ℕ → Result (ℕ × List ℕ) SavedFault
+len_at version bytes = number_where (len_width version) (λ n. nat_le 1 n && nat_le n (max_len version)) faults.BadKey bytes
+
 -- a key above the one before it; every key is above no bytes
-unfoldable pub key_at : Bytes → List ℕ → Result (Bytes × List ℕ) SavedFault
-key_at before bytes = do
-  len ← number_where w8 (λ n. nat_lt 0 n) faults.BadKey bytes
+unfoldable pub key_at : Version → Bytes → List ℕ → Result (Bytes × List ℕ) SavedFault
+key_at version before bytes = do
+  len ← len_at version bytes
   key ← bytes_at len.0 len.1
   if is_lt (key_cmp before key.0) then Ok key else Err faults.KeyOrder
 
 -- a key and its counter, of which so much is left of the total
-unfoldable pub entry_at : Bytes → ℕ → List ℕ → Result (Entry × List ℕ) SavedFault
-entry_at before left bytes = do
-  key ← key_at before bytes
+unfoldable pub entry_at : Version → Bytes → ℕ → List ℕ → Result (Entry × List ℕ) SavedFault
+entry_at version before left bytes = do
+  key ← key_at version before bytes
   counter ← number_where w64 (λ n. nat_lt 0 n) faults.BadCounter key.1
   if nat_le counter.0 left then Ok ((key.0, counter.0), counter.1) else Err faults.SumTooLarge
 
-unfoldable pub entries_at : ℕ → Bytes → ℕ → List ℕ → Result (List Entry × List ℕ) SavedFault
-entries_at zero before left bytes = Ok ([], bytes)
-entries_at (suc n) before left bytes = do
-  first ← entry_at before left bytes
-  others ← entries_at n first.0.0 (left - first.0.1) first.1
+unfoldable pub entries_at : Version → ℕ → Bytes → ℕ → List ℕ → Result (List Entry × List ℕ) SavedFault
+entries_at version zero before left bytes = Ok ([], bytes)
+entries_at version (suc n) before left bytes = do
+  first ← entry_at version before left bytes
+  others ← entries_at version n first.0.0 (left - first.0.1) first.1
   Ok (first.0 ∷ others.0, others.1)
 
-unfoldable pub sketch_at : List ℕ → Result (Sketch × List ℕ) SavedFault
-sketch_at bytes = do
+unfoldable pub sketch_at : Version → List ℕ → Result (Sketch × List ℕ) SavedFault
+sketch_at version bytes = do
   k ← number_where w16 (λ n. nat_lt 0 n) faults.BadK bytes
   total ← total_at k.1
   count ← number_where w16 (λ n. nat_le n k.0) faults.BadCount total.1
-  entries ← entries_at count.0 [] total.0 count.1
+  entries ← entries_at version count.0 [] total.0 count.1
   Ok (record { k = k.0; total = total.0; counters = entries.0 }, entries.1)
 
 -- ---- a Count-Min table
@@ -147,10 +153,23 @@ grid_at bytes = do
 
 -- ---- a whole file
 
-unfoldable pub body_at : ℕ → List ℕ → Result (Saved × List ℕ) SavedFault
-body_at kind bytes =
+-- the version that a magic names
+abbrev pub version_of : ℕ → Result Version SavedFault
+version_of n =
+    if n == magic_of One then Ok One
+    else if n == magic_of Two then Ok Two
+    else Err faults.BadMagic
+
+unfoldable pub version_at : List ℕ → Result (Version × List ℕ) SavedFault
+version_at bytes = do
+  first ← number_at w32 bytes
+  version ← version_of first.0
+  Ok (version, first.1)
+
+unfoldable pub body_at : Version → ℕ → List ℕ → Result (Saved × List ℕ) SavedFault
+body_at version kind bytes =
     if kind == 1 then (do
-      sketch ← sketch_at bytes
+      sketch ← sketch_at version bytes
       Ok (Counters sketch.0, sketch.1))
     else (if kind == 2 then (do
       grid ← grid_at bytes
@@ -159,11 +178,11 @@ body_at kind bytes =
 
 unfoldable pub value_at : List ℕ → Result (Saved × List ℕ) SavedFault
 value_at bytes = do
-  first ← number_where w32 (λ n. n == magic) faults.BadMagic bytes
-  kind ← number_at w8 first.1
-  body_at kind.0 kind.1
+  version ← version_at bytes
+  kind ← number_at w8 version.1
+  body_at version.0 kind.0 kind.1
 
--- the value that all of the bytes spell, or the first fault
+-- the value that all of the bytes spell in a version, or the first fault
 unfoldable pub saved_of : List ℕ → Result Saved SavedFault
 saved_of bytes = do
   value ← value_at bytes
@@ -176,18 +195,18 @@ fault_of bytes = result_err (saved_of bytes)
 -- ---- what is read before any memory is taken, and the bytes after it
 
 -- the first entry, where there is one: its key takes the first memory
-unfoldable pub entries_head_at : ℕ → ℕ → List ℕ → Result (List ℕ) SavedFault
-entries_head_at zero left bytes = Ok bytes
-entries_head_at (suc n) left bytes = do
-  first ← entry_at [] left bytes
+unfoldable pub entries_head_at : Version → ℕ → ℕ → List ℕ → Result (List ℕ) SavedFault
+entries_head_at version zero left bytes = Ok bytes
+entries_head_at version (suc n) left bytes = do
+  first ← entry_at version [] left bytes
   Ok first.1
 
-unfoldable pub sketch_head_at : List ℕ → Result (List ℕ) SavedFault
-sketch_head_at bytes = do
+unfoldable pub sketch_head_at : Version → List ℕ → Result (List ℕ) SavedFault
+sketch_head_at version bytes = do
   k ← number_where w16 (λ n. nat_lt 0 n) faults.BadK bytes
   total ← total_at k.1
   count ← number_where w16 (λ n. nat_le n k.0) faults.BadCount total.1
-  entries_head_at count.0 total.0 count.1
+  entries_head_at version count.0 total.0 count.1
 
 -- the bytes of the family, whose coefficients take the first memory
 unfoldable pub grid_head_at : List ℕ → Result (List ℕ) SavedFault
@@ -197,14 +216,14 @@ grid_head_at bytes = do
   family ← bytes_at (8 + 16 * depth.0) depth.1
   Ok family.1
 
-unfoldable pub body_head_at : ℕ → List ℕ → Result (List ℕ) SavedFault
-body_head_at kind bytes =
-    if kind == 1 then sketch_head_at bytes
+unfoldable pub body_head_at : Version → ℕ → List ℕ → Result (List ℕ) SavedFault
+body_head_at version kind bytes =
+    if kind == 1 then sketch_head_at version bytes
     else (if kind == 2 then grid_head_at bytes
     else Err faults.BadKind)
 
 unfoldable pub head_at : List ℕ → Result (List ℕ) SavedFault
 head_at bytes = do
-  first ← number_where w32 (λ n. n == magic) faults.BadMagic bytes
-  kind ← number_at w8 first.1
-  body_head_at kind.0 kind.1
+  version ← version_at bytes
+  kind ← number_at w8 version.1
+  body_head_at version.0 kind.0 kind.1

@@ -11,7 +11,7 @@ use std::fmt;
 pub enum SavedFault {
     /// Fewer bytes are left than the field has.
     Truncated,
-    /// The file does not begin with `HHS1`.
+    /// The file begins with neither `HHS1` nor `HHS2`.
     BadMagic,
     /// The kind is neither 1 nor 2.
     BadKind,
@@ -19,7 +19,7 @@ pub enum SavedFault {
     BadK,
     /// There are more counters than k.
     BadCount,
-    /// A key has no bytes.
+    /// A key has no bytes, or more than a key can have.
     BadKey,
     /// A key is not above the one before it.
     KeyOrder,

@@ -1,8 +1,21 @@
 //! Laws of the definitions. Each function does nothing: its contract is the law.
 
-ghost use Rattle.hh_saved.specs.Laws.{SpellingsAreUnique};
+ghost use Rattle.hh_saved.specs.Laws.{SpellingsAreUnique, SpellingsAreRead, FilesReadAlikeHoldOneValue, VersionTwoSpellsVersionOne};
 
-/// Two values share no spelling, and no spelling is a proper prefix of another.
+/// Two values share no spelling, and no spelling is a proper prefix of another, whatever the
+/// versions.
 pub fn spellings_are_unique()
     ensures { SpellingsAreUnique }
+{}
+
+/// What is written is read again, and each value that version 1 can spell is written in version 2.
+pub fn spellings_are_read()
+    ensures read { SpellingsAreRead }
+    ensures rewritten { VersionTwoSpellsVersionOne }
+{}
+
+/// Two files that are read alike hold one value, whatever their versions. Those of one version are
+/// then the same.
+pub fn files_read_alike_hold_one_value()
+    ensures { FilesReadAlikeHoldOneValue }
 {}

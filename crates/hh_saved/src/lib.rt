@@ -1,7 +1,8 @@
-//! Saved summaries and tables: version 1 of the format.
+//! Saved summaries and tables.
 //!
 //! A file is one spelling of one value, field by field, with all numbers big-endian: the four bytes
-//! `HHS1`, a kind, and then a counter summary or a Count-Min table. Nothing follows.
+//! of the version, a kind, and then a counter summary or a Count-Min table. Nothing follows. There
+//! are two versions, `HHS1` and `HHS2`: both are read, and the second is written.
 #![tactic(auto)]
 
 mod fault;
@@ -14,6 +15,7 @@ mod tests;
 mod writing;
 
 pub use fault::SavedFault;
+pub use format::Version;
 pub use reading::read;
 pub use saved::Saved;
 pub use writing::write;

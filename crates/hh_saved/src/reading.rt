@@ -2,29 +2,32 @@
 
 ghost use Rattle.std.specs.Prelude.{◌≡◌, ◌⊎◌, ◌≤◌, ◌<◌, ◌+◌, ◌*◌, ◌++◌, List, Ok, Err, [], length, IfOk, IfErr, OnOk};
 ghost use Rattle.std.specs.Int.{w8, w16, w32, w64, from_be_bytes};
+ghost use Rattle.hh_stream.specs.Weights.{max_key_len};
+ghost use Rattle.hh_saved.specs.declared.format.Version.{Version};
 ghost use Rattle.hh_saved.specs.declared.saved.Saved.{Saved};
-ghost use Rattle.hh_saved.specs.Spelling.{Spells};
-ghost use Rattle.hh_saved.specs.Reading.{Gives, Reads, StopsAt, number_at, bytes_at, total_at, with_front, last_key_of, key_at, entry_at, entries_at, sketch_at, blocks_in, pair_of, family_at, cells_in, row_at, rows_at, grid_at, body_at, value_at, saved_of, entries_head_at, sketch_head_at, grid_head_at, body_head_at, head_at};
+ghost use Rattle.hh_saved.specs.Spelling.{Spells, len_width};
+ghost use Rattle.hh_saved.specs.Reading.{Gives, Reads, StopsAt, number_at, bytes_at, total_at, with_front, last_key_of, version_at, len_at, key_at, entry_at, entries_at, sketch_at, blocks_in, pair_of, family_at, cells_in, row_at, rows_at, grid_at, body_at, value_at, saved_of, entries_head_at, sketch_head_at, grid_head_at, body_head_at, head_at};
 
 use crate::fault::SavedFault;
-use crate::format::{CELLS, COUNTERS, MAGIC};
+use crate::format::{CELLS, COUNTERS, Version};
 use crate::saved::Saved;
 use hh_counters::Summary;
 use hh_countmin::{Family, MAX_DEPTH, MAX_WIDTH, PartsFault, Table, sums_to};
 use hh_stream::{Key, KeyFault, MAX_TOTAL};
 use std::alloc::{AllocError, Global};
 
-/// The summary or table that the bytes spell, all of the bytes. Where they spell none, the answer is
-/// the first fault from left to right: fields are read in order, a field that is short is
-/// [`SavedFault::Truncated`], and otherwise its own check decides before the next field is read.
+/// The summary or table that the bytes spell in some version, all of the bytes. Where they spell none,
+/// the answer is the first fault from left to right: fields are read in order, a field that is short
+/// is [`SavedFault::Truncated`], and otherwise its own check decides before the next field is read.
 ///
 /// No memory is taken for a field before its bytes are known to be there.
 pub fn read(alloc: Global, bytes: &[u8]) -> Result<Saved, SavedFault>
-    // What is read is spelled so.
-    ensures found { IfOk result (λ saved. Spells bytes.now saved) }
+    // What is read is spelled so, in one of the versions.
+    ensures found { IfOk result (λ saved. (version : Version) × Spells version bytes.now saved) }
 
-    // What is spelled so is read, unless memory runs out.
-    ensures only { (saved : Saved) → Spells bytes.now saved → Gives (λ v. v) result (Ok saved) }
+    // What a version spells so is read, unless memory runs out.
+    ensures only { (version : Version) (saved : Saved) → Spells version bytes.now saved
+        → Gives (λ v. v) result (Ok saved) }
 
     // Which fault it is.
     ensures exact { Gives (λ v. v) result (saved_of bytes.now) }
@@ -52,21 +55,38 @@ fn value_of(alloc: Global, bytes: &[u8]) -> Result<(Saved, &[u8]), SavedFault>
     ensures value { Gives (λ x. (x.0, x.1.now)) result (value_at bytes.now) }
     ensures early { StopsAt result (head_at bytes.now) }
 {
-    let (magic, rest) = u32_of(bytes)?;
-    if magic != MAGIC {
-        return Err(SavedFault::BadMagic);
-    }
+    let (version, rest) = version_of(bytes)?;
     let (kind, rest) = u8_of(rest)?;
-    body_of(alloc, kind, rest)
+    body_of(alloc, version, kind, rest)
+}
+
+// The version that the magic names.
+#[tactic(auto, unfolding(crate::specs::Reading::version_at))]
+fn version_of(bytes: &[u8]) -> Result<(Version, &[u8]), SavedFault>
+    ensures { Reads (λ x. (x.0, x.1.now)) result (version_at bytes.now) }
+{
+    let (magic, rest) = u32_of(bytes)?;
+    if magic == Version::One.magic() {
+        return Ok((Version::One, rest));
+    }
+    if magic == Version::Two.magic() {
+        return Ok((Version::Two, rest));
+    }
+    Err(SavedFault::BadMagic)
 }
 
 #[tactic(auto, unfolding(crate::specs::Reading::body_at, crate::specs::Reading::body_head_at))]
-fn body_of(alloc: Global, kind: u8, bytes: &[u8]) -> Result<(Saved, &[u8]), SavedFault>
-    ensures body { Gives (λ x. (x.0, x.1.now)) result (body_at kind bytes.now) }
-    ensures early { StopsAt result (body_head_at kind bytes.now) }
+fn body_of(
+    alloc: Global,
+    version: Version,
+    kind: u8,
+    bytes: &[u8],
+) -> Result<(Saved, &[u8]), SavedFault>
+    ensures body { Gives (λ x. (x.0, x.1.now)) result (body_at version kind bytes.now) }
+    ensures early { StopsAt result (body_head_at version kind bytes.now) }
 {
     if kind == COUNTERS {
-        let (summary, rest) = summary_of(alloc, bytes)?;
+        let (summary, rest) = summary_of(alloc, version, bytes)?;
         return Ok((Saved::Counters(summary), rest));
     }
     if kind == CELLS {
@@ -150,16 +170,45 @@ fn total_of(bytes: &[u8]) -> Result<(u64, &[u8]), SavedFault>
 
 // ---- a counter summary
 
-#[tactic(auto, unfolding(crate::specs::Reading::key_at))]
-fn key_of<'a>(before: &[u8], bytes: &'a [u8]) -> Result<(&'a [u8], &'a [u8]), SavedFault>
-    ensures key { Reads (λ x. (x.0.now, x.1.now)) result (key_at before.now bytes.now) }
-    ensures len { IfOk result (λ x. (0 < length x.0.now) × (length x.0.now ≤ 255)) }
+// The number that the length of a key's field is.
+fn len_field_of(version: Version, bytes: &[u8]) -> Result<(usize, &[u8]), SavedFault>
+    ensures { Reads (λ x. (x.0, x.1.now)) result (number_at (len_width version) bytes.now) }
 {
-    let (len, rest) = u8_of(bytes)?;
-    if len == 0 {
+    match version {
+        Version::One => {
+            let (len, rest) = u8_of(bytes)?;
+            Ok((usize::from(len), rest))
+        }
+        Version::Two => {
+            let (len, rest) = u16_of(bytes)?;
+            Ok((usize::from(len), rest))
+        }
+    }
+}
+
+// The length of a key.
+fn len_of(version: Version, bytes: &[u8]) -> Result<(usize, &[u8]), SavedFault>
+    ensures len { Reads (λ x. (x.0, x.1.now)) result (len_at version bytes.now) }
+    ensures key { IfOk result (λ x. (0 < x.0) × (x.0 ≤ max_key_len)) }
+{
+    let (len, rest) = len_field_of(version, bytes)?;
+    if len == 0 || len > version.max_len() {
         return Err(SavedFault::BadKey);
     }
-    let (key, rest) = bytes_of(usize::from(len), rest)?;
+    Ok((len, rest))
+}
+
+#[tactic(auto, unfolding(crate::specs::Reading::key_at))]
+fn key_of<'a>(
+    version: Version,
+    before: &[u8],
+    bytes: &'a [u8],
+) -> Result<(&'a [u8], &'a [u8]), SavedFault>
+    ensures key { Reads (λ x. (x.0.now, x.1.now)) result (key_at version before.now bytes.now) }
+    ensures len { IfOk result (λ x. (0 < length x.0.now) × (length x.0.now ≤ max_key_len)) }
+{
+    let (len, rest) = len_of(version, bytes)?;
+    let (key, rest) = bytes_of(len, rest)?;
     if !before.cmp(key).is_lt() {
         return Err(SavedFault::KeyOrder);
     }
@@ -169,16 +218,17 @@ fn key_of<'a>(before: &[u8], bytes: &'a [u8]) -> Result<(&'a [u8], &'a [u8]), Sa
 // The fields of an entry, all of which are read before its key takes memory.
 #[tactic(auto, unfolding(crate::specs::Reading::entry_at))]
 fn fields_of<'a>(
+    version: Version,
     before: &[u8],
     left: u64,
     bytes: &'a [u8],
 ) -> Result<((&'a [u8], u64), &'a [u8]), SavedFault>
     ensures fields { Reads (λ x. ((x.0.0.now, x.0.1), x.1.now)) result
-        (entry_at before.now left bytes.now) }
+        (entry_at version before.now left bytes.now) }
     ensures left { IfOk result (λ x. x.0.1 ≤ left) }
-    ensures len { IfOk result (λ x. (0 < length x.0.0.now) × (length x.0.0.now ≤ 255)) }
+    ensures len { IfOk result (λ x. (0 < length x.0.0.now) × (length x.0.0.now ≤ max_key_len)) }
 {
-    let (key, rest) = key_of(before, bytes)?;
+    let (key, rest) = key_of(version, before, bytes)?;
     let (counter, rest) = u64_of(rest)?;
     if counter == 0 {
         return Err(SavedFault::BadCounter);
@@ -191,15 +241,17 @@ fn fields_of<'a>(
 
 fn entry_of<'a>(
     alloc: Global,
+    version: Version,
     before: &[u8],
     left: u64,
     bytes: &'a [u8],
 ) -> Result<((Key, u64), &'a [u8]), SavedFault>
-    ensures entry { Gives (λ x. (x.0, x.1.now)) result (entry_at before.now left bytes.now) }
+    ensures entry { Gives (λ x. (x.0, x.1.now)) result
+        (entry_at version before.now left bytes.now) }
     ensures left { IfOk result (λ x. x.0.1 ≤ left) }
-    ensures early { StopsAt result (entry_at before.now left bytes.now) }
+    ensures early { StopsAt result (entry_at version before.now left bytes.now) }
 {
-    let ((key, counter), rest) = fields_of(before, left, bytes)?;
+    let ((key, counter), rest) = fields_of(version, before, left, bytes)?;
     match Key::new(alloc, key) {
         Ok(key) => Ok(((key, counter), rest)),
         Err(KeyFault::Memory) => Err(SavedFault::Memory),
@@ -219,19 +271,20 @@ fn last_key(entries: &[(Key, u64)]) -> &[u8]
 
 fn entries_of(
     alloc: Global,
+    version: Version,
     count: u64,
     total: u64,
     bytes: &[u8],
 ) -> Result<(Vec<(Key, u64)>, &[u8]), SavedFault>
     ensures entries { Gives (λ x. (x.0.items, x.1.now)) result
-        (entries_at count [] total bytes.now) }
-    ensures early { StopsAt result (entries_head_at count total bytes.now) }
+        (entries_at version count [] total bytes.now) }
+    ensures early { StopsAt result (entries_head_at version count total bytes.now) }
 {
     let mut entries = Vec::new(alloc);
     let mut left = total;
     let mut rest = bytes;
     for _ in 0..count {
-        let (entry, after) = entry_of(alloc, last_key(&entries), left, rest)?;
+        let (entry, after) = entry_of(alloc, version, last_key(&entries), left, rest)?;
         left -= entry.1;
         entries.push(entry)?;
         rest = after;
@@ -240,9 +293,9 @@ fn entries_of(
 }
 
 #[tactic(auto, unfolding(crate::specs::Reading::sketch_at, crate::specs::Reading::sketch_head_at))]
-fn summary_of(alloc: Global, bytes: &[u8]) -> Result<(Summary, &[u8]), SavedFault>
-    ensures summary { Gives (λ x. (x.0, x.1.now)) result (sketch_at bytes.now) }
-    ensures early { StopsAt result (sketch_head_at bytes.now) }
+fn summary_of(alloc: Global, version: Version, bytes: &[u8]) -> Result<(Summary, &[u8]), SavedFault>
+    ensures summary { Gives (λ x. (x.0, x.1.now)) result (sketch_at version bytes.now) }
+    ensures early { StopsAt result (sketch_head_at version bytes.now) }
 {
     let (k, rest) = u16_of(bytes)?;
     if k == 0 {
@@ -253,7 +306,7 @@ fn summary_of(alloc: Global, bytes: &[u8]) -> Result<(Summary, &[u8]), SavedFaul
     if count > k {
         return Err(SavedFault::BadCount);
     }
-    let (entries, rest) = entries_of(alloc, u64::from(count), total, rest)?;
+    let (entries, rest) = entries_of(alloc, version, u64::from(count), total, rest)?;
     Ok((Summary::from_entries(u64::from(k), total, entries), rest))
 }
 

@@ -4,154 +4,261 @@ use crate::{Saved, SavedFault, read, write};
 use hh_counters::Summary;
 use hh_countmin::{Family, Table};
 use hh_stream::Key;
+use std::alloc::Global;
+use std::process::Abort;
 use std::test::Fail;
 
-// The summary with two counters of a 5, b 3, c 2, a 1.
-const COUNTERS: &[u8] =
+// The summary with two counters of a 5, b 3, c 2, a 1, in version 1 and 2.
+const COUNTERS_1: &[u8] =
     b"HHS1\x01\x00\x02\x00\x00\x00\x00\x00\x00\x00\x0b\x00\x02\x01a\x00\x00\x00\x00\x00\x00\x00\x04\x01b\x00\x00\x00\x00\x00\x00\x00\x01";
 
+const COUNTERS_2: &[u8] =
+    b"HHS2\x01\x00\x02\x00\x00\x00\x00\x00\x00\x00\x0b\x00\x02\x00\x01a\x00\x00\x00\x00\x00\x00\x00\x04\x00\x01b\x00\x00\x00\x00\x00\x00\x00\x01";
+
 // A summary with one counter of two.
-const ONE_COUNTER: &[u8] =
+const ONE_COUNTER_1: &[u8] =
     b"HHS1\x01\x00\x02\x00\x00\x00\x00\x00\x00\x00\x10\x00\x01\x01a\x00\x00\x00\x00\x00\x00\x00\x01";
 
-const NO_COUNTERS: &[u8] = b"HHS1\x01\x00\x02\x00\x00\x00\x00\x00\x00\x00\x00\x00\x00";
+const ONE_COUNTER_2: &[u8] =
+    b"HHS2\x01\x00\x02\x00\x00\x00\x00\x00\x00\x00\x10\x00\x01\x00\x01a\x00\x00\x00\x00\x00\x00\x00\x01";
+
+const NO_COUNTERS_1: &[u8] = b"HHS1\x01\x00\x02\x00\x00\x00\x00\x00\x00\x00\x00\x00\x00";
+
+const NO_COUNTERS_2: &[u8] = b"HHS2\x01\x00\x02\x00\x00\x00\x00\x00\x00\x00\x00\x00\x00";
 
 // The table of a 5, e 2, b 1 of the family z = 256 with rows (1, 0) and (3, 1), of width 4.
-const CELLS: &[u8] =
+const CELLS_1: &[u8] =
     b"HHS1\x02\x00\x00\x00\x04\x02\x00\x00\x00\x00\x00\x00\x01\x00\x00\x00\x00\x00\x00\x00\x00\x01\x00\x00\x00\x00\x00\x00\x00\x00\x00\x00\x00\x00\x00\x00\x00\x03\x00\x00\x00\x00\x00\x00\x00\x01\x00\x00\x00\x00\x00\x00\x00\x08\x00\x00\x00\x00\x00\x00\x00\x00\x00\x00\x00\x00\x00\x00\x00\x00\x00\x00\x00\x00\x00\x00\x00\x07\x00\x00\x00\x00\x00\x00\x00\x01\x00\x00\x00\x00\x00\x00\x00\x00\x00\x00\x00\x00\x00\x00\x00\x00\x00\x00\x00\x00\x00\x00\x00\x01\x00\x00\x00\x00\x00\x00\x00\x07";
+
+const CELLS_2: &[u8] =
+    b"HHS2\x02\x00\x00\x00\x04\x02\x00\x00\x00\x00\x00\x00\x01\x00\x00\x00\x00\x00\x00\x00\x00\x01\x00\x00\x00\x00\x00\x00\x00\x00\x00\x00\x00\x00\x00\x00\x00\x03\x00\x00\x00\x00\x00\x00\x00\x01\x00\x00\x00\x00\x00\x00\x00\x08\x00\x00\x00\x00\x00\x00\x00\x00\x00\x00\x00\x00\x00\x00\x00\x00\x00\x00\x00\x00\x00\x00\x00\x07\x00\x00\x00\x00\x00\x00\x00\x01\x00\x00\x00\x00\x00\x00\x00\x00\x00\x00\x00\x00\x00\x00\x00\x00\x00\x00\x00\x00\x00\x00\x00\x01\x00\x00\x00\x00\x00\x00\x00\x07";
+
+const PAIRS: [(&[u8], &[u8]); 4] = [
+    (COUNTERS_1, COUNTERS_2),
+    (ONE_COUNTER_1, ONE_COUNTER_2),
+    (NO_COUNTERS_1, NO_COUNTERS_2),
+    (CELLS_1, CELLS_2),
+];
 
 fn key(rt: &HostRuntime, bytes: &[u8]) -> Result<Key, Fail> {
     Ok(Key::new(rt.alloc(), bytes)?)
 }
 
+fn summary_in(rt: &HostRuntime, bytes: &[u8]) -> Result<Summary, Fail> {
+    match read(rt.alloc(), bytes)? {
+        Saved::Counters(summary) => Ok(summary),
+        Saved::Cells(_) => Err(Fail::new("a summary was read as a table")),
+    }
+}
+
+fn table_in(rt: &HostRuntime, bytes: &[u8]) -> Result<Table, Fail> {
+    match read(rt.alloc(), bytes)? {
+        Saved::Cells(table) => Ok(table),
+        Saved::Counters(_) => Err(Fail::new("a table was read as a summary")),
+    }
+}
+
 #[test]
-fn summaries_have_one_spelling(rt: HostRuntime) -> Result<(), Fail> {
+fn summaries_are_written_in_version_2(rt: HostRuntime) -> Result<(), Fail> {
     let alloc = rt.alloc();
     let mut summary = Summary::new(alloc, 2)?;
     let empty = Saved::Counters(Summary::new(alloc, 2)?);
-    assert_eq!(rt; write(alloc, &empty)?.as_slice(), NO_COUNTERS);
+    assert_eq!(rt; write(alloc, &empty)?.as_slice(), NO_COUNTERS_2);
     for (bytes, weight) in [(b"a", 5), (b"b", 3), (b"c", 2), (b"a", 1)] {
         summary.add(&key(&rt, bytes)?, weight)?;
     }
     assert_eq!(rt;
         write(alloc, &Saved::Counters(summary))?.as_slice(),
-        COUNTERS
+        COUNTERS_2
     );
-    let Saved::Counters(summary) = read(alloc, COUNTERS)? else {
-        panic!(rt; "a summary was read as a table");
-    };
-    assert_eq!(rt; (summary.k(), summary.total(), summary.len()), (2, 11, 2));
-    assert_eq!(rt; summary.get(&key(&rt, b"a")?), 4);
-    assert_eq!(rt; summary.get(&key(&rt, b"b")?), 1);
-    for bytes in [NO_COUNTERS, ONE_COUNTER] {
-        assert_eq!(rt; write(alloc, &read(alloc, bytes)?)?.as_slice(), bytes);
+    Ok(())
+}
+
+#[test]
+fn tables_are_written_in_version_2(rt: HostRuntime) -> Result<(), Fail> {
+    let alloc = rt.alloc();
+    let family = Family::from_parts(alloc, 256, &[(1, 0), (3, 1)])?;
+    let mut table = Table::new(alloc, family, 4)?;
+    for (bytes, weight) in [(b"a", 5), (b"e", 2), (b"b", 1)] {
+        table.add(&key(&rt, bytes)?, weight)?;
+    }
+    assert_eq!(rt; write(alloc, &Saved::Cells(table))?.as_slice(), CELLS_2);
+    Ok(())
+}
+
+#[test]
+fn summaries_of_both_versions_are_equal(rt: HostRuntime) -> Result<(), Fail> {
+    for bytes in [COUNTERS_1, COUNTERS_2] {
+        let summary = summary_in(&rt, bytes)?;
+        assert_eq!(rt; (summary.k(), summary.total(), summary.len()), (2, 11, 2));
+        assert_eq!(rt; summary.get(&key(&rt, b"a")?), 4);
+        assert_eq!(rt; summary.get(&key(&rt, b"b")?), 1);
     }
     Ok(())
 }
 
 #[test]
-fn tables_have_one_spelling(rt: HostRuntime) -> Result<(), Fail> {
-    let alloc = rt.alloc();
-    let family = Family::from_parts(alloc, 256, &[(1, 0), (3, 1)])?;
-    let mut table = Table::new(alloc, family.copy()?, 4)?;
-    for (bytes, weight) in [(b"a", 5), (b"e", 2), (b"b", 1)] {
-        table.add(&key(&rt, bytes)?, weight)?;
+fn tables_of_both_versions_are_equal(rt: HostRuntime) -> Result<(), Fail> {
+    let family = Family::from_parts(rt.alloc(), 256, &[(1, 0), (3, 1)])?;
+    for bytes in [CELLS_1, CELLS_2] {
+        let table = table_in(&rt, bytes)?;
+        assert!(rt; *table.family() == family);
+        assert_eq!(rt; (table.width(), table.total()), (4, 8));
+        assert_eq!(rt; table.cells(), [0, 0, 7, 1, 0, 0, 1, 7].as_slice());
     }
-    assert_eq!(rt; write(alloc, &Saved::Cells(table))?.as_slice(), CELLS);
-    let Saved::Cells(table) = read(alloc, CELLS)? else {
-        panic!(rt; "a table was read as a summary");
-    };
-    assert!(rt; *table.family() == family);
-    assert_eq!(rt; (table.width(), table.total()), (4, 8));
-    assert_eq!(rt; table.cells(), [0, 0, 7, 1, 0, 0, 1, 7].as_slice());
+    Ok(())
+}
+
+#[test]
+fn both_versions_are_written_as_the_second(rt: HostRuntime) -> Result<(), Fail> {
+    let alloc = rt.alloc();
+    for (first, second) in PAIRS {
+        for bytes in [first, second] {
+            assert_eq!(rt; write(alloc, &read(alloc, bytes)?)?.as_slice(), second);
+        }
+    }
     Ok(())
 }
 
 // The bytes with a field at a place.
-fn spoiled(rt: &HostRuntime, bytes: &[u8], at: usize, field: &[u8]) -> Result<Vec<u8>, Fail> {
-    let mut spoiled = bytes.to_vec(rt.alloc())?;
+fn spoiled(alloc: Global, bytes: &[u8], at: usize, field: &[u8]) -> Result<Vec<u8>, Fail> {
+    let mut spoiled = bytes.to_vec(alloc)?;
     for (place, byte) in spoiled.iter_mut().skip(at).zip(field) {
         *place = *byte;
     }
     Ok(spoiled)
 }
 
-fn fault(rt: &HostRuntime, bytes: &[u8]) -> Option<SavedFault> {
-    read(rt.alloc(), bytes).err()
+fn fault(alloc: Global, bytes: &[u8]) -> Option<SavedFault> {
+    read(alloc, bytes).err()
 }
 
-#[test]
-fn each_spoiled_field_of_a_summary_has_its_fault(rt: HostRuntime) -> Result<(), Fail> {
-    let cases = [
-        (0, b"\x49".as_slice(), SavedFault::BadMagic),
-        (4, b"\x03".as_slice(), SavedFault::BadKind),
-        (5, b"\x00\x00".as_slice(), SavedFault::BadK),
-        (
-            7,
-            b"\x80\x00\x00\x00\x00\x00\x00\x00".as_slice(),
-            SavedFault::TotalTooLarge,
-        ),
-        (15, b"\x00\x03".as_slice(), SavedFault::BadCount),
-        (17, b"\x00".as_slice(), SavedFault::BadKey),
-        (28, b"a".as_slice(), SavedFault::KeyOrder),
-        (36, b"\x00".as_slice(), SavedFault::BadCounter),
-        (26, b"\x0b".as_slice(), SavedFault::SumTooLarge),
-        (
-            19,
-            b"\xff\xff\xff\xff\xff\xff\xff\xff".as_slice(),
-            SavedFault::SumTooLarge,
-        ),
-    ];
+// Reads the bytes with each field in turn, and compares the faults.
+fn are_spoiled(
+    rt: &(impl Abort + AllocGlobal),
+    bytes: &[u8],
+    cases: &[(usize, &[u8], SavedFault)],
+) -> Result<(), Fail> {
     for (at, field, wanted) in cases {
-        let bytes = spoiled(&rt, COUNTERS, at, field)?;
-        assert_eq!(rt; fault(&rt, &bytes), Some(wanted), "at {at}");
+        let spoiled = spoiled(rt.alloc(), bytes, *at, field)?;
+        assert_eq!(rt; fault(rt.alloc(), &spoiled), Some(*wanted), "at {at}");
     }
     Ok(())
 }
 
+// The fields before the first entry stand at the same places in both versions.
+#[test]
+fn each_spoiled_field_of_a_head_has_its_fault(rt: HostRuntime) -> Result<(), Fail> {
+    let cases: [(usize, &[u8], SavedFault); 9] = [
+        (0, b"\x49", SavedFault::BadMagic),
+        (3, b"0", SavedFault::BadMagic),
+        (3, b"3", SavedFault::BadMagic),
+        (4, b"\x00", SavedFault::BadKind),
+        (4, b"\x03", SavedFault::BadKind),
+        (5, b"\x00\x00", SavedFault::BadK),
+        (
+            7,
+            b"\x80\x00\x00\x00\x00\x00\x00\x00",
+            SavedFault::TotalTooLarge,
+        ),
+        (15, b"\x00\x03", SavedFault::BadCount),
+        (15, b"\x01\x00", SavedFault::BadCount),
+    ];
+    are_spoiled(&rt, COUNTERS_1, &cases)?;
+    are_spoiled(&rt, COUNTERS_2, &cases)
+}
+
+#[test]
+fn each_spoiled_field_of_an_entry_of_version_1_has_its_fault(rt: HostRuntime) -> Result<(), Fail> {
+    let cases: [(usize, &[u8], SavedFault); 7] = [
+        (17, b"\x00", SavedFault::BadKey),
+        (27, b"\x00", SavedFault::BadKey),
+        (28, b"a", SavedFault::KeyOrder),
+        (36, b"\x00", SavedFault::BadCounter),
+        (26, b"\x0b", SavedFault::SumTooLarge),
+        (
+            19,
+            b"\xff\xff\xff\xff\xff\xff\xff\xff",
+            SavedFault::SumTooLarge,
+        ),
+        // two bytes of length are 0x0161
+        (3, b"2", SavedFault::Truncated),
+    ];
+    are_spoiled(&rt, COUNTERS_1, &cases)
+}
+
+#[test]
+fn each_spoiled_field_of_an_entry_of_version_2_has_its_fault(rt: HostRuntime) -> Result<(), Fail> {
+    let cases: [(usize, &[u8], SavedFault); 11] = [
+        (17, b"\x00\x00", SavedFault::BadKey),
+        (17, b"\x10\x01", SavedFault::BadKey),
+        (17, b"\xff\xff", SavedFault::BadKey),
+        (17, b"\x10\x00", SavedFault::Truncated),
+        (28, b"\x00\x00", SavedFault::BadKey),
+        (28, b"\x10\x01", SavedFault::BadKey),
+        (30, b"a", SavedFault::KeyOrder),
+        (38, b"\x00", SavedFault::BadCounter),
+        (27, b"\x0b", SavedFault::SumTooLarge),
+        (
+            20,
+            b"\xff\xff\xff\xff\xff\xff\xff\xff",
+            SavedFault::SumTooLarge,
+        ),
+        // the first byte of the first length is a length of 0
+        (3, b"1", SavedFault::BadKey),
+    ];
+    are_spoiled(&rt, COUNTERS_2, &cases)
+}
+
 #[test]
 fn each_spoiled_field_of_a_table_has_its_fault(rt: HostRuntime) -> Result<(), Fail> {
-    let cases = [
-        (5, b"\x00\x00\x00\x00".as_slice(), SavedFault::BadWidth),
-        (5, b"\x00\x01\x00\x01".as_slice(), SavedFault::BadWidth),
-        (9, b"\x00".as_slice(), SavedFault::BadDepth),
-        (9, b"\x11".as_slice(), SavedFault::BadDepth),
-        (16, b"\x00".as_slice(), SavedFault::BadCoefficient),
-        (25, b"\x00".as_slice(), SavedFault::BadCoefficient),
+    let cases: [(usize, &[u8], SavedFault); 12] = [
+        (3, b"3", SavedFault::BadMagic),
+        (5, b"\x00\x00\x00\x00", SavedFault::BadWidth),
+        (5, b"\x00\x01\x00\x01", SavedFault::BadWidth),
+        (9, b"\x00", SavedFault::BadDepth),
+        (9, b"\x11", SavedFault::BadDepth),
+        (16, b"\x00", SavedFault::BadCoefficient),
+        (25, b"\x00", SavedFault::BadCoefficient),
         (
             26,
-            b"\x1f\xff\xff\xff\xff\xff\xff\xff".as_slice(),
+            b"\x1f\xff\xff\xff\xff\xff\xff\xff",
             SavedFault::BadCoefficient,
         ),
-        (81, b"\x06".as_slice(), SavedFault::RowSum),
-        (57, b"\x09".as_slice(), SavedFault::RowSum),
+        (50, b"\x80", SavedFault::TotalTooLarge),
+        (81, b"\x06", SavedFault::RowSum),
+        (57, b"\x09", SavedFault::RowSum),
         // a row whose sum is 2^64 + 8
         (
             58,
-            b"\xff\xff\xff\xff\xff\xff\xff\xff\x00\x00\x00\x00\x00\x00\x00\x09\x00\x00\x00\x00\x00\x00\x00\x00\x00\x00\x00\x00\x00\x00\x00\x00".as_slice(),
+            b"\xff\xff\xff\xff\xff\xff\xff\xff\x00\x00\x00\x00\x00\x00\x00\x09\x00\x00\x00\x00\x00\x00\x00\x00\x00\x00\x00\x00\x00\x00\x00\x00",
             SavedFault::RowSum,
         ),
     ];
-    for (at, field, wanted) in cases {
-        let bytes = spoiled(&rt, CELLS, at, field)?;
-        assert_eq!(rt; fault(&rt, &bytes), Some(wanted), "at {at}");
+    are_spoiled(&rt, CELLS_1, &cases)?;
+    are_spoiled(&rt, CELLS_2, &cases)
+}
+
+// Reads each proper prefix of the bytes, and the bytes with one more.
+fn begin_and_end(rt: &(impl Abort + AllocGlobal), bytes: &[u8]) -> Result<(), Fail> {
+    for len in 0..bytes.len() {
+        assert_eq!(rt;
+            fault(rt.alloc(), &bytes[..len]),
+            Some(SavedFault::Truncated),
+            "at {len}"
+        );
     }
+    let mut longer = bytes.to_vec(rt.alloc())?;
+    longer.push(0)?;
+    assert_eq!(rt; fault(rt.alloc(), &longer), Some(SavedFault::Trailing));
     Ok(())
 }
 
 #[test]
 fn prefixes_are_truncated_and_more_bytes_trail(rt: HostRuntime) -> Result<(), Fail> {
-    for bytes in [COUNTERS, ONE_COUNTER, NO_COUNTERS, CELLS] {
-        for len in 0..bytes.len() {
-            assert_eq!(rt;
-                fault(&rt, &bytes[..len]),
-                Some(SavedFault::Truncated),
-                "at {len}"
-            );
-        }
-        let mut longer = bytes.to_vec(rt.alloc())?;
-        longer.push(0)?;
-        assert_eq!(rt; fault(&rt, &longer), Some(SavedFault::Trailing));
+    for (first, second) in PAIRS {
+        begin_and_end(&rt, first)?;
+        begin_and_end(&rt, second)?;
     }
     Ok(())
 }
@@ -160,21 +267,30 @@ fn prefixes_are_truncated_and_more_bytes_trail(rt: HostRuntime) -> Result<(), Fa
 fn heads_that_promise_much_are_truncated(rt: HostRuntime) {
     for bytes in [
         b"HHS1\x01\xff\xff\x00\x00\x00\x00\x00\x00\x00\x00\xff\xff".as_slice(),
+        b"HHS2\x01\xff\xff\x00\x00\x00\x00\x00\x00\x00\x00\xff\xff".as_slice(),
         b"HHS1\x02\x00\x01\x00\x00\x10".as_slice(),
+        b"HHS2\x02\x00\x01\x00\x00\x10".as_slice(),
     ] {
-        assert_eq!(rt; fault(&rt, bytes), Some(SavedFault::Truncated));
+        assert_eq!(rt; fault(rt.alloc(), bytes), Some(SavedFault::Truncated));
     }
 }
 
 #[test]
 fn keys_rise(rt: HostRuntime) -> Result<(), Fail> {
     let exchanged = spoiled(
-        &rt,
-        COUNTERS,
+        rt.alloc(),
+        COUNTERS_1,
         17,
         b"\x01b\x00\x00\x00\x00\x00\x00\x00\x01\x01a\x00\x00\x00\x00\x00\x00\x00\x04",
     )?;
-    assert_eq!(rt; fault(&rt, &exchanged), Some(SavedFault::KeyOrder));
+    assert_eq!(rt; fault(rt.alloc(), &exchanged), Some(SavedFault::KeyOrder));
+    let exchanged = spoiled(
+        rt.alloc(),
+        COUNTERS_2,
+        17,
+        b"\x00\x01b\x00\x00\x00\x00\x00\x00\x00\x01\x00\x01a\x00\x00\x00\x00\x00\x00\x00\x04",
+    )?;
+    assert_eq!(rt; fault(rt.alloc(), &exchanged), Some(SavedFault::KeyOrder));
     Ok(())
 }
 
@@ -185,10 +301,8 @@ fn as_many_counters_as_k_allows_are_saved(rt: HostRuntime) -> Result<(), Fail> {
         summary.add(&key(&rt, &number.to_be_bytes())?, 1)?;
     }
     let bytes = write(rt.alloc(), &Saved::Counters(summary))?;
-    assert_eq!(rt; bytes.len(), 17 + 65_535 * 11);
-    let Saved::Counters(summary) = read(rt.alloc(), &bytes)? else {
-        panic!(rt; "a summary was read as a table");
-    };
+    assert_eq!(rt; bytes.len(), 17 + 65_535 * 12);
+    let summary = summary_in(&rt, &bytes)?;
     assert_eq!(rt; (summary.len(), summary.total()), (65_535, 65_535));
     Ok(())
 }
@@ -199,23 +313,54 @@ fn a_family_of_16_rows_is_saved(rt: HostRuntime) -> Result<(), Fail> {
     let table = Table::new(rt.alloc(), family.copy()?, 3)?;
     let bytes = write(rt.alloc(), &Saved::Cells(table))?;
     assert_eq!(rt; bytes.len(), 26 + 16 * 16 + 16 * 24);
-    let Saved::Cells(table) = read(rt.alloc(), &bytes)? else {
-        panic!(rt; "a table was read as a summary");
-    };
-    assert!(rt; *table.family() == family);
+    assert!(rt; *table_in(&rt, &bytes)?.family() == family);
     Ok(())
 }
 
 #[test]
-fn a_key_of_255_bytes_is_saved(rt: HostRuntime) -> Result<(), Fail> {
-    let longest = key(&rt, &[0xff; 255])?;
-    let mut summary = Summary::new(rt.alloc(), 1)?;
-    summary.add(&longest, 9)?;
-    let bytes = write(rt.alloc(), &Saved::Counters(summary))?;
-    assert_eq!(rt; bytes.len(), 17 + 255 + 9);
-    let Saved::Counters(summary) = read(rt.alloc(), &bytes)? else {
-        panic!(rt; "a summary was read as a table");
-    };
-    assert_eq!(rt; summary.get(&longest), 9);
+fn keys_of_up_to_4096_bytes_are_saved(rt: HostRuntime) -> Result<(), Fail> {
+    for len in [1, 24, 25, 255, 256, 4096] {
+        let longest = key(&rt, &vec![in rt.alloc(); 0xff; len]?)?;
+        let mut summary = Summary::new(rt.alloc(), 1)?;
+        summary.add(&longest, 9)?;
+        let bytes = write(rt.alloc(), &Saved::Counters(summary))?;
+        assert_eq!(rt; bytes.len(), 17 + 2 + len + 8);
+        assert_eq!(rt; summary_in(&rt, &bytes)?.get(&longest), 9);
+    }
+    Ok(())
+}
+
+// A summary of one counter 9, whose key has so many bytes behind its length.
+fn of_one_key(rt: &HostRuntime, magic: &[u8], len: &[u8], bytes: usize) -> Result<Vec<u8>, Fail> {
+    let mut file = magic.to_vec(rt.alloc())?;
+    file.extend_from_slice(b"\x01\x00\x01\x00\x00\x00\x00\x00\x00\x00\x09\x00\x01")?;
+    file.extend_from_slice(len)?;
+    file.extend_from_slice(&vec![in rt.alloc(); b'x'; bytes]?)?;
+    file.extend_from_slice(b"\x00\x00\x00\x00\x00\x00\x00\x09")?;
+    Ok(file)
+}
+
+#[test]
+fn the_longest_keys_of_both_versions_are_read(rt: HostRuntime) -> Result<(), Fail> {
+    let files: [(&[u8], &[u8], usize); 3] = [
+        (b"HHS1", b"\xff", 255),
+        (b"HHS2", b"\x00\xff", 255),
+        (b"HHS2", b"\x10\x00", 4096),
+    ];
+    for (magic, len, bytes) in files {
+        let summary = summary_in(&rt, &of_one_key(&rt, magic, len, bytes)?)?;
+        let longest = key(&rt, &vec![in rt.alloc(); b'x'; bytes]?)?;
+        assert_eq!(rt; summary.get(&longest), 9);
+    }
+    Ok(())
+}
+
+#[test]
+fn longer_keys_are_refused(rt: HostRuntime) -> Result<(), Fail> {
+    let longer = of_one_key(&rt, b"HHS2", b"\x10\x01", 4097)?;
+    assert_eq!(rt; fault(rt.alloc(), &longer), Some(SavedFault::BadKey));
+    // version 1 has one byte of length, and takes the next for the key
+    let longer = of_one_key(&rt, b"HHS1", b"\x01\x00", 256)?;
+    assert_eq!(rt; fault(rt.alloc(), &longer), Some(SavedFault::SumTooLarge));
     Ok(())
 }

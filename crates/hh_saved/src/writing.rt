@@ -3,23 +3,22 @@
 ghost use Rattle.std.specs.Prelude.{◌≡◌, ◌++◌, IfOk, OnOk};
 ghost use Rattle.std.specs.List.{flat_map, AllByRecursion};
 ghost use Rattle.std.specs.Int.{w8, w16, w32, w64, to_be_bytes};
-ghost use Rattle.hh_stream.specs.Weights.{IsKey};
 ghost use Rattle.hh_saved.specs.declared.saved.Saved.TheVariants.{Counters, Cells};
-ghost use Rattle.hh_saved.specs.Spelling.{Spells, IsSaved, entry_bytes, pair_bytes, cells_bytes, sketch_bytes, grid_bytes};
+ghost use Rattle.hh_saved.specs.Spelling.{Spells, IsSaved, IsSavedKey, entry_bytes, pair_bytes, cells_bytes, sketch_bytes, grid_bytes};
 
-use crate::format::{CELLS, COUNTERS, MAGIC};
+use crate::format::{CELLS, COUNTERS, Version};
 use crate::saved::Saved;
 use hh_counters::Summary;
 use hh_countmin::{Family, Table};
 use hh_stream::Key;
 use std::alloc::{AllocError, Global};
 
-/// The one spelling of the summary or table.
+/// The one spelling of the summary or table in version 2, which every value has.
 pub fn write(alloc: Global, saved: &Saved) -> Result<Vec<u8>, AllocError>
-    ensures { IfOk result (λ bytes. Spells bytes.items saved.now) }
+    ensures { IfOk result (λ bytes. Spells Version.Two bytes.items saved.now) }
 {
     let mut out = Vec::new(alloc);
-    put_u32(&mut out, MAGIC)?;
+    put_u32(&mut out, Version::Two.magic())?;
     match saved {
         Saved::Counters(summary) => {
             put_u8(&mut out, COUNTERS)?;
@@ -62,8 +61,8 @@ fn put_u64(out: &mut Vec<u8>, number: u64) -> Result<(), AllocError>
 // ---- a counter summary
 
 fn put_summary(out: &mut Vec<u8>, summary: &Summary) -> Result<(), AllocError>
-    ensures spelled { OnOk result (out.new.items ≡ out.old.items ++ sketch_bytes summary.now) }
-    ensures saved { OnOk result (IsSaved (Counters summary.now)) }
+    ensures spelled { OnOk result (out.new.items ≡ out.old.items ++ sketch_bytes Version.Two summary.now) }
+    ensures saved { OnOk result (IsSaved Version.Two (Counters summary.now)) }
 {
     put_u16(out, summary.k() as u16)?;
     put_u64(out, summary.total())?;
@@ -74,8 +73,8 @@ fn put_summary(out: &mut Vec<u8>, summary: &Summary) -> Result<(), AllocError>
 
 fn put_entries(out: &mut Vec<u8>, summary: &Summary) -> Result<(), AllocError>
     ensures spelled { OnOk result
-        (out.new.items ≡ out.old.items ++ flat_map entry_bytes summary.now.counters) }
-    ensures keys { OnOk result (AllByRecursion (λ e. IsKey e.0) summary.now.counters) }
+        (out.new.items ≡ out.old.items ++ flat_map (entry_bytes Version.Two) summary.now.counters) }
+    ensures keys { OnOk result (AllByRecursion (λ e. IsSavedKey Version.Two e.0) summary.now.counters) }
 {
     for i in 0..summary.len() {
         let (key, counter) = summary.entry(i);
@@ -86,11 +85,11 @@ fn put_entries(out: &mut Vec<u8>, summary: &Summary) -> Result<(), AllocError>
 
 fn put_entry(out: &mut Vec<u8>, key: &Key, counter: u64) -> Result<(), AllocError>
     ensures spelled { OnOk result
-        (out.new.items ≡ out.old.items ++ entry_bytes (key.now, counter)) }
-    ensures key { IsKey key.now }
+        (out.new.items ≡ out.old.items ++ entry_bytes Version.Two (key.now, counter)) }
+    ensures key { IsSavedKey Version.Two key.now }
 {
     let bytes = key.bytes();
-    put_u8(out, bytes.len() as u8)?;
+    put_u16(out, bytes.len() as u16)?;
     out.extend_from_slice(bytes)?;
     put_u64(out, counter)?;
     Ok(())
@@ -100,7 +99,7 @@ fn put_entry(out: &mut Vec<u8>, key: &Key, counter: u64) -> Result<(), AllocErro
 
 fn put_table(out: &mut Vec<u8>, table: &Table) -> Result<(), AllocError>
     ensures spelled { OnOk result (out.new.items ≡ out.old.items ++ grid_bytes table.now) }
-    ensures saved { OnOk result (IsSaved (Cells table.now)) }
+    ensures saved { OnOk result (IsSaved Version.Two (Cells table.now)) }
 {
     let family = table.family();
     put_u32(out, table.width() as u32)?;

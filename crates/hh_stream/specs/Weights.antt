@@ -10,7 +10,7 @@ Bytes = List ℕ
 
 -- the most bytes of a key, those of a key that takes no memory, and the largest total weight
 abbrev pub max_key_len : ℕ
-max_key_len = 255
+max_key_len = 4096
 
 abbrev pub inline_len : ℕ
 inline_len = 24
@@ -18,7 +18,7 @@ inline_len = 24
 abbrev pub max_total : ℕ
 max_total = 9223372036854775807
 
--- a key has 1 to 255 bytes
+-- a key has 1 to 4,096 bytes
 pub record IsKey (x : Bytes) : Type 0 where
   pub some : 1 ≤ length x
   pub few : length x ≤ max_key_len

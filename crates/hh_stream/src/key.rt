@@ -1,4 +1,4 @@
-//! Keys: 1 to 255 bytes.
+//! Keys: 1 to 4,096 bytes.
 
 ghost use Rattle.std.specs.Prelude.{◌≡◌, ◌<◌, ◌≤◌, ◌↔◌, ℕ, length, IsOk, IfOk, IsErrOf, EachIndex, slice_index, refl};
 ghost use Rattle.std.proofs.Common.{ap};
@@ -16,13 +16,13 @@ use std::hash::{Hash, Hasher};
 use std::marker::Model;
 
 /// The most bytes that a key has.
-pub const MAX_KEY_LEN: usize = 255;
+pub const MAX_KEY_LEN: usize = 4096;
 
 /// The most bytes of a key that takes no memory of its own.
 pub const INLINE_LEN: usize = 24;
 
-/// A key: 1 to 255 bytes. Keys are equal, ordered and hashed by their bytes, and a proper prefix
-/// stands before the longer key. A contract sees a key as the list of its bytes.
+/// A key: 1 to [`MAX_KEY_LEN`] bytes. Keys are equal, ordered and hashed by their bytes, and a proper
+/// prefix stands before the longer key. A contract sees a key as the list of its bytes.
 ///
 /// A key of up to [`INLINE_LEN`] bytes lies in the value itself.
 #[derive(Debug, Drop)]
@@ -45,7 +45,7 @@ impl Model for Key {
 pub enum KeyFault {
     /// There are none.
     Empty,
-    /// There are more than 255.
+    /// There are more than [`MAX_KEY_LEN`].
     TooLong,
     /// The allocator had no memory.
     Memory,

@@ -6,12 +6,12 @@ use std::process::Abort;
 use std::test::Fail;
 
 #[test]
-fn keys_have_1_to_255_bytes(rt: HostRuntime) -> Result<(), Fail> {
+fn keys_have_1_to_4096_bytes(rt: HostRuntime) -> Result<(), Fail> {
     let alloc = rt.alloc();
-    let long = vec![in alloc; b'x'; 256]?;
+    let long = vec![in alloc; b'x'; 4097]?;
     assert_eq!(rt; Key::new(alloc, b"").err(), Some(KeyFault::Empty));
     assert_eq!(rt; Key::new(alloc, &long).err(), Some(KeyFault::TooLong));
-    for len in [1, 24, 25, 255] {
+    for len in [1, 24, 25, 255, 256, 4096] {
         let bytes = vec![in alloc; b'x'; len]?;
         let key = Key::new(alloc, &bytes)?;
         let copy = key.copy()?;

@@ -52,7 +52,7 @@ fn buckets_with_the_largest_k(rt: HostRuntime) -> Result<(), Fail> {
 // The longest key, with weight 9.
 fn longest_key(alloc: Global) -> Result<Stream, Fail> {
     let mut stream = Stream::new(alloc);
-    stream.push(Key::new(alloc, &[0xff; 255])?, 9)?;
+    stream.push(Key::new(alloc, &[0xff; 4096])?, 9)?;
     Ok(stream)
 }
 

@@ -7,4 +7,4 @@ pub returns-clause-found : goal.returns-clause-found
 returns-clause-found c = is_found c.args.bytes.now c.all_of.result (λ i. omega (arith, c.type_inv.bytes i)) c.all_of.ensures.all
 
 pub returns-clause-only : goal.returns-clause-only
-returns-clause-only c = λ v is. subst (λ r. Gives (λ v. v) c.all_of.result r) (saved_again c.args.bytes.now v is) c.all_of.ensures.all
+returns-clause-only c = λ version v is. subst (λ r. Gives (λ v. v) c.all_of.result r) (saved_again version c.args.bytes.now v is) c.all_of.ensures.all

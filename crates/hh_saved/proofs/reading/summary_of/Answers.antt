@@ -14,5 +14,5 @@ from_entries-requires c =
     let t0 = number_takes w16 (2 ^ 16) wide16 c.args.bytes.now (k.k, k.rest.now) fits k.ensures in
     let t1 = total_takes k.rest.now (total.total, total.rest.now) t0.0.rest_fits total.ensures in
     let t2 = number_takes w16 (2 ^ 16) wide16 total.rest.now (count.count, count.rest.now) t1.0.rest_fits count.ensures in
-    let t3 = entries_take c.from.result [] total.total count.rest.now (entries.entries.items, entries.rest.now) t2.0.rest_fits entries.ensures.entries in
-    entries_fit c.from-2.result total.total entries.entries.items (omega arith) (omega (arith, t0.1)) t1.1 (omega (arith, t3.1)) t3.2
+    let t3 = entries_take c.args.version c.from.result [] total.total count.rest.now (entries.entries.items, entries.rest.now) t2.0.rest_fits entries.ensures.entries in
+    entries_fit c.args.version c.from-2.result total.total entries.entries.items (omega arith) (omega (arith, t0.1)) t1.1 (omega (arith, t3.1)) t3.2
