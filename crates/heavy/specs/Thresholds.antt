@@ -1,6 +1,7 @@
 -- The shares of the total above which a report lists keys.
 use Rattle.std.specs.Prelude.{◌+◌, ◌*◌, ◌==◌, ◌&&◌, nat_le, ℕ, Bool, List, take, drop, Option, Some, None, if◌then◌else◌}
 use Rattle.std.specs.List.{position_from}
+use Rattle.hh_counters.specs.Report.{max_q}
 use Rattle.heavy.specs.Streams.{is_number, value_of}
 use Rattle.heavy.specs.declared.threshold.Share.{Share}
 use Rattle.heavy.specs.declared.threshold.Share.TheVariants as share
@@ -28,7 +29,7 @@ numbers_of text = numbers_at text (position_from is_slash 0 text)
 
 -- p/q is a share of at least 1/(k + 1)
 abbrev pub is_threshold : ℕ → ℕ → ℕ → Bool
-is_threshold k p q = nat_le 1 p && nat_le p q && nat_le q 4294967296 && nat_le q (p * (k + 1))
+is_threshold k p q = nat_le 1 p && nat_le p q && nat_le q max_q && nat_le q (p * (k + 1))
 
 abbrev pub admitted : ℕ → Option (ℕ × ℕ) → Option (ℕ × ℕ)
 admitted k None = None

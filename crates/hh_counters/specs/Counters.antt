@@ -89,10 +89,14 @@ pub record Sketch : Type 0 where
   pub total : ℕ
   pub counters : Counters
 
+-- the largest k
+abbrev pub max_k : ℕ
+max_k = 65535
+
 -- the numbers and entries of a summary
 pub record Fits (k n : ℕ) (c : Counters) : Type 0 where
   pub some : 1 ≤ k
-  pub bounded_k : k ≤ 65535
+  pub bounded_k : k ≤ max_k
   pub bounded_total : n < 2 ^ 63
   pub few : length c ≤ k
   pub entries : IsCounters c

@@ -18,9 +18,13 @@ ranked_in (d ∷ ds) e = cond (is_lt (rank_cmp e d)) (e ∷ d ∷ ds) (d ∷ ran
 unfoldable pub by_rank : List Entry → List Entry
 by_rank es = fold ranked_in [] es
 
+-- the largest term of a share: 2^32
+abbrev pub max_q : ℕ
+max_q = 4294967296
+
 -- p/q is more than nothing and at most the whole, and its terms are at most 2^32
 abbrev pub IsShare : ℕ → ℕ → Type 0
-IsShare p q = (1 ≤ p) × (p ≤ q) × (q ≤ 4294967296)
+IsShare p q = (1 ≤ p) × (p ≤ q) × (q ≤ max_q)
 
 -- more than p/q of n
 abbrev pub is_heavy : ℕ → ℕ → ℕ → Entry → Bool

@@ -1,7 +1,7 @@
 -- Space-Saving (Metwally, Agrawal and El Abbadi 2005, here with weights): k + 1 counters, the least of which goes to a newcomer.
 use Rattle.std.specs.Prelude.{◌≡◌, ℕ, ◌+◌, ◌^◌, ◌<◌, ◌≤◌, not, ◌||◌, ◌==◌, if◌then◌else◌, nat_lt, nat_le, List, [], ◌∷◌, length, slice_index_or, filter, fold}
 use Rattle.hh_stream.specs.Weights.{Bytes, Entry, same_key, weight_of, total_of}
-use Rattle.hh_counters.specs.Counters.{Counters, IsCounters, add_at, lower, least_counter, Sketch}
+use Rattle.hh_counters.specs.Counters.{max_k, Counters, IsCounters, add_at, lower, least_counter, Sketch}
 
 -- 0 where one of the k + 1 counters is free, else the least
 abbrev pub least_of : Counters → ℕ → ℕ
@@ -62,7 +62,7 @@ space_saving xs k = fold (λ s e. step s e k) [] xs
 -- k is 1 to 65,535, there are at most k + 1 counters, and they add up to the total n
 pub record IsMonitor (k n : ℕ) (s : Counters) : Type 0 where
   pub some : 1 ≤ k
-  pub bounded_k : k ≤ 65535
+  pub bounded_k : k ≤ max_k
   pub bounded_total : n < 2 ^ 63
   pub few : length s ≤ k + 1
   pub entries : IsCounters s

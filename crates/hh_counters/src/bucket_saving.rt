@@ -5,7 +5,7 @@ ghost use Rattle.std.specs.Map.{keys_of, lookup};
 ghost use Rattle.std.specs.List.{IsDistinct};
 ghost use Rattle.indexmap.specs.IndexMap.{get as index_get, index_of, IsUnique, Updates};
 ghost use Rattle.hh_stream.specs.Weights.{Bytes, key_cmp, same_key};
-ghost use Rattle.hh_counters.specs.Counters.{Sketch, IsCounters, tally, lower};
+ghost use Rattle.hh_counters.specs.Counters.{max_k, Sketch, IsCounters, tally, lower};
 ghost use Rattle.hh_counters.specs.Buckets.{has, NoneEmpty, Changes, Moves, HasSame, HasNone, IsFirst, IsLinked, IsAdded};
 
 use crate::buckets::{first, pop_first, put, shift};
@@ -60,7 +60,7 @@ impl BucketSaving {
     /// Space-Saving of no items, with room for the first keys.
     pub fn new(alloc: Global, k: u64) -> Result<BucketSaving, NewFault>
         ensures empty { IfOk result (λ s. s ≡ record { k = k; total = 0; counters = [] }) }
-        ensures bad_k { IsErrOf result NewFault.BadK ↔ ((k ≡ 0) ⊎ (MAX_K < k)) }
+        ensures bad_k { IsErrOf result NewFault.BadK ↔ ((k ≡ 0) ⊎ (max_k < k)) }
     {
         if k == 0 || k > MAX_K {
             return Err(NewFault::BadK);

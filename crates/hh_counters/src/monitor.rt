@@ -1,12 +1,12 @@
 //! What every form of Space-Saving keeps and promises.
 
 ghost use Rattle.std.specs.Prelude.{◌≡◌, ◌+◌, ◌<◌, ◌≤◌, ◌↔◌, ◌==◌, OnOk, OnErr, IfOk, IfErr, IsErrOf, length, []};
-ghost use Rattle.hh_stream.specs.Weights.{weight_of, total_of};
+ghost use Rattle.hh_stream.specs.Weights.{max_total, weight_of, total_of};
 ghost use Rattle.hh_counters.specs.Counters.{Sketch, sketch_of};
 ghost use Rattle.hh_counters.specs.SpaceSaving.{least_of, monitor_of, monitored, translated};
 
 use crate::summary::{AddFault, Summary};
-use hh_stream::{Item, Key, MAX_TOTAL};
+use hh_stream::{Item, Key};
 use std::alloc::AllocError;
 
 /// Space-Saving over a weighted stream: at most k + 1 monitored keys with counters (Metwally,
@@ -26,7 +26,7 @@ pub trait Monitor: Drop {
     fn total(&self) -> u64
         ensures total { result ≡ (seen self.now).total }
         ensures sum { result ≡ total_of (seen self.now).counters }
-        ensures bounded { result ≤ MAX_TOTAL };
+        ensures bounded { result ≤ max_total };
 
     /// How many keys are monitored.
     fn len(&self) -> usize
@@ -56,7 +56,7 @@ pub trait Monitor: Drop {
         ensures added { OnOk result (seen self.new ≡ monitored (seen self.old) (key.now, weight)) }
         ensures unchanged { OnErr result (seen self.new ≡ seen self.old) }
         ensures too_large { IsErrOf result AddFault.TotalTooLarge
-            ↔ (MAX_TOTAL < (seen self.old).total + weight) };
+            ↔ (max_total < (seen self.old).total + weight) };
 
     /// The summary of Misra and Gries of the same items: each counter less the least one. Where
     /// memory is refused, the value comes back as it was.
@@ -69,7 +69,7 @@ pub trait Monitor: Drop {
 /// one, and is translated at the end.
 pub fn monitored_summary<M: Monitor>(monitor: M, items: &[Item]) -> Result<Summary, AllocError>
     requires empty { M.seen monitor ≡ monitor_of (M.seen monitor).k [] }
-    requires bounded { total_of items.now ≤ MAX_TOTAL }
+    requires bounded { total_of items.now ≤ max_total }
     ensures { IfOk result (λ summary. summary ≡ sketch_of (M.seen monitor).k items.now) }
 {
     let mut monitor = monitor;

@@ -1,8 +1,8 @@
 //! Space-Saving in its plain form.
 
 ghost use Rattle.std.specs.Prelude.{◌≡◌, ℕ, ◌+◌, ◌<◌, ◌≤◌, ◌^◌, ◌↔◌, ◌⊎◌, [], IfOk, IsOk, IsErr, OnOk, OnErr, IsErrOf, length, slice_index_or};
-ghost use Rattle.hh_stream.specs.Weights.{Entry, key_cmp, weight_of, total_of};
-ghost use Rattle.hh_counters.specs.Counters.{IsCounters, Sketch};
+ghost use Rattle.hh_stream.specs.Weights.{max_total, Entry, key_cmp, weight_of, total_of};
+ghost use Rattle.hh_counters.specs.Counters.{max_k, IsCounters, Sketch};
 ghost use Rattle.hh_counters.specs.SpaceSaving.{IsFirstLeast, IsMonitor, monitored, step, taken_over, translated};
 
 use crate::entries::{add_entry, counter_of, least_counter, lower_all};
@@ -40,7 +40,7 @@ impl SpaceSaving {
     /// Space-Saving of no items. It takes no memory.
     pub fn new(alloc: Global, k: u64) -> Result<SpaceSaving, BadK>
         ensures empty { IfOk result (λ s. s ≡ record { k = k; total = 0; counters = [] }) }
-        ensures bad_k { IsErr result ↔ ((k ≡ 0) ⊎ (MAX_K < k)) }
+        ensures bad_k { IsErr result ↔ ((k ≡ 0) ⊎ (max_k < k)) }
     {
         if k == 0 || k > MAX_K {
             return Err(BadK);
@@ -84,11 +84,11 @@ impl Monitor for SpaceSaving {
         ensures added { OnOk result (self.new ≡ monitored self.old (key.now, weight)) }
         ensures unchanged { OnErr result (self.new ≡ self.old) }
         ensures too_large { IsErrOf result AddFault.TotalTooLarge
-            ↔ (MAX_TOTAL < self.old.total + weight) }
+            ↔ (max_total < self.old.total + weight) }
 
         // a monitored key takes no memory
         ensures known { 0 < weight_of key.now self.old.counters
-            → self.old.total + weight ≤ MAX_TOTAL → IsOk result }
+            → self.old.total + weight ≤ max_total → IsOk result }
     {
         if weight > MAX_TOTAL - self.total {
             return Err(AddFault::TotalTooLarge);

@@ -1,8 +1,8 @@
 //! Misra-Gries summaries.
 
 ghost use Rattle.std.specs.Prelude.{◌≡◌, ℕ, ◌+◌, ◌<◌, ◌≤◌, ◌^◌, ◌↔◌, ◌⊎◌, [], ◌≢◌, ◌==◌, IsTrue, IsOk, IsErr, IsErrOf, IfOk, OnOk, OnErr, length, slice_index_or};
-ghost use Rattle.hh_stream.specs.Weights.{weight_of, total_of};
-ghost use Rattle.hh_counters.specs.Counters.{Fits, IsCounters, Sketch, added, merged, sketch_of, slack};
+ghost use Rattle.hh_stream.specs.Weights.{max_total, weight_of, total_of};
+ghost use Rattle.hh_counters.specs.Counters.{max_k, Fits, IsCounters, Sketch, added, merged, sketch_of, slack};
 
 use crate::entries::{add_item, are_counters, counter_of, joined, sum_of, sums_within};
 use hh_stream::{Item, Key, MAX_TOTAL};
@@ -74,7 +74,7 @@ impl Summary {
     /// The summary of no items. It takes no memory.
     pub fn new(alloc: Global, k: u64) -> Result<Summary, BadK>
         ensures empty { IfOk result (λ s. s ≡ record { k = k; total = 0; counters = [] }) }
-        ensures bad_k { IsErr result ↔ ((k ≡ 0) ⊎ (MAX_K < k)) }
+        ensures bad_k { IsErr result ↔ ((k ≡ 0) ⊎ (max_k < k)) }
     {
         if k == 0 || k > MAX_K {
             return Err(BadK);
@@ -88,12 +88,12 @@ impl Summary {
 
     /// The summary of the items, added one by one.
     pub fn of_items(alloc: Global, k: u64, items: &[Item]) -> Result<Summary, OfItemsFault>
-        requires { total_of items.now ≤ MAX_TOTAL }
+        requires { total_of items.now ≤ max_total }
         ensures misra_gries { IfOk result (λ s. s ≡ sketch_of k items.now) }
-        ensures bad_k { IsErrOf result OfItemsFault.BadK ↔ ((k ≡ 0) ⊎ (MAX_K < k)) }
+        ensures bad_k { IsErrOf result OfItemsFault.BadK ↔ ((k ≡ 0) ⊎ (max_k < k)) }
 
         // no items take no memory
-        ensures nothing { items.now ≡ [] → 1 ≤ k → k ≤ MAX_K → IsOk result }
+        ensures nothing { items.now ≡ [] → 1 ≤ k → k ≤ max_k → IsOk result }
     {
         let Ok(mut summary) = Summary::new(alloc, k) else {
             return Err(OfItemsFault::BadK);
@@ -143,7 +143,7 @@ impl Summary {
     /// The sum of the weights of all items.
     pub fn total(&self) -> u64
         ensures total { result ≡ self.now.total }
-        ensures bounded { result ≤ MAX_TOTAL }
+        ensures bounded { result ≤ max_total }
     {
         self.total
     }
@@ -205,11 +205,11 @@ impl Summary {
         ensures added { OnOk result (self.new ≡ added self.old (key.now, weight)) }
         ensures unchanged { OnErr result (self.new ≡ self.old) }
         ensures too_large { IsErrOf result AddFault.TotalTooLarge
-            ↔ (MAX_TOTAL < self.old.total + weight) }
+            ↔ (max_total < self.old.total + weight) }
 
         // a key that has a counter takes no memory
         ensures known { 0 < weight_of key.now self.old.counters
-            → self.old.total + weight ≤ MAX_TOTAL → IsOk result }
+            → self.old.total + weight ≤ max_total → IsOk result }
     {
         if weight > MAX_TOTAL - self.total {
             return Err(AddFault::TotalTooLarge);
@@ -231,7 +231,7 @@ impl Summary {
         ensures unchanged { OnErr result (self.new ≡ self.old) }
         ensures different_k { IsErrOf result MergeFault.DifferentK ↔ (self.old.k ≢ other.now.k) }
         ensures too_large { IsErrOf result MergeFault.TotalTooLarge
-            ↔ ((self.old.k ≡ other.now.k) × (MAX_TOTAL < self.old.total + other.now.total)) }
+            ↔ ((self.old.k ≡ other.now.k) × (max_total < self.old.total + other.now.total)) }
     {
         if self.k != other.k {
             return Err(MergeFault::DifferentK);

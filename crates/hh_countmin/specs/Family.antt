@@ -20,13 +20,18 @@ pub record Coefficients : Type 0 where
 abbrev pub IsRow : ℕ × ℕ → Type 0
 IsRow row = (1 ≤ row.0) × (row.0 < modulus) × (row.1 < modulus)
 
--- one to sixteen rows
-abbrev pub IsDepth : ℕ → Type 0
-IsDepth depth = (1 ≤ depth) × (depth ≤ 16)
+-- the most rows of a family, and the most cells of a row
+abbrev pub max_depth : ℕ
+max_depth = 16
 
--- one to 65,536 cells in a row
+abbrev pub max_width : ℕ
+max_width = 65536
+
+abbrev pub IsDepth : ℕ → Type 0
+IsDepth depth = (1 ≤ depth) × (depth ≤ max_depth)
+
 abbrev pub IsWidth : ℕ → Type 0
-IsWidth width = (1 ≤ width) × (width ≤ 65536)
+IsWidth width = (1 ≤ width) × (width ≤ max_width)
 
 abbrev pub AreCoefficients : ℕ → List (ℕ × ℕ) → Type 0
 AreCoefficients z rows = (1 ≤ z) × (z < modulus) × All IsRow rows

@@ -1,7 +1,7 @@
 //! Hash families.
 
 ghost use Rattle.std.specs.Prelude.{◌≡◌, ◌+◌, ◌*◌, ◌<◌, ◌≤◌, ◌↔◌, ◌⊎◌, length, IfOk, IsErrOf, IsTrue};
-ghost use Rattle.hh_countmin.specs.Family.{IsDepth, IsWidth, IsFamily, AreCoefficients, IsRow, row_of, fingerprint_of, cell_of, cell_of_fingerprint, drawn_family, factor_of, addend_of, rows_of_words};
+ghost use Rattle.hh_countmin.specs.Family.{max_depth, modulus, IsDepth, IsWidth, IsFamily, AreCoefficients, IsRow, row_of, fingerprint_of, cell_of, cell_of_fingerprint, drawn_family, factor_of, addend_of, rows_of_words};
 ghost use Rattle.rand_core.specs.Steps.{first_words};
 ghost use Rattle.rand_pcg.specs.Pcg.{pcg64};
 
@@ -66,7 +66,7 @@ impl Family {
     pub fn draw(alloc: Global, seed: u64, depth: u64) -> Result<Family, DrawFault>
         ensures drawn { IfOk result (λ family. family ≡ drawn_family seed depth) }
         ensures bad_depth { IsErrOf result DrawFault.BadDepth
-            ↔ ((depth ≡ 0) ⊎ (MAX_DEPTH < depth)) }
+            ↔ ((depth ≡ 0) ⊎ (max_depth < depth)) }
     {
         if depth == 0 || depth > MAX_DEPTH {
             return Err(DrawFault::BadDepth);
@@ -85,7 +85,7 @@ impl Family {
         ensures parts { IfOk result (λ family. family ≡ record { z = z; rows = rows.now }) }
         ensures in_range { IfOk result IsFamily }
         ensures bad_depth { IsErrOf result PartsFault.BadDepth
-            ↔ ((length rows.now ≡ 0) ⊎ (MAX_DEPTH < length rows.now)) }
+            ↔ ((length rows.now ≡ 0) ⊎ (max_depth < length rows.now)) }
         ensures bad_coefficient { IsErrOf result PartsFault.BadCoefficient
             ↔ (IsDepth (length rows.now) × ¬ (AreCoefficients z rows.now)) }
     {
@@ -138,7 +138,7 @@ impl Family {
     /// The fingerprint of a key, which the cells in all rows are computed from.
     pub fn fingerprint(&self, key: &Key) -> u64
         ensures fingerprint { result ≡ fingerprint_of self.now.z key.now }
-        ensures below { result < MODULUS }
+        ensures below { result < modulus }
     {
         let mut fingerprint = 0;
         for &byte in key.bytes() {
@@ -163,7 +163,7 @@ impl Family {
     pub fn cell_of_fingerprint(&self, r: u64, fingerprint: u64, width: u64) -> u64
         requires row { r < length self.now.rows }
         requires width { IsWidth width }
-        requires fingerprint { fingerprint < MODULUS }
+        requires fingerprint { fingerprint < modulus }
         ensures cell { result ≡ cell_of_fingerprint (row_of self.now r) fingerprint width }
         ensures within { result < width }
     {

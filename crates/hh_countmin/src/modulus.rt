@@ -1,6 +1,7 @@
 //! Arithmetic modulo 2^61 - 1, and modulo a width.
 
 ghost use Rattle.std.specs.Prelude.{◌≡◌, ◌+◌, ◌*◌, ◌<◌, ◌≤◌, ◌%◌};
+ghost use Rattle.hh_countmin.specs.Family.{modulus};
 
 /// Fingerprints and cells are computed modulo 2^61 - 1.
 pub const MODULUS: u64 = 2_305_843_009_213_693_951;
@@ -9,11 +10,11 @@ pub const MODULUS: u64 = 2_305_843_009_213_693_951;
 /// are added to those below, and at most one modulus is left over.
 #[inline]
 pub fn multiply_add(a: u64, b: u64, c: u64) -> u64
-    requires a { a < MODULUS }
-    requires b { b < MODULUS }
-    requires c { c < MODULUS }
-    ensures value { result ≡ (a * b + c) % MODULUS }
-    ensures below { result < MODULUS }
+    requires a { a < modulus }
+    requires b { b < modulus }
+    requires c { c < modulus }
+    ensures value { result ≡ (a * b + c) % modulus }
+    ensures below { result < modulus }
 {
     let wide = u128::from(a) * u128::from(b) + u128::from(c);
     let low = (wide & u128::from(MODULUS)) as u64;

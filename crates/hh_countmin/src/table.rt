@@ -1,11 +1,11 @@
 //! Count-Min tables.
 
 ghost use Rattle.std.specs.Prelude.{◌≡◌, ◌≢◌, ◌+◌, ◌*◌, ◌<◌, ◌≤◌, ◌^◌, ◌↔◌, ◌⊎◌, ◌==◌, ℕ, cond, sum, length, slice_index, IfOk, OnOk, OnErr, IsErr, IsErrOf, IsTrue, EachIndex};
-ghost use Rattle.hh_countmin.specs.Family.{IsWidth, row_of, cell_of_fingerprint};
+ghost use Rattle.hh_countmin.specs.Family.{max_width, modulus, IsWidth, row_of, cell_of_fingerprint};
+ghost use Rattle.hh_stream.specs.Weights.{max_total};
 ghost use Rattle.hh_countmin.specs.Table.{Fits, row_at, cell_at, cells_by, empty_table, added, merged, estimate_in};
 
 use crate::family::{Family, MAX_WIDTH};
-use crate::modulus::MODULUS;
 use hh_stream::{Key, MAX_TOTAL};
 use std::alloc::Global;
 use std::marker::Model;
@@ -68,7 +68,7 @@ impl Table {
     pub fn new(alloc: Global, family: Family, width: u64) -> Result<Table, TableFault>
         ensures table { IfOk result (λ table. table ≡ empty_table family width) }
         ensures bad_width { IsErrOf result TableFault.BadWidth
-            ↔ ((width ≡ 0) ⊎ (MAX_WIDTH < width)) }
+            ↔ ((width ≡ 0) ⊎ (max_width < width)) }
     {
         if width == 0 || width > MAX_WIDTH {
             return Err(TableFault::BadWidth);
@@ -118,7 +118,7 @@ impl Table {
     pub fn add(&mut self, key: &Key, weight: u64) -> Result<(), TotalTooLarge>
         ensures added { OnOk result (self.new ≡ added self.old (key.now, weight)) }
         ensures unchanged { OnErr result (self.new ≡ self.old) }
-        ensures too_large { IsErr result ↔ (MAX_TOTAL < self.old.total + weight) }
+        ensures too_large { IsErr result ↔ (max_total < self.old.total + weight) }
     {
         if weight > MAX_TOTAL - self.total {
             return Err(TotalTooLarge);
@@ -147,7 +147,7 @@ impl Table {
             ↔ ((self.old.family ≡ other.now.family) × (self.old.width ≢ other.now.width)) }
         ensures too_large { IsErrOf result MergeFault.TotalTooLarge
             ↔ ((self.old.family ≡ other.now.family) × (self.old.width ≡ other.now.width)
-            × (MAX_TOTAL < self.old.total + other.now.total)) }
+            × (max_total < self.old.total + other.now.total)) }
     {
         if !are_one(&self.family, &other.family) {
             return Err(MergeFault::DifferentFamily);
@@ -188,7 +188,7 @@ impl Table {
     // What the cell holds that a fingerprint has in row `r`.
     fn cell_of_fingerprint(&self, r: u64, fingerprint: u64) -> u64
         requires row { r < length self.now.family.rows }
-        requires fingerprint { fingerprint < MODULUS }
+        requires fingerprint { fingerprint < modulus }
         ensures { result
             ≡ cell_at self.now.width self.now.cells r
             (cell_of_fingerprint (row_of self.now.family r) fingerprint self.now.width) }
@@ -241,7 +241,7 @@ fn are_one(family: &Family, other: &Family) -> bool
 fn raise_cells(cells: &mut [u64], family: &Family, width: u64, fingerprint: u64, weight: u64)
     requires all_cells { length cells.old ≡ length family.now.rows * width }
     requires width { IsWidth width }
-    requires fingerprint { fingerprint < MODULUS }
+    requires fingerprint { fingerprint < modulus }
     requires room { EachIndex cells.old (λ i. slice_index cells.old i + weight < 2 ^ 64) }
     ensures { cells.new
         ≡ cells_by

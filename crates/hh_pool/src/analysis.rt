@@ -3,7 +3,7 @@
 ghost use Rattle.std.specs.Prelude.{◌≡◌, ◌≢◌, ◌+◌, ◌≤◌, ◌<◌, ◌∷◌, ◌↔◌, ℕ, All, length, map, sum, IfOk, IfSome, IsErrOf};
 ghost use Rattle.std.specs.List.{range_with_len};
 ghost use Rattle.hh_stream.specs.Cuttings.{max_pieces, pieces_of};
-ghost use Rattle.hh_counters.specs.Counters.{Sketch, sketch_of};
+ghost use Rattle.hh_counters.specs.Counters.{max_k, Sketch, sketch_of};
 ghost use Rattle.hh_counters.specs.Report.{weights_at, heavy};
 ghost use Rattle.hh_countmin.specs.Table.{table_of};
 ghost use Rattle.hh_shared.specs.Tally.{HasAllBelow, IsDistinctBelow};
@@ -105,7 +105,7 @@ fn weigh<R: Threads + Wait + Sync, G: Gate + Sync>(
 ) -> Result<Vec<u64>, AllocError>
     requires same_len { sum cutting.now ≡ length stream.now }
     requires workers { IsWorkers workers }
-    requires few { length candidates.now ≤ 65535 }
+    requires few { length candidates.now ≤ max_k }
     ensures { IfOk result (λ weights. weights.items ≡ weights_at candidates.now stream.now) }
 {
     pieces_make_the_whole();

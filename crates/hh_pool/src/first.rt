@@ -1,7 +1,7 @@
 //! The first pass: each piece is summarised, and its items are added to the cells of one table.
 
 ghost use Rattle.std.specs.Prelude.{◌≡◌, ◌+◌, ◌*◌, ◌<◌, ◌≤◌, ◌++◌, ◌∷◌, [], ℕ, List, length, map, slice_index, sum, IfOk, OnOk};
-ghost use Rattle.hh_stream.specs.Weights.{Entry, total_of};
+ghost use Rattle.hh_stream.specs.Weights.{max_total, Entry, total_of};
 ghost use Rattle.hh_stream.specs.Cuttings.{pieces_of};
 ghost use Rattle.hh_counters.specs.Counters.{sketch_of};
 ghost use Rattle.hh_countmin.specs.Family.{Coefficients};
@@ -18,7 +18,7 @@ use hh_countmin::laws::{cells_are_cell_sums, tables_follow_items};
 use hh_countmin::{Table, TableFault};
 use hh_shared::{SharedSums, SumSeat};
 use hh_stream::laws::pieces_make_the_whole;
-use hh_stream::{Cutting, Item, MAX_TOTAL, Stream};
+use hh_stream::{Cutting, Item, Stream};
 use std::alloc::{AllocError, Global};
 
 /// What each worker of the first pass works on.
@@ -69,7 +69,7 @@ pub(crate) fn summary_of(
     options: &Options,
     items: &[Item],
 ) -> Result<Summary, AllocError>
-    requires { total_of items.now ≤ MAX_TOTAL }
+    requires { total_of items.now ≤ max_total }
     ensures { IfOk result (λ summary. summary ≡ sketch_of options.now.k items.now) }
 {
     match BucketSaving::new(alloc, options.k()) {
@@ -93,7 +93,7 @@ pub(crate) fn empty_table(alloc: Global, options: &Options) -> Result<Table, All
 
 /// Adds each item to the table.
 pub(crate) fn add_items(table: &mut Table, items: &[Item])
-    requires { table.old.total + total_of items.now ≤ MAX_TOTAL }
+    requires { table.old.total + total_of items.now ≤ max_total }
     ensures { (family : Coefficients) (width : ℕ) (xs : List Entry)
         → table.old ≡ table_of family width xs
         → table.new ≡ table_of family width (xs ++ items.now) }

@@ -1,8 +1,10 @@
 //! What an analysis is asked for.
 
 ghost use Rattle.std.specs.Prelude.{◌≡◌, ◌+◌, ◌*◌, ◌<◌, ◌≤◌, ◌↔◌, ◌⊎◌, length, IfOk, IsErrOf};
-ghost use Rattle.hh_countmin.specs.Family.{IsWidth, IsFamily};
-ghost use Rattle.hh_pool.specs.Settings.{IsK, IsThreshold, IsWorkers};
+ghost use Rattle.hh_counters.specs.Counters.{max_k};
+ghost use Rattle.hh_counters.specs.Report.{max_q};
+ghost use Rattle.hh_countmin.specs.Family.{max_width, IsWidth, IsFamily};
+ghost use Rattle.hh_pool.specs.Settings.{max_workers, IsK, IsThreshold, IsWorkers};
 
 use hh_counters::{MAX_K, MAX_Q};
 use hh_countmin::{Family, MAX_WIDTH};
@@ -76,14 +78,14 @@ impl Options {
           width = width;
           family = family;
         }) }
-        ensures bad_k { IsErrOf result OptionsFault.BadK ↔ ((k ≡ 0) ⊎ (65535 < k)) }
+        ensures bad_k { IsErrOf result OptionsFault.BadK ↔ ((k ≡ 0) ⊎ (max_k < k)) }
         ensures bad_workers { IsErrOf result OptionsFault.BadWorkers
-            ↔ (IsK k × ((workers ≡ 0) ⊎ (64 < workers))) }
+            ↔ (IsK k × ((workers ≡ 0) ⊎ (max_workers < workers))) }
         ensures bad_width { IsErrOf result OptionsFault.BadWidth
-            ↔ (IsK k × IsWorkers workers × ((width ≡ 0) ⊎ (65536 < width))) }
+            ↔ (IsK k × IsWorkers workers × ((width ≡ 0) ⊎ (max_width < width))) }
         ensures bad_threshold { IsErrOf result OptionsFault.BadThreshold
             ↔ (IsK k × IsWorkers workers × IsWidth width
-            × ((p ≡ 0) ⊎ (q < p) ⊎ (4294967296 < q) ⊎ (p * (k + 1) < q))) }
+            × ((p ≡ 0) ⊎ (q < p) ⊎ (max_q < q) ⊎ (p * (k + 1) < q))) }
     {
         if k == 0 || k > MAX_K {
             return Err(OptionsFault::BadK);

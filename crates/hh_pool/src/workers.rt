@@ -3,6 +3,7 @@
 ghost use Rattle.std.specs.Prelude.{◌≡◌, ◌+◌, ◌^◌, ◌<◌, ◌≤◌, IfOk};
 ghost use Rattle.std.specs.Thread.{IsSync, IsSend};
 ghost use Rattle.hh_shared.specs.Seats.{fresh};
+ghost use Rattle.hh_pool.specs.Settings.{max_workers};
 
 use crate::pass::Pass;
 use hh_shared::{SharedSums, SumSeat};
@@ -99,7 +100,7 @@ pub(crate) fn run_apart<R: Threads + Wait + Sync, P: Pass + Sync>(
     workers: u64,
 ) -> Result<(SumSeat, P::Kept), AllocError>
     requires some { 0 < workers }
-    requires few { workers ≤ 64 }
+    requires few { workers ≤ max_workers }
     requires fits { P.fits pass.now sums.now }
     requires seat { seat ≡ fresh sums.now }
     ensures sums { IfOk result (λ r. r.0.sums ≡ sums.now) }
@@ -110,7 +111,7 @@ pub(crate) fn run_apart<R: Threads + Wait + Sync, P: Pass + Sync>(
         rt,
         |scope| -> Result<(SumSeat, P::Kept), AllocError>
             requires { IsSync R.row × IsSync P.row × IsSend P.Kept.row × (0 < workers)
-                × (workers ≤ 64) × P.fits pass.now sums.now × (seat ≡ fresh sums.now) }
+                × (workers ≤ max_workers) × P.fits pass.now sums.now × (seat ≡ fresh sums.now) }
             ensures { IfOk result (λ r. (r.0.sums ≡ sums.entry.now)
                 × P.all_done pass.entry.now r.0 r.1) }
         {
@@ -120,7 +121,7 @@ pub(crate) fn run_apart<R: Threads + Wait + Sync, P: Pass + Sync>(
             };
             let all = move || -> Result<(SumSeat, P::Kept), AllocError>
                 requires { IsSync R.row × IsSync P.row × IsSend P.Kept.row × (0 < workers)
-                    × (workers ≤ 64) × P.fits pass.now sums.now × (seat ≡ fresh sums.now) }
+                    × (workers ≤ max_workers) × P.fits pass.now sums.now × (seat ≡ fresh sums.now) }
                 ensures { IfOk result (λ r. (r.0.sums ≡ sums.entry.now)
                     × P.all_done pass.entry.now r.0 r.1) }
             { run_workers(rt, sums, seat, pass, 0, workers) };

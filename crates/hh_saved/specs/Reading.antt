@@ -6,7 +6,7 @@ use Rattle.std.specs.Int.{Width, w8, w16, w32, w64, byte_len, from_be_bytes}
 use Rattle.std.specs.Ordering.{is_lt}
 use Rattle.hh_stream.specs.Weights.{Bytes, Entry, key_cmp}
 use Rattle.hh_counters.specs.Counters.{Sketch}
-use Rattle.hh_countmin.specs.Family.{Coefficients, modulus}
+use Rattle.hh_countmin.specs.Family.{Coefficients, max_depth, max_width, modulus}
 use Rattle.hh_countmin.specs.Table.{Grid}
 use Rattle.hh_saved.specs.declared.format.Version.{Version}
 use Rattle.hh_saved.specs.declared.format.Version.TheVariants.{One, Two}
@@ -144,8 +144,8 @@ rows_at (suc n) width total bytes = do
 
 unfoldable pub grid_at : List ℕ → Result (Grid × List ℕ) SavedFault
 grid_at bytes = do
-  width ← number_where w32 (λ n. nat_le 1 n && nat_le n 65536) faults.BadWidth bytes
-  depth ← number_where w8 (λ n. nat_le 1 n && nat_le n 16) faults.BadDepth width.1
+  width ← number_where w32 (λ n. nat_le 1 n && nat_le n max_width) faults.BadWidth bytes
+  depth ← number_where w8 (λ n. nat_le 1 n && nat_le n max_depth) faults.BadDepth width.1
   family ← family_at depth.0 depth.1
   total ← total_at family.1
   cells ← rows_at depth.0 width.0 total.0 total.1
@@ -211,8 +211,8 @@ sketch_head_at version bytes = do
 -- the bytes of the family, whose coefficients take the first memory
 unfoldable pub grid_head_at : List ℕ → Result (List ℕ) SavedFault
 grid_head_at bytes = do
-  width ← number_where w32 (λ n. nat_le 1 n && nat_le n 65536) faults.BadWidth bytes
-  depth ← number_where w8 (λ n. nat_le 1 n && nat_le n 16) faults.BadDepth width.1
+  width ← number_where w32 (λ n. nat_le 1 n && nat_le n max_width) faults.BadWidth bytes
+  depth ← number_where w8 (λ n. nat_le 1 n && nat_le n max_depth) faults.BadDepth width.1
   family ← bytes_at (8 + 16 * depth.0) depth.1
   Ok family.1
 

@@ -3,6 +3,7 @@
 ghost use Rattle.std.specs.Prelude.{◌≡◌, ◌⊎◌, ◌≤◌, ◌<◌, ◌+◌, ◌*◌, ◌++◌, List, Ok, Err, [], length, IfOk, IfErr, OnOk};
 ghost use Rattle.std.specs.Int.{w8, w16, w32, w64, from_be_bytes};
 ghost use Rattle.hh_stream.specs.Weights.{max_key_len};
+ghost use Rattle.hh_countmin.specs.Family.{max_depth, max_width};
 ghost use Rattle.hh_saved.specs.declared.format.Version.{Version};
 ghost use Rattle.hh_saved.specs.declared.saved.Saved.{Saved};
 ghost use Rattle.hh_saved.specs.Spelling.{Spells, len_width};
@@ -335,7 +336,7 @@ fn pairs_of(alloc: Global, depth: usize, bytes: &[u8]) -> Result<Vec<(u64, u64)>
 
 #[tactic(auto, unfolding(crate::specs::Reading::family_at))]
 fn family_of(alloc: Global, depth: usize, bytes: &[u8]) -> Result<(Family, &[u8]), SavedFault>
-    requires { (1 ≤ depth) × (depth ≤ 16) }
+    requires { (1 ≤ depth) × (depth ≤ max_depth) }
     ensures family { Gives (λ x. (x.0, x.1.now)) result (family_at depth bytes.now) }
     ensures early { StopsAt result (bytes_at (8 + 16 * depth) bytes.now) }
 {
@@ -369,7 +370,7 @@ fn row_of<'a>(
     total: u64,
     bytes: &'a [u8],
 ) -> Result<&'a [u8], SavedFault>
-    requires { width ≤ 65536 }
+    requires { width ≤ max_width }
     ensures { Gives (λ rest. (cells.new.items, rest.now)) result
         (with_front cells.old.items (row_at width total bytes.now)) }
 {
@@ -389,7 +390,7 @@ fn rows_of(
     total: u64,
     bytes: &[u8],
 ) -> Result<(Vec<u64>, &[u8]), SavedFault>
-    requires { width ≤ 65536 }
+    requires { width ≤ max_width }
     ensures { Gives (λ x. (x.0.items, x.1.now)) result (rows_at depth width total bytes.now) }
 {
     let mut cells = Vec::new(alloc);

@@ -1,7 +1,7 @@
 //! Weighted items, and the streams that hold them in order.
 
 ghost use Rattle.std.specs.Prelude.{◌≡◌, ◌+◌, ◌<◌, ◌≤◌, ◌↔◌, ◌++◌, ◌∷◌, [], length, ◌==◌, OnOk, OnErr, IfErr, IsErrAnd};
-ghost use Rattle.hh_stream.specs.Weights.{total_of};
+ghost use Rattle.hh_stream.specs.Weights.{max_total, total_of};
 
 use crate::key::Key;
 use std::alloc::Global;
@@ -103,7 +103,7 @@ impl Stream {
         ensures zero_weight { IsErrAnd result (λ refused. refused.fault ≡ PushFault.ZeroWeight)
             ↔ (weight ≡ 0) }
         ensures too_large { IsErrAnd result (λ refused. refused.fault ≡ PushFault.TotalTooLarge)
-            ↔ ((0 < weight) × (MAX_TOTAL < total_of self.old + weight)) }
+            ↔ ((0 < weight) × (max_total < total_of self.old + weight)) }
     {
         if weight == 0 {
             return Err(PushRefused {
@@ -149,7 +149,7 @@ impl Stream {
     /// The sum of all weights.
     pub fn total(&self) -> u64
         ensures total { result ≡ total_of self.now }
-        ensures bounded { result ≤ MAX_TOTAL }
+        ensures bounded { result ≤ max_total }
     {
         self.total
     }
@@ -157,7 +157,7 @@ impl Stream {
     /// The items, in order.
     pub fn items(&self) -> &[Item]
         ensures items { result.now ≡ self.now }
-        ensures bounded { total_of self.now ≤ MAX_TOTAL }
+        ensures bounded { total_of self.now ≤ max_total }
     {
         self.items.as_slice()
     }
