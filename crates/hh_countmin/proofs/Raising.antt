@@ -22,9 +22,6 @@ pub record IsRaised (width weight : ℕ) (cell : ℕ → ℕ) (old new : List �
   pub raised : (q c : ℕ) → q < r → c < width → cell_at width new q c ≡ cell_at width old q c + raise_at cell weight q c
   pub others : (q c : ℕ) → r ≤ q → c < width → cell_at width new q c ≡ cell_at width old q c
 
-pub none_raised : (width weight : ℕ) (cell : ℕ → ℕ) (old : List ℕ) → IsRaised width weight cell old old 0
-none_raised width weight cell old = record { len = refl; raised = λ q c lt. absurd (omega arith); others = λ q c le lt. refl }
-
 raised_row : (width weight : ℕ) (cell : ℕ → ℕ) (old new : List ℕ) (r value place c : ℕ) → place ≡ r * width + cell r → place < length new → IsRaised width weight cell old new r
     → cell r < width → c < width → value ≡ cell_at width old r (cell r) + weight
     → cell_at width (set new place value) r c ≡ cell_at width old r c + raise_at cell weight r c
