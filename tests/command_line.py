@@ -17,6 +17,9 @@ MANY = b"".join(b"k%d,%d\n" % (i, i) for i in range(1, 151))
 # two keys above a hundred-and-first part of the total, one of them above a third
 SKEWED = b"big,600\nmiddle,50\n" + b"".join(b"s%d,2\n" % i for i in range(150))
 
+# a check's name is its command line, cut to so many characters
+LONGEST_NAME = 120
+
 
 class Line:
     """Runs command lines in a folder with saved files."""
@@ -37,7 +40,8 @@ class Line:
 
     def expect(self, words: list, expected: tuple[int, bytes, bytes], given: bytes = RECORDS) -> None:
         found = self.run(words, given)
-        self.tally.check(" ".join(os.fsdecode(word) for word in words), found == expected, (found, expected))
+        name = " ".join(os.fsdecode(word) for word in words)
+        self.tally.check(name[:LONGEST_NAME], found == expected, (found, expected))
 
     def refuses(self, words: list, text: str, status: int = 2, given: bytes = RECORDS) -> None:
         self.expect(words, (status, b"", f"heavy: {text}\n".encode()), given)
@@ -77,23 +81,42 @@ def try_thresholds(line: Line) -> None:
     line.refuses(["report", "--k", "9", "--threshold", "1/11"], text)
 
 
+def table_in(ended: tuple[int, bytes, bytes]) -> reference.Table | None:
+    """The table that a run wrote, if it wrote one."""
+    status, data, _ = ended
+    if status != 0:
+        return None
+    try:
+        saved = reference.read(data)
+    except reference.Refused:
+        return None
+    return saved if isinstance(saved, reference.Table) else None
+
+
+def cells_of(table: reference.Table, items: list[reference.Item]) -> list[list[int]]:
+    """The cells that a table of this shape and family has for these items."""
+    cells = [[0] * table.width for _ in table.rows]
+    for key, weight in items:
+        for row, place in zip(cells, reference.places(table, key)):
+            row[place] += weight
+    return cells
+
+
 def try_tables(line: Line) -> None:
     """A table's width, depth and seed stand in its file; its cells are those of the records."""
-    tables = {}
-    for words in ([], ["--width", "8"], ["--depth", "2"], ["--width", "1", "--depth", "16"], ["--seed", "7"]):
-        status, data, _ = line.run(["table", *words])
-        table = reference.read(data)
-        given = dict(zip(words[::2], words[1::2]))
-        shape = (int(given.get("--width", 1024)), int(given.get("--depth", 4)))
-        cells = [[0] * table.width for _ in table.rows]
-        for key, weight in reference.items_of(RECORDS):
-            for row, place in zip(cells, reference.places(table, key)):
-                row[place] += weight
-        well = status == 0 and (table.width, len(table.rows)) == shape and (table.total, table.cells) == (11, cells)
-        line.tally.check(f"table {' '.join(words)}", well)
-        tables[tuple(words)] = table
-    same = line.run(["table", "--seed", "0"])[1] == line.run(["table"])[1]
-    line.tally.check("the default seed is 0", same and tables[("--seed", "7")].z != tables[()].z)
+    shapes = [
+        ([], 1024, 4), (["--width", "8"], 8, 4), (["--depth", "2"], 1024, 2), (["--seed", "7"], 1024, 4),
+        (["--width", "1", "--depth", "16"], 1, 16),
+    ]
+    for words, width, depth in shapes:
+        ended = line.run(["table", *words])
+        table = table_in(ended)
+        shape = table and (table.width, len(table.rows))
+        items = reference.items_of(RECORDS)
+        holds = shape == (width, depth) and (table.total, table.cells) == (11, cells_of(table, items))
+        line.tally.check(f"table {' '.join(words)}", holds, f"status {ended[0]}, width and depth {shape}, {ended[2]}")
+    tables = [table_in(line.run(["table", *words])) for words in ([], ["--seed", "0"], ["--seed", "7"])]
+    line.tally.check("the default seed is 0", all(tables) and tables[0] == tables[1] and tables[0].z != tables[2].z)
 
 
 def try_refused_options(line: Line) -> None:

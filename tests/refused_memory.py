@@ -26,7 +26,8 @@ CALLS = {
     "hh_counters": [
         "Summary::add", "Summary::of_items", "Summary::merge", "Candidates::of", "Candidates::select",
         "SpaceSaving::add", "SpaceSaving::into_summary", "BucketSaving::new", "BucketSaving::add",
-        "BucketSaving::add monitored", "BucketSaving::into_summary", "monitored_summary",
+        "BucketSaving::add new bucket", "BucketSaving::add monitored", "BucketSaving::add monitored new bucket",
+        "BucketSaving::into_summary", "monitored_summary",
     ],
     "hh_countmin": ["Family::draw", "Family::from_parts", "Family::copy", "Table::new"],
     "hh_saved": ["write", "write table", "read", "read table"],
@@ -43,8 +44,11 @@ CALLS = {
 # Calls that take no memory, many in one run, and calls whose answer comes before any growth.
 TAKE_NONE = {
     "hh_stream": ["readers"],
-    "hh_counters": ["readers", "monitor readers", "SpaceSaving::add monitored"],
-    "hh_countmin": ["readers"],
+    "hh_counters": [
+        "Summary::new", "Summary readers", "Candidates readers", "SpaceSaving::new", "SpaceSaving readers",
+        "BucketSaving readers", "SpaceSaving::add monitored",
+    ],
+    "hh_countmin": ["Table readers", "Table::from_cells", "Family readers"],
     "hh_saved": ["read truncated summary", "read truncated table"],
     "hh_shared": ["steps"],
     "hh_pool": ["readers"],
@@ -54,8 +58,8 @@ TAKE_NONE = {
 # How many lines tell what was lent to a call before it is made.
 LENT = {
     "Stream::push": 2, "Summary::add": 1, "Summary::merge": 2, "SpaceSaving::add": 1, "SpaceSaving::into_summary": 1,
-    "SpaceSaving::add monitored": 1, "BucketSaving::add": 1, "BucketSaving::add monitored": 1,
-    "BucketSaving::into_summary": 1,
+    "SpaceSaving::add monitored": 1, "BucketSaving::add": 1, "BucketSaving::add new bucket": 1,
+    "BucketSaving::add monitored": 1, "BucketSaving::add monitored new bucket": 1, "BucketSaving::into_summary": 1,
 }
 
 RECORDS = b"a,5\nb,3\nc,2\na,1\n"
@@ -165,7 +169,7 @@ def try_first_piece(refusing: Refusing, program: str) -> None:
             once, more = once + (calls == 1), more + (calls > 1)
         elif not same(ample, ended):
             refusing.tell(words, at, ended)
-    if not (ample.out.endswith(b"answer 4 calls: \n") and once > more and more < 500):
+    if not (ample.out.endswith(b"answer 4 \n") and once > more and more < 500):
         refusing.tell(words, 0, f"{once} runs stopped after one call of the gate, {more} after more: {ample}")
 
 

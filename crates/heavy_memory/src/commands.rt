@@ -4,8 +4,8 @@ use crate::lab::{Lab, Said, no_such_call};
 use crate::records::{call as record_call, summary_file};
 use crate::show::{Hex, Taken};
 use heavy::{
-    Method, Out, ReportOptions, Share, ToolError, Tree, ask_bytes, confirm_bytes, merge_bytes, put,
-    run_report, summary_bytes, table_bytes,
+    Method, Out, ReportOptions, Share, Sink, ToolError, Tree, ask_bytes, confirm_bytes,
+    merge_bytes, put, run_report, summary_bytes, table_bytes,
 };
 use std::sync::Wait;
 use std::test::Fail;
@@ -51,7 +51,7 @@ fn reported<R: Threads + Wait + Sync>(rt: &R, lab: &Lab) -> Result<Said, Fail> {
         seed: 0,
     };
     let mut room = ROOM;
-    lab.begin()?;
+    lab.begin();
     let done = run_report(
         rt,
         lab.alloc,
@@ -59,7 +59,7 @@ fn reported<R: Threads + Wait + Sync>(rt: &R, lab: &Lab) -> Result<Said, Fail> {
         text.as_slice(),
         &mut Out::new(room.as_mut_slice()),
     );
-    lab.end()?;
+    lab.end();
     lab.show(Taken(room.as_slice()))?;
     match done {
         Err(ToolError::Memory) => lab.refused(),
@@ -70,17 +70,17 @@ fn reported<R: Threads + Wait + Sync>(rt: &R, lab: &Lab) -> Result<Said, Fail> {
 
 fn summary(lab: &Lab, method: Method) -> Result<Said, Fail> {
     let text = lab.text()?;
-    lab.begin()?;
+    lab.begin();
     let made = summary_bytes(lab.alloc, 2, method, text.as_slice());
-    lab.end()?;
+    lab.end();
     said(lab, made)
 }
 
 fn table(lab: &Lab) -> Result<Said, Fail> {
     let text = lab.text()?;
-    lab.begin()?;
+    lab.begin();
     let made = table_bytes(lab.alloc, 4, 2, 7, text.as_slice());
-    lab.end()?;
+    lab.end();
     said(lab, made)
 }
 
@@ -97,9 +97,9 @@ fn merged(lab: &Lab, are_summaries: bool) -> Result<Said, Fail> {
     if files.is_empty() {
         return Err(Fail::new("no file"));
     }
-    lab.begin()?;
+    lab.begin();
     let made = merge_bytes(lab.alloc, files.as_slice());
-    lab.end()?;
+    lab.end();
     said(lab, made)
 }
 
@@ -109,30 +109,31 @@ fn asked(lab: &Lab) -> Result<Said, Fail> {
     for letter in [b'a', b'z'] {
         keys.push(lab.bytes(letter)?)?;
     }
-    lab.begin()?;
+    lab.begin();
     let made = ask_bytes(lab.alloc, file.as_slice(), keys.as_slice());
-    lab.end()?;
+    lab.end();
     said(lab, made)
 }
 
 fn confirmed(lab: &Lab) -> Result<Said, Fail> {
     let file = summary_file(lab)?;
     let text = lab.text()?;
-    lab.begin()?;
+    lab.begin();
     let made = confirm_bytes(lab.alloc, file.as_slice(), text.as_slice());
-    lab.end()?;
+    lab.end();
     said(lab, made)
 }
 
 // Bytes put into a sink, and the calls that take no memory.
 fn written(lab: &Lab) -> Result<Said, Fail> {
     let mut room = ROOM;
-    lab.begin()?;
+    lab.begin();
     let mut out = Out::new(room.as_mut_slice());
     let done = put(&mut out, b"five!").is_ok();
+    let failed = out.failed();
     let status = ToolError::Memory.status();
     let method = Method::of(b"ss").is_ok();
-    lab.end()?;
+    lab.end();
     lab.show(Taken(room.as_slice()))?;
-    lab.answer(format_args!("{done} {status} {method}"))
+    lab.answer(format_args!("{done} {failed} {status} {method}"))
 }

@@ -2,8 +2,9 @@
 
 use crate::lab::{Lab, Said, no_such_call};
 use crate::monitors;
-use crate::show::{Counters, Report};
+use crate::show::{Counters, Numbers, Report};
 use hh_counters::{AddFault, Candidates, MergeFault, OfItemsFault, Summary};
+use hh_stream::{Key, Stream};
 use std::alloc::AllocError;
 use std::test::Fail;
 
@@ -14,68 +15,75 @@ pub fn call(lab: &Lab, name: &str) -> Result<Said, Fail> {
         "Summary::merge" => summary_merge(lab),
         "Candidates::of" => candidates_of(lab),
         "Candidates::select" => candidates_select(lab),
-        "readers" => readers(lab),
+        "Summary readers" => summary_readers(lab),
+        "Summary::new" => summary_new(lab),
+        "Candidates readers" => candidates_readers(lab),
         _ => monitors::call(lab, name),
     }
 }
 
-// A newcomer, by which all counters fall.
+// A newcomer, by which all counters fall, and again where memory was refused.
 fn summary_add(lab: &Lab) -> Result<Said, Fail> {
     let mut summary = lab.summary()?;
     let key = lab.key(b'd')?;
-    for _ in 0..2 {
-        lab.show(Counters(&summary))?;
-        lab.begin()?;
-        let added = summary.add(&key, 4);
-        lab.end()?;
-        match added {
-            Ok(()) => return lab.answer(Counters(&summary)),
-            Err(AddFault::Memory) => {
-                let _said = lab.refused()?;
-            }
-            Err(fault) => return Err(fault.into()),
-        }
+    match added(lab, &mut summary, &key)? {
+        Said::Answer => Ok(Said::Answer),
+        Said::Memory => added(lab, &mut summary, &key),
     }
-    Ok(Said::Memory)
+}
+
+fn added(lab: &Lab, summary: &mut Summary, key: &Key) -> Result<Said, Fail> {
+    lab.show(Counters(summary))?;
+    lab.begin();
+    let added = summary.add(key, 4);
+    lab.end();
+    match added {
+        Ok(()) => lab.answer(Counters(summary)),
+        Err(AddFault::Memory) => lab.refused(),
+        Err(fault) => Err(fault.into()),
+    }
 }
 
 fn summary_of_items(lab: &Lab) -> Result<Said, Fail> {
     let stream = lab.stream()?;
-    lab.begin()?;
+    lab.begin();
     let made = Summary::of_items(lab.alloc, 2, stream.items());
-    lab.end()?;
+    lab.end();
     match made {
         Err(OfItemsFault::Memory) => lab.refused(),
         made => lab.answer(Counters(&made?)),
     }
 }
 
+// Two summaries, and again where memory was refused.
 fn summary_merge(lab: &Lab) -> Result<Said, Fail> {
     let mut summary = lab.summary()?;
     let mut other = Summary::new(lab.alloc, 2)?;
     other.add(&lab.key(b'c')?, 7)?;
-    for _ in 0..2 {
-        lab.show(Counters(&summary))?;
-        lab.show(Counters(&other))?;
-        lab.begin()?;
-        let merged = summary.merge(&other);
-        lab.end()?;
-        match merged {
-            Ok(()) => return lab.answer(Counters(&summary)),
-            Err(MergeFault::Memory) => {
-                let _said = lab.refused()?;
-            }
-            Err(fault) => return Err(fault.into()),
-        }
+    match merged(lab, &mut summary, &other)? {
+        Said::Answer => Ok(Said::Answer),
+        Said::Memory => merged(lab, &mut summary, &other),
     }
-    Ok(Said::Memory)
+}
+
+fn merged(lab: &Lab, summary: &mut Summary, other: &Summary) -> Result<Said, Fail> {
+    lab.show(Counters(summary))?;
+    lab.show(Counters(other))?;
+    lab.begin();
+    let merged = summary.merge(other);
+    lab.end();
+    match merged {
+        Ok(()) => lab.answer(Counters(summary)),
+        Err(MergeFault::Memory) => lab.refused(),
+        Err(fault) => Err(fault.into()),
+    }
 }
 
 fn candidates_of(lab: &Lab) -> Result<Said, Fail> {
     let summary = lab.summary()?;
-    lab.begin()?;
+    lab.begin();
     let made = Candidates::of(lab.alloc, &summary);
-    lab.end()?;
+    lab.end();
     match made {
         Err(AllocError) => lab.refused(),
         Ok(candidates) => lab.answer(candidates.len()),
@@ -88,40 +96,78 @@ fn candidates_select(lab: &Lab) -> Result<Said, Fail> {
     if candidates.len() != 2 {
         return Err(Fail::new("not two candidates"));
     }
-    lab.begin()?;
+    lab.begin();
     let made = candidates.select(&[6, 3], 11, 1, 4);
-    lab.end()?;
+    lab.end();
     match made {
         Err(AllocError) => lab.refused(),
         Ok(rows) => lab.answer(Report(rows.as_slice())),
     }
 }
 
-// The calls that take no memory.
-fn readers(lab: &Lab) -> Result<Said, Fail> {
-    let stream = lab.stream()?;
+// The calls on a summary that take no memory.
+fn summary_readers(lab: &Lab) -> Result<Said, Fail> {
     let summary = lab.summary()?;
     let (a, z) = (lab.key(b'a')?, lab.key(b'z')?);
-    let candidates = Candidates::of(lab.alloc, &summary)?;
-    let mut numbers = [0u64; 2];
-    let entries = Vec::new(lab.alloc);
-    lab.begin()?;
-    let empty = Summary::new(lab.alloc, 2)?;
-    let counters = [summary.k(), summary.total(), summary.sum(), summary.slack()];
-    let gotten = [summary.get(&a), summary.get(&z), empty.total()];
-    let fits = Summary::fits(2, 11, entries.as_slice());
-    if fits {
-        let _made = Summary::from_entries(2, 11, entries);
-    }
-    let first = if summary.is_empty() {
+    lab.begin();
+    let numbers = [
+        summary.k(),
+        summary.total(),
+        summary.sum(),
+        summary.slack(),
+        summary.get(&a),
+        summary.get(&z),
+        first_counter(&summary),
+    ];
+    lab.end();
+    lab.answer(Numbers(&numbers))
+}
+
+// The first counter of a summary.
+fn first_counter(summary: &Summary) -> u64 {
+    if summary.len() == 0 {
         0
     } else {
         summary.entry(0).1
-    };
-    if candidates.len() == 2 {
-        candidates.count_piece(stream.items(), &mut numbers);
     }
-    let place = candidates.place(&a);
-    lab.end()?;
-    lab.answer(format_args!("{counters:?} {gotten:?} {fits} {first} {numbers:?} {place:?}"))
+}
+
+// The summaries that are made without memory.
+fn summary_new(lab: &Lab) -> Result<Said, Fail> {
+    let entries = Vec::new(lab.alloc);
+    lab.begin();
+    let empty = Summary::new(lab.alloc, 2)?;
+    if !Summary::fits(2, 11, entries.as_slice()) {
+        return Err(Fail::new("not a summary's entries"));
+    }
+    let made = Summary::from_entries(2, 11, entries);
+    lab.end();
+    lab.show(Counters(&empty))?;
+    lab.answer(Counters(&made))
+}
+
+// The calls on candidates that take no memory.
+fn candidates_readers(lab: &Lab) -> Result<Said, Fail> {
+    let stream = lab.stream()?;
+    let candidates = Candidates::of(lab.alloc, &lab.summary()?)?;
+    candidates_read(lab, &candidates, &lab.key(b'a')?, &stream)
+}
+
+fn candidates_read(
+    lab: &Lab,
+    candidates: &Candidates,
+    key: &Key,
+    stream: &Stream,
+) -> Result<Said, Fail> {
+    if candidates.len() != 2 {
+        return Err(Fail::new("not two candidates"));
+    }
+    let mut numbers = [0u64; 2];
+    lab.begin();
+    candidates.count_piece(stream.items(), &mut numbers);
+    let is_first = candidates.key(0) == key;
+    let is_there = candidates.place(key).is_some();
+    lab.end();
+    lab.show(Numbers(&numbers))?;
+    lab.answer(Numbers(&[u64::from(is_first), u64::from(is_there)]))
 }

@@ -1,7 +1,9 @@
 //! The calls of `hh_counters` on the two forms of Space-Saving.
 
+ghost use Rattle.std.specs.Prelude.{◌<◌};
+
 use crate::lab::{Lab, Said, no_such_call};
-use crate::show::Counters;
+use crate::show::{Counters, Numbers};
 use hh_counters::{AddFault, BucketSaving, Monitor, NewFault, SpaceSaving, monitored_summary};
 use hh_stream::{Item, Key};
 use std::alloc::AllocError;
@@ -10,17 +12,36 @@ use std::test::Fail;
 
 pub fn call(lab: &Lab, name: &str) -> Result<Said, Fail> {
     match name {
-        "SpaceSaving::add" => added(lab, SpaceSaving::new(lab.alloc, 2)?, b'd'),
-        "SpaceSaving::add monitored" => added(lab, SpaceSaving::new(lab.alloc, 2)?, b'b'),
+        "SpaceSaving::add" => added(lab, SpaceSaving::new(lab.alloc, 2)?, b'd', 4),
+        "SpaceSaving::add monitored" => added(lab, SpaceSaving::new(lab.alloc, 2)?, b'b', 4),
         "SpaceSaving::into_summary" => translated(lab, SpaceSaving::new(lab.alloc, 2)?),
-        "BucketSaving::new" => bucket_saving_new(lab),
-        "BucketSaving::add" => added(lab, BucketSaving::new(lab.alloc, 2)?, b'd'),
-        "BucketSaving::add monitored" => added(lab, BucketSaving::new(lab.alloc, 2)?, b'c'),
-        "BucketSaving::into_summary" => translated(lab, BucketSaving::new(lab.alloc, 2)?),
+        "SpaceSaving readers" => readers(lab, SpaceSaving::new(lab.alloc, 2)?),
+        "SpaceSaving::new" => space_saving_new(lab),
         "monitored_summary" => summarised(lab),
-        "monitor readers" => readers(lab),
+        _ => bucketed(lab, name),
+    }
+}
+
+// The calls on Space-Saving in buckets. The four items give a 6, b 3 and c 2, each in a bucket of its
+// own: with 4 more a newcomer, and c, go into the bucket of a, and with 9 more into a new one.
+fn bucketed(lab: &Lab, name: &str) -> Result<Said, Fail> {
+    match name {
+        "BucketSaving::new" => bucket_saving_new(lab),
+        "BucketSaving::add" => added(lab, BucketSaving::new(lab.alloc, 2)?, b'd', 4),
+        "BucketSaving::add new bucket" => added(lab, BucketSaving::new(lab.alloc, 2)?, b'd', 9),
+        "BucketSaving::add monitored" => added(lab, BucketSaving::new(lab.alloc, 2)?, b'c', 4),
+        "BucketSaving::add monitored new bucket" => added(lab, sharing(lab)?, b'c', 9),
+        "BucketSaving::into_summary" => translated(lab, BucketSaving::new(lab.alloc, 2)?),
+        "BucketSaving readers" => readers(lab, BucketSaving::new(lab.alloc, 2)?),
         _ => Err(no_such_call(name)),
     }
+}
+
+// Where c has 1 already, so that the four items bring it into the bucket of b.
+fn sharing(lab: &Lab) -> Result<BucketSaving, Fail> {
+    let mut monitor = BucketSaving::new(lab.alloc, 2)?;
+    monitor.add(&lab.key(b'c')?, 1)?;
+    Ok(monitor)
 }
 
 /// A monitor by all its readers, with the counters of some keys.
@@ -58,61 +79,78 @@ fn keys(lab: &Lab) -> Result<Vec<Key>, Fail> {
     Ok(keys)
 }
 
-// The four items, and then a key with weight 4.
-fn added<M: Monitor>(lab: &Lab, monitor: M, letter: u8) -> Result<Said, Fail> {
-    let mut monitor = monitor;
+// The four items, and then one more, again where memory was refused.
+fn added<M: Monitor>(lab: &Lab, mut monitor: M, letter: u8, weight: u64) -> Result<Said, Fail>
+    requires { 0 < weight }
+{
     let keys = keys(lab)?;
     let key = lab.key(letter)?;
     add_all(&mut monitor, lab.stream()?.items())?;
-    for _ in 0..2 {
-        lab.show(Monitored {
-            monitor: &monitor,
-            keys: keys.as_slice(),
-        })?;
-        lab.begin()?;
-        let added = monitor.add(&key, 4);
-        lab.end()?;
-        match added {
-            Ok(()) => return lab.answer(Monitored {
-                monitor: &monitor,
-                keys: keys.as_slice(),
-            }),
-            Err(AddFault::Memory) => {
-                let _said = lab.refused()?;
-            }
-            Err(fault) => return Err(fault.into()),
-        }
+    match added_once(lab, &mut monitor, keys.as_slice(), &key, weight)? {
+        Said::Answer => Ok(Said::Answer),
+        Said::Memory => added_once(lab, &mut monitor, keys.as_slice(), &key, weight),
     }
-    Ok(Said::Memory)
 }
 
-fn translated<M: Monitor>(lab: &Lab, monitor: M) -> Result<Said, Fail> {
-    let mut monitor = monitor;
+fn added_once<M: Monitor>(
+    lab: &Lab,
+    monitor: &mut M,
+    keys: &[Key],
+    key: &Key,
+    weight: u64,
+) -> Result<Said, Fail>
+    requires { 0 < weight }
+{
+    show(lab, monitor, keys)?;
+    lab.begin();
+    let added = monitor.add(key, weight);
+    lab.end();
+    match added {
+        Ok(()) => lab.answer(Monitored { monitor, keys }),
+        Err(AddFault::Memory) => lab.refused(),
+        Err(fault) => Err(fault.into()),
+    }
+}
+
+fn show<M: Monitor>(lab: &Lab, monitor: &M, keys: &[Key]) -> Result<(), Fail> {
+    lab.show(Monitored { monitor, keys })
+}
+
+// The summary of the four items, again where memory was refused.
+fn translated<M: Monitor>(lab: &Lab, mut monitor: M) -> Result<Said, Fail> {
     let keys = keys(lab)?;
     add_all(&mut monitor, lab.stream()?.items())?;
-    for _ in 0..2 {
-        lab.show(Monitored {
-            monitor: &monitor,
-            keys: keys.as_slice(),
-        })?;
-        lab.begin()?;
-        let made = monitor.into_summary();
-        lab.end()?;
-        match made {
-            Ok(summary) => return lab.answer(Counters(&summary)),
-            Err(back) => {
-                monitor = back;
-                let _said = lab.refused()?;
-            }
+    match translated_once(lab, monitor, keys.as_slice())? {
+        None => Ok(Said::Answer),
+        Some(back) => {
+            let _again = translated_once(lab, back, keys.as_slice())?;
+            Ok(Said::Answer)
         }
     }
-    Ok(Said::Memory)
+}
+
+// The monitor, handed back where memory was refused.
+fn translated_once<M: Monitor>(lab: &Lab, monitor: M, keys: &[Key]) -> Result<Option<M>, Fail> {
+    show(lab, &monitor, keys)?;
+    lab.begin();
+    let made = monitor.into_summary();
+    lab.end();
+    match made {
+        Ok(summary) => {
+            let _said = lab.answer(Counters(&summary))?;
+            Ok(None)
+        }
+        Err(back) => {
+            let _said = lab.refused()?;
+            Ok(Some(back))
+        }
+    }
 }
 
 fn bucket_saving_new(lab: &Lab) -> Result<Said, Fail> {
-    lab.begin()?;
+    lab.begin();
     let made = BucketSaving::new(lab.alloc, 2);
-    lab.end()?;
+    lab.end();
     match made {
         Err(NewFault::Memory) => lab.refused(),
         made => lab.answer(made?.total()),
@@ -122,30 +160,34 @@ fn bucket_saving_new(lab: &Lab) -> Result<Said, Fail> {
 fn summarised(lab: &Lab) -> Result<Said, Fail> {
     let stream = lab.stream()?;
     let monitor = BucketSaving::new(lab.alloc, 2)?;
-    lab.begin()?;
+    lab.begin();
     let made = monitored_summary(monitor, stream.items());
-    lab.end()?;
+    lab.end();
     match made {
         Err(AllocError) => lab.refused(),
         Ok(summary) => lab.answer(Counters(&summary)),
     }
 }
 
-// The calls that take no memory.
-fn readers(lab: &Lab) -> Result<Said, Fail> {
-    let mut bucketed = BucketSaving::new(lab.alloc, 2)?;
-    add_all(&mut bucketed, lab.stream()?.items())?;
+fn space_saving_new(lab: &Lab) -> Result<Said, Fail> {
+    lab.begin();
+    let made = SpaceSaving::new(lab.alloc, 2)?;
+    lab.end();
+    lab.answer(made.total())
+}
+
+// The calls on a monitor of the four items that take no memory.
+fn readers<M: Monitor>(lab: &Lab, mut monitor: M) -> Result<Said, Fail> {
+    add_all(&mut monitor, lab.stream()?.items())?;
     let a = lab.key(b'a')?;
-    lab.begin()?;
-    let plain = SpaceSaving::new(lab.alloc, 2)?;
-    let of_plain = [plain.k(), plain.total(), plain.least(), plain.get(&a)];
-    let of_buckets = [
-        bucketed.k(),
-        bucketed.total(),
-        bucketed.least(),
-        bucketed.get(&a),
+    lab.begin();
+    let numbers = [
+        monitor.k(),
+        monitor.total(),
+        monitor.len() as u64,
+        monitor.least(),
+        monitor.get(&a),
     ];
-    let lens = [plain.len(), bucketed.len()];
-    lab.end()?;
-    lab.answer(format_args!("{of_plain:?} {of_buckets:?} {lens:?}"))
+    lab.end();
+    lab.answer(Numbers(&numbers))
 }

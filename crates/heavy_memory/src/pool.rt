@@ -1,10 +1,11 @@
 //! The calls of `hh_pool`.
 
 use crate::lab::{Lab, Said, no_such_call};
-use crate::show::{Cells, Counters, Report};
+use crate::show::{Cells, Counters, Numbers, Report};
 use hh_counters::{Candidates, MergeFault, Summary};
 use hh_pool::{
-    Gate, OpenGate, Options, Plan, PlanFault, RunError, analyse, first_pass, merge_by, second_pass,
+    Gate, OpenGate, Options, Outcome, Plan, PlanFault, RunError, analyse, first_pass, merge_by,
+    second_pass,
 };
 use hh_shared::SharedSums;
 use hh_stream::{Cutting, Key, Stream};
@@ -31,9 +32,9 @@ pub fn call<R: Threads + Wait + Sync>(rt: &R, lab: &Lab, name: &str) -> Result<S
 }
 
 fn plan_chain(lab: &Lab) -> Result<Said, Fail> {
-    lab.begin()?;
+    lab.begin();
     let made = Plan::chain(lab.alloc, 4);
-    lab.end()?;
+    lab.end();
     match made {
         Err(AllocError) => lab.refused(),
         Ok(plan) => lab.answer(plan.count()),
@@ -41,9 +42,9 @@ fn plan_chain(lab: &Lab) -> Result<Said, Fail> {
 }
 
 fn plan_balanced(lab: &Lab) -> Result<Said, Fail> {
-    lab.begin()?;
+    lab.begin();
     let made = Plan::balanced(lab.alloc, 4);
-    lab.end()?;
+    lab.end();
     match made {
         Err(AllocError) => lab.refused(),
         Ok(plan) => lab.answer(plan.count()),
@@ -51,9 +52,9 @@ fn plan_balanced(lab: &Lab) -> Result<Said, Fail> {
 }
 
 fn plan_parse(lab: &Lab) -> Result<Said, Fail> {
-    lab.begin()?;
+    lab.begin();
     let made = Plan::parse(lab.alloc, b"((0 3) (1 2))", 4);
-    lab.end()?;
+    lab.end();
     match made {
         Err(PlanFault::Memory) => lab.refused(),
         made => lab.answer(made?.count()),
@@ -81,9 +82,9 @@ fn merged(lab: &Lab) -> Result<Said, Fail> {
     if summaries.len() != plan.count() {
         return Err(Fail::new("not two summaries"));
     }
-    lab.begin()?;
+    lab.begin();
     let made = merge_by(lab.alloc, &plan, summaries);
-    lab.end()?;
+    lab.end();
     match made {
         Err(MergeFault::Memory) => lab.refused(),
         made => lab.answer(Counters(&made?)),
@@ -94,74 +95,124 @@ fn options(lab: &Lab, workers: u64) -> Result<Options, Fail> {
     Ok(Options::new(2, 1, 3, workers, 4, lab.family()?)?)
 }
 
+// A worker of the first pass over two pieces.
 fn first(lab: &Lab) -> Result<Said, Fail> {
     let stream = lab.stream()?;
     let cutting = Cutting::even(lab.alloc, stream.len(), 2)?;
-    let family = lab.family()?;
-    let cells = (family.depth() * 4) as usize;
-    let options = Options::new(2, 1, 3, 1, 4, family)?;
+    first_by(lab, &stream, &cutting)
+}
+
+fn first_by(lab: &Lab, stream: &Stream, cutting: &Cutting) -> Result<Said, Fail> {
     if cutting.len() != stream.len() {
         return Err(Fail::new("not the stream's cutting"));
     }
+    let family = lab.family()?;
+    let cells = (family.depth() * 4) as usize;
+    let options = Options::new(2, 1, 3, 1, 4, family)?;
     let (sums, seat) = SharedSums::new(lab.alloc, cutting.count(), cells)?;
-    lab.begin()?;
+    lab.begin();
     let done = first_pass(
-        lab.alloc, &sums, seat, &stream, &cutting, &options, &OpenGate, 0,
+        lab.alloc, &sums, seat, stream, cutting, &options, &OpenGate, 0,
     );
-    lab.end()?;
+    lab.end();
     match done {
         Err(AllocError) => lab.refused(),
         Ok((seat, found)) => {
-            for (_, summary) in &found {
-                lab.show(Counters(summary))?;
-            }
+            show_found(lab, found.as_slice())?;
             lab.answer(sums.holds_all(&seat))
         }
     }
 }
 
+fn show_found(lab: &Lab, found: &[(usize, Summary)]) -> Result<(), Fail> {
+    for (_, summary) in found {
+        lab.show(Counters(summary))?;
+    }
+    Ok(())
+}
+
+// A worker of the second pass over two pieces.
 fn second(lab: &Lab) -> Result<Said, Fail> {
     let stream = lab.stream()?;
     let cutting = Cutting::even(lab.alloc, stream.len(), 2)?;
     let candidates = Candidates::of(lab.alloc, &lab.summary()?)?;
+    second_by(lab, &stream, &cutting, &candidates)
+}
+
+fn second_by(
+    lab: &Lab,
+    stream: &Stream,
+    cutting: &Cutting,
+    candidates: &Candidates,
+) -> Result<Said, Fail> {
     if cutting.len() != stream.len() || candidates.len() != 2 {
         return Err(Fail::new("not the stream's cutting"));
     }
     let (sums, seat) = SharedSums::new(lab.alloc, cutting.count(), candidates.len())?;
-    lab.begin()?;
+    lab.begin();
     let done = second_pass(
-        lab.alloc,
-        &sums,
-        seat,
-        &stream,
-        &cutting,
-        &candidates,
-        &OpenGate,
-        0,
+        lab.alloc, &sums, seat, stream, cutting, candidates, &OpenGate, 0,
     );
-    lab.end()?;
+    lab.end();
     match done {
         Err(AllocError) => lab.refused(),
         Ok(seat) => lab.answer(sums.holds_all(&seat)),
     }
 }
 
-// The four items in four pieces, by two workers.
-fn analysed<R: Threads + Wait + Sync>(rt: &R, lab: &Lab) -> Result<Said, Fail> {
-    let stream = lab.stream()?;
-    let cutting = Cutting::even(lab.alloc, stream.len(), 4)?;
-    let plan = Plan::balanced(lab.alloc, 4)?;
-    let options = options(lab, 2)?;
-    if cutting.len() != stream.len() {
+/// A stream in pieces, and how it is analysed.
+#[derive(Drop)]
+struct Task {
+    stream: Stream,
+    cutting: Cutting,
+    plan: Plan,
+    options: Options,
+}
+
+// What the analysis answers, or nothing where memory was refused.
+fn outcome<R: Threads + Wait + Sync, G: Gate + Sync>(
+    rt: &R,
+    lab: &Lab,
+    task: &Task,
+    gate: &G,
+) -> Result<Option<Outcome>, Fail> {
+    if task.cutting.len() != task.stream.len() {
         return Err(Fail::new("not the stream's cutting"));
     }
-    lab.begin()?;
-    let done = analyse(rt, lab.alloc, &stream, &cutting, &plan, &options, &OpenGate);
-    lab.end()?;
+    lab.begin();
+    let done = analyse(
+        rt,
+        lab.alloc,
+        &task.stream,
+        &task.cutting,
+        &task.plan,
+        &task.options,
+        gate,
+    );
+    lab.end();
     match done {
-        Err(RunError::Memory) => lab.refused(),
+        Ok(outcome) => Ok(Some(outcome)),
+        Err(RunError::Memory) => Ok(None),
         Err(fault) => Err(fault.into()),
-        Ok(outcome) => {
+    }
+}
+
+// The four items in four pieces, for two workers.
+fn four_pieces(lab: &Lab) -> Result<Task, Fail> {
+    let stream = lab.stream()?;
+    let cutting = Cutting::even(lab.alloc, stream.len(), 4)?;
+    Ok(Task {
+        stream,
+        cutting,
+        plan: Plan::balanced(lab.alloc, 4)?,
+        options: options(lab, 2)?,
+    })
+}
+
+fn analysed<R: Threads + Wait + Sync>(rt: &R, lab: &Lab) -> Result<Said, Fail> {
+    match outcome(rt, lab, &four_pieces(lab)?, &OpenGate)? {
+        None => lab.refused(),
+        Some(outcome) => {
             lab.show(Counters(&outcome.summary))?;
             lab.show(Cells(&outcome.table))?;
             lab.answer(Report(outcome.heavy.as_slice()))
@@ -181,33 +232,42 @@ impl Gate for Counting {
     }
 }
 
-// A piece of 2,000 different keys of two bytes, and one of the item a, by one worker, with the number
-// of times that the gate was called.
-fn analysed_many<R: Threads + Wait + Sync>(rt: &R, lab: &Lab) -> Result<Said, Fail> {
+// 2,000 different keys of two bytes, and then the item a.
+fn many_items(lab: &Lab) -> Result<Stream, Fail> {
     let mut stream = Stream::new(lab.alloc);
     for i in 0u16..2000 {
         stream.push(Key::new(lab.alloc, &i.to_be_bytes())?, 1)?;
     }
     stream.push(lab.key(b'a')?, 1)?;
+    Ok(stream)
+}
+
+// The many keys as one piece and the item a as another, for one worker.
+fn two_pieces(lab: &Lab) -> Result<Task, Fail> {
+    let stream = many_items(lab)?;
     let cutting = Cutting::by_lengths(lab.alloc, stream.len(), &[2000, 1])?;
-    let plan = Plan::chain(lab.alloc, 2)?;
-    let options = options(lab, 1)?;
+    Ok(Task {
+        stream,
+        cutting,
+        plan: Plan::chain(lab.alloc, 2)?,
+        options: options(lab, 1)?,
+    })
+}
+
+// With the number of times that the gate was called.
+fn analysed_many<R: Threads + Wait + Sync>(rt: &R, lab: &Lab) -> Result<Said, Fail> {
+    let task = two_pieces(lab)?;
     let gate = Counting {
         calls: AtomicU64::new(0),
     };
-    if cutting.len() != stream.len() {
-        return Err(Fail::new("not the stream's cutting"));
-    }
-    lab.begin()?;
-    let done = analyse(rt, lab.alloc, &stream, &cutting, &plan, &options, &gate);
-    lab.end()?;
+    let outcome = outcome(rt, lab, &task, &gate)?;
     let calls = gate.calls.load(SeqCst);
-    match done {
-        Err(RunError::Memory) => lab.refused_after(calls),
-        Err(fault) => Err(fault.into()),
-        Ok(outcome) => {
+    match outcome {
+        None => lab.refused_after(calls),
+        Some(outcome) => {
             lab.show(Counters(&outcome.summary))?;
-            lab.answer(format_args!("{calls} calls: {}", Report(outcome.heavy.as_slice())))
+            lab.show(Report(outcome.heavy.as_slice()))?;
+            lab.answer(Numbers(&[calls]))
         }
     }
 }
@@ -216,10 +276,10 @@ fn analysed_many<R: Threads + Wait + Sync>(rt: &R, lab: &Lab) -> Result<Said, Fa
 fn readers(lab: &Lab) -> Result<Said, Fail> {
     let plan = Plan::balanced(lab.alloc, 4)?;
     let family = lab.family()?;
-    lab.begin()?;
+    lab.begin();
     OpenGate.before(1, 0, 0);
-    let pieces = plan.count();
+    let pieces = plan.count() as u64;
     let made = Options::new(2, 1, 3, 1, 4, family).is_ok();
-    lab.end()?;
-    lab.answer(format_args!("{pieces} {made}"))
+    lab.end();
+    lab.answer(Numbers(&[pieces, u64::from(made)]))
 }

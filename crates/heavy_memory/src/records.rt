@@ -36,9 +36,9 @@ fn rows(lab: &Lab) -> Result<Vec<Heavy>, Fail> {
 
 fn read(lab: &Lab) -> Result<Said, Fail> {
     let text = lab.text()?;
-    lab.begin()?;
+    lab.begin();
     let made = read_stream(lab.alloc, text.as_slice());
-    lab.end()?;
+    lab.end();
     match made {
         Err(ReadError::Memory) => lab.refused(),
         made => lab.answer(Items(made?.items())),
@@ -47,9 +47,9 @@ fn read(lab: &Lab) -> Result<Said, Fail> {
 
 fn text(lab: &Lab) -> Result<Said, Fail> {
     let rows = rows(lab)?;
-    lab.begin()?;
+    lab.begin();
     let made = report_text(lab.alloc, rows.as_slice());
-    lab.end()?;
+    lab.end();
     match made {
         Err(AllocError) => lab.refused(),
         Ok(text) => lab.answer(Hex(text.as_slice())),
@@ -59,13 +59,13 @@ fn text(lab: &Lab) -> Result<Said, Fail> {
 fn written(lab: &Lab) -> Result<Said, Fail> {
     let rows = rows(lab)?;
     let mut room = ROOM;
-    lab.begin()?;
+    lab.begin();
     let done = write_report(
         lab.alloc,
         &mut Out::new(room.as_mut_slice()),
         rows.as_slice(),
     );
-    lab.end()?;
+    lab.end();
     match done {
         Err(ReportFault::Memory) if room[0] == 0 => lab.refused(),
         Err(fault) => Err(fault.into()),
@@ -92,9 +92,9 @@ fn confirmed_many(lab: &Lab) -> Result<Said, Fail> {
 
 // What confirming a summary answered.
 fn said(lab: &Lab, summary: &Summary, stream: &Stream) -> Result<Said, Fail> {
-    lab.begin()?;
+    lab.begin();
     let made = confirm(lab.alloc, summary, stream);
-    lab.end()?;
+    lab.end();
     match made {
         Err(ConfirmFault::Memory) => lab.refused(),
         made => lab.answer(Report(made?.as_slice())),

@@ -26,9 +26,9 @@ fn table(lab: &Lab) -> Result<Saved, Fail> {
 }
 
 fn written(lab: &Lab, saved: Saved) -> Result<Said, Fail> {
-    lab.begin()?;
+    lab.begin();
     let made = write(lab.alloc, &saved);
-    lab.end()?;
+    lab.end();
     match made {
         Err(AllocError) => lab.refused(),
         Ok(bytes) => lab.answer(Hex(bytes.as_slice())),
@@ -37,9 +37,9 @@ fn written(lab: &Lab, saved: Saved) -> Result<Said, Fail> {
 
 fn found(lab: &Lab, saved: Saved) -> Result<Said, Fail> {
     let bytes = write(lab.alloc, &saved)?;
-    lab.begin()?;
+    lab.begin();
     let made = read(lab.alloc, bytes.as_slice());
-    lab.end()?;
+    lab.end();
     match made {
         Err(SavedFault::Memory) => lab.refused(),
         Err(fault) => Err(fault.into()),
@@ -50,9 +50,9 @@ fn found(lab: &Lab, saved: Saved) -> Result<Said, Fail> {
 
 // Bytes whose fault stands before any growth.
 fn refused(lab: &Lab, bytes: &[u8]) -> Result<Said, Fail> {
-    lab.begin()?;
+    lab.begin();
     let made = read(lab.alloc, bytes);
-    lab.end()?;
+    lab.end();
     match made {
         Err(SavedFault::Memory) => lab.refused(),
         Err(fault) => lab.answer(fault),

@@ -15,9 +15,9 @@ pub fn call(lab: &Lab, name: &str) -> Result<Said, Fail> {
 }
 
 fn sums_new(lab: &Lab) -> Result<Said, Fail> {
-    lab.begin()?;
+    lab.begin();
     let made = SharedSums::new(lab.alloc, 2, 3);
-    lab.end()?;
+    lab.end();
     match made {
         Err(AllocError) => lab.refused(),
         Ok((sums, seat)) => lab.answer(sums.holds_all(&seat)),
@@ -32,9 +32,9 @@ fn sums_close(lab: &Lab) -> Result<Said, Fail> {
     if !sums.holds_all(&seat) {
         return Err(Fail::new("the only claim is not held"));
     }
-    lab.begin()?;
+    lab.begin();
     let made = sums.close(seat);
-    lab.end()?;
+    lab.end();
     match made {
         Err(AllocError) => lab.refused(),
         Ok(cells) => lab.answer(format_args!("{cells:?}")),
@@ -44,7 +44,7 @@ fn sums_close(lab: &Lab) -> Result<Said, Fail> {
 // The calls that take no memory.
 fn steps(lab: &Lab) -> Result<Said, Fail> {
     let (sums, mut one) = SharedSums::new(lab.alloc, 2, 1)?;
-    lab.begin()?;
+    lab.begin();
     let mut other = sums.split(&mut one);
     let first = sums.claim(&mut one, 0);
     let again = sums.claim(&mut other, 0);
@@ -54,6 +54,6 @@ fn steps(lab: &Lab) -> Result<Said, Fail> {
     }
     sums.join(&mut one, other);
     let all = sums.holds_all(&one);
-    lab.end()?;
+    lab.end();
     lab.answer(format_args!("{first} {again} {second} {all}"))
 }

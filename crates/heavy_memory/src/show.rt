@@ -19,6 +19,19 @@ impl fmt::Display for Hex<'_> {
     }
 }
 
+/// Numbers.
+#[derive(Clone, Copy)]
+pub struct Numbers<'a>(pub &'a [u64]);
+
+impl fmt::Display for Numbers<'_> {
+    fn fmt<W: fmt::Write>(&self, f: &mut fmt::Formatter<W>) -> fmt::Result {
+        for number in self.0 {
+            write!(f, "{number} ")?;
+        }
+        Ok(())
+    }
+}
+
 /// The bytes before the first 0.
 #[derive(Clone, Copy)]
 pub struct Taken<'a>(pub &'a [u8]);

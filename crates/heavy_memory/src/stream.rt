@@ -2,7 +2,7 @@
 
 use crate::lab::{Lab, Said, no_such_call};
 use crate::show::{Hex, Items};
-use hh_stream::{Cutting, CuttingFault, Key, KeyFault, PushFault, Stream};
+use hh_stream::{Cutting, CuttingFault, Item, Key, KeyFault, PushFault, PushRefused, Stream};
 use std::alloc::AllocError;
 use std::test::Fail;
 
@@ -20,9 +20,9 @@ pub fn call(lab: &Lab, name: &str) -> Result<Said, Fail> {
 
 fn key_new(lab: &Lab) -> Result<Said, Fail> {
     let bytes = lab.bytes(b'a')?;
-    lab.begin()?;
+    lab.begin();
     let made = Key::new(lab.alloc, bytes.as_slice());
-    lab.end()?;
+    lab.end();
     match made {
         Err(KeyFault::Memory) => lab.refused(),
         made => lab.answer(Hex(made?.bytes())),
@@ -31,46 +31,57 @@ fn key_new(lab: &Lab) -> Result<Said, Fail> {
 
 fn key_copy(lab: &Lab) -> Result<Said, Fail> {
     let key = lab.key(b'a')?;
-    lab.begin()?;
+    lab.begin();
     let made = key.copy();
-    lab.end()?;
+    lab.end();
     match made {
         Err(AllocError) => lab.refused(),
         Ok(copy) => lab.answer(Hex(copy.bytes())),
     }
 }
 
-// The fifth item, for which the list grows.
+// The fifth item, for which the list grows, and again where memory was refused.
 fn stream_push(lab: &Lab) -> Result<Said, Fail> {
     let mut stream = lab.stream()?;
-    let mut key = lab.key(b'd')?;
-    for _ in 0..2 {
-        lab.show(Items(stream.items()))?;
-        lab.show(Hex(key.bytes()))?;
-        lab.begin()?;
-        let pushed = stream.push(key, 4);
-        lab.end()?;
-        match pushed {
-            Ok(()) => {
-                lab.show(Items(stream.items()))?;
-                return lab.answer(stream.total());
-            }
-            Err(refused) => {
-                if refused.fault != PushFault::Memory {
-                    return Err(Fail::new("push refused its item"));
-                }
-                key = refused.key;
-                let _said = lab.refused()?;
-            }
+    match pushed(lab, &mut stream, lab.key(b'd')?)? {
+        None => Ok(Said::Answer),
+        Some(back) => {
+            let _again = pushed(lab, &mut stream, back)?;
+            Ok(Said::Answer)
         }
     }
-    Ok(Said::Memory)
+}
+
+// Pushes the key; where memory was refused, it comes back.
+fn pushed(lab: &Lab, stream: &mut Stream, key: Key) -> Result<Option<Key>, Fail> {
+    lab.show(Items(stream.items()))?;
+    lab.show(Hex(key.bytes()))?;
+    lab.begin();
+    let pushed = stream.push(key, 4);
+    lab.end();
+    match pushed {
+        Ok(()) => {
+            lab.show(Items(stream.items()))?;
+            let _said = lab.answer(stream.total())?;
+            Ok(None)
+        }
+        Err(
+            PushRefused {
+                key,
+                fault: PushFault::Memory,
+            },
+        ) => {
+            let _said = lab.refused()?;
+            Ok(Some(key))
+        }
+        Err(_) => Err(Fail::new("push refused its item")),
+    }
 }
 
 fn cutting_even(lab: &Lab) -> Result<Said, Fail> {
-    lab.begin()?;
+    lab.begin();
     let made = Cutting::even(lab.alloc, 10, 4);
-    lab.end()?;
+    lab.end();
     match made {
         Err(CuttingFault::Memory) => lab.refused(),
         made => lab.answer(made?.count()),
@@ -78,9 +89,9 @@ fn cutting_even(lab: &Lab) -> Result<Said, Fail> {
 }
 
 fn cutting_by_lengths(lab: &Lab) -> Result<Said, Fail> {
-    lab.begin()?;
+    lab.begin();
     let made = Cutting::by_lengths(lab.alloc, 10, &[3, 0, 7]);
-    lab.end()?;
+    lab.end();
     match made {
         Err(CuttingFault::Memory) => lab.refused(),
         made => lab.answer(made?.count()),
@@ -91,22 +102,33 @@ fn cutting_by_lengths(lab: &Lab) -> Result<Said, Fail> {
 fn readers(lab: &Lab) -> Result<Said, Fail> {
     let stream = lab.stream()?;
     let cutting = Cutting::even(lab.alloc, stream.len(), 3)?;
-    lab.begin()?;
-    let items = stream.items();
+    let a = lab.key(b'a')?;
+    lab.begin();
     let empty = Stream::new(lab.alloc).len();
-    let mut piece = 0usize;
-    if cutting.len() == stream.len() && cutting.count() == 3 {
-        piece = cutting.piece(&stream, 0).len();
-    }
-    let mut are_ordered = true;
-    let mut heaviest = 0u64;
-    for item in items {
-        are_ordered = are_ordered && item.key() == item.key() && item.key() <= item.key();
-        heaviest = heaviest
-            .max(item.weight())
-            .max(item.key().bytes().len() as u64);
-    }
+    let piece = first_piece(&stream, &cutting);
+    let largest = largest(stream.items(), &a);
     let total = stream.total();
-    lab.end()?;
-    lab.answer(format_args!("{empty} {piece} {total} {are_ordered} {heaviest}"))
+    lab.end();
+    lab.answer(format_args!("{empty} {piece} {largest} {total}"))
+}
+
+// How many items the first of three pieces has.
+fn first_piece(stream: &Stream, cutting: &Cutting) -> usize {
+    if cutting.len() == stream.len() && cutting.count() == 3 {
+        cutting.piece(stream, 0).len()
+    } else {
+        0
+    }
+}
+
+// The largest weight or length of a key that does not stand before the least.
+fn largest(items: &[Item], least: &Key) -> u64 {
+    let mut largest = 0u64;
+    for item in items {
+        let len = item.key().bytes().len() as u64;
+        if item.key() == least || item.key() > least {
+            largest = largest.max(item.weight()).max(len);
+        }
+    }
+    largest
 }
