@@ -39,17 +39,68 @@ impl Hasher for Fast {
 
 type Map<V> = HashMap<Box<[u8]>, V, BuildHasherDefault<Fast>>;
 
-/// Hands each record of standard input to the function, as its key and weight.
+/// Where a reader stands in a record, by the rules of `csv`'s default reader.
+#[derive(Clone, Copy, PartialEq)]
+enum State {
+    Record,
+    Field,
+    Plain,
+    Quoted,
+    Quote,
+}
+
+/// Hands each record of standard input to the function, as its key and weight. A field may be quoted, a quote in it
+/// doubled, a line end CR, LF or both, and empty lines are skipped.
 fn each_record(mut take: impl FnMut(&[u8], u64)) {
     let mut reader = io::stdin().lock();
-    let mut line = Vec::new();
-    while reader.read_until(b'\n', &mut line).expect("input") > 0 {
-        let text = line.strip_suffix(b"\n").unwrap_or(&line);
-        match text.iter().position(|&byte| byte == b',') {
-            Some(at) => take(&text[..at], digits(&text[at + 1..])),
-            None => take(text, 1),
+    let (mut text, mut ends, mut state) = (Vec::new(), Vec::new(), State::Record);
+    loop {
+        let bytes = reader.fill_buf().expect("input");
+        let count = bytes.len();
+        for &byte in bytes {
+            state = match (state, byte) {
+                (State::Quoted, b'"') => State::Quote,
+                (State::Quoted, _) => {
+                    text.push(byte);
+                    State::Quoted
+                }
+                (State::Quote, b'"') => {
+                    text.push(byte);
+                    State::Quoted
+                }
+                (State::Record | State::Field, b'"') => State::Quoted,
+                (State::Record, b'\r' | b'\n') => State::Record,
+                (_, b'\r' | b'\n') => {
+                    hand_on(&mut take, &text, &ends);
+                    text.clear();
+                    ends.clear();
+                    State::Record
+                }
+                (_, b',') => {
+                    ends.push(text.len());
+                    State::Field
+                }
+                _ => {
+                    text.push(byte);
+                    State::Plain
+                }
+            };
         }
-        line.clear();
+        reader.consume(count);
+        if count == 0 {
+            if state != State::Record {
+                hand_on(&mut take, &text, &ends);
+            }
+            return;
+        }
+    }
+}
+
+/// Hands on the fields of a record, which end at these places.
+fn hand_on(take: &mut impl FnMut(&[u8], u64), text: &[u8], ends: &[usize]) {
+    match ends.first() {
+        Some(&end) => take(&text[..end], digits(&text[end..])),
+        None => take(text, 1),
     }
 }
 
