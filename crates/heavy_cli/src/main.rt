@@ -68,7 +68,6 @@ fn main(rt: HostRuntime) -> ExitCode {
         }
         Ok(Request::Answer(question)) => write_answer(&rt, question),
         Err(NoRequest::Told(error)) => return status_told(&rt, error),
-        Err(NoRequest::Missing) => return ExitCode::from(USAGE),
         Err(NoRequest::Memory) => Err(ToolError::Memory),
     };
     match outcome {

@@ -1,6 +1,6 @@
 //! What a command line asks for.
 
-use crate::arguments::command;
+use crate::arguments::{DEPTH, K, PIECES, SEED, WIDTH, WORKERS, command};
 use crate::words::{bytes_of, read_words};
 use clap::error::ErrorKind;
 use clap::{ArgMatches, Error};
@@ -51,8 +51,6 @@ pub enum Question {
 pub enum NoRequest {
     /// It asks for help, or has a fault: what `clap` says of it.
     Told(Error),
-    /// `clap` left out a value that it promises: none of its own tests lets this come.
-    Missing,
     /// The allocator had no memory.
     Memory,
 }
@@ -63,32 +61,21 @@ impl From<AllocError> for NoRequest {
     }
 }
 
-/// The number of an option, which has a default.
-fn number(found: &ArgMatches, name: &str) -> Result<u64, NoRequest> {
-    match found.get_one::<u64>(name) {
-        Some(number) => Ok(number),
-        None => Err(NoRequest::Missing),
-    }
-}
-
-/// The bytes of the one word of this name.
-fn word(alloc: Global, found: &ArgMatches, name: &str) -> Result<Vec<u8>, NoRequest> {
-    match found.get_str(name) {
-        Some(text) => Ok(bytes_of(alloc, text)?),
-        None => Err(NoRequest::Missing),
-    }
+/// The bytes of the first word of this name, or else of another.
+fn word_or(
+    alloc: Global,
+    found: &ArgMatches,
+    name: &str,
+    other: &str,
+) -> Result<Vec<u8>, AllocError> {
+    bytes_of(alloc, found.get_str(name).unwrap_or(other))
 }
 
 /// The bytes of all words of this name.
-fn words(alloc: Global, found: &ArgMatches, name: &str) -> Result<Vec<Vec<u8>>, NoRequest> {
-    let Some(texts) = found.get_strs(name) else {
-        return Err(NoRequest::Missing);
-    };
+fn words(alloc: Global, found: &ArgMatches, name: &str) -> Result<Vec<Vec<u8>>, AllocError> {
     let mut words = Vec::new(alloc);
-    for text in texts {
-        words
-            .push(bytes_of(alloc, *text)?)
-            .map_err(AllocError::from)?;
+    for text in found.get_strs(name).unwrap_or(&[]) {
+        words.push(bytes_of(alloc, text)?)?;
     }
     Ok(words)
 }
@@ -103,70 +90,75 @@ fn tree_of(word: Vec<u8>) -> Tree {
 }
 
 /// The threshold that is asked for, if one is.
-fn threshold_of(alloc: Global, found: &ArgMatches) -> Result<Share, NoRequest> {
+fn threshold_of(alloc: Global, found: &ArgMatches) -> Result<Share, AllocError> {
     match found.get_str("threshold") {
         Some(text) => Ok(Share::Text(bytes_of(alloc, text)?)),
         None => Ok(Share::OfCounters),
     }
 }
 
-fn report(alloc: Global, found: &ArgMatches) -> Result<Request, NoRequest> {
+fn report(alloc: Global, found: &ArgMatches) -> Result<Request, AllocError> {
     Ok(Request::Report(ReportOptions {
-        k: number(found, "k")?,
+        k: K.of(found),
         threshold: threshold_of(alloc, found)?,
-        workers: number(found, "workers")?,
-        pieces: number(found, "pieces")?,
-        tree: tree_of(word(alloc, found, "tree")?),
-        width: number(found, "width")?,
-        depth: number(found, "depth")?,
-        seed: number(found, "seed")?,
+        workers: WORKERS.of(found),
+        pieces: PIECES.of(found),
+        tree: tree_of(word_or(alloc, found, "tree", "balanced")?),
+        width: WIDTH.of(found),
+        depth: DEPTH.of(found),
+        seed: SEED.of(found),
     }))
 }
 
-fn summarise(alloc: Global, found: &ArgMatches) -> Result<Request, NoRequest> {
-    let k = number(found, "k")?;
-    let method = word(alloc, found, "method")?;
-    Ok(Request::Answer(Question::Summarise { k, method }))
+fn summarise(alloc: Global, found: &ArgMatches) -> Result<Question, AllocError> {
+    let method = word_or(alloc, found, "method", "mg")?;
+    Ok(Question::Summarise {
+        k: K.of(found),
+        method,
+    })
 }
 
-fn table(found: &ArgMatches) -> Result<Request, NoRequest> {
-    let width = number(found, "width")?;
-    let depth = number(found, "depth")?;
-    let seed = number(found, "seed")?;
-    Ok(Request::Answer(Question::Table { width, depth, seed }))
+fn table(found: &ArgMatches) -> Question {
+    Question::Table {
+        width: WIDTH.of(found),
+        depth: DEPTH.of(found),
+        seed: SEED.of(found),
+    }
 }
 
-fn merge(alloc: Global, found: &ArgMatches) -> Result<Request, NoRequest> {
+/// A file that is not named, which `clap` lets not come, is one without a name: it can't be read.
+fn merge(alloc: Global, found: &ArgMatches) -> Result<Question, AllocError> {
+    let first = word_or(alloc, found, "FILE", "")?;
     let mut others = words(alloc, found, "FILE")?;
-    if others.is_empty() {
-        return Err(NoRequest::Missing);
+    if !others.is_empty() {
+        others.remove(0);
     }
-    let first = others.remove(0);
-    Ok(Request::Answer(Question::Merge { first, others }))
+    Ok(Question::Merge { first, others })
 }
 
-fn ask(alloc: Global, found: &ArgMatches) -> Result<Request, NoRequest> {
-    let file = word(alloc, found, "FILE")?;
+fn ask(alloc: Global, found: &ArgMatches) -> Result<Question, AllocError> {
+    let file = word_or(alloc, found, "FILE", "")?;
     let keys = words(alloc, found, "KEY")?;
-    Ok(Request::Answer(Question::Ask { file, keys }))
+    Ok(Question::Ask { file, keys })
 }
 
-fn confirm(alloc: Global, found: &ArgMatches) -> Result<Request, NoRequest> {
-    let file = word(alloc, found, "FILE")?;
-    Ok(Request::Answer(Question::Confirm { file }))
+fn confirm(alloc: Global, found: &ArgMatches) -> Result<Question, AllocError> {
+    let file = word_or(alloc, found, "FILE", "")?;
+    Ok(Question::Confirm { file })
 }
 
-/// What a command with these words asks for.
-fn request_of(alloc: Global, name: &str, found: &ArgMatches) -> Result<Request, NoRequest> {
-    match name {
-        "report" => report(alloc, found),
-        "summarise" => summarise(alloc, found),
+/// What a command with these words asks for. `clap` lets these six names come: the one that is none
+/// of the other five is the report's.
+fn request_of(alloc: Global, name: &str, found: &ArgMatches) -> Result<Request, AllocError> {
+    let question = match name {
+        "summarise" => summarise(alloc, found)?,
         "table" => table(found),
-        "merge" => merge(alloc, found),
-        "ask" => ask(alloc, found),
-        "confirm" => confirm(alloc, found),
-        _ => Err(NoRequest::Missing),
-    }
+        "merge" => merge(alloc, found)?,
+        "ask" => ask(alloc, found)?,
+        "confirm" => confirm(alloc, found)?,
+        _ => return report(alloc, found),
+    };
+    Ok(Request::Answer(question))
 }
 
 /// What these words ask for, the first of which is the program's name.
@@ -179,10 +171,10 @@ pub fn request_in(alloc: Global, words: &[String]) -> Result<Request, NoRequest>
         }
         Err(error) => return Err(NoRequest::Told(error)),
     };
-    match matches.subcommand() {
-        Some((name, found)) => request_of(alloc, name, found),
-        None => Err(NoRequest::Missing),
-    }
+    let Some((name, found)) = matches.subcommand() else {
+        unreachable!("a command is required");
+    };
+    Ok(request_of(alloc, name, found)?)
 }
 
 /// What the command line asks for.

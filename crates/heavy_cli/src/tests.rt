@@ -1,6 +1,10 @@
-//! What no clause says of the command line: words that are not text.
+//! What no clause says of the command line: what its words ask for, and words that are not text.
 
+use crate::request::{NoRequest, Question, Request, request_in};
 use crate::words::{bytes_of, text_of};
+use clap::error::ErrorKind;
+use heavy::{ReportOptions, Share, Tree};
+use std::alloc::Global;
 use std::process::Abort;
 use std::test::Fail;
 
@@ -23,5 +27,197 @@ fn words_come_back_by_their_bytes(rt: HostRuntime) -> Result<(), Fail> {
 #[test]
 fn text_stays_as_it_is(rt: HostRuntime) -> Result<(), Fail> {
     assert_eq!(rt; text_of(rt.alloc(), "-ä".as_bytes())?.as_str(), "-ä");
+    Ok(())
+}
+
+/// What the words of a line ask for, which `|` parts.
+fn request(alloc: Global, line: &str) -> Result<Result<Request, NoRequest>, Fail> {
+    let mut words = Vec::new(alloc);
+    for word in line.split('|') {
+        words.push(String::from_str(alloc, word)?)?;
+    }
+    Ok(request_in(alloc, words.as_slice()))
+}
+
+fn text(bytes: &[u8]) -> &str {
+    str::from_utf8(bytes).unwrap_or("no text")
+}
+
+/// Words, each with a slash behind it.
+fn list(alloc: Global, words: &[Vec<u8>]) -> Result<String, Fail> {
+    let mut list = String::new(alloc);
+    for word in words {
+        list.push_str(text(word))?;
+        list.push('/')?;
+    }
+    Ok(list)
+}
+
+fn share(threshold: &Share) -> &str {
+    match threshold {
+        Share::OfCounters => "-",
+        Share::Text(share) => text(share),
+    }
+}
+
+fn shape(tree: &Tree) -> &str {
+    match tree {
+        Tree::Chain => "Chain",
+        Tree::Balanced => "Balanced",
+        Tree::Text(plan) => text(plan),
+    }
+}
+
+/// The options' k, threshold, workers, pieces, tree, width, depth and seed.
+fn report_told(alloc: Global, options: &ReportOptions) -> Result<String, Fail> {
+    let (k, workers, pieces) = (options.k, options.workers, options.pieces);
+    let (width, depth, seed) = (options.width, options.depth, options.seed);
+    let (share, tree) = (share(&options.threshold), shape(&options.tree));
+    let first = format!(in alloc; "{k} {share} {workers} {pieces}")?;
+    Ok(format!(in alloc; "report {first} {tree} {width} {depth} {seed}")?)
+}
+
+fn question_told(alloc: Global, question: &Question) -> Result<String, Fail> {
+    Ok(match question {
+        Question::Summarise { k, method } => {
+            let method = text(method);
+            format!(in alloc; "summarise k {k} method {method}")?
+        }
+        Question::Table { width, depth, seed } => {
+            format!(in alloc; "table width {width} depth {depth} seed {seed}")?
+        }
+        Question::Merge { first, others } => {
+            let (first, others) = (text(first), list(alloc, others)?);
+            format!(in alloc; "merge {first} and {others}")?
+        }
+        Question::Ask { file, keys } => {
+            let (file, keys) = (text(file), list(alloc, keys)?);
+            format!(in alloc; "ask {file} of {keys}")?
+        }
+        Question::Confirm { file } => {
+            let file = text(file);
+            format!(in alloc; "confirm {file}")?
+        }
+    })
+}
+
+fn told(alloc: Global, line: &str) -> Result<String, Fail> {
+    match request(alloc, line)? {
+        Ok(Request::Report(options)) => report_told(alloc, &options),
+        Ok(Request::Answer(question)) => question_told(alloc, &question),
+        Err(_) => Err(Fail::new("the line asks for nothing")),
+    }
+}
+
+#[test]
+fn each_option_has_its_default_and_its_effect(rt: HostRuntime) -> Result<(), Fail> {
+    for (line, expected) in [
+        ("heavy|report", "report 100 - 4 4 Balanced 1024 4 0"),
+        ("heavy|report|--k|7", "report 7 - 4 4 Balanced 1024 4 0"),
+        ("heavy|report|--k=8", "report 8 - 4 4 Balanced 1024 4 0"),
+        (
+            "heavy|report|--threshold|1/9",
+            "report 100 1/9 4 4 Balanced 1024 4 0",
+        ),
+        (
+            "heavy|report|--workers|6",
+            "report 100 - 6 4 Balanced 1024 4 0",
+        ),
+        (
+            "heavy|report|--pieces|9",
+            "report 100 - 4 9 Balanced 1024 4 0",
+        ),
+        (
+            "heavy|report|--tree|chain",
+            "report 100 - 4 4 Chain 1024 4 0",
+        ),
+        (
+            "heavy|report|--tree|balanced",
+            "report 100 - 4 4 Balanced 1024 4 0",
+        ),
+        (
+            "heavy|report|--tree|((0 1) 2)",
+            "report 100 - 4 4 ((0 1) 2) 1024 4 0",
+        ),
+        (
+            "heavy|report|--width|11",
+            "report 100 - 4 4 Balanced 11 4 0",
+        ),
+        (
+            "heavy|report|--depth|12",
+            "report 100 - 4 4 Balanced 1024 12 0",
+        ),
+        (
+            "heavy|report|--seed|13",
+            "report 100 - 4 4 Balanced 1024 4 13",
+        ),
+        (
+            "heavy|report|--seed|18446744073709551615|--k|0",
+            "report 0 - 4 4 Balanced 1024 4 18446744073709551615",
+        ),
+        ("heavy|summarise", "summarise k 100 method mg"),
+        ("heavy|summarise|--k|5", "summarise k 5 method mg"),
+        ("heavy|summarise|--method|ss", "summarise k 100 method ss"),
+        ("heavy|summarise|--method|no", "summarise k 100 method no"),
+        ("heavy|table", "table width 1024 depth 4 seed 0"),
+        ("heavy|table|--width|3", "table width 3 depth 4 seed 0"),
+        ("heavy|table|--depth|3", "table width 1024 depth 3 seed 0"),
+        ("heavy|table|--seed|3", "table width 1024 depth 4 seed 3"),
+    ] {
+        assert_eq!(rt; told(rt.alloc(), line)?.as_str(), expected);
+    }
+    Ok(())
+}
+
+#[test]
+fn words_keep_their_order(rt: HostRuntime) -> Result<(), Fail> {
+    for (line, expected) in [
+        ("heavy|merge|b", "merge b and "),
+        ("heavy|merge|b|a|c|a", "merge b and a/c/a/"),
+        ("heavy|merge|--|-b|--k", "merge -b and --k/"),
+        ("heavy|ask|file|z", "ask file of z/"),
+        ("heavy|ask|file|z|a||z", "ask file of z/a//z/"),
+        ("heavy|ask|--|-file|-z", "ask -file of -z/"),
+        ("heavy|confirm|file", "confirm file"),
+        ("heavy|confirm|--|--help", "confirm --help"),
+    ] {
+        assert_eq!(rt; told(rt.alloc(), line)?.as_str(), expected);
+    }
+    Ok(())
+}
+
+#[test]
+fn lines_are_refused_or_ask_for_help(rt: HostRuntime) -> Result<(), Fail> {
+    for (line, kind, status) in [
+        ("heavy", ErrorKind::MissingSubcommand, 2),
+        ("heavy|no", ErrorKind::InvalidSubcommand, 2),
+        ("heavy|--k|2", ErrorKind::UnknownArgument, 2),
+        ("heavy|report|--no", ErrorKind::UnknownArgument, 2),
+        ("heavy|report|no", ErrorKind::UnknownArgument, 2),
+        ("heavy|report|--k", ErrorKind::InvalidValue, 2),
+        ("heavy|report|--k|x", ErrorKind::ValueValidation, 2),
+        (
+            "heavy|report|--k|18446744073709551616",
+            ErrorKind::ValueValidation,
+            2,
+        ),
+        ("heavy|report|--k|1|--k|2", ErrorKind::ArgumentConflict, 2),
+        ("heavy|report|--method|mg", ErrorKind::UnknownArgument, 2),
+        ("heavy|summarise|--width|2", ErrorKind::UnknownArgument, 2),
+        ("heavy|table|--k|2", ErrorKind::UnknownArgument, 2),
+        ("heavy|merge", ErrorKind::MissingRequiredArgument, 2),
+        ("heavy|ask|file", ErrorKind::MissingRequiredArgument, 2),
+        ("heavy|confirm", ErrorKind::MissingRequiredArgument, 2),
+        ("heavy|confirm|one|two", ErrorKind::UnknownArgument, 2),
+        ("heavy|--help", ErrorKind::DisplayHelp, 0),
+        ("heavy|help", ErrorKind::DisplayHelp, 0),
+        ("heavy|table|--help", ErrorKind::DisplayHelp, 0),
+    ] {
+        let Err(NoRequest::Told(error)) = request(rt.alloc(), line)? else {
+            return Err(Fail::new("the line is not refused"));
+        };
+        assert_eq!(rt; error.kind(), kind);
+        assert_eq!(rt; error.exit_code(), status);
+    }
     Ok(())
 }
