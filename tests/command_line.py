@@ -115,8 +115,10 @@ def try_tables(line: Line) -> None:
         items = reference.items_of(RECORDS)
         holds = shape == (width, depth) and (table.total, table.cells) == (11, cells_of(table, items))
         line.tally.check(f"table {' '.join(words)}", holds, f"status {ended[0]}, width and depth {shape}, {ended[2]}")
-    tables = [table_in(line.run(["table", *words])) for words in ([], ["--seed", "0"], ["--seed", "7"])]
-    line.tally.check("the default seed is 0", all(tables) and tables[0] == tables[1] and tables[0].z != tables[2].z)
+    ended = [line.run(["table", *words]) for words in ([], ["--seed", "0"], ["--seed", "7"])]
+    tables = [table_in(one) for one in ended]
+    is_0 = all(tables) and ended[0] == ended[1] and tables[0].z != tables[2].z
+    line.tally.check("the default seed is 0", is_0, [one[0] for one in ended])
 
 
 def try_refused_options(line: Line) -> None:
