@@ -1,4 +1,5 @@
 pub mod Cells
+mod Digits
 pub mod Drawing
 pub mod Estimates
 pub mod Families

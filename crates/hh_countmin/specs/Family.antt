@@ -1,5 +1,5 @@
 -- Hash families: the coefficients, the fingerprint and the cell of a key, and the family of a seed.
-use Rattle.std.specs.Prelude.{ℕ, ◌+◌, ◌*◌, ◌-◌, ◌%◌, ◌≤◌, ◌<◌, Bool, ◌&&◌, nat_eq, List, [], ◌∷◌, length, fold, All, slice_index_or}
+use Rattle.std.specs.Prelude.{ℕ, ◌+◌, ◌*◌, ◌-◌, ◌%◌, ◌^◌, ◌≡◌, ◌≤◌, ◌<◌, Bool, ◌&&◌, nat_eq, List, [], ◌∷◌, length, fold, All, slice_index, slice_index_or}
 use lib.Pointwise.{pointwise}
 use Rattle.hh_stream.specs.Weights.{Bytes}
 use Rattle.rand_core.specs.Steps.{first_words}
@@ -58,6 +58,10 @@ fingerprint_step z acc v = (acc * z + (v + 1)) % modulus
 -- the fingerprint of a key: its bytes as digits to the base z, each raised by one
 abbrev pub fingerprint_of : ℕ → Bytes → ℕ
 fingerprint_of z bytes = fold (fingerprint_step z) 0 bytes
+
+-- the powers of z from 0 to 8
+abbrev pub ArePowers : ℕ → List ℕ → Type 0
+ArePowers z powers = (i : ℕ) → i ≤ 8 → slice_index powers i ≡ z ^ i % modulus
 
 -- the cell of a fingerprint in a row
 abbrev pub cell_of_fingerprint : ℕ × ℕ → ℕ → ℕ → ℕ

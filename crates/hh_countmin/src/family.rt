@@ -1,11 +1,11 @@
 //! Hash families.
 
 ghost use Rattle.std.specs.Prelude.{◌≡◌, ◌+◌, ◌*◌, ◌<◌, ◌≤◌, ◌↔◌, ◌⊎◌, length, IfOk, IsErrOf, IsTrue};
-ghost use Rattle.hh_countmin.specs.Family.{max_depth, modulus, IsDepth, IsWidth, IsFamily, AreCoefficients, IsRow, row_of, fingerprint_of, cell_of, cell_of_fingerprint, drawn_family, factor_of, addend_of, rows_of_words};
+ghost use Rattle.hh_countmin.specs.Family.{max_depth, modulus, IsDepth, IsWidth, IsFamily, AreCoefficients, IsRow, row_of, fingerprint_of, ArePowers, cell_of, cell_of_fingerprint, drawn_family, factor_of, addend_of, rows_of_words};
 ghost use Rattle.rand_core.specs.Steps.{first_words};
 ghost use Rattle.rand_pcg.specs.Pcg.{pcg64};
 
-use crate::modulus::{MODULUS, multiply_add, remainder};
+use crate::modulus::{MODULUS, multiply_add, reduce, remainder};
 use hh_stream::Key;
 use rand_core::SeedableRng;
 use rand_core::utils::NextWord;
@@ -27,17 +27,21 @@ pub const MAX_WIDTH: u64 = 65_536;
 #[derive(Debug, Drop)]
 pub struct Family {
     z: u64,
+    // z to the powers 0 to 8
+    powers: [u64; 9],
     rows: Vec<(u64, u64)>,
 }
 
 impl Model for Family {
-    ghost use Rattle.hh_countmin.specs.Family.{Coefficients, IsFamily};
+    ghost use Rattle.hh_countmin.specs.Family.{Coefficients, IsFamily, ArePowers};
 
     ghost Value = { Coefficients };
 
     ghost view = { λ family. record { z = family.z; rows = family.rows.items } };
 
-    ghost invariant = { λ family. IsFamily (record { z = family.z; rows = family.rows.items }) };
+    ghost invariant = { λ family.
+        IsFamily (record { z = family.z; rows = family.rows.items })
+        × ArePowers family.z family.powers };
 }
 
 /// Why a family was not drawn: the first of these that holds.
@@ -74,7 +78,11 @@ impl Family {
         let mut generator = Pcg64::seed_from_u64(seed);
         let z = factor(generator.next_word());
         match draw_rows(alloc, &mut generator, depth) {
-            Ok(rows) => Ok(Family { z, rows }),
+            Ok(rows) => Ok(Family {
+                z,
+                powers: powers_of(z),
+                rows,
+            }),
             Err(_) => Err(DrawFault::Memory),
         }
     }
@@ -96,7 +104,11 @@ impl Family {
             return Err(PartsFault::BadCoefficient);
         }
         match Vec::from_slice(alloc, rows) {
-            Ok(rows) => Ok(Family { z, rows }),
+            Ok(rows) => Ok(Family {
+                z,
+                powers: powers_of(z),
+                rows,
+            }),
             Err(_) => Err(PartsFault::Memory),
         }
     }
@@ -107,6 +119,7 @@ impl Family {
     {
         Ok(Family {
             z: self.z,
+            powers: self.powers,
             rows: Vec::from_slice(*self.rows.allocator(), &self.rows)?,
         })
     }
@@ -141,10 +154,29 @@ impl Family {
         ensures below { result < modulus }
     {
         let mut fingerprint = 0;
-        for &byte in key.bytes() {
-            fingerprint = multiply_add(fingerprint, self.z, u64::from(byte) + 1);
+        let mut rest = key.bytes();
+        while !rest.is_empty() {
+            let (bytes, after) = rest.split_at(rest.len().min(8));
+            let power = self.powers[bytes.len()];
+            fingerprint = multiply_add(fingerprint, power, self.digits(bytes));
+            rest = after;
         }
         fingerprint
+    }
+
+    // The fingerprint of up to 8 bytes: none waits for the one before it, and there is one reduction.
+    #[inline]
+    fn digits(&self, bytes: &[u8]) -> u64
+        requires few { length bytes.now ≤ 8 }
+        ensures digits { result ≡ fingerprint_of self.now.z bytes.now }
+        ensures below { result < modulus }
+    {
+        let mut sum = 0;
+        for i in 0..bytes.len() {
+            let power = self.powers[bytes.len() - 1 - i];
+            sum += u128::from(power) * (u128::from(bytes[i]) + 1);
+        }
+        reduce(sum)
     }
 
     /// The cell of a key in row `r` of a table of this width.
@@ -190,6 +222,18 @@ impl Eq for Family {
     ghost use Rattle.hh_countmin.specs.FamilyEq.{same_family_equiv};
 
     ghost laws = { same_family_equiv };
+}
+
+// z to the powers 0 to 8.
+fn powers_of(z: u64) -> [u64; 9]
+    requires { z < modulus }
+    ensures { ArePowers z result }
+{
+    let mut powers = [1; 9];
+    for i in 1..9 {
+        powers[i] = multiply_add(powers[i - 1], z, 0);
+    }
+    powers
 }
 
 // A coefficient that is not 0.

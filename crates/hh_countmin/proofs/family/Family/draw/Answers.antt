@@ -1,4 +1,4 @@
-use Rattle.std.proofs.Common.{◌≡◌, ℕ, List, ap, ap₂, ◌∙◌, arith}
+use Rattle.std.proofs.Common.{◌≡◌, ℕ, List, ap, sym, ap₂, ◌∙◌, arith}
 use Rattle.rand_pcg.specs.Lcg.{Lcg}
 use Rattle.rand_pcg.specs.Pcg.{pcg64}
 use Rattle.hh_countmin.specs.Family.{factor_of}
@@ -7,7 +7,7 @@ use Rattle.hh_countmin.proofs.family.Family.draw.Goals as goal
 
 pub invariant_of-result : goal.invariant_of-result
 invariant_of-result c =
-    rw (c.factor-z.ensures, c.in-Ok.ensures) (drawn_is_family c.next_word.result c.args.depth c.next_word.new.self (omega arith, omega arith))
+    rw (c.factor-z.ensures, c.in-Ok.ensures) (drawn_is_family c.next_word.result c.args.depth c.next_word.new.self (omega arith, omega arith), rw (sym c.factor-z.ensures) c.powers_of.ensures)
 
 pub returns-in-Ok-clause-drawn : goal.returns-in-Ok-clause-drawn
 returns-in-Ok-clause-drawn c =
