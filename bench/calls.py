@@ -4,7 +4,7 @@
 usage: bench/calls.py [RUNS]
 
 Prints for each call, file and k the nanoseconds an item (for `merge`: microseconds a merge; for `save` and
-`load`, which write and read a saved summary: nanoseconds a counter), those of bench/plain.rs where it has the
+`load`, which write and read a saved summary: nanoseconds a counter), those of bench/plain where it has the
 call, and the ratio. Needs rustc for the plain program; without it that column is empty.
 """
 import statistics
@@ -35,12 +35,13 @@ ROWS = [
     ("space_saving", ("uniform", FEW, 200_000, 0), [10, 100, 1_000, 10_000]),
     *[(call, shape, [10_000]) for call in ("read", "bucket_saving", "table", "save", "load") for shape in LENGTHS],
 ]
-IN_PLAIN = {"read", "table", "bucket_saving"}
+# what the plain program calls it
+IN_PLAIN = {"read": ["time", "read"], "table": ["time", "table"], "bucket_saving": ["time", "ss"]}
 
 
-def once(program: str, call: str, k: int, path: Path) -> int:
+def once(command: list[str], path: Path) -> int:
     with open(path, "rb") as source:
-        run = subprocess.run([program, call, str(k)], stdin=source, capture_output=True, check=True)
+        run = subprocess.run(command, stdin=source, capture_output=True, check=True)
     return int(run.stdout)
 
 
@@ -48,18 +49,18 @@ def main() -> None:
     runs = int(sys.argv[1]) if len(sys.argv) > 1 else 5
     with tempfile.TemporaryDirectory() as folder:
         room = Path(folder)
-        built = {"heavy": programs.heavy_bench()}
-        if (plain := programs.plain(room)) is not None:
-            built["plain"] = plain
+        heavy, plain = programs.heavy_bench(), programs.plain(room)
         print(f"{'call':13} {'records':28} {'k':>6} {'heavy':>9} {'plain':>9} {'ratio':>6}")
         for call, shape, sizes in ROWS:
             path = programs.records(room, *shape)
             for k in sizes:
-                names = [name for name in built if name == "heavy" or call in IN_PLAIN]
-                times: dict[str, list[int]] = {name: [] for name in names}
+                commands = {"heavy": [heavy, call, str(k)]}
+                if plain and call in IN_PLAIN:
+                    commands["plain"] = [plain, *IN_PLAIN[call], str(k)]
+                times: dict[str, list[int]] = {name: [] for name in commands}
                 for _ in range(runs):
-                    for name in names:
-                        times[name].append(once(built[name], call, k, path))
+                    for name, command in commands.items():
+                        times[name].append(once(command, path))
                 medians = {name: statistics.median(all) for name, all in times.items()}
                 unit = 1000 if call == "merge" else 1
                 cells = f"{medians['heavy'] / unit:9.0f}"

@@ -57,7 +57,7 @@ def megabytes(command: list[str], path: Path) -> float:
 
 def commands(room: Path, path: Path) -> dict[str, list[str]]:
     """What is run, by name; the program in plain Rust has the name with `plain` before it."""
-    heavy, plain = programs.heavy(), programs.plain(room, "passes")
+    heavy, plain = programs.heavy(), programs.plain(room)
     summary, keys = room / "summary", room / "keys"
     with open(path, "rb") as source, open(summary, "wb") as out:
         subprocess.run([heavy, "summarise", "--k", "100"], stdin=source, stdout=out, check=True)

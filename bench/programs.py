@@ -21,14 +21,30 @@ def heavy_bench() -> str:
     return str(crate / "out" / "heavy_bench")
 
 
-def plain(room: Path, name: str = "plain") -> str | None:
-    """A program in plain Rust, built; none where there is no rustc."""
+def plain(room: Path) -> str | None:
+    """The program in plain Rust, built: over the crate `csv` where cargo has it, else with a reader of the same rules;
+    none where there is no rustc."""
     if not shutil.which("rustc"):
         return None
-    program = str(room / name)
-    source = str(TOP / "bench" / f"{name}.rs")
-    subprocess.run(["rustc", "-O", "--edition", "2021", "-o", program, source], check=True)
-    return program
+    source, program = TOP / "bench" / "plain", room / "plain"
+    if not program.exists() and not with_csv(source, room):
+        subprocess.run(["rustc", "-O", "--edition", "2021", "-o", program, source / "src" / "main.rs"], check=True)
+    return str(program)
+
+
+def with_csv(source: Path, room: Path) -> bool:
+    """Builds the plain program over the crate `csv`, from crates that Debian's packages install (librust-csv-dev) or that
+    cargo has, with no network."""
+    package = room / "plain-source"
+    shutil.copytree(source, package)
+    crates = Path("/usr/share/cargo/registry")
+    words = ["cargo", "build", "--release", "--offline", "--features", "csv"]
+    if crates.is_dir():
+        words += ["--config", "source.crates-io.replace-with='debian'", "--config", f"source.debian.directory='{crates}'"]
+    if not shutil.which("cargo") or subprocess.run(words, cwd=package, capture_output=True).returncode != 0:
+        return False
+    shutil.copy(package / "target" / "release" / "plain", room / "plain")
+    return True
 
 
 def records(room: Path, *shape: object) -> Path:

@@ -1,9 +1,10 @@
 #!/usr/bin/env python3
-"""Times `heavy report` beside mawk (or awk) and plain Rust, interleaved, on two files of 10^6 records.
+"""Times `heavy report` beside mawk (or awk) and plain Rust, interleaved, on three files of 10^6 records.
 
 usage: bench/report.py [RUNS]
 
-Prints medians in seconds, and each as a ratio to the awk's and to plain Rust's with as many workers.
+Prints medians in seconds, and ratios: to the awk's, to those of plain Rust in the same shape with as many workers, and
+to those of a hash group-by in plain Rust.
 """
 import shutil
 import statistics
@@ -25,6 +26,7 @@ def commands(room: Path) -> dict[str, list[str]]:
     found = {f"heavy {n}": [heavy, "report", "--k", "100", "--workers", str(n)] for n in WORKERS}
     if plain:
         found |= {f"plain {n}": [plain, "report", "100", str(n)] for n in WORKERS}
+        found["group"] = [plain, "group", "100"]
     awk = shutil.which("mawk") or shutil.which("awk")
     if awk:
         found["awk"] = [awk, "-F,", GROUP_BY]
@@ -43,7 +45,7 @@ def main() -> None:
     with tempfile.TemporaryDirectory() as folder:
         room = Path(folder)
         all_commands = commands(room)
-        for shape in ("zipf", "different"):
+        for shape in ("zipf", "uniform", "different"):
             path = programs.records(room, shape)
             times: dict[str, list[float]] = {name: [] for name in all_commands}
             for _ in range(runs):
@@ -57,7 +59,7 @@ def main() -> None:
                     line += f"   {median / medians['awk']:5.2f} of awk"
                 same = "plain " + name[-1]
                 if name.startswith("heavy") and same in medians:
-                    line += f"   {median / medians[same]:5.2f} of plain"
+                    line += f"   {median / medians[same]:5.2f} of plain   {median / medians['group']:5.2f} of group"
                 print(line, flush=True)
 
 

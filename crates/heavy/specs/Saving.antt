@@ -1,7 +1,7 @@
 -- What the commands on saved files answer.
 use Rattle.std.specs.Prelude.{◌≡◌, ◌≢◌, ℕ, List, not, codes, Option, Some, None, Ok, Err, ⊤, if◌then◌else◌}
 use Rattle.hh_stream.specs.Weights.{Entry, total_of}
-use Rattle.hh_counters.specs.Counters.{Sketch}
+use Rattle.hh_counters.specs.Counters.{Sketch, sketch_of}
 use Rattle.hh_countmin.specs.Table.{Grid}
 use Rattle.hh_saved.specs.Reading.{saved_of}
 use Rattle.hh_saved.specs.Spelling.{Spells}
@@ -21,6 +21,10 @@ use Rattle.heavy.specs.declared.error.ToolError.TheVariants as tool
 -- reader had left
 abbrev pub SavesStream : (List Entry → Saved) → Option (List ℕ) → List ℕ → Type 0
 SavesStream f left bytes = (xs : List Entry) × ReadsAs left (Ok xs) × Spells version.Two bytes (f xs)
+
+-- the summary that Misra and Gries make of the stream of all bytes that the reader had left
+abbrev pub IsSummaryOf : ℕ → Option (List ℕ) → Sketch → Type 0
+IsSummaryOf k left summary = (xs : List Entry) × ReadsAs left (Ok xs) × (summary ≡ sketch_of k xs)
 
 -- what a refusal to read records tells, where they were read: not before the tests that come first
 abbrev pub RecordsRefused : Option (List ℕ) → ToolError → Type 0

@@ -9,7 +9,7 @@ ghost use Rattle.hh_saved.specs.Spelling.{Spells};
 ghost use Rattle.hh_saved.specs.declared.format.Version.TheVariants as version;
 ghost use Rattle.hh_saved.specs.declared.saved.Saved.TheVariants.{Cells, Counters};
 ghost use Rattle.heavy.specs.Limits.{in_range, most_depth, most_k, most_width};
-ghost use Rattle.heavy.specs.Saving.{ConfirmRefused, ConfirmsRows, RecordsRefused, RefusedAfter, SavesStream, bad_k, bad_table, word_of};
+ghost use Rattle.heavy.specs.Saving.{ConfirmRefused, ConfirmsRows, IsSummaryOf, RecordsRefused, RefusedAfter, SavesStream, bad_k, bad_table, word_of};
 ghost use Rattle.heavy.specs.Streams.{ReadsAs};
 
 use crate::confirmation::confirm_records;
@@ -57,21 +57,23 @@ fn summary_of<R: Read + Drop>(
     reader: R,
 ) -> Result<Summary, ToolError>
     requires { in_range k most_k ≡ true }
-    ensures summary { IfOk result (λ summary. (xs : List Entry)
-        × ReadsAs (R.remaining reader) (Ok xs) × (summary ≡ sketch_of k xs)) }
+    ensures summary { IfOk result (IsSummaryOf k (R.remaining reader)) }
     ensures refused { IfErr result (λ fault. RecordsRefused (R.remaining reader) fault) }
 {
     match method {
-        Method::MisraGries => counted_summary(alloc, k, reader),
-        Method::SpaceSaving => monitored_summary(alloc, k, reader),
+        Method::MisraGries => summary_by_counting(alloc, k, reader),
+        Method::SpaceSaving => summary_by_monitoring(alloc, k, reader),
     }
 }
 
 /// The summary of the records of a reader, whose items are added to it one by one.
-fn counted_summary<R: Read + Drop>(alloc: Global, k: u64, reader: R) -> Result<Summary, ToolError>
+fn summary_by_counting<R: Read + Drop>(
+    alloc: Global,
+    k: u64,
+    reader: R,
+) -> Result<Summary, ToolError>
     requires { in_range k most_k ≡ true }
-    ensures summary { IfOk result (λ summary. (xs : List Entry)
-        × ReadsAs (R.remaining reader) (Ok xs) × (summary ≡ sketch_of k xs)) }
+    ensures summary { IfOk result (IsSummaryOf k (R.remaining reader)) }
     ensures refused { IfErr result (λ fault. RecordsRefused (R.remaining reader) fault) }
 {
     summaries_follow_items();
@@ -85,10 +87,13 @@ fn counted_summary<R: Read + Drop>(alloc: Global, k: u64, reader: R) -> Result<S
 }
 
 /// The summary of the records of a reader, whose items are monitored and translated at the end.
-fn monitored_summary<R: Read + Drop>(alloc: Global, k: u64, reader: R) -> Result<Summary, ToolError>
+fn summary_by_monitoring<R: Read + Drop>(
+    alloc: Global,
+    k: u64,
+    reader: R,
+) -> Result<Summary, ToolError>
     requires { in_range k most_k ≡ true }
-    ensures summary { IfOk result (λ summary. (xs : List Entry)
-        × ReadsAs (R.remaining reader) (Ok xs) × (summary ≡ sketch_of k xs)) }
+    ensures summary { IfOk result (IsSummaryOf k (R.remaining reader)) }
     ensures refused { IfErr result (λ fault. RecordsRefused (R.remaining reader) fault) }
 {
     summaries_follow_items();

@@ -99,6 +99,9 @@ impl Candidates {
         requires bounded { All (λ n. n + total_of items.now < 2 ^ 64) numbers.old }
         ensures { numbers.new ≡ counted self.now items.now numbers.old }
     {
+        if self.keys.is_empty() {
+            return;
+        }
         for item in items {
             self.count(item.key(), item.weight(), numbers);
         }

@@ -1,12 +1,11 @@
 //! Keys: 1 to 4,096 bytes.
 
-ghost use Rattle.std.specs.Prelude.{◌≡◌, ◌<◌, ◌≤◌, ◌↔◌, ℕ, length, IsOk, IfOk, IsErrOf, EachIndex, slice_index, refl};
+ghost use Rattle.std.specs.Prelude.{◌≡◌, ◌<◌, ◌≤◌, ◌↔◌, ◌∷◌, [], ℕ, length, IsOk, IfOk, IsErrOf, EachIndex, slice_index, refl};
 ghost use Rattle.std.proofs.Common.{ap};
 ghost use Rattle.std.specs.FinMap.{nat_cmp-IsAntisymmetric, slice_cmp-IsAntisymmetric};
 ghost use Rattle.std.specs.Cmp.{partial_equiv_from_equiv, partial_order_from_total, eq_by_cmp_equiv, Equal-is};
 ghost use Rattle.std.specs.Cmp.Lexicographic.{slice_cmp, nat_list_cmp_total};
 ghost use Rattle.std.specs.Ordering.{nat_cmp, as_partial_cmp};
-ghost use Rattle.std.specs.Hash as fed;
 ghost use Rattle.hh_stream.specs.Weights.{max_key_len, inline_len, IsKey, key_cmp, same_key};
 
 use smallvec::SmallVec;
@@ -22,7 +21,9 @@ pub const MAX_KEY_LEN: usize = 4096;
 pub const INLINE_LEN: usize = 24;
 
 /// A key: 1 to [`MAX_KEY_LEN`] bytes. Keys are equal, ordered and hashed by their bytes, and a proper
-/// prefix stands before the longer key. A contract sees a key as the list of its bytes.
+/// prefix stands before the longer key. A hash takes the bytes alone and no length, so two keys that
+/// are hashed one after the other are hashed as the bytes of both. A contract sees a key as the list of
+/// its bytes.
 ///
 /// A key of up to [`INLINE_LEN`] bytes lies in the value itself.
 #[derive(Debug, Drop)]
@@ -133,13 +134,13 @@ impl Ord for Key {
 }
 
 impl Hash for Key {
-    ghost hash_input = { fed.slice fed.u8 };
+    ghost hash_input = { λ key. key ∷ [] };
 
-    ghost respects_eq = { λ x y e. ap (fed.slice fed.u8)
+    ghost respects_eq = { λ x y e. ap (λ key. key ∷ [])
         (slice_cmp-IsAntisymmetric nat_cmp-IsAntisymmetric x y
         ((Equal-is (slice_cmp nat_cmp x y)).0 e)) };
 
     fn hash<H: Hasher>(&self, state: &mut H) {
-        self.bytes().hash(state);
+        state.write(self.bytes());
     }
 }

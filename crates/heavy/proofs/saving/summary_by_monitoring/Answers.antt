@@ -1,6 +1,6 @@
 use Rattle.std.proofs.Common.{[], ap, ◌∙◌}
 use Rattle.hh_counters.specs.SpaceSaving.{translated}
-use Rattle.heavy.proofs.saving.monitored_summary.Goals as goal
+use Rattle.heavy.proofs.saving.summary_by_monitoring.Goals as goal
 
 pub returns-in-Ok-into_summary-clause-summary : goal.returns-in-Ok-into_summary-clause-summary
 returns-in-Ok-into_summary-clause-summary g c =

@@ -1,0 +1,94 @@
+//! Records of standard input, as keys and weights: by the crate `csv` where the feature `csv` is on, else by a loop with
+//! the rules of its default reader.
+
+use std::io;
+
+/// A key with its weight.
+pub type Item = (Box<[u8]>, u64);
+
+/// All records, each key allocated.
+pub fn items() -> Vec<Item> {
+    let mut items = Vec::new();
+    each_record(|key, weight| items.push((key.into(), weight)));
+    items
+}
+
+/// Hands each record to the function.
+#[cfg(feature = "csv")]
+pub fn each_record(mut take: impl FnMut(&[u8], u64)) {
+    let mut reader = csv::ReaderBuilder::new().has_headers(false).flexible(true).from_reader(io::stdin().lock());
+    let mut record = csv::ByteRecord::new();
+    while reader.read_byte_record(&mut record).expect("input") {
+        take(&record[0], record.get(1).map_or(1, number));
+    }
+}
+
+/// Hands each record to the function. A field may be quoted, a quote in it doubled, a line end CR, LF or both, and empty
+/// lines are skipped.
+#[cfg(not(feature = "csv"))]
+pub fn each_record(mut take: impl FnMut(&[u8], u64)) {
+    use std::io::BufRead;
+    use State::*;
+    let mut reader = io::stdin().lock();
+    let (mut text, mut ends, mut state) = (Vec::new(), Vec::new(), Record);
+    loop {
+        let bytes = reader.fill_buf().expect("input");
+        let count = bytes.len();
+        for &byte in bytes {
+            state = match (state, byte) {
+                (Quoted, b'"') => Quote,
+                (Quoted, _) | (Quote, b'"') => {
+                    text.push(byte);
+                    Quoted
+                }
+                (Record | Field, b'"') => Quoted,
+                (Record, b'\r' | b'\n') => Record,
+                (_, b'\r' | b'\n') => {
+                    hand_on(&mut take, &text, &ends);
+                    text.clear();
+                    ends.clear();
+                    Record
+                }
+                (_, b',') => {
+                    ends.push(text.len());
+                    Field
+                }
+                _ => {
+                    text.push(byte);
+                    Plain
+                }
+            };
+        }
+        reader.consume(count);
+        if count == 0 {
+            if state != Record {
+                hand_on(&mut take, &text, &ends);
+            }
+            return;
+        }
+    }
+}
+
+/// Where a reader stands in a record.
+#[cfg(not(feature = "csv"))]
+#[derive(Clone, Copy, PartialEq)]
+enum State {
+    Record,
+    Field,
+    Plain,
+    Quoted,
+    Quote,
+}
+
+/// Hands on the fields of a record, which end at these places.
+#[cfg(not(feature = "csv"))]
+fn hand_on(take: &mut impl FnMut(&[u8], u64), text: &[u8], ends: &[usize]) {
+    match ends.first() {
+        Some(&end) => take(&text[..end], number(&text[end..])),
+        None => take(text, 1),
+    }
+}
+
+fn number(text: &[u8]) -> u64 {
+    text.iter().fold(0, |value, byte| value * 10 + u64::from(byte - b'0'))
+}
