@@ -24,8 +24,8 @@ MARKS = {"REFUSE_FROM": "100003", "REFUSE_TO": "100019"}
 CALLS = {
     "hh_stream": ["Key::new", "Key::copy", "Stream::push", "Cutting::even", "Cutting::by_lengths"],
     "hh_counters": [
-        "Summary::add", "Summary::of_items", "Summary::merge", "Candidates::of", "Candidates::select",
-        "SpaceSaving::add", "SpaceSaving::into_summary", "BucketSaving::new", "BucketSaving::add",
+        "Summary::add", "Summary::of_items", "Summary::merge", "Candidates::of",
+        "Candidates::contenders", "Candidates::select", "SpaceSaving::add", "SpaceSaving::into_summary", "BucketSaving::new", "BucketSaving::add",
         "BucketSaving::add new bucket", "BucketSaving::add monitored", "BucketSaving::add monitored new bucket",
         "BucketSaving::into_summary", "monitored_summary",
     ],

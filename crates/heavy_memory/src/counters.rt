@@ -14,6 +14,7 @@ pub fn call(lab: &Lab, name: &str) -> Result<Said, Fail> {
         "Summary::of_items" => summary_of_items(lab),
         "Summary::merge" => summary_merge(lab),
         "Candidates::of" => candidates_of(lab),
+        "Candidates::contenders" => candidates_contenders(lab),
         "Candidates::select" => candidates_select(lab),
         "Summary readers" => summary_readers(lab),
         "Summary::new" => summary_new(lab),
@@ -83,6 +84,18 @@ fn candidates_of(lab: &Lab) -> Result<Said, Fail> {
     let summary = lab.summary()?;
     lab.begin();
     let made = Candidates::of(lab.alloc, &summary);
+    lab.end();
+    match made {
+        Err(AllocError) => lab.refused(),
+        Ok(candidates) => lab.answer(candidates.len()),
+    }
+}
+
+// Those that can have more than a quarter of the total.
+fn candidates_contenders(lab: &Lab) -> Result<Said, Fail> {
+    let summary = lab.summary()?;
+    lab.begin();
+    let made = Candidates::contenders(lab.alloc, &summary, 1, 4);
     lab.end();
     match made {
         Err(AllocError) => lab.refused(),

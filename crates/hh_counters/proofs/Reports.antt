@@ -18,8 +18,8 @@ use Rattle.std.proofs.lemmas.List.Kept.{IsStrictlySortedBy-filter}
 use Rattle.std.proofs.lemmas.Slice.Zip.{get_or-zip, length-zip}
 use Rattle.std.proofs.Math.Nat.{le-div_iff_mul-le}
 use Rattle.hh_stream.specs.Weights.{Bytes, Entry, key_cmp, weight_of, total_of}
-use Rattle.hh_counters.specs.Counters.{Counters, IsCounters, tally, IsHonest, slack}
-use Rattle.hh_counters.specs.Report.{rank_cmp, ranked_in, by_rank, is_heavy, selected, heavy, weights_at, has_counter, IsReport}
+use Rattle.hh_counters.specs.Counters.{Counters, Sketch, IsCounters, tally, IsHonest, slack}
+use Rattle.hh_counters.specs.Report.{rank_cmp, ranked_in, by_rank, is_heavy, selected, heavy, weights_at, can_be_heavy, contenders, has_counter, IsReport}
 use Rattle.hh_counters.proofs.Weights.{key_total, weight_of-cons, rising-tally, weight_of-tally, weight_first, at_other, key_exact, flipped}
 
 -- ---- members
@@ -193,6 +193,13 @@ rising-filter p [] h = h
 rising-filter p (e ∷ c) h = elim (p e) as (λ b. IsStrictlySortedBy key_cmp (keys_of (cond b (e ∷ filter p c) (filter p c)))) [
   | true ↦ (above-filter p e.0 c h.0, rising-filter p c h.1)
   | false ↦ rising-filter p c h.1
+]
+
+pub positive-filter : (p : Entry → Bool) (s : Counters) → AllByRecursion (λ (d : Entry). 0 < d.1) s → AllByRecursion (λ (d : Entry). 0 < d.1) (filter p s)
+positive-filter p [] h = h
+positive-filter p (e ∷ s) h = elim (p e) as (λ b. AllByRecursion (λ (d : Entry). 0 < d.1) (cond b (e ∷ filter p s) (filter p s))) [
+  | true ↦ (h.0, positive-filter p s h.1)
+  | false ↦ positive-filter p s h.1
 ]
 
 -- ---- the report
@@ -409,3 +416,36 @@ pub report_from_candidates : (c : Counters) (xs : List Entry) (k p q : ℕ) → 
 report_from_candidates c xs k p q h le =
     report_with_counters c xs p q h.counters
     ∙ filter_all (has_counter c) (heavy xs p q) (λ x i. grind (arith, nat_tests, heavy_has_counter c xs k p q h le x (contains_from_in x _ i)))
+
+-- what p/q of n bounds from below, near a counter
+can_exceed : (k p q n w t c : ℕ) → p * n < q * w → (k + 1) * w + t ≤ n + (k + 1) * c → p * n * (k + 1) + q * t < q * (n + (k + 1) * c)
+can_exceed k p q n w t c more near =
+    let most : q * ((k + 1) * w + t) ≤ q * (n + (k + 1) * c) = mul-le-mul_left q near in
+    let times : suc (p * n) * (k + 1) ≤ q * w * (k + 1) = mul-le-mul_right (k + 1) more in
+    grind (arith, most, times)
+
+-- a heavy key of an honest summary is a contender
+contends : (s : Sketch) (xs : List Entry) (p q : ℕ) → IsHonest s.counters s.total xs s.k → q ≤ p * (s.k + 1) → (e : Entry) → In e (heavy xs p q) → has_counter (contenders p q s) e ≡ true
+contends s xs p q h le e i =
+    let n = h.counted in
+    let c = weight_of e.0 s.counters in
+    let honest : IsHonest s.counters (total_of xs) xs s.k = subst (λ m. IsHonest s.counters m xs s.k) n h in
+    let some = heavy_has_counter s.counters xs s.k p q honest le e (contains_from_in e _ i) in
+    let heavy_e = in_heavy xs p q e.0 e.1 i in
+    let near : (s.k + 1) * e.1 + total_of s.counters ≤ s.total + (s.k + 1) * c = subst (λ w. (s.k + 1) * w + total_of s.counters ≤ s.total + (s.k + 1) * c) (sym heavy_e.0) (h.near e.0) in
+    let over = can_exceed s.k p q s.total e.1 (total_of s.counters) c (subst (λ m. p * m < q * e.1) (sym n) heavy_e.1) near in
+    let there = filter_in (can_be_heavy p q s) (e.0, c) s.counters (in_from_number e.0 s.counters h.counters.rising some) (grind (arith, nat_tests, over)) in
+    let rising = rising-filter (can_be_heavy p q s) s.counters h.counters.rising in
+    let same : weight_of e.0 (contenders p q s) ≡ c = number_from_in (e.0, c) (contenders p q s) rising there in
+    grind (arith, nat_tests, same, some)
+
+-- so the contenders are candidates enough
+pub report_from_contenders : (s : Sketch) (xs : List Entry) (p q : ℕ) → IsHonest s.counters s.total xs s.k → q ≤ p * (s.k + 1)
+    → selected p q (total_of xs) (zip (keys_of (contenders p q s)) (weights_at (keys_of (contenders p q s)) xs)) ≡ heavy xs p q
+report_from_contenders s xs p q h le =
+    let some = contenders p q s in
+    let counters : IsCounters some = record {
+      rising = rising-filter (can_be_heavy p q s) s.counters h.counters.rising;
+      positive = positive-filter (can_be_heavy p q s) s.counters h.counters.positive;
+    } in
+    report_with_counters some xs p q counters ∙ filter_all (has_counter some) (heavy xs p q) (contends s xs p q h le)

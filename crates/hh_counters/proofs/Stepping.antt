@@ -1,6 +1,6 @@
 -- What a step of Space-Saving does to the weights, the length and the total.
 use Rattle.std.proofs.Common.{◌≡◌, ℕ, ◌+◌, ◌-◌, ◌<◌, ◌≤◌, Bool, true, false, cond, not, [], ◌∷◌, length, Less, Equal, Greater, is_eq, refl, sym, ap, ◌∙◌, subst, arith}
-use Rattle.std.specs.Prelude.{nat_le, filter}
+use Rattle.std.specs.Prelude.{nat_le}
 use Rattle.std.specs.List.{AllByRecursion}
 use Rattle.std.specs.List.Sorted.{IsStrictlySortedBy}
 use Rattle.std.specs.Map.{keys_of}
@@ -12,7 +12,7 @@ use Rattle.hh_counters.specs.SpaceSaving.{least_of, translate, without, IsStep, 
 use Rattle.hh_counters.proofs.Weights.{same_exact, same_self, key_exact, weight_of-cons, total_of-cons, weight_of-add_at, total_of-add_at, rising-add_at, positive-add_at, weight_above, weight_first, above_first, at_other, same_counters, counters-plus, weight_of-plus}
 use Rattle.hh_counters.proofs.Level.{least_counter-all, level_above, weight_of-lower, counters-lower}
 use Rattle.hh_counters.proofs.Lowering.{level-least}
-use Rattle.hh_counters.proofs.Reports.{rising-filter}
+use Rattle.hh_counters.proofs.Reports.{positive-filter, rising-filter}
 
 -- ---- an entry added
 pub counters-add_at : (s : Counters) (e : Entry) → IsCounters s → 0 < e.1 → IsCounters (add_at s e)
@@ -54,13 +54,6 @@ weight_of-without q y (e ∷ s) = elim (same_key y e.0) as (λ b. same_key y e.0
     | false ↦ λ r. omega (arith, weight_of-cons q e s)
   ] refl)
 ] refl
-
-positive-filter : (p : Entry → Bool) (s : Counters) → AllByRecursion (λ (d : Entry). 0 < d.1) s → AllByRecursion (λ (d : Entry). 0 < d.1) (filter p s)
-positive-filter p [] h = h
-positive-filter p (e ∷ s) h = elim (p e) as (λ b. AllByRecursion (λ (d : Entry). 0 < d.1) (cond b (e ∷ filter p s) (filter p s))) [
-  | true ↦ (h.0, positive-filter p s h.1)
-  | false ↦ positive-filter p s h.1
-]
 
 pub counters-without : (s : Counters) (y : Bytes) → IsCounters s → IsCounters (without s y)
 counters-without s y h = record { rising = rising-filter (λ e. not (same_key y e.0)) s h.rising; positive = positive-filter (λ e. not (same_key y e.0)) s h.positive }

@@ -2,9 +2,9 @@
 use Rattle.std.specs.Prelude.{◌≡◌, ℕ, ◌+◌, ◌-◌, ◌*◌, ◌<◌, ◌≤◌, List, [], ◌∷◌, ◌++◌, All, filter, zip, length, replicate, Contains, IsPermutation}
 use Rattle.std.specs.Map.{keys_of}
 use Rattle.hh_stream.specs.Weights.{Bytes, Entry, weight_of, total_of}
-use Rattle.hh_counters.specs.Counters.{Counters, IsCounters, IsLevel, level, plus, join, misra_gries, IsHonest, slack, added, sketch_of}
+use Rattle.hh_counters.specs.Counters.{Counters, Sketch, IsCounters, IsLevel, level, plus, join, misra_gries, IsHonest, slack, added, sketch_of}
 use Rattle.hh_counters.specs.SpaceSaving.{least_of, translate, IsRun, space_saving, monitor_of, monitored, translated}
-use Rattle.hh_counters.specs.Report.{heavy, selected, weights_at, counted, has_counter, IsReport}
+use Rattle.hh_counters.specs.Report.{contenders, heavy, selected, weights_at, counted, has_counter, IsReport}
 
 -- the counters of a stream are honest for it
 abbrev pub MisraGriesIsHonest : Type 0
@@ -64,6 +64,12 @@ CandidatesSuffice =
     (c : Counters) (xs : List Entry) (k p q : ℕ)
     → (IsCounters c → selected p q (total_of xs) (zip (keys_of c) (weights_at (keys_of c) xs)) ≡ filter (has_counter c) (heavy xs p q))
     × (IsHonest c (total_of xs) xs k → q ≤ p * (k + 1) → selected p q (total_of xs) (zip (keys_of c) (weights_at (keys_of c) xs)) ≡ heavy xs p q)
+
+-- of an honest summary the contenders for a share are candidates enough
+abbrev pub ContendersSuffice : Type 0
+ContendersSuffice =
+    (s : Sketch) (xs : List Entry) (p q : ℕ) → IsHonest s.counters s.total xs s.k → q ≤ p * (s.k + 1)
+    → selected p q (total_of xs) (zip (keys_of (contenders p q s)) (weights_at (keys_of (contenders p q s)) xs)) ≡ heavy xs p q
 
 -- counting starts at 0, and pieces may be counted one after the other
 abbrev pub CountsAddUp : Type 0

@@ -1,10 +1,11 @@
 //! The keys of a summary as candidates for the report.
 
-ghost use Rattle.std.specs.Prelude.{◌≡◌, ℕ, ◌+◌, ◌<◌, ◌≤◌, ◌^◌, ◌↔◌, ◌==◌, [], ◌∷◌, All, Contains, IsSome, IfSome, IsOk, IfOk, Some, length, slice_get, zip};
+ghost use Rattle.std.specs.Prelude.{◌≡◌, ℕ, ◌+◌, ◌*◌, ◌<◌, ◌≤◌, ◌^◌, ◌↔◌, ◌==◌, [], ◌∷◌, All, Contains, IsSome, IfSome, IsOk, IfOk, Some, length, slice_get, nat_lt, zip};
 ghost use Rattle.std.specs.List.Sorted.{IsStrictlySortedBy};
 ghost use Rattle.std.specs.Map.{keys_of};
 ghost use Rattle.hh_stream.specs.Weights.{key_cmp, total_of};
-ghost use Rattle.hh_counters.specs.Report.{IsShare, counted, selected};
+ghost use Rattle.hh_counters.specs.Counters.{max_k};
+ghost use Rattle.hh_counters.specs.Report.{IsShare, contenders, counted, selected};
 
 use crate::report::{Heavy, selected_rows};
 use crate::summary::Summary;
@@ -43,6 +44,30 @@ impl Candidates {
         for i in 0..summary.len() {
             let (key, _) = summary.entry(i);
             keys.insert(key.copy()?)?;
+        }
+        Ok(Candidates { keys })
+    }
+
+    /// The keys that can have more than p/q of the total, as far as the counters tell: a counter is at
+    /// most [`slack`](Summary::slack) below its key's weight. p/q is at most 1, and q at most
+    /// [`MAX_Q`](crate::MAX_Q).
+    pub fn contenders(
+        alloc: Global,
+        summary: &Summary,
+        p: u64,
+        q: u64,
+    ) -> Result<Candidates, AllocError>
+        requires share { IsShare p q }
+        ensures keys { IfOk result (λ candidates. candidates ≡ keys_of (contenders p q summary.now)) }
+        ensures few { IfOk result (λ candidates. length candidates ≤ length summary.now.counters) }
+    {
+        let mut keys = IndexSet::new(alloc);
+        let sum = summary.sum();
+        for i in 0..summary.len() {
+            let (key, counter) = summary.entry(i);
+            if can_be_heavy(counter, summary.k(), summary.total(), sum, p, q) {
+                keys.insert(key.copy()?)?;
+            }
         }
         Ok(Candidates { keys })
     }
@@ -128,4 +153,16 @@ impl Candidates {
         let alloc = *self.keys.allocator();
         selected_rows(alloc, self.keys.as_slice(), numbers, p, q, total)
     }
+}
+
+// Whether a key with this counter can have more than p/q of the total.
+fn can_be_heavy(counter: u64, k: u64, total: u64, sum: u64, p: u64, q: u64) -> bool
+    requires k { k ≤ max_k }
+    requires share { IsShare p q }
+    ensures { result
+        ≡ nat_lt (p * total * (k + 1) + q * sum) (q * (total + (k + 1) * counter)) }
+{
+    let (k, total) = (u128::from(k), u128::from(total));
+    let (p, q) = (u128::from(p), u128::from(q));
+    p * total * (k + 1) + q * u128::from(sum) < q * (total + (k + 1) * u128::from(counter))
 }

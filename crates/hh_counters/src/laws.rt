@@ -1,6 +1,6 @@
 //! Laws of the definitions in `specs/`. Each function does nothing: its contract is the law.
 
-ghost use Rattle.hh_counters.specs.Laws.{MisraGriesIsHonest, JoinOfHonestIsHonest, HeavyKeysHaveCounters, CountersBoundWeights, LevelIsLeast, SumIsByKey, JoinTakesTheLevel, ReportIsExact, ReportIsUnique, HonestIsNear, HonestInAnyOrder, CandidatesSuffice, CountsAddUp, CountsStayWithin, RunSumsToTotal, RunBoundsWeights, TranslationIsMisraGries, StepsAreARun, SummariesFollowItems, MonitorsFollowItems};
+ghost use Rattle.hh_counters.specs.Laws.{MisraGriesIsHonest, JoinOfHonestIsHonest, HeavyKeysHaveCounters, CountersBoundWeights, LevelIsLeast, SumIsByKey, JoinTakesTheLevel, ReportIsExact, ReportIsUnique, HonestIsNear, HonestInAnyOrder, CandidatesSuffice, ContendersSuffice, CountsAddUp, CountsStayWithin, RunSumsToTotal, RunBoundsWeights, TranslationIsMisraGries, StepsAreARun, SummariesFollowItems, MonitorsFollowItems};
 
 /// The Misra-Gries counters of a list of items are honest for it (Misra and Gries 1982).
 pub fn misra_gries_is_honest()
@@ -49,6 +49,12 @@ pub fn report_is_exact()
 /// they are the report.
 pub fn candidates_suffice()
     ensures { CandidatesSuffice }
+{}
+
+/// Of an honest summary the keys whose counters allow more than a share are candidates enough for the
+/// report above that share.
+pub fn contenders_suffice()
+    ensures { ContendersSuffice }
 {}
 
 /// Candidates counted from 0 have their weights, and counting piece by piece is counting all.

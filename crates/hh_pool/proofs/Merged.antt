@@ -8,10 +8,10 @@ use Rattle.std.proofs.lemmas.Bool.{cases_lt}
 use Rattle.std.proofs.lemmas.Bool.Decides.{nat_tests}
 use Rattle.hh_stream.specs.Weights.{Bytes, Entry, total_of, max_total}
 use Rattle.hh_stream.specs.Cuttings.{whole_of}
-use Rattle.hh_counters.specs.Counters.{Counters, Sketch, sketch_of, merged, misra_gries, IsHonest}
+use Rattle.hh_counters.specs.Counters.{Sketch, sketch_of, merged, misra_gries, IsHonest}
 use Rattle.hh_counters.specs.declared.summary.MergeFault.{MergeFault}
-use Rattle.hh_counters.specs.Report.{heavy, selected, weights_at}
-use Rattle.hh_counters.specs.Laws.{MisraGriesIsHonest, CandidatesSuffice}
+use Rattle.hh_counters.specs.Report.{contenders, heavy, selected, weights_at}
+use Rattle.hh_counters.specs.Laws.{MisraGriesIsHonest, ContendersSuffice}
 use Rattle.hh_shared.specs.Tally.{times}
 use Rattle.hh_pool.specs.Trees.{MergeTree, Piece, Merge, IsMergeTree, MergesHonestly, leaves, merge_both, merge_result, no_sketch, tree_result, tree_value}
 use Rattle.hh_pool.specs.Outcomes.{IsMerged}
@@ -83,11 +83,11 @@ merged_is law t k pieces xs ss s some whole e same_k total counters honest =
       honest = subst (λ (z : ℕ × List Entry × ℕ). IsHonest s.counters z.0 z.1 z.2) (λ i. (total_is i, whole i, k_is i)) whole_honest;
     }
 
--- the second pass over the keys of honest counters finds the heavy keys
-pub heavy_is : CandidatesSuffice → (c : Counters) (xs : List Entry) (k p q total : ℕ) (keys : List Bytes) (weights : List ℕ) → IsHonest c (total_of xs) xs k → q ≤ p * (k + 1) → total ≡ total_of xs → keys ≡ keys_of c → weights ≡ weights_at keys xs
+-- the second pass over the contenders of an honest summary finds the heavy keys
+pub heavy_is : ContendersSuffice → (s : Sketch) (xs : List Entry) (p q total : ℕ) (keys : List Bytes) (weights : List ℕ) → IsHonest s.counters s.total xs s.k → q ≤ p * (s.k + 1) → total ≡ total_of xs → keys ≡ keys_of (contenders p q s) → weights ≡ weights_at keys xs
     → selected p q total (zip keys weights) ≡ heavy xs p q
-heavy_is law c xs k p q total keys weights honest enough total_is keys_are weights_are =
-    (λ i. selected p q (total_is i) (zip (keys_are i) ((weights_are ∙ ap (λ ks. weights_at ks xs) keys_are) i))) ∙ (law c xs k p q).1 honest enough
+heavy_is law s xs p q total keys weights honest enough total_is keys_are weights_are =
+    (λ i. selected p q (total_is i) (zip (keys_are i) ((weights_are ∙ ap (λ ks. weights_at ks xs) keys_are) i))) ∙ law s xs p q honest enough
 
 -- so no refusal comes
 pub no_refusal : (t : MergeTree) (k : ℕ) (pieces : List (List Entry)) (ss : List Sketch) (e : MergeFault) → IsMergeTree t (length pieces) → total_of (whole_of pieces) ≤ max_total → ss ≡ map (sketch_of k) pieces → tree_result t ss ≡ Err e → ⊥

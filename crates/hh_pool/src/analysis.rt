@@ -19,7 +19,7 @@ use crate::outcome::{Outcome, RunError};
 use crate::plan::Plan;
 use crate::second::SecondPass;
 use crate::workers::run_apart;
-use hh_counters::laws::{candidates_suffice, misra_gries_is_honest};
+use hh_counters::laws::{contenders_suffice, misra_gries_is_honest};
 use hh_counters::{Candidates, MergeFault, Summary};
 use hh_countmin::Table;
 use hh_countmin::laws::{cells_are_cell_sums, tables_fit};
@@ -149,7 +149,7 @@ fn run_passes<R: Threads + Wait + Sync, G: Gate + Sync>(
 {
     pieces_make_the_whole();
     misra_gries_is_honest();
-    candidates_suffice();
+    contenders_suffice();
     let (summaries, table) = summarise(rt, alloc, stream, cutting, options, gate)?;
     let total = stream.total();
     let summary = match merge_by(alloc, plan, summaries) {
@@ -158,10 +158,10 @@ fn run_passes<R: Threads + Wait + Sync, G: Gate + Sync>(
         Err(MergeFault::DifferentK) => unreachable!(),
         Err(MergeFault::TotalTooLarge) => unreachable!(),
     };
-    let candidates = Candidates::of(alloc, &summary)?;
+    let (p, q) = options.threshold();
+    let candidates = Candidates::contenders(alloc, &summary, p, q)?;
     let workers = options.workers();
     let weights = weigh(rt, alloc, stream, cutting, &candidates, workers, gate)?;
-    let (p, q) = options.threshold();
     let heavy = candidates.select(&weights, total, p, q)?;
     Ok(Outcome {
         summary,
@@ -171,8 +171,8 @@ fn run_passes<R: Threads + Wait + Sync, G: Gate + Sync>(
 }
 
 /// Analyses a stream, with workers that share nothing but atomic sums: they summarise the pieces and
-/// fill the table, the summaries are merged as the plan says, and the workers count the merged
-/// summary's keys. The outcome is the same for every number of workers and whatever worker does which
+/// fill the table, the summaries are merged as the plan says, and the workers count those of the merged
+/// summary's keys that can be above the threshold. The outcome is the same for every number of workers and whatever worker does which
 /// piece: the counters are those of the plan's merges, honest for the stream (Agarwal et al., PODS
 /// 2012), the table is the stream's, cell for cell (Cormode and Muthukrishnan 2005), and the heavy keys
 /// are exactly those above the options' threshold, with their true weights.

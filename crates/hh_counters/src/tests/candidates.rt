@@ -33,6 +33,25 @@ fn candidates_stand_by_rising_key(rt: HostRuntime) -> Result<(), Fail> {
     Ok(())
 }
 
+// The counters are a 4 and b 1, 6 less than the total of 11, so a can weigh 4 + 6/3 and b 1 + 6/3.
+#[test]
+fn contenders_can_exceed_the_share(rt: HostRuntime) -> Result<(), Fail> {
+    let summary = summary_of(rt.alloc(), 2, &FOUR_RECORDS)?;
+    for (p, q, count) in [
+        (1, 4, 2),
+        (3, 11, 1),
+        (1, 3, 1),
+        (5, 11, 1),
+        (6, 11, 0),
+        (1, 1, 0),
+    ] {
+        assert!(rt; 1 <= p && p <= q && q <= 11);
+        let contenders = Candidates::contenders(rt.alloc(), &summary, p, q)?;
+        assert_eq!(rt; contenders.len(), count);
+    }
+    Ok(())
+}
+
 // The weights of two candidates in the stream.
 fn weights_of(candidates: &Candidates, stream: &Stream) -> [u64; 2]
     requires { length candidates.now ≡ 2 }

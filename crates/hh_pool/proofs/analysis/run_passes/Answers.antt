@@ -1,9 +1,9 @@
-use Rattle.std.proofs.Common.{◌∙◌, length, sym, ap, subst, arith}
+use Rattle.std.proofs.Common.{◌∙◌, ℕ, length, sym, ap, subst, arith}
 use Rattle.std.specs.Prelude.{zip}
 use Rattle.std.proofs.lemmas.List.{length-map}
-use Rattle.hh_stream.specs.Weights.{Entry, total_of}
+use Rattle.hh_stream.specs.Weights.{total_of}
 use Rattle.hh_stream.specs.Cuttings.{pieces_of}
-use Rattle.hh_counters.specs.Counters.{Sketch, sketch_of}
+use Rattle.hh_counters.specs.Counters.{Sketch, IsHonest, sketch_of}
 use Rattle.hh_counters.specs.Report.{selected}
 use Rattle.hh_pool.specs.Trees.{IsMergeTree}
 use Rattle.hh_pool.proofs.Pieces.{length-pieces_of}
@@ -40,8 +40,7 @@ pub weigh-requires-clause-few : goal.weigh-requires-clause-few
 weigh-requires-clause-few g c = λ _ _.
     let fits = c.summary.invariant in
     let counters = ap (λ (s : Sketch). length s.counters) c.summary.view_is in
-    let keys = ap length c.in_ok-candidates.ensures ∙ length-map c.in-Ok.summary.counters (λ (e : Entry). e.0) in
-    omega (arith, fits.few, fits.bounded_k)
+    omega (arith, fits.few, fits.bounded_k, c.in_ok-candidates.ensures.few)
 
 pub returns-clause-summary : goal.returns-clause-summary
 returns-clause-summary g c =
@@ -62,6 +61,7 @@ returns-clause-heavy g c =
     merged_is c.misra_gries_is_honest.ensures c.args.plan.now k (pieces_of lengths stream) stream c.in_ok-summaries.summaries.items c.in-Ok.summary (omega (arith, length-pieces_of lengths stream, c.requires.some)) (c.pieces_make_the_whole.ensures.whole lengths stream c.requires.same_len)
     c.in_ok-summaries.ensures.summaries by.k by.total by.counters by.honest in
     let asked = c.threshold-p.ensures in
+    let honest = subst (λ (z : ℕ × ℕ). IsHonest c.in-Ok.summary.counters z.0 stream z.1) (λ i. (sym merged.total i, sym merged.same_k i)) merged.honest in
     c.in_ok-heavy.ensures.rows
     ∙ ((λ i. selected (asked.p i) (asked.q i) c.total-total.result (zip keys (c.deref.ensures.value i)))
-    ∙ heavy_is c.candidates_suffice.ensures c.in-Ok.summary.counters stream k c.args.options.now.p c.args.options.now.q c.total-total.result keys c.in_ok-weights.weights.items merged.honest asked.in_range.1 c.total-total.ensures.total c.in_ok-candidates.ensures c.in_ok-weights.ensures)
+    ∙ heavy_is c.contenders_suffice.ensures c.in-Ok.summary stream c.args.options.now.p c.args.options.now.q c.total-total.result keys c.in_ok-weights.weights.items honest (rw merged.same_k asked.in_range.1) c.total-total.ensures.total (rw (asked.p, asked.q) at c.in_ok-candidates.ensures.keys) c.in_ok-weights.ensures)
