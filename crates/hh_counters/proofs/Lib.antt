@@ -12,5 +12,6 @@ pub mod Runs
 pub mod TakingOver
 pub mod Linked
 pub mod Sorting
-pub mod Renaming
+pub mod InBuckets
+pub mod Positions
 pub mod Monitoring

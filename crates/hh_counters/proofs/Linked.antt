@@ -1,25 +1,28 @@
 -- The index of the monitored keys and their buckets: what each way through an addition leaves of both.
-use Rattle.std.proofs.Common.{◌≡◌, ℕ, ◌+◌, ◌<◌, ◌≤◌, ◌^◌, ◌⊎◌, inl, inr, Bool, true, false, cond, ◌&&◌, List, [], ◌∷◌, ◌++◌, length, get_or, Option, Some, None, Ordering, Less, Equal, Greater, is_eq, is_gt, refl, sym, ap, ap₂, ◌∙◌, subst, true≢false, arith}
+use Rattle.std.proofs.Common.{◌≡◌, ℕ, ◌+◌, ◌<◌, ◌≤◌, ◌^◌, ◌⊎◌, inl, inr, Bool, true, false, cond, ◌&&◌, List, [], ◌∷◌, ◌++◌, length, get_or, set, Option, Some, None, Less, Equal, Greater, is_eq, is_gt, refl, sym, ap, ap₂, ◌∙◌, subst, true≢false, arith}
 use Rattle.std.specs.Prelude.{fold, min, nat_lt, nat_le, ◌==◌, ◌||◌, unwrap_or, IsSome, IfSome, slice_get, position}
-use Rattle.std.specs.List.{AllByRecursion, IsDistinct}
+use Rattle.std.specs.List.{AllByRecursion, IsDistinct, swap_remove}
 use Rattle.std.specs.List.Sorted.{IsStrictlySortedBy}
 use Rattle.std.specs.Map.{keys_of, lookup}
-use Rattle.std.specs.Ordering.{nat_cmp, ordering_reverse, match_ordering}
+use Rattle.std.specs.Ordering.{nat_cmp}
 use Rattle.std.specs.BTreeMap.{get as map_get}
-use Rattle.std.specs.Option.{option_to_list}
+use Rattle.std.specs.Option.{option_to_list, option_and_then}
 use Rattle.std.proofs.lemmas.Bool.Decides.{nat_tests}
-use Rattle.std.proofs.lemmas.List.{get_or-map, length_push, same_from_push}
+use Rattle.std.proofs.lemmas.List.{get_or-map, get_or_append_left, length_push, map-append, map-set, same_from_push}
 use Rattle.std.proofs.lemmas.List.Quantifiers.{position-Some}
-use Rattle.std.proofs.lemmas.Option.{slice_get_within, get_or_from_slice_get}
+use Rattle.std.proofs.lemmas.Map.Entries.{length-keys_of}
+use Rattle.std.proofs.lemmas.Option.{none-some, slice_get_within, slice_get-get_or, get_or_from_slice_get}
 use Rattle.hh_stream.specs.Weights.{Bytes, Entry, key_cmp, same_key, at_key, weight_of}
 use Rattle.hh_counters.specs.Counters.{Counters, IsCounters, add_at, tally, least_counter}
 use Rattle.hh_counters.specs.SpaceSaving.{least_of, without, first_with, key_to_drop, taken_over, step, IsMonitor}
-use Rattle.hh_counters.specs.Buckets.{Buckets, has, bucket_has, NoneEmpty, Changes, Moves, HasNone, IsFirst, Agree, IsLinked, IsAdded}
-use Rattle.hh_counters.proofs.Weights.{same_exact, same_sym, same_self, key_exact, flipped, turned, weight_of-cons, weight_of-add_at, weight_of-tally, rising-tally, positive-tally, weight_above, weight_first, above_first, same_counters}
+use Rattle.hh_counters.specs.Buckets.{Buckets, place_in, place_at, AreOrdered, Changes, Moves, HasNone, IsFirst, HasFirst, Agree, IsLinked, IsAdded}
+use Rattle.hh_counters.specs.declared.buckets.Bucket.{Bucket}
+use Rattle.hh_counters.proofs.Weights.{same_exact, same_sym, same_self, flipped, turned, weight_of-cons, weight_of-add_at, weight_of-tally, rising-tally, positive-tally, weight_above, weight_first, above_first, same_counters}
 use Rattle.hh_counters.proofs.Stepping.{least_of_free, least_of_full, at_least_all, least_counter-le, counters-add_at, counters-without, weight_of-without, length-add_at_new, by_key}
 use Rattle.hh_counters.proofs.Runs.{Positive}
 use Rattle.hh_counters.proofs.Counting.{weight_of-le-total_of}
-use Rattle.hh_counters.proofs.Renaming.{some_bucket}
+use Rattle.hh_counters.proofs.InBuckets.{both_first, first_stays}
+use Rattle.hh_counters.proofs.Positions.{stands, last_place, places_before_last, same_place, places_of_others, last_swapped}
 use Rattle.hh_counters.proofs.TakingOver.{without-add_at, monitor_step, monitor_nothing}
 
 -- ---- the view of an index: its tally
@@ -118,14 +121,14 @@ view_taken es fs y d p e u =
     (λ q. weight_taken es fs y d e u q ∙ ap (λ b. cond b 0 (weight_of q (tally es))) (same_sym y q) ∙ sym (weight_of-without q y (tally es)))
 
 -- ---- the buckets agree
-moved_tests : (n w c : ℕ) → 0 < n → 0 < w → cond (is_eq (nat_cmp n c)) false (cond (is_eq (nat_cmp (n + w) c)) true (nat_lt 0 c && (n == c))) ≡ (nat_lt 0 c && (n + w == c))
-moved_tests n w c p h = grind (arith, nat_tests)
+moved_tests : (n w c : ℕ) (o : Option ℕ) → 0 < n → 0 < w → cond (is_eq (nat_cmp n c)) None (cond (is_eq (nat_cmp (n + w) c)) o (cond (nat_lt 0 c && (n == c)) o None)) ≡ cond (nat_lt 0 c && (n + w == c)) o None
+moved_tests n w c o p h = grind (arith, nat_tests)
 
-put_tests : (w c : ℕ) → 0 < w → cond (is_eq (nat_cmp w c)) true (nat_lt 0 c && (0 == c)) ≡ (nat_lt 0 c && (w == c))
-put_tests w c h = grind (arith, nat_tests)
+put_tests : (w c : ℕ) (o r : Option ℕ) → 0 < w → cond (is_eq (nat_cmp w c)) o (cond (nat_lt 0 c && (0 == c)) r None) ≡ cond (nat_lt 0 c && (w == c)) o None
+put_tests w c o r h = grind (arith, nat_tests)
 
-taken_tests : (n c : ℕ) → cond (is_eq (nat_cmp n c)) false (nat_lt 0 c && (n == c)) ≡ (nat_lt 0 c && (0 == c))
-taken_tests n c = grind (arith, nat_tests)
+taken_tests : (n c : ℕ) (o r : Option ℕ) → cond (is_eq (nat_cmp n c)) None (cond (nat_lt 0 c && (n == c)) o None) ≡ cond (nat_lt 0 c && (0 == c)) r None
+taken_tests n c o r = grind (arith, nat_tests)
 
 and_true : (b : Bool) → (b && true) ≡ b
 and_true true = refl
@@ -136,40 +139,67 @@ and_false true = refl
 and_false false = refl
 
 -- a key's counter n becomes n + w
-agree_moved : (s t : Counters) (b d : Buckets) (x : Bytes) (n w : ℕ) → 0 < n → 0 < w → weight_of x s ≡ n → ((q : Bytes) → weight_of q t ≡ cond (same_key x q) (n + w) (weight_of q s)) → Agree s b → Moves b d n (n + w) x → Agree t d
-agree_moved s t b d x n w p h at is a m c q = m c q ∙ (elim (same_key x q) as (λ v. same_key x q ≡ v → weight_of q t ≡ cond v (n + w) (weight_of q s) → cond (is_eq (nat_cmp n c) && v) false (cond (is_eq (nat_cmp (n + w) c) && v) true (has b c q)) ≡ (nat_lt 0 c && (weight_of q t == c))) [
-  | true ↦ λ same g. let e : weight_of q s ≡ n = ap (λ z. weight_of z s) (sym (same_exact x q same)) ∙ at in
-      rw (and_true, and_true, a c q, e, g) (moved_tests n w c p h)
+agree_moved : (s t : Counters) (ks : List Bytes) (b d : Buckets) (x : Bytes) (i n w : ℕ) → 0 < n → 0 < w → weight_of x s ≡ n → position (same_key x) ks ≡ Some i → ((q : Bytes) → weight_of q t ≡ cond (same_key x q) (n + w) (weight_of q s))
+    → Agree s ks b → Moves b d n (n + w) x i → Agree t ks d
+agree_moved s t ks b d x i n w p h at stands is a m c q = m c q ∙ (elim (same_key x q) as (λ v. same_key x q ≡ v → weight_of q t ≡ cond v (n + w) (weight_of q s) → cond (is_eq (nat_cmp n c) && v) None (cond (is_eq (nat_cmp (n + w) c) && v) (Some i) (place_at b c q)) ≡ cond (nat_lt 0 c && (weight_of q t == c)) (position (same_key q) ks) None) [
+  | true ↦ λ same g.
+      let e : weight_of q s ≡ n = ap (λ z. weight_of z s) (sym (same_exact x q same)) ∙ at in
+      let place : position (same_key q) ks ≡ Some i = ap (λ z. position (same_key z) ks) (sym (same_exact x q same)) ∙ stands in
+      rw (and_true, and_true, a c q, e, g, place) (moved_tests n w c (Some i) p h)
   | false ↦ λ other g. rw (and_false, and_false, a c q, g)
 ] refl (is q))
 
-agree_put : (s t : Counters) (b d : Buckets) (x : Bytes) (w : ℕ) → 0 < w → weight_of x s ≡ 0 → ((q : Bytes) → weight_of q t ≡ cond (same_key x q) w (weight_of q s)) → Agree s b → Changes b d w x true → Agree t d
-agree_put s t b d x w h at is a m c q = m c q ∙ (elim (same_key x q) as (λ v. same_key x q ≡ v → weight_of q t ≡ cond v w (weight_of q s) → cond (is_eq (nat_cmp w c) && v) true (has b c q) ≡ (nat_lt 0 c && (weight_of q t == c))) [
-  | true ↦ λ same g. let e : weight_of q s ≡ 0 = ap (λ z. weight_of z s) (sym (same_exact x q same)) ∙ at in
-      rw (and_true, a c q, e, g) (put_tests w c h)
-  | false ↦ λ other g. rw (and_false, a c q, g)
+-- a newcomer gets the counter w
+agree_put : (s t : Counters) (ks ls : List Bytes) (b d : Buckets) (x : Bytes) (i w : ℕ) → 0 < w → weight_of x s ≡ 0 → position (same_key x) ls ≡ Some i → ((q : Bytes) → same_key x q ≡ false → position (same_key q) ls ≡ position (same_key q) ks)
+    → ((q : Bytes) → weight_of q t ≡ cond (same_key x q) w (weight_of q s)) → Agree s ks b → Changes b d w x (Some i) → Agree t ls d
+agree_put s t ks ls b d x i w h at stands stay is a m c q = m c q ∙ (elim (same_key x q) as (λ v. same_key x q ≡ v → weight_of q t ≡ cond v w (weight_of q s) → cond (is_eq (nat_cmp w c) && v) (Some i) (place_at b c q) ≡ cond (nat_lt 0 c && (weight_of q t == c)) (position (same_key q) ls) None) [
+  | true ↦ λ same g.
+      let e : weight_of q s ≡ 0 = ap (λ z. weight_of z s) (sym (same_exact x q same)) ∙ at in
+      let place : position (same_key q) ls ≡ Some i = ap (λ z. position (same_key z) ls) (sym (same_exact x q same)) ∙ stands in
+      rw (and_true, a c q, e, g, place) (put_tests w c (Some i) _ h)
+  | false ↦ λ other g. rw (and_false, a c q, g, stay q other)
 ] refl (is q))
 
-agree_taken : (s t : Counters) (b d : Buckets) (y : Bytes) (n : ℕ) → weight_of y s ≡ n → ((q : Bytes) → weight_of q t ≡ cond (same_key y q) 0 (weight_of q s)) → Agree s b → Changes b d n y false → Agree t d
-agree_taken s t b d y n at is a m c q = m c q ∙ (elim (same_key y q) as (λ v. same_key y q ≡ v → weight_of q t ≡ cond v 0 (weight_of q s) → cond (is_eq (nat_cmp n c) && v) false (has b c q) ≡ (nat_lt 0 c && (weight_of q t == c))) [
-  | true ↦ λ same g. let e : weight_of q s ≡ n = ap (λ z. weight_of z s) (sym (same_exact y q same)) ∙ at in
-      rw (and_true, a c q, e, g) (taken_tests n c)
-  | false ↦ λ other g. rw (and_false, a c q, g)
-] refl (is q))
+-- a newcomer gets the counter n + w and the place of y, whose counter was n
+agree_replaced : (s t : Counters) (ks ls : List Bytes) (b d a : Buckets) (x y : Bytes) (i n w : ℕ) → 0 < w → weight_of x s ≡ 0 → weight_of y s ≡ n → same_key y x ≡ false → position (same_key x) ls ≡ Some i
+    → ((q : Bytes) → same_key x q ≡ false → same_key y q ≡ false → position (same_key q) ls ≡ position (same_key q) ks) → ((q : Bytes) → weight_of q t ≡ cond (same_key y q) 0 (cond (same_key x q) (n + w) (weight_of q s)))
+    → Agree s ks b → Changes b d (n + w) x (Some i) → Changes d a n y None → Agree t ls a
+agree_replaced s t ks ls b d a x y i n w h at_x at_y differ stands stay is agree put taken c q =
+    taken c q ∙ ap (cond (is_eq (nat_cmp n c) && same_key y q) None) (put c q) ∙ by (same_key y q) (same_key x q) refl refl (is q)
+  where
+    by : (v u : Bool) → same_key y q ≡ v → same_key x q ≡ u → weight_of q t ≡ cond v 0 (cond u (n + w) (weight_of q s))
+        → cond (is_eq (nat_cmp n c) && v) None (cond (is_eq (nat_cmp (n + w) c) && u) (Some i) (place_at b c q)) ≡ cond (nat_lt 0 c && (weight_of q t == c)) (position (same_key q) ls) None
+    by true true same same2 g = absurd (true≢false (sym (ap (same_key y) (same_exact x q same2) ∙ same) ∙ differ))
+    by true false same other g =
+        let e : weight_of q s ≡ n = ap (λ z. weight_of z s) (sym (same_exact y q same)) ∙ at_y in
+        rw (and_true, and_false, agree c q, e, g) (taken_tests n c _ _)
+    by false true other same g =
+        let e : weight_of q s ≡ 0 = ap (λ z. weight_of z s) (sym (same_exact x q same)) ∙ at_x in
+        let place : position (same_key q) ls ≡ Some i = ap (λ z. position (same_key z) ls) (sym (same_exact x q same)) ∙ stands in
+        rw (and_false, and_true, agree c q, e, g, place) (put_tests (n + w) c (Some i) _ (omega (arith, h)))
+    by false false other other2 g = rw (and_false, and_false, agree c q, g, stay q other2 other)
 
 -- ---- the first key of the first bucket
 -- what stands in the bucket of n has the counter n
-held : (s : Counters) (b : Buckets) (n : ℕ) (q : Bytes) → Agree s b → has b n q ≡ true → (weight_of q s ≡ n) × (0 < n)
-held s b n q a e = tests (weight_of q s) n (sym (a n q) ∙ e)
+held : (s : Counters) (ks : List Bytes) (b : Buckets) (n : ℕ) (q : Bytes) (i : ℕ) → Agree s ks b → place_at b n q ≡ Some i → (weight_of q s ≡ n) × (0 < n) × (position (same_key q) ks ≡ Some i)
+held s ks b n q i a e = tests (weight_of q s) n (position (same_key q) ks) (nat_lt 0 n && (weight_of q s == n)) refl (sym (a n q) ∙ e)
   where
-    tests : (m n : ℕ) → (nat_lt 0 n && (m == n)) ≡ true → (m ≡ n) × (0 < n)
-    tests m n h = (grind (arith, nat_tests, h), grind (arith, nat_tests, h))
+    tests : (m n : ℕ) (o : Option ℕ) (v : Bool) → (nat_lt 0 n && (m == n)) ≡ v → cond v o None ≡ Some i → (m ≡ n) × (0 < n) × (o ≡ Some i)
+    tests m n o true h is = (grind (arith, nat_tests, h), grind (arith, nat_tests, h), is)
+    tests m n o false h is = absurd (none-some i is)
 
-holds : (s : Counters) (b : Buckets) (q : Bytes) → Agree s b → 0 < weight_of q s → has b (weight_of q s) q ≡ true
-holds s b q a h = a (weight_of q s) q ∙ tests (weight_of q s) h
+-- each key with a counter stands somewhere
+abbrev pub AllStand : Counters → List Bytes → Type 0
+AllStand s ks = (q : Bytes) → 0 < weight_of q s → IsSome (position (same_key q) ks)
+
+holds : (s : Counters) (ks : List Bytes) (b : Buckets) (q : Bytes) → Agree s ks b → 0 < weight_of q s → place_at b (weight_of q s) q ≡ position (same_key q) ks
+holds s ks b q a h = a (weight_of q s) q ∙ ap (λ v. cond v (position (same_key q) ks) None) (tests (weight_of q s) h)
   where
     tests : (n : ℕ) → 0 < n → (nat_lt 0 n && (n == n)) ≡ true
     tests n h = grind (arith, nat_tests, h)
+
+in_a_bucket : (s : Counters) (ks : List Bytes) (b : Buckets) (q : Bytes) → Agree s ks b → AllStand s ks → 0 < weight_of q s → IsSome (place_at b (weight_of q s) q)
+in_a_bucket s ks b q a all h = subst IsSome (sym (holds s ks b q a h)) (all q h)
 
 least_counter-ge : (m : ℕ) (s : Counters) → 0 < length s → AllByRecursion (λ (e : Entry). m ≤ e.1) s → m ≤ least_counter s
 least_counter-ge m [] l a = absurd (omega arith)
@@ -204,63 +234,32 @@ first_with_first (e ∷ s) n z p h at = elim (e.1 == n) as (λ b. (e.1 == n) ≡
       )
 ] refl
 
-both_first : (y z : Bytes) → is_gt (key_cmp y z) ≡ false → is_gt (key_cmp z y) ≡ false → y ≡ z
-both_first y z g h = key_exact y z (level (key_cmp y z) (key_cmp z y) (flipped y z (key_cmp y z) refl) g h)
-  where
-    level : (r t : Ordering) → t ≡ ordering_reverse r → is_gt r ≡ false → is_gt t ≡ false → r ≡ Equal
-    level Less t e g h = absurd (true≢false (sym (ap is_gt e) ∙ h))
-    level Equal t e g h = refl
-    level Greater t e g h = absurd (true≢false g)
-
 -- it has the least counter, and is the key to drop
-pub drop_is : (s : Counters) (b : Buckets) (n : ℕ) (y : Bytes) → IsCounters s → 0 < length s → Agree s b → IsFirst b n y → (least_counter s ≡ n) × (weight_of y s ≡ n) × (0 < n) × (key_to_drop s ≡ y)
-drop_is s b n y c l a f =
-    let at = held s b n y a f.there in
-    let above = least_counter-ge n s l (at_least_all s n c (λ q h. f.lowest (weight_of q s) (some_bucket (map_get nat_cmp b (weight_of q s)) q (holds s b q a h)))) in
+pub drop_is : (s : Counters) (ks : List Bytes) (b : Buckets) (n : ℕ) (y : Bytes) (i : ℕ) → IsCounters s → 0 < length s → Agree s ks b → AllStand s ks → IsFirst b n y i
+    → record { least : least_counter s ≡ n; counter : weight_of y s ≡ n; positive : 0 < n; place : position (same_key y) ks ≡ Some i; key : key_to_drop s ≡ y }
+drop_is s ks b n y i c l a all f =
+    let at = held s ks b n y i a f.there in
+    let above = least_counter-ge n s l (at_least_all s n c (λ q h. f.lowest (weight_of q s) q (in_a_bucket s ks b q a all h))) in
     let least : least_counter s ≡ n = omega (arith, above, at.0, least_counter-le s y (omega (arith, at.0, at.1))) in
     let first = first_with_first s n y at.1 c.rising at.0 in
     let x = first_with n s in
-    let back = f.first x (ap (λ m. has b m x) (sym first.1) ∙ holds s b x a (omega (arith, first.1, at.1))) in
-    (least, at.0, at.1, ap (λ m. first_with m s) least ∙ both_first x y first.0 back)
+    let back = f.first x (subst (λ m. IsSome (place_at b m x)) first.1 (in_a_bucket s ks b x a all (omega (arith, first.1, at.1)))) in
+    record { least = least; counter = at.0; positive = at.1; place = at.2; key = ap (λ m. first_with m s) least ∙ both_first x y first.0 back }
 
-none_in : (s : Counters) (b : Buckets) → IsCounters s → Agree s b → HasNone b → 0 < length s → ⊥
+none_in : (s : Counters) (ks : List Bytes) (b : Buckets) → IsCounters s → Agree s ks b → AllStand s ks → HasNone b → 0 < length s → ⊥
 unfolding IsStrictlySortedBy
-none_in [] b c a none h = omega arith
-none_in (e ∷ s) b c a none h =
+none_in [] ks b c a all none h = omega arith
+none_in (e ∷ s) ks b c a all none h =
     let here : weight_of e.0 (e ∷ s) ≡ e.1 = weight_first e s c.rising.0 in
-    true≢false (sym (holds (e ∷ s) b e.0 a (omega (arith, here, c.positive.0))) ∙ none (weight_of e.0 (e ∷ s)) e.0)
+    true≢false (sym (subst IsSome (none (weight_of e.0 (e ∷ s)) e.0) (in_a_bucket (e ∷ s) ks b e.0 a all (omega (arith, here, c.positive.0)))))
 
--- ---- an entry above the least changes neither the least nor the key to drop
-min_above : (n v : ℕ) (s : Counters) → fold (λ n (d : Entry). min n d.1) (min n v) s ≡ min (fold (λ n (d : Entry). min n d.1) n s) v
-min_above n v [] = refl
-min_above n v (d ∷ s) = ap (λ m. fold (λ n (d : Entry). min n d.1) m s) (min_turned n v d.1) ∙ min_above (min n d.1) v s
+-- each key of an index stands somewhere in it
+all_stand : (es : List Entry) → Distinct es → AllStand (tally es) (keys_of es)
+all_stand es d q h = stands q es (found_one (lookup (same_key q) es) (rw (← weight_of-view q es d) h))
   where
-    min_turned : (a b c : ℕ) → min (min a b) c ≡ min (min a c) b
-    min_turned a b c = omega arith
-
-min_inserted : (n : ℕ) (s : Counters) (e : Entry) → Positive s → weight_of e.0 s ≡ 0 → fold (λ n (d : Entry). min n d.1) n (add_at s e) ≡ min (fold (λ n (d : Entry). min n d.1) n s) e.1
-min_inserted n [] e p z = refl
-min_inserted n (d ∷ s) e p z = elim (key_cmp e.0 d.0) as (λ r. key_cmp e.0 d.0 ≡ r → fold (λ n (d : Entry). min n d.1) n (match_ordering r (e ∷ d ∷ s) ((d.0, d.1 + e.1) ∷ s) (d ∷ add_at s e)) ≡ min (fold (λ n (d : Entry). min n d.1) n (d ∷ s)) e.1) [
-  | Less ↦ λ q. min_above n e.1 (d ∷ s)
-  | Equal ↦ λ q. let here : at_key e.0 d ≡ d.1 = ap (λ r. cond (is_eq r) d.1 0) q in absurd (omega (arith, weight_of-cons e.0 d s, here, p.0, z))
-  | Greater ↦ λ q. min_inserted (min n d.1) s e p.1 (omega (arith, weight_of-cons e.0 d s, z))
-] refl
-
-least_counter-add_at : (s : Counters) (e : Entry) → Positive s → 0 < length s → weight_of e.0 s ≡ 0 → least_counter s < e.1 → least_counter (add_at s e) ≡ least_counter s
-least_counter-add_at [] e p l z more = absurd (omega arith)
-least_counter-add_at (f ∷ s) e p l z more = elim (key_cmp e.0 f.0) as (λ r. key_cmp e.0 f.0 ≡ r → least_counter (match_ordering r (e ∷ f ∷ s) ((f.0, f.1 + e.1) ∷ s) (f ∷ add_at s e)) ≡ least_counter (f ∷ s)) [
-  | Less ↦ λ q. let turned_min : min e.1 f.1 ≡ min f.1 e.1 = omega arith in ap (λ m. fold (λ n (d : Entry). min n d.1) m s) turned_min ∙ min_above f.1 e.1 s ∙ omega (arith, more)
-  | Equal ↦ λ q. let here : at_key e.0 f ≡ f.1 = ap (λ r. cond (is_eq r) f.1 0) q in absurd (omega (arith, weight_of-cons e.0 f s, here, p.0, z))
-  | Greater ↦ λ q. min_inserted f.1 s e p.1 (omega (arith, weight_of-cons e.0 f s, z)) ∙ omega (arith, more)
-] refl
-
-first_with-add_at : (n : ℕ) (s : Counters) (e : Entry) → Positive s → weight_of e.0 s ≡ 0 → n < e.1 → first_with n (add_at s e) ≡ first_with n s
-first_with-add_at n [] e p z more = let no_here : (e.1 == n) ≡ false = grind (arith, nat_tests, more) in ap (λ b. cond b e.0 []) no_here
-first_with-add_at n (d ∷ s) e p z more = elim (key_cmp e.0 d.0) as (λ r. key_cmp e.0 d.0 ≡ r → first_with n (match_ordering r (e ∷ d ∷ s) ((d.0, d.1 + e.1) ∷ s) (d ∷ add_at s e)) ≡ first_with n (d ∷ s)) [
-  | Less ↦ λ q. let no_here : (e.1 == n) ≡ false = grind (arith, nat_tests, more) in ap (λ b. cond b e.0 (first_with n (d ∷ s))) no_here
-  | Equal ↦ λ q. let here : at_key e.0 d ≡ d.1 = ap (λ r. cond (is_eq r) d.1 0) q in absurd (omega (arith, weight_of-cons e.0 d s, here, p.0, z))
-  | Greater ↦ λ q. ap (λ (x : Bytes). cond (d.1 == n) d.0 x) (first_with-add_at n s e p.1 (omega (arith, weight_of-cons e.0 d s, z)) more)
-] refl
+    found_one : (o : Option ℕ) → 0 < unwrap_or o 0 → IsSome o
+    found_one None h = absurd (omega arith)
+    found_one (Some m) h = refl
 
 -- ---- the three ways through an addition
 step_room : (s : Counters) (e : Entry) (k : ℕ) → (0 < weight_of e.0 s) ⊎ (length s ≤ k) → step s e k ≡ add_at s e
@@ -274,14 +273,14 @@ step_full s e k z full =
     let test : (nat_lt 0 (weight_of e.0 s) || nat_le (length s) k) ≡ false = grind (arith, nat_tests, z, full) in
     ap (λ b. cond b (add_at s e) (taken_over s e)) test
 
-added : (k n : ℕ) (es fs : List Entry) (b d : Buckets) (e : Entry) → 0 < e.1 → n + e.1 < 2 ^ 63 → IsLinked k n es b → tally fs ≡ step (tally es) e k → Distinct fs → PositiveAt fs → Agree (tally fs) d → NoneEmpty d → IsAdded k n es fs d e
-added k n es fs b d e p bound l is distinct positive agree none = record {
+added : (k n : ℕ) (es fs : List Entry) (b d : Buckets) (e : Entry) → 0 < e.1 → n + e.1 < 2 ^ 63 → IsLinked k n es b → tally fs ≡ step (tally es) e k → Distinct fs → PositiveAt fs → Agree (tally fs) (keys_of fs) d → AreOrdered d → IsAdded k n es fs d e
+added k n es fs b d e p bound l is distinct positive agree ordered = record {
   linked = record {
     distinct = distinct;
     positive = positive;
     monitor = subst (IsMonitor k (n + e.1)) (sym is) (monitor_step k n (tally es) e l.monitor p bound);
     agree = agree;
-    none_empty = none;
+    ordered = ordered;
   };
   step_is = is;
 }
@@ -293,104 +292,117 @@ pub absent : (es : List Entry) (x : Bytes) → Distinct es → lookup (same_key 
 absent es x d f = weight_of-view x es d ∙ ap (λ o. unwrap_or o 0) f
 
 -- a monitored key
-pub added_old : (k m : ℕ) (es fs : List Entry) (b d : Buckets) (x : Bytes) (n w : ℕ) → 0 < w → m + w < 2 ^ 63 → IsLinked k m es b → lookup (same_key x) es ≡ Some n → Distinct fs
-    → ((q : Bytes) → lookup (same_key q) fs ≡ cond (same_key x q) (Some (n + w)) (lookup (same_key q) es)) → Moves b d n (n + w) x → NoneEmpty d → IsAdded k m es fs d (x, w)
-added_old k m es fs b d x n w p bound l f distinct u moves none =
+pub added_old : (k m : ℕ) (es fs : List Entry) (b d : Buckets) (x : Bytes) (i n w : ℕ) → 0 < w → m + w < 2 ^ 63 → IsLinked k m es b → lookup (same_key x) es ≡ Some n → position (same_key x) (keys_of es) ≡ Some i → Distinct fs
+    → ((q : Bytes) → lookup (same_key q) fs ≡ cond (same_key x q) (Some (n + w)) (lookup (same_key q) es)) → keys_of fs ≡ keys_of es → Moves b d n (n + w) x i → AreOrdered d → IsAdded k m es fs d (x, w)
+added_old k m es fs b d x i n w p bound l f place distinct u keys moves ordered =
     let at = found es x n l.distinct f in
     let some : 0 < n = subst (λ o. IfSome o (λ m. 0 < m)) f (l.positive x) in
     added k m es fs b d (x, w) p bound l
     (view_put es fs x n w p l.distinct l.positive distinct at u ∙ sym (step_room (tally es) (x, w) k (inl (omega (arith, at, some)))))
     distinct
     (positive_put es fs x (n + w) (omega (arith, p)) l.positive u)
-    (agree_moved (tally es) (tally fs) b d x n w some p at (weight_put es fs x (n + w) l.distinct distinct u) l.agree moves)
-    none
+    (subst (λ (ks : List Bytes). Agree (tally fs) ks d) (sym keys) (agree_moved (tally es) (tally fs) (keys_of es) b d x i n w some p at place (weight_put es fs x (n + w) l.distinct distinct u) l.agree moves))
+    ordered
 
 -- a newcomer with a counter free
 pub added_new : (k m : ℕ) (es fs : List Entry) (b d : Buckets) (x : Bytes) (w : ℕ) → 0 < w → m + w < 2 ^ 63 → IsLinked k m es b → lookup (same_key x) es ≡ None → length es ≤ k → Distinct fs
-    → ((q : Bytes) → lookup (same_key q) fs ≡ cond (same_key x q) (Some w) (lookup (same_key q) es)) → Changes b d w x true → NoneEmpty d → IsAdded k m es fs d (x, w)
-added_new k m es fs b d x w p bound l f free distinct u put none =
+    → ((q : Bytes) → lookup (same_key q) fs ≡ cond (same_key x q) (Some w) (lookup (same_key q) es)) → fs ≡ es ++ (x, w) ∷ [] → Changes b d w x (Some (length es)) → AreOrdered d → IsAdded k m es fs d (x, w)
+added_new k m es fs b d x w p bound l f free distinct u entries put ordered =
     let at = absent es x l.distinct f in
+    let ks = keys_of es in
+    let keys : keys_of fs ≡ ks ++ x ∷ [] = ap keys_of entries ∙ map-append (λ (e : Entry). e.0) es ((x, w) ∷ []) in
     added k m es fs b d (x, w) p bound l
     (view_put es fs x 0 w p l.distinct l.positive distinct at (λ q. u q ∙ ap (λ n. cond (same_key x q) (Some n) (lookup (same_key q) es)) nothing_more) ∙ sym (step_room (tally es) (x, w) k (inr (omega (arith, length-view es l.distinct l.positive, free)))))
     distinct
     (positive_put es fs x w p l.positive u)
-    (agree_put (tally es) (tally fs) b d x w p at (weight_put es fs x w l.distinct distinct u) l.agree put)
-    none
+    (subst (λ (ls : List Bytes). Agree (tally fs) ls d) (sym keys) (agree_put (tally es) (tally fs) ks (ks ++ x ∷ []) b d x (length es) w p at (last_place x es f) (λ q other. places_before_last (same_key q) ks x (same_sym q x ∙ other)) (weight_put es fs x w l.distinct distinct u) l.agree put))
+    ordered
   where
     nothing_more : w ≡ 0 + w
     nothing_more = omega arith
 
--- a newcomer that takes over the first of the least counters
-pub added_full : (k m : ℕ) (es fs gs : List Entry) (b d a : Buckets) (x y z : Bytes) (n c w : ℕ) → 0 < w → m + w < 2 ^ 63 → IsLinked k m es b → lookup (same_key x) es ≡ None → k < length es → IsFirst b n y
-    → Distinct fs → ((q : Bytes) → lookup (same_key q) fs ≡ cond (same_key x q) (Some (n + w)) (lookup (same_key q) es)) → Changes b d (n + w) x true
-    → IsFirst d c z → Distinct gs → ((q : Bytes) → lookup (same_key q) gs ≡ cond (same_key z q) None (lookup (same_key q) fs)) → Changes d a c z false → NoneEmpty a → IsAdded k m es gs a (x, w)
-added_full k m es fs gs b d a x y z n c w p bound l f full first dfs ufs put first2 dgs ugs taken none =
+-- a newcomer that takes over the first of the least counters, and its place
+pub added_full : (k m : ℕ) (es fs gs : List Entry) (b d a : Buckets) (x y : Bytes) (i n w : ℕ) (o : Option Entry) → 0 < w → m + w < 2 ^ 63 → IsLinked k m es b → lookup (same_key x) es ≡ None → k < length es → IsFirst b n y i
+    → Distinct fs → ((q : Bytes) → lookup (same_key q) fs ≡ cond (same_key x q) (Some (n + w)) (lookup (same_key q) es)) → fs ≡ es ++ (x, n + w) ∷ [] → Changes b d (n + w) x (Some i)
+    → Distinct gs → o ≡ slice_get fs i → ((e : Entry) → o ≡ Some e → gs ≡ swap_remove fs i e) → ((e : Entry) → o ≡ Some e → (q : Bytes) → lookup (same_key q) gs ≡ cond (same_key e.0 q) None (lookup (same_key q) fs)) → (IsFirst d n y i → Changes d a n y None) → AreOrdered a → IsAdded k m es gs a (x, w)
+added_full k m es fs gs b d a x y i n w o p bound l f full first dfs ufs entries put dgs taken_is swapped updates drop ordered =
     let s = tally es in
-    let e : Entry = (x, n + w) in
+    let ks = keys_of es in
     let at = absent es x l.distinct f in
     let many : k < length s = omega (arith, length-view es l.distinct l.positive, full) in
-    let before = drop_is s b n y l.monitor.entries (omega (arith, many)) l.agree first in
+    let before = drop_is s ks b n y i l.monitor.entries (omega (arith, many)) l.agree (all_stand es l.distinct) first in
+    let here = position-Some (same_key y) ks i y before.place in
+    let within : i < length es = omega (arith, here.0, length-keys_of es) in
+    let old = get_or es i (y, n) in
+    let old_key : old.0 ≡ y = sym (get_or-map (λ (e : Entry). e.0) es i (y, n) y within) ∙ sym (same_exact y (get_or ks i y) here.1) in
+    let taken : o ≡ Some old = taken_is ∙ ap (λ (l : List Entry). slice_get l i) entries ∙ slice_get-get_or (es ++ (x, n + w) ∷ []) i (y, n) (omega (arith, within, length_push es (x, n + w))) ∙ ap Some (get_or_append_left es ((x, n + w) ∷ []) (y, n) i within) in
+    let ugs : (q : Bytes) → lookup (same_key q) gs ≡ cond (same_key y q) None (lookup (same_key q) fs) = subst (λ (z : Bytes). (q : Bytes) → lookup (same_key q) gs ≡ cond (same_key z q) None (lookup (same_key q) fs)) old_key (updates old taken) in
+    let is_gs : gs ≡ set es i (x, n + w) = swapped old taken ∙ ap (λ (l : List Entry). swap_remove l i old) entries ∙ last_swapped es (x, n + w) old i within in
+    let keys : keys_of gs ≡ set ks i x = ap keys_of is_gs ∙ map-set (λ (e : Entry). e.0) es i (x, n + w) in
+    let differ : same_key y x ≡ false = apart (same_key y x) refl (omega (arith, before.counter, before.positive)) at in
     let positive_fs = positive_put es fs x (n + w) (omega (arith, p)) l.positive ufs in
-    let is : tally fs ≡ add_at s e = view_put es fs x 0 (n + w) (omega (arith, p)) l.distinct l.positive dfs at (λ q. ufs q ∙ ap (λ v. cond (same_key x q) (Some v) (lookup (same_key q) es)) nothing_more) in
-    let agree_fs = agree_put s (tally fs) b d x (n + w) (omega (arith, p)) at (weight_put es fs x (n + w) l.distinct dfs ufs) l.agree put in
-    let longer = length-add_at_new s e l.monitor.entries.positive at in
-    let after = drop_is (tally fs) d c z (counters-view fs dfs positive_fs) (omega (arith, ap length is, longer)) agree_fs first2 in
-    let least : least_counter (tally fs) ≡ least_counter s = ap least_counter is ∙ least_counter-add_at s e l.monitor.entries.positive (omega (arith, many)) at (omega (arith, before.0, p)) in
-    let same_drop : z ≡ key_to_drop s = sym after.3 ∙ ap₂ (λ v (t : Counters). first_with v t) least is ∙ first_with-add_at (least_counter s) s e l.monitor.entries.positive at (omega (arith, before.0, p)) in
-    let dropped = key_to_drop s in
-    let differ : same_key dropped x ≡ false = apart (same_key dropped x) refl (omega (arith, ap (λ k. weight_of k s) before.3, before.1, before.2)) at in
+    let is : tally fs ≡ add_at s (x, n + w) = view_put es fs x 0 (n + w) (omega (arith, p)) l.distinct l.positive dfs at (λ q. ufs q ∙ ap (λ v. cond (same_key x q) (Some v) (lookup (same_key q) es)) nothing_more) in
     let over : tally gs ≡ taken_over s (x, w) =
-    view_taken fs gs z dfs positive_fs dgs ugs ∙ ap₂ (λ (t : Counters) k. without t k) is same_drop
-    ∙ without-add_at s e dropped l.monitor.entries (omega (arith, p)) differ ∙ ap (λ v. add_at (without s dropped) (x, v + w)) (sym before.0) in
+    view_taken fs gs y dfs positive_fs dgs ugs ∙ ap (λ (t : Counters). without t y) is
+    ∙ without-add_at s (x, n + w) y l.monitor.entries (omega (arith, p)) differ ∙ ap₂ (λ z v. add_at (without s z) (x, v + w)) (sym before.key) (sym before.least) in
     added k m es gs b a (x, w) p bound l
     (over ∙ sym (step_full s (x, w) k at many))
     dgs
-    (positive_taken fs gs z positive_fs ugs)
-    (agree_taken (tally fs) (tally gs) d a z c after.1 (weight_taken fs gs z dfs dgs ugs) agree_fs taken)
-    none
+    (positive_taken fs gs y positive_fs ugs)
+    (subst (λ (ls : List Bytes). Agree (tally gs) ls a) (sym keys)
+    (agree_replaced s (tally gs) ks (set ks i x) b d a x y i n w p at before.counter differ (same_place x es i f within)
+    (λ q not_x not_y. places_of_others (same_key q) ks i x y (same_sym q x ∙ not_x) (ap (same_key q) (sym (same_exact y (get_or ks i y) here.1)) ∙ same_sym q y ∙ not_y))
+    (λ q. weight_taken fs gs y dfs dgs ugs q ∙ ap (cond (same_key y q) 0) (weight_put es fs x (n + w) l.distinct dfs ufs q))
+    l.agree put (drop (first_stays b d n (n + w) x y i (Some i) first (omega (arith, p)) put))))
+    ordered
   where
     nothing_more : n + w ≡ 0 + (n + w)
     nothing_more = omega arith
 
-    apart : (v : Bool) → same_key (key_to_drop (tally es)) x ≡ v → 0 < weight_of (key_to_drop (tally es)) (tally es) → weight_of x (tally es) ≡ 0 → same_key (key_to_drop (tally es)) x ≡ false
-    apart true q h g = absurd (omega (arith, h, ap (λ k. weight_of k (tally es)) (same_exact (key_to_drop (tally es)) x q), g))
+    apart : (v : Bool) → same_key y x ≡ v → 0 < weight_of y (tally es) → weight_of x (tally es) ≡ 0 → same_key y x ≡ false
+    apart true q h g = absurd (omega (arith, h, ap (λ k. weight_of k (tally es)) (same_exact y x q), g))
     apart false q h g = q
 
 -- ---- what readers need
-pub nothing_linked : (k : ℕ) (b : Buckets) → 1 ≤ k → k ≤ 65535 → HasNone b → NoneEmpty b → IsLinked k 0 [] b
+pub nothing_linked : (k : ℕ) (b : Buckets) → 1 ≤ k → k ≤ 65535 → HasNone b → AreOrdered b → IsLinked k 0 [] b
 unfolding tally IsDistinct
-nothing_linked k b low high none empty = record {
+nothing_linked k b low high none ordered = record {
   distinct = tt;
   positive = λ q. tt;
   monitor = monitor_nothing k low high;
-  agree = λ n q. none n q ∙ tests n;
-  none_empty = empty;
+  agree = λ n q. none n q ∙ tests n _;
+  ordered = ordered;
 }
   where
-    tests : (n : ℕ) → false ≡ (nat_lt 0 n && (0 == n))
-    tests n = grind (arith, nat_tests)
+    tests : (n : ℕ) (o : Option ℕ) → None ≡ cond (nat_lt 0 n && (0 == n)) o None
+    tests n o = grind (arith, nat_tests)
 
-pub first_is_least : (k m : ℕ) (es : List Entry) (b : Buckets) (n : ℕ) (y : Bytes) → IsLinked k m es b → k < length es → IsFirst b n y → n ≡ least_of (tally es) k
-first_is_least k m es b n y l full first =
+pub first_is_least : (k m : ℕ) (es : List Entry) (b : Buckets) (n i : ℕ) → IsLinked k m es b → k < length es → HasFirst b n i → n ≡ least_of (tally es) k
+first_is_least k m es b n i l full first =
     let many : k < length (tally es) = omega (arith, length-view es l.distinct l.positive, full) in
-    sym (least_of_full (tally es) k many ∙ (drop_is (tally es) b n y l.monitor.entries (omega (arith, many)) l.agree first).0)
+    sym (least_of_full (tally es) k many ∙ (drop_is (tally es) (keys_of es) b n first.0 i l.monitor.entries (omega (arith, many)) l.agree (all_stand es l.distinct) first.1).least)
 
 pub least_free : (k m : ℕ) (es : List Entry) (b : Buckets) → IsLinked k m es b → length es ≤ k → 0 ≡ least_of (tally es) k
 least_free k m es b l free = sym (least_of_free (tally es) k (omega (arith, length-view es l.distinct l.positive, free)))
 
 pub none_first : (k m : ℕ) (es : List Entry) (b : Buckets) → IsLinked k m es b → k < length es → HasNone b → ⊥
-none_first k m es b l full none = none_in (tally es) b l.monitor.entries l.agree none (omega (arith, length-view es l.distinct l.positive, full))
+none_first k m es b l full none = none_in (tally es) (keys_of es) b l.monitor.entries l.agree (all_stand es l.distinct) none (omega (arith, length-view es l.distinct l.positive, full))
 
 -- no counter is above the total
 pub counter-le-total : (k m : ℕ) (es : List Entry) (b : Buckets) (x : Bytes) (n : ℕ) → IsLinked k m es b → lookup (same_key x) es ≡ Some n → n ≤ m
 counter-le-total k m es b x n l f = omega (arith, found es x n l.distinct f, weight_of-le-total_of x (tally es), l.monitor.sum_is)
 
-pub first-le-total : (k m : ℕ) (es : List Entry) (b : Buckets) (n : ℕ) (y : Bytes) → IsLinked k m es b → IsFirst b n y → n ≤ m
-first-le-total k m es b n y l first = omega (arith, (held (tally es) b n y l.agree first.there).0, weight_of-le-total_of y (tally es), l.monitor.sum_is)
+pub first-le-total : (k m : ℕ) (es : List Entry) (b : Buckets) (n i : ℕ) → IsLinked k m es b → HasFirst b n i → n ≤ m
+first-le-total k m es b n i l first =
+    let y = first.0 in
+    omega (arith, (held (tally es) (keys_of es) b n y i l.agree first.1.there).0, weight_of-le-total_of y (tally es), l.monitor.sum_is)
 
 -- a map with no entries has no bucket
-pub empty_has_none : (b : Buckets) → b.entries ≡ [] → HasNone b × NoneEmpty b
-empty_has_none b e = (λ n q. ap (λ es. bucket_has (lookup (λ m. is_eq (nat_cmp n m)) es) q) e, λ n s at. absurd (cc (sym at ∙ ap (lookup (λ m. is_eq (nat_cmp n m))) e)))
+pub empty_has_none : (b : Buckets) → b.entries ≡ [] → HasNone b × AreOrdered b
+empty_has_none b e = (λ n q. ap (option_and_then (λ (s : Bucket). place_in s q)) (none n), λ n s at. absurd (none-some s (sym (none n) ∙ at)))
+  where
+    none : (n : ℕ) → map_get nat_cmp b n ≡ None
+    none n = ap (lookup (λ m. is_eq (nat_cmp n m))) e
 
 -- ---- what an index does
 -- the key that a look-up found is the key that was asked for
@@ -406,9 +418,9 @@ pub popped : (es all left : List Entry) (e : Entry) (o : Option Entry) → all �
 popped es all left e None is pop some = absurd (true≢false (sym (some (omega (arith, ap length is, length_push es e)))))
 popped es all left e (Some f) is pop some = sym (same_from_push es left e f (sym is ∙ pop)).0
 
--- a monitored key stands in the bucket of its counter
-pub stands_there : (k m : ℕ) (es : List Entry) (b : Buckets) (x : Bytes) (n : ℕ) → IsLinked k m es b → lookup (same_key x) es ≡ Some n → has b n x ≡ true
-stands_there k m es b x n l f =
+-- a monitored key stands in the bucket of its counter, with its place
+pub stands_there : (k m : ℕ) (es : List Entry) (b : Buckets) (x : Bytes) (i n : ℕ) → IsLinked k m es b → lookup (same_key x) es ≡ Some n → position (same_key x) (keys_of es) ≡ Some i → place_at b n x ≡ Some i
+stands_there k m es b x i n l f place =
     let at = found es x n l.distinct f in
     let some : 0 < n = subst (λ o. IfSome o (λ m. 0 < m)) f (l.positive x) in
-    ap (λ v. has b v x) (sym at) ∙ holds (tally es) b x l.agree (omega (arith, at, some))
+    ap (λ v. place_at b v x) (sym at) ∙ holds (tally es) (keys_of es) b x l.agree (omega (arith, at, some)) ∙ place

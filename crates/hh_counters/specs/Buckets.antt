@@ -1,72 +1,86 @@
--- Keys in buckets by their counters: a map from a counter to the set of its keys.
-use Rattle.std.specs.Prelude.{◌≡◌, ℕ, ◌+◌, ◌<◌, ◌≤◌, Bool, false, true, ◌&&◌, ◌==◌, ◌≢◌, if◌then◌else◌, nat_lt, List, [], Option, Some, None, IsSome, IfSome}
+-- Keys in buckets by their counters: a map from a counter to a bucket, in which each key has its place in the index.
+use Rattle.std.specs.Prelude.{◌≡◌, ℕ, ◌+◌, ◌<◌, ◌≤◌, false, ◌&&◌, ◌==◌, if◌then◌else◌, nat_lt, List, position, Option, Some, None, IsSome, IfSome}
 use Rattle.std.specs.Ordering.{nat_cmp, is_eq, is_gt}
+use Rattle.std.specs.declared.cmp.Ordering.TheVariants.{Less}
+use Rattle.std.specs.Option.{option_and_then}
 use Rattle.std.specs.List.{IsDistinct}
 use Rattle.std.specs.Map.{keys_of, lookup}
 use Rattle.std.specs.BTreeMap.{BTreeMap, get}
-use Rattle.std.specs.BTreeSet.{BTreeSet, contains}
 use Rattle.hh_stream.specs.Weights.{Bytes, Entry, key_cmp, same_key, weight_of}
 use Rattle.hh_counters.specs.Counters.{Counters, tally}
 use Rattle.hh_counters.specs.SpaceSaving.{IsMonitor, step}
+use Rattle.hh_counters.specs.declared.buckets.Bucket.{Bucket}
 
 abbrev pub Buckets : Type 0
-Buckets = BTreeMap ℕ (BTreeSet Bytes)
+Buckets = BTreeMap ℕ Bucket
 
--- a bucket, where there is one, has the key
-abbrev pub bucket_has : Option (BTreeSet Bytes) → Bytes → Bool
-bucket_has None q = false
-bucket_has (Some s) q = contains key_cmp s q
+-- the place of the key q in a bucket
+abbrev pub place_in : Bucket → Bytes → Option ℕ
+place_in s q = if same_key s.key q then Some s.place else get key_cmp s.others q
 
--- the bucket of the counter n has the key q
-abbrev pub has : Buckets → ℕ → Bytes → Bool
-has b n q = bucket_has (get nat_cmp b n) q
+-- the place of the key q in the bucket of the counter n
+abbrev pub place_at : Buckets → ℕ → Bytes → Option ℕ
+place_at b n q = option_and_then (λ (s : Bucket). place_in s q) (get nat_cmp b n)
 
--- no bucket is empty
-abbrev pub NoneEmpty : Buckets → Type 0
-NoneEmpty b = (n : ℕ) (s : BTreeSet Bytes) → get nat_cmp b n ≡ Some s → s.keys ≢ []
+-- the bucket's own key is below the others
+abbrev pub IsOrdered : Bucket → Type 0
+IsOrdered s = (q : Bytes) → IsSome (get key_cmp s.others q) → key_cmp s.key q ≡ Less
 
--- the key x stands in the bucket of m, or no longer does, and nothing else changed
-abbrev pub Changes : Buckets → Buckets → ℕ → Bytes → Bool → Type 0
-Changes old new m x there = (n : ℕ) (q : Bytes) → has new n q ≡ (if is_eq (nat_cmp m n) && is_eq (key_cmp x q) then there else has old n q)
+abbrev pub AreOrdered : Buckets → Type 0
+AreOrdered b = (n : ℕ) (s : Bucket) → get nat_cmp b n ≡ Some s → IsOrdered s
 
--- the key x went from the bucket of m to that of n
-abbrev pub Moves : Buckets → Buckets → ℕ → ℕ → Bytes → Type 0
-Moves old new m n x =
-    (c : ℕ) (q : Bytes) → has new c q ≡ (if is_eq (nat_cmp m c) && is_eq (key_cmp x q) then false
-    else (if is_eq (nat_cmp n c) && is_eq (key_cmp x q) then true else has old c q))
+-- the key x got this place in the bucket, or has none, and nothing else changed
+abbrev pub Sets : Bucket → Bucket → Bytes → Option ℕ → Type 0
+Sets old new x i = (q : Bytes) → place_in new q ≡ (if same_key x q then i else place_in old q)
 
--- the bucket of m became that of n
-abbrev pub Renames : Buckets → Buckets → ℕ → ℕ → Type 0
-Renames old new m n = (c : ℕ) → get nat_cmp new c ≡ (if is_eq (nat_cmp n c) then get nat_cmp old m else (if is_eq (nat_cmp m c) then None else get nat_cmp old c))
+abbrev pub KeepsPlaces : Bucket → Bucket → Type 0
+KeepsPlaces old new = (q : Bytes) → place_in new q ≡ place_in old q
+
+-- the bucket has no key but x
+abbrev pub HasNoOther : Bucket → Bytes → Type 0
+HasNoOther s x = (q : Bytes) → same_key x q ≡ false → place_in s q ≡ None
+
+-- the key x got this place in the bucket of m, or has none, and nothing else changed
+abbrev pub Changes : Buckets → Buckets → ℕ → Bytes → Option ℕ → Type 0
+Changes old new m x i = (n : ℕ) (q : Bytes) → place_at new n q ≡ (if is_eq (nat_cmp m n) && same_key x q then i else place_at old n q)
+
+-- the key x, whose place is i, went from the bucket of m to that of n
+abbrev pub Moves : Buckets → Buckets → ℕ → ℕ → Bytes → ℕ → Type 0
+Moves old new m n x i =
+    (c : ℕ) (q : Bytes) → place_at new c q ≡ (if is_eq (nat_cmp m c) && same_key x q then None
+    else (if is_eq (nat_cmp n c) && same_key x q then Some i else place_at old c q))
 
 abbrev pub HasSame : Buckets → Buckets → Type 0
-HasSame old new = (n : ℕ) (q : Bytes) → has new n q ≡ has old n q
+HasSame old new = (n : ℕ) (q : Bytes) → place_at new n q ≡ place_at old n q
 
 abbrev pub HasNone : Buckets → Type 0
-HasNone b = (n : ℕ) (q : Bytes) → has b n q ≡ false
+HasNone b = (n : ℕ) (q : Bytes) → place_at b n q ≡ None
 
--- the counter n has a bucket, and no lower one has
-pub record IsLowest (b : Buckets) (n : ℕ) : Type 0 where
-  pub there : IsSome (get nat_cmp b n)
-  pub lowest : (c : ℕ) → IsSome (get nat_cmp b c) → n ≤ c
+-- no bucket is of a lower counter, and of the keys of this one x, whose place is i, is the first
+pub record IsFirst (b : Buckets) (n : ℕ) (x : Bytes) (i : ℕ) : Type 0 where
+  pub there : place_at b n x ≡ Some i
+  pub lowest : (c : ℕ) (q : Bytes) → IsSome (place_at b c q) → n ≤ c
+  pub first : (q : Bytes) → IsSome (place_at b n q) → is_gt (key_cmp x q) ≡ false
 
--- no bucket is of a lower counter, and of the keys of this one x is the first
-pub record IsFirst (b : Buckets) (n : ℕ) (x : Bytes) : Type 0 where
-  pub there : has b n x ≡ true
-  pub lowest : (c : ℕ) → IsSome (get nat_cmp b c) → n ≤ c
-  pub first : (q : Bytes) → has b n q ≡ true → is_gt (key_cmp x q) ≡ false
+-- the place i is that of the first key of the first bucket, whose counter is n
+abbrev pub HasFirst : Buckets → ℕ → ℕ → Type 0
+HasFirst b n i = (x : Bytes) × IsFirst b n x i
 
--- each bucket has exactly the keys with its counter
-abbrev pub Agree : Counters → Buckets → Type 0
-Agree s b = (n : ℕ) (q : Bytes) → has b n q ≡ (nat_lt 0 n && (weight_of q s == n))
+-- that key was taken out, and nothing else changed
+abbrev pub DropsFirst : Buckets → Buckets → Type 0
+DropsFirst old new = (n : ℕ) (x : Bytes) (i : ℕ) → IsFirst old n x i → Changes old new n x None
+
+-- the bucket of a counter has exactly the keys with that counter, each with its place among the keys ks
+abbrev pub Agree : Counters → List Bytes → Buckets → Type 0
+Agree s ks b = (n : ℕ) (q : Bytes) → place_at b n q ≡ (if nat_lt 0 n && (weight_of q s == n) then position (same_key q) ks else None)
 
 -- the entries of an index, in any order, and the buckets are of the same monitored keys
 pub record IsLinked (k n : ℕ) (es : List Entry) (b : Buckets) : Type 0 where
   pub distinct : IsDistinct same_key (keys_of es)
   pub positive : (q : Bytes) → IfSome (lookup (same_key q) es) (λ m. 0 < m)
   pub monitor : IsMonitor k n (tally es)
-  pub agree : Agree (tally es) b
-  pub none_empty : NoneEmpty b
+  pub agree : Agree (tally es) (keys_of es) b
+  pub ordered : AreOrdered b
 
 -- what an item leaves of both parts
 pub record IsAdded (k n : ℕ) (es fs : List Entry) (b : Buckets) (e : Entry) : Type 0 where

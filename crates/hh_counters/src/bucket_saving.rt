@@ -1,36 +1,35 @@
 //! Space-Saving in buckets.
 
-ghost use Rattle.std.specs.Prelude.{◌≡◌, ◌≢◌, ◌+◌, ◌-◌, ◌^◌, ◌<◌, ◌≤◌, ◌↔◌, ◌⊎◌, [], IsSome, IfOk, IsErrOf, OnOk, OnErr, IfErr, IfSome, MatchOption, true, false, None, Some, length, slice_get};
+ghost use Rattle.std.specs.Prelude.{◌≡◌, ◌≢◌, ◌+◌, ◌-◌, ◌^◌, ◌<◌, ◌≤◌, ◌↔◌, ◌⊎◌, [], ◌∷◌, ◌++◌, IsSome, IfOk, IsErrOf, OnOk, OnErr, IfErr, None, Some, length, slice_get};
 ghost use Rattle.std.specs.Map.{keys_of, lookup};
 ghost use Rattle.std.specs.List.{IsDistinct};
-ghost use Rattle.indexmap.specs.IndexMap.{get as index_get, index_of, IsUnique, Updates};
+ghost use Rattle.indexmap.specs.IndexMap.{get as index_get, index_of, keys, IsUnique, Updates};
 ghost use Rattle.hh_stream.specs.Weights.{Bytes, key_cmp, same_key};
 ghost use Rattle.hh_counters.specs.Counters.{max_k, Sketch, IsCounters, tally, lower};
-ghost use Rattle.hh_counters.specs.Buckets.{has, NoneEmpty, Changes, Moves, HasSame, HasNone, IsFirst, IsLinked, IsAdded};
+ghost use Rattle.hh_counters.specs.Buckets.{place_at, AreOrdered, Changes, Moves, HasSame, IsLinked, IsAdded};
 
-use crate::buckets::{first, pop_first, put, shift};
+use crate::buckets::{Bucket, drop_first, first, put, take};
 use crate::monitor::Monitor;
 use crate::summary::{AddFault, MAX_K, Summary};
 use hh_stream::{Key, MAX_TOTAL};
 use indexmap::IndexMap;
 use std::alloc::{AllocError, Global};
-use std::collections::{BTreeMap, BTreeSet};
+use std::collections::BTreeMap;
 use std::marker::Model;
 
 /// Space-Saving with the monitored keys in buckets by their counters, so that the key to drop is the
 /// first one of the first bucket.
 ///
 /// An item costs a look-up by hash and searches in ordered maps, whose steps grow as the logarithm of
-/// the number of counters. A newcomer's key is hashed a second time and copied twice, and the key that
-/// it takes over from is hashed once; a monitored key is copied only where it leaves or joins a bucket
-/// of other keys. A contract sees k, the total and the counters by rising key.
+/// the number of counters. A newcomer's key is hashed a second time and copied twice; a monitored key
+/// is copied once. A contract sees k, the total and the counters by rising key.
 #[derive(Debug, Drop)]
 pub struct BucketSaving {
     alloc: Global,
     k: u64,
     total: u64,
     index: IndexMap<Key, u64>,
-    buckets: BTreeMap<u64, BTreeSet<Key>>,
+    buckets: BTreeMap<u64, Bucket>,
 }
 
 impl Model for BucketSaving {
@@ -182,7 +181,7 @@ fn add_item(
     k: u64,
     total: u64,
     index: &mut IndexMap<Key, u64>,
-    buckets: &mut BTreeMap<u64, BTreeSet<Key>>,
+    buckets: &mut BTreeMap<u64, Bucket>,
     key: &Key,
     weight: u64,
 ) -> Result<(), AllocError>
@@ -193,24 +192,25 @@ fn add_item(
         (IsAdded k total index.old.entries index.new.entries buckets.new (key.now, weight)) }
     ensures unchanged { OnErr result (index.new.entries ≡ index.old.entries) }
     ensures same { OnErr result (HasSame buckets.old buckets.new) }
-    ensures none_empty { NoneEmpty buckets.new }
+    ensures ordered { AreOrdered buckets.new }
 {
     if let Some((place, _, counter)) = index.get_full(key) {
         let from = *counter;
-        raise(alloc, index, buckets, place, from, from + weight, key)?;
+        raise(alloc, index, buckets, key, place, from, from + weight)?;
         return Ok(());
     }
-    if index.len() as u64 <= k {
-        enter(alloc, index, buckets, key, weight)?;
+    let last = index.len();
+    if last as u64 <= k {
+        enter(alloc, index, buckets, key, last, weight)?;
         return Ok(());
     }
-    let Some((least, _)) = first(buckets) else {
+    let Some((least, place)) = first(buckets) else {
         unreachable!("a full index has a first bucket");
     };
-    enter(alloc, index, buckets, key, least + weight)?;
-    let Some(_) = drop_first(index, buckets) else {
-        unreachable!("the newcomer has a bucket");
-    };
+    enter(alloc, index, buckets, key, place, least + weight)?;
+    drop_first(buckets);
+    // the newcomer, which stands last, goes to the place that it has in its bucket
+    index.swap_remove_index(place);
     Ok(())
 }
 
@@ -219,67 +219,57 @@ fn add_item(
 fn raise(
     alloc: Global,
     index: &mut IndexMap<Key, u64>,
-    buckets: &mut BTreeMap<u64, BTreeSet<Key>>,
+    buckets: &mut BTreeMap<u64, Bucket>,
+    key: &Key,
     place: usize,
     from: u64,
     to: u64,
-    key: &Key,
 ) -> Result<(), AllocError>
     requires place { index_of same_key index.old key.now ≡ Some place }
-    requires there { has buckets.old from key.now ≡ true }
+    requires there { place_at buckets.old from key.now ≡ Some place }
+    requires ordered { AreOrdered buckets.old }
     requires apart { from ≢ to }
     ensures raised { OnOk result (Updates same_key index.old index.new key.now (Some to)) }
-    ensures moved { OnOk result (Moves buckets.old buckets.new from to key.now) }
+    ensures keys { keys index.new ≡ keys index.old }
+    ensures moved { OnOk result (Moves buckets.old buckets.new from to key.now place) }
     ensures unchanged { OnErr result (index.new.entries ≡ index.old.entries) }
     ensures same { OnErr result (HasSame buckets.old buckets.new) }
-    ensures none_empty { NoneEmpty buckets.old → NoneEmpty buckets.new }
+    ensures ordered { AreOrdered buckets.new }
     ensures distinct { IsUnique same_key index.old → IsUnique same_key index.new }
 {
-    shift(alloc, buckets, from, to, key)?;
+    put(alloc, buckets, to, key.copy()?, place)?;
+    take(buckets, from, key);
     let (_, counter) = index.pair_mut(place);
     *counter = to;
     Ok(())
 }
 
-// Gives a new key its counter in both parts, or leaves both as they were.
+// Puts a new key last into the index and, with the place that it is to have, into its bucket, or
+// leaves both as they were.
 fn enter(
     alloc: Global,
     index: &mut IndexMap<Key, u64>,
-    buckets: &mut BTreeMap<u64, BTreeSet<Key>>,
+    buckets: &mut BTreeMap<u64, Bucket>,
     key: &Key,
+    place: usize,
     counter: u64,
 ) -> Result<(), AllocError>
-    requires { index_get same_key index.old key.now ≡ None }
+    requires new { index_get same_key index.old key.now ≡ None }
+    requires ordered { AreOrdered buckets.old }
     ensures entered { OnOk result (Updates same_key index.old index.new key.now (Some counter)) }
-    ensures put { OnOk result (Changes buckets.old buckets.new counter key.now true) }
+    ensures last { OnOk result (index.new.entries ≡ index.old.entries ++ (key.now, counter) ∷ []) }
+    ensures put { OnOk result (Changes buckets.old buckets.new counter key.now (Some place)) }
     ensures unchanged { OnErr result (index.new.entries ≡ index.old.entries) }
     ensures same { OnErr result (HasSame buckets.old buckets.new) }
-    ensures none_empty { NoneEmpty buckets.old → NoneEmpty buckets.new }
+    ensures ordered { AreOrdered buckets.new }
     ensures distinct { IsUnique same_key index.old → IsUnique same_key index.new }
 {
     let inner = key.copy()?;
     let outer = key.copy()?;
     index.insert(inner, counter)?;
-    if let Err(refused) = put(alloc, buckets, counter, outer) {
+    if let Err(refused) = put(alloc, buckets, counter, outer, place) {
         index.pop();
         return Err(refused);
     }
     Ok(())
-}
-
-// Drops the first key of the first bucket from both parts.
-fn drop_first(
-    index: &mut IndexMap<Key, u64>,
-    buckets: &mut BTreeMap<u64, BTreeSet<Key>>,
-) -> Option<(u64, Key)>
-    requires { NoneEmpty buckets.old }
-    ensures first { MatchOption result (HasNone buckets.old) (λ p. IsFirst buckets.old p.0 p.1) }
-    ensures taken { IfSome result (λ p. Changes buckets.old buckets.new p.0 p.1 false) }
-    ensures dropped { IfSome result (λ p. Updates same_key index.old index.new p.1 None) }
-    ensures none_empty { NoneEmpty buckets.new }
-    ensures distinct { IsUnique same_key index.old → IsUnique same_key index.new }
-{
-    let (counter, key) = pop_first(buckets)?;
-    index.swap_remove(&key);
-    Some((counter, key))
 }

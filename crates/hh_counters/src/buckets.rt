@@ -1,140 +1,132 @@
-//! Keys in buckets by their counters. No bucket stays empty.
+//! Keys in buckets by their counters, each with its place in the index. No bucket is empty.
 
-ghost use Rattle.std.specs.Prelude.{◌≡◌, ◌≢◌, ◌↔◌, OnOk, OnErr, IsSome, IsSomeAnd, IsTrue, IfSome, MatchOption, None, true, false, length};
-ghost use Rattle.std.specs.Ordering.{nat_cmp};
-ghost use Rattle.std.specs.BTreeMap.{get, IsUnchanged};
-ghost use Rattle.hh_counters.specs.Buckets.{has, NoneEmpty, Changes, Moves, Renames, HasSame, HasNone, IsLowest, IsFirst};
+ghost use Rattle.std.specs.Prelude.{◌≡◌, OnOk, OnErr, IsTrue, IsFalse, IsSome, MatchOption, None, Some};
+ghost use Rattle.hh_counters.specs.Buckets.{place_at, IsOrdered, AreOrdered, Sets, KeepsPlaces, HasNoOther, Changes, HasSame, HasNone, HasFirst, DropsFirst};
 
 use hh_stream::Key;
 use std::alloc::{AllocError, Global};
-use std::collections::{BTreeMap, BTreeSet};
+use std::cmp::Ordering;
+use std::collections::BTreeMap;
+use std::collections::btree_map::Entry;
 
-/// Puts the key into the bucket of the counter, or leaves all as it was.
+/// The keys with one counter and their places: the least key, and the others where there are any.
+#[derive(Debug, Drop)]
+pub struct Bucket {
+    key: Key,
+    place: usize,
+    others: BTreeMap<Key, usize>,
+}
+
+/// Puts the key with its place into the bucket of the counter, or leaves all as it was.
 pub fn put(
     alloc: Global,
-    buckets: &mut BTreeMap<u64, BTreeSet<Key>>,
+    buckets: &mut BTreeMap<u64, Bucket>,
     counter: u64,
     key: Key,
+    place: usize,
 ) -> Result<(), AllocError>
-    ensures put { OnOk result (Changes buckets.old buckets.new counter key true) }
+    requires { AreOrdered buckets.old }
+    ensures put { OnOk result (Changes buckets.old buckets.new counter key (Some place)) }
     ensures same { OnErr result (HasSame buckets.old buckets.new) }
-    ensures none_empty { NoneEmpty buckets.old → NoneEmpty buckets.new }
+    ensures ordered { AreOrdered buckets.new }
 {
-    match buckets.get_mut(&counter) {
-        Some(bucket) => {
-            bucket.insert(key)?;
+    match buckets.entry(counter)? {
+        Entry::Occupied(mut entry) => insert(entry.get_mut(), key, place)?,
+        Entry::Vacant(entry) => {
+            entry.insert(Bucket {
+                key,
+                place,
+                others: BTreeMap::new(alloc),
+            });
         }
-        None => {
-            let mut bucket = BTreeSet::new(alloc);
-            bucket.insert(key)?;
-            buckets.insert(counter, bucket)?;
+    }
+    Ok(())
+}
+
+// Puts the key with its place into the bucket, or leaves it as it was.
+fn insert(bucket: &mut Bucket, key: Key, place: usize) -> Result<(), AllocError>
+    requires { IsOrdered bucket.old }
+    ensures inserted { OnOk result (Sets bucket.old bucket.new key (Some place)) }
+    ensures same { OnErr result (KeepsPlaces bucket.old bucket.new) }
+    ensures ordered { IsOrdered bucket.new }
+{
+    match key.cmp(&bucket.key) {
+        Ordering::Less => {
+            bucket.others.insert(bucket.key.copy()?, bucket.place)?;
+            bucket.key = key;
+            bucket.place = place;
+        }
+        Ordering::Equal => bucket.place = place,
+        Ordering::Greater => {
+            bucket.others.insert(key, place)?;
         }
     }
     Ok(())
 }
 
 /// Takes the key out of the bucket of the counter.
-pub fn take(buckets: &mut BTreeMap<u64, BTreeSet<Key>>, counter: u64, key: &Key)
-    ensures taken { Changes buckets.old buckets.new counter key.now false }
-    ensures none_empty { NoneEmpty buckets.old → NoneEmpty buckets.new }
+pub fn take(buckets: &mut BTreeMap<u64, Bucket>, counter: u64, key: &Key)
+    requires there { IsSome (place_at buckets.old counter key.now) }
+    requires ordered { AreOrdered buckets.old }
+    ensures taken { Changes buckets.old buckets.new counter key.now None }
+    ensures ordered { AreOrdered buckets.new }
 {
-    let Some(bucket) = buckets.get_mut(&counter) else {
-        return;
+    let Ok(Entry::Occupied(mut entry)) = buckets.entry(counter) else {
+        unreachable!("the key's counter has a bucket");
     };
-    bucket.remove(key);
-    if bucket.is_empty() {
-        buckets.remove(&counter);
+    if !remove(entry.get_mut(), key) {
+        entry.remove();
     }
 }
 
-/// Moves the key, which stands in the bucket of one counter, to that of another, or leaves all as
-/// it was. A bucket of this key alone moves as it is, where the other counter has none.
-pub fn shift(
-    alloc: Global,
-    buckets: &mut BTreeMap<u64, BTreeSet<Key>>,
-    from: u64,
-    to: u64,
-    key: &Key,
-) -> Result<(), AllocError>
-    requires there { has buckets.old from key.now ≡ true }
-    requires apart { from ≢ to }
-    ensures moved { OnOk result (Moves buckets.old buckets.new from to key.now) }
-    ensures same { OnErr result (HasSame buckets.old buckets.new) }
-    ensures none_empty { NoneEmpty buckets.old → NoneEmpty buckets.new }
+// Takes the key out of the bucket, unless there is no other in it: then nothing changes.
+fn remove(bucket: &mut Bucket, key: &Key) -> bool
+    requires { IsOrdered bucket.old }
+    ensures removed { IsTrue result → Sets bucket.old bucket.new key.now None }
+    ensures only { IsFalse result → HasNoOther bucket.old key.now }
+    ensures ordered { IsOrdered bucket.new }
 {
-    if holds_one(buckets, from) && !buckets.contains_key(&to) {
-        return rename(alloc, buckets, from, to);
+    if bucket.key == *key {
+        return remove_least(bucket);
     }
-    let copy = key.copy()?;
-    put(alloc, buckets, to, copy)?;
-    take(buckets, from, key);
-    Ok(())
+    bucket.others.remove(key);
+    true
 }
 
-// Whether the bucket of the counter has just one key.
-fn holds_one(buckets: &BTreeMap<u64, BTreeSet<Key>>, counter: u64) -> bool
-    ensures { IsTrue result
-        ↔ IsSomeAnd (get nat_cmp buckets.now counter) (λ bucket. length bucket.keys ≡ 1) }
+// Takes the least key out of the bucket, unless there is no other in it: then nothing changes.
+fn remove_least(bucket: &mut Bucket) -> bool
+    requires { IsOrdered bucket.old }
+    ensures removed { IsTrue result → Sets bucket.old bucket.new bucket.old.key None }
+    ensures only { IsFalse result → HasNoOther bucket.old bucket.old.key }
+    ensures ordered { IsOrdered bucket.new }
 {
-    match buckets.get(&counter) {
-        Some(bucket) => bucket.len() == 1,
-        None => false,
-    }
-}
-
-// Makes the bucket of one counter that of another, which has none, or leaves all as it was.
-fn rename(
-    alloc: Global,
-    buckets: &mut BTreeMap<u64, BTreeSet<Key>>,
-    from: u64,
-    to: u64,
-) -> Result<(), AllocError>
-    requires there { IsSome (get nat_cmp buckets.old from) }
-    requires free { get nat_cmp buckets.old to ≡ None }
-    ensures renamed { OnOk result (Renames buckets.old buckets.new from to) }
-    ensures same { OnErr result (IsUnchanged buckets.old buckets.new) }
-{
-    buckets.insert(to, BTreeSet::new(alloc))?;
-    let Some(bucket) = buckets.remove(&from) else {
-        unreachable!("the counter has a bucket");
+    let Some((key, place)) = bucket.others.pop_first() else {
+        return false;
     };
-    // the counter has a bucket by now, so this takes no memory
-    buckets.insert(to, bucket)?;
-    Ok(())
+    bucket.key = key;
+    bucket.place = place;
+    true
 }
 
-// The least counter.
-fn lowest(buckets: &BTreeMap<u64, BTreeSet<Key>>) -> Option<u64>
-    ensures { MatchOption result (HasNone buckets.now) (IsLowest buckets.now) }
-{
-    match buckets.first_key_value() {
-        Some((counter, _)) => Some(*counter),
-        None => None,
-    }
-}
-
-/// The first key of the first bucket, with its counter.
-pub fn first(buckets: &BTreeMap<u64, BTreeSet<Key>>) -> Option<(u64, &Key)>
-    requires { NoneEmpty buckets.now }
-    ensures { MatchOption result (HasNone buckets.now) (λ p. IsFirst buckets.now p.0 p.1.now) }
+/// The least counter, and the place of the least key that has it.
+pub fn first(buckets: &BTreeMap<u64, Bucket>) -> Option<(u64, usize)>
+    requires { AreOrdered buckets.now }
+    ensures { MatchOption result (HasNone buckets.now) (λ p. HasFirst buckets.now p.0 p.1) }
 {
     let (counter, bucket) = buckets.first_key_value()?;
-    let key = bucket.first()?;
-    Some((*counter, key))
+    Some((*counter, bucket.place))
 }
 
-/// Takes the first key out of the first bucket.
-pub fn pop_first(buckets: &mut BTreeMap<u64, BTreeSet<Key>>) -> Option<(u64, Key)>
-    requires { NoneEmpty buckets.old }
-    ensures first { MatchOption result (HasNone buckets.old) (λ p. IsFirst buckets.old p.0 p.1) }
-    ensures taken { IfSome result (λ p. Changes buckets.old buckets.new p.0 p.1 false) }
-    ensures none_empty { NoneEmpty buckets.new }
+/// Takes the least key with the least counter out of its bucket.
+pub fn drop_first(buckets: &mut BTreeMap<u64, Bucket>)
+    requires { AreOrdered buckets.old }
+    ensures dropped { DropsFirst buckets.old buckets.new }
+    ensures ordered { AreOrdered buckets.new }
 {
-    let counter = lowest(buckets)?;
-    let bucket = buckets.get_mut(&counter)?;
-    let key = bucket.pop_first()?;
-    if bucket.is_empty() {
-        buckets.remove(&counter);
+    let Some(mut entry) = buckets.first_entry() else {
+        return;
+    };
+    if !remove_least(entry.get_mut()) {
+        entry.remove();
     }
-    Some((counter, key))
 }

@@ -1,5 +1,9 @@
 -- each way through is a lemma of `Linked`, at the values of the calls
-use Rattle.std.proofs.Common.{sym, arith}
+use Rattle.std.proofs.Common.{◌≡◌, None, sym, subst, arith}
+use Rattle.std.specs.Prelude.{IfSome}
+use Rattle.std.specs.List.{swap_remove}
+use Rattle.indexmap.specs.IndexMap.{Updates}
+use Rattle.hh_stream.specs.Weights.{Entry, same_key}
 use Rattle.hh_counters.proofs.Linked.{added_old, added_new, added_full, counter-le-total, first-le-total, none_first, stands_there}
 use Rattle.hh_counters.proofs.bucket_saving.add_item.Goals as goal
 
@@ -9,31 +13,39 @@ overflow_add-from c =
     omega (arith, le, c.requires.bounded)
 
 pub raise-requires-clause-there : goal.raise-requires-clause-there
-raise-requires-clause-there c = stands_there c.args.k c.args.total c.args.index.now.entries c.args.buckets.now c.args.key.now c.in-Some.counter.now c.requires.linked (sym c.in-Some.ensures.value)
+raise-requires-clause-there c =
+    stands_there c.args.k c.args.total c.args.index.now.entries c.args.buckets.now c.args.key.now c.in-Some.place c.in-Some.counter.now c.requires.linked (sym c.in-Some.ensures.value) (sym c.in-Some.ensures.index)
 
 pub returns-in-Some-clause-added : goal.returns-in-Some-clause-added
 returns-in-Some-clause-added c =
-    added_old c.args.k c.args.total c.args.index.now.entries c.raise.new.index.entries c.args.buckets.now c.raise.new.buckets c.args.key.now c.in-Some.counter.now c.args.weight
-    c.requires.positive c.requires.bounded c.requires.linked (sym c.in-Some.ensures.value) (c.raise.ensures.distinct c.requires.linked.distinct) c.in_ok-raise.ensures.raised.0 c.in_ok-raise.ensures.moved (c.raise.ensures.none_empty c.requires.linked.none_empty)
+    added_old c.args.k c.args.total c.args.index.now.entries c.raise.new.index.entries c.args.buckets.now c.raise.new.buckets c.args.key.now c.in-Some.place c.in-Some.counter.now c.args.weight
+    c.requires.positive c.requires.bounded c.requires.linked (sym c.in-Some.ensures.value) (sym c.in-Some.ensures.index) (c.raise.ensures.distinct c.requires.linked.distinct) c.in_ok-raise.ensures.raised.0 c.raise.ensures.keys c.in_ok-raise.ensures.moved c.raise.ensures.ordered
 
-pub returns-then-len-k-clause-added : goal.returns-then-len-k-clause-added
-returns-then-len-k-clause-added c =
+pub returns-then-last-k-clause-added : goal.returns-then-last-k-clause-added
+returns-then-last-k-clause-added c =
     added_new c.args.k c.args.total c.args.index.now.entries c.enter.new.index.entries c.args.buckets.now c.enter.new.buckets c.args.key.now c.args.weight
-    c.requires.positive c.requires.bounded c.requires.linked (sym c.in_default.ensures.value) (omega arith) (c.enter.ensures.distinct c.requires.linked.distinct) c.in_ok-enter.ensures.entered.0 c.in_ok-enter.ensures.put (c.enter.ensures.none_empty c.requires.linked.none_empty)
+    c.requires.positive c.requires.bounded c.requires.linked (sym c.in_default.ensures.value) (omega (arith, c.len-last.ensures.len, c.if-last-k.true)) (c.enter.ensures.distinct c.requires.linked.distinct) c.in_ok-enter.ensures.entered.0 c.in_ok-enter.ensures.last
+    (rw (← c.len-last.ensures.len) c.in_ok-enter.ensures.put) c.enter.ensures.ordered
 
 pub unreachable-requires : goal.unreachable-requires
 unreachable-requires c = none_first c.args.k c.args.total c.args.index.now.entries c.args.buckets.now c.requires.linked (omega arith) c.in_default-first.ensures
 
 pub overflow_add-least : goal.overflow_add-least
 overflow_add-least c =
-    let le = first-le-total c.args.k c.args.total c.args.index.now.entries c.args.buckets.now c.in-Some-first.least c.in-Some-first.field-0-1.now c.requires.linked c.in-Some-first.ensures in
+    let le = first-le-total c.args.k c.args.total c.args.index.now.entries c.args.buckets.now c.in-Some-first.least c.in-Some-first.place c.requires.linked c.in-Some-first.ensures in
     omega (arith, le, c.requires.bounded)
 
 pub returns-clause-added : goal.returns-clause-added
 returns-clause-added c =
+    let y = c.in-Some-first.ensures.0 in
+    let fs = c.enter-2.new.index in
+    let gs = c.swap_remove_index.new.self in
     let distinct = c.enter-2.ensures.distinct c.requires.linked.distinct in
-    added_full c.args.k c.args.total c.args.index.now.entries c.enter-2.new.index.entries c.drop_first.new.index.entries c.args.buckets.now c.enter-2.new.buckets c.drop_first.new.buckets
-    c.args.key.now c.in-Some-first.field-0-1.now c.in-Some-drop_first.field-0.1 c.in-Some-first.least c.in-Some-drop_first.field-0.0 c.args.weight
-    c.requires.positive c.requires.bounded c.requires.linked (sym c.in_default.ensures.value) (omega arith) c.in-Some-first.ensures
-    distinct c.in_ok-enter-2.ensures.entered.0 c.in_ok-enter-2.ensures.put
-    c.in-Some-drop_first.ensures.first (c.drop_first.ensures.distinct distinct) c.in-Some-drop_first.ensures.dropped.0 c.in-Some-drop_first.ensures.taken c.drop_first.ensures.none_empty
+    added_full c.args.k c.args.total c.args.index.now.entries fs.entries gs.entries c.args.buckets.now c.enter-2.new.buckets c.drop_first.new.buckets
+    c.args.key.now y c.in-Some-first.place c.in-Some-first.least c.args.weight c.swap_remove_index.result
+    c.requires.positive c.requires.bounded c.requires.linked (sym c.in_default.ensures.value) (omega arith) c.in-Some-first.ensures.1
+    distinct c.in_ok-enter-2.ensures.entered.0 c.in_ok-enter-2.ensures.last c.in_ok-enter-2.ensures.put
+    c.swap_remove_index.ensures.unique c.swap_remove_index.ensures.entry
+    (λ e is. subst (λ o. IfSome o (λ (e : Entry). gs.entries ≡ swap_remove fs.entries c.in-Some-first.place e)) is c.swap_remove_index.ensures.entries)
+    (λ e is. (subst (λ o. IfSome o (λ (e : Entry). Updates same_key fs gs e.0 None)) is c.swap_remove_index.ensures.updates).0)
+    (c.drop_first.ensures.dropped c.in-Some-first.least y c.in-Some-first.place) c.drop_first.ensures.ordered

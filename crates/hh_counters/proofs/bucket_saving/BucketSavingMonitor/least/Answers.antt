@@ -6,7 +6,7 @@ pub returns-then-len-self : goal.returns-then-len-self
 returns-then-len-self c = rw (← c.self.view_is) (least_free c.self.inside.k c.self.inside.total c.self.inside.index.entries c.self.inside.buckets c.self.invariant (omega arith))
 
 pub returns-in-Some : goal.returns-in-Some
-returns-in-Some c = rw (← c.self.view_is) (first_is_least c.self.inside.k c.self.inside.total c.self.inside.index.entries c.self.inside.buckets c.in-Some.counter c.in-Some.field-0-1.now c.self.invariant (omega arith) c.in-Some.ensures)
+returns-in-Some c = rw (← c.self.view_is) (first_is_least c.self.inside.k c.self.inside.total c.self.inside.index.entries c.self.inside.buckets c.in-Some.counter c.in-Some.field-0-1 c.self.invariant (omega arith) c.in-Some.ensures)
 
 pub returns-in-None : goal.returns-in-None
 returns-in-None c = absurd (none_first c.self.inside.k c.self.inside.total c.self.inside.index.entries c.self.inside.buckets c.self.invariant (omega arith) c.in-None.ensures)
