@@ -25,9 +25,10 @@ CALLS = {
     "hh_stream": ["Key::new", "Key::copy", "Stream::push", "Cutting::even", "Cutting::by_lengths"],
     "hh_counters": [
         "Summary::add", "Summary::of_items", "Summary::merge", "Candidates::of",
-        "Candidates::contenders", "Candidates::select", "SpaceSaving::add", "SpaceSaving::into_summary", "BucketSaving::new", "BucketSaving::add",
-        "BucketSaving::add new bucket", "BucketSaving::add monitored", "BucketSaving::add monitored new bucket",
-        "BucketSaving::into_summary", "monitored_summary",
+        "Candidates::contenders", "Candidates::select", "SpaceSaving::add", "SpaceSaving::into_summary",
+        "BucketSaving::new", "BucketSaving::add", "BucketSaving::add new bucket",
+        "BucketSaving::add monitored", "BucketSaving::add monitored new bucket", "BucketSaving::into_summary",
+        "monitored_summary",
     ],
     "hh_countmin": ["Family::draw", "Family::from_parts", "Family::copy", "Table::new"],
     "hh_saved": ["write", "write table", "read", "read table"],
