@@ -1,7 +1,8 @@
 //! The unproved program that the measurements set beside `heavy` and `heavy_bench`: plain Rust over std.
 //!
 //! plain read|bucket_saving|table K < FILE prints nanoseconds for each item;
-//! plain report K WORKERS < FILE prints the heavy keys, in the shape of heavy's report.
+//! plain report K WORKERS < FILE prints the heavy keys, in the shape of heavy's report;
+//! plain group K < FILE prints them by a group-by, a hash map of all keys that keeps no record.
 
 use std::collections::HashMap;
 use std::io::{self, BufRead};
@@ -22,21 +23,46 @@ const ROWS: [(u64, u64); DEPTH] = [
     (1122334455667788990, 998877665544332211),
 ];
 
-/// The records of standard input: keys with weights, each key allocated.
-fn read() -> Vec<Item> {
+/// Hands over the records of standard input, keys with weights.
+fn for_each_record(mut take: impl FnMut(&[u8], u64)) {
     let mut reader = io::stdin().lock();
     let mut line = Vec::new();
-    let mut items = Vec::new();
     while reader.read_until(b'\n', &mut line).expect("input") > 0 {
         let text = line.strip_suffix(b"\n").unwrap_or(&line);
         let (key, weight) = match text.iter().position(|&byte| byte == b',') {
             Some(at) => (&text[..at], digits(&text[at + 1..])),
             None => (text, 1),
         };
-        items.push((key.into(), weight));
+        take(key, weight);
         line.clear();
     }
+}
+
+/// The records of standard input, each key allocated.
+fn read() -> Vec<Item> {
+    let mut items = Vec::new();
+    for_each_record(|key, weight| items.push((key.into(), weight)));
     items
+}
+
+/// The heavy keys by a hash map of all keys.
+fn group(k: usize) {
+    let mut total = 0u64;
+    let mut weights: HashMap<Box<[u8]>, u64> = HashMap::new();
+    for_each_record(|key, weight| {
+        total += weight;
+        match weights.get_mut(key) {
+            Some(sum) => *sum += weight,
+            None => {
+                weights.insert(key.into(), weight);
+            }
+        }
+    });
+    for (key, weight) in weights {
+        if u128::from(weight) * (k as u128 + 1) > u128::from(total) {
+            println!("{},{weight}", String::from_utf8_lossy(&key));
+        }
+    }
 }
 
 fn digits(text: &[u8]) -> u64 {
@@ -182,6 +208,9 @@ fn main() {
     let k: usize = words[2].parse().expect("k");
     if words[1] == "report" {
         return report(k, words[3].parse().expect("workers"));
+    }
+    if words[1] == "group" {
+        return group(k);
     }
     let mut start = Instant::now();
     let items = read();
