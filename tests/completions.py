@@ -1,7 +1,7 @@
 #!/usr/bin/env python3
 """Compares the man page and the completions of three shells with what the program's help names: the same commands, for
 each the same options in both spellings, the same ranges and defaults, the same version. The bash completion is driven
-by bash; the others are read. Then drifts are planted, and each has to be found.
+by bash, and that of fish by fish where it is here; the others are read. Then drifts are planted, and each has to be found.
 
 usage: tests/completions.py
 """
@@ -179,6 +179,24 @@ def try_shells(tally: programs.Tally) -> None:
         tally.check(f"{shell} reads {file}", (ended.returncode, ended.stderr) == (0, b""), ended.stderr)
 
 
+def try_fish(tally: programs.Tally, told: Told) -> None:
+    """What fish offers, where it is here."""
+    if not shutil.which("fish"):
+        return
+    script = f"source {programs.TOP / FISH}; complete -C $argv[1]"
+
+    def offered(line: str) -> set[str]:
+        ended = subprocess.run(["fish", "--no-config", "-c", script, line], capture_output=True, text=True, check=True)
+        return {row.split("\t")[0] for row in ended.stdout.splitlines()}
+
+    tally.check("fish: commands", offered("heavy ") == told.commands, offered("heavy "))
+    for name in told.commands:
+        line = f"heavy {name} -".replace(" help ", " ")
+        wanted = told.options["" if name == "help" else name]
+        tally.check(f"fish: {line}", offered(line) == wanted, offered(line))
+    tally.check("fish: methods", offered("heavy summarise --method ") == {"mg", "ss"})
+
+
 def main() -> None:
     tally = programs.Tally()
     told = told_by(programs.built("heavy_cli"))
@@ -194,6 +212,7 @@ def main() -> None:
         tally.check(f"a drift in {file}: {old!r}", drifted != texts[file] and CHECKS[file](drifted, told), "not found")
     try_formatter(tally)
     try_shells(tally)
+    try_fish(tally, told)
     tally.end("completions")
 
 

@@ -6,6 +6,7 @@ interrupted one leaves no process.
 usage: tests/install.py
 """
 import os
+import pty
 import shutil
 import signal
 import subprocess
@@ -171,6 +172,26 @@ def try_two(tally: programs.Tally, room: str) -> None:
     tally.check("both run one build", (out, copy.builds()) == (b"built: report\n", 1), (out, copy.builds()))
 
 
+def try_terminal(tally: programs.Tally, room: str) -> None:
+    """On a terminal one line tells how far the build is, and is written over."""
+    copy = Copy(room, "terminal")
+    terminal, side = pty.openpty()
+    started = copy.start(2, stderr=side)
+    os.close(side)
+    out = started.communicate(timeout=SOON)[0]
+    said = b""
+    try:
+        while part := os.read(terminal, 4096):
+            said += part
+    except OSError:
+        pass  # the other side is closed
+    os.close(terminal)
+    said = said.replace(b"\r\n", b"\n")
+    told = said.count(b"\r\x1b[Kheavy: proving hh_stream, crate 1 of 8, 3 of 37 functions checked, 0:0")
+    tally.check("a terminal's line is written over", out == b"built: report\n" and told > 1, said)
+    tally.check("nothing of it is left", said.count(b"\n") == 3 and b"\r\x1b[Kheavy: built in " in said, said)
+
+
 def try_install(tally: programs.Tally, room: str) -> None:
     """All files are where Debian has them, and the installed program answers."""
     programs.built("heavy_cli")
@@ -200,6 +221,7 @@ def main() -> None:
         try_failures(tally, room)
         try_interrupts(tally, room)
         try_two(tally, room)
+        try_terminal(tally, room)
         try_install(tally, room)
     tally.end("install")
 
