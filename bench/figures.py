@@ -118,17 +118,19 @@ def draw_costs(room: Path) -> None:
     draw("cost", figure, rows[0][0].get_legend_handles_labels()[0])
 
 
-def errors(path: Path, k: int, weights: dict[bytes, int]) -> tuple[int, int, float]:
+def errors(path: Path, k: int, weights: dict[bytes, int]) -> tuple[int, int, int]:
     """The bound for any stream of this total, the bound that the summary tells, and the greatest real error."""
+    words = [programs.heavy(), "summarise", "--k", str(k)]
     with open(path, "rb") as source:
-        ended = subprocess.run([programs.heavy(), "summarise", "--k", str(k)], stdin=source, capture_output=True, check=True)
-    summary = reference.read(ended.stdout)
+        saved = subprocess.run(words, stdin=source, capture_output=True, check=True).stdout
+    summary = reference.read(saved)
     bound = summary.slack()
     real = [weight - summary.counters.get(key, 0) for key, weight in weights.items()]
     if min(real) < 0 or max(real) > bound:
         raise SystemExit(f"k = {k}: an error of {min(real)} or {max(real)} beyond the bound {bound}")
-    print(f"{path.name} k {k:>6} bounds {summary.total // (k + 1):>9} {bound:>9} greatest error {max(real):>9}", flush=True)
-    return summary.total // (k + 1), bound, max(real)
+    found = summary.total // (k + 1), bound, max(real)
+    print(f"{path.name} k {k:>6}: bounds {found[0]} and {bound}, greatest error {max(real)}", flush=True)
+    return found
 
 
 def draw_errors(room: Path) -> None:

@@ -1,7 +1,8 @@
 #!/usr/bin/env python3
 """Compares the man page and the completions of three shells with what the program's help names: the same commands, for
 each the same options in both spellings, the same ranges and defaults, the same version. The bash completion is driven
-by bash, and that of fish by fish where it is here; the others are read. Then drifts are planted, and each has to be found.
+by bash, and that of fish by fish where it is here; the others are read. Then drifts are planted, and each has to be
+found.
 
 usage: tests/completions.py
 """
@@ -79,7 +80,8 @@ def man_faults(text: str, told: Told) -> list[str]:
     section = dict(re.findall(r"^\.SH (.*)\n((?:(?!\.SH ).*\n)*)", text, re.MULTILINE))
     synopsis = dict(re.findall(r"^\.B heavy (\w+)\n((?:(?!\.B heavy |\.br).*\n?)*)", section["SYNOPSIS"], re.MULTILINE))
     faults = differ("synopsis", set(synopsis), told.commands)
-    faults += differ("COMMANDS", set(re.findall(r"^\.B heavy (\w+)$", section["COMMANDS"], re.MULTILINE)), told.commands)
+    listed = set(re.findall(r"^\.B heavy (\w+)$", section["COMMANDS"], re.MULTILINE))
+    faults += differ("COMMANDS", listed, told.commands)
     for name, line in synopsis.items():
         named = set(re.findall(r"--[a-z]+", line))
         faults += differ(f"synopsis of {name}", named, told.options.get(name, set()) - {"-h", "--help"})
@@ -122,9 +124,11 @@ def zsh_faults(text: str, told: Told) -> list[str]:
     """By the text: the list of commands, and for each the options of its branch and of the lists that it names."""
     body = re.search(r"commands=\(\n(.*?)\n  \)", text, re.DOTALL)
     faults = differ("commands", set(re.findall(r"^ +'(\w+):", body[1], re.MULTILINE)) if body else set(), told.commands)
-    lists = {name: options_in(inside) for name, inside in re.findall(r"^  (\w+)=\((.*?)\)$", text, re.DOTALL | re.MULTILINE)}
+    named = re.findall(r"^  (\w+)=\((.*?)\)$", text, re.DOTALL | re.MULTILINE)
+    lists = {name: options_in(inside) for name, inside in named}
     first = re.search(r"CURRENT == 2.*?\n  fi", text, re.DOTALL)
-    branches = {"": first[0] if first else "", **dict(re.findall(r"^    (\w+)\)(.*?);;", text, re.DOTALL | re.MULTILINE))}
+    branches = dict(re.findall(r"^    (\w+)\)(.*?);;", text, re.DOTALL | re.MULTILINE))
+    branches[""] = first[0] if first else ""
     faults += differ("branches", set(branches), told.commands | {""})
     for name, branch in branches.items():
         named = options_in(branch).union(*(lists.get(word, set()) for word in re.findall(r"\$(\w+)", branch)))
@@ -142,13 +146,16 @@ def fish_faults(text: str, told: Told) -> list[str]:
     commands, options = set(), {name: set() for name in told.commands | {""}}
     for line in lines:
         commands |= set(re.findall(r"__fish_use_subcommand -a (\w+)", line))
-        named = {f"-{word}" for word in re.findall(r" -s (\w)", line)} | {f"--{word}" for word in re.findall(r" -l (\w+)", line)}
+        named = {f"-{letter}" for letter in re.findall(r" -s (\w)", line)}
+        named |= {f"--{word}" for word in re.findall(r" -l (\w+)", line)}
         seen = re.search(r"__fish_seen_subcommand_from ([\w ]+)'", line)
         of = seen[1].split() if seen else [""] if "__fish_use_subcommand" in line else [*told.commands - {"help"}, ""]
         for name in of:
             options.setdefault(name, set()).update(named)
     faults = differ("commands", commands, told.commands)
-    return faults + [fault for name in options for fault in differ(f"options of {name}", options[name], told.options.get(name))]
+    for name, named in options.items():
+        faults += differ(f"options of {name}", named, told.options.get(name))
+    return faults
 
 
 def differ(name: str, found: object, wanted: object) -> list[str]:
