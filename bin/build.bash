@@ -76,6 +76,7 @@ follow() {
 
 # Runs the build of these crates as a process group of its own, and gives its status.
 run_build() {
+  : > "$log"
   set -m
   (cd "$program" && exec rt run -- --help) > "$log" 2>&1 < /dev/null 9>&- &
   prover=$!
