@@ -27,8 +27,8 @@ crates_of_program() {
 # Whether a source of these crates is newer than what was built, or nothing was built.
 is_stale() {
   local folders=("${@/#/$top/crates/}")
-  [ ! -x "$built" ] || [ -n "$(find "$top/crates.txt" "${folders[@]}" -newer "$built" -type f \
-    \( -name '*.rt' -o -name '*.antt' -o -name crates.txt \) -not -path '*/out/*' -print -quit)" ]
+  [ ! -x "$built" ] || [ -n "$(find "$top/crates.txt" "${folders[@]}" -name out -prune -o -newer "$built" -type f \
+    \( -name '*.rt' -o -name '*.antt' -o -name crates.txt \) -print -quit)" ]
 }
 
 minutes_and_seconds() { printf '%d:%02d min' $(($1 / 60)) $(($1 % 60)); }
