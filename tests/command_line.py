@@ -19,7 +19,7 @@ MANY = b"".join(b"k%d,%d\n" % (i, i) for i in range(1, 151))
 SKEWED = b"big,600\nmiddle,50\n" + b"".join(b"s%d,2\n" % i for i in range(150))
 
 # in a command's help: an option with a number, its range and its default
-RANGE = re.compile(rb"(--[a-z]+) <[a-z]+>\n +.* from (\d+) to (\d+) \[default: (\d+)\]\n")
+RANGE = re.compile(rb"(--[a-z]+) <N>\n +.* from (\d+) to (\d+) \[default: (\d+)\]\n")
 
 # a check's name is its command line, cut to so many characters
 LONGEST_NAME = 120

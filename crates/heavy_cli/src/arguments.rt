@@ -13,6 +13,9 @@ const VERSION: &str = "1.0.0";
 /// The option that tells how far the input is read.
 pub const PROGRESS: &str = "progress";
 
+/// The place in help of an option that stands below those of the command's own.
+const LAST: usize = 100;
+
 /// What the help of a command with words says of words that look like options.
 const DASHES: &str = "A word that begins with - is given after --";
 
@@ -66,6 +69,7 @@ impl Number {
     {
         Arg::new(alloc, self.name)
             .long(self.name)
+            .value_name("N")
             .help(self.help)
             .value_parser(value_parser!(u64))
     }
@@ -93,6 +97,7 @@ fn reader<'a>(alloc: Global, name: &'a str, help: Help) -> Result<Command<'a>, A
     let progress = Arg::new(alloc, PROGRESS)
         .long(PROGRESS)
         .action(ArgAction::SetTrue)
+        .display_order(LAST)
         .help("Tell on standard error how far standard input is read, about once a second");
     described(alloc, name, help).arg(progress)
 }
@@ -123,7 +128,7 @@ fn with_workers<'a>(alloc: Global, command: Command<'a>) -> Result<Command<'a>, 
     ensures { (fields_of command.entry).has_globals ≡ false
         → IfOk result (λ c. (fields_of c).has_globals ≡ false) }
 {
-    let tree = Arg::new(alloc, "tree").long("tree").help(
+    let tree = Arg::new(alloc, "tree").long("tree").value_name("TREE").help(
         "How to merge the pieces: balanced, chain or as in ((0 1) 2) [default: balanced]",
     );
     command
@@ -140,8 +145,10 @@ fn with_share<'a>(alloc: Global, command: Command<'a>) -> Result<Command<'a>, Al
     let threshold = Arg::new(alloc, "threshold")
         .long("threshold")
         .value_name("P/Q")
-        .help(
-            "Keys above this share are heavy: 1/100, keys with more than a hundredth of the total [default: 1/(k+1)]",
+        .help("Keys above this share of the total are heavy, as 1/50 [default: 1/(k+1)]")
+        .long_help(
+            "Keys above this share of the total weight are heavy, from 1/(k+1) to 1/1,
+with P and Q up to 4294967296 [default: 1/(k+1)]",
         );
     command.arg(K.argument(alloc))?.arg(threshold)
 }
@@ -158,9 +165,10 @@ fn report_command<'a>(alloc: Global) -> Result<Command<'a>, AllocError>
 fn summarise_command<'a>(alloc: Global) -> Result<Command<'a>, AllocError>
     ensures { IfOk result (λ c. (fields_of c).has_globals ≡ false) }
 {
-    let method = Arg::new(alloc, "method").long("method").help(
-        "How: mg (Misra-Gries) or ss (Space-Saving), with the same result [default: mg]",
-    );
+    let method = Arg::new(alloc, "method")
+        .long("method")
+        .value_name("METHOD")
+        .help("How: mg (Misra-Gries) or ss (Space-Saving), with the same result [default: mg]");
     reader(alloc, "summarise", SUMMARISE)?
         .arg(K.argument(alloc))?
         .arg(method)
