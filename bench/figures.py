@@ -1,9 +1,9 @@
 #!/usr/bin/env python3
-"""Draws the figures of docs/figures from runs that it makes: time and memory by the number of records, and the error of
-estimates by k beside the proved bound. Needs matplotlib (Debian: python3-matplotlib, with /usr/bin/python3); the time
-and memory also want rustc and mawk (or awk), and a machine that does nothing else.
+"""Draws the figures of docs/figures from runs that it makes: time or peak memory by the number of records, and the
+error of estimates by k beside the proved bound. Needs matplotlib (Debian: python3-matplotlib, with /usr/bin/python3);
+time and memory also want rustc and mawk (or awk), and time a machine that does nothing else.
 
-usage: bench/figures.py cost|error
+usage: bench/figures.py time|memory|error
 """
 import os
 import shutil
@@ -26,7 +26,7 @@ sys.path.insert(0, str(programs.TOP / "tests"))
 import reference
 
 FIGURES = programs.TOP / "docs" / "figures"
-COUNTS = [10_000, 100_000, 1_000_000, 10_000_000]
+COUNTS = [100_000, 300_000, 1_000_000, 3_000_000, 10_000_000]
 KS = [10, 30, 100, 300, 1_000, 3_000, 10_000, 30_000, 65_535]
 RECORDS = 1_000_000
 RUNS = 3
@@ -59,7 +59,7 @@ def two_passes(summary: list[str], confirm: list[str], path: Path, saved: Path) 
     return sum(run[0] for run in runs), max(run[1] for run in runs)
 
 
-def costs(room: Path, shape: str, plain: str, awk: str) -> dict[str, list[tuple[float, float]]]:
+def costs(room: Path, shape: str, plain: str, awk: str, runs: int) -> dict[str, list[tuple[float, float]]]:
     """For each program the medians of time and memory, by the number of records."""
     heavy, saved = programs.heavy(), room / "saved"
     found: dict[str, list[tuple[float, float]]] = {}
@@ -73,9 +73,12 @@ def costs(room: Path, shape: str, plain: str, awk: str) -> dict[str, list[tuple[
             "mawk, group-by": lambda: measured([awk, "-F,", GROUP_BY], path),
             "plain Rust, group-by": lambda: measured([plain, "group", "100"], path),
         }
-        runs = {name: [way() for _ in range(RUNS)] for name, way in ways.items()}
-        for name, all in runs.items():
-            medians = tuple(statistics.median(run[i] for run in all) for i in range(2))
+        all: dict[str, list[tuple[float, float]]] = {name: [] for name in ways}
+        for _ in range(runs):
+            for name, way in ways.items():
+                all[name].append(way())
+        for name, made in all.items():
+            medians = tuple(statistics.median(run[i] for run in made) for i in range(2))
             found.setdefault(name, []).append(medians)
             print(f"{shape} {count:>9} {name:30} {medians[0]:8.3f} s {medians[1]:8.1f} MB", flush=True)
         path.unlink()
@@ -99,23 +102,30 @@ def draw(name: str, figure, handles: list) -> None:
     print(FIGURES / f"{name}.svg")
 
 
-def draw_costs(room: Path) -> None:
-    """Time and memory by the number of records."""
-    if os.getloadavg()[0] > MOST_LOAD:
-        raise SystemExit(f"the load is {os.getloadavg()[0]}: times of a busy machine say nothing")
+def draw_costs(room: Path, name: str, which: int, up: str, runs: int) -> None:
+    """Time or memory, the first or second number of a run, by the number of records."""
     plain, awk = programs.plain(room), shutil.which("mawk") or shutil.which("awk")
     if not plain or not awk:
         raise SystemExit("rustc and mawk are wanted")
-    figure, rows = plt.subplots(2, 2, figsize=(9, 7.5))
-    for column, (shape, title) in enumerate(SHAPES.items()):
-        for (name, medians), (colour, mark, dash) in zip(costs(room, shape, plain, awk).items(), STYLES):
-            for row in range(2):
-                values = [median[row] for median in medians]
-                rows[row][column].plot(COUNTS, values, color=colour, marker=mark, linestyle=dash, label=name)
-        panel(rows[0][column], title, "records", "seconds")
-        panel(rows[1][column], title, "records", "peak memory in MB")
-    figure.tight_layout(rect=(0, 0.08, 1, 1))
-    draw("cost", figure, rows[0][0].get_legend_handles_labels()[0])
+    figure, panels = plt.subplots(1, 2, figsize=(9, 4.6), sharey=True)
+    for axes, (shape, title) in zip(panels, SHAPES.items()):
+        found = costs(room, shape, plain, awk, runs)
+        for (label, medians), (colour, mark, dash) in zip(found.items(), STYLES):
+            values = [median[which] for median in medians]
+            axes.plot(COUNTS, values, color=colour, marker=mark, linestyle=dash, label=label)
+        panel(axes, title, "records", up)
+    figure.tight_layout(rect=(0, 0.12, 1, 1))
+    draw(name, figure, panels[0].get_legend_handles_labels()[0])
+
+
+def draw_times(room: Path) -> None:
+    if os.getloadavg()[0] > MOST_LOAD:
+        raise SystemExit(f"the load is {os.getloadavg()[0]}: times of a busy machine say nothing")
+    draw_costs(room, "time", 0, "seconds", RUNS)
+
+
+def draw_memory(room: Path) -> None:
+    draw_costs(room, "memory", 1, "peak memory in MB", 1)
 
 
 def errors(path: Path, k: int, weights: dict[bytes, int]) -> tuple[int, int, int]:
@@ -155,7 +165,7 @@ def draw_errors(room: Path) -> None:
 
 def main() -> None:
     with tempfile.TemporaryDirectory() as folder:
-        {"cost": draw_costs, "error": draw_errors}[sys.argv[1]](Path(folder))
+        {"time": draw_times, "memory": draw_memory, "error": draw_errors}[sys.argv[1]](Path(folder))
 
 
 main()
