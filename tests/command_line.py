@@ -5,6 +5,7 @@ status, and words that are no text.
 usage: tests/command_line.py
 """
 import os
+import re
 import tempfile
 from pathlib import Path
 
@@ -16,6 +17,9 @@ RECORDS = b"a,5\nb,3\nc,2\na,1\n"
 MANY = b"".join(b"k%d,%d\n" % (i, i) for i in range(1, 151))
 # two keys above a hundred-and-first part of the total, one of them above a third
 SKEWED = b"big,600\nmiddle,50\n" + b"".join(b"s%d,2\n" % i for i in range(150))
+
+# in a command's help: an option with a number, its range and its default
+RANGE = re.compile(rb"(--[a-z]+) <N>\n +.* from (\d+) to (\d+) \[default: (\d+)\]\n")
 
 # a check's name is its command line, cut to so many characters
 LONGEST_NAME = 120
@@ -200,6 +204,32 @@ def try_usage(line: Line) -> None:
         line.tally.check(f"help: {words}", (status, err) == (0, b"") and b"Usage: heavy" in out, (status, err))
 
 
+def try_help(line: Line) -> None:
+    """What help tells: statuses and an example everywhere, ranges and defaults as they are, and the version."""
+    for words in ([], ["report"], ["summarise"], ["table"], ["merge"], ["ask"], ["confirm"]):
+        out = line.run([*words, "--help"])[1]
+        tells = all(text in out for text in (b"Exit status: 0 ", b"\nExample:\n    $ "))
+        tells = tells and all(b"%d " % status in out.split(b"Exit status:")[1] for status in range(5))
+        line.tally.check(f"{words} --help tells statuses and an example", tells, out)
+        line.tally.check(f"{words} -h is shorter", len(line.run([*words, "-h"])[1]) < len(out))
+    for words in (["--version"], ["-V"]):
+        status, out, err = line.run(words)
+        said = (status, err) == (0, b"") and re.fullmatch(rb"heavy \d+\.\d+\.\d+\n", out)
+        line.tally.check(f"{words}", said, (status, out, err))
+    for command, count in (("report", 6), ("summarise", 1), ("table", 3)):
+        ranges = RANGE.findall(line.run([command, "--help"])[1])
+        line.tally.check(f"{command} --help has ranges", len(ranges) == count, ranges)
+        plain = line.run([command])
+        for option, *numbers in ranges:
+            least, most, default = map(int, numbers)
+            taken = [line.run([command, option, str(number)])[0] for number in (least, most)]
+            refused = [line.run([command, option, str(number)])[0] for number in (least - 1, most + 1)]
+            line.tally.check(f"{command} {option} is taken in its range", taken == [0, 0], taken)
+            line.tally.check(f"{command} {option} is refused beyond it", refused == [2, 2], refused)
+            same = line.run([command, option, str(default)]) == plain
+            line.tally.check(f"{command} {option} has the default that help tells", same and plain[0] == 0, plain)
+
+
 def main() -> None:
     with tempfile.TemporaryDirectory() as room:
         line = Line(room)
@@ -210,6 +240,7 @@ def main() -> None:
         try_trees(line)
         try_files(line)
         try_usage(line)
+        try_help(line)
         line.tally.end("command line")
 
 

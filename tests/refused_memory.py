@@ -66,6 +66,8 @@ LENT = {
 RECORDS = b"a,5\nb,3\nc,2\na,1\n"
 LONG_RECORDS = RECORDS.replace(b"a", b"a" * 40).replace(b"b", b"b" * 40).replace(b"c", b"c" * 40)
 OUT_OF_MEMORY = b"heavy: out of memory\n"
+# what --progress tells of few records, where their end was read
+PROGRESS = b"heavy: 0.0 MB read, 0.0 MB/s\n"
 
 
 class Refusing:
@@ -121,8 +123,10 @@ def is_lawful_call(name: str, ample: programs.Ended, ended: programs.Ended) -> b
 
 
 def is_lawful_run(ample: programs.Ended, ended: programs.Ended) -> bool:
-    """The ample answer, or status 4 with its line and nothing on standard output."""
-    return same(ample, ended) or (ended.status, ended.out, ended.err) == (4, b"", OUT_OF_MEMORY)
+    """The ample answer, or status 4 with its line and nothing on standard output. Where the ample run tells progress,
+    one without memory may have told it before."""
+    memory = [OUT_OF_MEMORY] + [PROGRESS + OUT_OF_MEMORY] * (ample.err == PROGRESS)
+    return same(ample, ended) or (ended.status, ended.out) == (4, b"") and ended.err in memory
 
 
 def try_calls(refusing: Refusing, program: str) -> int:
@@ -188,6 +192,8 @@ def try_commands(refusing: Refusing, program: str, room: str) -> int:
         (["summarise", "--k", "2", "--method", "ss"], LONG_RECORDS),
         (["summarise", "--method", "no"], RECORDS),
         (["table", "--depth", "2", "--width", "4"], LONG_RECORDS),
+        (["report", "--k", "2", "--progress"], RECORDS),
+        (["summarise", "--k", "2", "--progress"], RECORDS),
         (["merge", saved, saved], b""),
         (["merge", table, table], b""),
         (["merge", saved, table], b""),
@@ -195,6 +201,7 @@ def try_commands(refusing: Refusing, program: str, room: str) -> int:
         (["ask", saved, "a", "z" * 40], b""),
         (["confirm", saved], RECORDS),
         (["--help"], b""),
+        (["--version"], b""),
         (["report", "--help"], b""),
         (["report", "--nothing"], b""),
         (["ask", saved], b""),

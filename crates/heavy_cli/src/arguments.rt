@@ -3,8 +3,18 @@
 ghost use Rattle.std.specs.Prelude.{◌≡◌, false, true, IfOk};
 ghost use Rattle.clap.specs.declared.builder.command.Command.TheViews.{out-Command as fields_of};
 
+use crate::help::{ASK, CONFIRM, Help, MERGE, PROGRAM, REPORT, SUMMARISE, TABLE};
 use clap::{Arg, ArgAction, ArgMatches, Command, value_parser};
 use std::alloc::{AllocError, Global};
+
+/// The program's version.
+const VERSION: &str = "1.0.0";
+
+/// The option that tells how far the input is read.
+pub const PROGRESS: &str = "progress";
+
+/// The place in help of an option that stands below those of the command's own.
+const LAST: usize = 100;
 
 /// What the help of a command with words says of words that look like options.
 const DASHES: &str = "A word that begins with - is given after --";
@@ -19,37 +29,37 @@ pub struct Number {
 
 pub const K: Number = Number {
     name: "k",
-    help: "Keys above 1/(k+1) of the total weight are heavy [default: 100]",
+    help: "Keys above 1/(k+1) of the total weight are heavy, k from 1 to 65535 [default: 100]",
     default: 100,
 };
 
 pub const WORKERS: Number = Number {
     name: "workers",
-    help: "Threads that work at once [default: 4]",
+    help: "Threads that work at once, from 1 to 64 [default: 4]",
     default: 4,
 };
 
 pub const PIECES: Number = Number {
     name: "pieces",
-    help: "Pieces that the records are cut into [default: 4]",
+    help: "Pieces that the records are cut into, from 1 to 1024 [default: 4]",
     default: 4,
 };
 
 pub const WIDTH: Number = Number {
     name: "width",
-    help: "Width of the Count-Min table [default: 1024]",
+    help: "Width of the Count-Min table, from 1 to 65536 [default: 1024]",
     default: 1024,
 };
 
 pub const DEPTH: Number = Number {
     name: "depth",
-    help: "Depth of the Count-Min table [default: 4]",
+    help: "Depth of the Count-Min table, from 1 to 16 [default: 4]",
     default: 4,
 };
 
 pub const SEED: Number = Number {
     name: "seed",
-    help: "Seed of the table's hash family [default: 0]",
+    help: "Seed of the table's hash family, from 0 to 18446744073709551615 [default: 0]",
     default: 0,
 };
 
@@ -59,6 +69,7 @@ impl Number {
     {
         Arg::new(alloc, self.name)
             .long(self.name)
+            .value_name("N")
             .help(self.help)
             .value_parser(value_parser!(u64))
     }
@@ -67,6 +78,28 @@ impl Number {
     pub fn of(self, found: &ArgMatches) -> u64 {
         found.get_one(self.name).unwrap_or(self.default)
     }
+}
+
+/// The command with this name and help.
+fn described<'a>(alloc: Global, name: &'a str, help: Help) -> Command<'a>
+    ensures { (fields_of result).has_globals ≡ false }
+{
+    Command::new(alloc, name)
+        .about(help.about)
+        .long_about(help.whole)
+        .after_long_help(help.end)
+}
+
+/// The command with this name and help, which reads records and can tell how far it is.
+fn reader<'a>(alloc: Global, name: &'a str, help: Help) -> Result<Command<'a>, AllocError>
+    ensures { IfOk result (λ c. (fields_of c).has_globals ≡ false) }
+{
+    let progress = Arg::new(alloc, PROGRESS)
+        .long(PROGRESS)
+        .action(ArgAction::SetTrue)
+        .display_order(LAST)
+        .help("Tell on standard error how far standard input is read, about once a second");
+    described(alloc, name, help).arg(progress)
 }
 
 /// A word that has to be given.
@@ -95,7 +128,7 @@ fn with_workers<'a>(alloc: Global, command: Command<'a>) -> Result<Command<'a>, 
     ensures { (fields_of command.entry).has_globals ≡ false
         → IfOk result (λ c. (fields_of c).has_globals ≡ false) }
 {
-    let tree = Arg::new(alloc, "tree").long("tree").help(
+    let tree = Arg::new(alloc, "tree").long("tree").value_name("TREE").help(
         "How to merge the pieces: balanced, chain or as in ((0 1) 2) [default: balanced]",
     );
     command
@@ -104,20 +137,27 @@ fn with_workers<'a>(alloc: Global, command: Command<'a>) -> Result<Command<'a>, 
         .arg(tree)
 }
 
-/// The command that prints a report.
-fn report_command<'a>(alloc: Global) -> Result<Command<'a>, AllocError>
-    ensures { IfOk result (λ c. (fields_of c).has_globals ≡ false) }
+/// The same command, with the options that say which keys are heavy.
+fn with_share<'a>(alloc: Global, command: Command<'a>) -> Result<Command<'a>, AllocError>
+    ensures { (fields_of command.entry).has_globals ≡ false
+        → IfOk result (λ c. (fields_of c).has_globals ≡ false) }
 {
     let threshold = Arg::new(alloc, "threshold")
         .long("threshold")
         .value_name("P/Q")
-        .help(
-            "Keys above this share are heavy: 1/100, keys with more than a hundredth of the total [default: 1/(k+1)]",
+        .help("Keys above this share of the total are heavy, as 1/50 [default: 1/(k+1)]")
+        .long_help(
+            "Keys above this share of the total weight are heavy, from 1/(k+1) to 1/1,
+with P and Q up to 4294967296 [default: 1/(k+1)]",
         );
-    let command = Command::new(alloc, "report")
-        .about("Print the heavy keys of the records on standard input, with their weights")
-        .arg(K.argument(alloc))?
-        .arg(threshold)?;
+    command.arg(K.argument(alloc))?.arg(threshold)
+}
+
+/// The command that prints a report.
+fn report_command<'a>(alloc: Global) -> Result<Command<'a>, AllocError>
+    ensures { IfOk result (λ c. (fields_of c).has_globals ≡ false) }
+{
+    let command = with_share(alloc, reader(alloc, "report", REPORT)?)?;
     with_table(alloc, with_workers(alloc, command)?)
 }
 
@@ -125,11 +165,11 @@ fn report_command<'a>(alloc: Global) -> Result<Command<'a>, AllocError>
 fn summarise_command<'a>(alloc: Global) -> Result<Command<'a>, AllocError>
     ensures { IfOk result (λ c. (fields_of c).has_globals ≡ false) }
 {
-    let method = Arg::new(alloc, "method").long("method").help(
-        "How: mg (Misra-Gries) or ss (Space-Saving), with the same result [default: mg]",
-    );
-    Command::new(alloc, "summarise")
-        .about("Write a summary of the records on standard input to standard output")
+    let method = Arg::new(alloc, "method")
+        .long("method")
+        .value_name("METHOD")
+        .help("How: mg (Misra-Gries) or ss (Space-Saving), with the same result [default: mg]");
+    reader(alloc, "summarise", SUMMARISE)?
         .arg(K.argument(alloc))?
         .arg(method)
 }
@@ -137,10 +177,7 @@ fn summarise_command<'a>(alloc: Global) -> Result<Command<'a>, AllocError>
 fn table_command<'a>(alloc: Global) -> Result<Command<'a>, AllocError>
     ensures { IfOk result (λ c. (fields_of c).has_globals ≡ false) }
 {
-    let command = Command::new(alloc, "table").about(
-        "Write a Count-Min table of the records on standard input to standard output",
-    );
-    with_table(alloc, command)
+    with_table(alloc, reader(alloc, "table", TABLE)?)
 }
 
 /// The commands on saved files.
@@ -148,8 +185,7 @@ fn merge_command<'a>(alloc: Global) -> Result<Command<'a>, AllocError>
     ensures { IfOk result (λ c. (fields_of c).has_globals ≡ false) }
 {
     let files = word(alloc, "FILE", "A saved file").action(ArgAction::Append);
-    Command::new(alloc, "merge")
-        .about("Merge saved files, and write the result to standard output")
+    described(alloc, "merge", MERGE)
         .after_help(DASHES)
         .arg(files.num_args(1..))
 }
@@ -158,8 +194,7 @@ fn ask_command<'a>(alloc: Global) -> Result<Command<'a>, AllocError>
     ensures { IfOk result (λ c. (fields_of c).has_globals ≡ false) }
 {
     let keys = word(alloc, "KEY", "A key").action(ArgAction::Append);
-    Command::new(alloc, "ask")
-        .about("Print what a saved file says of keys: key,low,high")
+    described(alloc, "ask", ASK)
         .after_help(DASHES)
         .arg(word(alloc, "FILE", "A saved file"))?
         .arg(keys.num_args(1..))
@@ -168,8 +203,7 @@ fn ask_command<'a>(alloc: Global) -> Result<Command<'a>, AllocError>
 fn confirm_command<'a>(alloc: Global) -> Result<Command<'a>, AllocError>
     ensures { IfOk result (λ c. (fields_of c).has_globals ≡ false) }
 {
-    Command::new(alloc, "confirm")
-        .about("Print the heavy keys of a saved summary in the records on standard input")
+    reader(alloc, "confirm", CONFIRM)?
         .after_help(DASHES)
         .arg(word(alloc, "FILE", "A saved summary"))
 }
@@ -179,9 +213,9 @@ pub fn command<'a>(alloc: Global) -> Result<Command<'a>, AllocError>
     ensures globals { IfOk result (λ c. (fields_of c).has_globals ≡ false) }
     ensures required { IfOk result (λ c. (fields_of c).subcommand_required ≡ true) }
 {
-    let all = Command::new(alloc, "heavy")
+    let all = described(alloc, "heavy", PROGRAM)
         .bin_name("heavy")?
-        .about("Finds the frequent keys of large weighted streams")
+        .version(VERSION)
         .subcommand(report_command(alloc)?)?
         .subcommand(summarise_command(alloc)?)?
         .subcommand(table_command(alloc)?)?

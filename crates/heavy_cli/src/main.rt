@@ -3,6 +3,8 @@
 
 mod arguments;
 mod files;
+mod help;
+mod progress;
 mod request;
 #[cfg(test)]
 mod tests;
@@ -13,31 +15,32 @@ use heavy::{
     Method, Out, ToolError, ask_bytes, confirm_bytes, merge_bytes, put, run_report, summary_bytes,
     table_bytes,
 };
+use progress::Metered;
 use request::{NoRequest, Question, Request, read_request};
+use std::io::Stdin;
 use std::process::ExitCode;
 
 /// The exit status of the command line's own faults.
 const USAGE: u8 = 2;
 
+/// Standard input.
+type Input<'a> = Metered<'a, Stdin>;
+
 /// The bytes that a question is answered by.
-fn answer(rt: &HostRuntime, question: Question) -> Result<Vec<u8>, ToolError> {
+fn answer(rt: &HostRuntime, question: Question, input: Input<'_>) -> Result<Vec<u8>, ToolError> {
     let alloc = rt.alloc();
     match question {
-        Question::Summarise { k, method } => {
-            summary_bytes(alloc, k, Method::of(&method)?, rt.stdin())
-        }
-        Question::Table { width, depth, seed } => {
-            table_bytes(alloc, width, depth, seed, rt.stdin())
-        }
+        Question::Summarise { k, method } => summary_bytes(alloc, k, Method::of(&method)?, input),
+        Question::Table { width, depth, seed } => table_bytes(alloc, width, depth, seed, input),
         Question::Merge { first, others } => merge_bytes(alloc, &read_files(rt, &first, &others)?),
         Question::Ask { file, keys } => ask_bytes(alloc, &read_file(rt, 1, &file)?, &keys),
-        Question::Confirm { file } => confirm_bytes(alloc, &read_file(rt, 1, &file)?, rt.stdin()),
+        Question::Confirm { file } => confirm_bytes(alloc, &read_file(rt, 1, &file)?, input),
     }
 }
 
 /// Writes the bytes that a question is answered by.
-fn write_answer(rt: &HostRuntime, question: Question) -> Result<(), ToolError> {
-    let bytes = answer(rt, question)?;
+fn write_answer(rt: &HostRuntime, question: Question, input: Input<'_>) -> Result<(), ToolError> {
+    let bytes = answer(rt, question, input)?;
     put(&mut Out::new(rt.stdout()), &bytes).map_err(|fault| ToolError::WriteFault {
         written: fault.written,
     })
@@ -62,11 +65,16 @@ fn status_told(rt: &HostRuntime, error: clap::Error) -> ExitCode {
 
 fn main(rt: HostRuntime) -> ExitCode {
     let outcome = match read_request(&rt) {
-        Ok(Request::Report(options)) => {
-            let mut out = Out::new(rt.stdout());
-            run_report(&rt, rt.alloc(), &options, rt.stdin(), &mut out)
+        Ok(asked) => {
+            let input = Metered::new(&rt, rt.stdin(), asked.tells_progress);
+            match asked.request {
+                Request::Report(options) => {
+                    let mut out = Out::new(rt.stdout());
+                    run_report(&rt, rt.alloc(), &options, input, &mut out)
+                }
+                Request::Answer(question) => write_answer(&rt, question, input),
+            }
         }
-        Ok(Request::Answer(question)) => write_answer(&rt, question),
         Err(NoRequest::Told(error)) => return status_told(&rt, error),
         Err(NoRequest::Memory) => Err(ToolError::Memory),
     };

@@ -1,11 +1,19 @@
 //! What a command line asks for.
 
-use crate::arguments::{DEPTH, K, PIECES, SEED, WIDTH, WORKERS, command};
+use crate::arguments::{DEPTH, K, PIECES, PROGRESS, SEED, WIDTH, WORKERS, command};
 use crate::words::{bytes_of, read_words};
 use clap::error::ErrorKind;
 use clap::{ArgMatches, Error};
 use heavy::{ReportOptions, Share, Tree};
 use std::alloc::{AllocError, Global};
+
+/// What a command line asks for, and how.
+#[derive(Drop)]
+pub struct Invocation {
+    pub request: Request,
+    /// Whether it is told how far standard input is read.
+    pub tells_progress: bool,
+}
 
 /// What a command line asks for.
 #[derive(Drop)]
@@ -162,7 +170,7 @@ fn request_of(alloc: Global, name: &str, found: &ArgMatches) -> Result<Request, 
 }
 
 /// What these words ask for, the first of which is the program's name.
-pub fn request_in(alloc: Global, words: &[String]) -> Result<Request, NoRequest> {
+pub fn request_in(alloc: Global, words: &[String]) -> Result<Invocation, NoRequest> {
     let command = command(alloc)?;
     let matches = match command.try_get_matches_from(words) {
         Ok(matches) => matches,
@@ -174,11 +182,14 @@ pub fn request_in(alloc: Global, words: &[String]) -> Result<Request, NoRequest>
     let Some((name, found)) = matches.subcommand() else {
         unreachable!("a command is required");
     };
-    Ok(request_of(alloc, name, found)?)
+    Ok(Invocation {
+        request: request_of(alloc, name, found)?,
+        tells_progress: found.get_flag(PROGRESS),
+    })
 }
 
 /// What the command line asks for.
-pub fn read_request(rt: &HostRuntime) -> Result<Request, NoRequest> {
+pub fn read_request(rt: &HostRuntime) -> Result<Invocation, NoRequest> {
     let words = read_words(rt, rt.alloc())?;
     request_in(rt.alloc(), words.as_slice())
 }

@@ -1,6 +1,6 @@
 //! What no clause says of the command line: what its words ask for, and words that are not text.
 
-use crate::request::{NoRequest, Question, Request, request_in};
+use crate::request::{Invocation, NoRequest, Question, Request, request_in};
 use crate::words::{bytes_of, text_of};
 use clap::error::ErrorKind;
 use heavy::{ReportOptions, Share, Tree};
@@ -31,7 +31,7 @@ fn text_stays_as_it_is(rt: HostRuntime) -> Result<(), Fail> {
 }
 
 /// What the words of a line ask for, which `|` parts.
-fn request(alloc: Global, line: &str) -> Result<Result<Request, NoRequest>, Fail> {
+fn request(alloc: Global, line: &str) -> Result<Result<Invocation, NoRequest>, Fail> {
     let mut words = Vec::new(alloc);
     for word in line.split('|') {
         words.push(String::from_str(alloc, word)?)?;
@@ -102,11 +102,34 @@ fn question_told(alloc: Global, question: &Question) -> Result<String, Fail> {
 }
 
 fn told(alloc: Global, line: &str) -> Result<String, Fail> {
-    match request(alloc, line)? {
-        Ok(Request::Report(options)) => report_told(alloc, &options),
-        Ok(Request::Answer(question)) => question_told(alloc, &question),
-        Err(_) => Err(Fail::new("the line asks for nothing")),
+    let Ok(asked) = request(alloc, line)? else {
+        return Err(Fail::new("the line asks for nothing"));
+    };
+    match asked.request {
+        Request::Report(options) => report_told(alloc, &options),
+        Request::Answer(question) => question_told(alloc, &question),
     }
+}
+
+#[test]
+fn progress_is_told_where_it_is_asked_for(rt: HostRuntime) -> Result<(), Fail> {
+    for (line, expected) in [
+        ("heavy|report", false),
+        ("heavy|report|--progress|--k|7", true),
+        ("heavy|summarise|--k|7", false),
+        ("heavy|summarise|--progress", true),
+        ("heavy|table|--progress", true),
+        ("heavy|confirm|file", false),
+        ("heavy|confirm|file|--progress", true),
+        ("heavy|confirm|--|--progress", false),
+        ("heavy|ask|--|file|--progress", false),
+    ] {
+        let Ok(asked) = request(rt.alloc(), line)? else {
+            return Err(Fail::new("the line asks for nothing"));
+        };
+        assert_eq!(rt; asked.tells_progress, expected);
+    }
+    Ok(())
 }
 
 #[test]
@@ -209,6 +232,10 @@ fn lines_are_refused_or_ask_for_help(rt: HostRuntime) -> Result<(), Fail> {
         ("heavy|ask|file", ErrorKind::MissingRequiredArgument, 2),
         ("heavy|confirm", ErrorKind::MissingRequiredArgument, 2),
         ("heavy|confirm|one|two", ErrorKind::UnknownArgument, 2),
+        ("heavy|merge|--progress|one", ErrorKind::UnknownArgument, 2),
+        ("heavy|ask|--progress|one|a", ErrorKind::UnknownArgument, 2),
+        ("heavy|--version", ErrorKind::DisplayVersion, 0),
+        ("heavy|-V", ErrorKind::DisplayVersion, 0),
         ("heavy|--help", ErrorKind::DisplayHelp, 0),
         ("heavy|help", ErrorKind::DisplayHelp, 0),
         ("heavy|table|--help", ErrorKind::DisplayHelp, 0),

@@ -1,0 +1,30 @@
+# bash completion of heavy; installed as share/bash-completion/completions/heavy
+_heavy() {
+  local cur=${COMP_WORDS[COMP_CWORD]} prev=${COMP_WORDS[COMP_CWORD-1]} options=
+  local commands='report summarise table merge ask confirm help'
+  COMPREPLY=()
+  if ((COMP_CWORD == 1)); then
+    mapfile -t COMPREPLY < <(compgen -W "$commands -h --help -V --version" -- "$cur")
+    return
+  fi
+  case $prev in
+    --method) mapfile -t COMPREPLY < <(compgen -W 'mg ss' -- "$cur"); return ;;
+    --tree) mapfile -t COMPREPLY < <(compgen -W 'balanced chain' -- "$cur"); return ;;
+    --k | --threshold | --workers | --pieces | --width | --depth | --seed) return ;;
+  esac
+  case ${COMP_WORDS[1]} in
+    report) options='--k --threshold --workers --pieces --tree --width --depth --seed --progress' ;;
+    summarise) options='--k --method --progress' ;;
+    table) options='--width --depth --seed --progress' ;;
+    confirm) options='--progress' ;;
+    help) mapfile -t COMPREPLY < <(compgen -W "$commands" -- "$cur"); return ;;
+  esac
+  case $cur in
+    -*) mapfile -t COMPREPLY < <(compgen -W "$options -h --help" -- "$cur") ;;
+    *)
+      compopt -o filenames 2> /dev/null
+      mapfile -t COMPREPLY < <(compgen -f -- "$cur")
+      ;;
+  esac
+}
+complete -F _heavy heavy

@@ -1,0 +1,127 @@
+//! What help says of the program and of its commands. In an example, lines that begin with `$` are
+//! what a reader types, and the lines below one are what it prints: `tests/examples.py` runs them.
+
+/// What help says of a command.
+#[derive(Clone, Copy)]
+pub struct Help {
+    /// What it does, in one line.
+    pub about: &'static str,
+    /// What goes in and what comes out.
+    pub whole: &'static str,
+    /// The exit statuses and an example.
+    pub end: &'static str,
+}
+
+pub const PROGRAM: Help = Help {
+    about: "Finds the frequent keys of large weighted streams",
+    whole: "Finds the frequent keys of large weighted streams: the heavy hitters, which have more
+than a share of the total weight. Each answer is exact or carries a bound.
+
+Records come on standard input, one a line, as CSV without a header: key,weight or a
+key alone, which weighs 1. A key has 1 to 4096 bytes, a weight is a number from 1 on,
+and all weights together are at most 9223372036854775807. A key with a comma, a quote
+or a line feed in it stands in quotes. Answers go to standard output; a fault is one
+line on standard error.",
+    end: "Exit status: 0 done; 1 a device failed (input, output or a file); 2 wrong usage;
+3 refused input (a record, a file or a key); 4 out of memory.
+
+Example:
+    $ printf 'a,5\\nb,3\\nc,2\\na,1\\n' | heavy report --k 2
+    a,6",
+};
+
+pub const REPORT: Help = Help {
+    about: "Print the heavy keys of the records on standard input, with their weights",
+    whole: "Print the heavy keys of the records on standard input, with their weights: rows
+key,weight, by falling weight and then by key. The weights are exact. The records
+are kept in memory; `heavy summarise` and `heavy confirm` keep one at a time.",
+    end: "Exit status: 0 the report is whole; 1 input could not be read or output not be
+written; 2 an option is refused; 3 a record is refused; 4 out of memory.
+
+Example:
+    $ printf 'a,5\\nb,3\\nc,2\\na,1\\n' | heavy report --k 9 --threshold 1/4
+    a,6
+    b,3",
+};
+
+pub const SUMMARISE: Help = Help {
+    about: "Write a summary of the records on standard input to standard output",
+    whole: "Write a summary of the records on standard input to standard output: at most k
+counters, for `heavy ask`, `heavy confirm` and `heavy merge`. It holds one record
+at a time, so input can be larger than memory.",
+    end: "Exit status: 0 the summary is whole; 1 input could not be read or output not be
+written; 2 an option is refused; 3 a record is refused; 4 out of memory.
+
+Example:
+    $ printf 'a,5\\nb,3\\nc,2\\na,1\\n' | heavy summarise --k 2 > day.heavy
+    $ heavy ask day.heavy a b c
+    a,4,6
+    b,1,3
+    c,0,2",
+};
+
+pub const TABLE: Help = Help {
+    about: "Write a Count-Min table of the records on standard input to standard output",
+    whole: "Write a Count-Min table of the records on standard input to standard output, for
+`heavy ask` and `heavy merge`. It never estimates a key below its weight. Tables
+can be merged where width, depth and seed are the same.",
+    end: "Exit status: 0 the table is whole; 1 input could not be read or output not be
+written; 2 an option is refused; 3 a record is refused; 4 out of memory.
+
+Example:
+    $ printf 'a,5\\nb,3\\nc,2\\na,1\\n' | heavy table --width 64 > day.table
+    $ heavy ask day.table a z
+    a,0,6
+    z,0,0",
+};
+
+pub const MERGE: Help = Help {
+    about: "Merge saved files, and write the result to standard output",
+    whole: "Merge saved files, and write the result to standard output: summaries of one k, or
+tables of one width, depth and seed. The result stands for the records of all.
+A word that begins with - is given after --",
+    end: "Exit status: 0 the result is whole; 1 a file could not be read or output not be
+written; 2 wrong usage; 3 a file is damaged or of another kind; 4 out of memory.
+
+Example:
+    $ printf 'a,5\\nb,3\\n' | heavy summarise --k 2 > one.heavy
+    $ printf 'c,2\\na,1\\n' | heavy summarise --k 2 > two.heavy
+    $ heavy merge one.heavy two.heavy > both.heavy
+    $ heavy ask both.heavy a
+    a,4,6",
+};
+
+pub const ASK: Help = Help {
+    about: "Print what a saved file says of keys: key,low,high",
+    whole: "Print what a saved file says of keys: a row key,low,high for each, in the order
+given. The key's weight lies between the two, both included.
+A word that begins with - is given after --",
+    end: "Exit status: 0 all rows are written; 1 the file could not be read or output not be
+written; 2 wrong usage; 3 the file is damaged, or a key is empty or longer than
+4096 bytes; 4 out of memory.
+
+Example:
+    $ printf 'a,5\\nb,3\\nc,2\\na,1\\n' | heavy summarise --k 3 > day.heavy
+    $ heavy ask day.heavy a z
+    a,6,6
+    z,0,0",
+};
+
+pub const CONFIRM: Help = Help {
+    about: "Print the heavy keys of a saved summary in the records on standard input",
+    whole: "Print the heavy keys of a saved summary in the records on standard input, which are
+those that it was made of, in any order: rows key,weight, by falling weight and
+then by key. The weights are exact, and no heavy key is missing. It holds one
+record at a time.
+A word that begins with - is given after --",
+    end: "Exit status: 0 all rows are written; 1 the file or input could not be read or
+output not be written; 2 wrong usage; 3 the file is damaged or no summary, a
+record is refused, or the weights do not sum up to the summary's total; 4 out
+of memory.
+
+Example:
+    $ printf 'a,5\\nb,3\\nc,2\\na,1\\n' > day.csv
+    $ heavy summarise --k 2 < day.csv > day.heavy
+    $ heavy confirm day.heavy < day.csv
+    a,6",
+};

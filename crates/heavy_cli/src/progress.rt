@@ -1,0 +1,115 @@
+//! Standard input that tells on standard error how far it is read, where that is asked for.
+
+ghost use Rattle.std.specs.Prelude.{◌≡◌, ◌≤◌};
+
+use std::io::Read;
+use std::time::Instant;
+use std::{fmt, fs, io};
+
+/// It is told at most so often, in seconds; the end is told whenever it comes.
+const PAUSE: u64 = 1;
+
+/// A number of bytes, shown in megabytes.
+#[derive(Clone, Copy)]
+struct Megabytes(u128);
+
+impl fmt::Display for Megabytes {
+    fn fmt<W: fmt::Write>(&self, f: &mut fmt::Formatter<W>) -> fmt::Result {
+        let (whole, tenth) = (self.0 / 1_000_000, self.0 % 1_000_000 / 100_000);
+        write!(f, "{whole}.{tenth} MB")
+    }
+}
+
+/// How far a reader of so many bytes is, if they are known.
+#[derive(Drop)]
+struct Progress<'a> {
+    rt: &'a HostRuntime,
+    size: Option<u64>,
+    read: u64,
+    started: Instant,
+    told: Instant,
+}
+
+impl<'a> Progress<'a> {
+    /// Nothing is read yet. A size is known where standard input is a file.
+    fn start(rt: &'a HostRuntime) -> io::Result<Progress<'a>> {
+        let now = Instant::now(rt)?;
+        let size = match fs::metadata(rt, "/dev/stdin") {
+            Ok(file) if file.is_file() => Some(file.len()),
+            _ => None,
+        };
+        Ok(Progress {
+            rt,
+            size,
+            read: 0,
+            started: now,
+            told: now,
+        })
+    }
+
+    /// Counts bytes that were read, and tells how far the reader is. No bytes are the end.
+    fn add(&mut self, count: usize) -> io::Result<()> {
+        self.read = self.read.saturating_add(count as u64);
+        let now = Instant::now(self.rt)?;
+        if count > 0 && now.duration_since(self.told).as_secs() < PAUSE {
+            return Ok(());
+        }
+        self.told = now;
+        self.tell(now.duration_since(self.started).as_millis().max(1))
+    }
+
+    /// Tells what was read in so many milliseconds. Of a file that has more it tells the share that is
+    /// read, and how long the rest takes at the same rate.
+    fn tell(&self, millis: u128) -> io::Result<()>
+        requires { 1 ≤ millis }
+    {
+        let read = u128::from(self.read);
+        let rate = Megabytes(read.saturating_mul(1000) / millis);
+        let done = Megabytes(read);
+        match self.size {
+            Some(size) if 0 < self.read && self.read < size => {
+                let size = u128::from(size);
+                let (share, left) = (read * 100 / size, size - read);
+                let seconds = left.saturating_mul(millis) / read / 1000;
+                let all = Megabytes(size);
+                eprintln!(self.rt;
+                    "heavy: {done} read, {rate}/s, {share} % of {all}, {seconds} s left"
+                )
+            }
+            _ => eprintln!(self.rt; "heavy: {done} read, {rate}/s"),
+        }
+    }
+}
+
+/// A reader that hands each read on, and tells how far it is.
+#[derive(Drop)]
+pub struct Metered<'a, R> {
+    inner: R,
+    progress: Option<Progress<'a>>,
+}
+
+impl<'a, R: Read> Metered<'a, R> {
+    /// The same bytes. What is read is told where that is asked for and there is a clock.
+    pub fn new(rt: &'a HostRuntime, inner: R, tells: bool) -> Metered<'a, R>
+        ensures { ⟦<Metered<'a, R> as Read>⟧.remaining result ≡ R.remaining inner }
+    {
+        let progress = if tells {
+            Progress::start(rt).ok()
+        } else {
+            None
+        };
+        Metered { inner, progress }
+    }
+}
+
+impl<'a, R: Read> Read for Metered<'a, R> {
+    ghost remaining = { λ reader. R.remaining reader.inner };
+
+    fn read(&mut self, buf: &mut [u8]) -> io::Result<usize> {
+        let count = self.inner.read(buf)?;
+        if let Some(progress) = &mut self.progress {
+            let _ = progress.add(count);
+        }
+        Ok(count)
+    }
+}

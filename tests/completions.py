@@ -1,0 +1,227 @@
+#!/usr/bin/env python3
+"""Compares the man page and the completions of three shells with what the program's help names: the same commands, for
+each the same options in both spellings, the same ranges and defaults, the same version. The bash completion is driven
+by bash, and that of fish by fish where it is here; the others are read. Then drifts are planted, and each has to be
+found.
+
+usage: tests/completions.py
+"""
+import os
+import re
+import shutil
+import subprocess
+import tempfile
+from dataclasses import dataclass
+from pathlib import Path
+
+import programs
+
+MAN, BASH, ZSH, FISH = "man/heavy.1", "completions/heavy.bash", "completions/_heavy", "completions/heavy.fish"
+OPTION = re.compile(r"^ +(?:(-\w), )?(--[a-z]+)", re.MULTILINE)
+NUMBERS = re.compile(r"from (\d+) to (\d+) \[default: (\d+)\]")
+# (file, text, what it becomes): each is a drift that has to be found
+DRIFTS = [
+    (MAN, ".B heavy merge", ".B heavy join"),
+    (MAN, ".RB [ \\-\\-threshold", ".RB [ \\-\\-share"),
+    (MAN, '.BI \\-\\-seed " N"', '.BI \\-\\-sow " N"'),
+    (MAN, '.BR \\-V ", " \\-\\-version', ".BR \\-\\-version"),
+    (MAN, "from 1 to 65535", "from 1 to 65536"),
+    (MAN, "Default 1024.", "Default 512."),
+    (MAN, '"heavy ', '"heavy 0.'),
+    (MAN, ".TP\n.B heavy ask\n", ".TP\n.B heavy tell\n"),
+    (BASH, "--workers --pieces", "--pieces"),
+    (BASH, "merge ask confirm", "merge ask"),
+    (BASH, "-h --help -V --version", "-h --help"),
+    (BASH, "'balanced chain'", "'balanced'"),
+    (ZSH, "'merge:", "'join:"),
+    (ZSH, "'--depth=", "'--rows="),
+    (ZSH, "summarise) _arguments $help $k $progress", "summarise) _arguments $help $k"),
+    (FISH, "-a confirm ", "-a recount "),
+    (FISH, "-l threshold", "-l share"),
+    (FISH, "-s V -l version", "-l version"),
+]
+
+
+@dataclass(frozen=True)
+class Told:
+    """What the program's help tells."""
+
+    version: str
+    commands: set[str]
+    # of each command, and of "", the program itself
+    options: dict[str, set[str]]
+    numbers: dict[str, tuple[str, str, str]]
+
+
+def spelled(help: str) -> set[str]:
+    """The options of a help in both spellings."""
+    return {word for pair in OPTION.findall(help) for word in pair if word}
+
+
+def told_by(program: str) -> Told:
+    def said(*words: str) -> str:
+        return programs.run([program, *words]).out.decode()
+
+    whole = said("--help")
+    block = re.search(r"^Commands:\n((?:  .*\n)+)", whole, re.MULTILINE)
+    commands = set(re.findall(r"^  ([a-z]+) ", block[1], re.MULTILINE)) if block else set()
+    helps = {name: said(name, "--help") for name in commands - {"help"}}
+    numbers = {}
+    for help in helps.values():
+        for option in re.split(r"\n +(?=-)", help):
+            if found := NUMBERS.search(option):
+                numbers[option.split()[0]] = found.groups()
+    options = {"": spelled(whole), "help": set(), **{name: spelled(help) for name, help in helps.items()}}
+    return Told(said("--version").split()[-1], commands, options, numbers)
+
+
+def man_faults(text: str, told: Told) -> list[str]:
+    text = text.replace("\\-", "-")
+    section = dict(re.findall(r"^\.SH (.*)\n((?:(?!\.SH ).*\n)*)", text, re.MULTILINE))
+    synopsis = dict(re.findall(r"^\.B heavy (\w+)\n((?:(?!\.B heavy |\.br).*\n?)*)", section["SYNOPSIS"], re.MULTILINE))
+    faults = differ("synopsis", set(synopsis), told.commands)
+    listed = set(re.findall(r"^\.B heavy (\w+)$", section["COMMANDS"], re.MULTILINE))
+    faults += differ("COMMANDS", listed, told.commands)
+    for name, line in synopsis.items():
+        named = set(re.findall(r"--[a-z]+", line))
+        faults += differ(f"synopsis of {name}", named, told.options.get(name, set()) - {"-h", "--help"})
+    every = set().union(*told.options.values())
+    heads = "".join(re.findall(r"^\.TP\n(.*\n)", section["OPTIONS"], re.MULTILINE))
+    faults += differ("OPTIONS", set(re.findall(r"(?<![\w-])--?[A-Za-z]+", heads)), every)
+    for option, numbers in told.numbers.items():
+        found = re.search(rf"^\.B\w* {option}\b.*\n((?:(?!\.TP).*\n)*)", section["OPTIONS"], re.MULTILINE)
+        range = re.search(r"from (\d+) to (\d+)\.\n(?:.*\n)*?Default (\d+)\.", found[1] if found else "")
+        faults += differ(f"range and default of {option}", range and range.groups(), numbers)
+    version = re.search(r'^\.TH HEAVY 1 \S+ "heavy (\S+)"', text, re.MULTILINE)
+    return faults + differ("version", version and version[1], told.version)
+
+
+def completed(file: Path, words: list[str]) -> set[str]:
+    """What the bash completion offers for the last of these words."""
+    script = 'source "$1"; shift; COMP_WORDS=("$@"); COMP_CWORD=$(($# - 1)); _heavy; printf "%s\\n" "${COMPREPLY[@]}"'
+    ended = subprocess.run(["bash", "-c", script, "", file, *words], capture_output=True, text=True, check=True)
+    return set(ended.stdout.split())
+
+
+def bash_faults(text: str, told: Told) -> list[str]:
+    with tempfile.TemporaryDirectory() as room:
+        file = Path(room, "heavy.bash")
+        file.write_text(text)
+        faults = differ("first words", completed(file, ["heavy", ""]), told.commands | told.options[""])
+        for name in told.commands:
+            begun = {word for word in told.commands if word.startswith(name[:2])}
+            faults += differ(f"words like {name[:2]}", completed(file, ["heavy", name[:2]]), begun)
+            if name != "help":
+                faults += differ(f"options of {name}", completed(file, ["heavy", name, "-"]), told.options[name])
+        faults += differ("methods", completed(file, ["heavy", "summarise", "--method", ""]), {"mg", "ss"})
+        faults += differ("trees", completed(file, ["heavy", "report", "--tree", ""]), {"balanced", "chain"})
+        faults += differ("numbers", completed(file, ["heavy", "report", "--k", ""]), set())
+        faults += differ("help", completed(file, ["heavy", "help", ""]), told.commands)
+    return faults
+
+
+def zsh_faults(text: str, told: Told) -> list[str]:
+    """By the text: the list of commands, and for each the options of its branch and of the lists that it names."""
+    body = re.search(r"commands=\(\n(.*?)\n  \)", text, re.DOTALL)
+    faults = differ("commands", set(re.findall(r"^ +'(\w+):", body[1], re.MULTILINE)) if body else set(), told.commands)
+    named = re.findall(r"^  (\w+)=\((.*?)\)$", text, re.DOTALL | re.MULTILINE)
+    lists = {name: options_in(inside) for name, inside in named}
+    first = re.search(r"CURRENT == 2.*?\n  fi", text, re.DOTALL)
+    branches = dict(re.findall(r"^    (\w+)\)(.*?);;", text, re.DOTALL | re.MULTILINE))
+    branches[""] = first[0] if first else ""
+    faults += differ("branches", set(branches), told.commands | {""})
+    for name, branch in branches.items():
+        named = options_in(branch).union(*(lists.get(word, set()) for word in re.findall(r"\$(\w+)", branch)))
+        faults += differ(f"options of {name}", named, told.options.get(name, set()))
+    return faults
+
+
+def options_in(text: str) -> set[str]:
+    return set(re.findall(r"(?<![\w-])--?[A-Za-z]+(?![\w-])", text))
+
+
+def fish_faults(text: str, told: Told) -> list[str]:
+    """By the lines: the commands, and the options under the condition that names a command."""
+    lines = [line for line in text.splitlines() if line.startswith("complete -c heavy ")]
+    commands, options = set(), {name: set() for name in told.commands | {""}}
+    for line in lines:
+        commands |= set(re.findall(r"__fish_use_subcommand -a (\w+)", line))
+        named = {f"-{letter}" for letter in re.findall(r" -s (\w)", line)}
+        named |= {f"--{word}" for word in re.findall(r" -l (\w+)", line)}
+        seen = re.search(r"__fish_seen_subcommand_from ([\w ]+)'", line)
+        of = seen[1].split() if seen else [""] if "__fish_use_subcommand" in line else [*told.commands - {"help"}, ""]
+        for name in of:
+            options.setdefault(name, set()).update(named)
+    faults = differ("commands", commands, told.commands)
+    for name, named in options.items():
+        faults += differ(f"options of {name}", named, told.options.get(name))
+    return faults
+
+
+def differ(name: str, found: object, wanted: object) -> list[str]:
+    return [] if found == wanted else [f"{name}: {found}, and help has {wanted}"]
+
+
+CHECKS = {MAN: man_faults, BASH: bash_faults, ZSH: zsh_faults, FISH: fish_faults}
+
+
+def try_formatter(tally: programs.Tally) -> None:
+    """The man page is set without a warning."""
+    if not shutil.which("man"):
+        print("completions: the page's layout is left out, for want of man", flush=True)
+        return
+    env = {**os.environ, "LC_ALL": "C.UTF-8", "MANROFFSEQ": "", "MANWIDTH": "80"}
+    words = ["man", "--warnings", "-E", "UTF-8", "-l", "-Tutf8", "-Z", str(programs.TOP / MAN)]
+    ended = subprocess.run(words, env=env, stdin=subprocess.DEVNULL, stdout=subprocess.DEVNULL, stderr=subprocess.PIPE)
+    tally.check("man warns of nothing", (ended.returncode, ended.stderr) == (0, b""), ended.stderr)
+
+
+def try_shells(tally: programs.Tally) -> None:
+    """The shells that are here read their files."""
+    for shell, file in (("bash", BASH), ("zsh", ZSH), ("fish", FISH)):
+        if not shutil.which(shell):
+            print(f"completions: {shell} is not here, so {file} is compared by its text alone", flush=True)
+            continue
+        ended = subprocess.run([shell, "-n", programs.TOP / file], capture_output=True)
+        tally.check(f"{shell} reads {file}", (ended.returncode, ended.stderr) == (0, b""), ended.stderr)
+
+
+def try_fish(tally: programs.Tally, told: Told) -> None:
+    """What fish offers, where it is here."""
+    if not shutil.which("fish"):
+        return
+    script = f"source {programs.TOP / FISH}; complete -C $argv[1]"
+
+    def offered(line: str) -> set[str]:
+        ended = subprocess.run(["fish", "--no-config", "-c", script, line], capture_output=True, text=True, check=True)
+        return {row.split("\t")[0] for row in ended.stdout.splitlines()}
+
+    tally.check("fish: commands", offered("heavy ") == told.commands, offered("heavy "))
+    for name in told.commands:
+        line = f"heavy {name} -".replace(" help ", " ")
+        wanted = told.options["" if name == "help" else name]
+        tally.check(f"fish: {line}", offered(line) == wanted, offered(line))
+    tally.check("fish: methods", offered("heavy summarise --method ") == {"mg", "ss"})
+
+
+def main() -> None:
+    tally = programs.Tally()
+    told = told_by(programs.built("heavy_cli"))
+    tally.check("help has commands", len(told.commands) > 1, told)
+    tally.check("help has options", all(told.options[name] for name in told.commands - {"help"}), told)
+    tally.check("help has ranges", len(told.numbers) > 1, told)
+    texts = {file: (programs.TOP / file).read_text() for file in CHECKS}
+    for file, faults in CHECKS.items():
+        found = faults(texts[file], told)
+        tally.check(file, not found, found)
+    for file, old, new in DRIFTS:
+        drifted = texts[file].replace(old, new, 1)
+        tally.check(f"a drift in {file}: {old!r}", drifted != texts[file] and CHECKS[file](drifted, told), "not found")
+    try_formatter(tally)
+    try_shells(tally)
+    try_fish(tally, told)
+    tally.end("completions")
+
+
+if __name__ == "__main__":
+    main()

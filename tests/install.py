@@ -1,0 +1,230 @@
+#!/usr/bin/env python3
+"""Installs the built program and runs what was installed; and builds by a stand-in of the toolchain's command: what
+the build says, that one is enough for two that begin at once, that none runs where nothing is to be built, and that an
+interrupted one leaves no process.
+
+usage: tests/install.py
+"""
+import os
+import pty
+import shutil
+import signal
+import subprocess
+import tempfile
+import time
+from pathlib import Path
+
+import programs
+
+RECORDS = b"a,5\nb,3\nc,2\na,1\n"
+INSTALLED = {
+    "bin/heavy": 0o755,
+    "share/man/man1/heavy.1": 0o644,
+    "share/bash-completion/completions/heavy": 0o644,
+    "share/zsh/vendor-completions/_heavy": 0o644,
+    "share/fish/vendor_completions.d/heavy.fish": 0o644,
+}
+# It tells what rt tells, counts its runs, and leaves a program; in between it waits, with a process below it.
+STAND_IN = """#!/usr/bin/env bash
+echo run >> "$RUNS"
+echo "rt: chose --jobs 2 for hh_stream"
+echo "so far: 3 of 37 functions checked; the verdict comes last"
+sleep "$SECONDS_TO_RUN" &
+echo $! >> "$CHILDREN"
+wait
+echo "the stand-in's last line"
+[ "$OUTCOME" = 0 ] || exit "$OUTCOME"
+mkdir -p out
+printf '#!/bin/sh\\necho "built: $*"\\n' > out/heavy_cli
+chmod +x out/heavy_cli
+"""
+BEGIN = b"heavy: proving and building the program, once and after each change of its sources\n"
+SOON = 20  # seconds
+
+
+class Copy:
+    """The scripts with one source, in a folder of their own, and a stand-in of rt on the path."""
+
+    def __init__(self, room: str, name: str) -> None:
+        self.top = Path(room, name)
+        shutil.copytree(programs.TOP / "bin", self.top / "bin")
+        shutil.copy(programs.TOP / "crates.txt", self.top)
+        for line in (self.top / "crates.txt").read_text().splitlines():
+            (self.top / "crates" / line.split(":")[0] / "src").mkdir(parents=True)
+        source = self.top / "crates" / "heavy_cli" / "src" / "main.rt"
+        source.write_text("// a program\n")
+        self.source = source
+        self.runs, self.children = self.top / "runs", self.top / "children"
+        tools = self.top / "tools"
+        tools.mkdir()
+        (tools / "rt").write_text(STAND_IN)
+        (tools / "rt").chmod(0o755)
+        self.path = f"{tools}:{os.environ['PATH']}"
+
+    def start(self, seconds: float = 0, outcome: int = 0, path: str | None = None, **how) -> subprocess.Popen:
+        """`bin/heavy report` with a stand-in that takes so long and ends so."""
+        env = {
+            "PATH": path or self.path, "RUNS": str(self.runs), "CHILDREN": str(self.children),
+            "SECONDS_TO_RUN": str(seconds), "OUTCOME": str(outcome),
+        }
+        how = {"stdin": subprocess.DEVNULL, "stdout": subprocess.PIPE, "stderr": subprocess.PIPE, "env": env, **how}
+        return subprocess.Popen([self.top / "bin" / "heavy", "report"], **how)
+
+    def run(self, *words, **how) -> tuple[int, bytes, bytes]:
+        started = self.start(*words, **how)
+        out, err = started.communicate(timeout=SOON)
+        return started.returncode, out, err
+
+    def builds(self) -> int:
+        return len(self.runs.read_text().split()) if self.runs.exists() else 0
+
+    def waits_for_child(self) -> int:
+        """The process that the stand-in started, once it did."""
+        for _ in range(SOON * 20):
+            if self.children.exists() and self.children.read_text().endswith("\n"):
+                return int(self.children.read_text().split()[-1])
+            time.sleep(0.05)
+        raise TimeoutError("the stand-in was not started")
+
+
+def runs(process: int) -> bool:
+    """Whether the process is there, and more than a record of its end."""
+    try:
+        return Path(f"/proc/{process}/stat").read_text().rpartition(")")[2].split()[0] != "Z"
+    except FileNotFoundError:
+        return False
+
+
+def ends(process: int) -> bool:
+    """Whether the process ends soon."""
+    for _ in range(SOON * 20):
+        if not runs(process):
+            return True
+        time.sleep(0.05)
+    return False
+
+
+def try_builds(tally: programs.Tally, room: str) -> None:
+    """A first build says what it does; the next run builds nothing and says nothing; a changed source is built."""
+    copy = Copy(room, "builds")
+    status, out, err = copy.run(1)
+    tally.check("a first build runs the program", (status, out) == (0, b"built: report\n"), (status, out, err))
+    tally.check("it says at once what it does", err.startswith(BEGIN), err)
+    tally.check("it tells the crate", b"heavy: proving hh_stream, crate 1 of 8, " in err, err)
+    tally.check("it has a line for each crate", b"\r" not in err and err.count(b"hh_stream") == 1, err)
+    found = copy.run()
+    tally.check("a built program is run without a word", found == (0, b"built: report\n", b""), found)
+    tally.check("it was built once", copy.builds() == 1, copy.builds())
+    later = time.time() + 5
+    os.utime(copy.source, (later, later))
+    status, out, err = copy.run()
+    tally.check("a changed source is built", (status, copy.builds()) == (0, 2) and err.startswith(BEGIN), err)
+
+
+def try_failures(tally: programs.Tally, room: str) -> None:
+    """A build that fails shows the end of its log, and where the whole is; no toolchain is told as such."""
+    copy = Copy(room, "failures")
+    status, out, err = copy.run(0, 3)
+    log = os.fsencode(copy.top / "crates" / "heavy_cli" / "build.log")
+    told = b"the build failed; the last lines of " + log in err and b"the stand-in's last line\n" in err
+    tally.check("a failed build", (status, out) == (1, b"") and told, (status, out, err))
+    tools = copy.top / "others"
+    tools.mkdir()
+    for name in ("bash", "env", "dirname", "readlink", "awk", "find"):
+        (tools / name).symlink_to(shutil.which(name))
+    found = copy.run(path=str(tools))
+    tally.check("no toolchain", found == (1, b"", b"heavy: the toolchain's command, rt, is not on the path\n"), found)
+
+
+def try_interrupts(tally: programs.Tally, room: str) -> None:
+    """An interrupted build ends what it started, and the next one builds."""
+    for number in (signal.SIGINT, signal.SIGTERM, signal.SIGHUP):
+        copy = Copy(room, number.name)
+        # a process that is started in the background of a shell may have these signals ignored; not this one
+        started = copy.start(600, preexec_fn=lambda: signal.signal(number, signal.SIG_DFL))
+        child = copy.waits_for_child()
+        started.send_signal(number)
+        _, err = started.communicate(timeout=SOON)
+        status = started.returncode
+        tally.check(f"{number.name} ends the build", status == 128 + number and b"interrupted" in err, (status, err))
+        tally.check(f"{number.name} leaves no process", ends(child), child)
+        status, out, err = copy.run()
+        tally.check(f"the build after {number.name}", (status, out) == (0, b"built: report\n"), (status, out, err))
+
+
+def try_two(tally: programs.Tally, room: str) -> None:
+    """Two that begin at once build once, and one that waits can be interrupted."""
+    if not shutil.which("flock"):
+        print("install: two builds at once are left out, for want of flock", flush=True)
+        return
+    copy = Copy(room, "two")
+    first = copy.start(3)
+    copy.waits_for_child()
+    said = b"heavy: another build runs in " + os.fsencode(copy.top) + b"; waiting for its end\n"
+    waits = copy.start()
+    heard = waits.stderr.readline()
+    waits.terminate()
+    waits.communicate(timeout=SOON)
+    tally.check("the wait is interrupted", (heard, waits.returncode) == (said, 143), (heard, waits.returncode))
+    status, out, err = copy.run()
+    tally.check("the second waits", (status, out, err) == (0, b"built: report\n", said), (status, out, err))
+    out = first.communicate(timeout=SOON)[0]
+    tally.check("both run one build", (out, copy.builds()) == (b"built: report\n", 1), (out, copy.builds()))
+
+
+def try_terminal(tally: programs.Tally, room: str) -> None:
+    """On a terminal one line tells how far the build is, and is written over."""
+    copy = Copy(room, "terminal")
+    terminal, side = pty.openpty()
+    started = copy.start(2, stderr=side)
+    os.close(side)
+    out = started.communicate(timeout=SOON)[0]
+    said = b""
+    try:
+        while part := os.read(terminal, 4096):
+            said += part
+    except OSError:
+        pass  # the other side is closed
+    os.close(terminal)
+    said = said.replace(b"\r\n", b"\n")
+    told = said.count(b"\r\x1b[Kheavy: proving hh_stream, crate 1 of 8, 3 of 37 functions checked, 0:0")
+    tally.check("a terminal's line is written over", out == b"built: report\n" and told > 1, said)
+    tally.check("nothing of it is left", said.count(b"\n") == 3 and b"\r\x1b[Kheavy: built in " in said, said)
+
+
+def try_install(tally: programs.Tally, room: str) -> None:
+    """All files are where Debian has them, and the installed program answers."""
+    programs.built("heavy_cli")
+    install = str(programs.TOP / "bin" / "install")
+    path = {"PATH": os.environ["PATH"]}
+    for name, env, prefix, root in [
+        ("a prefix", path, f"{room}/usr", f"{room}/usr"),
+        ("a prefix with a slash", path, f"{room}/slash/", f"{room}/slash"),
+        ("a prefix below DESTDIR", {**path, "DESTDIR": f"{room}/destdir"}, "/usr", f"{room}/destdir/usr"),
+    ]:
+        ended = programs.run([install, prefix], env=env)
+        told = b"".join(os.fsencode(f"{root}/{file}\n") for file in INSTALLED)
+        tally.check(f"{name} is told", (ended.status, ended.out) == (0, told), ended)
+        modes = {file: Path(root, file).stat().st_mode & 0o777 for file in INSTALLED if Path(root, file).exists()}
+        tally.check(f"{name} has all files", modes == INSTALLED, modes)
+        found = programs.run([f"{root}/bin/heavy", "report", "--k", "2"], RECORDS)
+        tally.check(f"the program in {name}", (found.status, found.out) == (0, b"a,6\n"), found)
+    for words in ([], ["usr"], ["/usr", "/opt"]):
+        ended = programs.run([install, *words], env=path)
+        tally.check(f"usage: {words}", ended.status == 2 and b"usage: bin/install PREFIX" in ended.err, ended)
+
+
+def main() -> None:
+    tally = programs.Tally()
+    with tempfile.TemporaryDirectory() as room:
+        try_builds(tally, room)
+        try_failures(tally, room)
+        try_interrupts(tally, room)
+        try_two(tally, room)
+        try_terminal(tally, room)
+        try_install(tally, room)
+    tally.end("install")
+
+
+if __name__ == "__main__":
+    main()

@@ -1,0 +1,104 @@
+#!/usr/bin/env python3
+"""Asks each command that reads records to tell how far it is: what it tells of a pipe and of a file, how often, and
+that it answers the same. Without the option nothing is told.
+
+usage: tests/progress.py
+"""
+import os
+import re
+import signal
+import subprocess
+import tempfile
+import time
+from pathlib import Path
+
+import programs
+
+PIPE = re.compile(rb"heavy: (\d+\.\d) MB read, (\d+\.\d) MB/s\n")
+FILE = re.compile(rb"heavy: (\d+\.\d) MB read, \d+\.\d MB/s, (\d+) % of (\d+\.\d) MB, \d+ s left\n")
+PART = b"".join(b"key%d,%d\n" % (number % 977, number) for number in range(1, 20_000))
+STEPS = 14
+SECONDS = 0.2  # between the parts that a pipe is given
+STOPPED = 1.3  # seconds, more than the pause between two lines
+TRIES = 5
+
+
+def try_answers(tally: programs.Tally, program: str, commands: dict[str, list[str]]) -> None:
+    """The same answer with the option and without it, also for records that are refused; one line at the end."""
+    for text in (PART, PART + b"bad,record,here\n", b""):
+        for name, words in commands.items():
+            plain = programs.run([program, *words], text)
+            told = programs.run([program, *words, "--progress"], text)
+            same = (plain.status, plain.out) == (told.status, told.out)
+            tally.check(f"{name} answers the same", same, (plain.status, told.status))
+            rest = PIPE.sub(b"", told.err)
+            tally.check(f"{name} tells faults the same", rest == plain.err, (told.err, plain.err))
+            tally.check(f"{name} tells nothing unasked", (plain.err == b"") == (plain.status == 0), plain.err)
+            if text == PART:
+                size = b"%d.%d" % (len(text) // 1_000_000, len(text) % 1_000_000 // 100_000)
+                sizes = [found[0] for found in PIPE.findall(told.err)]
+                tally.check(f"{name} tells the whole", sizes == [size], told.err)
+
+
+def try_pipe(tally: programs.Tally, program: str, name: str, words: list[str]) -> None:
+    """A slow pipe: at most a line a second and one at the end, with more bytes each time, and no share."""
+    begun = time.monotonic()
+    running = subprocess.Popen([program, *words, "--progress"], stdin=subprocess.PIPE, stdout=subprocess.DEVNULL,
+                               stderr=subprocess.PIPE, env={})
+    for _ in range(STEPS):
+        running.stdin.write(PART)
+        running.stdin.flush()
+        time.sleep(SECONDS)
+    told = running.communicate()[1].splitlines(keepends=True)
+    seconds = time.monotonic() - begun
+    read = [float(found[1]) for line in told if (found := PIPE.fullmatch(line))]
+    tally.check(f"{name} tells of a pipe", len(read) == len(told) > 1, told)
+    tally.check(f"{name} tells once a second", len(told) - 1 <= seconds, (told, seconds))
+    grows = read == sorted(read) and read[-1] == len(PART) * STEPS // 100_000 / 10
+    tally.check(f"{name} tells more each time", grows, read)
+
+
+def stopped_in_file(words: list[str], path: Path) -> list[bytes]:
+    """What a run over a file tells that is stopped for more than a second after its first read."""
+    with open(path, "rb") as records:
+        running = subprocess.Popen(words, stdin=records, stdout=subprocess.DEVNULL, stderr=subprocess.PIPE, env={})
+        # the offset is shared with the program's standard input
+        while os.lseek(records.fileno(), 0, os.SEEK_CUR) == 0 and running.poll() is None:
+            time.sleep(0.001)
+        running.send_signal(signal.SIGSTOP)
+        time.sleep(STOPPED)
+        running.send_signal(signal.SIGCONT)
+        return running.communicate()[1].splitlines(keepends=True)
+
+
+def try_file(tally: programs.Tally, program: str, name: str, words: list[str], path: Path) -> None:
+    """A file: the share that is read, and the time left."""
+    size = b"%d.%d" % (path.stat().st_size // 1_000_000, path.stat().st_size % 1_000_000 // 100_000)
+    for _ in range(TRIES):  # on a busy machine a run may be over before it is stopped
+        told = stopped_in_file([program, *words, "--progress"], path)
+        shares = [(found[2], found[3]) for line in told if (found := FILE.fullmatch(line))]
+        if shares:
+            break
+    holds = shares and all(int(share) < 100 and of == size for share, of in shares)
+    tally.check(f"{name} tells a file's share", holds and PIPE.fullmatch(told[-1]), told)
+    tally.check(f"{name} has shares alone before the end", len(shares) == len(told) - 1, told)
+
+
+def main() -> None:
+    program, tally = programs.built("heavy_cli"), programs.Tally()
+    with tempfile.TemporaryDirectory() as room:
+        many = Path(room, "many.csv")
+        many.write_bytes(PART * 100)
+        commands = {"report": ["report"], "summarise": ["summarise"], "table": ["table"]}
+        for file, text in (("part", PART), ("many", PART * 100), ("pipe", PART * STEPS)):
+            Path(room, file).write_bytes(programs.run([program, "summarise"], text).out)
+        try_answers(tally, program, {**commands, "confirm": ["confirm", f"{room}/part"]})
+        try_pipe(tally, program, "summarise", ["summarise"])
+        try_pipe(tally, program, "confirm", ["confirm", f"{room}/pipe"])
+        for name, words in {**commands, "confirm": ["confirm", f"{room}/many"]}.items():
+            try_file(tally, program, name, words, many)
+    tally.end("progress")
+
+
+if __name__ == "__main__":
+    main()
