@@ -6,6 +6,7 @@ mod confirmation;
 mod counts;
 mod error;
 mod files;
+pub mod laws;
 mod merge;
 mod records;
 mod report;

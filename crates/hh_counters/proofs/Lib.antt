@@ -14,3 +14,5 @@ pub mod Linked
 pub mod Sorting
 pub mod Renaming
 pub mod Monitoring
+pub mod Condensing
+pub mod CondensedCounts
