@@ -1,13 +1,15 @@
 -- What holds of reports over several machines.
-use Rattle.std.specs.Prelude.{◌≡◌, ◌+◌, List, length, map, IsPermutation}
-use Rattle.std.specs.List.{flat_map}
-use Rattle.hh_stream.specs.Weights.{Entry, total_of}
+use Rattle.std.specs.Prelude.{◌≡◌, ◌+◌, ◌<◌, ◌≤◌, List, length, map, All, IsPermutation, Ok}
+use Rattle.std.specs.List.{AllByRecursion, flat_map}
+use Rattle.hh_stream.specs.Weights.{Entry, IsKey, max_total, total_of}
 use Rattle.hh_stream.specs.Cuttings.{whole_of}
-use Rattle.hh_counters.specs.Counters.{Sketch, IsHonest, misra_gries}
+use Rattle.hh_counters.specs.Counters.{Sketch, IsHonest, max_k, misra_gries}
 use Rattle.hh_counters.specs.Report.{heavy}
 use Rattle.hh_counters.specs.Condensed.{condensed}
 use Rattle.hh_pool.specs.Trees.{MergeTree, IsMergeTree, tree_value}
 use Rattle.heavy.specs.Reports.{confirmed}
+use Rattle.heavy.specs.Rows.{condensed_text}
+use Rattle.heavy.specs.Streams.{stream_of}
 
 -- parts that are condensed one by one, and joined in any order, are confirmed as the parts are
 abbrev pub CondensedPartsConfirm : Type 0
@@ -33,3 +35,15 @@ MachinesReport =
     → s.counters ≡ tree_value t (map (λ part. misra_gries part s.k) parts) s.k
     → IsPermutation (flat_map (condensed s.counters) parts) ys
     → (total_of ys ≡ total_of xs) × (confirmed s ys ≡ heavy xs 1 (s.k + 1))
+
+-- the items of a stream have keys and weights
+abbrev pub AreItems : List Entry → Type 0
+AreItems xs = AllByRecursion (λ e. IsKey e.0) xs × All (λ e. 0 < e.1) xs
+
+-- condensed parts in files that are joined are read as the condensed parts
+abbrev pub CondensedFilesAreRead : Type 0
+CondensedFilesAreRead =
+    (s : Sketch) (parts : List (List Entry)) → length s.counters ≤ max_k
+    → AllByRecursion AreItems parts → total_of (whole_of parts) ≤ max_total
+    → stream_of (flat_map (λ part. condensed_text (condensed s.counters part)) parts)
+    ≡ Ok (flat_map (condensed s.counters) parts)

@@ -165,6 +165,15 @@ fn ask_command<'a>(alloc: Global) -> Result<Command<'a>, AllocError>
         .arg(keys.num_args(1..))
 }
 
+fn condense_command<'a>(alloc: Global) -> Result<Command<'a>, AllocError>
+    ensures { IfOk result (λ c. (fields_of c).has_globals ≡ false) }
+{
+    Command::new(alloc, "condense")
+        .about("Print fewer records that say to `confirm` what those on standard input say")
+        .after_help(DASHES)
+        .arg(word(alloc, "FILE", "A saved summary"))
+}
+
 fn confirm_command<'a>(alloc: Global) -> Result<Command<'a>, AllocError>
     ensures { IfOk result (λ c. (fields_of c).has_globals ≡ false) }
 {
@@ -187,6 +196,7 @@ pub fn command<'a>(alloc: Global) -> Result<Command<'a>, AllocError>
         .subcommand(table_command(alloc)?)?
         .subcommand(merge_command(alloc)?)?
         .subcommand(ask_command(alloc)?)?
+        .subcommand(condense_command(alloc)?)?
         .subcommand(confirm_command(alloc)?)?;
     Ok(all.subcommand_required(true))
 }

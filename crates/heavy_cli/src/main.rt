@@ -10,8 +10,8 @@ mod words;
 
 use files::{read_file, read_files};
 use heavy::{
-    Method, Out, ToolError, ask_bytes, confirm_bytes, merge_bytes, put, run_report, summary_bytes,
-    table_bytes,
+    Method, Out, ToolError, ask_bytes, condense_bytes, confirm_bytes, merge_bytes, put, run_report,
+    summary_bytes, table_bytes,
 };
 use request::{NoRequest, Question, Request, read_request};
 use std::process::ExitCode;
@@ -31,6 +31,9 @@ fn answer(rt: &HostRuntime, question: Question) -> Result<Vec<u8>, ToolError> {
         }
         Question::Merge { first, others } => merge_bytes(alloc, &read_files(rt, &first, &others)?),
         Question::Ask { file, keys } => ask_bytes(alloc, &read_file(rt, 1, &file)?, &keys),
+        Question::Condense { file } => {
+            condense_bytes(alloc, &read_file(rt, 1, &file)?, rt.stdin())
+        }
         Question::Confirm { file } => confirm_bytes(alloc, &read_file(rt, 1, &file)?, rt.stdin()),
     }
 }
