@@ -225,16 +225,18 @@ pub fn confirm_bytes<R: Read + Drop>(
     }
 }
 
-/// Records that say the same to [`confirm_bytes`] with the same file as those of the reader, and are
-/// at most one more than the summary has keys: each key of the summary that comes, with its weight,
-/// by rising key, and then, where other keys come, one record of what they weigh. Its key is the
-/// first of `others`, `others1`, `others2` and so on that is no key of the summary.
+/// Records that say the same to [`confirm_bytes`] with the same file as those of the reader, at
+/// most one more than the summary has keys: each key of the summary that comes, with its weight, by
+/// rising key, and then, where other keys come, one record of what they weigh. Its key is the first
+/// of `others`, `others1`, `others2` and so on that is no key of the summary.
 ///
-/// So parts of a stream may be condensed one by one, by the summary of the whole, and their condensed
-/// records joined in any order. The rows are as [`report_text`](crate::report_text) writes them, but
-/// that the first key is in quotes where it begins with the three bytes of a byte order mark. The
-/// file is tested first ([`ToolError::BadFile`], as file 1, and [`ToolError::NotCounters`]), and then
-/// the records, whose total need not be the summary's.
+/// So parts of a stream may be condensed one by one by the summary of the whole, and their
+/// condensed records joined in any order. The rows are as [`report_text`](crate::report_text)
+/// writes them, but that the first key is in quotes where it begins with the three bytes of a byte
+/// order mark.
+///
+/// The file is tested first ([`ToolError::BadFile`], as file 1, and [`ToolError::NotCounters`]), and
+/// then the records, whose total need not be the summary's.
 pub fn condense_bytes<R: Read + Drop>(
     alloc: Global,
     file: &[u8],

@@ -156,8 +156,8 @@ fn confirm(alloc: Global, found: &ArgMatches) -> Result<Question, AllocError> {
     Ok(Question::Confirm { file })
 }
 
-/// What a command with these words asks for. `clap` lets these seven names come: the one that is none
-/// of the other six is the report's.
+/// What a command with these words asks for. `clap` lets these seven names come: the one that is
+/// none of the other six is the report's.
 fn request_of(alloc: Global, name: &str, found: &ArgMatches) -> Result<Request, AllocError> {
     let question = match name {
         "summarise" => summarise(alloc, found)?,
