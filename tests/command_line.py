@@ -186,6 +186,10 @@ def try_files(line: Line) -> None:
     line.expect(["merge", "--", "-four", "0.heavy"], reference.answer(reference.merge, [saved, files[0]]))
     line.refuses(["confirm", "--", "-four"], "file 1: its total is not the input's", 3, b"a,5\n")
     line.refuses(["confirm", "table"], "file 1: not a counter summary", 3)
+    line.expect(["condense", "--", "-four"], (0, b"b,9\nothers,1\n", b""), b"x\nb,9\n")
+    line.expect(["condense", "--", "-four"], (0, b"", b""), b"")
+    line.refuses(["condense", "--", "-four"], "record 2: zero weight", 3, b"a,5\nb,0\n")
+    line.refuses(["condense", "table"], "file 1: not a counter summary", 3)
     line.refuses(["ask", b"\xff", "a"], "file 1: could not be read", 1)
 
 
@@ -194,19 +198,19 @@ def try_usage(line: Line) -> None:
     wrong = [
         [], ["nothing"], ["report", "--nothing"], ["report", "--k", "x"], ["report", "--k", "-1"], ["report", "--k"],
         ["report", "word"], ["report", "--k", "18446744073709551616"], ["merge"], ["ask", "0.heavy"], ["confirm"],
-        ["confirm", "0.heavy", "1.heavy"], ["ask", "0.heavy", "-a"], [b"\xff"], ["report", "--k", b"\xff"],
+        ["confirm", "0.heavy", "1.heavy"], ["condense"], ["condense", "0.heavy", "1.heavy"], ["ask", "0.heavy", "-a"], [b"\xff"], ["report", "--k", b"\xff"],
     ]
     for words in wrong:
         status, out, err = line.run(words)
         line.tally.check(f"usage: {words}", (status, out) == (2, b"") and err != b"", (status, out, err))
-    for words in ([], ["report"], ["summarise"], ["table"], ["merge"], ["ask"], ["confirm"]):
+    for words in ([], ["report"], ["summarise"], ["table"], ["merge"], ["ask"], ["condense"], ["confirm"]):
         status, out, err = line.run([*words, "--help"])
         line.tally.check(f"help: {words}", (status, err) == (0, b"") and b"Usage: heavy" in out, (status, err))
 
 
 def try_help(line: Line) -> None:
     """What help tells: statuses and an example everywhere, ranges and defaults as they are, and the version."""
-    for words in ([], ["report"], ["summarise"], ["table"], ["merge"], ["ask"], ["confirm"]):
+    for words in ([], ["report"], ["summarise"], ["table"], ["merge"], ["ask"], ["condense"], ["confirm"]):
         out = line.run([*words, "--help"])[1]
         tells = all(text in out for text in (b"Exit status: 0 ", b"\nExample:\n    $ "))
         tells = tells and all(b"%d " % status in out.split(b"Exit status:")[1] for status in range(5))

@@ -135,7 +135,8 @@ def main() -> None:
         Path(good).write_bytes(bytes.fromhex(SUMMARY_1))
         for data, fault in damaged():
             Path(path).write_bytes(data)
-            for words, place in [(["ask", path, "a"], 1), (["merge", path], 1), (["merge", good, path], 2), (["confirm", path], 1)]:
+            commands = [["ask", path, "a"], ["merge", path], ["condense", path], ["confirm", path]]
+            for words, place in [*((words, 1) for words in commands), (["merge", good, path], 2)]:
                 ended = programs.run([program, *words], RECORDS)
                 expected = (3, b"", f"heavy: file {place}: {fault}\n".encode())
                 found = (ended.status, ended.out, ended.err)

@@ -33,7 +33,8 @@ def shell(script: str, words: list[str], given: bytes = RECORDS, **how) -> tuple
 
 def try_inputs(tally: programs.Tally, program: str, summary: str) -> None:
     """Every command that reads records, where they can't be read."""
-    commands = [REPORT, ["summarise"], ["summarise", "--method", "ss"], ["table"], ["confirm", summary]]
+    by_file = [["condense", summary], ["confirm", summary]]
+    commands = [REPORT, ["summarise"], ["summarise", "--method", "ss"], ["table"], *by_file]
     for command in commands:
         for name, redirection in [("closed", "<&-"), ("a directory", "< /"), ("an I/O error", "< /proc/self/mem")]:
             found = shell(f'"$@" {redirection}', [program, *command])
@@ -42,7 +43,8 @@ def try_inputs(tally: programs.Tally, program: str, summary: str) -> None:
 
 def try_outputs(tally: programs.Tally, program: str, summary: str) -> None:
     """Every command, where its answer can't be written."""
-    commands = [REPORT, ["summarise"], ["table"], ["merge", summary], ["ask", summary, "a"], ["confirm", summary]]
+    by_file = [["merge", summary], ["ask", summary, "a"], ["condense", summary], ["confirm", summary]]
+    commands = [REPORT, ["summarise"], ["table"], *by_file]
     for command in [*commands, ["--help"], ["report", "--help"]]:
         for name, redirection in [("closed", ">&-"), ("full", "> /dev/full")]:
             found = shell(f'"$@" {redirection}', [program, *command])
@@ -56,7 +58,7 @@ def try_outputs(tally: programs.Tally, program: str, summary: str) -> None:
 
 def try_files(tally: programs.Tally, program: str, room: str, summary: str) -> None:
     """Saved files that can't be read, and one that comes through a pipe."""
-    for command in (["merge"], ["ask"], ["confirm"]):
+    for command in (["merge"], ["ask"], ["condense"], ["confirm"]):
         for path in (f"{room}/none", room, f"{summary}/below"):
             words = [program, *command, path] + ["a"] * (command == ["ask"])
             found = said(programs.run(words, RECORDS))

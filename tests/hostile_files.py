@@ -1,5 +1,5 @@
 #!/usr/bin/env python3
-"""Feeds random and mutated saved files of both versions to `ask`, `merge` and `confirm`, and compares what they say with
+"""Feeds random and mutated saved files of both versions to `ask`, `merge`, `confirm` and `condense`, and compares what they say with
 tests/reference.py: a file has to be accepted exactly where it is the encoding of something, and else the fault
 is the first from the left.
 
@@ -54,7 +54,7 @@ def file(draw) -> bytes:
 
 def case(draw) -> hostile.Case:
     data = file(draw)
-    match draw.randrange(4):
+    match draw.randrange(5):
         case 0:
             magic = draw.choice(list(reference.VERSIONS))
             other = reference.written(reference.misra_gries(reference.items_of(RECORDS), 2), magic)
@@ -64,6 +64,8 @@ def case(draw) -> hostile.Case:
             return hostile.Case(["merge"], [data, data], [], b"", reference.answer(reference.merge, [data, data]))
         case 2:
             return hostile.Case(["confirm"], [data], [], RECORDS, reference.answer(reference.confirm, data, RECORDS))
+        case 3:
+            return hostile.Case(["condense"], [data], [], RECORDS, reference.answer(reference.condense, data, RECORDS))
     keys = draw.sample([*KEYS, *LONG_KEYS, b"k" * 4097], 2)
     keys = [key for key in keys if 0 not in key] or [b"a"]
     return hostile.Case(["ask"], [data], keys, b"", reference.answer(reference.ask, data, keys))

@@ -1,5 +1,5 @@
 #!/usr/bin/env python3
-"""Feeds mutated records to `report`, `summarise` and `confirm`, and compares what they say with tests/reference.py:
+"""Feeds mutated records to `report`, `summarise`, `confirm` and `condense`, and compares what they say with tests/reference.py:
 the same items, or the same first bad record with its number and cause.
 
 usage: tests/hostile_records.py [CASES [SEED]]
@@ -19,6 +19,12 @@ WEIGHTS = [
 ]
 ENDS = [b"\n", b"\n", b"\n", b"\r\n", b"\r", b"\n\n", b""]
 PIECES = [b",", b'"', b"\n", b"\r", b"\r\n", b"\0", b"\xff", b"\xef\xbb\xbf", b"0", b"9", b" ", b'""']
+
+
+# Records whose summaries condense others, with keys that need quotes, begin with a byte order mark or are names of others
+OTHER_KEYS = [
+    b"a\nb\nc\n", b'"a,b"\n"a""b"\nab\n', b"x\n\xef\xbb\xbfa\n", b"others\nothers1\na\n", b'"a\nb"\n"a\r\nb"\n', b"",
+]
 
 
 def record(draw) -> bytes:
@@ -43,7 +49,7 @@ def text(draw) -> bytes:
 def case(draw) -> hostile.Case:
     given, k = text(draw), draw.choice([1, 2, 3, 9, 65535])
     options = ["--k", str(k)]
-    match draw.randrange(4):
+    match draw.randrange(5):
         case 0:
             method = draw.choice(["mg", "ss"])
             expected = reference.answer(reference.summarise, given, k)
@@ -52,6 +58,10 @@ def case(draw) -> hostile.Case:
             status, saved, said = reference.answer(reference.summarise, given, k)
             if status == 0:
                 return hostile.Case(["confirm"], [saved], [], given, reference.answer(reference.confirm, saved, given))
+        case 2:
+            saved = reference.summarise(draw.choice(OTHER_KEYS), k)
+            expected = reference.answer(reference.condense, saved, given)
+            return hostile.Case(["condense"], [saved], [], given, expected)
     share = draw.choice([None, None, b"1/2", b"2/3", b"1/10", b"0001/3", b"1/0", b"1/4294967296", b"x"])
     if share is not None:
         options += ["--threshold", share.decode()]

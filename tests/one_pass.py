@@ -1,6 +1,6 @@
 #!/usr/bin/env python3
-"""Summarises, tabulates and confirms few and many records with limited address space: none of the three needs more
-for many records than for few. What `confirm` answers is checked beside.
+"""Summarises, tabulates, condenses and confirms few and many records with limited address space: none of the four needs
+more for many records than for few. What `condense` and `confirm` answer is checked beside.
 
 usage: tests/one_pass.py
 """
@@ -37,6 +37,7 @@ def main() -> None:
             "summarise": lambda of: ["summarise", "--k", "100"],
             "summarise by ss": lambda of: ["summarise", "--k", "100", "--method", "ss"],
             "table": lambda of: ["table"],
+            "condense": lambda of: ["condense", f"{room}/{of}"],
             "confirm": lambda of: ["confirm", f"{room}/{of}"],
         }
         for name, words in commands.items():
@@ -49,6 +50,10 @@ def main() -> None:
             tally.check(f"{name} in bounded memory", least < MOST and limited.out == ample.out, said)
         rows = programs.run([program, *commands["confirm"]("many")], many).out
         tally.check("the heavy key", rows == b"heavy,%d\n" % (MANY // 100 * 7), rows)
+        fewer = programs.run([program, *commands["condense"]("many")], many).out
+        tally.check("at most a row more than counters", 0 < fewer.count(b"\n") <= 101, fewer)
+        rows = programs.run([program, *commands["confirm"]("many")], fewer).out
+        tally.check("the heavy key in condensed records", rows == b"heavy,%d\n" % (MANY // 100 * 7), rows)
     tally.end("one_pass")
 
 

@@ -352,6 +352,30 @@ def confirm(data: bytes, text: bytes) -> bytes:
     return rows_text([row for row in heavy(items, 1, saved.k + 1) if row[0] in saved.counters])
 
 
+def leading_row(key: bytes, weight: int) -> bytes:
+    """A row whose key is in quotes where a reader would take a byte order mark off it."""
+    row = rows_text([(key, weight)])
+    return b'"%s"%s' % (key, row[len(key):]) if row.startswith(b"\xef\xbb\xbf") else row
+
+
+def condense(data: bytes, text: bytes) -> bytes:
+    saved = read_file(data)
+    if not isinstance(saved, Summary):
+        raise Refused("file 1: not a counter summary")
+    weights: dict[bytes, int] = {}
+    others = 0
+    for key, weight in items_of(text):
+        if key in saved.counters:
+            weights[key] = weights.get(key, 0) + weight
+        else:
+            others += weight
+    rows = sorted(weights.items())
+    if others > 0:
+        names = (b"others%s" % (b"%d" % number if number else b"") for number in range(len(saved.counters) + 1))
+        rows.append((next(name for name in names if name not in saved.counters), others))
+    return leading_row(*rows[0]) + rows_text(rows[1:]) if rows else b""
+
+
 def answer(command, *given) -> tuple[int, bytes, bytes]:
     """The status, standard output and standard error of a command."""
     try:

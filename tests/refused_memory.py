@@ -38,7 +38,8 @@ CALLS = {
     ],
     "heavy": [
         "read_stream", "report_text", "write_report", "confirm", "summary_bytes mg", "summary_bytes ss",
-        "table_bytes", "merge_bytes", "merge_bytes tables", "ask_bytes", "confirm_bytes", "run_report",
+        "table_bytes", "merge_bytes", "merge_bytes tables", "ask_bytes", "condense_bytes", "confirm_bytes",
+        "run_report",
     ],
 }
 
@@ -199,6 +200,7 @@ def try_commands(refusing: Refusing, program: str, room: str) -> int:
         (["merge", saved, table], b""),
         (["merge", f"{room}/none"], b""),
         (["ask", saved, "a", "z" * 40], b""),
+        (["condense", saved], RECORDS),
         (["confirm", saved], RECORDS),
         (["--help"], b""),
         (["--version"], b""),

@@ -1,7 +1,10 @@
 pub mod CountFacts
 pub mod FileFacts
 pub mod KeyFacts
+pub mod NameFacts
 pub mod OptionFacts
 pub mod PartFacts
 pub mod ReadFacts
+pub mod RowFacts
 pub mod TakeFacts
+pub mod TextFacts

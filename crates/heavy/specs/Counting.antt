@@ -1,5 +1,5 @@
 -- Keys that are counted as items come.
-use Rattle.std.specs.Prelude.{◌+◌, ℕ, List}
+use Rattle.std.specs.Prelude.{◌≡◌, ◌+◌, ◌<◌, ℕ, List, All}
 use Rattle.hh_stream.specs.Weights.{Bytes, Entry, total_of}
 use Rattle.hh_counters.specs.Report.{counted, weights_at}
 
@@ -16,3 +16,7 @@ count_of ks xs = record { keys = ks; weights = weights_at ks xs; total = total_o
 -- a count after some more items
 abbrev pub counted_on : Count → List Entry → Count
 counted_on c xs = record { keys = c.keys; weights = counted c.keys xs c.weights; total = c.total + total_of xs }
+
+-- the items have weights, and their count for these keys is this
+abbrev pub IsCountOf : List Bytes → List Entry → Count → Type 0
+IsCountOf ks xs c = All (λ (e : Entry). 0 < e.1) xs × (c ≡ count_of ks xs)

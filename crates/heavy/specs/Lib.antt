@@ -1,5 +1,6 @@
 pub mod Counting
 pub mod Files
+pub mod Laws
 pub mod Limits
 pub mod Reports
 pub mod Rows

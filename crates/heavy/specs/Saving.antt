@@ -1,6 +1,7 @@
 -- What the commands on saved files answer.
 use Rattle.std.specs.Prelude.{◌≡◌, ◌≢◌, ℕ, List, not, codes, Option, Some, None, Ok, Err, ⊤, if◌then◌else◌}
 use Rattle.hh_stream.specs.Weights.{Entry, total_of}
+use Rattle.hh_counters.specs.Condensed.{condensed}
 use Rattle.hh_counters.specs.Counters.{Sketch, sketch_of}
 use Rattle.hh_countmin.specs.Table.{Grid}
 use Rattle.hh_saved.specs.Reading.{saved_of}
@@ -10,7 +11,7 @@ use Rattle.hh_saved.specs.declared.saved.Saved.{Saved}
 use Rattle.hh_saved.specs.declared.saved.Saved.TheVariants.{Counters, Cells}
 use Rattle.heavy.specs.Limits.{in_range, most_depth, most_k, most_width}
 use Rattle.heavy.specs.Reports.{confirmed}
-use Rattle.heavy.specs.Rows.{rows_of}
+use Rattle.heavy.specs.Rows.{condensed_text, rows_of}
 use Rattle.heavy.specs.Streams.{ReadsAs}
 use Rattle.heavy.specs.declared.saving.Method.{Method}
 use Rattle.heavy.specs.declared.saving.Method.TheVariants as method
@@ -59,6 +60,30 @@ abbrev pub ConfirmsRows : List ℕ → Option (List ℕ) → List ℕ → Type 0
 ConfirmsRows file left rows =
     (s : Sketch) × (xs : List Entry) × (saved_of file ≡ Ok (Counters s)) × ReadsAs left (Ok xs)
     × (s.total ≡ total_of xs) × (rows ≡ rows_of (confirmed s xs))
+
+-- the file holds a summary, and these are the condensed rows of a stream, that of all bytes that the
+-- reader had left
+abbrev pub CondensesRows : List ℕ → Option (List ℕ) → List ℕ → Type 0
+CondensesRows file left rows =
+    (s : Sketch) × (xs : List Entry) × (saved_of file ≡ Ok (Counters s)) × ReadsAs left (Ok xs)
+    × (rows ≡ condensed_text (condensed s.counters xs))
+
+-- what a refusal to read a summary tells: of the file, and of its kind
+abbrev pub SummaryRefused : List ℕ → ToolError → Type 0
+SummaryRefused file (tool.BadFile n f) = (n ≡ 1) × (saved_of file ≡ Err f)
+SummaryRefused file tool.NotCounters = (t : Grid) × (saved_of file ≡ Ok (Cells t))
+SummaryRefused file tool.Memory = ⊤
+SummaryRefused file _ = ⊥
+
+-- what a refusal to condense tells: of the file, of its kind, and of the records
+abbrev pub CondenseRefused : List ℕ → Option (List ℕ) → ToolError → Type 0
+CondenseRefused file left (tool.BadFile n f) = (n ≡ 1) × (saved_of file ≡ Err f)
+CondenseRefused file left tool.NotCounters = (t : Grid) × (saved_of file ≡ Ok (Cells t))
+CondenseRefused file left tool.ReadFault = (s : Sketch) × (saved_of file ≡ Ok (Counters s))
+CondenseRefused file left (tool.BadRecord n c) =
+    (s : Sketch) × (saved_of file ≡ Ok (Counters s)) × ReadsAs left (Err (n, c))
+CondenseRefused file left tool.Memory = ⊤
+CondenseRefused file left _ = ⊥
 
 -- what a refusal to count a summary's keys in records tells: of the records, and of the totals
 abbrev pub CountRefused : Sketch → Option (List ℕ) → ToolError → Type 0

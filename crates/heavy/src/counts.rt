@@ -1,10 +1,11 @@
 //! The keys of a summary, counted as items come.
 
-ghost use Rattle.std.specs.Prelude.{◌≡◌, ◌+◌, ◌≤◌, ◌++◌, ◌∷◌, [], true, IfOk, length, zip};
+ghost use Rattle.std.specs.Prelude.{◌≡◌, ◌+◌, ◌≤◌, ◌++◌, ◌∷◌, [], true, IfOk, OnOk, filter, length, zip};
 ghost use Rattle.std.specs.Map.{keys_of};
 ghost use Rattle.hh_stream.specs.Weights.{max_total, total_of};
+ghost use Rattle.hh_counters.specs.Counters.{IsCounters, exceeds};
 ghost use Rattle.hh_counters.specs.Report.{selected};
-ghost use Rattle.heavy.specs.Counting.{count_of, counted_on};
+ghost use Rattle.heavy.specs.Counting.{IsCountOf, count_of, counted_on};
 ghost use Rattle.heavy.specs.Limits.{in_range, most_k};
 
 use crate::taking::TakeItems;
@@ -43,11 +44,12 @@ impl Model for Counts {
 impl Counts {
     /// The keys of a summary, before any item.
     pub(crate) fn of(alloc: Global, summary: &Summary) -> Result<Counts, AllocError>
-        ensures { IfOk result (λ counts. counts ≡ count_of (keys_of summary.now.counters) []) }
+        ensures none { IfOk result (λ counts. counts ≡ count_of (keys_of summary.now.counters) []) }
+        ensures counters { OnOk result (IsCounters summary.now.counters) }
     {
         counts_add_up();
         let candidates = Candidates::of(alloc, summary)?;
-        let weights = vec![in alloc; 0u64; candidates.len()]?;
+        let weights = vec![in alloc; 0u64; summary.len()]?;
         Ok(Counts {
             candidates,
             weights,
@@ -84,10 +86,26 @@ impl Counts {
     {
         self.candidates.select(&self.weights, self.total, 1, k + 1)
     }
+
+    /// The keys that came, each with its weight, by rising key.
+    pub(crate) fn rows(&self, alloc: Global) -> Result<Vec<Heavy>, AllocError>
+        ensures { IfOk result (λ rows. rows.items
+            ≡ filter (exceeds 0) (zip self.now.keys self.now.weights)) }
+    {
+        let mut rows = Vec::new(alloc);
+        for place in 0..self.candidates.len() {
+            let weight = self.weights[place];
+            if weight > 0 {
+                let key = self.candidates.key(place).copy()?;
+                rows.push(Heavy { key, weight })?;
+            }
+        }
+        Ok(rows)
+    }
 }
 
 impl TakeItems for Counts {
-    ghost made = { λ first xs counts. counts ≡ count_of first.keys xs };
+    ghost made = { λ first xs counts. IsCountOf first.keys xs counts };
 
     ghost weight_taken = { λ counts. counts.total };
 

@@ -2,10 +2,12 @@
 #![tactic(auto)]
 
 mod ask;
+mod condensation;
 mod confirmation;
 mod counts;
 mod error;
 mod files;
+pub mod laws;
 mod merge;
 mod records;
 mod report;
@@ -24,6 +26,6 @@ pub use merge::merge_bytes;
 pub use records::{BadRecordCause, ReadError, read_stream};
 pub use report::{ReportOptions, Tree, run_report};
 pub use rows::{ReportFault, report_text, write_report};
-pub use saving::{Method, confirm_bytes, summary_bytes, table_bytes};
+pub use saving::{Method, condense_bytes, confirm_bytes, summary_bytes, table_bytes};
 pub use sink::{Out, Sink, SinkFault, WriteFault, put};
 pub use threshold::Share;

@@ -1,16 +1,21 @@
 //! The rows of a report.
 
-ghost use Rattle.std.specs.Prelude.{◌≡◌, false, true, IfOk, IfErr, OnOk, Some};
+ghost use Rattle.std.specs.Prelude.{◌≡◌, ◌++◌, false, true, IfOk, IfErr, OnOk, Some};
 ghost use Rattle.std.specs.Io.KnownBytes.{Appends};
-ghost use Rattle.csv.specs.Writing.{text_written};
-ghost use Rattle.heavy.specs.Rows.{IsBetweenRows, row_of, rows_of};
+ghost use Rattle.csv.specs.Writing.{default_writer, quoted, text_written};
+ghost use Rattle.heavy.specs.Rows.{IsBetweenRows, condensed_text, first_row_of, quoted_row_of, row_of, rows_of};
 ghost use Rattle.heavy.specs.Reports.{RowsRefused, is_write_fault};
 
 use crate::sink::{Sink, WriteFault, put};
-use csv::{Writer, WriterBuilder};
+use csv::{QuoteStyle, Writer, WriterBuilder};
 use hh_counters::Heavy;
+use hh_stream::Key;
 use itoa::Buffer;
 use std::alloc::{AllocError, Global};
+use std::slice;
+
+/// The three bytes of U+FEFF in UTF-8.
+const BYTE_ORDER_MARK: &[u8] = b"\xef\xbb\xbf";
 
 /// Writes a row after the others.
 fn write_row(writer: &mut Writer<Vec<u8>>, row: &Heavy) -> Result<(), AllocError>
@@ -29,18 +34,76 @@ fn write_row(writer: &mut Writer<Vec<u8>>, row: &Heavy) -> Result<(), AllocError
     }
 }
 
-/// The rows of a report as `csv` writes them, `key,weight`, each ended by a line feed.
-pub fn report_text(alloc: Global, rows: &[Heavy]) -> Result<Vec<u8>, AllocError>
-    ensures { IfOk result (λ text. text.items ≡ rows_of rows.now) }
+/// A text with rows behind it.
+fn with_rows(text: Vec<u8>, rows: &[Heavy]) -> Result<Vec<u8>, AllocError>
+    ensures { IfOk result (λ whole. whole.items ≡ text.items ++ rows_of rows.now) }
 {
-    let mut writer = WriterBuilder::new().from_writer(Vec::new(alloc));
+    let mut writer = WriterBuilder::new().from_writer(text);
     for row in rows {
         write_row(&mut writer, row)?;
     }
     match writer.into_inner() {
+        Ok(whole) => Ok(whole),
+        Err(_) => Err(AllocError),
+    }
+}
+
+/// The rows of a report as `csv` writes them, `key,weight`, each ended by a line feed.
+pub fn report_text(alloc: Global, rows: &[Heavy]) -> Result<Vec<u8>, AllocError>
+    ensures { IfOk result (λ text. text.items ≡ rows_of rows.now) }
+{
+    with_rows(Vec::new(alloc), rows)
+}
+
+/// A key in quotes.
+#[tactic(auto, using(crate::proofs::RowFacts::same_escaped))]
+fn quoted_key(alloc: Global, key: &Key) -> Result<Vec<u8>, AllocError>
+    ensures { IfOk result (λ text. text.items ≡ quoted default_writer key.now) }
+{
+    let mut writer = WriterBuilder::new()
+        .quote_style(QuoteStyle::Always)
+        .from_writer(Vec::new(alloc));
+    let Ok(()) = writer.write_field(key.bytes()) else {
+        return Err(AllocError);
+    };
+    match writer.into_inner() {
         Ok(text) => Ok(text),
         Err(_) => Err(AllocError),
     }
+}
+
+/// A row whose key is in quotes.
+fn quoted_row(alloc: Global, row: &Heavy) -> Result<Vec<u8>, AllocError>
+    ensures { IfOk result (λ text. text.items ≡ quoted_row_of row.now) }
+{
+    let mut digits = Buffer::new();
+    let mut text = quoted_key(alloc, &row.key)?;
+    text.push(b',')?;
+    text.extend_from_slice(digits.format(row.weight).as_bytes())?;
+    text.push(b'\n')?;
+    Ok(text)
+}
+
+/// A row that may stand first in a text: there a reader takes off a byte order mark, unless it is
+/// in quotes.
+fn first_row(alloc: Global, row: &Heavy) -> Result<Vec<u8>, AllocError>
+    ensures { IfOk result (λ text. text.items ≡ first_row_of row.now) }
+{
+    if row.key.bytes().starts_with(BYTE_ORDER_MARK) {
+        return quoted_row(alloc, row);
+    }
+    report_text(alloc, slice::from_ref(row))
+}
+
+/// The rows of condensed records: as those of a report, but that the first key is in quotes where
+/// it begins with the three bytes of a byte order mark.
+pub(crate) fn condensed_text(alloc: Global, rows: &[Heavy]) -> Result<Vec<u8>, AllocError>
+    ensures { IfOk result (λ text. text.items ≡ condensed_text rows.now) }
+{
+    let Some((first, rest)) = rows.split_first() else {
+        return Ok(Vec::new(alloc));
+    };
+    with_rows(first_row(alloc, first)?, rest)
 }
 
 /// Why rows were not written.

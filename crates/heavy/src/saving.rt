@@ -9,14 +9,16 @@ ghost use Rattle.hh_saved.specs.Spelling.{Spells};
 ghost use Rattle.hh_saved.specs.declared.format.Version.TheVariants as version;
 ghost use Rattle.hh_saved.specs.declared.saved.Saved.TheVariants.{Cells, Counters};
 ghost use Rattle.heavy.specs.Limits.{in_range, most_depth, most_k, most_width};
-ghost use Rattle.heavy.specs.Saving.{ConfirmRefused, ConfirmsRows, IsSummaryOf, RecordsRefused, RefusedAfter, SavesStream, bad_k, bad_table, word_of};
+ghost use Rattle.hh_saved.specs.Reading.{saved_of};
+ghost use Rattle.heavy.specs.Saving.{CondenseRefused, CondensesRows, ConfirmRefused, ConfirmsRows, IsSummaryOf, RecordsRefused, RefusedAfter, SavesStream, SummaryRefused, bad_k, bad_table, word_of};
 ghost use Rattle.heavy.specs.Streams.{ReadsAs};
 
+use crate::condensation::condense_records;
 use crate::confirmation::confirm_records;
 use crate::error::ToolError;
 use crate::records::read_items;
 use crate::report::{in_range, read_fault};
-use crate::rows::report_text;
+use crate::rows::{condensed_text, report_text};
 use hh_counters::laws::summaries_follow_items;
 use hh_counters::{BucketSaving, MAX_K, Monitor, NewFault, Summary};
 use hh_countmin::laws::tables_follow_items;
@@ -196,6 +198,19 @@ pub fn table_bytes<R: Read + Drop>(
     }
 }
 
+/// The summary that a file holds.
+fn summary_in(alloc: Global, file: &[u8]) -> Result<Summary, ToolError>
+    ensures summary { IfOk result (λ summary. saved_of file.now ≡ Ok (Counters summary)) }
+    ensures refused { IfErr result (λ fault. SummaryRefused file.now fault) }
+{
+    match read(alloc, file) {
+        Ok(Saved::Counters(summary)) => Ok(summary),
+        Ok(Saved::Cells(_)) => Err(ToolError::NotCounters),
+        Err(SavedFault::Memory) => Err(ToolError::Memory),
+        Err(fault) => Err(ToolError::BadFile { number: 1, fault }),
+    }
+}
+
 /// The report text of the saved summary's keys that are heavy in the stream of the reader's
 /// records, as [`confirm`](crate::confirm) finds them.
 pub fn confirm_bytes<R: Read + Drop>(
@@ -207,14 +222,38 @@ pub fn confirm_bytes<R: Read + Drop>(
         ConfirmsRows file.now (R.remaining reader) rows.items) }
     ensures refused { IfErr result (λ fault. ConfirmRefused file.now (R.remaining reader) fault) }
 {
-    let summary = match read(alloc, file) {
-        Ok(Saved::Counters(summary)) => summary,
-        Ok(Saved::Cells(_)) => return Err(ToolError::NotCounters),
-        Err(SavedFault::Memory) => return Err(ToolError::Memory),
-        Err(fault) => return Err(ToolError::BadFile { number: 1, fault }),
-    };
+    let summary = summary_in(alloc, file)?;
     let rows = confirm_records(alloc, &summary, reader)?;
     match report_text(alloc, &rows) {
+        Ok(text) => Ok(text),
+        Err(_) => Err(ToolError::Memory),
+    }
+}
+
+/// Records that say the same to [`confirm_bytes`] with the same file as those of the reader, at
+/// most one more than the summary has keys: each key of the summary that comes, with its weight, by
+/// rising key, and then, where other keys come, one record of what they weigh. Its key is the first
+/// of `others`, `others1`, `others2` and so on that is no key of the summary.
+///
+/// So parts of a stream may be condensed one by one by the summary of the whole, and their
+/// condensed records joined in any order. The rows are as [`report_text`](crate::report_text)
+/// writes them, but that the first key is in quotes where it begins with the three bytes of a byte
+/// order mark.
+///
+/// The file is tested first ([`ToolError::BadFile`], as file 1, and [`ToolError::NotCounters`]), and
+/// then the records, whose total need not be the summary's.
+pub fn condense_bytes<R: Read + Drop>(
+    alloc: Global,
+    file: &[u8],
+    reader: R,
+) -> Result<Vec<u8>, ToolError>
+    ensures rows { IfOk result (λ rows.
+        CondensesRows file.now (R.remaining reader) rows.items) }
+    ensures refused { IfErr result (λ fault. CondenseRefused file.now (R.remaining reader) fault) }
+{
+    let summary = summary_in(alloc, file)?;
+    let rows = condense_records(alloc, &summary, reader)?;
+    match condensed_text(alloc, &rows) {
         Ok(text) => Ok(text),
         Err(_) => Err(ToolError::Memory),
     }

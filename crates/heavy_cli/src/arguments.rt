@@ -3,7 +3,7 @@
 ghost use Rattle.std.specs.Prelude.{◌≡◌, false, true, IfOk};
 ghost use Rattle.clap.specs.declared.builder.command.Command.TheViews.{out-Command as fields_of};
 
-use crate::help::{ASK, CONFIRM, Help, MERGE, PROGRAM, REPORT, SUMMARISE, TABLE};
+use crate::help::{ASK, CONDENSE, CONFIRM, Help, MERGE, PROGRAM, REPORT, SUMMARISE, TABLE};
 use clap::{Arg, ArgAction, ArgMatches, Command, value_parser};
 use std::alloc::{AllocError, Global};
 
@@ -200,6 +200,14 @@ fn ask_command<'a>(alloc: Global) -> Result<Command<'a>, AllocError>
         .arg(keys.num_args(1..))
 }
 
+fn condense_command<'a>(alloc: Global) -> Result<Command<'a>, AllocError>
+    ensures { IfOk result (λ c. (fields_of c).has_globals ≡ false) }
+{
+    reader(alloc, "condense", CONDENSE)?
+        .after_help(DASHES)
+        .arg(word(alloc, "FILE", "A saved summary"))
+}
+
 fn confirm_command<'a>(alloc: Global) -> Result<Command<'a>, AllocError>
     ensures { IfOk result (λ c. (fields_of c).has_globals ≡ false) }
 {
@@ -221,6 +229,7 @@ pub fn command<'a>(alloc: Global) -> Result<Command<'a>, AllocError>
         .subcommand(table_command(alloc)?)?
         .subcommand(merge_command(alloc)?)?
         .subcommand(ask_command(alloc)?)?
+        .subcommand(condense_command(alloc)?)?
         .subcommand(confirm_command(alloc)?)?;
     Ok(all.subcommand_required(true))
 }

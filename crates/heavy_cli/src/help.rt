@@ -107,6 +107,28 @@ Example:
     z,0,0",
 };
 
+pub const CONDENSE: Help = Help {
+    about: "Print fewer records that say to `heavy confirm` what those on standard input say",
+    whole: "Print fewer records that say to `heavy confirm` what those on standard input say: the
+weight of each key of a saved summary that comes there, by rising key, and then that
+of all other keys together, under the name `others` (or others1, others2 and so on,
+where that is a key of the summary). Parts of a stream that are condensed by one
+summary, joined in any order, are confirmed as the stream is. It holds one record at
+a time.
+A word that begins with - is given after --",
+    end: "Exit status: 0 all rows are written; 1 the file or input could not be read or
+output not be written; 2 wrong usage; 3 the file is damaged or no summary, or a
+record is refused; 4 out of memory.
+
+Example:
+    $ printf 'a,5\\nb,3\\nc,2\\na,1\\n' > day.csv
+    $ heavy summarise --k 2 < day.csv > day.heavy
+    $ heavy condense day.heavy < day.csv
+    a,6
+    b,3
+    others,2",
+};
+
 pub const CONFIRM: Help = Help {
     about: "Print the heavy keys of a saved summary in the records on standard input",
     whole: "Print the heavy keys of a saved summary in the records on standard input, which are

@@ -12,8 +12,8 @@ mod words;
 
 use files::{read_file, read_files};
 use heavy::{
-    Method, Out, ToolError, ask_bytes, confirm_bytes, merge_bytes, put, run_report, summary_bytes,
-    table_bytes,
+    Method, Out, ToolError, ask_bytes, condense_bytes, confirm_bytes, merge_bytes, put, run_report,
+    summary_bytes, table_bytes,
 };
 use progress::Metered;
 use request::{NoRequest, Question, Request, read_request};
@@ -34,6 +34,7 @@ fn answer(rt: &HostRuntime, question: Question, input: Input<'_>) -> Result<Vec<
         Question::Table { width, depth, seed } => table_bytes(alloc, width, depth, seed, input),
         Question::Merge { first, others } => merge_bytes(alloc, &read_files(rt, &first, &others)?),
         Question::Ask { file, keys } => ask_bytes(alloc, &read_file(rt, 1, &file)?, &keys),
+        Question::Condense { file } => condense_bytes(alloc, &read_file(rt, 1, &file)?, input),
         Question::Confirm { file } => confirm_bytes(alloc, &read_file(rt, 1, &file)?, input),
     }
 }

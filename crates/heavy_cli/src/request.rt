@@ -48,6 +48,10 @@ pub enum Question {
         file: Vec<u8>,
         keys: Vec<Vec<u8>>,
     },
+    /// Standard input in fewer records, by a saved summary.
+    Condense {
+        file: Vec<u8>,
+    },
     /// The heavy keys of a saved summary in standard input.
     Confirm {
         file: Vec<u8>,
@@ -150,19 +154,25 @@ fn ask(alloc: Global, found: &ArgMatches) -> Result<Question, AllocError> {
     Ok(Question::Ask { file, keys })
 }
 
+fn condense(alloc: Global, found: &ArgMatches) -> Result<Question, AllocError> {
+    let file = word_or(alloc, found, "FILE", "")?;
+    Ok(Question::Condense { file })
+}
+
 fn confirm(alloc: Global, found: &ArgMatches) -> Result<Question, AllocError> {
     let file = word_or(alloc, found, "FILE", "")?;
     Ok(Question::Confirm { file })
 }
 
-/// What a command with these words asks for. `clap` lets these six names come: the one that is none
-/// of the other five is the report's.
+/// What a command with these words asks for. `clap` lets these seven names come: the one that is
+/// none of the other six is the report's.
 fn request_of(alloc: Global, name: &str, found: &ArgMatches) -> Result<Request, AllocError> {
     let question = match name {
         "summarise" => summarise(alloc, found)?,
         "table" => table(found),
         "merge" => merge(alloc, found)?,
         "ask" => ask(alloc, found)?,
+        "condense" => condense(alloc, found)?,
         "confirm" => confirm(alloc, found)?,
         _ => return report(alloc, found),
     };

@@ -94,6 +94,10 @@ fn question_told(alloc: Global, question: &Question) -> Result<String, Fail> {
             let (file, keys) = (text(file), list(alloc, keys)?);
             format!(in alloc; "ask {file} of {keys}")?
         }
+        Question::Condense { file } => {
+            let file = text(file);
+            format!(in alloc; "condense {file}")?
+        }
         Question::Confirm { file } => {
             let file = text(file);
             format!(in alloc; "confirm {file}")?
@@ -119,6 +123,8 @@ fn progress_is_told_where_it_is_asked_for(rt: HostRuntime) -> Result<(), Fail> {
         ("heavy|summarise|--k|7", false),
         ("heavy|summarise|--progress", true),
         ("heavy|table|--progress", true),
+        ("heavy|condense|file", false),
+        ("heavy|condense|file|--progress", true),
         ("heavy|confirm|file", false),
         ("heavy|confirm|file|--progress", true),
         ("heavy|confirm|--|--progress", false),
@@ -201,6 +207,8 @@ fn words_keep_their_order(rt: HostRuntime) -> Result<(), Fail> {
         ("heavy|ask|file|z", "ask file of z/"),
         ("heavy|ask|file|z|a||z", "ask file of z/a//z/"),
         ("heavy|ask|--|-file|-z", "ask -file of -z/"),
+        ("heavy|condense|file", "condense file"),
+        ("heavy|condense|--|--help", "condense --help"),
         ("heavy|confirm|file", "confirm file"),
         ("heavy|confirm|--|--help", "confirm --help"),
     ] {
@@ -230,6 +238,8 @@ fn lines_are_refused_or_ask_for_help(rt: HostRuntime) -> Result<(), Fail> {
         ("heavy|table|--k|2", ErrorKind::UnknownArgument, 2),
         ("heavy|merge", ErrorKind::MissingRequiredArgument, 2),
         ("heavy|ask|file", ErrorKind::MissingRequiredArgument, 2),
+        ("heavy|condense", ErrorKind::MissingRequiredArgument, 2),
+        ("heavy|condense|one|two", ErrorKind::UnknownArgument, 2),
         ("heavy|confirm", ErrorKind::MissingRequiredArgument, 2),
         ("heavy|confirm|one|two", ErrorKind::UnknownArgument, 2),
         ("heavy|merge|--progress|one", ErrorKind::UnknownArgument, 2),

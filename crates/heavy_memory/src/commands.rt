@@ -4,8 +4,8 @@ use crate::lab::{Lab, Said, no_such_call};
 use crate::records::{call as record_call, summary_file};
 use crate::show::{Hex, Taken};
 use heavy::{
-    Method, Out, ReportOptions, Share, Sink, ToolError, Tree, ask_bytes, confirm_bytes,
-    merge_bytes, put, run_report, summary_bytes, table_bytes,
+    Method, Out, ReportOptions, Share, Sink, ToolError, Tree, ask_bytes, condense_bytes,
+    confirm_bytes, merge_bytes, put, run_report, summary_bytes, table_bytes,
 };
 use std::sync::Wait;
 use std::test::Fail;
@@ -20,6 +20,7 @@ pub fn call<R: Threads + Wait + Sync>(rt: &R, lab: &Lab, name: &str) -> Result<S
         "merge_bytes" => merged(lab, true),
         "merge_bytes tables" => merged(lab, false),
         "ask_bytes" => asked(lab),
+        "condense_bytes" => condensed(lab),
         "confirm_bytes" => confirmed(lab),
         "put" => written(lab),
         _ => record_call(lab, name),
@@ -111,6 +112,15 @@ fn asked(lab: &Lab) -> Result<Said, Fail> {
     }
     lab.begin();
     let made = ask_bytes(lab.alloc, file.as_slice(), keys.as_slice());
+    lab.end();
+    said(lab, made)
+}
+
+fn condensed(lab: &Lab) -> Result<Said, Fail> {
+    let file = summary_file(lab)?;
+    let text = lab.text()?;
+    lab.begin();
+    let made = condense_bytes(lab.alloc, file.as_slice(), text.as_slice());
     lab.end();
     said(lab, made)
 }

@@ -2,7 +2,9 @@
 
 use crate::devices::Source;
 use crate::saved_examples::{CELLS, COUNTERS, COUNTERS_1, NO_ITEMS};
-use heavy::{BadRecordCause, Method, ToolError, confirm_bytes, summary_bytes, table_bytes};
+use heavy::{
+    BadRecordCause, Method, ToolError, condense_bytes, confirm_bytes, summary_bytes, table_bytes,
+};
 use hh_countmin::{Family, Table};
 use hh_saved::{Saved, SavedFault, read};
 use hh_stream::Key;
@@ -137,11 +139,56 @@ fn files_that_are_not_confirmed(rt: HostRuntime) {
     }
 }
 
+/// A saved summary with k = 2 that has one key.
+fn summary_of(alloc: Global, record: &[u8]) -> Result<Vec<u8>, ToolError> {
+    summary_bytes(alloc, 2, Method::MisraGries, record)
+}
+
+#[test]
+fn records_are_condensed(rt: HostRuntime) -> Result<(), Fail> {
+    let tests: [(&[u8], &[u8], &[u8]); 8] = [
+        // the key, the records, and the condensed ones
+        (b"a", b"", b""),
+        (b"a", b"a,5\nb,3\nc,2\na,1\n", b"a,6\nothers,5\n"),
+        (b"a", b"a\na", b"a,2\n"),
+        (b"a", b"b,3\nc", b"others,4\n"),
+        (b"others", b"others,2\na,3", b"others,2\nothers1,3\n"),
+        (b"\"a,b\"", b"\"a,b\",2", b"\"a,b\",2\n"),
+        (
+            b"\xef\xbb\xbf\xef\xbb\xbfa",
+            b"b\n\xef\xbb\xbfa,2\n",
+            b"\"\xef\xbb\xbfa\",2\nothers,1\n",
+        ),
+        (b"a", b"a,9223372036854775807", b"a,9223372036854775807\n"),
+    ];
+    for (key, records, condensed) in tests {
+        let file = summary_of(rt.alloc(), key)?;
+        let rows = condense_bytes(rt.alloc(), &file, records)?;
+        assert_eq!(rt; rows.as_slice(), condensed);
+    }
+    Ok(())
+}
+
+#[test]
+fn records_that_are_not_condensed(rt: HostRuntime) {
+    let number = 1;
+    let fault = SavedFault::BadKind;
+    let tests: [(&[u8], ToolError); 3] = [
+        (b"HHS1\x03", ToolError::BadFile { number, fault }),
+        (CELLS, ToolError::NotCounters),
+        (COUNTERS, BAD_RECORD),
+    ];
+    for (file, fault) in tests {
+        assert_eq!(rt; condense_bytes(rt.alloc(), file, BAD).err(), Some(fault));
+    }
+}
+
 /// A command that reads records, and what it is given beside them.
 #[derive(Clone, Copy)]
 enum Command<'a> {
     Summary { k: u64, method: Method },
     Table { width: u64, depth: u64 },
+    Condense { file: &'a [u8] },
     Confirm { file: &'a [u8] },
 }
 
@@ -156,6 +203,8 @@ const SPACE_SAVING: Command<'static> = Command::Summary {
 };
 
 const TABLE: Command<'static> = Command::Table { width: 4, depth: 2 };
+
+const CONDENSE: Command<'static> = Command::Condense { file: COUNTERS };
 
 const CONFIRM: Command<'static> = Command::Confirm { file: COUNTERS };
 
@@ -178,6 +227,7 @@ fn given(
     let bytes = match command {
         Command::Summary { k, method } => summary_bytes(alloc, k, method, source),
         Command::Table { width, depth } => table_bytes(alloc, width, depth, 7, source),
+        Command::Condense { file } => condense_bytes(alloc, file, source),
         Command::Confirm { file } => confirm_bytes(alloc, file, source),
     };
     (bytes, reads)
@@ -185,7 +235,7 @@ fn given(
 
 #[test]
 fn each_read_of_a_command_fails(rt: HostRuntime) {
-    for command in [MISRA_GRIES, SPACE_SAVING, TABLE, CONFIRM] {
+    for command in [MISRA_GRIES, SPACE_SAVING, TABLE, CONDENSE, CONFIRM] {
         let (_, reads) = given(rt.alloc(), command, 0, ErrorKind::BrokenPipe);
         assert!(rt; 4 < reads && reads < 99);
         for fails_at in 1..=reads {
@@ -197,7 +247,7 @@ fn each_read_of_a_command_fails(rt: HostRuntime) {
 
 #[test]
 fn each_read_of_a_command_is_interrupted(rt: HostRuntime) -> Result<(), Fail> {
-    for command in [MISRA_GRIES, SPACE_SAVING, TABLE, CONFIRM] {
+    for command in [MISRA_GRIES, SPACE_SAVING, TABLE, CONDENSE, CONFIRM] {
         let (bytes, reads) = given(rt.alloc(), command, 0, ErrorKind::Interrupted);
         let bytes = bytes?;
         assert!(rt; 4 < reads && reads < 99);

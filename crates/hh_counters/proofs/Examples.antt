@@ -1,8 +1,9 @@
 -- Small cases worked by hand: what the definitions compute.
-use Rattle.std.specs.Prelude.{◌≡◌, List, [], ◌∷◌, ◌++◌, refl}
+use Rattle.std.specs.Prelude.{◌≡◌, List, [], ◌∷◌, ◌++◌, refl, codes}
 use Rattle.hh_stream.specs.Weights.{Bytes, Entry, total_of}
 use Rattle.hh_counters.specs.Counters.{tally, plus, level, lower, join, misra_gries, slack}
 use Rattle.hh_counters.specs.Report.{heavy, by_rank}
+use Rattle.hh_counters.specs.Condensed.{other_name, free_name, condensed}
 use Rattle.hh_counters.specs.SpaceSaving.{least_of, translate, space_saving}
 
 abbrev a : Bytes
@@ -99,3 +100,28 @@ nothing_taken = refl
 -- of equal least counters the least key goes
 least_key_goes : space_saving ((b, 1) ∷ (a, 1) ∷ (c, 1) ∷ []) 1 ≡ (b, 1) ∷ (c, 2) ∷ []
 least_key_goes = refl
+
+-- ---- condensed
+name_0 : other_name 0 ≡ codes "others"
+name_0 = refl
+
+name_1 : other_name 1 ≡ codes "others1"
+name_1 = refl
+
+name_10 : other_name 10 ≡ codes "others10"
+name_10 = refl
+
+-- b and d have no counter
+condensed_records : condensed ((a, 4) ∷ (c, 1) ∷ []) ((d, 7) ∷ four_records) ≡ (a, 6) ∷ (c, 2) ∷ (codes "others", 10) ∷ []
+unfolding condensed tally free_name
+condensed_records = refl
+
+-- a key that does not come has no entry, nor have other keys that weigh nothing
+condensed_few : condensed ((a, 4) ∷ (d, 1) ∷ []) ((a, 2) ∷ (a, 3) ∷ []) ≡ (a, 5) ∷ []
+unfolding condensed tally free_name
+condensed_few = refl
+
+-- both names are keys
+condensed_taken : condensed ((codes "others", 4) ∷ (codes "others1", 1) ∷ []) ((codes "others2", 2) ∷ (codes "others", 5) ∷ []) ≡ (codes "others", 5) ∷ (codes "others2", 2) ∷ []
+unfolding condensed tally free_name
+condensed_taken = refl

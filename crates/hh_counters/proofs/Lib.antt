@@ -15,3 +15,5 @@ pub mod Sorting
 pub mod InBuckets
 pub mod Positions
 pub mod Monitoring
+pub mod Condensing
+pub mod CondensedCounts

@@ -37,14 +37,14 @@ contains_from_in x [] h = absurd h
 contains_from_in x (y ∷ ys) (inl is) = (0, omega arith, is)
 contains_from_in x (y ∷ ys) (inr h) = let rest = contains_from_in x ys h in (suc rest.0, omega (arith, rest.1), rest.2)
 
-in_filter : (p : Entry → Bool) (x : Entry) (xs : List Entry) → In x (filter p xs) → In x xs × (p x ≡ true)
+pub in_filter : (p : Entry → Bool) (x : Entry) (xs : List Entry) → In x (filter p xs) → In x xs × (p x ≡ true)
 in_filter p x [] h = absurd h
 in_filter p x (y ∷ ys) h = elim (p y) as (λ b. p y ≡ b → In x (cond b (y ∷ filter p ys) (filter p ys)) → In x (y ∷ ys) × (p x ≡ true)) [
   | true ↦ λ e i. ⊎_elim (λ (is : y ≡ x). (inl is, ap p (sym is) ∙ e)) (λ (i : In x (filter p ys)). let r = in_filter p x ys i in (inr r.0, r.1)) i
   | false ↦ λ e i. let r = in_filter p x ys i in (inr r.0, r.1)
 ] refl h
 
-filter_in : (p : Entry → Bool) (x : Entry) (xs : List Entry) → In x xs → p x ≡ true → In x (filter p xs)
+pub filter_in : (p : Entry → Bool) (x : Entry) (xs : List Entry) → In x xs → p x ≡ true → In x (filter p xs)
 filter_in p x [] i h = i
 filter_in p x (y ∷ ys) i h = elim (p y) as (λ b. p y ≡ b → In x (cond b (y ∷ filter p ys) (filter p ys))) [
   | true ↦ λ e. ⊎_elim (λ (is : y ≡ x). inl is) (λ (i : In x ys). inr (filter_in p x ys i h)) i
@@ -203,12 +203,12 @@ positive-filter p (e ∷ s) h = elim (p e) as (λ b. AllByRecursion (λ (d : Ent
 ]
 
 -- ---- the report
-in_heavy : (xs : List Entry) (p q : ℕ) (x : Bytes) (w : ℕ) → In (x, w) (heavy xs p q) → (w ≡ weight_of x xs) × (p * total_of xs < q * w)
+pub in_heavy : (xs : List Entry) (p q : ℕ) (x : Bytes) (w : ℕ) → In (x, w) (heavy xs p q) → (w ≡ weight_of x xs) × (p * total_of xs < q * w)
 in_heavy xs p q x w h =
     let i = in_filter (is_heavy p q (total_of xs)) (x, w) (tally xs) (in-by_rank (x, w) _ h) in
     (sym (number_from_in (x, w) (tally xs) (rising-tally xs) i.0) ∙ weight_of-tally x xs, grind (arith, nat_tests, i.1))
 
-heavy_in : (xs : List Entry) (p q : ℕ) (x : Bytes) (w : ℕ) → w ≡ weight_of x xs → p * total_of xs < q * w → In (x, w) (heavy xs p q)
+pub heavy_in : (xs : List Entry) (p q : ℕ) (x : Bytes) (w : ℕ) → w ≡ weight_of x xs → p * total_of xs < q * w → In (x, w) (heavy xs p q)
 heavy_in xs p q x w e l =
     let same : weight_of x (tally xs) ≡ w = weight_of-tally x xs ∙ sym e in
     let some : 0 < w = elim (nat_lt 0 w) as (λ b. nat_lt 0 w ≡ b → 0 < w) [
@@ -350,10 +350,10 @@ rising-zip p ks ns e h = rising-filter p (zip ks ns) (subst (IsStrictlySortedBy 
 
 -- ---- the report from the candidates of counters
 -- each counter's key with its weight in xs
-abbrev candidates : Counters → List Entry → List Entry
+abbrev pub candidates : Counters → List Entry → List Entry
 candidates c xs = map (λ e. (e.0, weight_of e.0 xs)) c
 
-zip-weights_at : (c : Counters) (xs : List Entry) → zip (keys_of c) (weights_at (keys_of c) xs) ≡ candidates c xs
+pub zip-weights_at : (c : Counters) (xs : List Entry) → zip (keys_of c) (weights_at (keys_of c) xs) ≡ candidates c xs
 zip-weights_at [] xs = refl
 zip-weights_at (e ∷ c) xs = ap (λ (ds : List Entry). (e.0, weight_of e.0 xs) ∷ ds) (zip-weights_at c xs)
 
@@ -367,7 +367,7 @@ in_key [] k i = absurd i
 in_key (e ∷ c) k (inl is) = (e, inl refl, ap (λ (y : Entry). y.0) is)
 in_key (e ∷ c) k (inr i) = let r = in_key c k i in (r.0, inr r.1, r.2)
 
-candidates_in : (c : Counters) (xs : List Entry) (e : Entry) → In e c → In (e.0, weight_of e.0 xs) (candidates c xs)
+pub candidates_in : (c : Counters) (xs : List Entry) (e : Entry) → In e c → In (e.0, weight_of e.0 xs) (candidates c xs)
 candidates_in [] xs e i = absurd i
 candidates_in (f ∷ c) xs e (inl is) = inl (ap (λ (y : Entry). (y.0, weight_of y.0 xs)) is)
 candidates_in (f ∷ c) xs e (inr i) = inr (candidates_in c xs e i)
@@ -375,11 +375,11 @@ candidates_in (f ∷ c) xs e (inr i) = inr (candidates_in c xs e i)
 positive_in : (c : Counters) (e : Entry) → IsCounters c → In e c → 0 < weight_of e.0 c
 positive_in c e h i = omega (arith, number_from_in e c h.rising i, all_in (λ (e : Entry). 0 < e.1) e c h.positive i)
 
-keys_of-candidates : (c : Counters) (xs : List Entry) → keys_of (candidates c xs) ≡ keys_of c
+pub keys_of-candidates : (c : Counters) (xs : List Entry) → keys_of (candidates c xs) ≡ keys_of c
 keys_of-candidates [] xs = refl
 keys_of-candidates (e ∷ c) xs = ap (λ (ks : List Bytes). e.0 ∷ ks) (keys_of-candidates c xs)
 
-ranked-filter : (p : Entry → Bool) (es : List Entry) → IsStrictlySortedBy rank_cmp es → IsStrictlySortedBy rank_cmp (filter p es)
+pub ranked-filter : (p : Entry → Bool) (es : List Entry) → IsStrictlySortedBy rank_cmp es → IsStrictlySortedBy rank_cmp (filter p es)
 ranked-filter p es h = IsStrictlySortedBy-filter rank_cmp p es h
 
 -- what a second pass over the candidates finds: the heavy keys that have a counter
@@ -404,7 +404,7 @@ selected_candidates c xs p q h =
     let same : (x.0, weight_of x.0 xs) ≡ x = λ j. (x.0, sym g.0 j) in
     by_rank-in x (filter test (candidates c xs)) (filter_in test x (candidates c xs) (subst (λ (y : Entry). In y (candidates c xs)) same there) (grind (arith, nat_tests, g.1))))
 
-filter_all : (p : Entry → Bool) (es : List Entry) → ((x : Entry) → In x es → p x ≡ true) → filter p es ≡ es
+pub filter_all : (p : Entry → Bool) (es : List Entry) → ((x : Entry) → In x es → p x ≡ true) → filter p es ≡ es
 filter_all p [] h = refl
 filter_all p (e ∷ es) h = ap (λ b. cond b (e ∷ filter p es) (filter p es)) (h e (inl refl)) ∙ ap (λ (ds : List Entry). e ∷ ds) (filter_all p es (λ x i. h x (inr i)))
 

@@ -1,9 +1,12 @@
 -- What holds of the definitions.
 use Rattle.std.specs.Prelude.{◌≡◌, ℕ, ◌+◌, ◌-◌, ◌*◌, ◌<◌, ◌≤◌, List, [], ◌∷◌, ◌++◌, All, filter, zip, length, replicate, Contains, IsPermutation}
+use Rattle.std.specs.List.{AllByRecursion, flat_map}
 use Rattle.std.specs.Map.{keys_of}
-use Rattle.hh_stream.specs.Weights.{Bytes, Entry, weight_of, total_of}
-use Rattle.hh_counters.specs.Counters.{Counters, Sketch, IsCounters, IsLevel, level, plus, join, misra_gries, IsHonest, slack, added, sketch_of}
+use Rattle.hh_stream.specs.Weights.{Bytes, Entry, IsKey, weight_of, total_of}
+use Rattle.hh_stream.specs.Cuttings.{whole_of}
+use Rattle.hh_counters.specs.Counters.{Counters, Sketch, IsCounters, exceeds, IsLevel, level, max_k, plus, join, misra_gries, IsHonest, slack, added, sketch_of}
 use Rattle.hh_counters.specs.SpaceSaving.{least_of, translate, IsRun, space_saving, monitor_of, monitored, translated}
+use Rattle.hh_counters.specs.Condensed.{IsFirstFree, free_name, entry_of, condensed}
 use Rattle.hh_counters.specs.Report.{contenders, heavy, selected, weights_at, counted, has_counter, IsReport}
 
 -- the counters of a stream are honest for it
@@ -114,3 +117,57 @@ MonitorsFollowItems =
     (k : ℕ) (xs : List Entry) (e : Entry)
     → (monitor_of k [] ≡ record { k = k; total = 0; counters = [] }) × (monitor_of k (xs ++ e ∷ []) ≡ monitored (monitor_of k xs) e)
     × (All (λ e. 0 < e.1) xs → translated (monitor_of k xs) ≡ sketch_of k xs)
+
+-- the name of the entry for other keys is the first that has no counter, and no other name is
+abbrev pub FreeNameIsFirst : Type 0
+FreeNameIsFirst =
+    (c : Counters) → IsFirstFree c (free_name c)
+    × ((y : Bytes) → IsFirstFree c y → y ≡ free_name c)
+
+-- the condensed entries have the total, and the weight of each key with a counter
+abbrev pub CondensedKeepsWeights : Type 0
+CondensedKeepsWeights =
+    (c : Counters) (xs : List Entry) → (total_of (condensed c xs) ≡ total_of xs)
+    × ((x : Bytes) → 0 < weight_of x c → weight_of x (condensed c xs) ≡ weight_of x xs)
+
+-- of items with keys and weights, so are the condensed entries
+abbrev pub CondensedAreItems : Type 0
+CondensedAreItems =
+    (c : Counters) (xs : List Entry)
+    → (All (λ e. 0 < e.1) xs → All (λ e. 0 < e.1) (condensed c xs))
+    × (length c ≤ max_k → AllByRecursion (λ e. IsKey e.0) xs
+    → AllByRecursion (λ e. IsKey e.0) (condensed c xs))
+
+-- which keys with counters are heavy depends on the total and their weights alone
+abbrev pub FoundByWeights : Type 0
+FoundByWeights =
+    (c : Counters) (xs ys : List Entry) (p q : ℕ) → total_of xs ≡ total_of ys
+    → ((x : Bytes) → 0 < weight_of x c → weight_of x xs ≡ weight_of x ys)
+    → filter (has_counter c) (heavy xs p q) ≡ filter (has_counter c) (heavy ys p q)
+
+-- the condensed parts, in whatever order their entries come, have the total of the parts and say of
+-- the keys with counters what the parts say
+abbrev pub CondensedPartsSuffice : Type 0
+CondensedPartsSuffice =
+    (c : Counters) (parts : List (List Entry)) (ys : List Entry)
+    → IsPermutation (flat_map (condensed c) parts) ys
+    → (total_of ys ≡ total_of (whole_of parts))
+    × ((p q : ℕ)
+    → filter (has_counter c) (heavy ys p q) ≡ filter (has_counter c) (heavy (whole_of parts) p q))
+
+-- with counters that are honest for the whole, in whatever order it was read, that is its report
+abbrev pub CondensedPartsReport : Type 0
+CondensedPartsReport =
+    (c : Counters) (parts : List (List Entry)) (xs ys : List Entry) (k p q : ℕ)
+    → IsPermutation (whole_of parts) xs → IsPermutation (flat_map (condensed c) parts) ys
+    → IsHonest c (total_of xs) xs k → q ≤ p * (k + 1)
+    → filter (has_counter c) (heavy ys p q) ≡ heavy xs p q
+
+-- of items that have weights, the condensed entries are the keys of counters that came, each with
+-- its count, and what the counts leave of the total
+abbrev pub CondensedIsCounted : Type 0
+CondensedIsCounted =
+    (c : Counters) (xs : List Entry) → IsCounters c → All (λ e. 0 < e.1) xs
+    → let counts = filter (exceeds 0) (zip (keys_of c) (weights_at (keys_of c) xs)) in
+    (total_of counts ≤ total_of xs)
+    × (condensed c xs ≡ counts ++ entry_of (free_name c) (total_of xs - total_of counts))

@@ -2,4 +2,5 @@ pub mod Counters
 pub mod Report
 pub mod SpaceSaving
 pub mod Buckets
+pub mod Condensed
 pub mod Laws

@@ -1,6 +1,6 @@
 //! Laws of the definitions in `specs/`. Each function does nothing: its contract is the law.
 
-ghost use Rattle.hh_counters.specs.Laws.{MisraGriesIsHonest, JoinOfHonestIsHonest, HeavyKeysHaveCounters, CountersBoundWeights, LevelIsLeast, SumIsByKey, JoinTakesTheLevel, ReportIsExact, ReportIsUnique, HonestIsNear, HonestInAnyOrder, CandidatesSuffice, ContendersSuffice, CountsAddUp, CountsStayWithin, RunSumsToTotal, RunBoundsWeights, TranslationIsMisraGries, StepsAreARun, SummariesFollowItems, MonitorsFollowItems};
+ghost use Rattle.hh_counters.specs.Laws.{MisraGriesIsHonest, JoinOfHonestIsHonest, HeavyKeysHaveCounters, CountersBoundWeights, LevelIsLeast, SumIsByKey, JoinTakesTheLevel, ReportIsExact, ReportIsUnique, HonestIsNear, HonestInAnyOrder, CandidatesSuffice, ContendersSuffice, CountsAddUp, CountsStayWithin, RunSumsToTotal, RunBoundsWeights, TranslationIsMisraGries, StepsAreARun, SummariesFollowItems, MonitorsFollowItems, FreeNameIsFirst, CondensedKeepsWeights, CondensedAreItems, FoundByWeights, CondensedPartsSuffice, CondensedPartsReport, CondensedIsCounted};
 
 /// The Misra-Gries counters of a list of items are honest for it (Misra and Gries 1982).
 pub fn misra_gries_is_honest()
@@ -86,4 +86,30 @@ pub fn translation_is_misra_gries()
 pub fn summaries_follow_items()
     ensures summaries { SummariesFollowItems }
     ensures monitors { MonitorsFollowItems }
+{}
+
+/// The name that stands for all keys without a counter is the first of `others`, `others1`,
+/// `others2` and so on that has none.
+pub fn free_name_is_first()
+    ensures { FreeNameIsFirst }
+{}
+
+/// Condensed entries have the total of the items, and the weight of each key with a counter. They
+/// are keys with weights where the items are.
+pub fn condensed_keeps_weights()
+    ensures weights { CondensedKeepsWeights }
+    ensures items { CondensedAreItems }
+{}
+
+/// Condensed entries are what counting the keys of counters finds, and what it leaves of the total.
+pub fn condensed_is_counted()
+    ensures { CondensedIsCounted }
+{}
+
+/// Parts that are condensed one by one and joined in any order have the heavy keys with counters of
+/// the whole: of honest counters, its report.
+pub fn condensed_parts_suffice()
+    ensures weights { FoundByWeights }
+    ensures parts { CondensedPartsSuffice }
+    ensures report { CondensedPartsReport }
 {}

@@ -10,3 +10,4 @@ pub mod Alone
 pub mod Closed
 pub mod Merged
 pub mod Ordered
+pub mod TreeLaws

@@ -85,7 +85,7 @@ sum-whole : (f : Entry → ℕ) (lists : List (List Entry)) → sum_by f (whole_
 sum-whole f [] = refl
 sum-whole f (xs ∷ lists) = omega (arith, sum_by-append f xs (whole_of lists), sum_by-cons (λ xs. sum_by f xs) xs lists, sum-whole f lists)
 
-same-sum : (f : Entry → ℕ) (t : MergeTree) (lists : List (List Entry)) → IsMergeTree t (length lists) → sum_by f (items_of t lists) ≡ sum_by f (whole_of lists)
+pub same-sum : (f : Entry → ℕ) (t : MergeTree) (lists : List (List Entry)) → IsMergeTree t (length lists) → sum_by f (items_of t lists) ≡ sum_by f (whole_of lists)
 same-sum f t lists h = sum-items f t lists ∙ sum-leaves (λ xs. sum_by f xs) [] t lists h ∙ sym (sum-whole f lists)
 
 -- honest pieces make an honest tree

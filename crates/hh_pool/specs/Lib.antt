@@ -4,3 +4,4 @@ pub mod Plans
 pub mod Trees
 pub mod Passes
 pub mod Outcomes
+pub mod Laws

@@ -5,6 +5,7 @@
 mod analysis;
 mod first;
 mod gate;
+pub mod laws;
 mod merging;
 mod options;
 mod outcome;

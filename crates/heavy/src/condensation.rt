@@ -1,0 +1,114 @@
+//! Fewer records that say of a summary's keys what many records say.
+
+ghost use Rattle.std.specs.Prelude.{◌≡◌, ◌<◌, ◌≤◌, ◌^◌, Ok, List, IfOk, IfErr};
+ghost use Rattle.std.specs.Map.{keys_of};
+ghost use Rattle.hh_stream.specs.Weights.{Entry, total_of};
+ghost use Rattle.hh_counters.specs.Condensed.{condensed, free_name, other_name};
+ghost use Rattle.hh_counters.specs.Counters.{IsCounters};
+ghost use Rattle.heavy.specs.Counting.{IsCountOf};
+ghost use Rattle.heavy.specs.Saving.{RecordsRefused};
+ghost use Rattle.heavy.specs.Streams.{ReadsAs};
+
+use crate::counts::Counts;
+use crate::error::ToolError;
+use crate::records::read_items;
+use crate::report::read_fault;
+use crate::taking::TakeItems;
+use hh_counters::laws::{condensed_is_counted, free_name_is_first};
+use hh_counters::{Heavy, Summary};
+use hh_stream::{Key, KeyFault};
+use itoa::Buffer;
+use std::alloc::{AllocError, Global};
+use std::io::Read;
+
+/// Name number i for the keys without a counter: `others` and the digits of i, where 0 has none.
+fn other_name(alloc: Global, number: u64) -> Result<Key, AllocError>
+    ensures { IfOk result (λ key. key ≡ other_name number) }
+{
+    let mut name = Vec::from_slice(alloc, b"others")?;
+    if number > 0 {
+        let mut digits = Buffer::new();
+        name.extend_from_slice(digits.format(number).as_bytes())?;
+    }
+    match Key::new(alloc, name.as_slice()) {
+        Ok(key) => Ok(key),
+        Err(KeyFault::Empty) => unreachable!(),
+        Err(KeyFault::TooLong) => unreachable!(),
+        Err(KeyFault::Memory) => Err(AllocError),
+    }
+}
+
+/// The first of the names `others`, `others1`, `others2` and so on that has no counter.
+fn free_name(alloc: Global, summary: &Summary) -> Result<Key, AllocError>
+    ensures { IfOk result (λ key. key ≡ free_name summary.now.counters) }
+{
+    free_name_is_first();
+    for number in 0..summary.k() + 1 {
+        let name = other_name(alloc, number)?;
+        if summary.get(&name) == 0 {
+            return Ok(name);
+        }
+    }
+    unreachable!()
+}
+
+/// The sum of the weights of rows.
+fn total_of(rows: &[Heavy]) -> u64
+    requires { total_of rows.now < 2 ^ 64 }
+    ensures { result ≡ total_of rows.now }
+{
+    let mut total = 0;
+    for row in rows {
+        total += row.weight;
+    }
+    total
+}
+
+/// The rows of counted items, condensed.
+fn condensed_rows(
+    alloc: Global,
+    summary: &Summary,
+    counts: &Counts,
+) -> Result<Vec<Heavy>, AllocError>
+    requires counters { IsCounters summary.now.counters }
+    requires counted { (xs : List Entry) × IsCountOf (keys_of summary.now.counters) xs counts.now }
+    ensures { IfOk result (λ rows. (xs : List Entry)
+        → IsCountOf (keys_of summary.now.counters) xs counts.now
+        → rows.items ≡ condensed summary.now.counters xs) }
+{
+    condensed_is_counted();
+    let mut rows = counts.rows(alloc)?;
+    let others = counts.total() - total_of(&rows);
+    if others > 0 {
+        let key = free_name(alloc, summary)?;
+        rows.push(Heavy {
+            key,
+            weight: others,
+        })?;
+    }
+    Ok(rows)
+}
+
+/// The condensed items of a reader's records, in one pass that keeps no record.
+pub(crate) fn condense_records<R: Read + Drop>(
+    alloc: Global,
+    summary: &Summary,
+    reader: R,
+) -> Result<Vec<Heavy>, ToolError>
+    ensures rows { IfOk result (λ rows. (xs : List Entry)
+        × ReadsAs (R.remaining reader) (Ok xs)
+        × (rows.items ≡ condensed summary.now.counters xs)) }
+    ensures refused { IfErr result (λ fault. RecordsRefused (R.remaining reader) fault) }
+{
+    let Ok(counts) = Counts::of(alloc, summary) else {
+        return Err(ToolError::Memory);
+    };
+    let counts = match read_items(alloc, reader, counts) {
+        Ok(counts) => counts,
+        Err(error) => return Err(read_fault(error)),
+    };
+    match condensed_rows(alloc, summary, &counts) {
+        Ok(rows) => Ok(rows),
+        Err(_) => Err(ToolError::Memory),
+    }
+}

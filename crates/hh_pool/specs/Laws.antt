@@ -1,0 +1,27 @@
+-- What holds of merge trees.
+use Rattle.std.specs.Prelude.{◌≡◌, ℕ, ◌+◌, ◌<◌, List, [], length, map, filter, slice_index_or, IsPermutation}
+use Rattle.std.specs.List.{flat_map}
+use Rattle.hh_stream.specs.Weights.{Entry, total_of}
+use Rattle.hh_stream.specs.Cuttings.{whole_of}
+use Rattle.hh_counters.specs.Counters.{Counters, IsHonest, misra_gries}
+use Rattle.hh_counters.specs.Report.{has_counter, heavy}
+use Rattle.hh_counters.specs.Condensed.{condensed}
+use Rattle.hh_pool.specs.Trees.{MergeTree, IsMergeTree, tree_value}
+
+-- what any tree makes of counters that are each honest for its part is honest for the whole
+abbrev pub TreesAreHonest : Type 0
+TreesAreHonest =
+    (t : MergeTree) (cs : List Counters) (parts : List (List Entry)) (k : ℕ)
+    → IsMergeTree t (length parts)
+    → ((i : ℕ) → i < length parts → let part = slice_index_or parts i [] in
+    IsHonest (slice_index_or cs i []) (total_of part) part k)
+    → IsHonest (tree_value t cs k) (total_of (whole_of parts)) (whole_of parts) k
+
+-- where c is what any tree makes of the parts' own counters, the parts that are condensed by c one
+-- by one, and joined in whatever order, have the report of the whole, in whatever order that was read
+abbrev pub PartsReportByAnyTree : Type 0
+PartsReportByAnyTree =
+    (t : MergeTree) (parts : List (List Entry)) (c : Counters) (xs ys : List Entry) (k : ℕ)
+    → IsMergeTree t (length parts) → c ≡ tree_value t (map (λ part. misra_gries part k) parts) k
+    → IsPermutation (whole_of parts) xs → IsPermutation (flat_map (condensed c) parts) ys
+    → filter (has_counter c) (heavy ys 1 (k + 1)) ≡ heavy xs 1 (k + 1)
