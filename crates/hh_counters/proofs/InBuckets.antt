@@ -60,6 +60,7 @@ other_set s x i rest apart u q = ap (cond (same_key s.key q) (Some s.place)) (u 
   | false ↦ λ other. refl
 ] refl
 
+-- a key above the bucket's own joins the others
 pub above_ordered : (s : Bucket) (x : Bytes) (i : ℕ) (more : BTreeMap Bytes ℕ) → IsOrdered s → key_cmp x s.key ≡ Greater → SetsOthers s.others more x (Some i)
     → (q : Bytes) → IsSome (get key_cmp more q) → key_cmp s.key q ≡ Less
 above_ordered s x i more o greater u q some = elim (same_key x q) as (λ v. same_key x q ≡ v → IsSome (cond v (Some i) (get key_cmp s.others q)) → key_cmp s.key q ≡ Less) [
@@ -89,6 +90,7 @@ own_first b n s is least o = record {
     some_bucket None q h = h
     some_bucket (Some s) q h = refl
 
+-- two keys of which neither is above the other
 pub both_first : (y z : Bytes) → is_gt (key_cmp y z) ≡ false → is_gt (key_cmp z y) ≡ false → y ≡ z
 both_first y z g h = key_exact y z (level (key_cmp y z) (key_cmp z y) (flipped y z (key_cmp y z) refl) g h)
   where

@@ -192,6 +192,7 @@ held s ks b n q i a e = tests (weight_of q s) n (position (same_key q) ks) (nat_
 abbrev pub AllStand : Counters → List Bytes → Type 0
 AllStand s ks = (q : Bytes) → 0 < weight_of q s → IsSome (position (same_key q) ks)
 
+-- and a key with a counter stands in its bucket, with its place
 holds : (s : Counters) (ks : List Bytes) (b : Buckets) (q : Bytes) → Agree s ks b → 0 < weight_of q s → place_at b (weight_of q s) q ≡ position (same_key q) ks
 holds s ks b q a h = a (weight_of q s) q ∙ ap (λ v. cond v (position (same_key q) ks) None) (tests (weight_of q s) h)
   where
@@ -246,6 +247,7 @@ drop_is s ks b n y i c l a all f =
     let back = f.first x (subst (λ m. IsSome (place_at b m x)) first.1 (in_a_bucket s ks b x a all (omega (arith, first.1, at.1)))) in
     record { least = least; counter = at.0; positive = at.1; place = at.2; key = ap (λ m. first_with m s) least ∙ both_first x y first.0 back }
 
+-- where there is a key, there is a bucket
 none_in : (s : Counters) (ks : List Bytes) (b : Buckets) → IsCounters s → Agree s ks b → AllStand s ks → HasNone b → 0 < length s → ⊥
 unfolding IsStrictlySortedBy
 none_in [] ks b c a all none h = omega arith
@@ -417,10 +419,3 @@ stored_key es x i y n at is =
 pub popped : (es all left : List Entry) (e : Entry) (o : Option Entry) → all ≡ es ++ e ∷ [] → all ≡ left ++ option_to_list o → (0 < length all → IsSome o) → left ≡ es
 popped es all left e None is pop some = absurd (true≢false (sym (some (omega (arith, ap length is, length_push es e)))))
 popped es all left e (Some f) is pop some = sym (same_from_push es left e f (sym is ∙ pop)).0
-
--- a monitored key stands in the bucket of its counter, with its place
-pub stands_there : (k m : ℕ) (es : List Entry) (b : Buckets) (x : Bytes) (i n : ℕ) → IsLinked k m es b → lookup (same_key x) es ≡ Some n → position (same_key x) (keys_of es) ≡ Some i → place_at b n x ≡ Some i
-stands_there k m es b x i n l f place =
-    let at = found es x n l.distinct f in
-    let some : 0 < n = subst (λ o. IfSome o (λ m. 0 < m)) f (l.positive x) in
-    ap (λ v. place_at b v x) (sym at) ∙ holds (tally es) (keys_of es) b x l.agree (omega (arith, at, some)) ∙ place

@@ -33,12 +33,14 @@ stands q es some = elim (position (same_key q) (keys_of es)) as (λ r. position 
   | Some i ↦ λ is. refl
 ] refl
 
+-- the first place that passes a test is its position
 position_is : (p : Bytes → Bool) (ks : List Bytes) (i : ℕ) (d : Bytes) → i < length ks → ((k : ℕ) → k < i → p (get_or ks k d) ≡ false) → p (get_or ks i d) ≡ true → position p ks ≡ Some i
 position_is p ks i d l before here =
     let within : nat_lt i (length ks) ≡ true = grind (arith, nat_tests, l) in
     ap (λ n. cond (nat_lt n (length ks)) (Some n) None) (position_or_len_is p ks i d (omega (arith, l)) before (λ m. here)) ∙ ap (λ b. cond b (Some i) None) within
 
 -- ---- a key put last
+-- it stands last
 pub last_place : (x : Bytes) (es : List Entry) → lookup (same_key x) es ≡ None → position (same_key x) (keys_of es ++ x ∷ []) ≡ Some (length es)
 last_place x es none =
     let ks = keys_of es in
@@ -47,6 +49,7 @@ last_place x es none =
     (λ k l. ap (same_key x) (get_or_append_left ks (x ∷ []) x k (omega (arith, n, l))) ∙ none_at x es k x none l)
     (ap (same_key x) (get_or_push ks x x (length es) n) ∙ same_self x)
 
+-- and the others stand where they stood
 pub places_before_last : (p : Bytes → Bool) (ks : List Bytes) (x : Bytes) → p x ≡ false → position p (ks ++ x ∷ []) ≡ position p ks
 places_before_last p ks x other =
     let le = prefix_len-le-length (λ y. not (p y)) ks in
@@ -55,6 +58,7 @@ places_before_last p ks x other =
     grind (arith, nat_tests, le, long, at, other)
 
 -- ---- a key put in the place of another
+-- it stands there
 pub same_place : (x : Bytes) (es : List Entry) (i : ℕ) → lookup (same_key x) es ≡ None → i < length es → position (same_key x) (set (keys_of es) i x) ≡ Some i
 same_place x es i none l =
     let ks = keys_of es in
@@ -66,6 +70,7 @@ same_place x es i none l =
     differ : (k : ℕ) → k < i → k ≢ i
     differ k m e = omega (arith, m, e)
 
+-- and the others, but for the one that stood there, where they stood
 pub places_of_others : (p : Bytes → Bool) (ks : List Bytes) (i : ℕ) (x d : Bytes) → p x ≡ false → p (get_or ks i d) ≡ false → position p (set ks i x) ≡ position p ks
 places_of_others p ks i x d new old = ap₂ (λ n m. cond (nat_lt n m) (Some n) None) (position_or_len-set p ks i x d (new ∙ sym old)) (length-set ks i x)
 

@@ -6,7 +6,7 @@ ghost use Rattle.std.specs.List.{IsDistinct};
 ghost use Rattle.indexmap.specs.IndexMap.{get as index_get, index_of, keys, IsUnique, Updates};
 ghost use Rattle.hh_stream.specs.Weights.{Bytes, key_cmp, same_key};
 ghost use Rattle.hh_counters.specs.Counters.{max_k, Sketch, IsCounters, tally, lower};
-ghost use Rattle.hh_counters.specs.Buckets.{place_at, AreOrdered, Changes, Moves, HasSame, IsLinked, IsAdded};
+ghost use Rattle.hh_counters.specs.Buckets.{AreOrdered, Changes, Moves, HasSame, IsLinked, IsAdded};
 
 use crate::buckets::{Bucket, drop_first, first, put, take};
 use crate::monitor::Monitor;
@@ -17,12 +17,13 @@ use std::alloc::{AllocError, Global};
 use std::collections::BTreeMap;
 use std::marker::Model;
 
-/// Space-Saving with the monitored keys in buckets by their counters, so that the key to drop is the
-/// first one of the first bucket.
+/// Space-Saving with the monitored keys in buckets by their counters, so that the key to drop is
+/// the first one of the first bucket.
 ///
-/// An item costs a look-up by hash and searches in ordered maps, whose steps grow as the logarithm of
-/// the number of counters. A newcomer's key is hashed a second time and copied twice; a monitored key
-/// is copied once. A contract sees k, the total and the counters by rising key.
+/// An item costs a look-up by hash and searches in ordered maps, whose steps grow as the logarithm
+/// of the number of counters. A newcomer's key is hashed a second time and copied twice, a monitored
+/// key is copied once, and either may have one other key copied, the least of the bucket that it
+/// comes to. A contract sees k, the total and the counters by rising key.
 #[derive(Debug, Drop)]
 pub struct BucketSaving {
     alloc: Global,
@@ -226,7 +227,6 @@ fn raise(
     to: u64,
 ) -> Result<(), AllocError>
     requires place { index_of same_key index.old key.now ≡ Some place }
-    requires there { place_at buckets.old from key.now ≡ Some place }
     requires ordered { AreOrdered buckets.old }
     requires apart { from ≢ to }
     ensures raised { OnOk result (Updates same_key index.old index.new key.now (Some to)) }

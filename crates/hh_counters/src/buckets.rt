@@ -1,7 +1,7 @@
 //! Keys in buckets by their counters, each with its place in the index. No bucket is empty.
 
-ghost use Rattle.std.specs.Prelude.{◌≡◌, OnOk, OnErr, IsTrue, IsFalse, IsSome, MatchOption, None, Some};
-ghost use Rattle.hh_counters.specs.Buckets.{place_at, IsOrdered, AreOrdered, Sets, KeepsPlaces, HasNoOther, Changes, HasSame, HasNone, HasFirst, DropsFirst};
+ghost use Rattle.std.specs.Prelude.{◌≡◌, OnOk, OnErr, IsTrue, IsFalse, MatchOption, None, Some};
+ghost use Rattle.hh_counters.specs.Buckets.{IsOrdered, AreOrdered, Sets, KeepsPlaces, HasNoOther, Changes, HasSame, HasNone, HasFirst, DropsFirst};
 
 use hh_stream::Key;
 use std::alloc::{AllocError, Global};
@@ -66,16 +66,15 @@ fn insert(bucket: &mut Bucket, key: Key, place: usize) -> Result<(), AllocError>
 
 /// Takes the key out of the bucket of the counter.
 pub fn take(buckets: &mut BTreeMap<u64, Bucket>, counter: u64, key: &Key)
-    requires there { IsSome (place_at buckets.old counter key.now) }
-    requires ordered { AreOrdered buckets.old }
+    requires { AreOrdered buckets.old }
     ensures taken { Changes buckets.old buckets.new counter key.now None }
     ensures ordered { AreOrdered buckets.new }
 {
-    let Ok(Entry::Occupied(mut entry)) = buckets.entry(counter) else {
-        unreachable!("the key's counter has a bucket");
+    let Some(bucket) = buckets.get_mut(&counter) else {
+        return;
     };
-    if !remove(entry.get_mut(), key) {
-        entry.remove();
+    if !remove(bucket, key) {
+        buckets.remove(&counter);
     }
 }
 

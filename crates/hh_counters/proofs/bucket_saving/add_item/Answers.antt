@@ -4,17 +4,13 @@ use Rattle.std.specs.Prelude.{IfSome}
 use Rattle.std.specs.List.{swap_remove}
 use Rattle.indexmap.specs.IndexMap.{Updates}
 use Rattle.hh_stream.specs.Weights.{Entry, same_key}
-use Rattle.hh_counters.proofs.Linked.{added_old, added_new, added_full, counter-le-total, first-le-total, none_first, stands_there}
+use Rattle.hh_counters.proofs.Linked.{added_old, added_new, added_full, counter-le-total, first-le-total, none_first}
 use Rattle.hh_counters.proofs.bucket_saving.add_item.Goals as goal
 
 pub overflow_add-from : goal.overflow_add-from
 overflow_add-from c =
     let le = counter-le-total c.args.k c.args.total c.args.index.now.entries c.args.buckets.now c.args.key.now c.in-Some.counter.now c.requires.linked (sym c.in-Some.ensures.value) in
     omega (arith, le, c.requires.bounded)
-
-pub raise-requires-clause-there : goal.raise-requires-clause-there
-raise-requires-clause-there c =
-    stands_there c.args.k c.args.total c.args.index.now.entries c.args.buckets.now c.args.key.now c.in-Some.place c.in-Some.counter.now c.requires.linked (sym c.in-Some.ensures.value) (sym c.in-Some.ensures.index)
 
 pub returns-in-Some-clause-added : goal.returns-in-Some-clause-added
 returns-in-Some-clause-added c =
