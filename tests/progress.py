@@ -84,6 +84,11 @@ def try_file(tally: programs.Tally, program: str, name: str, words: list[str], p
     tally.check(f"{name} has shares alone before the end", len(shares) == len(told) - 1, told)
 
 
+def by_summary(file: str) -> dict[str, list[str]]:
+    """The commands that read records by a saved summary."""
+    return {name: [name, file] for name in ("condense", "confirm")}
+
+
 def main() -> None:
     program, tally = programs.built("heavy_cli"), programs.Tally()
     with tempfile.TemporaryDirectory() as room:
@@ -92,10 +97,11 @@ def main() -> None:
         commands = {"report": ["report"], "summarise": ["summarise"], "table": ["table"]}
         for file, text in (("part", PART), ("many", PART * 100), ("pipe", PART * STEPS)):
             Path(room, file).write_bytes(programs.run([program, "summarise"], text).out)
-        try_answers(tally, program, {**commands, "confirm": ["confirm", f"{room}/part"]})
+        try_answers(tally, program, {**commands, **by_summary(f"{room}/part")})
         try_pipe(tally, program, "summarise", ["summarise"])
-        try_pipe(tally, program, "confirm", ["confirm", f"{room}/pipe"])
-        for name, words in {**commands, "confirm": ["confirm", f"{room}/many"]}.items():
+        for name, words in by_summary(f"{room}/pipe").items():
+            try_pipe(tally, program, name, words)
+        for name, words in {**commands, **by_summary(f"{room}/many")}.items():
             try_file(tally, program, name, words, many)
     tally.end("progress")
 
