@@ -121,3 +121,9 @@ abbrev pub answers : List ℕ → List Bytes → Result (List ℕ) ToolError
 answers file keys = do
   v ← file_of 1 file
   unless (bad_key 1 keys) (answer_rows v keys)
+
+-- the two numbers of one key, or the first refusal: of the file, and then of the key
+abbrev pub answer : List ℕ → Bytes → Result (ℕ × ℕ) ToolError
+answer file x = do
+  v ← file_of 1 file
+  unless (key_fault 1 x) (answer_of v x)

@@ -5,7 +5,7 @@ ghost use Rattle.std.specs.List.{flat_map};
 ghost use Rattle.std.specs.Io.KnownBytes.{Appends};
 ghost use Rattle.csv.specs.Writing.{text_written};
 ghost use Rattle.hh_stream.specs.Weights.{max_key_len};
-ghost use Rattle.heavy.specs.Files.{Refuses, answer_of, answer_row, answers, bad_key, key_fault};
+ghost use Rattle.heavy.specs.Files.{Refuses, answer, answer_of, answer_row, answers, bad_key, key_fault};
 ghost use Rattle.heavy.specs.Rows.{IsBetweenRows};
 
 use crate::error::{KeyCause, ToolError};
@@ -134,4 +134,25 @@ pub fn ask_bytes(alloc: Global, file: &[u8], keys: &[Vec<u8>]) -> Result<Vec<u8>
         Ok(text) => Ok(text),
         Err(_) => Err(ToolError::Memory),
     }
+}
+
+/// The least and the most that a key's weight in the stream can be, as a saved file tells: the two
+/// numbers of the key's row of [`ask_bytes`], with the same refusals in the same order, where the key
+/// is number 1.
+pub fn ask_key(alloc: Global, file: &[u8], key: &[u8]) -> Result<(u64, u64), ToolError>
+    ensures bounds { IfOk result (λ bounds. answer file.now key.now ≡ Ok bounds) }
+    ensures refused { IfErr result (λ fault. Refuses (answer file.now key.now) fault) }
+{
+    let saved = match file_of(alloc, 1, file) {
+        Ok(saved) => saved,
+        Err(fault) => return Err(fault),
+    };
+    match check_key(1, key) {
+        Ok(()) => {}
+        Err(fault) => return Err(fault),
+    }
+    let Ok(key) = key_of(alloc, key) else {
+        return Err(ToolError::Memory);
+    };
+    Ok(answer_of(&saved, &key))
 }

@@ -18,7 +18,7 @@ mod sink;
 mod taking;
 mod threshold;
 
-pub use ask::ask_bytes;
+pub use ask::{ask_bytes, ask_key};
 pub use confirmation::{ConfirmFault, confirm};
 pub use error::{KeyCause, MergeCause, ToolError, TreeFault};
 pub use hh_counters::Heavy;

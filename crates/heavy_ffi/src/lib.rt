@@ -1,0 +1,194 @@
+//! The calls of `heavy` on bytes, for C. The header include/heavy.h says what a caller owes.
+//!
+//! Each call answers a status: 0 done, 1 to 4 as the program's exit status, 5 the room is too small,
+//! and nothing else. At 1 to 4 `told` says why; at 0 and 5 it has zeros.
+#![tactic(auto)]
+
+mod fault;
+mod parts;
+mod room;
+
+ghost use Rattle.std.specs.Prelude.{◌≡◌, ◌≢◌, ◌<◌, [], length, take, Ok, Some, IfErr, IfOk};
+ghost use Rattle.hh_stream.specs.Cuttings.{pieces_of};
+ghost use Rattle.hh_counters.specs.Counters.{sketch_of};
+ghost use Rattle.hh_countmin.specs.Family.{drawn_family};
+ghost use Rattle.hh_countmin.specs.Table.{table_of};
+ghost use Rattle.hh_saved.specs.Spelling.{Spells};
+ghost use Rattle.hh_saved.specs.declared.format.Version.TheVariants as version;
+ghost use Rattle.hh_saved.specs.declared.saved.Saved.{Saved};
+ghost use Rattle.hh_saved.specs.declared.saved.Saved.TheVariants.{Cells, Counters};
+ghost use Rattle.heavy.specs.Files.{Refuses, answer, merged_files};
+ghost use Rattle.heavy.specs.Saving.{ConfirmRefused, ConfirmsRows, RefusedAfter, SavesStream, bad_table};
+ghost use Rattle.heavy_ffi.specs.Outcomes.{IsRefused, IsMergeOf, IsRefused, IsTooSmall, bad_summary};
+
+pub use fault::Fault;
+use fault::tell;
+use heavy::{Method, ToolError, ask_key, confirm_bytes, merge_bytes, summary_bytes, table_bytes};
+use parts::files_of;
+use room::answer;
+use std::alloc::Global;
+
+/// The summary of a text's records by a method of this number.
+fn summary_by(alloc: Global, text: &[u8], k: u64, method: u32) -> Result<Vec<u8>, ToolError>
+    ensures saved { IfOk result (λ bytes.
+        SavesStream (λ xs. Counters (sketch_of k xs)) (Some text.now) bytes.items) }
+    ensures refused { IfErr result (λ fault.
+        RefusedAfter (bad_summary method k) (Some text.now) fault) }
+{
+    let method = match method {
+        1 => Method::MisraGries,
+        2 => Method::SpaceSaving,
+        _ => return Err(ToolError::BadMethod),
+    };
+    summary_bytes(alloc, k, method, text)
+}
+
+/// Gives the saved summary of a text's records with k counters, by method 1, Misra-Gries, or 2,
+/// Space-Saving; both give the same bytes. The method is tested first, then k, then the records.
+#[unsafe(no_mangle)]
+pub extern "C" fn heavy_summarise(
+    alloc: Global,
+    text: &[u8],
+    k: u64,
+    method: u32,
+    room: &mut [u8],
+    needed: &mut usize,
+    told: &mut Fault,
+) -> u32
+    ensures saved { result ≡ 0 → SavesStream (λ xs. Counters (sketch_of k xs)) (Some text.now)
+        (take needed.new room.new) }
+    ensures small { result ≡ 5 → IsTooSmall
+        (SavesStream (λ xs. Counters (sketch_of k xs)) (Some text.now)) room.old needed.new }
+    ensures refused { result ≢ 0 → result ≢ 5 → IsRefused
+        (RefusedAfter (bad_summary method k) (Some text.now)) result told.new }
+    ensures unchanged { result ≢ 0 → room.new ≡ room.old }
+{
+    let bytes = summary_by(alloc, text, k, method);
+    answer(bytes, room, needed, told)
+}
+
+/// Gives the saved Count-Min table of a text's records, with the hash family that is drawn from the
+/// seed. The depth is tested first, then the width, then the records.
+#[unsafe(no_mangle)]
+pub extern "C" fn heavy_table(
+    alloc: Global,
+    text: &[u8],
+    width: u64,
+    depth: u64,
+    seed: u64,
+    room: &mut [u8],
+    needed: &mut usize,
+    told: &mut Fault,
+) -> u32
+    ensures saved { result ≡ 0 → SavesStream
+        (λ xs. Cells (table_of (drawn_family seed depth) width xs)) (Some text.now)
+        (take needed.new room.new) }
+    ensures small { result ≡ 5 → IsTooSmall (SavesStream
+        (λ xs. Cells (table_of (drawn_family seed depth) width xs)) (Some text.now))
+        room.old needed.new }
+    ensures refused { result ≢ 0 → result ≢ 5 → IsRefused
+        (RefusedAfter (bad_table depth width) (Some text.now)) result told.new }
+    ensures unchanged { result ≢ 0 → room.new ≡ room.old }
+{
+    let bytes = table_bytes(alloc, width, depth, seed, text);
+    answer(bytes, room, needed, told)
+}
+
+/// The files with these lengths, merged.
+fn merge_parts(alloc: Global, files: &[u8], lengths: &[usize]) -> Result<Vec<u8>, ToolError>
+    requires { 0 < length lengths.now }
+    ensures merged { IfOk result (λ bytes.
+        IsMergeOf (pieces_of lengths.now files.now) bytes.items) }
+    ensures refused { IfErr result (Refuses (merged_files (pieces_of lengths.now files.now))) }
+{
+    match files_of(alloc, files, lengths) {
+        Ok(files) => merge_bytes(alloc, &files),
+        Err(_) => Err(ToolError::Memory),
+    }
+}
+
+/// Gives the merge of saved files, which lie one after the other and have these lengths, with the
+/// refusals of the program's `merge`. Where the bytes end before the lengths do, files are cut short.
+/// No lengths are refused with status 2 and a `told` of zeros.
+#[unsafe(no_mangle)]
+pub extern "C" fn heavy_merge(
+    alloc: Global,
+    files: &[u8],
+    lengths: &[usize],
+    room: &mut [u8],
+    needed: &mut usize,
+    told: &mut Fault,
+) -> u32
+    ensures merged { result ≡ 0 → IsMergeOf (pieces_of lengths.now files.now)
+        (take needed.new room.new) }
+    ensures small { result ≡ 5 → IsTooSmall (IsMergeOf (pieces_of lengths.now files.now))
+        room.old needed.new }
+    ensures refused { result ≢ 0 → result ≢ 5 → 0 < length lengths.now → IsRefused
+        (Refuses (merged_files (pieces_of lengths.now files.now))) result told.new }
+    ensures no_files { lengths.now ≡ [] → result ≡ 2 }
+    ensures unchanged { result ≢ 0 → room.new ≡ room.old }
+{
+    if lengths.is_empty() {
+        *needed = 0;
+        *told = Fault {
+            kind: 0,
+            cause: 0,
+            number: 0,
+        };
+        return 2;
+    }
+    let bytes = merge_parts(alloc, files, lengths);
+    answer(bytes, room, needed, told)
+}
+
+/// Gives the least and the most that a key's weight can be, as a saved file tells. The file is tested
+/// first, then the key. After a refusal `low` and `high` are as they were.
+#[unsafe(no_mangle)]
+pub extern "C" fn heavy_ask(
+    alloc: Global,
+    file: &[u8],
+    key: &[u8],
+    low: &mut u64,
+    high: &mut u64,
+    told: &mut Fault,
+) -> u32
+    ensures bounds { result ≡ 0 → answer file.now key.now ≡ Ok (low.new, high.new) }
+    ensures refused { result ≢ 0 → IsRefused (Refuses (answer file.now key.now)) result told.new }
+    ensures unchanged { result ≢ 0 → (low.new ≡ low.old) × (high.new ≡ high.old) }
+{
+    match ask_key(alloc, file, key) {
+        Ok(bounds) => {
+            *told = Fault {
+                kind: 0,
+                cause: 0,
+                number: 0,
+            };
+            *low = bounds.0;
+            *high = bounds.1;
+            0
+        }
+        Err(fault) => tell(&fault, told),
+    }
+}
+
+/// Gives the rows of a saved summary's keys that are heavy in a text's records, which are those that
+/// were summarised. The file is tested first, then its kind, then the records, then the totals.
+#[unsafe(no_mangle)]
+pub extern "C" fn heavy_confirm(
+    alloc: Global,
+    file: &[u8],
+    text: &[u8],
+    room: &mut [u8],
+    needed: &mut usize,
+    told: &mut Fault,
+) -> u32
+    ensures rows { result ≡ 0 → ConfirmsRows file.now (Some text.now) (take needed.new room.new) }
+    ensures small { result ≡ 5 → IsTooSmall (ConfirmsRows file.now (Some text.now)) room.old
+        needed.new }
+    ensures refused { result ≢ 0 → result ≢ 5 → IsRefused
+        (ConfirmRefused file.now (Some text.now)) result told.new }
+    ensures unchanged { result ≢ 0 → room.new ≡ room.old }
+{
+    let bytes = confirm_bytes(alloc, file, text);
+    answer(bytes, room, needed, told)
+}

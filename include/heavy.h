@@ -1,0 +1,138 @@
+/* heavy: the heavy keys of weighted records, their summaries and tables, over bytes that the caller lends.
+
+   Each call is proved against the definitions that the program is proved against (crates/heavy_ffi); nothing
+   checks the C side, which owes what stands here.
+
+   Answers. A call answers a status: HEAVY_DONE, one of the program's exit statuses 1 to 4, or HEAVY_TOO_SMALL.
+     HEAVY_DONE       the first *needed bytes of room are the answer; told has zeros
+     HEAVY_TOO_SMALL  the answer has *needed bytes, which are more than room_len; room is as it was; told has zeros.
+                      The call can be made again with so much room
+     another          told says why, *needed is 0, and room is as it was
+   No call answers HEAVY_DEVICE today; treat it as a fault.
+
+   Memory. The caller owns all that it lends, and the library keeps nothing after a call. A call takes memory by
+   malloc and realloc while it runs, gives all of it back by free, and answers HEAVY_MEMORY where it gets none.
+   The three have to be of one allocator.
+
+   Pointers. No pointer may be null, also where a length is 0: lend the address of any byte. Lengths are counted in
+   elements, and no slice has 2^63 bytes or more. What is written (room, *needed, *low, *high, *told) overlaps nothing
+   else that the same call is lent, and no other thread reads or writes it during the call. What is only read may be
+   lent to many calls at once.
+
+   Threads. Calls share nothing: any number may run at once. None may be made from a signal handler, nor by the
+   forked child of a process with threads. A call takes some 64 KB of stack.
+
+   Texts are CSV records of a key and a weight, as the program reads them from its standard input. Files are what the
+   program's `summarise`, `table` and `merge` write, byte for byte. */
+#ifndef HEAVY_H
+#define HEAVY_H
+
+#include <stddef.h>
+#include <stdint.h>
+
+#ifdef __cplusplus
+extern "C" {
+#endif
+
+/* Statuses. */
+#define HEAVY_DONE 0u
+#define HEAVY_DEVICE 1u
+#define HEAVY_USAGE 2u
+#define HEAVY_REFUSED 3u
+#define HEAVY_MEMORY 4u
+#define HEAVY_TOO_SMALL 5u
+
+/* Methods. Both give the same bytes. */
+#define HEAVY_MISRA_GRIES 1u
+#define HEAVY_SPACE_SAVING 2u
+
+/* Kinds of fault. Those with a number and a cause say so; else both are 0. */
+#define HEAVY_BAD_DEPTH 1u
+#define HEAVY_BAD_K 2u
+#define HEAVY_BAD_WIDTH 4u
+#define HEAVY_BAD_METHOD 7u
+#define HEAVY_BAD_RECORD 9u    /* number of the record; cause HEAVY_RECORD_.. */
+#define HEAVY_BAD_FILE 10u     /* number of the file; cause HEAVY_FILE_.. */
+#define HEAVY_MIXED_KINDS 11u  /* number of the file */
+#define HEAVY_CANNOT_MERGE 12u /* number of the file; cause HEAVY_MERGE_.. */
+#define HEAVY_BAD_KEY 13u      /* number 1; cause HEAVY_KEY_.. */
+#define HEAVY_NOT_COUNTERS 14u
+#define HEAVY_TOTAL_DIFFERS 15u
+#define HEAVY_NO_MEMORY 18u
+
+#define HEAVY_RECORD_FIELD_COUNT 1u
+#define HEAVY_RECORD_EMPTY_KEY 2u
+#define HEAVY_RECORD_KEY_TOO_LONG 3u
+#define HEAVY_RECORD_BAD_WEIGHT 4u
+#define HEAVY_RECORD_ZERO_WEIGHT 5u
+#define HEAVY_RECORD_TOTAL_TOO_LARGE 6u
+
+#define HEAVY_FILE_TRUNCATED 1u
+#define HEAVY_FILE_BAD_MAGIC 2u
+#define HEAVY_FILE_BAD_KIND 3u
+#define HEAVY_FILE_BAD_K 4u
+#define HEAVY_FILE_BAD_COUNT 5u
+#define HEAVY_FILE_BAD_KEY 6u
+#define HEAVY_FILE_KEY_ORDER 7u
+#define HEAVY_FILE_BAD_COUNTER 8u
+#define HEAVY_FILE_SUM_TOO_LARGE 9u
+#define HEAVY_FILE_BAD_WIDTH 10u
+#define HEAVY_FILE_BAD_DEPTH 11u
+#define HEAVY_FILE_BAD_COEFFICIENT 12u
+#define HEAVY_FILE_TOTAL_TOO_LARGE 13u
+#define HEAVY_FILE_ROW_SUM 14u
+#define HEAVY_FILE_TRAILING 15u
+
+#define HEAVY_MERGE_DIFFERENT_K 1u
+#define HEAVY_MERGE_DIFFERENT_FAMILY 2u
+#define HEAVY_MERGE_DIFFERENT_WIDTH 3u
+#define HEAVY_MERGE_TOTAL_TOO_LARGE 4u
+
+#define HEAVY_KEY_EMPTY 1u
+#define HEAVY_KEY_TOO_LONG 2u
+
+/* Why a call refused. Records, files and keys are numbered from 1. */
+struct heavy_fault {
+    uint32_t kind;
+    uint32_t cause;
+    uint64_t number;
+};
+
+/* Gives the saved summary of a text's records with k counters, k from 1 to 65535. The method is tested first, then k,
+   then the records. */
+uint32_t heavy_summarise(const uint8_t *text, size_t text_len, uint64_t k, uint32_t method, uint8_t *room,
+                         size_t room_len, size_t *needed, struct heavy_fault *told);
+
+/* Gives the saved Count-Min table of a text's records, with the hash family that is drawn from the seed: width from
+   1 to 65536, depth from 1 to 16. The depth is tested first, then the width, then the records. */
+uint32_t heavy_table(const uint8_t *text, size_t text_len, uint64_t width, uint64_t depth, uint64_t seed,
+                     uint8_t *room, size_t room_len, size_t *needed, struct heavy_fault *told);
+
+/* Gives the merge of count saved files, which lie one after the other in files_len bytes: file i has lengths[i] bytes.
+   Where the bytes end before the lengths do, files are cut short. With a count of 0 it answers HEAVY_USAGE, and told
+   has zeros. */
+uint32_t heavy_merge(const uint8_t *files, size_t files_len, const size_t *lengths, size_t count, uint8_t *room,
+                     size_t room_len, size_t *needed, struct heavy_fault *told);
+
+/* Tells between which weights a key's weight is, as a saved file knows it. The file is tested first, then the key, of
+   1 to 4096 bytes. At another status than HEAVY_DONE *low and *high are as they were. */
+uint32_t heavy_ask(const uint8_t *file, size_t file_len, const uint8_t *key, size_t key_len, uint64_t *low,
+                   uint64_t *high, struct heavy_fault *told);
+
+/* Gives the rows `key,weight` of a saved summary's keys that are heavy in a text's records, which have to be those that
+   were summarised. The file is tested first, then its kind, then the records, then that the totals are the same. */
+uint32_t heavy_confirm(const uint8_t *file, size_t file_len, const uint8_t *text, size_t text_len, uint8_t *room,
+                       size_t room_len, size_t *needed, struct heavy_fault *told);
+
+#ifdef __cplusplus
+}
+#endif
+
+#if defined(__STDC_VERSION__) && __STDC_VERSION__ >= 201112L
+_Static_assert(sizeof(struct heavy_fault) == 16, "a fault has 16 bytes");
+_Static_assert(offsetof(struct heavy_fault, cause) == 4, "the cause follows the kind");
+_Static_assert(offsetof(struct heavy_fault, number) == 8, "the number comes last");
+_Static_assert(sizeof(size_t) == 8, "the library is built for 64-bit machines");
+#endif
+
+#endif

@@ -1,0 +1,86 @@
+/* Each request for memory of each call refused in turn: the call answers HEAVY_MEMORY and leaves the room as it was, until
+   one run meets no refusal and is done. This file's malloc, realloc and free are the library's. */
+#include <stdio.h>
+#include <string.h>
+
+#include "heavy.h"
+
+extern void *__libc_malloc(size_t);
+extern void *__libc_realloc(void *, size_t);
+extern void __libc_free(void *);
+
+static long left = -1, held;
+
+static int is_refused(void) { return left >= 0 && left-- == 0; }
+
+void *malloc(size_t size) {
+    void *made = is_refused() ? NULL : __libc_malloc(size);
+    held += made != NULL;
+    return made;
+}
+
+void *realloc(void *old, size_t size) {
+    void *made = is_refused() ? NULL : __libc_realloc(old, size);
+    held += old == NULL && made != NULL;
+    return made;
+}
+
+void free(void *old) {
+    held -= old != NULL;
+    __libc_free(old);
+}
+
+static const uint8_t TEXT[] = "a,5\nb,3\nc,2\na,1\n";
+static uint8_t summary[128], room[256];
+static size_t summary_len, needed;
+static uint64_t low, high;
+static struct heavy_fault told;
+
+static uint32_t call(int which) {
+    const size_t lengths[] = {summary_len / 2, summary_len / 2};
+    switch (which) {
+    case 0: return heavy_summarise(TEXT, 16, 2, 1, room, sizeof room, &needed, &told);
+    case 1: return heavy_summarise(TEXT, 16, 2, 2, room, sizeof room, &needed, &told);
+    case 2: return heavy_table(TEXT, 16, 4, 2, 0, room, sizeof room, &needed, &told);
+    case 3: return heavy_merge(summary, summary_len, lengths, 2, room, sizeof room, &needed, &told);
+    case 4: return heavy_ask(summary, summary_len / 2, (const uint8_t *)"a", 1, &low, &high, &told);
+    default: return heavy_confirm(summary, summary_len / 2, TEXT, 16, room, sizeof room, &needed, &told);
+    }
+}
+
+/* How many refusals the call met; -1 where one was answered wrongly. */
+static int refusals_of(int which) {
+    for (int i = 0; i < 1000; i++) {
+        memset(room, 0xAA, sizeof room);
+        long before = held;
+        left = i;
+        uint32_t status = call(which);
+        int was_refused = left < 0;
+        left = -1;
+        if (held != before)
+            return -1;
+        if (!was_refused)
+            return status == HEAVY_DONE ? i : -1;
+        if (status != HEAVY_MEMORY || told.kind != HEAVY_NO_MEMORY || (which != 4 && needed != 0) || room[0] != 0xAA)
+            return -1;
+    }
+    return -1;
+}
+
+int main(void) {
+    char line[80];
+    int wrong = 0, refusals = 0;
+    setbuf(stdout, NULL);
+    /* the file stands there twice, to be merged with itself */
+    heavy_summarise(TEXT, 16, 2, 1, summary, sizeof summary / 2, &summary_len, &told);
+    memcpy(summary + summary_len, summary, summary_len);
+    summary_len *= 2;
+    for (int which = 0; which < 6; which++) {
+        int met = refusals_of(which);
+        wrong += met <= 0;
+        refusals += met > 0 ? met : 0;
+    }
+    snprintf(line, sizeof line, "%d refusals, %d wrong\n", refusals, wrong);
+    fputs(line, stdout);
+    return wrong != 0;
+}
