@@ -1,9 +1,12 @@
 #!/usr/bin/env python3
-"""Installs the library for C, and tries it from C and from Python: every call with answers known by hand, under the
+"""Installs the library for C, where it has been built, and tries it from C and from Python: every call with answers known by hand, under the
 sanitizers of addresses and of undefined behaviour where a compiler has them; each request for memory refused in turn;
 the header's numbers against the definitions; and the Python module against the program.
 
 usage: tests/library.py
+
+To build the library proves all crates below it once more, which `rt ci` leaves no way around. So this script doesn't: where
+there is none, it compares the header alone, and says so. `bin/install-library` builds it.
 """
 import os
 import re
@@ -101,6 +104,10 @@ def try_symbols(tally: programs.Tally, prefix: str) -> None:
 
 def main() -> None:
     tally = programs.Tally()
+    try_header(tally)
+    if not (programs.TOP / "crates" / "heavy_ffi" / "out" / "libheavy_ffi.a").exists():
+        print("library: not built, so that all but the header is left out", flush=True)
+        tally.end("library")
     compilers = [name for name in ("clang", "gcc") if shutil.which(name)]
     if not compilers or not shutil.which("ar"):
         print("library: left out, for want of clang or gcc, and ar", flush=True)
@@ -116,7 +123,6 @@ def main() -> None:
         for words in ([], ["usr"], ["/usr", "/opt"]):
             ended = programs.run([install, *words], env=env)
             tally.check(f"usage: {words}", ended.status == 2 and b"usage: bin/install-library" in ended.err, ended)
-        try_header(tally)
         try_symbols(tally, prefix)
         for compiler in compilers:
             try_c(tally, compiler, prefix, room)
