@@ -31,12 +31,15 @@ ROWS = [
     ("merge", ("different", MANY, 0, 0), [10, 100, 1_000, 65_535]),
     ("bucket_saving", ("zipf", MANY, 100_000, 0), SIZES),
     ("bucket_saving", ("uniform", MANY, 200_000, 0), SIZES),
+    ("gathered_saving", ("zipf", MANY, 100_000, 0), SIZES),
+    ("gathered_saving", ("uniform", MANY, 200_000, 0), SIZES),
     ("space_saving", ("zipf", FEW, 100_000, 0), [10, 100, 1_000, 10_000]),
     ("space_saving", ("uniform", FEW, 200_000, 0), [10, 100, 1_000, 10_000]),
     *[(call, shape, [10_000]) for call in ("read", "bucket_saving", "table", "save", "load") for shape in LENGTHS],
 ]
 # what the plain program calls it
-IN_PLAIN = {"read": ["time", "read"], "table": ["time", "table"], "bucket_saving": ["time", "ss"]}
+IN_PLAIN = {"read": ["time", "read"], "table": ["time", "table"], "bucket_saving": ["time", "ss"],
+            "gathered_saving": ["time", "ss"]}
 
 
 def once(command: list[str], path: Path) -> int:
@@ -50,7 +53,7 @@ def main() -> None:
     with tempfile.TemporaryDirectory() as folder:
         room = Path(folder)
         heavy, plain = programs.heavy_bench(), programs.plain(room)
-        print(f"{'call':13} {'records':28} {'k':>6} {'heavy':>9} {'plain':>9} {'ratio':>6}")
+        print(f"{'call':15} {'records':28} {'k':>6} {'heavy':>9} {'plain':>9} {'ratio':>6}")
         for call, shape, sizes in ROWS:
             path = programs.records(room, *shape)
             for k in sizes:
@@ -66,7 +69,7 @@ def main() -> None:
                 cells = f"{medians['heavy'] / unit:9.0f}"
                 if "plain" in medians:
                     cells += f" {medians['plain']:9.0f} {medians['heavy'] / medians['plain']:6.2f}"
-                print(f"{call:13} {path.name:28} {k:6} {cells}", flush=True)
+                print(f"{call:15} {path.name:28} {k:6} {cells}", flush=True)
 
 
 main()

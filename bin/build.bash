@@ -1,5 +1,6 @@
-# What bin/heavy and bin/install share: `build_heavy` builds the program `heavy`, at "$built", where its sources are
-# newer than what was built, and tells on standard error how far it is. A build that is interrupted ends its provers.
+# What bin/heavy, bin/install and bin/install-library share: `build_heavy` builds the program `heavy`, at "$built", where
+# its sources are newer than what was built, and tells on standard error how far it is. A build that is interrupted ends
+# its provers. `put` installs a file.
 # shellcheck shell=bash
 top=$(cd "$(dirname "$(readlink -f "${BASH_SOURCE[0]}")")/.." && pwd)
 program="$top/crates/heavy_cli"
@@ -10,9 +11,9 @@ prover=
 
 tell() { printf 'heavy: %s\n' "$*" >&2; }
 
-# The program's crate and those that it stands on, the lowest first, by crates.txt.
-crates_of_program() {
-  awk -F: '
+# A crate and those that it stands on, the lowest first, by crates.txt.
+crates_of() {
+  awk -F: -v name="$1" '
     function visit(name, words, count, i) {
       if (!(name in below) || name in seen) return
       seen[name] = 1
@@ -21,14 +22,26 @@ crates_of_program() {
       print name
     }
     /^[a-z]/ { split($1, head, " "); below[head[1]] = $2 }
-    END { visit("heavy_cli") }' "$top/crates.txt"
+    END { visit(name) }' "$top/crates.txt"
 }
 
-# Whether a source of these crates is newer than what was built, or nothing was built.
+# Whether a source of these crates is newer than the file that was built of them, or there is no such file.
 is_stale() {
+  local file=$1
+  shift
   local folders=("${@/#/$top/crates/}")
-  [ ! -x "$built" ] || [ -n "$(find "$top/crates.txt" "${folders[@]}" -name out -prune -o -newer "$built" -type f \
+  [ ! -f "$file" ] || [ -n "$(find "$top/crates.txt" "${folders[@]}" -name out -prune -o -newer "$file" -type f \
     \( -name '*.rt' -o -name '*.antt' -o -name crates.txt \) -print -quit)" ]
+}
+
+# Installs a file with this mode at a place below "$prefix", which the caller sets, and tells it.
+# shellcheck disable=SC2154
+put() {
+  mkdir -p "$(dirname "$prefix/$3")"
+  cp "$2" "$prefix/$3.new"
+  chmod "$1" "$prefix/$3.new"
+  mv "$prefix/$3.new" "$prefix/$3"
+  printf '%s\n' "$prefix/$3"
 }
 
 minutes_and_seconds() { printf '%d:%02d min' $(($1 / 60)) $(($1 % 60)); }
@@ -96,14 +109,14 @@ wait_for_lock() {
 
 build_heavy() {
   local crates status=0 start=$SECONDS
-  mapfile -t crates < <(crates_of_program)
-  is_stale "${crates[@]}" || return 0
+  mapfile -t crates < <(crates_of heavy_cli)
+  is_stale "$built" "${crates[@]}" || return 0
   command -v rt > /dev/null || { tell "the toolchain's command, rt, is not on the path"; return 1; }
   trap 'end_build 129' HUP
   trap 'end_build 130' INT
   trap 'end_build 143' TERM
   wait_for_lock
-  if is_stale "${crates[@]}"; then
+  if is_stale "$built" "${crates[@]}"; then
     tell "proving and building the program, once and after each change of its sources"
     tell "a first build takes some 12 to 15 minutes on four cores; $log has its lines"
     run_build "${crates[@]}" || status=$?

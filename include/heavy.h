@@ -4,8 +4,8 @@
    checks the C side, which owes what stands here.
 
    Answers. A call answers a status: HEAVY_DONE, one of the program's exit statuses 1 to 4, or HEAVY_TOO_SMALL.
-     HEAVY_DONE       the first *needed bytes of room are the answer; told has zeros
-     HEAVY_TOO_SMALL  the answer has *needed bytes, which are more than room_len; room is as it was; told has zeros.
+     HEAVY_DONE       the first *needed elements of room are the answer; told has zeros
+     HEAVY_TOO_SMALL  the answer has *needed elements, which are more than room_len; room is as it was; told has zeros.
                       The call can be made again with so much room
      another          told says why, *needed is 0, and room is as it was
    No call answers HEAVY_DEVICE today; treat it as a fault.
@@ -34,6 +34,9 @@
 extern "C" {
 #endif
 
+/* The number of this interface, as heavy_version() tells it. It grows where a call changes. */
+#define HEAVY_VERSION 1u
+
 /* Statuses. */
 #define HEAVY_DONE 0u
 #define HEAVY_DEVICE 1u
@@ -55,7 +58,7 @@ extern "C" {
 #define HEAVY_BAD_FILE 10u     /* number of the file; cause HEAVY_FILE_.. */
 #define HEAVY_MIXED_KINDS 11u  /* number of the file */
 #define HEAVY_CANNOT_MERGE 12u /* number of the file; cause HEAVY_MERGE_.. */
-#define HEAVY_BAD_KEY 13u      /* number 1; cause HEAVY_KEY_.. */
+#define HEAVY_BAD_KEY 13u      /* number of the key; cause HEAVY_KEY_.. */
 #define HEAVY_NOT_COUNTERS 14u
 #define HEAVY_TOTAL_DIFFERS 15u
 #define HEAVY_NO_MEMORY 18u
@@ -98,6 +101,32 @@ struct heavy_fault {
     uint64_t number;
 };
 
+/* The least and the most that a key's weight can be. */
+struct heavy_bounds {
+    uint64_t low;
+    uint64_t high;
+};
+
+/* An entry of a saved summary: its key is the len bytes of the file from start on. */
+struct heavy_entry {
+    size_t start;
+    size_t len;
+    uint64_t counter;
+};
+
+/* The most bytes of a key, and the largest k. */
+#define HEAVY_MAX_KEY 4096u
+#define HEAVY_MAX_K 65535u
+
+/* How much room is enough. A saved summary with k counters, merged or not, whose keys have at most longest bytes has at
+   most so many bytes; HEAVY_MAX_KEY is a longest that always holds. A saved table has exactly so many. A summary has at
+   most k entries. */
+#define HEAVY_SUMMARY_ROOM(k, longest) ((size_t)17 + (size_t)(k) * ((size_t)(longest) + 10))
+#define HEAVY_TABLE_ROOM(width, depth) ((size_t)26 + (size_t)16 * (depth) + (size_t)8 * (depth) * (width))
+
+/* HEAVY_VERSION of the library. */
+uint32_t heavy_version(void);
+
 /* Gives the saved summary of a text's records with k counters, k from 1 to 65535. The method is tested first, then k,
    then the records. */
 uint32_t heavy_summarise(const uint8_t *text, size_t text_len, uint64_t k, uint32_t method, uint8_t *room,
@@ -119,10 +148,30 @@ uint32_t heavy_merge(const uint8_t *files, size_t files_len, const size_t *lengt
 uint32_t heavy_ask(const uint8_t *file, size_t file_len, const uint8_t *key, size_t key_len, uint64_t *low,
                    uint64_t *high, struct heavy_fault *told);
 
+/* Tells for each of count keys what heavy_ask tells of one, and reads the file once: room[i] is that of key i. Key i is
+   the next lengths[i] of the keys_len bytes. Where the bytes end before the lengths do, keys are cut short. The answer
+   has count elements. The file is tested first, then the keys in order. */
+uint32_t heavy_ask_keys(const uint8_t *file, size_t file_len, const uint8_t *keys, size_t keys_len,
+                        const size_t *lengths, size_t count, struct heavy_bounds *room, size_t room_len,
+                        size_t *needed, struct heavy_fault *told);
+
+/* Tells the entries of a saved summary, by rising key: where each key lies in the file, and its counter. The file is
+   tested first, then its kind. */
+uint32_t heavy_entries(const uint8_t *file, size_t file_len, struct heavy_entry *room, size_t room_len, size_t *needed,
+                       struct heavy_fault *told);
+
 /* Gives the rows `key,weight` of a saved summary's keys that are heavy in a text's records, which have to be those that
    were summarised. The file is tested first, then its kind, then the records, then that the totals are the same. */
 uint32_t heavy_confirm(const uint8_t *file, size_t file_len, const uint8_t *text, size_t text_len, uint8_t *room,
                        size_t room_len, size_t *needed, struct heavy_fault *told);
+
+/* Gives records that say the same to heavy_confirm with the same file as those of a text, at most one more than the
+   summary has keys: the weight of each of its keys that comes there, by rising key, and then, where other keys come,
+   one record of what they weigh, named `others` or by the first of `others1`, `others2` and so on that is no key of
+   the summary. So parts of a text are condensed one by one, and confirmed together. The file is tested first, then its
+   kind, then the records, whose total need not be the summary's. */
+uint32_t heavy_condense(const uint8_t *file, size_t file_len, const uint8_t *text, size_t text_len, uint8_t *room,
+                        size_t room_len, size_t *needed, struct heavy_fault *told);
 
 #ifdef __cplusplus
 }
@@ -132,6 +181,11 @@ uint32_t heavy_confirm(const uint8_t *file, size_t file_len, const uint8_t *text
 _Static_assert(sizeof(struct heavy_fault) == 16, "a fault has 16 bytes");
 _Static_assert(offsetof(struct heavy_fault, cause) == 4, "the cause follows the kind");
 _Static_assert(offsetof(struct heavy_fault, number) == 8, "the number comes last");
+_Static_assert(sizeof(struct heavy_bounds) == 16, "bounds have 16 bytes");
+_Static_assert(offsetof(struct heavy_bounds, high) == 8, "the most follows the least");
+_Static_assert(sizeof(struct heavy_entry) == 24, "an entry has 24 bytes");
+_Static_assert(offsetof(struct heavy_entry, len) == 8, "the length follows the start");
+_Static_assert(offsetof(struct heavy_entry, counter) == 16, "the counter comes last");
 _Static_assert(sizeof(size_t) == 8, "the library is built for 64-bit machines");
 #endif
 

@@ -3,7 +3,10 @@
     summary = heavy.Summary.of_csv(open("monday.csv", "rb"), k=100)
     both = heavy.merge(summary, heavy.Summary(saved))
     both.ask(b"10.0.0.1")                         # (least, most)
+    both.ask_many(["10.0.0.1", "10.0.0.2"])       # one such pair for each, and the file read once
+    both.entries()                                # [(key, counter), ..]
     both.confirm(records)                         # the rows `key,weight`, exact
+    both.condense(part)                           # fewer records that confirm the same
 
 What is given as bytes may be any object with the buffer protocol, or an open binary file, which is read to its end.
 Calls share nothing and let other threads run meanwhile. The library is looked for where LIBHEAVY says, beside this
@@ -14,11 +17,14 @@ from __future__ import annotations
 import ctypes
 import os
 from pathlib import Path
-from typing import BinaryIO, Callable, Union
+from typing import Any, BinaryIO, Callable, Iterable, TypeVar, Union
 
 Given = Union[bytes, bytearray, memoryview, BinaryIO]
+Key = Union[bytes, bytearray, memoryview, str]
 
+_VERSION = 1
 _TOO_SMALL = 5
+_SMALL, _LARGE = 1 << 16, 1 << 20  # bytes of rooms that are tried first
 _METHODS = {"mg": 1, "ss": 2}
 _RECORD = ["wrong number of fields", "empty key", "key too long", "bad weight", "zero weight", "total too large"]
 _FILE = [
@@ -41,8 +47,8 @@ _TEXTS = {
 
 
 class HeavyError(Exception):
-    """A refusal. Its text is the program's; `status` is the program's exit status, and `number` that of the record, file
-    or key that is refused, from 1 on, or 0."""
+    """A refusal. Its text is the program's; `status` is the program's exit status, and `number` that of the record, the
+    file or the key that is refused, from 1 on, or 0."""
 
     def __init__(self, status: int, kind: int, cause: int, number: int) -> None:
         self.status = status
@@ -55,10 +61,23 @@ class HeavyError(Exception):
         else:
             text = _TEXTS.get(kind, f"fault {kind}")
         super().__init__(text)
+        self._numbers = (status, kind, cause, number)
+
+    def __reduce__(self) -> tuple[type[HeavyError], tuple[int, int, int, int]]:
+        """The error is told from one process to another, as by a pool."""
+        return HeavyError, self._numbers
 
 
 class _Fault(ctypes.Structure):
     _fields_ = [("kind", ctypes.c_uint32), ("cause", ctypes.c_uint32), ("number", ctypes.c_uint64)]
+
+
+class _Bounds(ctypes.Structure):
+    _fields_ = [("low", ctypes.c_uint64), ("high", ctypes.c_uint64)]
+
+
+class _Entry(ctypes.Structure):
+    _fields_ = [("start", ctypes.c_size_t), ("len", ctypes.c_size_t), ("counter", ctypes.c_uint64)]
 
 
 def _library() -> ctypes.CDLL:
@@ -68,12 +87,19 @@ def _library() -> ctypes.CDLL:
     read, size, number = ctypes.c_void_p, ctypes.c_size_t, ctypes.c_uint64
     room = [ctypes.c_void_p, size, ctypes.POINTER(size), ctypes.POINTER(_Fault)]
     bounds = [ctypes.POINTER(number), ctypes.POINTER(number), ctypes.POINTER(_Fault)]
+    version = library.heavy_version
+    version.argtypes, version.restype = [], ctypes.c_uint32
+    if version() != _VERSION:
+        raise ImportError(f"libheavy has interface {version()}, and this module is for {_VERSION}")
     for name, words in {
         "heavy_summarise": [read, size, number, ctypes.c_uint32, *room],
         "heavy_table": [read, size, number, number, number, *room],
         "heavy_merge": [read, size, ctypes.POINTER(size), size, *room],
         "heavy_ask": [read, size, read, size, *bounds],
+        "heavy_ask_keys": [read, size, read, size, ctypes.POINTER(size), size, *room],
+        "heavy_entries": [read, size, *room],
         "heavy_confirm": [read, size, read, size, *room],
+        "heavy_condense": [read, size, read, size, *room],
     }.items():
         getattr(library, name).argtypes = words
         getattr(library, name).restype = ctypes.c_uint32
@@ -101,17 +127,47 @@ def _number(name: str, number: int) -> int:
     return number
 
 
-def _answer(call: Callable[..., int], *words: object, guess: int) -> bytes:
-    """The bytes that a call gives, in a room of this size, or else in one of the size that it says."""
+def _bytes_of_key(key: Key) -> bytes:
+    """A key's bytes; a text is its bytes in UTF-8."""
+    return key.encode() if isinstance(key, str) else bytes(key)
+
+
+def _joined(parts: list[bytes]) -> tuple[ctypes.c_void_p, int, ctypes.Array[ctypes.c_size_t], int]:
+    """Parts as one slice, and their lengths as another, neither of them null."""
+    lengths = (ctypes.c_size_t * max(len(parts), 1))(*map(len, parts))
+    return *_lent(b"".join(parts)), lengths, len(parts)
+
+
+_Element = TypeVar("_Element")
+
+
+def _given(call: Callable[..., int], *words: object, of: type[_Element], guess: int) -> tuple[Any, int]:
+    """An array, and how much of it a call fills: in a room of this size, or else in one of the size that it says."""
     needed, told, size = ctypes.c_size_t(), _Fault(), max(guess, 1)
     while True:
-        room = ctypes.create_string_buffer(size)
+        room = (of * size)()
         status = call(*words, room, size, ctypes.byref(needed), ctypes.byref(told))
         if status == 0:
-            return ctypes.string_at(room, needed.value)
+            return room, needed.value
         if status != _TOO_SMALL:
             raise HeavyError(status, told.kind, told.cause, told.number)
         size = needed.value
+
+
+def _answer(call: Callable[..., int], *words: object, guess: int) -> bytes:
+    """The bytes that a call gives."""
+    room, size = _given(call, *words, of=ctypes.c_char, guess=guess)
+    return ctypes.string_at(room, size)
+
+
+def _summary_room(k: int) -> int:
+    """The most bytes of a summary with k counters, as the header has it."""
+    return 17 + k * (4096 + 10)
+
+
+def _table_room(width: int, depth: int) -> int:
+    """The bytes of a table, as the header has them."""
+    return 26 + 16 * depth + 8 * depth * width
 
 
 class _Saved:
@@ -125,16 +181,21 @@ class _Saved:
         """The file's bytes, as the program writes them."""
         return self._saved
 
-    def ask(self, key: bytes | str) -> tuple[int, int]:
+    def ask(self, key: Key) -> tuple[int, int]:
         """The least and the most that a key's weight in the stream can be. A text is its bytes in UTF-8."""
         low, high, told = ctypes.c_uint64(), ctypes.c_uint64(), _Fault()
-        word = key.encode() if isinstance(key, str) else bytes(key)
         status = _heavy.heavy_ask(
-            *_lent(self._saved), *_lent(word), ctypes.byref(low), ctypes.byref(high), ctypes.byref(told)
+            *_lent(self._saved), *_lent(_bytes_of_key(key)), ctypes.byref(low), ctypes.byref(high), ctypes.byref(told)
         )
         if status != 0:
             raise HeavyError(status, told.kind, told.cause, told.number)
         return low.value, high.value
+
+    def ask_many(self, keys: Iterable[Key]) -> list[tuple[int, int]]:
+        """What `ask` tells of each of these keys, in order; the file is read once. A refusal has the key's number."""
+        words = _joined([_bytes_of_key(key) for key in keys])
+        room, count = _given(_heavy.heavy_ask_keys, *_lent(self._saved), *words, of=_Bounds, guess=words[-1])
+        return [(room[i].low, room[i].high) for i in range(count)]
 
 
 class Summary(_Saved):
@@ -145,12 +206,24 @@ class Summary(_Saved):
         """The summary of CSV records `key,weight` with k counters. The methods "mg" and "ss" give the same bytes."""
         text = _bytes_of(records)
         words = (*_lent(text), _number("k", k), _METHODS.get(method, 0))
-        return cls(_answer(_heavy.heavy_summarise, *words, guess=1 << 16))
+        return cls(_answer(_heavy.heavy_summarise, *words, guess=min(_summary_room(k), _LARGE)))
 
     def confirm(self, records: Given) -> bytes:
         """The report of the summary's keys that are heavy in these records, which are those that were summarised."""
         text = _bytes_of(records)
-        return _answer(_heavy.heavy_confirm, *_lent(self._saved), *_lent(text), guess=1 << 16)
+        return _answer(_heavy.heavy_confirm, *_lent(self._saved), *_lent(text), guess=_SMALL)
+
+    def condense(self, records: Given) -> bytes:
+        """Records that confirm the same: the weight of each key of the summary that comes, and in one more that of all
+        others. So parts are condensed one by one, and confirmed together, joined in any order."""
+        text = _bytes_of(records)
+        return _answer(_heavy.heavy_condense, *_lent(self._saved), *_lent(text), guess=_SMALL)
+
+    def entries(self) -> list[tuple[bytes, int]]:
+        """The keys that have a counter, by rising key, each with its counter."""
+        saved = self._saved
+        room, count = _given(_heavy.heavy_entries, *_lent(saved), of=_Entry, guess=len(saved) // 16 + 1)
+        return [(saved[e.start : e.start + e.len], e.counter) for e in room[:count]]
 
 
 class Table(_Saved):
@@ -161,12 +234,14 @@ class Table(_Saved):
         """The table of CSV records `key,weight`, with the hash family that is drawn from the seed."""
         text = _bytes_of(records)
         words = (*_lent(text), _number("width", width), _number("depth", depth), _number("seed", seed))
-        return cls(_answer(_heavy.heavy_table, *words, guess=1 << 16))
+        return cls(_answer(_heavy.heavy_table, *words, guess=_table_room(min(width, 65536), min(depth, 16))))
 
 
-def merge(first: _Saved, *others: _Saved) -> _Saved:
+File = TypeVar("File", bound=_Saved)
+
+
+def merge(first: File, *others: File) -> File:
     """The merge of saved files of one kind, which the answer is of too; files are numbered from 1 in a refusal."""
     files = [file.to_bytes() for file in (first, *others)]
-    whole = b"".join(files)
-    lengths = (ctypes.c_size_t * len(files))(*map(len, files))
-    return type(first)(_answer(_heavy.heavy_merge, *_lent(whole), lengths, len(files), guess=max(map(len, files)) + 64))
+    sizes = [len(file) for file in files]
+    return type(first)(_answer(_heavy.heavy_merge, *_joined(files), guess=max(min(sum(sizes), _LARGE), max(sizes))))

@@ -1,6 +1,7 @@
 """The module against the program, whose path HEAVY has: the same bytes, and the same texts of refusals."""
 import io
 import os
+import pickle
 import subprocess
 import tempfile
 import unittest
@@ -55,6 +56,43 @@ class Same(unittest.TestCase):
                     ran = program("ask", self.saved(file, room, "file"), key)
                     self.assertEqual(f"{key},{low},{high}\n".encode(), ran.stdout)
 
+    def test_many_answers(self) -> None:
+        keys = ["a", b"b", bytearray(b"c"), "nobody", "a", "é"]
+        for file in (heavy.Summary.of_csv(RECORDS, 2), heavy.Table.of_csv(RECORDS, 2, 2)):
+            self.assertEqual(file.ask_many(keys), [file.ask(key) for key in keys])
+            self.assertEqual(file.ask_many(iter(keys)), file.ask_many(keys))
+            self.assertEqual(file.ask_many([]), [])
+        # 2 is taken from each of three counters at c: a has 3 and then 4, b has 1; of the total of 11 at most 2 for each
+        self.assertEqual(heavy.Summary.of_csv(RECORDS, 2).ask_many("abz"), [(4, 6), (1, 3), (0, 2)])
+
+    def test_entries(self) -> None:
+        self.assertEqual(heavy.Summary.of_csv(RECORDS, 2).entries(), [(b"a", 4), (b"b", 1)])
+        self.assertEqual(heavy.Summary.of_csv(OTHERS, 3).entries(), [(b"a", 1), (b"x,y", 7), (b"\xff", 2)])
+        self.assertEqual(heavy.Summary.of_csv(b"", 2).entries(), [])
+        # version 1: k 2, a total of 9, and two entries, whose keys' lengths have one byte
+        first = b"HHS1\1\0\2" + (9).to_bytes(8, "big") + b"\0\2\1b" + (3).to_bytes(8, "big")
+        first += b"\2cd" + (5).to_bytes(8, "big")
+        self.assertEqual(heavy.Summary(first).entries(), [(b"b", 3), (b"cd", 5)])
+        records = b"".join(b"%04d%s,%d\n" % (i, b"x" * (i % 90), i + 1) for i in range(5000))
+        wanted = [(b"%04d%s" % (i, b"x" * (i % 90)), i + 1) for i in range(5000)]
+        self.assertEqual(heavy.Summary.of_csv(records, 5000).entries(), wanted)
+
+    def test_condensed(self) -> None:
+        with tempfile.TemporaryDirectory() as room:
+            for records in (RECORDS, OTHERS, b""):
+                whole = heavy.Summary.of_csv(RECORDS + OTHERS, 2)
+                ran = program("condense", self.saved(whole, room, "file"), given=records)
+                self.assertEqual((whole.condense(records), ran.returncode), (ran.stdout, 0))
+            parts = whole.condense(OTHERS) + whole.condense(RECORDS)
+            self.assertEqual(whole.confirm(parts), whole.confirm(RECORDS + OTHERS))
+
+    def test_rooms(self) -> None:
+        # the sizes that the header's bounds tell: of a full summary whose keys have 4,096 bytes, and of tables
+        records = b"".join(b"%04d%s\n" % (i, b"x" * 4092) for i in range(300))
+        self.assertEqual(len(heavy.Summary.of_csv(records, 300).to_bytes()), 17 + 300 * 4106)
+        for width, depth in ((1, 1), (7, 3), (1024, 4)):
+            self.assertEqual(len(heavy.Table.of_csv(RECORDS, width, depth).to_bytes()), 26 + depth * (16 + 8 * width))
+
     def test_confirmations(self) -> None:
         with tempfile.TemporaryDirectory() as room:
             for records in (RECORDS, OTHERS, b""):
@@ -67,6 +105,13 @@ class Same(unittest.TestCase):
             call()
         told = (f"heavy: {caught.exception}\n".encode(), caught.exception.status)
         self.assertEqual(told, (ran.stderr, ran.returncode))
+
+    def test_refusals_are_pickled(self) -> None:
+        for records, text in ((b"a\na,0\n", "record 2: zero weight"), (b",1\n", "record 1: empty key")):
+            with self.assertRaises(heavy.HeavyError) as caught:
+                heavy.Summary.of_csv(records)
+            again = pickle.loads(pickle.dumps(caught.exception))
+            self.assertEqual((str(again), again.status, again.number), (text, 3, int(text.split()[1][0])))
 
     def test_refused_options_and_records(self) -> None:
         of_csv = heavy.Summary.of_csv
@@ -104,6 +149,15 @@ class Same(unittest.TestCase):
                     self.refused(lambda: file.ask("a"), ran)
             self.refused(lambda: good.ask(b""), program("ask", self.saved(good, room, "1"), ""))
             self.refused(lambda: good.ask(b"x" * 4097), program("ask", self.saved(good, room, "1"), "x" * 4097))
+            for keys in (["a", ""], ["a", "b", "x" * 4097, ""]):
+                self.refused(lambda: good.ask_many(keys), program("ask", self.saved(good, room, "1"), *keys))
+            self.refused(lambda: damaged[0].ask_many([""]), program("ask", self.saved(damaged[0], room, "1"), ""))
+            for file in (heavy.Summary(table.to_bytes()), damaged[20]):
+                ran = program("condense", self.saved(file, room, "1"), given=b"a\n")
+                self.refused(lambda: file.condense(b"a\n"), ran)
+                self.refused(file.entries, ran)
+            ran = program("condense", self.saved(good, room, "1"), given=b"a\nb,0\n")
+            self.refused(lambda: good.condense(b"a\nb,0\n"), ran)
             for file in (heavy.Summary(table.to_bytes()), good):
                 ran = program("confirm", self.saved(file, room, "1"), given=b"a\n")
                 self.refused(lambda: file.confirm(b"a\n"), ran)

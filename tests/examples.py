@@ -1,22 +1,42 @@
 #!/usr/bin/env python3
-"""Runs the examples of the program's help, of the man page and of the README, and compares what they print.
+"""Runs the examples of the program's help, of the man page, of the README and of examples/machines, and compares what they
+print.
 
 An example is a block of lines indented by four spaces (in the man page, between .EX and .EE) with a line that begins
 with `$ `: what stands behind it is run by bash, and has to print the lines below it and nothing else. The blocks of a
-page are run in order in one folder, which has the folder examples/ and the program as `heavy` and as bin/heavy.
+page are run in order in one folder, which has the folder examples/, the program as `heavy` and as bin/heavy, and a
+stand-in for ssh that runs the words here.
+
+Of other blocks, one that imports is Python over the library for C, which is run where that was built; a drawing needs
+nothing; and each line of any other begins with a command, which has to be there with the options that are shown.
 
 usage: tests/examples.py
 """
+import ast
 import os
 import re
 import shutil
+import subprocess
+import sys
 import tempfile
 from pathlib import Path
 
 import programs
 
-# of these a page may use what is installed
-TOOLS = {"awk", "cut"}
+# what an example may use where it is installed, by the words that tell so
+TOOLS = {r"\bawk\b": "awk", r"\bcut\b": "cut", r"one_file\.sh|many_machines\.sh": "parallel", r"over_dask\.py": "dask"}
+PAGES = ["README.md", *sorted(str(page.relative_to(programs.TOP)) for page in programs.TOP.glob("examples/*/README.md"))]
+SSH = '#!/bin/sh\nshift\nexec sh -c "$*"\n'
+DAYS = {"monday.csv": b"10.0.0.1,5\n10.0.0.2,1\n", "tuesday.csv": b"10.0.0.1,2\n"}
+# what the lines of Python over these days give
+GIVEN = {"week.ask('10.0.0.1')": (7, 7), "week.confirm(records)": b"10.0.0.1,7\n10.0.0.2,1\n"}
+
+
+def installed(tool: str) -> bool:
+    if tool == "dask":
+        words = ["/usr/bin/python3", "-c", "import distributed"]
+        return os.path.exists(words[0]) and subprocess.run(words, capture_output=True).returncode == 0
+    return shutil.which(tool) is not None
 
 
 def blocks_of(text: str) -> list[list[str]]:
@@ -24,6 +44,13 @@ def blocks_of(text: str) -> list[list[str]]:
     blocks = re.findall(r"(?:^    .*\n?)+", text, re.MULTILINE)
     lines = [[line[4:] for line in block.splitlines()] for block in blocks]
     return [block for block in lines if any(line.startswith("$ ") for line in block)]
+
+
+def others_of(text: str) -> list[list[str]]:
+    """The other blocks, each with those that only blank lines keep from it."""
+    blocks = re.findall(r"^    .*\n(?:^(?:    .*)?\n(?=(?:\n*)    |\n))*(?:^    .*\n)?", text, re.MULTILINE)
+    lines = [[line[4:] for line in block.splitlines() if line] for block in blocks]
+    return [block for block in lines if not any(line.startswith("$ ") for line in block)]
 
 
 def man_blocks_of(page: str) -> list[list[str]]:
@@ -50,10 +77,12 @@ def faults_of(blocks: list[list[str]]) -> list[str]:
         folder = Path(room)
         (folder / "bin").mkdir()
         (folder / "bin" / "heavy").symlink_to(programs.built("heavy_cli"))
+        (folder / "bin" / "ssh").write_text(SSH)
+        (folder / "bin" / "ssh").chmod(0o755)
         shutil.copytree(programs.TOP / "examples", folder / "examples")
-        env = {"PATH": f"{room}/bin:{os.environ['PATH']}", "LC_ALL": "C"}
+        env = {"PATH": f"{room}/bin:{os.environ['PATH']}", "HOME": room, "LC_ALL": "C"}
         for command, printed in (step for block in blocks for step in steps_of(block)):
-            if absent := {tool for tool in TOOLS if re.search(rf"\b{tool}\b", command) and not shutil.which(tool)}:
+            if absent := {tool for word, tool in TOOLS.items() if re.search(word, command) and not installed(tool)}:
                 print(f"examples: left out, for want of {', '.join(absent)}: {command}", flush=True)
                 continue
             ended = programs.run(["bash", "-c", command], env=env, cwd=room)
@@ -72,8 +101,73 @@ def pages(program: str) -> dict[str, list[list[str]]]:
     texts = {"heavy --help": help(), **{f"heavy {name} --help": help(name) for name in names if name != "help"}}
     found = {page: blocks_of(text) for page, text in texts.items()}
     found["man/heavy.1"] = man_blocks_of((programs.TOP / "man" / "heavy.1").read_text())
-    found["README.md"] = blocks_of((programs.TOP / "README.md").read_text())
+    for page in ["docs/WALK.md", *PAGES]:
+        found[page] = blocks_of((programs.TOP / page).read_text())
     return found
+
+
+def command_faults(line: str) -> list[str]:
+    """What a line that shows a command shows that is not there."""
+    words = re.split(r"\s{2,}|\s#", line)[0].split()
+    options = [word for word in words if word.startswith("--")]
+    name = words[0]
+    if name == "rt":
+        guide = Path(subprocess.run(["rt", "doc"], capture_output=True, text=True, check=True).stdout.split()[-1]).read_text()
+        ended = programs.run(["rt", "help"], env=dict(os.environ))
+        text = guide + ended.out.decode() + ended.err.decode()
+        wanted = [f"rt {words[1]}", *options] if f"rt {words[1]}" in text else [words[1], *options]
+    elif name == "dask":
+        if not installed("dask"):
+            print(f"examples: left out, for want of dask: {line}", flush=True)
+            return []
+        text = programs.run(["/usr/bin/python3", "-m", "dask", words[1], "--help"], env=dict(os.environ)).out.decode()
+        wanted = ["Options:", *options]
+    else:
+        places = [programs.TOP / name, programs.TOP / "examples" / "machines" / name]
+        there = [place for place in places if place.is_file()]
+        text, wanted = (there[0].read_text(), options) if there else ("", [name])
+    return [word for word in wanted if not re.search(rf"(?<![\w-]){re.escape(word)}(?![\w-])", text)]
+
+
+def try_commands(tally: programs.Tally) -> None:
+    """What the pages show beside examples."""
+    for page in ["CONTRIBUTING.md", *PAGES]:
+        for block in others_of((programs.TOP / page).read_text()):
+            if any(line.startswith("import ") for line in block) or any("──" in line for line in block):
+                continue
+            for line in block:
+                tally.check(f"{page}: {line}", not command_faults(line), command_faults(line))
+    for line in ("rt chekc", "rt check --onyl PATH", "tests/run --onyl", "tests/runs", "over_dask.py --schedluer A"):
+        tally.check(f"{line!r} is not found to be there", command_faults(line))
+
+
+def try_python(tally: programs.Tally) -> None:
+    """The README's lines of Python, each with what it gives."""
+    blocks = [block for block in others_of((programs.TOP / "README.md").read_text()) if "import heavy" in block]
+    tally.check("the README has lines of Python", len(blocks) == 1, blocks)
+    if not (programs.TOP / "crates" / "heavy_ffi" / "out" / "libheavy_ffi.a").exists():
+        print("examples: the README's lines of Python are left out, for want of the library for C", flush=True)
+        return
+    with tempfile.TemporaryDirectory() as room:
+        ended = programs.run([str(programs.TOP / "bin" / "install-library"), f"{room}/usr"], env=dict(os.environ))
+        if ended.status != 0:
+            print(f"examples: the README's lines of Python are left out, for want of the library: {ended.err!r}", flush=True)
+            return
+        for name, text in DAYS.items():
+            Path(room, name).write_bytes(text)
+        saved = programs.run([programs.built("heavy_cli"), "summarise", "--k", "100"], DAYS["tuesday.csv"]).out
+        Path(room, "tuesday.heavy").write_bytes(saved)
+        shown = "\n".join(blocks[0])
+        values = [ast.unparse(step) for step in ast.parse(shown).body if isinstance(step, ast.Expr)]
+        told = [f"print(repr(({value})))" for value in values]
+        steps = [ast.unparse(step) for step in ast.parse(shown).body if not isinstance(step, ast.Expr)]
+        program = "\n".join([f"records = {b''.join(DAYS.values())!r}", *steps, *told])
+        env = {**os.environ, "LIBHEAVY": f"{room}/usr/lib/libheavy.so.1", "PYTHONPATH": str(programs.TOP / "python")}
+        ended = programs.run([sys.executable, "-B", "-c", program], env=env, cwd=room)
+        printed = dict(zip(values, ended.out.decode().splitlines()))
+        tally.check("the README's lines of Python", ended.status == 0, ended)
+        for value, given in GIVEN.items():
+            tally.check(f"{value} of the README", printed.get(value) == repr(given), ended)
 
 
 def main() -> None:
@@ -81,9 +175,11 @@ def main() -> None:
     found = pages(programs.built("heavy_cli"))
     tally.check("help names commands", len(found) > 3, list(found))
     for page, blocks in found.items():
-        tally.check(f"{page} has examples", any(steps_of(block) for block in blocks))
+        tally.check(f"{page} has examples", bool(blocks) and all(steps_of(block) for block in blocks), blocks)
         faults = faults_of(blocks)
         tally.check(f"the examples of {page}", not faults, "; ".join(faults))
+    try_commands(tally)
+    try_python(tally)
     drifted = [[*block, "one line more"] for block in found["heavy --help"]]
     tally.check("an example that shows too much", faults_of(drifted), "not found")
     drifted = [block[:1] for block in found["heavy --help"]]

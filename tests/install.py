@@ -1,10 +1,12 @@
 #!/usr/bin/env python3
 """Installs the built program and runs what was installed; and builds by a stand-in of the toolchain's command: what
 the build says, that one is enough for two that begin at once, that none runs where nothing is to be built, and that an
-interrupted one leaves no process.
+interrupted one leaves no process. The library for C is installed of what the stand-in leaves, and left out where there
+is no C compiler.
 
 usage: tests/install.py
 """
+import ctypes
 import os
 import pty
 import shutil
@@ -14,6 +16,7 @@ import tempfile
 import time
 from pathlib import Path
 
+import header
 import programs
 
 RECORDS = b"a,5\nb,3\nc,2\na,1\n"
@@ -24,8 +27,27 @@ INSTALLED = {
     "share/zsh/vendor-completions/_heavy": 0o644,
     "share/fish/vendor_completions.d/heavy.fish": 0o644,
 }
+LIBRARY = [
+    "include/heavy.h", "lib/libheavy.a", "lib/libheavy.so.1", "lib/libheavy.so", "lib/pkgconfig/heavy.pc",
+]
+LEFT_OUT = b"heavy: the library for C is left out: it needs a C compiler, cc or what CC names, and ar\n"
+# what the scripts call, besides a C compiler and ar
+TOOLS = [
+    "bash", "env", "dirname", "readlink", "awk", "find", "sed", "cp", "chmod", "mv", "mkdir", "mktemp", "rm", "ln",
+    "cat", "tail", "touch", "sleep", "sh",
+]
 # It tells what rt tells, counts its runs, and leaves a program; in between it waits, with a process below it.
 STAND_IN = """#!/usr/bin/env bash
+case $1 in
+  doc) echo "$KIT/START-HERE.md"; exit ;;
+  lib)
+    echo lib >> "$RUNS"
+    echo "the stand-in's last line"
+    [ "$OUTCOME" = 0 ] || exit "$OUTCOME"
+    mkdir -p out
+    exec cp "$KIT/calls.a" out/libheavy_ffi.a
+    ;;
+esac
 echo run >> "$RUNS"
 echo "rt: chose --jobs 2 for hh_stream"
 echo "so far: 3 of 37 functions checked; the verdict comes last"
@@ -50,7 +72,7 @@ class Copy:
         shutil.copytree(programs.TOP / "bin", self.top / "bin")
         shutil.copy(programs.TOP / "crates.txt", self.top)
         for line in (self.top / "crates.txt").read_text().splitlines():
-            (self.top / "crates" / line.split(":")[0] / "src").mkdir(parents=True)
+            (self.top / "crates" / line.split(":")[0].split()[0] / "src").mkdir(parents=True)
         source = self.top / "crates" / "heavy_cli" / "src" / "main.rt"
         source.write_text("// a program\n")
         self.source = source
@@ -60,13 +82,36 @@ class Copy:
         (tools / "rt").write_text(STAND_IN)
         (tools / "rt").chmod(0o755)
         self.path = f"{tools}:{os.environ['PATH']}"
+        self.kit = self.top / "kit"
+
+    def environment(self, seconds: float = 0, outcome: int = 0, path: str | None = None) -> dict[str, str]:
+        """What the stand-in hears: how long a build takes, and how it ends."""
+        return {
+            "PATH": path or self.path, "RUNS": str(self.runs), "CHILDREN": str(self.children),
+            "SECONDS_TO_RUN": str(seconds), "OUTCOME": str(outcome), "KIT": str(self.kit),
+        }
+
+    def add_library(self) -> None:
+        """What bin/install needs besides the program: the other files, and a kit with two archives, of C."""
+        for folder in ("include", "man", "completions"):
+            shutil.copytree(programs.TOP / folder, self.top / folder)
+        arguments = Path("crates", "heavy_cli", "src", "arguments.rt")
+        shutil.copy(programs.TOP / arguments, self.top / arguments)
+        (self.kit / "c").mkdir(parents=True)
+        sources = {"calls": "".join(f"int {name}(void) {{ return 7; }}\n" for name in (*header.calls(), "hidden"))}
+        sources["c/liblibc_c"] = "int helper(void) { return 8; }\n"
+        for name, text in sources.items():
+            (self.kit / f"{name}.c").write_text(text)
+            subprocess.run(["cc", "-fPIC", "-c", f"{name}.c", "-o", f"{name}.o"], cwd=self.kit, check=True)
+            subprocess.run(["ar", "rcs", f"{name}.a", f"{name}.o"], cwd=self.kit, check=True)
+
+    def install(self, prefix: str, destdir: str = "", **how) -> programs.Ended:
+        env = {**self.environment(**how), "DESTDIR": destdir}
+        return programs.run([str(self.top / "bin" / "install"), prefix], env=env)
 
     def start(self, seconds: float = 0, outcome: int = 0, path: str | None = None, **how) -> subprocess.Popen:
         """`bin/heavy report` with a stand-in that takes so long and ends so."""
-        env = {
-            "PATH": path or self.path, "RUNS": str(self.runs), "CHILDREN": str(self.children),
-            "SECONDS_TO_RUN": str(seconds), "OUTCOME": str(outcome),
-        }
+        env = self.environment(seconds, outcome, path)
         how = {"stdin": subprocess.DEVNULL, "stdout": subprocess.PIPE, "stderr": subprocess.PIPE, "env": env, **how}
         return subprocess.Popen([self.top / "bin" / "heavy", "report"], **how)
 
@@ -104,6 +149,14 @@ def ends(process: int) -> bool:
     return False
 
 
+def no_compiler(tools: Path) -> str:
+    """A path with what the scripts call, but without rt, a C compiler and ar."""
+    tools.mkdir()
+    for name in TOOLS:
+        (tools / name).symlink_to(shutil.which(name))
+    return str(tools)
+
+
 def try_builds(tally: programs.Tally, room: str) -> None:
     """A first build says what it does; the next run builds nothing and says nothing; a changed source is built."""
     copy = Copy(room, "builds")
@@ -128,11 +181,7 @@ def try_failures(tally: programs.Tally, room: str) -> None:
     log = os.fsencode(copy.top / "crates" / "heavy_cli" / "build.log")
     told = b"the build failed; the last lines of " + log in err and b"the stand-in's last line\n" in err
     tally.check("a failed build", (status, out) == (1, b"") and told, (status, out, err))
-    tools = copy.top / "others"
-    tools.mkdir()
-    for name in ("bash", "env", "dirname", "readlink", "awk", "find"):
-        (tools / name).symlink_to(shutil.which(name))
-    found = copy.run(path=str(tools))
+    found = copy.run(path=no_compiler(copy.top / "others"))
     tally.check("no toolchain", found == (1, b"", b"heavy: the toolchain's command, rt, is not on the path\n"), found)
 
 
@@ -192,11 +241,53 @@ def try_terminal(tally: programs.Tally, room: str) -> None:
     tally.check("nothing of it is left", said.count(b"\n") == 3 and b"\r\x1b[Kheavy: built in " in said, said)
 
 
+def try_library(tally: programs.Tally, room: str) -> None:
+    """The library is built and installed beside the program, with the program's version; a failed build is told; where
+    there is no compiler, it is left out, and that is told."""
+    if not shutil.which("cc") or not shutil.which("ar"):
+        print("install: the library is left out, for want of cc and ar", flush=True)
+        return
+    copy = Copy(room, "library")
+    copy.add_library()
+    files = [*INSTALLED, *LIBRARY]
+    ended = copy.install("/usr/", destdir=f"{room}/all")
+    told = b"".join(os.fsencode(f"{room}/all/usr/{file}\n") for file in files)
+    tally.check("program and library are told", (ended.status, ended.out) == (0, told), ended)
+    there = [file for file in files if Path(room, "all", "usr", file).exists()]
+    tally.check("program and library are there", there == files, there)
+    version = programs.run([programs.built("heavy_cli"), "--version"]).out.split()[-1]
+    described = Path(room, "all", "usr", LIBRARY[-1]).read_bytes().splitlines()
+    tally.check("the program's version", b"Version: " + version in described, described)
+    tally.check("no DESTDIR in what pkg-config tells", described[0] == b"prefix=/usr", described)
+    same = Path(room, "all", "usr", LIBRARY[0]).read_bytes() == (programs.TOP / LIBRARY[0]).read_bytes()
+    tally.check("the header is installed", same)
+    shared = ctypes.CDLL(f"{room}/all/usr/lib/libheavy.so.1")
+    shown = [name for name in (*header.calls(), "hidden", "helper") if hasattr(shared, name)]
+    tally.check("the shared library shows the calls and nothing else", shown == [*header.calls()], shown)
+    ended = copy.install(f"{room}/again")
+    runs = copy.runs.read_text().split()
+    tally.check("what was built is not built again", (ended.status, runs) == (0, ["run", "lib"]), (ended, runs))
+    later = time.time() + 5
+    os.utime(copy.source, (later, later))
+    ended = copy.install(f"{room}/newer")
+    runs = copy.runs.read_text().split()
+    tally.check("a source of the program alone", (ended.status, runs) == (0, ["run", "lib", "run"]), (ended, runs))
+    copy.top.joinpath("crates", "heavy_ffi", "out", "libheavy_ffi.a").unlink()
+    os.utime(copy.top / "crates" / "heavy_cli" / "out" / "heavy_cli", (later + 5, later + 5))
+    ended = copy.install(f"{room}/failed", outcome=3)
+    told = b"the stand-in's last line\n" in ended.err
+    tally.check("a failed build of the library", ended.status == 1 and told, ended)
+    ended = copy.install(f"{room}/without", path=no_compiler(copy.top / "others"))
+    told = b"".join(os.fsencode(f"{room}/without/{file}\n") for file in INSTALLED)
+    tally.check("no compiler", (ended.status, ended.out, ended.err) == (0, told, LEFT_OUT), ended)
+
+
 def try_install(tally: programs.Tally, room: str) -> None:
-    """All files are where Debian has them, and the installed program answers."""
+    """All files are where Debian has them, and the installed program answers. The library is left out, which takes long
+    to build."""
     programs.built("heavy_cli")
     install = str(programs.TOP / "bin" / "install")
-    path = {"PATH": os.environ["PATH"]}
+    path = {"PATH": no_compiler(Path(room, "no_compiler"))}
     for name, env, prefix, root in [
         ("a prefix", path, f"{room}/usr", f"{room}/usr"),
         ("a prefix with a slash", path, f"{room}/slash/", f"{room}/slash"),
@@ -204,7 +295,7 @@ def try_install(tally: programs.Tally, room: str) -> None:
     ]:
         ended = programs.run([install, prefix], env=env)
         told = b"".join(os.fsencode(f"{root}/{file}\n") for file in INSTALLED)
-        tally.check(f"{name} is told", (ended.status, ended.out) == (0, told), ended)
+        tally.check(f"{name} is told", (ended.status, ended.out, ended.err) == (0, told, LEFT_OUT), ended)
         modes = {file: Path(root, file).stat().st_mode & 0o777 for file in INSTALLED if Path(root, file).exists()}
         tally.check(f"{name} has all files", modes == INSTALLED, modes)
         found = programs.run([f"{root}/bin/heavy", "report", "--k", "2"], RECORDS)
@@ -222,6 +313,7 @@ def main() -> None:
         try_interrupts(tally, room)
         try_two(tally, room)
         try_terminal(tally, room)
+        try_library(tally, room)
         try_install(tally, room)
     tally.end("install")
 

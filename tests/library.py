@@ -1,12 +1,13 @@
 #!/usr/bin/env python3
-"""Installs the library for C, where it has been built, and tries it from C and from Python: every call with answers known by hand, under the
-sanitizers of addresses and of undefined behaviour where a compiler has them; each request for memory refused in turn;
-the header's numbers against the definitions; and the Python module against the program.
+"""Compares the header of the library for C with the definitions; and where the library has been built, installs it and
+tries it from C and from Python: every call with answers known by hand, under the sanitizers of addresses and of
+undefined behaviour where a compiler has them; each request for memory refused in turn; the Python module against the
+program; and a pool of processes.
 
 usage: tests/library.py
 
-To build the library proves all crates below it once more, which `rt ci` leaves no way around. So this script doesn't: where
-there is none, it compares the header alone, and says so. `bin/install-library` builds it.
+To build the library proves all crates below it once more, unless their checks kept their work, and `rt ci` keeps none.
+So this script doesn't: where there is none, it compares the header alone, and says so. `bin/install-library` builds it.
 """
 import os
 import re
@@ -16,44 +17,42 @@ import sys
 import tempfile
 from pathlib import Path
 
+import header
 import programs
 
 C = programs.TOP / "tests" / "c"
-CALLS = ["heavy_ask", "heavy_confirm", "heavy_merge", "heavy_summarise", "heavy_table"]
 INSTALLED = [
     "include/heavy.h", "lib/libheavy.a", "lib/libheavy.so.1", "lib/libheavy.so", "lib/pkgconfig/heavy.pc",
 ]
-GROUPS = {"kind_of": "", "record_cause": "RECORD_", "file_cause": "FILE_", "merge_cause": "MERGE_", "key_cause": "KEY_"}
+# Headers that say another thing than the library, by what they say in place of what.
+DRIFTS = [
+    ("#define HEAVY_BAD_K 2u", "#define HEAVY_BAD_K 3u"),
+    ("#define HEAVY_TOO_SMALL 5u", "#define HEAVY_TOO_SMALL 6u"),
+    ("#define HEAVY_SPACE_SAVING 2u", "#define HEAVY_SPACE_SAVING 1u"),
+    ("#define HEAVY_FILE_TRAILING 15u\n", ""),
+    ("#define HEAVY_MAX_KEY 4096u", "#define HEAVY_MAX_KEY 4095u"),
+    ("((size_t)(longest) + 10)", "((size_t)(longest) + 9)"),
+    ("    uint32_t kind;\n    uint32_t cause;\n", "    uint32_t cause;\n    uint32_t kind;\n"),
+    ("    uint64_t counter;\n", "    int64_t counter;\n"),
+    ("size_t text_len, uint64_t k, uint32_t method,", "size_t text_len, uint32_t method, uint64_t k,"),
+    ("uint32_t heavy_ask(const uint8_t *file", "uint32_t heavy_ask(uint8_t *file"),
+]
 
 
-def words_of(name: str) -> str:
-    """TotalTooLarge as TOTAL_TOO_LARGE."""
-    return re.sub(r"(?<!^)(?=[A-Z])", "_", name).upper()
-
-
-def defined() -> dict[str, int]:
-    """The numbers that the definitions give the kinds and the causes, by the names that the header has for them."""
-    numbers = {}
-    specs = (programs.TOP / "crates" / "heavy_ffi" / "specs" / "Faults.antt").read_text()
-    for group, variant, number in re.findall(r"^(\w+) \(?\w+\.(\w+)[^=\n]*= (\d+)$", specs, re.M):
-        if group in GROUPS:
-            name = "NO_MEMORY" if (group, variant) == ("kind_of", "Memory") else words_of(variant)
-            numbers[f"HEAVY_{GROUPS[group]}{name}"] = int(number)
-    return numbers
-
-
-def try_header(tally: programs.Tally) -> None:
-    """Each kind and each cause of the header has its number."""
-    header = (programs.TOP / "include" / "heavy.h").read_text()
-    numbers = {name: int(number) for name, number in re.findall(r"^#define (HEAVY_\w+) (\d+)u", header, re.M)}
-    specs = defined()
-    shared = {name: number for name, number in numbers.items() if name in specs}
-    tally.check("the header's numbers", all(specs[name] == number for name, number in shared.items()), shared)
-    others = sorted(set(numbers) - set(specs))
-    tally.check("the header's other numbers", others == sorted([
-        "HEAVY_DONE", "HEAVY_DEVICE", "HEAVY_USAGE", "HEAVY_REFUSED", "HEAVY_MEMORY", "HEAVY_TOO_SMALL",
-        "HEAVY_MISRA_GRIES", "HEAVY_SPACE_SAVING",
-    ]), others)
+def try_header(tally: programs.Tally, room: str) -> None:
+    """Each number, structure and call of the header is the library's, and it has no others; drifts are found."""
+    text = (programs.TOP / "include" / "heavy.h").read_text()
+    holds, said = header.compiles(text, room)
+    tally.check("the header says what the library is", holds, said)
+    named = set(re.findall(r"^#define (HEAVY_\w+) \d+u", text, re.M))
+    others = named ^ set(header.numbers())
+    tally.check("the header has these numbers and no others", not others, others)
+    declared = sorted(re.findall(r"^uint32_t (heavy_\w+)\(", text, re.M))
+    tally.check("the header has these calls and no others", declared == sorted(header.calls()), declared)
+    for old, new in DRIFTS:
+        drifted = text.replace(old, new)
+        tally.check(f"a header with {new!r} in place of {old!r} is found",
+                    drifted != text and not header.compiles(drifted, room)[0])
 
 
 def compiled(compiler: str, source: str, prefix: str, room: str, *words: str) -> str | None:
@@ -91,6 +90,23 @@ def try_python(tally: programs.Tally, prefix: str) -> None:
     tally.check("the Python module", ran.returncode == 0, ran.stderr)
 
 
+def try_pool(tally: programs.Tally, prefix: str, room: str) -> None:
+    """The example of a pool of processes prints the program's report, in any number of parts, and its refusals."""
+    env = {**os.environ, "LIBHEAVY": f"{prefix}/lib/libheavy.so.1"}
+    words = [sys.executable, "-B", str(programs.TOP / "examples" / "pool.py")]
+    records = b"".join(b"key%d,%d\n" % (i * i % 13, i % 7 + 1) for i in range(5000))
+    for name, text in (("records", records), ("bad", records + b"a,0\n")):
+        Path(room, name).write_bytes(text)
+    wanted = programs.run([programs.built("heavy_cli"), "report", "--k", "20"], records).out
+    for processes in ("1", "4"):
+        ended = programs.run([*words, f"{room}/records", "20", processes], env=env)
+        right = (ended.status, ended.out) == (0, wanted) and wanted.count(b"\n") > 3
+        tally.check(f"a pool of {processes}", right, ended)
+    ended = programs.run([*words, f"{room}/bad", "20", "1"], env=env)
+    told = b"heavy: record 5001: zero weight\n"
+    tally.check("a pool's refusal", (ended.status, ended.out, ended.err) == (3, b"", told), ended)
+
+
 def try_symbols(tally: programs.Tally, prefix: str) -> None:
     """The shared library shows its calls alone."""
     if not shutil.which("nm"):
@@ -99,12 +115,13 @@ def try_symbols(tally: programs.Tally, prefix: str) -> None:
     words = ["nm", "-D", "--defined-only", "--format=posix", f"{prefix}/lib/libheavy.so.1"]
     shown = subprocess.run(words, capture_output=True, text=True, check=True).stdout
     names = sorted(line.split("@")[0] for line in shown.splitlines() if " T " in line)
-    tally.check("the shared library's names", names == CALLS, names)
+    tally.check("the shared library's names", names == sorted(header.calls()), names)
 
 
 def main() -> None:
     tally = programs.Tally()
-    try_header(tally)
+    with tempfile.TemporaryDirectory() as room:
+        try_header(tally, room)
     if not (programs.TOP / "crates" / "heavy_ffi" / "out" / "libheavy_ffi.a").exists():
         print("library: not built, so that all but the header is left out", flush=True)
         tally.end("library")
@@ -127,6 +144,7 @@ def main() -> None:
         for compiler in compilers:
             try_c(tally, compiler, prefix, room)
         try_python(tally, prefix)
+        try_pool(tally, prefix, room)
     tally.end("library")
 
 

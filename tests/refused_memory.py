@@ -28,18 +28,19 @@ CALLS = {
         "Candidates::contenders", "Candidates::select", "SpaceSaving::add", "SpaceSaving::into_summary",
         "BucketSaving::new", "BucketSaving::add", "BucketSaving::add new bucket",
         "BucketSaving::add monitored", "BucketSaving::add monitored new bucket", "BucketSaving::into_summary",
+        "GatheredSaving::new", "GatheredSaving::add", "GatheredSaving::add moving a key", "GatheredSaving::into_summary",
         "monitored_summary",
     ],
     "hh_countmin": ["Family::draw", "Family::from_parts", "Family::copy", "Table::new"],
-    "hh_saved": ["write", "write table", "read", "read table"],
+    "hh_saved": ["write", "write table", "read", "read table", "places"],
     "hh_shared": ["SharedSums::new", "SharedSums::close"],
     "hh_pool": [
         "Plan::chain", "Plan::balanced", "Plan::parse", "merge_by", "first_pass", "second_pass", "analyse",
     ],
     "heavy": [
         "read_stream", "report_text", "write_report", "confirm", "summary_bytes mg", "summary_bytes ss",
-        "table_bytes", "merge_bytes", "merge_bytes tables", "ask_bytes", "condense_bytes", "confirm_bytes",
-        "run_report",
+        "table_bytes", "merge_bytes", "merge_bytes tables", "ask_bytes", "ask_key", "ask_keys", "list_entries",
+        "condense_bytes", "confirm_bytes", "run_report",
     ],
 }
 
@@ -48,7 +49,7 @@ TAKE_NONE = {
     "hh_stream": ["readers"],
     "hh_counters": [
         "Summary::new", "Summary readers", "Candidates readers", "SpaceSaving::new", "SpaceSaving readers",
-        "BucketSaving readers", "SpaceSaving::add monitored",
+        "BucketSaving readers", "GatheredSaving readers", "SpaceSaving::add monitored", "GatheredSaving::add monitored",
     ],
     "hh_countmin": ["Table readers", "Table::from_cells", "Family readers"],
     "hh_saved": ["read truncated summary", "read truncated table"],
@@ -62,13 +63,15 @@ LENT = {
     "Stream::push": 2, "Summary::add": 1, "Summary::merge": 2, "SpaceSaving::add": 1, "SpaceSaving::into_summary": 1,
     "SpaceSaving::add monitored": 1, "BucketSaving::add": 1, "BucketSaving::add new bucket": 1,
     "BucketSaving::add monitored": 1, "BucketSaving::add monitored new bucket": 1, "BucketSaving::into_summary": 1,
+    "GatheredSaving::add": 1, "GatheredSaving::add moving a key": 1, "GatheredSaving::add monitored": 1,
+    "GatheredSaving::into_summary": 1,
 }
 
 RECORDS = b"a,5\nb,3\nc,2\na,1\n"
 LONG_RECORDS = RECORDS.replace(b"a", b"a" * 40).replace(b"b", b"b" * 40).replace(b"c", b"c" * 40)
 OUT_OF_MEMORY = b"heavy: out of memory\n"
 # what --progress tells of few records, where their end was read
-PROGRESS = b"heavy: 0.0 MB read, 0.0 MB/s\n"
+PROGRESS = b"heavy: 0.0 MB and 4 records read, 0.0 MB/s\n"
 
 
 class Refusing:

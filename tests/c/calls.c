@@ -76,6 +76,35 @@ static struct answer confirm(const struct answer *file, const char *text, size_t
     return a;
 }
 
+static struct answer condense(const void *file, size_t size, const char *text, size_t room) {
+    struct answer a = room_of(room);
+    uint8_t *lent = block(text, strlen(text)), *held = block(file, size);
+    a.status = heavy_condense(held, size, lent, strlen(text), a.room, room, &a.needed, &a.told);
+    free(held);
+    free(lent);
+    return a;
+}
+
+/* The room is an array of so many bounds, or entries. */
+static struct answer ask_keys(const void *file, size_t size, const char *keys, const size_t *lengths, size_t count,
+                              size_t room) {
+    struct answer a = room_of(room * sizeof(struct heavy_bounds));
+    uint8_t *lent = block(keys, strlen(keys)), *held = block(file, size);
+    a.status = heavy_ask_keys(held, size, lent, strlen(keys), lengths, count, (struct heavy_bounds *)a.room, room,
+                              &a.needed, &a.told);
+    free(held);
+    free(lent);
+    return a;
+}
+
+static struct answer entries(const void *file, size_t size, size_t room) {
+    struct answer a = room_of(room * sizeof(struct heavy_entry));
+    uint8_t *held = block(file, size);
+    a.status = heavy_entries(held, size, (struct heavy_entry *)a.room, room, &a.needed, &a.told);
+    free(held);
+    return a;
+}
+
 static int told(const struct answer *a, uint32_t status, uint32_t kind, uint32_t cause, uint64_t number) {
     return a->status == status && a->needed == 0 && a->told.kind == kind && a->told.cause == cause
         && a->told.number == number && a->room[0] == 0xAA;
@@ -87,7 +116,8 @@ static int gave(const struct answer *a, const void *bytes, size_t size) {
 }
 
 static int small(const struct answer *a, size_t size) {
-    return a->status == HEAVY_TOO_SMALL && a->needed == size && a->room[0] == 0xAA && a->told.kind == 0;
+    return a->status == HEAVY_TOO_SMALL && a->needed == size && a->room[0] == 0xAA && a->told.kind == 0
+        && a->told.cause == 0 && a->told.number == 0;
 }
 
 #define BYTES(text) text, sizeof(text) - 1
@@ -209,6 +239,119 @@ static void try_keys(void) {
     free(file.room);
 }
 
+static int is_bounds(const struct answer *a, size_t i, uint64_t low, uint64_t high) {
+    const struct heavy_bounds *all = (const struct heavy_bounds *)a->room;
+    return all[i].low == low && all[i].high == high;
+}
+
+static void try_many_keys(void) {
+    struct answer file = summarise("a,5\nb,3\nc,2\na,1\n", 2, 1, 64);
+    size_t lengths[] = {1, 2, 1, 1};
+    /* the counters are as in try_keys, and no other key weighs more than 2 */
+    struct answer a = ask_keys(file.room, file.needed, "bnoaz", lengths, 4, 4);
+    check("many keys", a.status == HEAVY_DONE && a.needed == 4 && a.told.kind == 0 && is_bounds(&a, 0, 1, 3)
+          && is_bounds(&a, 1, 0, 2) && is_bounds(&a, 2, 4, 6) && is_bounds(&a, 3, 0, 2));
+    free(a.room);
+    a = ask_keys(file.room, file.needed, "bnoaz", lengths, 4, 3);
+    check("many keys in a room that is one too small", small(&a, 4));
+    free(a.room);
+    a = ask_keys(file.room, file.needed, "", lengths, 0, 0);
+    check("no keys", a.status == HEAVY_DONE && a.needed == 0);
+    free(a.room);
+    a = ask_keys(file.room, file.needed, "bno", lengths, 3, 3);
+    check("keys that end before the lengths", told(&a, HEAVY_REFUSED, HEAVY_BAD_KEY, HEAVY_KEY_EMPTY, 3));
+    free(a.room);
+    char *longest = malloc(4098);
+    if (!longest)
+        abort();
+    memset(longest, 'x', 4097);
+    longest[4097] = 0;
+    size_t limits[] = {4096, 1}, beyond[] = {0, 4097};
+    a = ask_keys(file.room, file.needed, longest, limits, 2, 2);
+    check("a key of the most bytes", a.status == HEAVY_DONE && is_bounds(&a, 0, 0, 2) && is_bounds(&a, 1, 0, 2));
+    free(a.room);
+    limits[0] = 4097;
+    a = ask_keys(file.room, file.needed, longest, limits, 1, 2);
+    check("a key of more bytes", told(&a, HEAVY_REFUSED, HEAVY_BAD_KEY, HEAVY_KEY_TOO_LONG, 1));
+    free(a.room);
+    a = ask_keys(file.room, file.needed, longest, beyond, 2, 2);
+    check("the first bad key", told(&a, HEAVY_REFUSED, HEAVY_BAD_KEY, HEAVY_KEY_EMPTY, 1));
+    free(a.room);
+    a = ask_keys(file.room, file.needed - 1, longest, beyond, 2, 2);
+    check("the file comes before the keys", told(&a, HEAVY_REFUSED, HEAVY_BAD_FILE, HEAVY_FILE_TRUNCATED, 1));
+    free(a.room);
+    free(longest);
+    free(file.room);
+}
+
+/* The key of an entry is these bytes of the file, and its counter is this. */
+static int is_entry(const struct answer *a, size_t i, const char *file, const char *key, uint64_t counter) {
+    struct heavy_entry e = ((const struct heavy_entry *)a->room)[i];
+    return e.len == strlen(key) && memcmp(file + e.start, key, e.len) == 0 && e.counter == counter;
+}
+
+static void try_entries(void) {
+    struct answer a = entries(BYTES(BOTH), 2);
+    check("entries", a.status == HEAVY_DONE && a.needed == 2 && a.told.kind == 0 && is_entry(&a, 0, BOTH, "a", 4)
+          && is_entry(&a, 1, BOTH, "c", 1));
+    free(a.room);
+    a = entries(BYTES(BOTH), 1);
+    check("entries in a small room", small(&a, 2));
+    free(a.room);
+    /* version 1, in which a key's length has one byte: k 2, a total of 9, b 3 and cd 5 */
+    static const char FIRST[] = "HHS1\1\0\2\0\0\0\0\0\0\0\11\0\2\1b\0\0\0\0\0\0\0\3\2cd\0\0\0\0\0\0\0\5";
+    a = entries(BYTES(FIRST), 2);
+    check("entries of version 1", a.status == HEAVY_DONE && a.needed == 2 && is_entry(&a, 0, FIRST, "b", 3)
+          && is_entry(&a, 1, FIRST, "cd", 5));
+    free(a.room);
+    struct answer file = summarise("", 2, 1, 17);
+    a = entries(file.room, file.needed, 0);
+    check("no entries", a.status == HEAVY_DONE && a.needed == 0);
+    free(a.room);
+    free(file.room);
+    a = entries(BYTES(BOTH) - 1, 2);
+    check("no entries of a damaged file", told(&a, HEAVY_REFUSED, HEAVY_BAD_FILE, HEAVY_FILE_TRUNCATED, 1));
+    free(a.room);
+    file = table("a,5\n", 1, 1, 64);
+    a = entries(file.room, file.needed, 2);
+    check("no entries of a table", told(&a, HEAVY_REFUSED, HEAVY_NOT_COUNTERS, 0, 0));
+    free(a.room);
+    free(file.room);
+}
+
+static void try_condensed(void) {
+    /* of the keys a and c, c comes not; b and d weigh 3 + 7 */
+    struct answer a = condense(BYTES(BOTH), "d,7\nb,3\na,5\na,1\n", 14);
+    check("condensed records", gave(&a, BYTES("a,6\nothers,10\n")));
+    free(a.room);
+    a = condense(BYTES(BOTH), "d,7\nb,3\na,5\na,1\n", 13);
+    check("condensed records in a small room", small(&a, 14));
+    free(a.room);
+    a = condense(BYTES(BOTH), "", 0);
+    check("no records, condensed", a.status == HEAVY_DONE && a.needed == 0 && a.told.kind == 0);
+    free(a.room);
+    a = condense(BYTES(BOTH), "a\nb,0\n", 64);
+    check("records that aren't condensed", told(&a, HEAVY_REFUSED, HEAVY_BAD_RECORD, HEAVY_RECORD_ZERO_WEIGHT, 2));
+    free(a.room);
+    a = condense(BYTES(BOTH) - 1, "a\nb,0\n", 64);
+    check("the file comes before the records", told(&a, HEAVY_REFUSED, HEAVY_BAD_FILE, HEAVY_FILE_TRUNCATED, 1));
+    free(a.room);
+}
+
+/* The most that the header says is needed is needed, and no more. */
+static void try_rooms(void) {
+    struct answer a = summarise("ab\ncd\nef\n", 3, 1, HEAVY_SUMMARY_ROOM(3, 2));
+    check("a full summary of keys of two bytes", a.status == HEAVY_DONE && a.needed == HEAVY_SUMMARY_ROOM(3, 2));
+    free(a.room);
+    for (uint64_t width = 1; width < 9; width += 3) {
+        for (uint64_t depth = 1; depth < 4; depth++) {
+            a = table("a,5\n", width, depth, HEAVY_TABLE_ROOM(width, depth));
+            check("a table's room", a.status == HEAVY_DONE && a.needed == HEAVY_TABLE_ROOM(width, depth));
+            free(a.room);
+        }
+    }
+}
+
 /* Many calls of one thread; null where all are right. */
 static void *many(void *unused) {
     (void)unused;
@@ -217,8 +360,14 @@ static void *many(void *unused) {
         int right = gave(&a, BYTES(ONE));
         struct answer rows = confirm(&a, "b,3\na,5\n", 8);
         right = right && gave(&rows, BYTES("a,5\nb,3\n"));
+        struct answer fewer = condense(a.room, a.needed, "c\nb,3\n", 64);
+        right = right && gave(&fewer, BYTES("b,3\nothers,1\n"));
+        struct answer both = entries(a.room, a.needed, 2);
+        right = right && both.needed == 2 && is_entry(&both, 0, ONE, "a", 5) && is_entry(&both, 1, ONE, "b", 3);
         free(a.room);
         free(rows.room);
+        free(fewer.room);
+        free(both.room);
         if (!right)
             return "wrong";
     }
@@ -230,6 +379,11 @@ int main(void) {
     try_merges();
     try_tables();
     try_keys();
+    try_many_keys();
+    try_entries();
+    try_condensed();
+    try_rooms();
+    check("the version", heavy_version() == HEAVY_VERSION);
     pthread_t threads[2];
     for (int i = 0; i < 2; i++)
         check("a thread starts", pthread_create(&threads[i], NULL, many, NULL) == 0);

@@ -35,23 +35,36 @@ static uint8_t summary[128], room[256];
 static size_t summary_len, needed;
 static uint64_t low, high;
 static struct heavy_fault told;
+static struct heavy_bounds bounds[3];
+static struct heavy_entry entries[3];
 
 static uint32_t call(int which) {
-    const size_t lengths[] = {summary_len / 2, summary_len / 2};
+    const size_t lengths[] = {summary_len / 2, summary_len / 2}, ones[] = {1, 1, 30};
+    static const uint8_t KEYS[] = "abzzzzzzzzzzzzzzzzzzzzzzzzzzzzzz";
     switch (which) {
     case 0: return heavy_summarise(TEXT, 16, 2, 1, room, sizeof room, &needed, &told);
     case 1: return heavy_summarise(TEXT, 16, 2, 2, room, sizeof room, &needed, &told);
     case 2: return heavy_table(TEXT, 16, 4, 2, 0, room, sizeof room, &needed, &told);
     case 3: return heavy_merge(summary, summary_len, lengths, 2, room, sizeof room, &needed, &told);
     case 4: return heavy_ask(summary, summary_len / 2, (const uint8_t *)"a", 1, &low, &high, &told);
-    default: return heavy_confirm(summary, summary_len / 2, TEXT, 16, room, sizeof room, &needed, &told);
+    case 5: return heavy_confirm(summary, summary_len / 2, TEXT, 16, room, sizeof room, &needed, &told);
+    case 6: return heavy_condense(summary, summary_len / 2, TEXT, 16, room, sizeof room, &needed, &told);
+    case 7: return heavy_ask_keys(summary, summary_len / 2, KEYS, 32, ones, 3, bounds, 3, &needed, &told);
+    default: return heavy_entries(summary, summary_len / 2, entries, 3, &needed, &told);
     }
+}
+
+static int is_untouched(void) {
+    const uint8_t *rooms[] = {room, (const uint8_t *)bounds, (const uint8_t *)entries};
+    return rooms[0][0] == 0xAA && rooms[1][0] == 0xAA && rooms[2][0] == 0xAA;
 }
 
 /* How many refusals the call met; -1 where one was answered wrongly. */
 static int refusals_of(int which) {
     for (int i = 0; i < 1000; i++) {
         memset(room, 0xAA, sizeof room);
+        memset(bounds, 0xAA, sizeof bounds);
+        memset(entries, 0xAA, sizeof entries);
         long before = held;
         left = i;
         uint32_t status = call(which);
@@ -61,7 +74,7 @@ static int refusals_of(int which) {
             return -1;
         if (!was_refused)
             return status == HEAVY_DONE ? i : -1;
-        if (status != HEAVY_MEMORY || told.kind != HEAVY_NO_MEMORY || (which != 4 && needed != 0) || room[0] != 0xAA)
+        if (status != HEAVY_MEMORY || told.kind != HEAVY_NO_MEMORY || (which != 4 && needed != 0) || !is_untouched())
             return -1;
     }
     return -1;
@@ -75,7 +88,7 @@ int main(void) {
     heavy_summarise(TEXT, 16, 2, 1, summary, sizeof summary / 2, &summary_len, &told);
     memcpy(summary + summary_len, summary, summary_len);
     summary_len *= 2;
-    for (int which = 0; which < 6; which++) {
+    for (int which = 0; which < 9; which++) {
         int met = refusals_of(which);
         wrong += met <= 0;
         refusals += met > 0 ? met : 0;

@@ -1,6 +1,7 @@
 pub mod CountFacts
 pub mod FileFacts
 pub mod KeyFacts
+pub mod MergeFacts
 pub mod NameFacts
 pub mod OptionFacts
 pub mod PartFacts

@@ -1,5 +1,5 @@
 -- What saved files merge to, and what a saved file tells of keys.
-use Rattle.std.specs.Prelude.{◌≡◌, ◌==◌, ◌+◌, not, nat_le, ℕ, List, [], ◌∷◌, length, Option, Some, None, Result, Ok, Err, ⊤, if◌then◌else◌}
+use Rattle.std.specs.Prelude.{◌≡◌, ◌==◌, ◌+◌, not, nat_le, ℕ, List, [], ◌∷◌, length, map, Option, Some, None, Result, Ok, Err, ⊤, if◌then◌else◌}
 use Rattle.std.specs.List.{flat_map}
 use Rattle.std.specs.Fmt.{decimal}
 use Rattle.csv.specs.Writing.{default_writer, row_text}
@@ -121,6 +121,12 @@ abbrev pub answers : List ℕ → List Bytes → Result (List ℕ) ToolError
 answers file keys = do
   v ← file_of 1 file
   unless (bad_key 1 keys) (answer_rows v keys)
+
+-- the two numbers of each key, or the first refusal: of the file, and then of the keys
+abbrev pub answers_of : List ℕ → List Bytes → Result (List (ℕ × ℕ)) ToolError
+answers_of file keys = do
+  v ← file_of 1 file
+  unless (bad_key 1 keys) (map (answer_of v) keys)
 
 -- the two numbers of one key, or the first refusal: of the file, and then of the key
 abbrev pub answer : List ℕ → Bytes → Result (ℕ × ℕ) ToolError

@@ -1,12 +1,18 @@
 -- What holds of reports over several machines.
-use Rattle.std.specs.Prelude.{◌≡◌, ◌+◌, ◌<◌, ◌≤◌, List, length, map, All, IsPermutation, Ok}
+use Rattle.std.specs.Prelude.{◌≡◌, ℕ, ◌+◌, ◌<◌, ◌≤◌, List, [], ◌∷◌, length, map, fold, slice_index_or, All, IsPermutation, Ok}
 use Rattle.std.specs.List.{AllByRecursion, flat_map}
 use Rattle.hh_stream.specs.Weights.{Entry, IsKey, max_total, total_of}
 use Rattle.hh_stream.specs.Cuttings.{whole_of}
-use Rattle.hh_counters.specs.Counters.{Sketch, IsHonest, max_k, misra_gries}
+use Rattle.hh_counters.specs.Counters.{Sketch, IsHonest, max_k, misra_gries, sketch_of}
 use Rattle.hh_counters.specs.Report.{heavy}
 use Rattle.hh_counters.specs.Condensed.{condensed}
-use Rattle.hh_pool.specs.Trees.{MergeTree, IsMergeTree, tree_value}
+use Rattle.hh_pool.specs.Trees.{MergeTree, Piece, Merge, IsMergeTree, tree_result, tree_value}
+use Rattle.hh_saved.specs.Reading.{saved_of}
+use Rattle.hh_saved.specs.Spelling.{Spells}
+use Rattle.hh_saved.specs.declared.format.Version.{Version}
+use Rattle.hh_saved.specs.declared.saved.Saved.{Saved}
+use Rattle.hh_saved.specs.declared.saved.Saved.TheVariants.{Counters}
+use Rattle.heavy.specs.Files.{merged_files}
 use Rattle.heavy.specs.Reports.{confirmed}
 use Rattle.heavy.specs.Rows.{condensed_text}
 use Rattle.heavy.specs.Streams.{stream_of}
@@ -35,6 +41,41 @@ MachinesReport =
     → s.counters ≡ tree_value t (map (λ part. misra_gries part s.k) parts) s.k
     → IsPermutation (flat_map (condensed s.counters) parts) ys
     → (total_of ys ≡ total_of xs) × (confirmed s ys ≡ heavy xs 1 (s.k + 1))
+
+-- the file holds the summary that the tree makes of the parts' summaries
+abbrev pub HoldsTree : List Sketch → MergeTree × List ℕ → Type 0
+HoldsTree ss f = (s : Sketch) × (tree_result f.0 ss ≡ Ok s) × (saved_of f.1 ≡ Ok (Counters s))
+
+-- a tree with each next one on its right
+abbrev pub merged_trees : MergeTree × List ℕ → List (MergeTree × List ℕ) → MergeTree
+merged_trees f fs = fold Merge f.0 (map (λ g. g.0) fs)
+
+-- the saved summary of part i holds the tree of that piece
+abbrev pub PartsHoldPieces : Type 0
+PartsHoldPieces =
+    (k i : ℕ) (parts : List (List Entry)) (version : Version) (file : List ℕ) → i < length parts
+    → Spells version file (Counters (sketch_of k (slice_index_or parts i [])))
+    → HoldsTree (map (sketch_of k) parts) (Piece i, file)
+
+-- what files with trees merge to, saved, holds these trees merged
+abbrev pub MergesHoldTrees : Type 0
+MergesHoldTrees =
+    (ss : List Sketch) (f : MergeTree × List ℕ) (fs : List (MergeTree × List ℕ)) (saved : Saved)
+    (version : Version) (file : List ℕ)
+    → AllByRecursion (HoldsTree ss) (f ∷ fs)
+    → merged_files (map (λ g. g.1) (f ∷ fs)) ≡ Ok saved → Spells version file saved
+    → HoldsTree ss (merged_trees f fs, file)
+
+-- by the summary of a file with a tree that has each part once, the condensed parts have its total,
+-- and are confirmed as the heavy keys of the whole
+abbrev pub HeldTreesReport : Type 0
+HeldTreesReport =
+    (k : ℕ) (parts : List (List Entry)) (t : MergeTree) (file : List ℕ) (s : Sketch)
+    (xs ys : List Entry)
+    → HoldsTree (map (sketch_of k) parts) (t, file) → IsMergeTree t (length parts)
+    → saved_of file ≡ Ok (Counters s)
+    → IsPermutation (whole_of parts) xs → IsPermutation (flat_map (condensed s.counters) parts) ys
+    → (s.total ≡ total_of ys) × (confirmed s ys ≡ heavy xs 1 (k + 1))
 
 -- the items of a stream have keys and weights
 abbrev pub AreItems : List Entry → Type 0

@@ -1,12 +1,14 @@
 -- What the commands on saved files answer.
-use Rattle.std.specs.Prelude.{◌≡◌, ◌≢◌, ℕ, List, not, codes, Option, Some, None, Ok, Err, ⊤, if◌then◌else◌}
+use Rattle.std.specs.Prelude.{◌≡◌, ◌≢◌, ℕ, List, map, not, codes, Option, Some, None, Ok, Err, ⊤, if◌then◌else◌}
 use Rattle.hh_stream.specs.Weights.{Entry, total_of}
 use Rattle.hh_counters.specs.Condensed.{condensed}
 use Rattle.hh_counters.specs.Counters.{Sketch, sketch_of}
 use Rattle.hh_countmin.specs.Table.{Grid}
 use Rattle.hh_saved.specs.Reading.{saved_of}
+use Rattle.hh_saved.specs.Sizes.{entry_in}
 use Rattle.hh_saved.specs.Spelling.{Spells}
 use Rattle.hh_saved.specs.declared.format.Version.TheVariants as version
+use Rattle.hh_saved.specs.declared.layout.Place.{Place}
 use Rattle.hh_saved.specs.declared.saved.Saved.{Saved}
 use Rattle.hh_saved.specs.declared.saved.Saved.TheVariants.{Counters, Cells}
 use Rattle.heavy.specs.Limits.{in_range, most_depth, most_k, most_width}
@@ -74,6 +76,11 @@ SummaryRefused file (tool.BadFile n f) = (n ≡ 1) × (saved_of file ≡ Err f)
 SummaryRefused file tool.NotCounters = (t : Grid) × (saved_of file ≡ Ok (Cells t))
 SummaryRefused file tool.Memory = ⊤
 SummaryRefused file _ = ⊥
+
+-- the file holds a summary, and its entries are those at these places, by rising key
+abbrev pub ListsEntries : List ℕ → List Place → Type 0
+ListsEntries file places =
+    (s : Sketch) × (saved_of file ≡ Ok (Counters s)) × (map (entry_in file) places ≡ s.counters)
 
 -- what a refusal to condense tells: of the file, of its kind, and of the records
 abbrev pub CondenseRefused : List ℕ → Option (List ℕ) → ToolError → Type 0

@@ -5,14 +5,15 @@ ghost use Rattle.std.specs.List.{flat_map};
 ghost use Rattle.std.specs.Io.KnownBytes.{Appends};
 ghost use Rattle.csv.specs.Writing.{text_written};
 ghost use Rattle.hh_stream.specs.Weights.{max_key_len};
-ghost use Rattle.heavy.specs.Files.{Refuses, answer, answer_of, answer_row, answers, bad_key, key_fault};
+ghost use Rattle.heavy.specs.Files.{Refuses, answer, answer_of, answer_row, answers, answers_of, bad_key, key_fault};
 ghost use Rattle.heavy.specs.Rows.{IsBetweenRows};
 
 use crate::error::{KeyCause, ToolError};
 use crate::files::file_of;
+use crate::keys::key_of;
 use csv::{Writer, WriterBuilder};
 use hh_saved::Saved;
-use hh_stream::{Key, KeyFault, MAX_KEY_LEN};
+use hh_stream::{Key, MAX_KEY_LEN};
 use itoa::Buffer;
 use std::alloc::{AllocError, Global};
 
@@ -81,18 +82,6 @@ fn write_answer(writer: &mut Writer<Vec<u8>>, saved: &Saved, key: &Key) -> Resul
     }
 }
 
-/// The key of a word that passed its test.
-fn key_of(alloc: Global, word: &[u8]) -> Result<Key, AllocError>
-    requires { (0 < length word.now) × (length word.now ≤ max_key_len) }
-    ensures { IfOk result (λ key. key ≡ word.now) }
-{
-    match Key::new(alloc, word) {
-        Ok(key) => Ok(key),
-        Err(KeyFault::Memory) => Err(AllocError),
-        Err(KeyFault::Empty | KeyFault::TooLong) => unreachable!(),
-    }
-}
-
 /// The rows of words that passed their tests.
 fn answers_text(alloc: Global, saved: &Saved, words: &[Vec<u8>]) -> Result<Vec<u8>, AllocError>
     requires { bad_key 1 (map vec_items words.now) ≡ None }
@@ -132,6 +121,46 @@ pub fn ask_bytes(alloc: Global, file: &[u8], keys: &[Vec<u8>]) -> Result<Vec<u8>
     }
     match answers_text(alloc, &saved, keys) {
         Ok(text) => Ok(text),
+        Err(_) => Err(ToolError::Memory),
+    }
+}
+
+/// The two numbers of words that passed their tests.
+fn answers_of(
+    alloc: Global,
+    saved: &Saved,
+    words: &[Vec<u8>],
+) -> Result<Vec<(u64, u64)>, AllocError>
+    requires { bad_key 1 (map vec_items words.now) ≡ None }
+    ensures { IfOk result (λ answers.
+        answers.items ≡ map (λ word. answer_of saved.now word.items) words.now) }
+{
+    let mut answers = Vec::new(alloc);
+    for word in words {
+        let key = key_of(alloc, word)?;
+        answers.push(answer_of(saved, &key))?;
+    }
+    Ok(answers)
+}
+
+/// The least and the most that each key's weight in the stream can be, as a saved file tells: the
+/// numbers of the rows of [`ask_bytes`], with the same refusals in the same order.
+pub fn ask_keys(alloc: Global, file: &[u8], keys: &[Vec<u8>]) -> Result<Vec<(u64, u64)>, ToolError>
+    ensures bounds { IfOk result (λ bounds.
+        answers_of file.now (map vec_items keys.now) ≡ Ok bounds.items) }
+    ensures refused { IfErr result (λ fault.
+        Refuses (answers_of file.now (map vec_items keys.now)) fault) }
+{
+    let saved = match file_of(alloc, 1, file) {
+        Ok(saved) => saved,
+        Err(fault) => return Err(fault),
+    };
+    match check_keys(keys) {
+        Ok(()) => {}
+        Err(fault) => return Err(fault),
+    }
+    match answers_of(alloc, &saved, keys) {
+        Ok(bounds) => Ok(bounds),
         Err(_) => Err(ToolError::Memory),
     }
 }

@@ -11,12 +11,13 @@ ghost use Rattle.heavy.specs.Streams.{ReadsAs};
 
 use crate::counts::Counts;
 use crate::error::ToolError;
+use crate::keys::key_of;
 use crate::records::read_items;
 use crate::report::read_fault;
 use crate::taking::TakeItems;
 use hh_counters::laws::{condensed_is_counted, free_name_is_first};
 use hh_counters::{Heavy, Summary};
-use hh_stream::{Key, KeyFault};
+use hh_stream::Key;
 use itoa::Buffer;
 use std::alloc::{AllocError, Global};
 use std::io::Read;
@@ -30,12 +31,7 @@ fn other_name(alloc: Global, number: u64) -> Result<Key, AllocError>
         let mut digits = Buffer::new();
         name.extend_from_slice(digits.format(number).as_bytes())?;
     }
-    match Key::new(alloc, name.as_slice()) {
-        Ok(key) => Ok(key),
-        Err(KeyFault::Empty) => unreachable!(),
-        Err(KeyFault::TooLong) => unreachable!(),
-        Err(KeyFault::Memory) => Err(AllocError),
-    }
+    key_of(alloc, name.as_slice())
 }
 
 /// The first of the names `others`, `others1`, `others2` and so on that has no counter.

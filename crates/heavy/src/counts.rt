@@ -11,7 +11,7 @@ ghost use Rattle.heavy.specs.Limits.{in_range, most_k};
 use crate::taking::TakeItems;
 use hh_counters::laws::{counts_add_up, counts_stay_within};
 use hh_counters::{Candidates, Heavy, Summary};
-use hh_stream::{Key, Stream};
+use hh_stream::Stream;
 use std::alloc::{AllocError, Global};
 use std::marker::Model;
 
@@ -57,13 +57,13 @@ impl Counts {
         })
     }
 
-    /// Counts an item.
-    pub(crate) fn add(&mut self, key: &Key, weight: u64)
+    /// Counts an item, of the key with these bytes.
+    pub(crate) fn add(&mut self, key: &[u8], weight: u64)
         requires { self.old.total + weight ≤ max_total }
         ensures { self.new ≡ counted_on self.old ((key.now, weight) ∷ []) }
     {
         counts_stay_within();
-        self.candidates.count(key, weight, &mut self.weights);
+        self.candidates.count_bytes(key, weight, &mut self.weights);
         self.total += weight;
     }
 
@@ -113,9 +113,9 @@ impl TakeItems for Counts {
         self.total
     }
 
-    fn take(&mut self, key: Key, weight: u64) -> Result<(), AllocError> {
+    fn take(&mut self, _alloc: Global, key: &[u8], weight: u64) -> Result<(), AllocError> {
         counts_add_up();
-        self.add(&key, weight);
+        self.add(key, weight);
         Ok(())
     }
 }

@@ -1,9 +1,10 @@
 //! Laws of the definitions in `specs/`. Each function does nothing: its contract is the law.
 
-ghost use Rattle.heavy.specs.Laws.{CondensedFilesAreRead, CondensedPartsConfirm, HonestSummaryReports, MachinesReport};
+ghost use Rattle.heavy.specs.Laws.{CondensedFilesAreRead, CondensedPartsConfirm, HeldTreesReport, HonestSummaryReports, MachinesReport, MergesHoldTrees, PartsHoldPieces};
 
 use hh_counters::laws::{condensed_keeps_weights, condensed_parts_suffice};
-use hh_pool::laws::parts_report_by_any_tree;
+use hh_pool::laws::{parts_report_by_any_tree, trees_merge_summaries};
+use hh_saved::laws::spellings_are_read;
 
 /// Over several machines: each part is condensed where it lies, and the condensed parts, joined in
 /// any order and confirmed by the merged summary, give the exact report of all records.
@@ -14,6 +15,19 @@ pub fn machines_report()
 {
     condensed_parts_suffice();
     parts_report_by_any_tree();
+}
+
+/// Saved files, up any tree of merges, at once or one by one: each holds what its tree makes of the
+/// parts' summaries. So by the last one the condensed parts give the exact report of all records.
+pub fn merged_files_report()
+    ensures parts { PartsHoldPieces }
+    ensures merges { MergesHoldTrees }
+    ensures report { HeldTreesReport }
+{
+    spellings_are_read();
+    trees_merge_summaries();
+    parts_report_by_any_tree();
+    condensed_parts_suffice();
 }
 
 /// Files of condensed records, joined, are read as the condensed records, one file after the other.

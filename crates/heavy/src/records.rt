@@ -1,6 +1,6 @@
 //! Records of keys and weights, read one by one.
 
-ghost use Rattle.std.specs.Prelude.{◌≡◌, ◌+◌, ◌<◌, ◌≤◌, ◌++◌, ◌∷◌, [], List, false, true, min, Ok, MatchOption, IfOk, IfErr, OnOk, option_map};
+ghost use Rattle.std.specs.Prelude.{◌≡◌, ◌+◌, ◌<◌, ◌≤◌, ◌^◌, ◌++◌, ◌∷◌, [], List, false, true, min, Ok, MatchOption, IfSome, IfOk, IfErr, OnOk, option_map};
 ghost use Rattle.csv.specs.Reading.{stops_reader};
 ghost use Rattle.csv.specs.Records.{fields_of};
 ghost use Rattle.hh_stream.specs.Weights.{Entry, total_of, max_total};
@@ -9,7 +9,7 @@ ghost use Rattle.heavy.specs.Streams.{fault_of, is_number, is_weight, judged, nu
 use crate::retrying::Retrying;
 use crate::taking::TakeItems;
 use csv::{ByteRecord, ErrorKind, ReaderBuilder};
-use hh_stream::{Key, KeyFault, MAX_TOTAL, Stream};
+use hh_stream::{MAX_KEY_LEN, MAX_TOTAL, Stream};
 use std::alloc::{AllocError, Global};
 use std::fmt;
 use std::io::Read;
@@ -62,36 +62,26 @@ enum RecordFault {
     Memory,
 }
 
-/// The number that 1 to so many digits write.
-pub(crate) fn number_in(field: &[u8], most: usize) -> Option<u128>
-    requires { most ≤ 20 }
-    ensures { MatchOption result
+/// The number that 1 to so many digits write, at most the largest `u64`.
+pub(crate) fn number_in(field: &[u8], most: usize) -> Option<u64>
+    ensures number { MatchOption result
         (is_number most field.now ≡ false)
-        (λ number. (is_number most field.now ≡ true) × (number ≡ value_of field.now)) }
+        (λ number. (is_number most field.now ≡ true) × (number ≡ min (value_of field.now) u64.MAX)) }
+    ensures below { IfSome result (λ number. number < 10 ^ most) }
 {
     if field.is_empty() || field.len() > most {
         return None;
     }
-    let mut value = 0u128;
+    let mut value = 0u64;
     for digit in field {
         if !digit.is_ascii_digit() {
             return None;
         }
-        value = value * 10 + u128::from(*digit - b'0');
+        value = value
+            .saturating_mul(10)
+            .saturating_add(u64::from(*digit - b'0'));
     }
     Some(value)
-}
-
-/// The weight that 1 to 20 digits write, at most the largest `u64`.
-fn weight_in(field: &[u8]) -> Option<u64>
-    ensures { MatchOption result
-        (is_weight field.now ≡ false)
-        (λ weight. (is_weight field.now ≡ true) × (weight ≡ min (value_of field.now) u64.MAX)) }
-{
-    match number_in(field, 20) {
-        Some(value) => Some(value.min(u128::from(u64::MAX)) as u64),
-        None => None,
-    }
 }
 
 /// The key and the weight's field of a record of one or two fields.
@@ -127,15 +117,15 @@ fn take_record<T: TakeItems>(
     let Some((key, field)) = parts_of(row) else {
         return Err(RecordFault::Bad(BadRecordCause::FieldCount));
     };
-    let key = match Key::new(alloc, key) {
-        Ok(key) => key,
-        Err(KeyFault::Empty) => return Err(RecordFault::Bad(BadRecordCause::EmptyKey)),
-        Err(KeyFault::TooLong) => return Err(RecordFault::Bad(BadRecordCause::KeyTooLong)),
-        Err(KeyFault::Memory) => return Err(RecordFault::Memory),
-    };
+    if key.is_empty() {
+        return Err(RecordFault::Bad(BadRecordCause::EmptyKey));
+    }
+    if key.len() > MAX_KEY_LEN {
+        return Err(RecordFault::Bad(BadRecordCause::KeyTooLong));
+    }
     let weight = match field {
         None => Some(1),
-        Some(digits) => weight_in(digits),
+        Some(digits) => number_in(digits, 20),
     };
     let Some(weight) = weight else {
         return Err(RecordFault::Bad(BadRecordCause::BadWeight));
@@ -146,7 +136,7 @@ fn take_record<T: TakeItems>(
     if weight > MAX_TOTAL - taker.total() {
         return Err(RecordFault::Bad(BadRecordCause::TotalTooLarge));
     }
-    match taker.take(key, weight) {
+    match taker.take(alloc, key, weight) {
         Ok(()) => Ok(()),
         Err(AllocError) => Err(RecordFault::Memory),
     }

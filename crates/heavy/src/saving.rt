@@ -6,11 +6,12 @@ ghost use Rattle.hh_counters.specs.Counters.{sketch_of};
 ghost use Rattle.hh_countmin.specs.Family.{drawn_family};
 ghost use Rattle.hh_countmin.specs.Table.{empty_table, table_of};
 ghost use Rattle.hh_saved.specs.Spelling.{Spells};
+ghost use Rattle.hh_saved.specs.declared.format.Version.{Version};
 ghost use Rattle.hh_saved.specs.declared.format.Version.TheVariants as version;
 ghost use Rattle.hh_saved.specs.declared.saved.Saved.TheVariants.{Cells, Counters};
 ghost use Rattle.heavy.specs.Limits.{in_range, most_depth, most_k, most_width};
 ghost use Rattle.hh_saved.specs.Reading.{saved_of};
-ghost use Rattle.heavy.specs.Saving.{CondenseRefused, CondensesRows, ConfirmRefused, ConfirmsRows, IsSummaryOf, RecordsRefused, RefusedAfter, SavesStream, SummaryRefused, bad_k, bad_table, word_of};
+ghost use Rattle.heavy.specs.Saving.{CondenseRefused, CondensesRows, ConfirmRefused, ConfirmsRows, IsSummaryOf, ListsEntries, RecordsRefused, RefusedAfter, SavesStream, SummaryRefused, bad_k, bad_table, word_of};
 ghost use Rattle.heavy.specs.Streams.{ReadsAs};
 
 use crate::condensation::condense_records;
@@ -20,10 +21,10 @@ use crate::records::read_items;
 use crate::report::{in_range, read_fault};
 use crate::rows::{condensed_text, report_text};
 use hh_counters::laws::summaries_follow_items;
-use hh_counters::{BucketSaving, MAX_K, Monitor, NewFault, Summary};
+use hh_counters::{GatheredSaving, MAX_K, Monitor, NewFault, Summary};
 use hh_countmin::laws::tables_follow_items;
 use hh_countmin::{DrawFault, Family, MAX_DEPTH, MAX_WIDTH, Table, TableFault};
-use hh_saved::{Saved, SavedFault, read, write};
+use hh_saved::{Place, Saved, SavedFault, places, read, write};
 use std::alloc::{AllocError, Global};
 use std::io::Read;
 
@@ -99,7 +100,7 @@ fn summary_by_monitoring<R: Read + Drop>(
     ensures refused { IfErr result (λ fault. RecordsRefused (R.remaining reader) fault) }
 {
     summaries_follow_items();
-    let monitor = match BucketSaving::new(alloc, k) {
+    let monitor = match GatheredSaving::new(alloc, k) {
         Ok(monitor) => monitor,
         Err(NewFault::BadK) => unreachable!(),
         Err(NewFault::Memory) => return Err(ToolError::Memory),
@@ -201,6 +202,8 @@ pub fn table_bytes<R: Read + Drop>(
 /// The summary that a file holds.
 fn summary_in(alloc: Global, file: &[u8]) -> Result<Summary, ToolError>
     ensures summary { IfOk result (λ summary. saved_of file.now ≡ Ok (Counters summary)) }
+    ensures spelled { IfOk result (λ summary.
+        (version : Version) × Spells version file.now (Counters summary)) }
     ensures refused { IfErr result (λ fault. SummaryRefused file.now fault) }
 {
     match read(alloc, file) {
@@ -208,6 +211,21 @@ fn summary_in(alloc: Global, file: &[u8]) -> Result<Summary, ToolError>
         Ok(Saved::Cells(_)) => Err(ToolError::NotCounters),
         Err(SavedFault::Memory) => Err(ToolError::Memory),
         Err(fault) => Err(ToolError::BadFile { number: 1, fault }),
+    }
+}
+
+/// Where the entries of a saved summary lie in its file, by rising key.
+///
+/// Other files are refused, as file 1 ([`ToolError::BadFile`]), and then those of another kind
+/// ([`ToolError::NotCounters`]).
+pub fn list_entries(alloc: Global, file: &[u8]) -> Result<Vec<Place>, ToolError>
+    ensures entries { IfOk result (λ places. ListsEntries file.now places.items) }
+    ensures refused { IfErr result (λ fault. SummaryRefused file.now fault) }
+{
+    let summary = summary_in(alloc, file)?;
+    match places(alloc, file, &summary) {
+        Ok(places) => Ok(places),
+        Err(_) => Err(ToolError::Memory),
     }
 }
 

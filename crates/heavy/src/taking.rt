@@ -1,17 +1,18 @@
 //! What takes the items of records, one after the other.
 
-ghost use Rattle.std.specs.Prelude.{◌≡◌, ◌+◌, ◌<◌, ◌≤◌, ◌++◌, ◌∷◌, [], ℕ, List, OnOk};
-ghost use Rattle.hh_stream.specs.Weights.{Entry, max_total, total_of};
+ghost use Rattle.std.specs.Prelude.{◌≡◌, ◌+◌, ◌<◌, ◌≤◌, ◌++◌, ◌∷◌, [], ℕ, List, OnOk, length};
+ghost use Rattle.hh_stream.specs.Weights.{Entry, max_key_len, max_total, total_of};
 ghost use Rattle.hh_counters.specs.Counters.{sketch_of};
 ghost use Rattle.hh_countmin.specs.Table.{table_of};
 ghost use Rattle.heavy.specs.Taking.{IsMonitorOf};
 
+use crate::keys::key_of;
 use hh_counters::laws::summaries_follow_items;
-use hh_counters::{AddFault, BucketSaving, Monitor, Summary};
+use hh_counters::{AddFault, GatheredSaving, Monitor, Summary};
 use hh_countmin::Table;
 use hh_countmin::laws::tables_follow_items;
-use hh_stream::{Key, PushFault, Stream};
-use std::alloc::AllocError;
+use hh_stream::{PushFault, Stream};
+use std::alloc::{AllocError, Global};
 
 /// What items are taken into, one after the other: a stream keeps them all, and others keep less.
 pub(crate) trait TakeItems: Drop {
@@ -25,12 +26,14 @@ pub(crate) trait TakeItems: Drop {
         ensures total { result ≡ weight_taken self.now }
         ensures bounded { result ≤ max_total };
 
-    /// Takes one more item.
-    fn take(&mut self, key: Key, weight: u64) -> Result<(), AllocError>
+    /// Takes one more item, of the key with these bytes.
+    fn take(&mut self, alloc: Global, key: &[u8], weight: u64) -> Result<(), AllocError>
+        requires some { 0 < length key.now }
+        requires few { length key.now ≤ max_key_len }
         requires positive { 0 < weight }
         requires room { weight_taken self.old + weight ≤ max_total }
         ensures taken { OnOk result ((first : Self) (xs : List Entry)
-            → made first xs self.old → made first (xs ++ (key, weight) ∷ []) self.new) }
+            → made first xs self.old → made first (xs ++ (key.now, weight) ∷ []) self.new) }
         ensures total { OnOk result (weight_taken self.new ≡ weight_taken self.old + weight) };
 }
 
@@ -43,8 +46,8 @@ impl TakeItems for Stream {
         self.total()
     }
 
-    fn take(&mut self, key: Key, weight: u64) -> Result<(), AllocError> {
-        match self.push(key, weight) {
+    fn take(&mut self, alloc: Global, key: &[u8], weight: u64) -> Result<(), AllocError> {
+        match self.push(key_of(alloc, key)?, weight) {
             Ok(()) => Ok(()),
             Err(refused) => match refused.fault {
                 PushFault::ZeroWeight => unreachable!(),
@@ -64,9 +67,9 @@ impl TakeItems for Summary {
         self.total()
     }
 
-    fn take(&mut self, key: Key, weight: u64) -> Result<(), AllocError> {
+    fn take(&mut self, _alloc: Global, key: &[u8], weight: u64) -> Result<(), AllocError> {
         summaries_follow_items();
-        match self.add(&key, weight) {
+        match self.add_bytes(key, weight) {
             Ok(()) => Ok(()),
             Err(AddFault::TotalTooLarge) => unreachable!(),
             Err(AddFault::Memory) => Err(AllocError),
@@ -74,7 +77,7 @@ impl TakeItems for Summary {
     }
 }
 
-impl TakeItems for BucketSaving {
+impl TakeItems for GatheredSaving {
     ghost made = { λ first xs monitor. IsMonitorOf first.k xs monitor };
 
     ghost weight_taken = { λ monitor. monitor.total };
@@ -83,9 +86,9 @@ impl TakeItems for BucketSaving {
         Monitor::total(self)
     }
 
-    fn take(&mut self, key: Key, weight: u64) -> Result<(), AllocError> {
+    fn take(&mut self, alloc: Global, key: &[u8], weight: u64) -> Result<(), AllocError> {
         summaries_follow_items();
-        match self.add(&key, weight) {
+        match self.add(&key_of(alloc, key)?, weight) {
             Ok(()) => Ok(()),
             Err(AddFault::TotalTooLarge) => unreachable!(),
             Err(AddFault::Memory) => Err(AllocError),
@@ -102,9 +105,9 @@ impl TakeItems for Table {
         self.total()
     }
 
-    fn take(&mut self, key: Key, weight: u64) -> Result<(), AllocError> {
+    fn take(&mut self, _alloc: Global, key: &[u8], weight: u64) -> Result<(), AllocError> {
         tables_follow_items();
-        let Ok(()) = self.add(&key, weight) else {
+        let Ok(()) = self.add_bytes(key, weight) else {
             unreachable!()
         };
         Ok(())

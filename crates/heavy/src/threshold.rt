@@ -28,14 +28,14 @@ fn slash_in(text: &[u8]) -> Option<usize>
 }
 
 /// The number that 1 to 10 digits write.
-fn number_of(digits: &[u8]) -> Option<u128>
+fn number_of(digits: &[u8]) -> Option<u64>
     ensures { result ≡ number_of digits.now }
 {
     number_in(digits, 10)
 }
 
 /// The two numbers of a text `P/Q`.
-fn numbers_of(text: &[u8]) -> Option<(u128, u128)>
+fn numbers_of(text: &[u8]) -> Option<(u64, u64)>
     ensures { result ≡ numbers_of text.now }
 {
     let slash = slash_in(text)?;
@@ -45,11 +45,11 @@ fn numbers_of(text: &[u8]) -> Option<(u128, u128)>
 }
 
 /// Whether p/q is a share of at least 1/(k + 1).
-fn is_threshold(k: u64, p: u128, q: u128) -> bool
+fn is_threshold(k: u64, p: u64, q: u64) -> bool
     requires { in_range k most_k ≡ true }
     ensures { result ≡ is_threshold k p q }
 {
-    1 <= p && p <= q && q <= u128::from(MAX_Q) && q <= p * u128::from(k + 1)
+    1 <= p && p <= q && q <= MAX_Q && q <= p * (k + 1)
 }
 
 /// The p and q of the threshold for k counters, if the share is one.
@@ -62,7 +62,7 @@ pub(crate) fn threshold_of(k: u64, share: &Share) -> Option<(u64, u64)>
         Share::Text(text) => {
             let (p, q) = numbers_of(text)?;
             if is_threshold(k, p, q) {
-                Some((p as u64, q as u64))
+                Some((p, q))
             } else {
                 None
             }

@@ -5,6 +5,7 @@ mod arguments;
 mod files;
 mod help;
 mod progress;
+mod record_count;
 mod request;
 #[cfg(test)]
 mod tests;

@@ -2,6 +2,7 @@
 
 ghost use Rattle.std.specs.Prelude.{◌≡◌, ◌≤◌};
 
+use crate::record_count::RecordCount;
 use std::io::Read;
 use std::time::Instant;
 use std::{fmt, fs, io};
@@ -26,6 +27,7 @@ struct Progress<'a> {
     rt: &'a HostRuntime,
     size: Option<u64>,
     read: u64,
+    records: RecordCount,
     started: Instant,
     told: Instant,
 }
@@ -42,16 +44,18 @@ impl<'a> Progress<'a> {
             rt,
             size,
             read: 0,
+            records: RecordCount::new(),
             started: now,
             told: now,
         })
     }
 
     /// Counts bytes that were read, and tells how far the reader is. No bytes are the end.
-    fn add(&mut self, count: usize) -> io::Result<()> {
-        self.read = self.read.saturating_add(count as u64);
+    fn add(&mut self, bytes: &[u8]) -> io::Result<()> {
+        self.read = self.read.saturating_add(bytes.len() as u64);
+        self.records.add(bytes);
         let now = Instant::now(self.rt)?;
-        if count > 0 && now.duration_since(self.told).as_secs() < PAUSE {
+        if !bytes.is_empty() && now.duration_since(self.told).as_secs() < PAUSE {
             return Ok(());
         }
         self.told = now;
@@ -66,6 +70,7 @@ impl<'a> Progress<'a> {
         let read = u128::from(self.read);
         let rate = Megabytes(read.saturating_mul(1000) / millis);
         let done = Megabytes(read);
+        let records = self.records.begun();
         match self.size {
             Some(size) if 0 < self.read && self.read < size => {
                 let size = u128::from(size);
@@ -73,10 +78,11 @@ impl<'a> Progress<'a> {
                 let seconds = left.saturating_mul(millis) / read / 1000;
                 let all = Megabytes(size);
                 eprintln!(self.rt;
-                    "heavy: {done} read, {rate}/s, {share} % of {all}, {seconds} s left"
+                    "heavy: {done} and {records} records read, {rate}/s, {share} % of {all}, \
+                    {seconds} s left"
                 )
             }
-            _ => eprintln!(self.rt; "heavy: {done} read, {rate}/s"),
+            _ => eprintln!(self.rt; "heavy: {done} and {records} records read, {rate}/s"),
         }
     }
 }
@@ -108,7 +114,7 @@ impl<'a, R: Read> Read for Metered<'a, R> {
     fn read(&mut self, buf: &mut [u8]) -> io::Result<usize> {
         let count = self.inner.read(buf)?;
         if let Some(progress) = &mut self.progress {
-            let _ = progress.add(count);
+            let _ = progress.add(&buf[..count]);
         }
         Ok(count)
     }

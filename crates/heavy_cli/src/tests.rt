@@ -1,5 +1,6 @@
 //! What no clause says of the command line: what its words ask for, and words that are not text.
 
+use crate::record_count::RecordCount;
 use crate::request::{Invocation, NoRequest, Question, Request, request_in};
 use crate::words::{bytes_of, text_of};
 use clap::error::ErrorKind;
@@ -255,6 +256,30 @@ fn lines_are_refused_or_ask_for_help(rt: HostRuntime) -> Result<(), Fail> {
         };
         assert_eq!(rt; error.kind(), kind);
         assert_eq!(rt; error.exit_code(), status);
+    }
+    Ok(())
+}
+
+#[test]
+fn records_are_counted_as_bytes_come(rt: HostRuntime) -> Result<(), Fail> {
+    let rows: [(&[u8], u64); 12] = [
+        (b"", 0),
+        (b"a", 1),
+        (b"a,1\n", 1),
+        (b"a,1\nb,2", 2),
+        (b"a,1\r\nb,2\r\n", 2),
+        (b"\n\na\n\n\nb\n\n", 2),
+        (b"\"a\nb\",1\nc,2\n", 2),
+        (b"\"a\"\"\n\"\"b\",1\nc,2\n", 2),
+        (b"a,\"1\n\"\nb,2\n", 2),
+        (b"a\"b\nc\"d\n", 2),
+        (b"\"a\"b\nc\n", 2),
+        (b",\n,\n", 2),
+    ];
+    for (text, expected) in rows {
+        let mut whole = RecordCount::new();
+        whole.add(text);
+        assert_eq!(rt; whole.begun(), expected);
     }
     Ok(())
 }

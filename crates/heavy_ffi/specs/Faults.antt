@@ -1,5 +1,5 @@
 -- The numbers that tell a fault to C.
-use Rattle.std.specs.Prelude.{◌≡◌, ℕ}
+use Rattle.std.specs.Prelude.{◌≡◌, ◌⊎◌, ℕ}
 use Rattle.hh_saved.specs.declared.fault.SavedFault.{SavedFault}
 use Rattle.hh_saved.specs.declared.fault.SavedFault.TheVariants as saved
 use Rattle.heavy.specs.Status.{status_of}
@@ -94,3 +94,11 @@ pub record IsTold (code : ℕ) (told : Fault) (fault : ToolError) : Type 0 where
   pub kind : told.kind ≡ kind_of fault
   pub cause : told.cause ≡ cause_of fault
   pub number : told.number ≡ number_of fault
+
+-- the numbers that tell no fault
+abbrev pub no_fault : Fault
+no_fault = record { kind = 0; cause = 0; number = 0 }
+
+-- a call that is done, or whose room is too small, tells no fault
+abbrev pub TellsNone : ℕ → Fault → Type 0
+TellsNone code told = (code ≡ 0) ⊎ (code ≡ 5) → told ≡ no_fault

@@ -1,19 +1,33 @@
 //! A fault as numbers.
 
 ghost use Rattle.std.specs.Prelude.{◌≡◌};
-ghost use Rattle.heavy_ffi.specs.Faults.{IsTold, cause_of, file_cause, key_cause, kind_of, merge_cause, number_of, record_cause};
+ghost use Rattle.heavy_ffi.specs.Faults.{IsTold, cause_of, file_cause, key_cause, kind_of};
+ghost use Rattle.heavy_ffi.specs.Faults.{merge_cause, no_fault, number_of, record_cause};
 
 use heavy::{BadRecordCause, KeyCause, MergeCause, ToolError};
 use hh_saved::SavedFault;
 
-/// Why a call refused: which fault, its cause, and the number of the record, file or key, from 1 on.
-/// A fault without a cause or a number has 0 there.
+/// Why a call refused: which fault, its cause, and the number of the record, file or key, from 1
+/// on. A fault without a cause or a number has 0 there.
 #[derive(Clone, Copy)]
 #[repr(C)]
 pub struct Fault {
     pub kind: u32,
     pub cause: u32,
     pub number: u64,
+}
+
+impl Fault {
+    /// No fault.
+    pub(crate) fn none() -> Fault
+        ensures { result ≡ no_fault }
+    {
+        Fault {
+            kind: 0,
+            cause: 0,
+            number: 0,
+        }
+    }
 }
 
 fn record_cause(cause: BadRecordCause) -> u32

@@ -1,32 +1,48 @@
 //! The calls of `heavy` on bytes, for C. The header include/heavy.h says what a caller owes.
 //!
-//! Each call answers a status: 0 done, 1 to 4 as the program's exit status, 5 the room is too small,
-//! and nothing else. At 1 to 4 `told` says why; at 0 and 5 it has zeros.
+//! Each call answers a status: 0 done, 1 to 4 as the program's exit status, 5 the room is too
+//! small, and nothing else. At 1 to 4 `told` says why; at 0 and 5 it has zeros.
 #![tactic(auto)]
 
 mod fault;
 mod parts;
 mod room;
 
-ghost use Rattle.std.specs.Prelude.{◌≡◌, ◌≢◌, ◌<◌, [], length, take, Ok, Some, IfErr, IfOk};
+ghost use Rattle.std.specs.Prelude.{◌≡◌, ◌≢◌, ◌<◌, ◌≤◌, ◌⊎◌, [], length, map, take, Ok, Some};
+ghost use Rattle.std.specs.Prelude.{IfErr, IfOk};
 ghost use Rattle.hh_stream.specs.Cuttings.{pieces_of};
-ghost use Rattle.hh_counters.specs.Counters.{sketch_of};
+ghost use Rattle.hh_stream.specs.Weights.{max_key_len};
+ghost use Rattle.hh_counters.specs.Counters.{Sketch, sketch_of};
 ghost use Rattle.hh_countmin.specs.Family.{drawn_family};
 ghost use Rattle.hh_countmin.specs.Table.{table_of};
+ghost use Rattle.hh_saved.specs.Sizes.{most_summary_bytes, table_bytes};
 ghost use Rattle.hh_saved.specs.Spelling.{Spells};
 ghost use Rattle.hh_saved.specs.declared.format.Version.TheVariants as version;
 ghost use Rattle.hh_saved.specs.declared.saved.Saved.{Saved};
 ghost use Rattle.hh_saved.specs.declared.saved.Saved.TheVariants.{Cells, Counters};
-ghost use Rattle.heavy.specs.Files.{Refuses, answer, merged_files};
-ghost use Rattle.heavy.specs.Saving.{ConfirmRefused, ConfirmsRows, RefusedAfter, SavesStream, bad_table};
-ghost use Rattle.heavy_ffi.specs.Outcomes.{IsRefused, IsMergeOf, IsRefused, IsTooSmall, bad_summary};
+ghost use Rattle.heavy.specs.Files.{Refuses, answer, answers_of, merged_files};
+ghost use Rattle.heavy.specs.Saving.{CondenseRefused, CondensesRows, ConfirmRefused, ConfirmsRows};
+ghost use Rattle.heavy.specs.Saving.{ListsEntries, RefusedAfter, SavesStream, SummaryRefused};
+ghost use Rattle.heavy.specs.Saving.{bad_table};
+ghost use Rattle.heavy_ffi.specs.Faults.{TellsNone, no_fault};
+ghost use Rattle.heavy_ffi.specs.Outcomes.{AreAnswers, IsMergeOf, IsRefused, IsTooSmall};
+ghost use Rattle.heavy_ffi.specs.Outcomes.{bad_summary, both_of};
 
 pub use fault::Fault;
 use fault::tell;
-use heavy::{Method, ToolError, ask_key, confirm_bytes, merge_bytes, summary_bytes, table_bytes};
+use heavy::{
+    Method, Place, ToolError, ask_key, ask_keys, condense_bytes, confirm_bytes, list_entries,
+    merge_bytes, summary_bytes, table_bytes,
+};
+use hh_countmin::laws::drawn_families_are_families;
+use hh_saved::laws::sizes_are_bounded;
 use parts::files_of;
-use room::answer;
+pub use room::Bounds;
+use room::{all_bounds, answer};
 use std::alloc::Global;
+
+/// The number of this interface.
+const VERSION: u32 = 1;
 
 /// The summary of a text's records by a method of this number.
 fn summary_by(alloc: Global, text: &[u8], k: u64, method: u32) -> Result<Vec<u8>, ToolError>
@@ -57,12 +73,17 @@ pub extern "C" fn heavy_summarise(
 ) -> u32
     ensures saved { result ≡ 0 → SavesStream (λ xs. Counters (sketch_of k xs)) (Some text.now)
         (take needed.new room.new) }
+    ensures within { result ≡ 0 → needed.new ≤ length room.old }
     ensures small { result ≡ 5 → IsTooSmall
         (SavesStream (λ xs. Counters (sketch_of k xs)) (Some text.now)) room.old needed.new }
     ensures refused { result ≢ 0 → result ≢ 5 → IsRefused
         (RefusedAfter (bad_summary method k) (Some text.now)) result told.new }
+    ensures no_bytes { result ≢ 0 → result ≢ 5 → needed.new ≡ 0 }
+    ensures no_fault { TellsNone result told.new }
     ensures unchanged { result ≢ 0 → room.new ≡ room.old }
+    ensures enough { most_summary_bytes k max_key_len ≤ length room.old → result ≢ 5 }
 {
+    sizes_are_bounded();
     let bytes = summary_by(alloc, text, k, method);
     answer(bytes, room, needed, told)
 }
@@ -83,13 +104,19 @@ pub extern "C" fn heavy_table(
     ensures saved { result ≡ 0 → SavesStream
         (λ xs. Cells (table_of (drawn_family seed depth) width xs)) (Some text.now)
         (take needed.new room.new) }
+    ensures within { result ≡ 0 → needed.new ≤ length room.old }
     ensures small { result ≡ 5 → IsTooSmall (SavesStream
         (λ xs. Cells (table_of (drawn_family seed depth) width xs)) (Some text.now))
         room.old needed.new }
     ensures refused { result ≢ 0 → result ≢ 5 → IsRefused
         (RefusedAfter (bad_table depth width) (Some text.now)) result told.new }
+    ensures no_bytes { result ≢ 0 → result ≢ 5 → needed.new ≡ 0 }
+    ensures no_fault { TellsNone result told.new }
     ensures unchanged { result ≢ 0 → room.new ≡ room.old }
+    ensures exact { (result ≡ 0) ⊎ (result ≡ 5) → needed.new ≡ table_bytes width depth }
 {
+    sizes_are_bounded();
+    drawn_families_are_families();
     let bytes = table_bytes(alloc, width, depth, seed, text);
     answer(bytes, room, needed, told)
 }
@@ -108,8 +135,8 @@ fn merge_parts(alloc: Global, files: &[u8], lengths: &[usize]) -> Result<Vec<u8>
 }
 
 /// Gives the merge of saved files, which lie one after the other and have these lengths, with the
-/// refusals of the program's `merge`. Where the bytes end before the lengths do, files are cut short.
-/// No lengths are refused with status 2 and a `told` of zeros.
+/// refusals of the program's `merge`. Where the bytes end before the lengths do, files are cut
+/// short. No lengths are refused with status 2 and a `told` of zeros.
 #[unsafe(no_mangle)]
 pub extern "C" fn heavy_merge(
     alloc: Global,
@@ -121,28 +148,31 @@ pub extern "C" fn heavy_merge(
 ) -> u32
     ensures merged { result ≡ 0 → IsMergeOf (pieces_of lengths.now files.now)
         (take needed.new room.new) }
+    ensures within { result ≡ 0 → needed.new ≤ length room.old }
     ensures small { result ≡ 5 → IsTooSmall (IsMergeOf (pieces_of lengths.now files.now))
         room.old needed.new }
     ensures refused { result ≢ 0 → result ≢ 5 → 0 < length lengths.now → IsRefused
         (Refuses (merged_files (pieces_of lengths.now files.now))) result told.new }
-    ensures no_files { lengths.now ≡ [] → result ≡ 2 }
+    ensures enough { (s : Sketch)
+        → merged_files (pieces_of lengths.now files.now) ≡ Ok (Counters s)
+        → most_summary_bytes s.k max_key_len ≤ length room.old → result ≢ 5 }
+    ensures no_files { lengths.now ≡ [] → (result ≡ 2) × (told.new ≡ no_fault) }
+    ensures no_bytes { result ≢ 0 → result ≢ 5 → needed.new ≡ 0 }
+    ensures no_fault { TellsNone result told.new }
     ensures unchanged { result ≢ 0 → room.new ≡ room.old }
 {
     if lengths.is_empty() {
         *needed = 0;
-        *told = Fault {
-            kind: 0,
-            cause: 0,
-            number: 0,
-        };
+        *told = Fault::none();
         return 2;
     }
+    sizes_are_bounded();
     let bytes = merge_parts(alloc, files, lengths);
     answer(bytes, room, needed, told)
 }
 
-/// Gives the least and the most that a key's weight can be, as a saved file tells. The file is tested
-/// first, then the key. After a refusal `low` and `high` are as they were.
+/// Gives the least and the most that a key's weight can be, as a saved file tells. The file is
+/// tested first, then the key. After a refusal `low` and `high` are as they were.
 #[unsafe(no_mangle)]
 pub extern "C" fn heavy_ask(
     alloc: Global,
@@ -154,15 +184,12 @@ pub extern "C" fn heavy_ask(
 ) -> u32
     ensures bounds { result ≡ 0 → answer file.now key.now ≡ Ok (low.new, high.new) }
     ensures refused { result ≢ 0 → IsRefused (Refuses (answer file.now key.now)) result told.new }
+    ensures no_fault { TellsNone result told.new }
     ensures unchanged { result ≢ 0 → (low.new ≡ low.old) × (high.new ≡ high.old) }
 {
     match ask_key(alloc, file, key) {
         Ok(bounds) => {
-            *told = Fault {
-                kind: 0,
-                cause: 0,
-                number: 0,
-            };
+            *told = Fault::none();
             *low = bounds.0;
             *high = bounds.1;
             0
@@ -171,8 +198,9 @@ pub extern "C" fn heavy_ask(
     }
 }
 
-/// Gives the rows of a saved summary's keys that are heavy in a text's records, which are those that
-/// were summarised. The file is tested first, then its kind, then the records, then the totals.
+/// Gives the rows of a saved summary's keys that are heavy in a text's records, which are those
+/// that were summarised. The file is tested first, then its kind, then the records, then the
+/// totals.
 #[unsafe(no_mangle)]
 pub extern "C" fn heavy_confirm(
     alloc: Global,
@@ -183,12 +211,121 @@ pub extern "C" fn heavy_confirm(
     told: &mut Fault,
 ) -> u32
     ensures rows { result ≡ 0 → ConfirmsRows file.now (Some text.now) (take needed.new room.new) }
+    ensures within { result ≡ 0 → needed.new ≤ length room.old }
     ensures small { result ≡ 5 → IsTooSmall (ConfirmsRows file.now (Some text.now)) room.old
         needed.new }
     ensures refused { result ≢ 0 → result ≢ 5 → IsRefused
         (ConfirmRefused file.now (Some text.now)) result told.new }
+    ensures no_bytes { result ≢ 0 → result ≢ 5 → needed.new ≡ 0 }
+    ensures no_fault { TellsNone result told.new }
     ensures unchanged { result ≢ 0 → room.new ≡ room.old }
 {
     let bytes = confirm_bytes(alloc, file, text);
     answer(bytes, room, needed, told)
+}
+
+/// Gives records that say the same to `heavy_confirm` with the same file as those of a text: the
+/// weight of each key of a saved summary that comes there, and in one record that of all other
+/// keys. The file is tested first, then its kind, then the records, of any total.
+#[unsafe(no_mangle)]
+pub extern "C" fn heavy_condense(
+    alloc: Global,
+    file: &[u8],
+    text: &[u8],
+    room: &mut [u8],
+    needed: &mut usize,
+    told: &mut Fault,
+) -> u32
+    ensures rows { result ≡ 0 → CondensesRows file.now (Some text.now) (take needed.new room.new) }
+    ensures within { result ≡ 0 → needed.new ≤ length room.old }
+    ensures small { result ≡ 5 → IsTooSmall (CondensesRows file.now (Some text.now)) room.old
+        needed.new }
+    ensures refused { result ≢ 0 → result ≢ 5 → IsRefused
+        (CondenseRefused file.now (Some text.now)) result told.new }
+    ensures no_bytes { result ≢ 0 → result ≢ 5 → needed.new ≡ 0 }
+    ensures no_fault { TellsNone result told.new }
+    ensures unchanged { result ≢ 0 → room.new ≡ room.old }
+{
+    let bytes = condense_bytes(alloc, file, text);
+    answer(bytes, room, needed, told)
+}
+
+/// The least and the most that each key's weight can be, where the keys have these lengths.
+fn bounds_of(
+    alloc: Global,
+    file: &[u8],
+    keys: &[u8],
+    lengths: &[usize],
+) -> Result<Vec<Bounds>, ToolError>
+    ensures answers { IfOk result (λ all. AreAnswers file.now
+        (pieces_of lengths.now keys.now) (map both_of all.items)) }
+    ensures refused { IfErr result
+        (Refuses (answers_of file.now (pieces_of lengths.now keys.now))) }
+{
+    let Ok(keys) = files_of(alloc, keys, lengths) else {
+        return Err(ToolError::Memory);
+    };
+    let pairs = ask_keys(alloc, file, &keys)?;
+    match all_bounds(alloc, &pairs) {
+        Ok(all) => Ok(all),
+        Err(_) => Err(ToolError::Memory),
+    }
+}
+
+/// Gives for each of many keys what `heavy_ask` gives, in their order. They lie one after the other
+/// and have these lengths. The file is tested first, then the keys in order.
+#[unsafe(no_mangle)]
+pub extern "C" fn heavy_ask_keys(
+    alloc: Global,
+    file: &[u8],
+    keys: &[u8],
+    lengths: &[usize],
+    room: &mut [Bounds],
+    needed: &mut usize,
+    told: &mut Fault,
+) -> u32
+    ensures bounds { result ≡ 0 → AreAnswers file.now (pieces_of lengths.now keys.now)
+        (map both_of (take needed.new room.new)) }
+    ensures within { result ≡ 0 → needed.new ≤ length room.old }
+    ensures small { result ≡ 5 → IsTooSmall
+        (AreAnswers file.now (pieces_of lengths.now keys.now)) room.old needed.new }
+    ensures refused { result ≢ 0 → result ≢ 5 → IsRefused
+        (Refuses (answers_of file.now (pieces_of lengths.now keys.now))) result told.new }
+    ensures no_bounds { result ≢ 0 → result ≢ 5 → needed.new ≡ 0 }
+    ensures no_fault { TellsNone result told.new }
+    ensures unchanged { result ≢ 0 → room.new ≡ room.old }
+{
+    let bounds = bounds_of(alloc, file, keys, lengths);
+    answer(bounds, room, needed, told)
+}
+
+/// Gives where the entries of a saved summary lie in its file, by rising key. The file is tested
+/// first, then its kind.
+#[unsafe(no_mangle)]
+pub extern "C" fn heavy_entries(
+    alloc: Global,
+    file: &[u8],
+    room: &mut [Place],
+    needed: &mut usize,
+    told: &mut Fault,
+) -> u32
+    ensures entries { result ≡ 0 → ListsEntries file.now (take needed.new room.new) }
+    ensures within { result ≡ 0 → needed.new ≤ length room.old }
+    ensures small { result ≡ 5 → IsTooSmall (ListsEntries file.now) room.old needed.new }
+    ensures refused { result ≢ 0 → result ≢ 5 → IsRefused
+        (SummaryRefused file.now) result told.new }
+    ensures no_entries { result ≢ 0 → result ≢ 5 → needed.new ≡ 0 }
+    ensures no_fault { TellsNone result told.new }
+    ensures unchanged { result ≢ 0 → room.new ≡ room.old }
+{
+    let entries = list_entries(alloc, file);
+    answer(entries, room, needed, told)
+}
+
+/// The number of this interface, which a header or a binding has to have been written for.
+#[unsafe(no_mangle)]
+pub extern "C" fn heavy_version() -> u32
+    ensures { result ≡ 1 }
+{
+    VERSION
 }

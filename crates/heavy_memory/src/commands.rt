@@ -2,10 +2,11 @@
 
 use crate::lab::{Lab, Said, no_such_call};
 use crate::records::{call as record_call, summary_file};
-use crate::show::{Hex, Taken};
+use crate::show::{Hex, Pairs, Places, Taken};
 use heavy::{
-    Method, Out, ReportOptions, Share, Sink, ToolError, Tree, ask_bytes, condense_bytes,
-    confirm_bytes, merge_bytes, put, run_report, summary_bytes, table_bytes,
+    Method, Out, ReportOptions, Share, Sink, ToolError, Tree, ask_bytes, ask_key, ask_keys,
+    condense_bytes, confirm_bytes, list_entries, merge_bytes, put, run_report, summary_bytes,
+    table_bytes,
 };
 use std::sync::Wait;
 use std::test::Fail;
@@ -20,6 +21,9 @@ pub fn call<R: Threads + Wait + Sync>(rt: &R, lab: &Lab, name: &str) -> Result<S
         "merge_bytes" => merged(lab, true),
         "merge_bytes tables" => merged(lab, false),
         "ask_bytes" => asked(lab),
+        "ask_key" => asked_one(lab),
+        "ask_keys" => asked_many(lab),
+        "list_entries" => listed(lab),
         "condense_bytes" => condensed(lab),
         "confirm_bytes" => confirmed(lab),
         "put" => written(lab),
@@ -104,16 +108,60 @@ fn merged(lab: &Lab, are_summaries: bool) -> Result<Said, Fail> {
     said(lab, made)
 }
 
-fn asked(lab: &Lab) -> Result<Said, Fail> {
-    let file = summary_file(lab)?;
+// A key with a counter, and one without.
+fn two_keys(lab: &Lab) -> Result<Vec<Vec<u8>>, Fail> {
     let mut keys = Vec::new(lab.alloc);
     for letter in [b'a', b'z'] {
         keys.push(lab.bytes(letter)?)?;
     }
+    Ok(keys)
+}
+
+fn asked(lab: &Lab) -> Result<Said, Fail> {
+    let file = summary_file(lab)?;
+    let keys = two_keys(lab)?;
     lab.begin();
     let made = ask_bytes(lab.alloc, file.as_slice(), keys.as_slice());
     lab.end();
     said(lab, made)
+}
+
+fn asked_one(lab: &Lab) -> Result<Said, Fail> {
+    let file = summary_file(lab)?;
+    let key = lab.bytes(b'a')?;
+    lab.begin();
+    let made = ask_key(lab.alloc, file.as_slice(), key.as_slice());
+    lab.end();
+    match made {
+        Err(ToolError::Memory) => lab.refused(),
+        Err(fault) => Err(fault.into()),
+        Ok((low, high)) => lab.answer(format_args!("{low} {high}")),
+    }
+}
+
+fn asked_many(lab: &Lab) -> Result<Said, Fail> {
+    let file = summary_file(lab)?;
+    let keys = two_keys(lab)?;
+    lab.begin();
+    let made = ask_keys(lab.alloc, file.as_slice(), keys.as_slice());
+    lab.end();
+    match made {
+        Err(ToolError::Memory) => lab.refused(),
+        Err(fault) => Err(fault.into()),
+        Ok(pairs) => lab.answer(Pairs(pairs.as_slice())),
+    }
+}
+
+fn listed(lab: &Lab) -> Result<Said, Fail> {
+    let file = summary_file(lab)?;
+    lab.begin();
+    let made = list_entries(lab.alloc, file.as_slice());
+    lab.end();
+    match made {
+        Err(ToolError::Memory) => lab.refused(),
+        Err(fault) => Err(fault.into()),
+        Ok(places) => lab.answer(Places(places.as_slice())),
+    }
 }
 
 fn condensed(lab: &Lab) -> Result<Said, Fail> {

@@ -1,10 +1,12 @@
-//! The calls of `hh_counters` on the two forms of Space-Saving.
+//! The calls of `hh_counters` on the three forms of Space-Saving.
 
 ghost use Rattle.std.specs.Prelude.{◌<◌};
 
 use crate::lab::{Lab, Said, no_such_call};
 use crate::show::{Counters, Numbers};
-use hh_counters::{AddFault, BucketSaving, Monitor, NewFault, SpaceSaving, monitored_summary};
+use hh_counters::{
+    AddFault, BucketSaving, GatheredSaving, Monitor, NewFault, SpaceSaving, monitored_summary,
+};
 use hh_stream::{Item, Key};
 use std::alloc::AllocError;
 use std::fmt;
@@ -33,8 +35,31 @@ fn bucketed(lab: &Lab, name: &str) -> Result<Said, Fail> {
         "BucketSaving::add monitored new bucket" => added(lab, sharing(lab)?, b'c', 9),
         "BucketSaving::into_summary" => translated(lab, BucketSaving::new(lab.alloc, 2)?),
         "BucketSaving readers" => readers(lab, BucketSaving::new(lab.alloc, 2)?),
+        _ => gathered(lab, name),
+    }
+}
+
+// The calls where hits are gathered. With c in a bucket of 1 before the four items, it moves to that
+// of 3, where b is, before b is dropped.
+fn gathered(lab: &Lab, name: &str) -> Result<Said, Fail> {
+    match name {
+        "GatheredSaving::new" => gathered_saving_new(lab),
+        "GatheredSaving::add" => added(lab, GatheredSaving::new(lab.alloc, 2)?, b'd', 4),
+        "GatheredSaving::add moving a key" => added(lab, waiting(lab)?, b'd', 4),
+        "GatheredSaving::add monitored" => {
+            added(lab, GatheredSaving::new(lab.alloc, 2)?, b'c', 4)
+        }
+        "GatheredSaving::into_summary" => translated(lab, GatheredSaving::new(lab.alloc, 2)?),
+        "GatheredSaving readers" => readers(lab, GatheredSaving::new(lab.alloc, 2)?),
         _ => Err(no_such_call(name)),
     }
+}
+
+// Where c has 1 already.
+fn waiting(lab: &Lab) -> Result<GatheredSaving, Fail> {
+    let mut monitor = GatheredSaving::new(lab.alloc, 2)?;
+    monitor.add(&lab.key(b'c')?, 1)?;
+    Ok(monitor)
 }
 
 // Where c has 1 already, so that the four items bring it into the bucket of b.
@@ -150,6 +175,16 @@ fn translated_once<M: Monitor>(lab: &Lab, monitor: M, keys: &[Key]) -> Result<Op
 fn bucket_saving_new(lab: &Lab) -> Result<Said, Fail> {
     lab.begin();
     let made = BucketSaving::new(lab.alloc, 2);
+    lab.end();
+    match made {
+        Err(NewFault::Memory) => lab.refused(),
+        made => lab.answer(made?.total()),
+    }
+}
+
+fn gathered_saving_new(lab: &Lab) -> Result<Said, Fail> {
+    lab.begin();
+    let made = GatheredSaving::new(lab.alloc, 2);
     lab.end();
     match made {
         Err(NewFault::Memory) => lab.refused(),

@@ -1,9 +1,9 @@
 //! The calls of `hh_saved`.
 
 use crate::lab::{Lab, Said, no_such_call};
-use crate::show::{Cells, Counters, Hex};
+use crate::show::{Cells, Counters, Hex, Places};
 use hh_countmin::Table;
-use hh_saved::{Saved, SavedFault, read, write};
+use hh_saved::{Saved, SavedFault, places, read, write};
 use std::alloc::AllocError;
 use std::test::Fail;
 
@@ -13,6 +13,7 @@ pub fn call(lab: &Lab, name: &str) -> Result<Said, Fail> {
         "write table" => written(lab, table(lab)?),
         "read" => found(lab, Saved::Counters(lab.summary()?)),
         "read table" => found(lab, table(lab)?),
+        "places" => placed(lab),
         "read truncated summary" => refused(lab, b"HHS1\x01\xff\xff\0\0\0\0\0\0\0\0\xff\xff"),
         "read truncated table" => refused(lab, b"HHS1\x02\0\x01\0\0\x10"),
         _ => Err(no_such_call(name)),
@@ -45,6 +46,20 @@ fn found(lab: &Lab, saved: Saved) -> Result<Said, Fail> {
         Err(fault) => Err(fault.into()),
         Ok(Saved::Counters(summary)) => lab.answer(Counters(&summary)),
         Ok(Saved::Cells(table)) => lab.answer(Cells(&table)),
+    }
+}
+
+fn placed(lab: &Lab) -> Result<Said, Fail> {
+    let bytes = write(lab.alloc, &Saved::Counters(lab.summary()?))?;
+    let Saved::Counters(summary) = read(lab.alloc, bytes.as_slice())? else {
+        return Err(Fail::new("another kind was read"));
+    };
+    lab.begin();
+    let made = places(lab.alloc, bytes.as_slice(), &summary);
+    lab.end();
+    match made {
+        Err(AllocError) => lab.refused(),
+        Ok(places) => lab.answer(Places(places.as_slice())),
     }
 }
 

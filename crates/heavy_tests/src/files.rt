@@ -5,8 +5,10 @@ use crate::saved_examples::{
     LARGEST_TOTAL, MERGED, MERGED_1, NO_ITEMS, NO_ITEMS_1, ONE, OTHER_KEYS, OTHER_KEYS_1, TWICE,
     TWO,
 };
-use heavy::{KeyCause, MergeCause, ToolError, ask_bytes, merge_bytes};
-use hh_saved::SavedFault;
+use heavy::{
+    KeyCause, MergeCause, ToolError, ask_bytes, ask_key, ask_keys, list_entries, merge_bytes,
+};
+use hh_saved::{Place, SavedFault};
 use std::alloc::Global;
 use std::process::Abort;
 use std::test::Fail;
@@ -275,5 +277,39 @@ fn words_that_are_no_keys(rt: HostRuntime) -> Result<(), Fail> {
     for (file, keys, fault) in rows {
         assert_eq!(rt; asked(&rt, file, keys)?.err(), Some(fault));
     }
+    Ok(())
+}
+
+#[test]
+fn bounds_are_the_numbers_of_the_rows(rt: HostRuntime) -> Result<(), Fail> {
+    let keys = vectors(rt.alloc(), &[b"a", b"b", b"x"])?;
+    for file in [COUNTERS, COUNTERS_1] {
+        // counters of 4 and 1, a total of 11, and so a slack of 6 / 3
+        let bounds = ask_keys(rt.alloc(), file, &keys)?;
+        assert_eq!(rt; bounds.as_slice(), [(4, 6), (1, 3), (0, 2)].as_slice());
+        assert_eq!(rt; ask_key(rt.alloc(), file, b"b")?, (1, 3));
+    }
+    let bad = vectors(rt.alloc(), &[b"a", b""])?;
+    let fault = bad_key(2, KeyCause::Empty);
+    assert_eq!(rt; ask_keys(rt.alloc(), COUNTERS, &bad).err(), Some(fault));
+    Ok(())
+}
+
+#[test]
+fn entries_lie_where_their_keys_stand(rt: HostRuntime) -> Result<(), Fail> {
+    for (file, starts) in [(COUNTERS, [19, 30]), (COUNTERS_1, [18, 28])] {
+        let entries = [(starts[0], 4), (starts[1], 1)].map(|(start, counter)| Place {
+            start,
+            len: 1,
+            counter,
+        });
+        let found = list_entries(rt.alloc(), file)?;
+        assert_eq!(rt; found.as_slice(), entries.as_slice());
+    }
+    assert!(rt; list_entries(rt.alloc(), NO_ITEMS)?.is_empty());
+    assert_eq!(rt;
+        list_entries(rt.alloc(), CELLS).err(),
+        Some(ToolError::NotCounters)
+    );
     Ok(())
 }

@@ -15,7 +15,7 @@ use Rattle.hh_stream.specs.Weights.{Bytes, Entry, IsKey, key_cmp, same_key, at_k
 use Rattle.hh_counters.specs.Counters.{Counters, IsCounters, add_at, max_k, tally, exceeds}
 use Rattle.hh_counters.specs.Report.{has_counter, weights_at}
 use Rattle.hh_counters.specs.Condensed.{other_name, free_name, lacks_counter, other_weight, entry_of, condensed}
-use Rattle.hh_counters.proofs.Weights.{same_exact, weight_of-cons, total_of-cons, weight_of-tally, total_of-tally, counters-tally, same_counters}
+use Rattle.hh_counters.proofs.Weights.{same_exact, weight_of-cons, weight_of-tally, total_of-tally, counters-tally, same_counters}
 use Rattle.hh_counters.proofs.Reports.{In, candidates, zip-weights_at, candidates_in, keys_of-candidates, in_from_number, number_from_in, rising-filter}
 use Rattle.hh_counters.proofs.Condensing.{other_key, weight_of-kept, all-filter, all-both, free_is_first}
 

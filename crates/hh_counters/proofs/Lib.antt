@@ -11,6 +11,7 @@ pub mod Stepping
 pub mod Runs
 pub mod TakingOver
 pub mod Linked
+pub mod Gathering
 pub mod Sorting
 pub mod InBuckets
 pub mod Positions

@@ -19,7 +19,7 @@ use Rattle.std.proofs.lemmas.Slice.Zip.{get_or-zip, length-zip}
 use Rattle.std.proofs.Math.Nat.{le-div_iff_mul-le}
 use Rattle.hh_stream.specs.Weights.{Bytes, Entry, key_cmp, weight_of, total_of}
 use Rattle.hh_counters.specs.Counters.{Counters, Sketch, IsCounters, tally, IsHonest, slack}
-use Rattle.hh_counters.specs.Report.{rank_cmp, ranked_in, by_rank, is_heavy, selected, heavy, weights_at, can_be_heavy, contenders, has_counter, IsReport}
+use Rattle.hh_counters.specs.Report.{rank_cmp, ranked_in, by_rank, is_heavy, selected, heavy, weights_at, can_be_heavy, contenders, thinned, has_counter, IsReport}
 use Rattle.hh_counters.proofs.Weights.{key_total, weight_of-cons, rising-tally, weight_of-tally, weight_first, at_other, key_exact, flipped}
 
 -- ---- members
@@ -416,6 +416,33 @@ pub report_from_candidates : (c : Counters) (xs : List Entry) (k p q : ℕ) → 
 report_from_candidates c xs k p q h le =
     report_with_counters c xs p q h.counters
     ∙ filter_all (has_counter c) (heavy xs p q) (λ x i. grind (arith, nat_tests, heavy_has_counter c xs k p q h le x (contains_from_in x _ i)))
+
+-- what numbers above the weights leave out is not heavy
+filter_thinned : (bound : Bytes → ℕ) (xs : List Entry) (p q n : ℕ) → ((x : Bytes) → weight_of x xs ≤ bound x) → (ks : List Bytes)
+    → filter (is_heavy p q n) (zip (thinned p q n ks (map bound ks)) (weights_at (thinned p q n ks (map bound ks)) xs)) ≡ filter (is_heavy p q n) (zip ks (weights_at ks xs))
+filter_thinned bound xs p q n most [] = refl
+filter_thinned bound xs p q n most (k ∷ ks) = by (is_heavy p q n (k, bound k)) (is_heavy p q n (k, weight_of k xs)) refl refl (filter_thinned bound xs p q n most ks)
+  where
+    rest : List Bytes
+    rest = thinned p q n ks (map bound ks)
+
+    no_less : is_heavy p q n (k, bound k) ≡ false → is_heavy p q n (k, weight_of k xs) ≡ true → ⊥
+    no_less low high =
+        let more : q * weight_of k xs ≤ q * bound k = mul-le-mul_left q (most k) in
+        grind (arith, nat_tests, low, high, more)
+
+    by : (b h : Bool) → is_heavy p q n (k, bound k) ≡ b → is_heavy p q n (k, weight_of k xs) ≡ h → filter (is_heavy p q n) (zip rest (weights_at rest xs)) ≡ filter (is_heavy p q n) (zip ks (weights_at ks xs))
+        → filter (is_heavy p q n) (zip (keys_of (cond b ((k, bound k) ∷ filter (is_heavy p q n) (zip ks (map bound ks))) (filter (is_heavy p q n) (zip ks (map bound ks))))) (weights_at (keys_of (cond b ((k, bound k) ∷ filter (is_heavy p q n) (zip ks (map bound ks))) (filter (is_heavy p q n) (zip ks (map bound ks))))) xs))
+        ≡ cond h ((k, weight_of k xs) ∷ filter (is_heavy p q n) (zip ks (weights_at ks xs))) (filter (is_heavy p q n) (zip ks (weights_at ks xs)))
+    by true true low high same = ap (λ t. cond t ((k, weight_of k xs) ∷ filter (is_heavy p q n) (zip rest (weights_at rest xs))) (filter (is_heavy p q n) (zip rest (weights_at rest xs)))) high ∙ ap (λ (es : List Entry). (k, weight_of k xs) ∷ es) same
+    by true false low high same = ap (λ t. cond t ((k, weight_of k xs) ∷ filter (is_heavy p q n) (zip rest (weights_at rest xs))) (filter (is_heavy p q n) (zip rest (weights_at rest xs)))) high ∙ same
+    by false true low high same = absurd (no_less low high)
+    by false false low high same = same
+
+-- so the others are candidates enough
+pub report_from_thinned : (ks : List Bytes) (bound : Bytes → ℕ) (xs : List Entry) (p q : ℕ) → ((x : Bytes) → weight_of x xs ≤ bound x)
+    → selected p q (total_of xs) (zip (thinned p q (total_of xs) ks (map bound ks)) (weights_at (thinned p q (total_of xs) ks (map bound ks)) xs)) ≡ selected p q (total_of xs) (zip ks (weights_at ks xs))
+report_from_thinned ks bound xs p q most = ap by_rank (filter_thinned bound xs p q (total_of xs) most ks)
 
 -- what p/q of n bounds from below, near a counter
 can_exceed : (k p q n w t c : ℕ) → p * n < q * w → (k + 1) * w + t ≤ n + (k + 1) * c → p * n * (k + 1) + q * t < q * (n + (k + 1) * c)

@@ -95,7 +95,7 @@ at_least_all (e ∷ s) m h b =
           ] refl),
     )
 
-at_least_each : (s : Counters) (m : ℕ) (q : Bytes) → AllByRecursion (λ (e : Entry). m ≤ e.1) s → 0 < weight_of q s → m ≤ weight_of q s
+pub at_least_each : (s : Counters) (m : ℕ) (q : Bytes) → AllByRecursion (λ (e : Entry). m ≤ e.1) s → 0 < weight_of q s → m ≤ weight_of q s
 at_least_each [] m q a l = absurd (omega arith)
 at_least_each (e ∷ s) m q a l = elim (same_key q e.0) as (λ b. same_key q e.0 ≡ b → m ≤ weight_of q (e ∷ s)) [
   | true ↦ λ p. let here : at_key q e ≡ e.1 = ap (λ b. cond b e.1 0) p in omega (arith, weight_of-cons q e s, here, a.0)

@@ -7,7 +7,7 @@ use Rattle.std.specs.List.{IsDistinct}
 use Rattle.std.specs.Map.{keys_of, lookup}
 use Rattle.std.specs.BTreeMap.{BTreeMap, get}
 use Rattle.hh_stream.specs.Weights.{Bytes, Entry, key_cmp, same_key, weight_of}
-use Rattle.hh_counters.specs.Counters.{Counters, tally}
+use Rattle.hh_counters.specs.Counters.{tally}
 use Rattle.hh_counters.specs.SpaceSaving.{IsMonitor, step}
 use Rattle.hh_counters.specs.declared.buckets.Bucket.{Bucket}
 
@@ -70,19 +70,50 @@ HasFirst b n i = (x : Bytes) × IsFirst b n x i
 abbrev pub DropsFirst : Buckets → Buckets → Type 0
 DropsFirst old new = (n : ℕ) (x : Bytes) (i : ℕ) → IsFirst old n x i → Changes old new n x None
 
--- the bucket of a counter has exactly the keys with that counter, each with its place among the keys ks
-abbrev pub Agree : Counters → List Bytes → Buckets → Type 0
-Agree s ks b = (n : ℕ) (q : Bytes) → place_at b n q ≡ (if nat_lt 0 n && (weight_of q s == n) then position (same_key q) ks else None)
+-- the first key of the first bucket, where it is x and its place is i, went to the bucket of v, which is higher
+abbrev pub RaisesFirst : Buckets → Buckets → ℕ → Bytes → ℕ → Type 0
+RaisesFirst old new v x i = (n : ℕ) → IsFirst old n x i → n < v → Moves old new n v x i
 
--- the entries of an index, in any order, and the buckets are of the same monitored keys
-pub record IsLinked (k n : ℕ) (es : List Entry) (b : Buckets) : Type 0 where
+-- the bucket of n has exactly the keys of which f is n, each with its place among the keys ks
+abbrev pub Agree : (Bytes → ℕ) → List Bytes → Buckets → Type 0
+Agree f ks b = (n : ℕ) (q : Bytes) → place_at b n q ≡ (if nat_lt 0 n && (f q == n) then position (same_key q) ks else None)
+
+-- the entries of an index, in any order, and buckets of the same keys: each stands in that of the number f of it, its counter or a lower one
+pub record IsStanding (f : Bytes → ℕ) (es : List Entry) (b : Buckets) : Type 0 where
   pub distinct : IsDistinct same_key (keys_of es)
   pub positive : (q : Bytes) → IfSome (lookup (same_key q) es) (λ m. 0 < m)
-  pub monitor : IsMonitor k n (tally es)
-  pub agree : Agree (tally es) (keys_of es) b
+  pub below : (q : Bytes) → (f q ≤ weight_of q (tally es)) × (0 < weight_of q (tally es) → 0 < f q)
+  pub agree : Agree f (keys_of es) b
   pub ordered : AreOrdered b
+
+-- an index and buckets of the same monitored keys, each in that of its counter
+pub record IsLinked (k n : ℕ) (es : List Entry) (b : Buckets) : Type 0 where
+  pub monitor : IsMonitor k n (tally es)
+  pub stands : IsStanding (λ q. weight_of q (tally es)) es b
 
 -- what an item leaves of both parts
 pub record IsAdded (k n : ℕ) (es fs : List Entry) (b : Buckets) (e : Entry) : Type 0 where
   pub linked : IsLinked k (n + e.1) fs b
   pub step_is : tally fs ≡ step (tally es) e k
+
+-- each key stands in the bucket of its counter or in one of a lower number
+abbrev pub Stand : List Entry → Buckets → Type 0
+Stand es b = (f : Bytes → ℕ) × IsStanding f es b
+
+-- an index and buckets of the same monitored keys, which may stand in buckets of counters that they had
+pub record IsGathered (k n : ℕ) (es : List Entry) (b : Buckets) : Type 0 where
+  pub monitor : IsMonitor k n (tally es)
+  pub stand : Stand es b
+
+-- what an item leaves of both parts
+pub record IsTakenIn (k : ℕ) (es fs : List Entry) (b : Buckets) (e : Entry) : Type 0 where
+  pub step_is : tally fs ≡ step (tally es) e k
+  pub stand : Stand fs b
+
+-- n and i are the counter and the place of the first key of the first bucket, which stands in the bucket of its counter
+pub record IsSettled (es : List Entry) (b : Buckets) (n i : ℕ) (x : Bytes) : Type 0 where
+  pub first : IsFirst b n x i
+  pub counter : weight_of x (tally es) ≡ n
+
+abbrev pub HasSettled : List Entry → Buckets → ℕ → ℕ → Type 0
+HasSettled es b n i = (x : Bytes) × IsSettled es b n i x

@@ -1,5 +1,5 @@
 -- What holds of the definitions.
-use Rattle.std.specs.Prelude.{◌≡◌, ℕ, ◌+◌, ◌-◌, ◌*◌, ◌<◌, ◌≤◌, List, [], ◌∷◌, ◌++◌, All, filter, zip, length, replicate, Contains, IsPermutation}
+use Rattle.std.specs.Prelude.{◌≡◌, ℕ, ◌+◌, ◌-◌, ◌*◌, ◌<◌, ◌≤◌, List, [], ◌∷◌, ◌++◌, All, map, filter, zip, length, replicate, Contains, IsPermutation}
 use Rattle.std.specs.List.{AllByRecursion, flat_map}
 use Rattle.std.specs.Map.{keys_of}
 use Rattle.hh_stream.specs.Weights.{Bytes, Entry, IsKey, weight_of, total_of}
@@ -7,7 +7,7 @@ use Rattle.hh_stream.specs.Cuttings.{whole_of}
 use Rattle.hh_counters.specs.Counters.{Counters, Sketch, IsCounters, exceeds, IsLevel, level, max_k, plus, join, misra_gries, IsHonest, slack, added, sketch_of}
 use Rattle.hh_counters.specs.SpaceSaving.{least_of, translate, IsRun, space_saving, monitor_of, monitored, translated}
 use Rattle.hh_counters.specs.Condensed.{IsFirstFree, free_name, entry_of, condensed}
-use Rattle.hh_counters.specs.Report.{contenders, heavy, selected, weights_at, counted, has_counter, IsReport}
+use Rattle.hh_counters.specs.Report.{contenders, thinned, heavy, selected, weights_at, counted, has_counter, IsReport}
 
 -- the counters of a stream are honest for it
 abbrev pub MisraGriesIsHonest : Type 0
@@ -73,6 +73,13 @@ abbrev pub ContendersSuffice : Type 0
 ContendersSuffice =
     (s : Sketch) (xs : List Entry) (p q : ℕ) → IsHonest s.counters s.total xs s.k → q ≤ p * (s.k + 1)
     → selected p q (total_of xs) (zip (keys_of (contenders p q s)) (weights_at (keys_of (contenders p q s)) xs)) ≡ heavy xs p q
+
+-- where no weight is above its key's bound, the keys whose bound is more than a share are candidates enough
+abbrev pub ThinnedSuffice : Type 0
+ThinnedSuffice =
+    (ks : List Bytes) (bound : Bytes → ℕ) (xs : List Entry) (p q : ℕ) → ((x : Bytes) → weight_of x xs ≤ bound x)
+    → let some = thinned p q (total_of xs) ks (map bound ks) in
+    selected p q (total_of xs) (zip some (weights_at some xs)) ≡ selected p q (total_of xs) (zip ks (weights_at ks xs))
 
 -- counting starts at 0, and pieces may be counted one after the other
 abbrev pub CountsAddUp : Type 0

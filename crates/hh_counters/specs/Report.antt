@@ -1,6 +1,7 @@
 -- The heavy keys, in the order of the report.
-use Rattle.std.specs.Prelude.{◌≡◌, ℕ, ◌+◌, ◌*◌, ◌<◌, ◌≤◌, Bool, cond, nat_lt, List, [], ◌∷◌, map, filter, fold, Contains, ◌↔◌}
+use Rattle.std.specs.Prelude.{◌≡◌, ℕ, ◌+◌, ◌*◌, ◌<◌, ◌≤◌, Bool, cond, nat_lt, List, [], ◌∷◌, map, filter, fold, zip, Contains, ◌↔◌}
 use Rattle.std.specs.List.Sorted.{IsStrictlySortedBy}
+use Rattle.std.specs.Map.{keys_of}
 use Rattle.std.specs.declared.cmp.Ordering.{Ordering}
 use Rattle.std.specs.Ordering.{nat_cmp, ordering_then, is_lt}
 use Rattle.hh_stream.specs.Weights.{Bytes, Entry, key_cmp, weight_of, total_of}
@@ -57,6 +58,10 @@ can_be_heavy p q s e =
 -- the counters of those keys
 abbrev pub contenders : ℕ → ℕ → Sketch → Counters
 contenders p q s = filter (can_be_heavy p q s) s.counters
+
+-- those of the keys of which the number is more than p/q of n
+abbrev pub thinned : ℕ → ℕ → ℕ → List Bytes → List ℕ → List Bytes
+thinned p q n ks ns = keys_of (filter (is_heavy p q n) (zip ks ns))
 
 abbrev pub has_counter : List Entry → Entry → Bool
 has_counter c e = nat_lt 0 (weight_of e.0 c)

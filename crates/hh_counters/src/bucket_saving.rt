@@ -53,8 +53,8 @@ pub enum NewFault {
     Memory,
 }
 
-// The most keys for which room is made at the start.
-const FIRST_ROOM: usize = 1024;
+/// The most keys for which room is made at the start.
+pub const FIRST_ROOM: usize = 1024;
 
 impl BucketSaving {
     /// Space-Saving of no items, with room for the first keys.
@@ -142,8 +142,8 @@ impl Monitor for BucketSaving {
     }
 }
 
-// The counters less the least, by rising key.
-fn translated_entries(
+/// The counters less the least, by rising key.
+pub fn translated_entries(
     alloc: Global,
     index: &IndexMap<Key, u64>,
     least: u64,
@@ -239,14 +239,24 @@ fn raise(
 {
     put(alloc, buckets, to, key.copy()?, place)?;
     take(buckets, from, key);
-    let (_, counter) = index.pair_mut(place);
-    *counter = to;
+    set_counter(index, key, place, to);
     Ok(())
 }
 
-// Puts a new key last into the index and, with the place that it is to have, into its bucket, or
-// leaves both as they were.
-fn enter(
+/// Makes this the counter of the key, which stands at the place.
+pub fn set_counter(index: &mut IndexMap<Key, u64>, key: &Key, place: usize, to: u64)
+    requires place { index_of same_key index.old key.now ≡ Some place }
+    ensures set { Updates same_key index.old index.new key.now (Some to) }
+    ensures keys { keys index.new ≡ keys index.old }
+    ensures distinct { IsUnique same_key index.old → IsUnique same_key index.new }
+{
+    let (_, counter) = index.pair_mut(place);
+    *counter = to;
+}
+
+/// Puts a new key last into the index and, with the place that it is to have, into its bucket, or
+/// leaves both as they were.
+pub fn enter(
     alloc: Global,
     index: &mut IndexMap<Key, u64>,
     buckets: &mut BTreeMap<u64, Bucket>,

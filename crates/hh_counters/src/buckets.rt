@@ -1,7 +1,7 @@
 //! Keys in buckets by their counters, each with its place in the index. No bucket is empty.
 
 ghost use Rattle.std.specs.Prelude.{◌≡◌, OnOk, OnErr, IsTrue, IsFalse, MatchOption, None, Some};
-ghost use Rattle.hh_counters.specs.Buckets.{IsOrdered, AreOrdered, Sets, KeepsPlaces, HasNoOther, Changes, HasSame, HasNone, HasFirst, DropsFirst};
+ghost use Rattle.hh_counters.specs.Buckets.{IsOrdered, AreOrdered, Sets, KeepsPlaces, HasNoOther, Changes, HasSame, HasNone, HasFirst, DropsFirst, RaisesFirst};
 
 use hh_stream::Key;
 use std::alloc::{AllocError, Global};
@@ -128,4 +128,23 @@ pub fn drop_first(buckets: &mut BTreeMap<u64, Bucket>)
     if !remove_least(entry.get_mut()) {
         entry.remove();
     }
+}
+
+/// Moves the least key with the least counter, whose place this is, to the bucket of a higher
+/// counter, or leaves all as it was.
+pub fn raise_first(
+    alloc: Global,
+    buckets: &mut BTreeMap<u64, Bucket>,
+    key: &Key,
+    place: usize,
+    counter: u64,
+) -> Result<(), AllocError>
+    requires { AreOrdered buckets.old }
+    ensures raised { OnOk result (RaisesFirst buckets.old buckets.new counter key.now place) }
+    ensures same { OnErr result (HasSame buckets.old buckets.new) }
+    ensures ordered { AreOrdered buckets.new }
+{
+    put(alloc, buckets, counter, key.copy()?, place)?;
+    drop_first(buckets);
+    Ok(())
 }

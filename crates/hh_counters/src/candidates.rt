@@ -3,16 +3,48 @@
 ghost use Rattle.std.specs.Prelude.{◌≡◌, ℕ, ◌+◌, ◌*◌, ◌<◌, ◌≤◌, ◌^◌, ◌↔◌, ◌==◌, [], ◌∷◌, All, Contains, IsSome, IfSome, IsOk, IfOk, Some, length, slice_get, nat_lt, zip};
 ghost use Rattle.std.specs.List.Sorted.{IsStrictlySortedBy};
 ghost use Rattle.std.specs.Map.{keys_of};
-ghost use Rattle.hh_stream.specs.Weights.{key_cmp, total_of};
+ghost use Rattle.std.proofs.Common.{ap};
+ghost use Rattle.std.specs.FinMap.{nat_cmp-IsAntisymmetric, slice_cmp-IsAntisymmetric};
+ghost use Rattle.std.specs.Cmp.{eq_by_cmp_equiv, Equal-is};
+ghost use Rattle.std.specs.Cmp.Lexicographic.{bytes_decides, nat_list_cmp_total};
+ghost use Rattle.hh_stream.specs.Weights.{key_cmp, same_key, total_of};
 ghost use Rattle.hh_counters.specs.Counters.{max_k};
-ghost use Rattle.hh_counters.specs.Report.{IsShare, contenders, counted, selected};
+ghost use Rattle.hh_counters.specs.Report.{IsShare, contenders, counted, selected, thinned};
 
-use crate::report::{Heavy, selected_rows};
+use crate::report::{Heavy, is_share, selected_rows};
 use crate::summary::Summary;
 use hh_stream::{Item, Key};
-use indexmap::IndexSet;
+use indexmap::{Equivalent, IndexSet};
 use std::alloc::{AllocError, Global};
+use std::hash::{Hash, Hasher};
 use std::marker::Model;
+
+/// The bytes of a key that is looked up.
+#[derive(Clone, Copy, PartialEq, Eq)]
+struct Sought<'a>(&'a [u8]);
+
+impl Hash for Sought<'_> {
+    ghost hash_input = { λ sought. sought.0.now ∷ [] };
+
+    ghost respects_eq = { λ x y e. ap (λ key. key ∷ []) ((bytes_decides x.0.now y.0.now).0 e) };
+
+    fn hash<H: Hasher>(&self, state: &mut H) {
+        state.write(self.0);
+    }
+}
+
+impl Equivalent<Key> for Sought<'_> {
+    ghost equivalent = { λ sought. same_key sought.0.now };
+
+    ghost respects_hash = { λ sought key e. ap (λ key. key ∷ [])
+        (slice_cmp-IsAntisymmetric nat_cmp-IsAntisymmetric sought.0.now key ((Equal-is _).0 e)) };
+
+    ghost respects_eq = { λ sought. (eq_by_cmp_equiv nat_list_cmp_total).congr sought.0.now };
+
+    fn equivalent(&self, key: &Key) -> bool {
+        self.0 == key.bytes()
+    }
+}
 
 /// The keys of a summary, each at its place by rising key.
 ///
@@ -72,6 +104,31 @@ impl Candidates {
         Ok(Candidates { keys })
     }
 
+    /// Those candidates of which the number is more than p/q of the total, where `numbers` has one for
+    /// each place. Numbers that are not below the keys' weights leave each heavy key. p/q is at most 1,
+    /// and q at most [`MAX_Q`](crate::MAX_Q).
+    pub fn thinned(
+        &self,
+        numbers: &[u64],
+        total: u64,
+        p: u64,
+        q: u64,
+    ) -> Result<Candidates, AllocError>
+        requires lengths { length numbers.now ≡ length self.now }
+        requires share { IsShare p q }
+        ensures keys { IfOk result
+            (λ candidates. candidates ≡ thinned p q total self.now numbers.now) }
+        ensures few { IfOk result (λ candidates. length candidates ≤ length self.now) }
+    {
+        let mut keys = IndexSet::new(*self.keys.allocator());
+        for i in 0..numbers.len() {
+            if is_share(numbers[i], p, q, total) {
+                keys.insert(self.keys.as_slice()[i].copy()?)?;
+            }
+        }
+        Ok(Candidates { keys })
+    }
+
     /// How many candidates there are.
     pub fn len(&self) -> usize
         ensures len { result ≡ length self.now }
@@ -101,7 +158,16 @@ impl Candidates {
         ensures found { IsSome result ↔ Contains self.now key.now }
         ensures within { IfSome result (λ i. i < length self.now) }
     {
-        self.keys.get_index_of(key)
+        self.place_of(key.bytes())
+    }
+
+    // Where the key with these bytes is, if it is a candidate.
+    fn place_of(&self, key: &[u8]) -> Option<usize>
+        ensures at { (i : ℕ) → (result ≡ Some i) ↔ (slice_get self.now i ≡ Some key.now) }
+        ensures found { IsSome result ↔ Contains self.now key.now }
+        ensures within { IfSome result (λ i. i < length self.now) }
+    {
+        self.keys.get_index_of(Sought(key))
     }
 
     /// Adds the weight to the number at the key's place, if the key is a candidate.
@@ -110,10 +176,19 @@ impl Candidates {
         requires bounded { All (λ n. n + weight < 2 ^ 64) numbers.old }
         ensures { numbers.new ≡ counted self.now ((key.now, weight) ∷ []) numbers.old }
     {
+        self.count_bytes(key.bytes(), weight, numbers);
+    }
+
+    /// [`count`](Candidates::count) of the key with these bytes.
+    pub fn count_bytes(&self, key: &[u8], weight: u64, numbers: &mut [u64])
+        requires lengths { length numbers.old ≡ length self.now }
+        requires bounded { All (λ n. n + weight < 2 ^ 64) numbers.old }
+        ensures { numbers.new ≡ counted self.now ((key.now, weight) ∷ []) numbers.old }
+    {
         if self.keys.is_empty() {
             return;
         }
-        if let Some(place) = self.place(key) {
+        if let Some(place) = self.place_of(key) {
             numbers[place] += weight;
         }
     }

@@ -5,15 +5,15 @@ ghost use Rattle.std.specs.List.{AllWithin};
 ghost use Rattle.std.specs.List.Sorted.{IsStrictlySortedBy};
 ghost use Rattle.std.specs.Map.{keys_of};
 ghost use Rattle.std.specs.declared.cmp.Ordering.TheVariants.{Less, Equal, Greater};
-ghost use Rattle.hh_stream.specs.Weights.{Entry, key_cmp, weight_of, total_of};
+ghost use Rattle.hh_stream.specs.Weights.{Entry, key_cmp, max_key_len, weight_of, total_of};
 ghost use Rattle.hh_counters.specs.Counters.{IsCounters, lower, less_by, level, least_counter as least_counter_of, add_at, plus, join};
 
-use hh_stream::Key;
+use hh_stream::{Key, KeyFault};
 use std::alloc::{AllocError, Global};
 use std::cmp::Ordering;
 
 /// Where the key is, or where it would go.
-pub fn place_of(entries: &[(Key, u64)], key: &Key) -> Result<usize, usize>
+pub fn place_of(entries: &[(Key, u64)], key: &[u8]) -> Result<usize, usize>
     requires { IsStrictlySortedBy key_cmp (keys_of entries.now) }
     ensures found { IfOk result
         (λ i. i < length entries.now × HoldsAt (λ (e : Entry). e.0 ≡ key.now) entries.now i) }
@@ -23,11 +23,11 @@ pub fn place_of(entries: &[(Key, u64)], key: &Key) -> Result<usize, usize>
         × AllWithin (λ (e : Entry). key_cmp key.now e.0 ≡ Less) entries.now i
         (length entries.now)) }
 {
-    entries.binary_search_by(|e| e.0.cmp(key))
+    entries.binary_search_by(|e| e.0.bytes().cmp(key))
 }
 
 /// The counter of the key, 0 where there is none.
-pub fn counter_of(entries: &[(Key, u64)], key: &Key) -> u64
+pub fn counter_of(entries: &[(Key, u64)], key: &[u8]) -> u64
     requires { IsStrictlySortedBy key_cmp (keys_of entries.now) }
     ensures { result ≡ weight_of key.now entries.now }
 {
@@ -124,8 +124,21 @@ pub fn level_of(alloc: Global, entries: &[(Key, u64)], k: usize) -> Result<u64, 
     Ok(*level)
 }
 
+// The key with these bytes.
+fn key_of(alloc: Global, bytes: &[u8]) -> Result<Key, AllocError>
+    requires { (0 < length bytes.now) × (length bytes.now ≤ max_key_len) }
+    ensures { IfOk result (λ key. key ≡ bytes.now) }
+{
+    match Key::new(alloc, bytes) {
+        Ok(key) => Ok(key),
+        Err(KeyFault::Memory) => Err(AllocError),
+        Err(KeyFault::Empty | KeyFault::TooLong) => unreachable!(),
+    }
+}
+
 /// Adds to the key's counter, which is 0 where there is none.
-pub fn add_entry(entries: &mut Vec<(Key, u64)>, key: &Key, weight: u64) -> Result<(), AllocError>
+pub fn add_entry(entries: &mut Vec<(Key, u64)>, key: &[u8], weight: u64) -> Result<(), AllocError>
+    requires key { (0 < length key.now) × (length key.now ≤ max_key_len) }
     requires counters { IsCounters entries.old.items }
     requires positive { 0 < weight }
     requires bounded { total_of entries.old.items + weight < 2 ^ 64 }
@@ -140,7 +153,10 @@ pub fn add_entry(entries: &mut Vec<(Key, u64)>, key: &Key, weight: u64) -> Resul
             entries[place].1 += weight;
             Ok(())
         }
-        Err(place) => Ok(entries.insert(place, (key.copy()?, weight))?),
+        Err(place) => {
+            let key = key_of(*entries.allocator(), key)?;
+            Ok(entries.insert(place, (key, weight))?)
+        }
     }
 }
 
@@ -148,10 +164,11 @@ pub fn add_entry(entries: &mut Vec<(Key, u64)>, key: &Key, weight: u64) -> Resul
 /// counters, the least is taken from each. After an `Err` the entries are as they were.
 pub fn add_item(
     entries: &mut Vec<(Key, u64)>,
-    key: &Key,
+    key: &[u8],
     weight: u64,
     k: u64,
 ) -> Result<(), AllocError>
+    requires key { (0 < length key.now) × (length key.now ≤ max_key_len) }
     requires counters { IsCounters entries.old.items }
     requires few { length entries.old.items ≤ k }
     requires positive { 0 < weight }

@@ -6,6 +6,7 @@ mod bucket_saving;
 mod buckets;
 mod candidates;
 mod entries;
+mod gathered_saving;
 pub mod laws;
 mod monitor;
 mod report;
@@ -16,6 +17,7 @@ mod tests;
 
 pub use bucket_saving::{BucketSaving, NewFault};
 pub use candidates::Candidates;
+pub use gathered_saving::GatheredSaving;
 pub use monitor::{Monitor, monitored_summary};
 pub use report::{Heavy, MAX_Q};
 pub use space_saving::SpaceSaving;

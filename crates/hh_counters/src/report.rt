@@ -74,8 +74,8 @@ fn heavy_rows(
     Ok(rows)
 }
 
-// Whether the number is more than p/q of the total.
-fn is_share(number: u64, p: u64, q: u64, total: u64) -> bool
+/// Whether the number is more than p/q of the total.
+pub fn is_share(number: u64, p: u64, q: u64, total: u64) -> bool
     ensures { result ≡ nat_lt (p * total) (q * number) }
 {
     u128::from(p) * u128::from(total) < u128::from(q) * u128::from(number)

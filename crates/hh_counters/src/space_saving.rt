@@ -76,7 +76,7 @@ impl Monitor for SpaceSaving {
     }
 
     fn get(&self, key: &Key) -> u64 {
-        counter_of(&self.entries, key)
+        counter_of(&self.entries, key.bytes())
     }
 
     fn add(&mut self, key: &Key, weight: u64) -> Result<(), AddFault>
@@ -129,8 +129,8 @@ fn add_item(entries: &mut Vec<(Key, u64)>, key: &Key, weight: u64, k: u64) -> Re
     ensures unchanged { OnErr result (entries.new.items ≡ entries.old.items) }
     ensures known { 0 < weight_of key.now entries.old.items → IsOk result }
 {
-    if 0 < counter_of(entries, key) || entries.len() as u64 <= k {
-        return add_entry(entries, key, weight);
+    if 0 < counter_of(entries, key.bytes()) || entries.len() as u64 <= k {
+        return add_entry(entries, key.bytes(), weight);
     }
     replace_least(entries, key, weight)
 }
@@ -153,7 +153,7 @@ fn replace_least(entries: &mut Vec<(Key, u64)>, key: &Key, weight: u64) -> Resul
     } else {
         place + 1
     };
-    add_entry(entries, key, least + weight)?;
+    add_entry(entries, key.bytes(), least + weight)?;
     entries.remove(shifted);
     Ok(())
 }

@@ -1,7 +1,7 @@
 //! Misra-Gries summaries.
 
 ghost use Rattle.std.specs.Prelude.{◌≡◌, ℕ, ◌+◌, ◌<◌, ◌≤◌, ◌^◌, ◌↔◌, ◌⊎◌, [], ◌≢◌, ◌==◌, IsTrue, IsOk, IsErr, IsErrOf, IfOk, OnOk, OnErr, length, slice_index_or};
-ghost use Rattle.hh_stream.specs.Weights.{max_total, weight_of, total_of};
+ghost use Rattle.hh_stream.specs.Weights.{max_total, weight_of, total_of, max_key_len};
 ghost use Rattle.hh_counters.specs.Counters.{max_k, Fits, IsCounters, Sketch, added, merged, sketch_of, slack};
 
 use crate::entries::{add_item, are_counters, counter_of, joined, sum_of, sums_within};
@@ -184,7 +184,7 @@ impl Summary {
     pub fn get(&self, key: &Key) -> u64
         ensures { result ≡ weight_of key.now self.now.counters }
     {
-        counter_of(&self.entries, key)
+        counter_of(&self.entries, key.bytes())
     }
 
     /// The i-th key by rising key, with its counter.
@@ -202,6 +202,22 @@ impl Summary {
     /// summary is as it was.
     pub fn add(&mut self, key: &Key, weight: u64) -> Result<(), AddFault>
         requires { 0 < weight }
+        ensures added { OnOk result (self.new ≡ added self.old (key.now, weight)) }
+        ensures unchanged { OnErr result (self.new ≡ self.old) }
+        ensures too_large { IsErrOf result AddFault.TotalTooLarge
+            ↔ (max_total < self.old.total + weight) }
+
+        // a key that has a counter takes no memory
+        ensures known { 0 < weight_of key.now self.old.counters
+            → self.old.total + weight ≤ max_total → IsOk result }
+    {
+        self.add_bytes(key.bytes(), weight)
+    }
+
+    /// [`add`](Summary::add) of the key with these bytes, 1 to 4,096 of them.
+    pub fn add_bytes(&mut self, key: &[u8], weight: u64) -> Result<(), AddFault>
+        requires key { (0 < length key.now) × (length key.now ≤ max_key_len) }
+        requires positive { 0 < weight }
         ensures added { OnOk result (self.new ≡ added self.old (key.now, weight)) }
         ensures unchanged { OnErr result (self.new ≡ self.old) }
         ensures too_large { IsErrOf result AddFault.TotalTooLarge

@@ -153,8 +153,16 @@ impl Family {
         ensures fingerprint { result ≡ fingerprint_of self.now.z key.now }
         ensures below { result < modulus }
     {
-        let mut fingerprint = 0;
-        let mut rest = key.bytes();
+        self.fingerprint_of(key.bytes())
+    }
+
+    // The fingerprint of the key with these bytes.
+    pub(crate) fn fingerprint_of(&self, key: &[u8]) -> u64
+        ensures fingerprint { result ≡ fingerprint_of self.now.z key.now }
+        ensures below { result < modulus }
+    {
+        let (first, mut rest) = key.split_at(key.len().min(8));
+        let mut fingerprint = self.digits(first);
         while !rest.is_empty() {
             let (bytes, after) = rest.split_at(rest.len().min(8));
             let power = self.powers[bytes.len()];

@@ -120,10 +120,19 @@ impl Table {
         ensures unchanged { OnErr result (self.new ≡ self.old) }
         ensures too_large { IsErr result ↔ (max_total < self.old.total + weight) }
     {
+        self.add_bytes(key.bytes(), weight)
+    }
+
+    /// [`add`](Table::add) of the key with these bytes.
+    pub fn add_bytes(&mut self, key: &[u8], weight: u64) -> Result<(), TotalTooLarge>
+        ensures added { OnOk result (self.new ≡ added self.old (key.now, weight)) }
+        ensures unchanged { OnErr result (self.new ≡ self.old) }
+        ensures too_large { IsErr result ↔ (max_total < self.old.total + weight) }
+    {
         if weight > MAX_TOTAL - self.total {
             return Err(TotalTooLarge);
         }
-        let fingerprint = self.family.fingerprint(key);
+        let fingerprint = self.family.fingerprint_of(key);
         raise_cells(
             &mut self.cells,
             &self.family,

@@ -1,22 +1,23 @@
 -- The merged summary can be made, and is what the analysis says.
-use Rattle.std.proofs.Common.{◌≡◌, ℕ, ◌+◌, ◌*◌, ◌<◌, ◌≤◌, List, [], ◌∷◌, length, get_or, map, refl, sym, ap, ◌∙◌, subst, arith, ⊎_elim}
+use Rattle.std.proofs.Common.{◌≡◌, ℕ, ◌+◌, ◌*◌, ◌<◌, ◌≤◌, List, [], ◌∷◌, length, length-append, get_or, map, refl, sym, ap, ◌∙◌, subst, arith, ⊎_elim}
 use Rattle.std.specs.Prelude.{All, Ok, Err, sum_by, zip}
 use Rattle.std.specs.Map.{keys_of}
 use Rattle.std.proofs.lemmas.List.{get_or-map, length-map}
 use Rattle.std.proofs.lemmas.List.Sums.{sum_by-append, sum_by-cons}
 use Rattle.std.proofs.lemmas.Bool.{cases_lt}
 use Rattle.std.proofs.lemmas.Bool.Decides.{nat_tests}
-use Rattle.hh_stream.specs.Weights.{Bytes, Entry, total_of, max_total}
+use Rattle.hh_stream.specs.Weights.{Bytes, Entry, weight_of, total_of, max_total}
 use Rattle.hh_stream.specs.Cuttings.{whole_of}
 use Rattle.hh_counters.specs.Counters.{Sketch, sketch_of, merged, misra_gries, IsHonest}
 use Rattle.hh_counters.specs.declared.summary.MergeFault.{MergeFault}
-use Rattle.hh_counters.specs.Report.{contenders, heavy, selected, weights_at}
-use Rattle.hh_counters.specs.Laws.{MisraGriesIsHonest, ContendersSuffice}
+use Rattle.hh_counters.specs.Report.{contenders, heavy, selected, thinned, weights_at}
+use Rattle.hh_counters.specs.Laws.{MisraGriesIsHonest, JoinOfHonestIsHonest, ContendersSuffice, ThinnedSuffice}
 use Rattle.hh_shared.specs.Tally.{times}
 use Rattle.hh_pool.specs.Trees.{MergeTree, Piece, Merge, IsMergeTree, MergesHonestly, leaves, merge_both, merge_result, no_sketch, tree_result, tree_value}
-use Rattle.hh_pool.specs.Outcomes.{IsMerged}
+use Rattle.hh_pool.specs.Laws.{TreesMergeSummaries}
+use Rattle.hh_pool.specs.Outcomes.{AreEnough, IsMerged}
 use Rattle.hh_pool.proofs.NumberSums.{length-once, times-append, times-here}
-use Rattle.hh_pool.proofs.ValueFacts.{sum-leaves}
+use Rattle.hh_pool.proofs.ValueFacts.{all-k, merges-honestly, sum-leaves, total-of, value-of}
 
 -- a plan of p pieces has p leaves
 pub length-leaves : (t : MergeTree) (p : ℕ) → IsMergeTree t p → length (leaves t) ≡ p
@@ -83,11 +84,29 @@ merged_is law t k pieces xs ss s some whole e same_k total counters honest =
       honest = subst (λ (z : ℕ × List Entry × ℕ). IsHonest s.counters z.0 z.1 z.2) (λ i. (total_is i, whole i, k_is i)) whole_honest;
     }
 
--- the second pass over the contenders of an honest summary finds the heavy keys
-pub heavy_is : ContendersSuffice → (s : Sketch) (xs : List Entry) (p q total : ℕ) (keys : List Bytes) (weights : List ℕ) → IsHonest s.counters s.total xs s.k → q ≤ p * (s.k + 1) → total ≡ total_of xs → keys ≡ keys_of (contenders p q s) → weights ≡ weights_at keys xs
-    → selected p q total (zip keys weights) ≡ heavy xs p q
-heavy_is law s xs p q total keys weights honest enough total_is keys_are weights_are =
-    (λ i. selected p q (total_is i) (zip (keys_are i) ((weights_are ∙ ap (λ ks. weights_at ks xs) keys_are) i))) ∙ law s xs p q honest enough
+some-leaf : (t : MergeTree) → 0 < length (leaves t)
+some-leaf (Piece i) = omega arith
+some-leaf (Merge l r) = omega (arith, some-leaf l, length-append (leaves l) (leaves r))
+
+-- whatever the tree makes of the pieces' summaries is the merged summary of them all
+pub summaries-merge : JoinOfHonestIsHonest → MisraGriesIsHonest → TreesMergeSummaries
+summaries-merge join law t k parts s tree made =
+    let ss = map (sketch_of k) parts in
+    let over : IsMergeTree t (length ss) = rw (length-map parts (sketch_of k)) tree in
+    let some : 0 < length parts = omega (arith, some-leaf t, length-leaves t (length parts) tree) in
+    merged_is law t k parts (whole_of parts) ss s some refl refl (all-k t ss s over made) (total-of t ss s over made) (value-of t ss s made).counters (merges-honestly join t ss s over made)
+
+-- the contenders of an honest summary, thinned by numbers that no weight is above, are enough
+pub thinned_enough : ContendersSuffice → ThinnedSuffice → (s : Sketch) (xs : List Entry) (p q total : ℕ) (ks keys : List Bytes) (numbers : List ℕ) (bound : Bytes → ℕ) → IsHonest s.counters s.total xs s.k → q ≤ p * (s.k + 1)
+    → ((x : Bytes) → weight_of x xs ≤ bound x) → total ≡ total_of xs → ks ≡ keys_of (contenders p q s) → numbers ≡ map bound ks → keys ≡ thinned p q total ks numbers → AreEnough keys xs p q
+thinned_enough contend thin s xs p q total ks keys numbers bound honest enough most total_is ks_are numbers_are keys_are =
+    let all = keys_of (contenders p q s) in
+    let here : keys ≡ thinned p q (total_of xs) all (map bound all) = keys_are ∙ (λ i. thinned p q (total_is i) (ks_are i) ((numbers_are ∙ ap (map bound) ks_are) i)) in
+    subst (λ (z : List Bytes). AreEnough z xs p q) (sym here) (thin all bound xs p q most ∙ contend s xs p q honest enough)
+
+-- the second pass over candidates that are enough finds the heavy keys
+pub heavy_is : (xs : List Entry) (p q total : ℕ) (keys : List Bytes) (weights : List ℕ) → AreEnough keys xs p q → total ≡ total_of xs → weights ≡ weights_at keys xs → selected p q total (zip keys weights) ≡ heavy xs p q
+heavy_is xs p q total keys weights enough total_is weights_are = (λ i. selected p q (total_is i) (zip keys (weights_are i))) ∙ enough
 
 -- so no refusal comes
 pub no_refusal : (t : MergeTree) (k : ℕ) (pieces : List (List Entry)) (ss : List Sketch) (e : MergeFault) → IsMergeTree t (length pieces) → total_of (whole_of pieces) ≤ max_total → ss ≡ map (sketch_of k) pieces → tree_result t ss ≡ Err e → ⊥

@@ -1,12 +1,13 @@
 -- What holds of merge trees.
-use Rattle.std.specs.Prelude.{◌≡◌, ℕ, ◌+◌, ◌<◌, List, [], length, map, filter, slice_index_or, IsPermutation}
+use Rattle.std.specs.Prelude.{◌≡◌, ℕ, ◌+◌, ◌<◌, List, [], length, map, filter, slice_index_or, IsPermutation, Ok}
 use Rattle.std.specs.List.{flat_map}
 use Rattle.hh_stream.specs.Weights.{Entry, total_of}
 use Rattle.hh_stream.specs.Cuttings.{whole_of}
-use Rattle.hh_counters.specs.Counters.{Counters, IsHonest, misra_gries}
+use Rattle.hh_counters.specs.Counters.{Counters, IsHonest, Sketch, misra_gries, sketch_of}
 use Rattle.hh_counters.specs.Report.{has_counter, heavy}
 use Rattle.hh_counters.specs.Condensed.{condensed}
-use Rattle.hh_pool.specs.Trees.{MergeTree, IsMergeTree, tree_value}
+use Rattle.hh_pool.specs.Outcomes.{IsMerged}
+use Rattle.hh_pool.specs.Trees.{MergeTree, IsMergeTree, tree_result, tree_value}
 
 -- what any tree makes of counters that are each honest for its part is honest for the whole
 abbrev pub TreesAreHonest : Type 0
@@ -25,3 +26,10 @@ PartsReportByAnyTree =
     → IsMergeTree t (length parts) → c ≡ tree_value t (map (λ part. misra_gries part k) parts) k
     → IsPermutation (whole_of parts) xs → IsPermutation (flat_map (condensed c) parts) ys
     → filter (has_counter c) (heavy ys 1 (k + 1)) ≡ heavy xs 1 (k + 1)
+
+-- the summary that any tree makes of the parts' summaries is the merged summary of the whole
+abbrev pub TreesMergeSummaries : Type 0
+TreesMergeSummaries =
+    (t : MergeTree) (k : ℕ) (parts : List (List Entry)) (s : Sketch)
+    → IsMergeTree t (length parts) → tree_result t (map (sketch_of k) parts) ≡ Ok s
+    → IsMerged t k parts (whole_of parts) s

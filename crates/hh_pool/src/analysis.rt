@@ -1,15 +1,16 @@
 //! The analysis of a stream: two passes by workers, and a merge between them.
 
-ghost use Rattle.std.specs.Prelude.{◌≡◌, ◌≢◌, ◌+◌, ◌≤◌, ◌<◌, ◌∷◌, ◌↔◌, ℕ, All, length, map, sum, IfOk, IfSome, IsErrOf};
+ghost use Rattle.std.specs.Prelude.{◌≡◌, ◌≢◌, ◌+◌, ◌*◌, ◌≤◌, ◌<◌, ◌∷◌, ◌↔◌, ℕ, List, All, length, map, sum, IfOk, IfSome, IsErrOf};
 ghost use Rattle.std.specs.List.{range_with_len};
+ghost use Rattle.hh_stream.specs.Weights.{Entry};
 ghost use Rattle.hh_stream.specs.Cuttings.{max_pieces, pieces_of};
-ghost use Rattle.hh_counters.specs.Counters.{max_k, Sketch, sketch_of};
-ghost use Rattle.hh_counters.specs.Report.{weights_at, heavy};
-ghost use Rattle.hh_countmin.specs.Table.{table_of};
+ghost use Rattle.hh_counters.specs.Counters.{max_k, IsHonest, Sketch, sketch_of};
+ghost use Rattle.hh_counters.specs.Report.{IsShare, weights_at, heavy};
+ghost use Rattle.hh_countmin.specs.Table.{estimate_in, table_of};
 ghost use Rattle.hh_shared.specs.Tally.{HasAllBelow, IsDistinctBelow};
 ghost use Rattle.hh_pool.specs.Settings.{IsWorkers};
 ghost use Rattle.hh_pool.specs.Trees.{IsMergeTree, leaves};
-ghost use Rattle.hh_pool.specs.Outcomes.{IsMerged};
+ghost use Rattle.hh_pool.specs.Outcomes.{AreEnough, IsMerged};
 
 use crate::first::FirstPass;
 use crate::gate::Gate;
@@ -19,10 +20,10 @@ use crate::outcome::{Outcome, RunError};
 use crate::plan::Plan;
 use crate::second::SecondPass;
 use crate::workers::run_apart;
-use hh_counters::laws::{contenders_suffice, misra_gries_is_honest};
+use hh_counters::laws::{contenders_suffice, misra_gries_is_honest, thinned_suffice};
 use hh_counters::{Candidates, MergeFault, Summary};
 use hh_countmin::Table;
-use hh_countmin::laws::{cells_are_cell_sums, tables_fit};
+use hh_countmin::laws::{cells_are_cell_sums, estimate_is_never_below, tables_fit};
 use hh_shared::SharedSums;
 use hh_stream::laws::pieces_make_the_whole;
 use hh_stream::{Cutting, Stream};
@@ -126,6 +127,46 @@ fn weigh<R: Threads + Wait + Sync, G: Gate + Sync>(
     sums.close(seat)
 }
 
+/// The estimate of each candidate.
+fn estimates(alloc: Global, table: &Table, candidates: &Candidates) -> Result<Vec<u64>, AllocError>
+    ensures { IfOk result
+        (λ numbers. numbers.items ≡ map (estimate_in table.now) candidates.now) }
+{
+    let mut numbers = Vec::new(alloc);
+    for i in 0..candidates.len() {
+        numbers.push(table.estimate(candidates.key(i)))?;
+    }
+    Ok(numbers)
+}
+
+/// The keys that can be above the threshold, as far as their counters and the table of the same
+/// stream tell.
+fn candidates(
+    alloc: Global,
+    summary: &Summary,
+    table: &Table,
+    p: u64,
+    q: u64,
+) -> Result<Candidates, AllocError>
+    requires share { IsShare p q }
+    requires rows { 1 ≤ length table.now.family.rows }
+    ensures few { IfOk result (λ candidates. length candidates ≤ length summary.now.counters) }
+    ensures enough { (xs : List Entry)
+        → IsHonest summary.now.counters summary.now.total xs summary.now.k
+        → q ≤ p * (summary.now.k + 1)
+        → table.now ≡ table_of table.now.family table.now.width xs
+        → IfOk result (λ candidates. AreEnough candidates xs p q) }
+{
+    contenders_suffice();
+    thinned_suffice();
+    estimate_is_never_below();
+    cells_are_cell_sums();
+    let contenders = Candidates::contenders(alloc, summary, p, q)?;
+    let estimates = estimates(alloc, table, &contenders)?;
+    let candidates = contenders.thinned(&estimates, table.total(), p, q)?;
+    Ok(candidates)
+}
+
 /// The outcome, where the plan has as many pieces as the cutting.
 fn run_passes<R: Threads + Wait + Sync, G: Gate + Sync>(
     rt: &R,
@@ -149,7 +190,6 @@ fn run_passes<R: Threads + Wait + Sync, G: Gate + Sync>(
 {
     pieces_make_the_whole();
     misra_gries_is_honest();
-    contenders_suffice();
     let (summaries, table) = summarise(rt, alloc, stream, cutting, options, gate)?;
     let total = stream.total();
     let summary = match merge_by(alloc, plan, summaries) {
@@ -159,7 +199,7 @@ fn run_passes<R: Threads + Wait + Sync, G: Gate + Sync>(
         Err(MergeFault::TotalTooLarge) => unreachable!(),
     };
     let (p, q) = options.threshold();
-    let candidates = Candidates::contenders(alloc, &summary, p, q)?;
+    let candidates = candidates(alloc, &summary, &table, p, q)?;
     let workers = options.workers();
     let weights = weigh(rt, alloc, stream, cutting, &candidates, workers, gate)?;
     let heavy = candidates.select(&weights, total, p, q)?;
@@ -172,8 +212,8 @@ fn run_passes<R: Threads + Wait + Sync, G: Gate + Sync>(
 
 /// Analyses a stream, with workers that share nothing but atomic sums: they summarise the pieces and
 /// fill the table, the summaries are merged as the plan says, and the workers count those of the merged
-/// summary's keys that can be above the threshold. The outcome is the same for every number of workers and whatever worker does which
-/// piece: the counters are those of the plan's merges, honest for the stream (Agarwal et al., PODS
+/// summary's keys that can be above the threshold, as far as counters and table tell. The outcome is the
+/// same for every number of workers and whatever worker does which piece: the counters are those of the plan's merges, honest for the stream (Agarwal et al., PODS
 /// 2012), the table is the stream's, cell for cell (Cormode and Muthukrishnan 2005), and the heavy keys
 /// are exactly those above the options' threshold, with their true weights.
 ///

@@ -1,6 +1,6 @@
 //! Laws of the definitions in `specs/`. Each function does nothing: its contract is the law.
 
-ghost use Rattle.hh_pool.specs.Laws.{PartsReportByAnyTree, TreesAreHonest};
+ghost use Rattle.hh_pool.specs.Laws.{PartsReportByAnyTree, TreesAreHonest, TreesMergeSummaries};
 
 use hh_counters::laws::{
     condensed_parts_suffice, honest_is_near, join_of_honest_is_honest, misra_gries_is_honest,
@@ -12,6 +12,15 @@ pub fn trees_are_honest()
     ensures { TreesAreHonest }
 {
     join_of_honest_is_honest();
+}
+
+/// Whatever the tree, where no merge of the parts' summaries is refused it makes the summary of the
+/// whole: of its total, with the tree's counters, and honest.
+pub fn trees_merge_summaries()
+    ensures { TreesMergeSummaries }
+{
+    join_of_honest_is_honest();
+    misra_gries_is_honest();
 }
 
 /// Where each part is summarised by itself and the summaries are merged by any tree, the parts that

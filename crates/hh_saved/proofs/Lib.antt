@@ -7,3 +7,5 @@ pub mod Grids
 pub mod Loops
 pub mod Values
 pub mod Heads
+pub mod PlaceFacts
+pub mod Sizes

@@ -108,7 +108,7 @@ kind_small (Counters s) = omega arith
 kind_small (Cells t) = omega arith
 
 -- the version that a spelling begins with
-spelling_names : (version : Version) (v : Saved) (rest : List ℕ) → version_at (spelling_of version v ++ rest) ≡ Ok (version, to_be_bytes w8 (kind_of v) ++ (content_bytes version v ++ rest))
+pub spelling_names : (version : Version) (v : Saved) (rest : List ℕ) → version_at (spelling_of version v ++ rest) ≡ Ok (version, to_be_bytes w8 (kind_of v) ++ (content_bytes version v ++ rest))
 spelling_names version v rest =
     let magic = to_be_bytes w32 (magic_of version) in
     let kind = to_be_bytes w8 (kind_of v) in

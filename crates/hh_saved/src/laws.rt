@@ -1,6 +1,7 @@
 //! Laws of the definitions. Each function does nothing: its contract is the law.
 
 ghost use Rattle.hh_saved.specs.Laws.{SpellingsAreUnique, SpellingsAreRead, FilesReadAlikeHoldOneValue, VersionTwoSpellsVersionOne};
+ghost use Rattle.hh_saved.specs.Laws.{SummariesAreBounded, SummariesAreBoundedByK, TablesHaveOneSize};
 
 /// Two values share no spelling, and no spelling is a proper prefix of another, whatever the
 /// versions.
@@ -18,4 +19,12 @@ pub fn spellings_are_read()
 /// then the same.
 pub fn files_read_alike_hold_one_value()
     ensures { FilesReadAlikeHoldOneValue }
+{}
+
+/// How many bytes saved values have: a summary at most so many, by k and its longest key or by k
+/// alone, and a table exactly so many, by its rows and their width.
+pub fn sizes_are_bounded()
+    ensures summaries { SummariesAreBounded }
+    ensures summaries_by_k { SummariesAreBoundedByK }
+    ensures tables { TablesHaveOneSize }
 {}

@@ -8,6 +8,7 @@
 mod fault;
 mod format;
 pub mod laws;
+mod layout;
 mod reading;
 mod saved;
 #[cfg(test)]
@@ -16,6 +17,7 @@ mod writing;
 
 pub use fault::SavedFault;
 pub use format::Version;
+pub use layout::{Place, places};
 pub use reading::read;
 pub use saved::Saved;
 pub use writing::write;

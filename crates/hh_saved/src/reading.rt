@@ -63,7 +63,7 @@ fn value_of(alloc: Global, bytes: &[u8]) -> Result<(Saved, &[u8]), SavedFault>
 
 // The version that the magic names.
 #[tactic(auto, unfolding(crate::specs::Reading::version_at))]
-fn version_of(bytes: &[u8]) -> Result<(Version, &[u8]), SavedFault>
+pub(crate) fn version_of(bytes: &[u8]) -> Result<(Version, &[u8]), SavedFault>
     ensures { Reads (λ x. (x.0, x.1.now)) result (version_at bytes.now) }
 {
     let (magic, rest) = u32_of(bytes)?;

@@ -6,9 +6,9 @@ ghost use Rattle.std.specs.FinMap.{nat_cmp-IsAntisymmetric, slice_cmp-IsAntisymm
 ghost use Rattle.std.specs.Cmp.{partial_equiv_from_equiv, partial_order_from_total, eq_by_cmp_equiv, Equal-is};
 ghost use Rattle.std.specs.Cmp.Lexicographic.{slice_cmp, nat_list_cmp_total};
 ghost use Rattle.std.specs.Ordering.{nat_cmp, as_partial_cmp};
+ghost use Rattle.hh_stream.specs.Storage.{IsStorage, stored};
 ghost use Rattle.hh_stream.specs.Weights.{max_key_len, inline_len, IsKey, key_cmp, same_key};
 
-use smallvec::SmallVec;
 use std::alloc::{AllocError, Global};
 use std::cmp::Ordering;
 use std::hash::{Hash, Hasher};
@@ -18,7 +18,7 @@ use std::marker::Model;
 pub const MAX_KEY_LEN: usize = 4096;
 
 /// The most bytes of a key that takes no memory of its own.
-pub const INLINE_LEN: usize = 24;
+pub const INLINE_LEN: usize = 30;
 
 /// A key: 1 to [`MAX_KEY_LEN`] bytes. Keys are equal, ordered and hashed by their bytes, and a proper
 /// prefix stands before the longer key. A hash takes the bytes alone and no length, so two keys that
@@ -28,17 +28,27 @@ pub const INLINE_LEN: usize = 24;
 /// A key of up to [`INLINE_LEN`] bytes lies in the value itself.
 #[derive(Debug, Drop)]
 pub struct Key {
-    bytes: SmallVec<u8, 24>,
+    storage: Storage,
+}
+
+/// Where the bytes of a key lie.
+#[derive(Debug, Drop)]
+enum Storage {
+    /// In the value itself: as many as the number says, from the front.
+    Inline(u8, [u8; INLINE_LEN]),
+    /// In memory of their own.
+    Heap(Vec<u8>),
 }
 
 impl Model for Key {
+    ghost use Rattle.hh_stream.specs.Storage.{IsStorage, stored};
     ghost use Rattle.hh_stream.specs.Weights.{Bytes, IsKey};
 
     ghost Value = { Bytes };
 
-    ghost view = { λ key. key.bytes.items };
+    ghost view = { λ key. stored key.storage };
 
-    ghost invariant = { λ key. IsKey key.bytes.items };
+    ghost invariant = { λ key. IsStorage key.storage × IsKey (stored key.storage) };
 }
 
 /// Why bytes are no key: the first of these that holds.
@@ -68,8 +78,15 @@ impl Key {
         if bytes.len() > MAX_KEY_LEN {
             return Err(KeyFault::TooLong);
         }
-        match SmallVec::from_slice(alloc, bytes) {
-            Ok(bytes) => Ok(Key { bytes }),
+        if bytes.len() <= INLINE_LEN {
+            return Ok(Key {
+                storage: inline(bytes),
+            });
+        }
+        match Vec::from_slice(alloc, bytes) {
+            Ok(bytes) => Ok(Key {
+                storage: Storage::Heap(bytes),
+            }),
             Err(_) => Err(KeyFault::Memory),
         }
     }
@@ -79,7 +96,10 @@ impl Key {
         ensures bytes { result.now ≡ self.now }
         ensures key { IsKey self.now }
     {
-        self.bytes.as_slice()
+        match &self.storage {
+            Storage::Inline(len, bytes) => &bytes[..usize::from(*len)],
+            Storage::Heap(bytes) => bytes.as_slice(),
+        }
     }
 
     /// An equal key.
@@ -89,10 +109,23 @@ impl Key {
         // a short key takes no memory
         ensures short { length self.now ≤ inline_len → IsOk result }
     {
-        Ok(Key {
-            bytes: SmallVec::from_slice(*self.bytes.allocator(), self.bytes.as_slice())?,
-        })
+        let storage = match &self.storage {
+            Storage::Inline(len, bytes) => Storage::Inline(*len, *bytes),
+            Storage::Heap(bytes) => Storage::Heap(Vec::from_slice(*bytes.allocator(), bytes)?),
+        };
+        Ok(Key { storage })
     }
+}
+
+/// A few bytes, in the value itself.
+fn inline(bytes: &[u8]) -> Storage
+    requires { length bytes.now ≤ inline_len }
+    ensures bytes { stored result ≡ bytes.now }
+    ensures storage { IsStorage result }
+{
+    let mut inline = [0; INLINE_LEN];
+    inline[..bytes.len()].copy_from_slice(bytes);
+    Storage::Inline(bytes.len() as u8, inline)
 }
 
 impl PartialEq for Key {

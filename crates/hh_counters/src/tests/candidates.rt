@@ -52,6 +52,25 @@ fn contenders_can_exceed_the_share(rt: HostRuntime) -> Result<(), Fail> {
     Ok(())
 }
 
+// How many of two candidates with these numbers are left for p/q of 11.
+fn left(candidates: &Candidates, numbers: &[u64; 2], p: u64, q: u64) -> Result<usize, Fail>
+    requires two { length candidates.now ≡ 2 }
+    requires share { IsShare p q }
+{
+    Ok(candidates.thinned(numbers, 11, p, q)?.len())
+}
+
+#[test]
+fn candidates_are_thinned_by_their_numbers(rt: HostRuntime) -> Result<(), Fail> {
+    let candidates = candidates_of(rt.alloc())?;
+    assert_eq!(rt; candidates.len(), 2);
+    for (p, q, count) in [(1, 4, 2), (3, 11, 1), (1, 3, 1), (6, 11, 0)] {
+        assert!(rt; 1 <= p && p <= q && q <= 11);
+        assert_eq!(rt; left(&candidates, &[6, 3], p, q)?, count);
+    }
+    Ok(())
+}
+
 // The weights of two candidates in the stream.
 fn weights_of(candidates: &Candidates, stream: &Stream) -> [u64; 2]
     requires { length candidates.now ≡ 2 }

@@ -1,7 +1,9 @@
-//! Both forms of Space-Saving on small streams, and side by side on a longer one.
+//! The forms of Space-Saving on small streams, and side by side on a longer one.
 
 use super::{FOUR_RECORDS, key_of, shown, stream_of};
-use crate::{AddFault, BucketSaving, Monitor, SpaceSaving, Summary, monitored_summary};
+use crate::{
+    AddFault, BucketSaving, GatheredSaving, Monitor, SpaceSaving, Summary, monitored_summary,
+};
 use hh_stream::{Item, Key, MAX_TOTAL, Stream};
 use std::alloc::Global;
 use std::test::Fail;
@@ -42,18 +44,19 @@ fn run<M: Monitor>(alloc: Global, monitor: M, items: &[(&str, u64)]) -> Result<S
     Ok(text)
 }
 
-// The same run by both forms, which say the same.
-fn both(alloc: Global, k: u64, items: &[(&str, u64)]) -> Result<String, Fail> {
+// The same run by each form, which all say the same.
+fn each_form(alloc: Global, k: u64, items: &[(&str, u64)]) -> Result<String, Fail> {
     let plain = run(alloc, SpaceSaving::new(alloc, k)?, items)?;
     let buckets = run(alloc, BucketSaving::new(alloc, k)?, items)?;
-    if plain != buckets {
-        return Err(Fail::new("the two forms differ"));
+    let gathered = run(alloc, GatheredSaving::new(alloc, k)?, items)?;
+    if plain != buckets || plain != gathered {
+        return Err(Fail::new("the forms differ"));
     }
     Ok(plain)
 }
 
 #[test]
-fn both_forms_count_small_streams(rt: HostRuntime) -> Result<(), Fail> {
+fn each_form_counts_small_streams(rt: HostRuntime) -> Result<(), Fail> {
     for (k, items, expected) in [
         (
             2,
@@ -75,8 +78,13 @@ fn both_forms_count_small_streams(rt: HostRuntime) -> Result<(), Fail> {
             [("b", 1), ("a", 1), ("c", 1)].as_slice(),
             "b 1 c 2 of 3, least 1 to c 1 of 3, slack 1",
         ),
+        (
+            1,
+            [("a", 1), ("b", 2), ("a", 3), ("c", 1)].as_slice(),
+            "a 4 c 3 of 7, least 3 to a 1 of 7, slack 3",
+        ),
     ] {
-        let text = both(rt.alloc(), k, items)?;
+        let text = each_form(rt.alloc(), k, items)?;
         assert_eq!(rt; text.as_str(), expected);
     }
     Ok(())
@@ -99,6 +107,14 @@ fn buckets_have_k_from_1_to_65535(rt: HostRuntime) {
 }
 
 #[test]
+fn gathered_buckets_have_k_from_1_to_65535(rt: HostRuntime) {
+    for (k, refused) in [(0, true), (1, false), (65_535, false), (65_536, true)] {
+        let monitor = GatheredSaving::new(rt.alloc(), k);
+        assert_eq!(rt; monitor.is_err(), refused);
+    }
+}
+
+#[test]
 fn new_plain_form_is_empty(rt: HostRuntime) -> Result<(), Fail> {
     let monitor = SpaceSaving::new(rt.alloc(), 2)?;
     assert!(rt; monitor.k() == 2 && monitor.is_empty());
@@ -108,6 +124,13 @@ fn new_plain_form_is_empty(rt: HostRuntime) -> Result<(), Fail> {
 #[test]
 fn new_buckets_are_empty(rt: HostRuntime) -> Result<(), Fail> {
     let monitor = BucketSaving::new(rt.alloc(), 2)?;
+    assert!(rt; monitor.k() == 2 && monitor.is_empty());
+    Ok(())
+}
+
+#[test]
+fn new_gathered_buckets_are_empty(rt: HostRuntime) -> Result<(), Fail> {
+    let monitor = GatheredSaving::new(rt.alloc(), 2)?;
     assert!(rt; monitor.k() == 2 && monitor.is_empty());
     Ok(())
 }
@@ -126,6 +149,7 @@ fn monitored_total_has_a_largest_value(rt: HostRuntime) -> Result<(), Fail> {
     let full = (Some(AddFault::TotalTooLarge), MAX_TOTAL);
     assert_eq!(rt; filled(SpaceSaving::new(rt.alloc(), 1)?, &key)?, full);
     assert_eq!(rt; filled(BucketSaving::new(rt.alloc(), 1)?, &key)?, full);
+    assert_eq!(rt; filled(GatheredSaving::new(rt.alloc(), 1)?, &key)?, full);
     Ok(())
 }
 
@@ -149,21 +173,26 @@ fn long_stream(alloc: Global) -> Result<Stream, Fail> {
 }
 
 // Whether both have the same total, length, least counter and counters of these keys.
-fn agree(plain: &SpaceSaving, buckets: &BucketSaving, keys: &[Key]) -> bool {
-    plain.total() == buckets.total()
-        && plain.len() == buckets.len()
-        && plain.least() == buckets.least()
-        && keys.iter().all(|key| plain.get(key) == buckets.get(key))
+fn agree<M: Monitor>(plain: &SpaceSaving, other: &M, keys: &[Key]) -> bool {
+    plain.total() == other.total()
+        && plain.len() == other.len()
+        && plain.least() == other.least()
+        && keys.iter().all(|key| plain.get(key) == other.get(key))
 }
 
-// Whether both agree after each of the items.
-fn agree_after_each(alloc: Global, items: &[Item], keys: &[Key]) -> Result<bool, Fail> {
+// Whether the plain form and this one agree after each of the items.
+fn agree_after_each<M: Monitor>(
+    alloc: Global,
+    other: M,
+    items: &[Item],
+    keys: &[Key],
+) -> Result<bool, Fail> {
     let mut plain = SpaceSaving::new(alloc, 10)?;
-    let mut buckets = BucketSaving::new(alloc, 10)?;
+    let mut other = other;
     for item in items {
         plain.add(item.key(), item.weight())?;
-        buckets.add(item.key(), item.weight())?;
-        if !agree(&plain, &buckets, keys) {
+        other.add(item.key(), item.weight())?;
+        if !agree(&plain, &other, keys) {
             return Ok(false);
         }
     }
@@ -171,10 +200,20 @@ fn agree_after_each(alloc: Global, items: &[Item], keys: &[Key]) -> Result<bool,
 }
 
 #[test]
-fn both_forms_agree_after_each_of_10000_items(rt: HostRuntime) -> Result<(), Fail> {
+fn buckets_agree_after_each_of_10000_items(rt: HostRuntime) -> Result<(), Fail> {
     let keys = keys_of_one_byte(rt.alloc())?;
     let stream = long_stream(rt.alloc())?;
-    assert!(rt; agree_after_each(rt.alloc(), stream.items(), &keys)?);
+    let buckets = BucketSaving::new(rt.alloc(), 10)?;
+    assert!(rt; agree_after_each(rt.alloc(), buckets, stream.items(), &keys)?);
+    Ok(())
+}
+
+#[test]
+fn gathered_buckets_agree_after_each_of_10000_items(rt: HostRuntime) -> Result<(), Fail> {
+    let keys = keys_of_one_byte(rt.alloc())?;
+    let stream = long_stream(rt.alloc())?;
+    let gathered = GatheredSaving::new(rt.alloc(), 10)?;
+    assert!(rt; agree_after_each(rt.alloc(), gathered, stream.items(), &keys)?);
     Ok(())
 }
 
@@ -205,6 +244,16 @@ fn plain_form_translates_10000_items(rt: HostRuntime) -> Result<(), Fail> {
 fn buckets_translate_10000_items(rt: HostRuntime) -> Result<(), Fail> {
     let stream = long_stream(rt.alloc())?;
     let monitor = BucketSaving::new(rt.alloc(), 10)?;
+    let summary = monitored_summary(monitor, stream.items())?;
+    let text = shown(rt.alloc(), &summary)?;
+    assert_eq!(rt; text.as_str(), LONG_SUMMARY);
+    Ok(())
+}
+
+#[test]
+fn gathered_buckets_translate_10000_items(rt: HostRuntime) -> Result<(), Fail> {
+    let stream = long_stream(rt.alloc())?;
+    let monitor = GatheredSaving::new(rt.alloc(), 10)?;
     let summary = monitored_summary(monitor, stream.items())?;
     let text = shown(rt.alloc(), &summary)?;
     assert_eq!(rt; text.as_str(), LONG_SUMMARY);

@@ -1,7 +1,7 @@
 use Rattle.std.proofs.Common.{◌≡◌, ◌+◌, ◌<◌, ◌≤◌, cond, is_lt, length, get_or, sym, ap, ◌∙◌, subst, arith}
 use Rattle.std.specs.Prelude.{remove}
 use Rattle.std.proofs.lemmas.List.{get_or_default}
-use Rattle.hh_stream.specs.Weights.{Entry, key_cmp}
+use Rattle.hh_stream.specs.Weights.{Bytes, Entry, key_cmp}
 use Rattle.hh_counters.specs.Counters.{Counters, add_at}
 use Rattle.hh_counters.specs.SpaceSaving.{IsFirstLeast}
 use Rattle.hh_counters.proofs.TakingOver.{replaced_at, shifted_within}
@@ -14,7 +14,8 @@ remove-requires c =
     let place = c.least_place-place.result in
     let near : c.if-lt.shifted ≤ place + 1 = elim c.if-lt.branch [ then-lt w ↦ omega (arith, w.shifted-is) | else-lt w ↦ omega (arith, w.shifted-is) ] in
     let inside : place < length s = omega (arith, c.least_place-place.ensures.in_range, ap length c.deref.ensures.value) in
-    omega (arith, ap length c.in_ok-add_entry.ensures.ok, shifted_within s (c.args.key.now, c.args.weight) place c.if-lt.shifted (c.index.result.now.1 + c.args.weight) c.requires.counters c.requires.absent inside near)
+    let added = c.in_ok-add_entry.ensures.ok ∙ ap (λ (key : Bytes). add_at s (key, c.index.result.now.1 + c.args.weight)) c.bytes.ensures.bytes in
+    omega (arith, ap length added, shifted_within s (c.args.key.now, c.args.weight) place c.if-lt.shifted (c.index.result.now.1 + c.args.weight) c.requires.counters c.requires.absent inside near)
 
 pub returns-clause-replaced : goal.returns-clause-replaced
 returns-clause-replaced c =
@@ -32,5 +33,5 @@ returns-clause-replaced c =
       | else-lt w ↦ w.shifted-is ∙ ap (λ b. cond b place (place + 1)) (sym w.if-lt.false ∙ test)
     ] in
     c.remove.ensures.items
-    ∙ ap (λ (e : Counters). remove e c.if-lt.shifted) (c.in_ok-add_entry.ensures.ok ∙ ap (λ n. add_at s (item.0, n + item.1)) number)
+    ∙ ap (λ (e : Counters). remove e c.if-lt.shifted) (c.in_ok-add_entry.ensures.ok ∙ ap (λ (key : Bytes). add_at s (key, d.1 + item.1)) c.bytes.ensures.bytes ∙ ap (λ n. add_at s (item.0, n + item.1)) number)
     ∙ replaced_at s item place c.if-lt.shifted d c.requires.counters c.requires.absent c.requires.positive least shifted

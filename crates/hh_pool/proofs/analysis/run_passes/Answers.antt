@@ -5,6 +5,7 @@ use Rattle.hh_stream.specs.Weights.{total_of}
 use Rattle.hh_stream.specs.Cuttings.{pieces_of}
 use Rattle.hh_counters.specs.Counters.{Sketch, IsHonest, sketch_of}
 use Rattle.hh_counters.specs.Report.{selected}
+use Rattle.hh_countmin.specs.Table.{table_of}
 use Rattle.hh_pool.specs.Trees.{IsMergeTree}
 use Rattle.hh_pool.proofs.Pieces.{length-pieces_of}
 use Rattle.hh_pool.proofs.Merged.{no_refusal, merged_is, heavy_is}
@@ -62,6 +63,8 @@ returns-clause-heavy g c =
     c.in_ok-summaries.ensures.summaries by.k by.total by.counters by.honest in
     let asked = c.threshold-p.ensures in
     let honest = subst (λ (z : ℕ × ℕ). IsHonest c.in-Ok.summary.counters z.0 stream z.1) (λ i. (sym merged.total i, sym merged.same_k i)) merged.honest in
+    let filled = c.in_ok-summaries.ensures.table in
+    let enough = c.in_ok-candidates.ensures.enough stream honest (rw (merged.same_k, asked.p, asked.q) asked.in_range.1) (filled ∙ (λ i. table_of (sym filled i).family (sym filled i).width stream)) in
     c.in_ok-heavy.ensures.rows
     ∙ ((λ i. selected (asked.p i) (asked.q i) c.total-total.result (zip keys (c.deref.ensures.value i)))
-    ∙ heavy_is c.contenders_suffice.ensures c.in-Ok.summary stream c.args.options.now.p c.args.options.now.q c.total-total.result keys c.in_ok-weights.weights.items honest (rw merged.same_k asked.in_range.1) c.total-total.ensures.total (rw (asked.p, asked.q) at c.in_ok-candidates.ensures.keys) c.in_ok-weights.ensures)
+    ∙ heavy_is stream c.args.options.now.p c.args.options.now.q c.total-total.result keys c.in_ok-weights.weights.items (rw (asked.p, asked.q) at enough) c.total-total.ensures.total c.in_ok-weights.ensures)

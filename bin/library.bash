@@ -1,0 +1,70 @@
+# What bin/install and bin/install-library share, over bin/build.bash: `build_library` builds the library for C where its
+# sources are newer than what was built, and `put_library PREFIX` installs it below "$prefix", for that PREFIX.
+# shellcheck shell=bash disable=SC2154
+library="$top/crates/heavy_ffi"
+archive="$library/out/libheavy_ffi.a"
+
+# Whether there is what the libraries are made with: a C compiler, which CC may name, and ar.
+has_compiler() { command -v "${CC:-cc}" > /dev/null && command -v ar > /dev/null; }
+
+build_library() {
+  local crates
+  mapfile -t crates < <(crates_of heavy_ffi)
+  is_stale "$archive" "${crates[@]}" || return 0
+  command -v rt > /dev/null || { tell "the toolchain's command, rt, is not on the path"; return 1; }
+  tell "proving and building the library for C; $library/build.log has its lines"
+  if ! (cd "$library" && exec rt lib) > "$library/build.log" 2>&1 < /dev/null || [ ! -f "$archive" ]; then
+    tell "the build of the library failed; the last lines of $library/build.log:"
+    tail -n 20 "$library/build.log" >&2
+    return 1
+  fi
+  touch "$archive"
+}
+
+# The calls that the header declares.
+calls_of_library() { sed -n 's/^uint32_t \(heavy_[a-z_]*\)(.*/\1/p' "$top/include/heavy.h"; }
+
+# The static library in this folder, with the toolchain's own few functions of C.
+make_static() {
+  local kit
+  kit=$(dirname "$(rt doc | awk 'END { print $NF }')")
+  cp "$archive" "$1/libheavy.a"
+  chmod u+w "$1/libheavy.a"
+  (cd "$1" && ar x "$kit/c/liblibc_c.a" && ar rs libheavy.a ./*.o 2> /dev/null)
+}
+
+# The shared library beside it, which shows the calls of the header and nothing else.
+make_shared() {
+  { echo 'HEAVY_1 { global:'; calls_of_library | sed 's/$/;/'; echo 'local: *; };'; } > "$1/heavy.map"
+  "${CC:-cc}" -shared -o "$1/libheavy.so.1" -Wl,-soname,libheavy.so.1 "-Wl,--version-script=$1/heavy.map" \
+    -Wl,--whole-archive "$1/libheavy.a" -Wl,--no-whole-archive -Wl,--gc-sections -Wl,-z,defs -s
+}
+
+# What pkg-config tells, with the program's version.
+make_description() {
+  local version
+  version=$(sed -n 's/^const VERSION: &str = "\(.*\)";$/\1/p' "$top/crates/heavy_cli/src/arguments.rt")
+  cat > "$1/heavy.pc" << END
+prefix=$2
+includedir=\${prefix}/include
+libdir=\${prefix}/lib
+
+Name: heavy
+Description: Proved summaries of the heavy keys of weighted records
+Version: ${version:?}
+Cflags: -I\${includedir}
+Libs: -L\${libdir} -lheavy
+END
+}
+
+put_library() (
+  room=$(mktemp -d)
+  trap 'rm -rf "$room"' EXIT
+  make_static "$room" && make_shared "$room" && make_description "$room" "${1%/}" || return 1
+  put 644 "$top/include/heavy.h" include/heavy.h
+  put 644 "$room/libheavy.a" lib/libheavy.a
+  put 755 "$room/libheavy.so.1" lib/libheavy.so.1
+  ln -sf libheavy.so.1 "$prefix/lib/libheavy.so"
+  printf '%s\n' "$prefix/lib/libheavy.so"
+  put 644 "$room/heavy.pc" lib/pkgconfig/heavy.pc
+)

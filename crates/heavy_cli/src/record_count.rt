@@ -1,0 +1,66 @@
+//! How many records a text of records has, counted as its bytes come.
+
+/// What the byte before the next one was part of.
+#[derive(Clone, Copy)]
+enum Place {
+    /// The end of a record, or nothing yet.
+    Between,
+    /// The end of a field.
+    FieldEnd,
+    /// A field without quotes.
+    Plain,
+    /// A quoted field.
+    Quoted,
+    /// A quote in a quoted field: its end, or the first half of a quote that stands for itself.
+    Quote,
+}
+
+impl Place {
+    fn after(self, byte: u8) -> Place {
+        match (self, byte) {
+            (Place::Quoted, b'"') => Place::Quote,
+            (Place::Quoted, _) => Place::Quoted,
+            (_, b'\r' | b'\n') => Place::Between,
+            (_, b',') => Place::FieldEnd,
+            (Place::Between | Place::FieldEnd | Place::Quote, b'"') => Place::Quoted,
+            _ => Place::Plain,
+        }
+    }
+}
+
+/// The number of records in the bytes that came. A line feed in quotes ends none, and an empty line
+/// is none.
+#[derive(Drop)]
+pub struct RecordCount {
+    ended: u64,
+    place: Place,
+}
+
+impl RecordCount {
+    /// No bytes came.
+    pub fn new() -> RecordCount {
+        RecordCount {
+            ended: 0,
+            place: Place::Between,
+        }
+    }
+
+    /// Takes the next bytes.
+    pub fn add(&mut self, bytes: &[u8]) {
+        for byte in bytes {
+            let next = self.place.after(*byte);
+            if matches!(next, Place::Between) && !matches!(self.place, Place::Between) {
+                self.ended = self.ended.saturating_add(1);
+            }
+            self.place = next;
+        }
+    }
+
+    /// The records that are ended, and the one that has begun.
+    pub fn begun(&self) -> u64 {
+        match self.place {
+            Place::Between => self.ended,
+            _ => self.ended.saturating_add(1),
+        }
+    }
+}

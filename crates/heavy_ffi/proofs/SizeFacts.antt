@@ -1,0 +1,27 @@
+-- Answers that come, and the tests before them.
+use Rattle.std.proofs.Common.{◌≡◌, ℕ, Option, Some, None, Result, Ok, Err, inl, inr, refl}
+use Rattle.std.specs.Prelude.{IfOk, IfSome, IsOkAnd}
+use Rattle.std.proofs.lemmas.Bool.Decides.{leb_tells}
+use Rattle.hh_countmin.specs.Family.{IsDepth, max_depth}
+use Rattle.heavy.specs.Saving.{bad_table}
+use Rattle.heavy.specs.declared.error.ToolError.{ToolError}
+
+-- what holds of an answer that came, by two clauses
+pub came : {X : Type 0} (r : Result X ToolError) {P Q : X → Type 0} → IfOk r P → IsOkAnd r Q → (x : X) × P x × Q x × (r ≡ Ok x)
+came (Ok x) p q = (x, p, q, refl)
+came (Err e) p q = absurd q
+
+-- no test failed before an answer that came
+pub passed : {X : Type 0} (o : Option ToolError) (r : Result X ToolError) (x : X) → IfSome o (λ fault. r ≡ Err fault) → r ≡ Ok x → o ≡ None
+passed None r x h e = refl
+passed (Some fault) r x h e = absurd cc
+
+-- a table that passed its tests has a depth
+pub depth_passed : (depth width : ℕ) → bad_table depth width ≡ None → IsDepth depth
+depth_passed depth width none = elim (leb_tells 1 depth) [
+  | inl (e, some) ↦ elim (leb_tells depth max_depth) [
+    | inl (f, few) ↦ (some, few)
+    | inr (f, _) ↦ absurd (cc (rw (e, f) at none))
+  ]
+  | inr (e, _) ↦ absurd (cc (rw e at none))
+]

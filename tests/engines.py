@@ -1,0 +1,320 @@
+#!/usr/bin/env python3
+"""Runs the scripts of examples/machines over random records: what they print has to be what `heavy report` prints over all
+records. GNU parallel reaches its machines through a stand-in for ssh, which runs the words here. Over Dask, workers are
+started as that folder's README does it, and one is killed by its process id while it runs `heavy` on a part, in each
+of the two rounds; and the program fails in each way, to see what is tried again and what is told.
+
+usage: tests/engines.py [SEED]
+
+Where an engine isn't installed its scripts are left out, and this script says so.
+"""
+import json
+import os
+import random
+import shutil
+import subprocess
+import sys
+import tempfile
+import time
+from pathlib import Path
+
+import programs
+import reference
+
+EXAMPLES = programs.TOP / "examples" / "machines"
+K = 20
+PARTS = 8
+SECONDS = 60
+# Stands on the path before the program: notes the command and its input, and does what the file `rule` says of them.
+WATCHED = r"""#!/bin/sh
+input=$(readlink /proc/$$/fd/0)
+echo "$1 $input" >> "$ROOM/log"
+held= fails= status= once=
+. "$ROOM/rule"
+if [ "$1" = "$held" ] && mkdir "$ROOM/held" 2> /dev/null; then
+  echo "$PPID" > "$ROOM/holder.new"
+  mv "$ROOM/holder.new" "$ROOM/holder"
+  while [ -d "$ROOM" ] && [ ! -e "$ROOM/gate" ]; do sleep 0.05; done
+fi
+if [ "$1 $input" = "$fails" ] && { [ -z "$once" ] || mkdir "$ROOM/failed" 2> /dev/null; }; then
+  echo "heavy: planted" >&2
+  exit "$status"
+fi
+exec "$HEAVY" "$@"
+"""
+# Notes the machine, and runs the words here: where the rule says so, those of the second round by another summary.
+SSH = """#!/bin/sh
+echo "$1" >> "$ROOM/hosts"
+shift
+swapped=
+. "$ROOM/rule"
+case "$swapped:$*" in
+  /*:*"heavy condense"*) exec sh -c "$*" < "$swapped" ;;
+esac
+exec sh -c "$*"
+"""
+
+
+def waited(what: str, holds) -> None:
+    """Waits until it holds."""
+    end = time.monotonic() + SECONDS
+    while not holds():
+        if time.monotonic() > end:
+            sys.exit(f"engines: waited in vain for {what}")
+        time.sleep(0.02)
+
+
+class Room:
+    """A folder with the parts of a stream, and with `heavy` and `ssh` on the path."""
+
+    def __init__(self, room: str, seed: int) -> None:
+        self.path = Path(room)
+        draw = random.Random(seed)
+        keys = [b"%d" % i for i in range(300)] + [b'"a,b"', b"others", b"\xff"]
+        self.parts: list[Path] = []
+        records = b""
+        for i in range(PARTS):
+            # a name that a shell has to be kept from reading
+            part = self.path / f"part {i} 'a' $b.csv"
+            drawn = draw.choices(keys, weights=[1 / (rank + 1) for rank in range(len(keys))], k=draw.randrange(200, 600))
+            text = b"".join(b"%s,%d\n" % (key, draw.randrange(1, 100)) for key in drawn)
+            part.write_bytes(text)
+            self.parts.append(part)
+            records += text
+        self.whole = self.path / "all.csv"
+        self.whole.write_bytes(records)
+        program = programs.built("heavy_cli")
+        bin = self.path / "bin"
+        bin.mkdir()
+        for name, text in (("heavy", WATCHED), ("ssh", SSH)):
+            (bin / name).write_text(text)
+            (bin / name).chmod(0o755)
+        self.env = {**os.environ, "ROOM": room, "HEAVY": program, "PATH": f"{bin}:{os.environ['PATH']}", "LC_ALL": "C"}
+        self.forget()
+        report = programs.run([program, "report", "--k", str(K)], records)
+        self.report = (report.status, report.out)
+        self.expected = (0, reference.report(records, K))
+        # one part more, with a key that has a line feed
+        self.fed = self.path / "fed.csv"
+        self.fed.write_bytes(b'"a\nb",9000\n' * 3)
+        self.expected_fed = (0, reference.report(records + self.fed.read_bytes(), K))
+
+    def forget(self, rule: str = "") -> None:
+        """Begins a new case, in which the program follows this rule."""
+        for name in ("held", "failed"):
+            if (self.path / name).exists():
+                (self.path / name).rmdir()
+        for name in ("holder", "gate", "log", "hosts"):
+            (self.path / name).unlink(missing_ok=True)
+        (self.path / "rule").write_text(f"{rule}\n")
+
+    def lines(self, name: str) -> list[str]:
+        path = self.path / name
+        return path.read_text().splitlines() if path.exists() else []
+
+    def times(self, command: str, part: Path | None = None) -> int:
+        """How often the program was run with this command, on this part or on any."""
+        runs = [line.split(" ", 1) for line in self.lines("log")]
+        return sum(words[0] == command and part in (None, Path(words[1])) for words in runs)
+
+    def run(self, words: list[str | Path]) -> programs.Ended:
+        return programs.run([str(word) for word in words], env=self.env, cwd=self.path)
+
+    def start(self, words: list[str], log: str) -> subprocess.Popen:
+        with open(self.path / log, "ab") as said:
+            return subprocess.Popen(words, env=self.env, cwd=self.path, stdout=said, stderr=said)
+
+
+def try_parallel(tally: programs.Tally, room: Room) -> None:
+    """The scripts over GNU parallel."""
+    bad = room.path / "bad.csv"
+    bad.write_bytes(b"a,0\n")
+    one_file, machines = EXAMPLES / "one_file.sh", EXAMPLES / "many_machines.sh"
+    ended = room.run([one_file, str(K), room.whole])
+    tally.check("one file", (ended.status, ended.out) == room.expected == room.report, ended)
+    tally.check("one file in parts", room.times("summarise") == room.times("condense") >= os.cpu_count(), room.lines("log"))
+    ended = room.run([one_file, str(K), bad])
+    tally.check("a bad file", (ended.status, ended.out) == (3, b"") and b"record 1: zero weight" in ended.err, ended)
+    places = [f"{'two' if i % 2 else 'one'}:{part}" for i, part in enumerate(room.parts)]
+    room.forget()
+    ended = room.run([machines, str(K), *places])
+    tally.check("many machines", (ended.status, ended.out) == room.expected == room.report, ended)
+    hosts = sorted(["one", "two"] * PARTS)
+    tally.check("each part on its machine, twice", sorted(room.lines("hosts")) == hosts, room.lines("hosts"))
+    ended = room.run([machines, str(K), *places, f"one:{room.fed}"])
+    tally.check("a line feed in a key, on many machines", (ended.status, ended.out) == room.expected_fed, ended)
+    ended = room.run([machines, str(K), *places, f"two:{bad}"])
+    told = b"record 1: zero weight" in ended.err and b"bad.csv" in ended.err
+    tally.check("a bad part", (ended.status, ended.out) == (3, b"") and told, ended)
+    room.forget(f'fails="condense {quoted(room.parts[2])}" status=3')
+    ended = room.run([machines, str(K), *places])
+    tally.check("a fault in the second round", (ended.status, ended.out) == (3, b""), ended)
+    other = room.path / "other"
+    other.write_bytes(programs.run([room.env["HEAVY"], "summarise", "--k", str(K)], b"a,1\n").out)
+    room.forget(f'swapped="{other}"')
+    ended = room.run([machines, str(K), *places])
+    tally.check("another summary on a machine", ended.status != 0 and ended.out == b"", ended)
+    tally.check("is not condensed by there", room.times("summarise") == PARTS and room.times("condense") == 0, room.lines("log"))
+
+
+def quoted(part: Path) -> str:
+    """A path as it stands between double quotes in a shell's file."""
+    return str(part).replace("$", "\\$")
+
+
+class Dask:
+    """A scheduler on this machine, its workers, and the example over them, by the Python that has Dask."""
+
+    def __init__(self, python: str, room: Room) -> None:
+        self.python, self.room, self.workers, self.count = python, room, [], 0
+        self.file = room.path / "scheduler.json"
+        words = [*self.words("scheduler"), "--port", "0", "--scheduler-file", str(self.file)]
+        self.scheduler = room.start(words, "scheduler.log")
+        self.address = ""
+
+    def wait(self) -> None:
+        """Waits until the scheduler tells its address."""
+        waited("Dask's scheduler", self.file.exists)
+        self.address = json.loads(self.file.read_text())["address"]
+
+    def words(self, what: str) -> list[str]:
+        return [self.python, "-m", "distributed.cli.dask_" + what, "--host", "127.0.0.1", "--no-dashboard"]
+
+    def start_workers(self) -> None:
+        """Two workers, each of which is the process that was started."""
+        for _ in range(2):
+            self.count += 1
+            words = [self.address, "--no-nanny", "--nthreads", "1", "--local-directory", f"worker{self.count}"]
+            self.workers.append(self.room.start([*self.words("worker"), *words], "workers.log"))
+        asked = f"from dask.distributed import Client\nClient({self.address!r}).wait_for_workers(2, timeout={SECONDS})"
+        subprocess.run([self.python, "-c", asked], check=True, cwd=self.room.path)
+
+    def stop_workers(self) -> None:
+        for worker in self.workers:
+            worker.terminate()
+        for worker in self.workers:
+            worker.wait(SECONDS)
+        self.workers = []
+
+    def stop(self) -> None:
+        self.stop_workers()
+        self.scheduler.terminate()
+        self.scheduler.wait(SECONDS)
+
+    def example(self, parts: list[str | Path]) -> list[str]:
+        script = str(EXAMPLES / "over_dask.py")
+        return [self.python, script, "--scheduler", self.address, str(K), *[str(part) for part in parts]]
+
+
+def kill_a_worker(tally: programs.Tally, dask: Dask, held: str) -> None:
+    """A worker is killed while it runs this command on a part."""
+    room = dask.room
+    room.forget(f"held={held}")
+    dask.start_workers()
+    with open(room.path / "out", "wb") as out:
+        example = subprocess.Popen(dask.example(room.parts), env=room.env, cwd=room.path, stdout=out)
+    try:
+        waited(f"a worker that runs heavy {held}", (room.path / "holder").exists)
+        holder = int(*room.lines("holder"))
+        victims = [worker for worker in dask.workers if worker.pid == holder]
+        tally.check("a worker runs the program", len(victims) == 1, (holder, dask.workers))
+        for victim in victims:
+            victim.kill()
+            victim.wait(SECONDS)
+        (room.path / "gate").touch()
+        status = example.wait(SECONDS)
+    finally:
+        example.kill()
+        example.wait()
+    printed = (room.path / "out").read_bytes()
+    tally.check(f"a worker killed in {held}", (status, printed) == room.expected == room.report, (status, printed))
+    tally.check("its part is done again", room.times(held) > PARTS, room.lines("log"))
+    dask.stop_workers()
+
+
+def try_faults(tally: programs.Tally, dask: Dask) -> None:
+    """What is tried again, and what is told, where the program fails on a part."""
+    room = dask.room
+    dask.start_workers()
+    part = room.parts[3]
+    for status, command, once, times in [
+        (1, "summarise", True, 2), (4, "condense", True, 2), (1, "condense", False, 3), (4, "summarise", False, 3),
+        (2, "summarise", False, 1), (3, "summarise", False, 1), (3, "condense", False, 1),
+    ]:
+        room.forget(f'fails="{command} {quoted(part)}" status={status} once={"yes" if once else ""}')
+        ended = room.run(dask.example(room.parts))
+        case = f"status {status} of {command}, {'once' if once else 'each time'}"
+        if once:
+            tally.check(case, (ended.status, ended.out) == room.expected == room.report, ended)
+        else:
+            told = f"over_dask: {part}: status {status}: heavy: planted\n".encode()
+            tally.check(case, (ended.status, ended.out) == (status, b"") and told in ended.err, ended)
+        tally.check(f"{case}: tried {times} times", room.times(command, part) == times, room.lines("log"))
+    room.forget()
+    ended = room.run(dask.example([*room.parts, "/nowhere/part.csv"]))
+    told = b"over_dask: /nowhere/part.csv: status 1: [Errno 2]" in ended.err
+    tally.check("a part that isn't there", (ended.status, ended.out) == (1, b"") and told, ended)
+    places = [f"127.0.0.1:{part}" for part in room.parts]
+    ended = room.run(dask.example(places))
+    tally.check("parts at an address", (ended.status, ended.out) == room.expected == room.report, ended)
+    room.forget()
+    example = subprocess.Popen(dask.example([*room.parts[1:], f"10.0.0.9:{room.parts[0]}"]), env=room.env, cwd=room.path)
+    try:
+        waited("the other parts", lambda: room.times("summarise") == PARTS - 1)
+        time.sleep(0.5)
+        waits = example.poll() is None and room.times("summarise", room.parts[0]) == 0
+        tally.check("a part waits for a worker at its address", waits, room.lines("log"))
+    finally:
+        example.kill()
+        example.wait()
+    dask.stop_workers()
+
+
+def try_alone(tally: programs.Tally, python: str, room: Room) -> None:
+    """The example without a scheduler, and a summary that isn't the one of all parts."""
+    room.forget()
+    script = EXAMPLES / "over_dask.py"
+    ended = room.run([python, script, str(K), *room.parts, room.fed])
+    tally.check("over Dask on one machine", (ended.status, ended.out) == room.expected_fed, ended)
+    asked = f"import over_dask\nover_dask.condense('p', {str(room.parts[0])!r}, b'this', over_dask.checksum(b'that'))"
+    ended = programs.run([python, "-c", asked], env=room.env, cwd=EXAMPLES)
+    tally.check("another summary", ended.status != 0 and b"Fault: p: status 3: the merged summary is another" in ended.err, ended)
+    tally.check("is not condensed by", room.times("condense") == PARTS + 1, room.lines("log"))
+
+
+def with_dask() -> str | None:
+    """A Python that has Dask's scheduler: this one, or that of the system, for which Debian packs it."""
+    for python in (sys.executable, "/usr/bin/python3"):
+        if shutil.which(python) and subprocess.run([python, "-c", "import distributed"], capture_output=True).returncode == 0:
+            return python
+    return None
+
+
+def main() -> None:
+    seed = int(sys.argv[1]) if len(sys.argv) > 1 else random.randrange(2**30)
+    print(f"engines: seed {seed}", flush=True)
+    tally, python = programs.Tally(), with_dask()
+    with tempfile.TemporaryDirectory() as folder:
+        room = Room(folder, seed)
+        tally.check("the report", room.report == room.expected != room.expected_fed, room.report)
+        if shutil.which("parallel"):
+            try_parallel(tally, room)
+        else:
+            print("engines: the scripts over GNU parallel are left out, for want of parallel", flush=True)
+        if python:
+            try_alone(tally, python, room)
+            dask = Dask(python, room)
+            try:
+                dask.wait()
+                kill_a_worker(tally, dask, "summarise")
+                kill_a_worker(tally, dask, "condense")
+                try_faults(tally, dask)
+            finally:
+                dask.stop()
+        else:
+            print("engines: the script over Dask is left out, for want of python3-distributed", flush=True)
+    tally.end("engines")
+
+
+if __name__ == "__main__":
+    main()

@@ -1,0 +1,126 @@
+"""What include/heavy.h has to say, as a file of C that compiles only where it does: numbers, structures and calls,
+taken from the definitions and the signatures that are proved (crates/heavy_ffi and what it stands on)."""
+import re
+import subprocess
+from pathlib import Path
+
+import programs
+
+CRATES = programs.TOP / "crates"
+FFI = CRATES / "heavy_ffi"
+# The definitions that give numbers, and how the header's names for them begin.
+GROUPS = {"kind_of": "", "record_cause": "RECORD_", "file_cause": "FILE_", "merge_cause": "MERGE_", "key_cause": "KEY_"}
+# Faults that no call has: of options that only the program's `report` has, and of devices; and want of memory has a kind.
+NOT_FOR_C = {
+    "HEAVY_BAD_WORKERS", "HEAVY_BAD_PIECES", "HEAVY_BAD_TREE", "HEAVY_BAD_THRESHOLD", "HEAVY_READ_FAULT",
+    "HEAVY_WRITE_FAULT", "HEAVY_FILE_FAULT", "HEAVY_FILE_MEMORY",
+}
+# The faults whose statuses have names.
+STATUSES = {"DEVICE": "ReadFault", "USAGE": "BadK", "REFUSED": "BadRecord", "MEMORY": "Memory"}
+STRUCTURES = {
+    "heavy_fault": (FFI / "src" / "fault.rt", "Fault"),
+    "heavy_bounds": (FFI / "src" / "room.rt", "Bounds"),
+    "heavy_entry": (CRATES / "hh_saved" / "src" / "layout.rt", "Place"),
+}
+TYPES = {"u8": "uint8_t", "u32": "uint32_t", "u64": "uint64_t", "usize": "size_t"}
+TYPES.update({name: f"struct {words}" for words, (_, name) in STRUCTURES.items()})
+SIZES = {"u32": 4, "u64": 8, "usize": 8}
+# The toolchain's clang has no headers.
+STDINT = "typedef __UINT8_TYPE__ uint8_t;\ntypedef __UINT32_TYPE__ uint32_t;\ntypedef __UINT64_TYPE__ uint64_t;\n"
+STDDEF = "typedef __SIZE_TYPE__ size_t;\n#define offsetof(type, field) __builtin_offsetof(type, field)\n"
+
+
+def words_of(name: str) -> str:
+    """TotalTooLarge as TOTAL_TOO_LARGE."""
+    return re.sub(r"(?<!^)(?=[A-Z])", "_", name).upper()
+
+
+def found(pattern: str, file: Path) -> str:
+    """What stands once in a file."""
+    (only,) = re.findall(pattern, file.read_text(), re.M)
+    return only
+
+
+def numbers() -> dict[str, int]:
+    """The header's constants, by name."""
+    made = {}
+    specs = (FFI / "specs" / "Faults.antt").read_text()
+    for group, variant, number in re.findall(r"^(\w+) \(?\w+\.(\w+)[^=\n]*= (\d+)$", specs, re.M):
+        if group in GROUPS:
+            name = "NO_MEMORY" if (group, variant) == ("kind_of", "Memory") else words_of(variant)
+            made[f"HEAVY_{GROUPS[group]}{name}"] = int(number)
+    for name, fault in STATUSES.items():
+        status = found(rf"^status_of \(?tool\.{fault}\b[^=\n]*= (\d)$", CRATES / "heavy" / "specs" / "Status.antt")
+        made[f"HEAVY_{name}"] = int(status)
+    for name in ("DONE", "TOO_SMALL"):
+        made[f"HEAVY_{name}"] = int(found(rf"^pub\(crate\) const {name}: u32 = (\d);$", FFI / "src" / "room.rt"))
+    for number, method in re.findall(r"^        (\d) => Method::(\w+),$", (FFI / "src" / "lib.rt").read_text(), re.M):
+        made[f"HEAVY_{words_of(method)}"] = int(number)
+    made["HEAVY_VERSION"] = int(found(r"^const VERSION: u32 = (\d+);$", FFI / "src" / "lib.rt"))
+    made["HEAVY_MAX_KEY"] = int(found(r"^max_key_len = (\d+)$", CRATES / "hh_stream" / "specs" / "Weights.antt"))
+    made["HEAVY_MAX_K"] = int(found(r"^max_k = (\d+)$", CRATES / "hh_counters" / "specs" / "Counters.antt"))
+    return {name: number for name, number in made.items() if name not in NOT_FOR_C}
+
+
+def sizes() -> list[str]:
+    """The macros that tell how much room is enough are the definitions' terms, at some numbers."""
+    specs = CRATES / "hh_saved" / "specs" / "Sizes.antt"
+    summary = found(r"^most_summary_bytes k m = ([\dkm +*()]+)$", specs)
+    table = found(r"^table_bytes width depth = ([\dwidthepth +*()]+)$", specs)
+    lines = []
+    for k, m in ((1, 1), (100, 39), (65535, 4096)):
+        lines.append(f"_Static_assert(HEAVY_SUMMARY_ROOM({k}, {m}) == {eval(summary, {'k': k, 'm': m})}, \"\");")
+    for width, depth in ((1, 1), (1024, 4), (65536, 16)):
+        size = eval(table, {"width": width, "depth": depth})
+        lines.append(f'_Static_assert(HEAVY_TABLE_ROOM({width}, {depth}) == {size}, "");')
+    return lines
+
+
+def structures() -> list[str]:
+    """Each structure has the fields of the library's, at their places."""
+    lines = []
+    for name, (file, struct) in STRUCTURES.items():
+        body = found(rf"^#\[repr\(C\)\]\npub struct {struct} \{{\n([^}}]*)\}}$", file)
+        at = 0
+        for field, kind in re.findall(r"pub (\w+): (\w+),", body):
+            at += -at % SIZES[kind]
+            lines.append(f'_Static_assert(offsetof(struct {name}, {field}) == {at}, "");')
+            lines.append(f'_Static_assert(_Generic(((struct {name} *)0)->{field}, {TYPES[kind]}: 1, default: 0), "");')
+            at += SIZES[kind]
+        lines.append(f'_Static_assert(sizeof(struct {name}) == {at + -at % 8}, "");')
+    return lines
+
+
+def parameter(kind: str) -> str:
+    """A parameter of a signature as C has it; a slice is a pointer and a length."""
+    if kind in TYPES:
+        return TYPES[kind]
+    lent, element = re.fullmatch(r"&(mut )?(\[\w+\]|\w+)", kind).groups()
+    pointer = f"{'' if lent else 'const '}{TYPES[element.strip('[]')]} *"
+    return f"{pointer}, size_t" if element.startswith("[") else pointer
+
+
+def calls() -> dict[str, str]:
+    """The declaration of each call, by name."""
+    made = {}
+    source = (FFI / "src" / "lib.rt").read_text()
+    for name, words in re.findall(r'^pub extern "C" fn (\w+)\(([^)]*)\) -> u32$', source, re.M):
+        kinds = [kind for kind in re.findall(r"\w+: ([^,]+)", words) if kind != "Global"]
+        made[name] = f"uint32_t {name}({', '.join(map(parameter, kinds)) or 'void'});"
+    return made
+
+
+def asserts() -> str:
+    """The file of C. A call that is declared in another way than in the header doesn't compile."""
+    lines = ['#include "heavy.h"', *calls().values(), *structures(), *sizes()]
+    lines += [f'_Static_assert({name} == {number}u, "{name}");' for name, number in numbers().items()]
+    return "\n".join(lines) + "\n"
+
+
+def compiles(header: str, room: str) -> tuple[bool, str]:
+    """Whether this header says what it has to, and else what the toolchain's clang says."""
+    for name, text in (("heavy.h", header), ("stdint.h", STDINT), ("stddef.h", STDDEF), ("asserts.c", asserts())):
+        Path(room, name).write_text(text)
+    words = [programs.clang(), "-std=c11", "-Wall", "-Werror", "-nostdinc", f"-I{room}", "-fsyntax-only"]
+    ran = subprocess.run([*words, f"{room}/asserts.c"], capture_output=True, text=True)
+    return ran.returncode == 0, ran.stderr
