@@ -10,7 +10,6 @@ ghost use Rattle.heavy.specs.Rows.{IsBetweenRows};
 
 use crate::error::{KeyCause, ToolError};
 use crate::files::file_of;
-use crate::keys::key_of;
 use csv::{Writer, WriterBuilder};
 use hh_saved::Saved;
 use hh_stream::{Key, MAX_KEY_LEN};
@@ -90,7 +89,7 @@ fn answers_text(alloc: Global, saved: &Saved, words: &[Vec<u8>]) -> Result<Vec<u
 {
     let mut writer = WriterBuilder::new().from_writer(Vec::new(alloc));
     for word in words {
-        let key = key_of(alloc, word)?;
+        let key = Key::of_bytes(alloc, word)?;
         write_answer(&mut writer, saved, &key)?;
     }
     match writer.into_inner() {
@@ -137,7 +136,7 @@ fn answers_of(
 {
     let mut answers = Vec::new(alloc);
     for word in words {
-        let key = key_of(alloc, word)?;
+        let key = Key::of_bytes(alloc, word)?;
         answers.push(answer_of(saved, &key))?;
     }
     Ok(answers)
@@ -180,7 +179,7 @@ pub fn ask_key(alloc: Global, file: &[u8], key: &[u8]) -> Result<(u64, u64), Too
         Ok(()) => {}
         Err(fault) => return Err(fault),
     }
-    let Ok(key) = key_of(alloc, key) else {
+    let Ok(key) = Key::of_bytes(alloc, key) else {
         return Err(ToolError::Memory);
     };
     Ok(answer_of(&saved, &key))

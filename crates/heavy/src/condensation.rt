@@ -11,7 +11,6 @@ ghost use Rattle.heavy.specs.Streams.{ReadsAs};
 
 use crate::counts::Counts;
 use crate::error::ToolError;
-use crate::keys::key_of;
 use crate::records::read_items;
 use crate::report::read_fault;
 use crate::taking::TakeItems;
@@ -31,7 +30,7 @@ fn other_name(alloc: Global, number: u64) -> Result<Key, AllocError>
         let mut digits = Buffer::new();
         name.extend_from_slice(digits.format(number).as_bytes())?;
     }
-    key_of(alloc, name.as_slice())
+    Key::of_bytes(alloc, name.as_slice())
 }
 
 /// The first of the names `others`, `others1`, `others2` and so on that has no counter.

@@ -7,7 +7,6 @@ mod confirmation;
 mod counts;
 mod error;
 mod files;
-mod keys;
 pub mod laws;
 mod merge;
 mod records;

@@ -6,12 +6,11 @@ ghost use Rattle.hh_counters.specs.Counters.{sketch_of};
 ghost use Rattle.hh_countmin.specs.Table.{table_of};
 ghost use Rattle.heavy.specs.Taking.{IsMonitorOf};
 
-use crate::keys::key_of;
 use hh_counters::laws::summaries_follow_items;
 use hh_counters::{AddFault, GatheredSaving, Monitor, Summary};
 use hh_countmin::Table;
 use hh_countmin::laws::tables_follow_items;
-use hh_stream::{PushFault, Stream};
+use hh_stream::{Key, PushFault, Stream};
 use std::alloc::{AllocError, Global};
 
 /// What items are taken into, one after the other: a stream keeps them all, and others keep less.
@@ -47,7 +46,7 @@ impl TakeItems for Stream {
     }
 
     fn take(&mut self, alloc: Global, key: &[u8], weight: u64) -> Result<(), AllocError> {
-        match self.push(key_of(alloc, key)?, weight) {
+        match self.push(Key::of_bytes(alloc, key)?, weight) {
             Ok(()) => Ok(()),
             Err(refused) => match refused.fault {
                 PushFault::ZeroWeight => unreachable!(),
@@ -88,7 +87,7 @@ impl TakeItems for GatheredSaving {
 
     fn take(&mut self, alloc: Global, key: &[u8], weight: u64) -> Result<(), AllocError> {
         summaries_follow_items();
-        match self.add(&key_of(alloc, key)?, weight) {
+        match self.add(&Key::of_bytes(alloc, key)?, weight) {
             Ok(()) => Ok(()),
             Err(AddFault::TotalTooLarge) => unreachable!(),
             Err(AddFault::Memory) => Err(AllocError),

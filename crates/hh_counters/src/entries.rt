@@ -8,7 +8,7 @@ ghost use Rattle.std.specs.declared.cmp.Ordering.TheVariants.{Less, Equal, Great
 ghost use Rattle.hh_stream.specs.Weights.{Entry, key_cmp, max_key_len, weight_of, total_of};
 ghost use Rattle.hh_counters.specs.Counters.{IsCounters, lower, less_by, level, least_counter as least_counter_of, add_at, plus, join};
 
-use hh_stream::{Key, KeyFault};
+use hh_stream::Key;
 use std::alloc::{AllocError, Global};
 use std::cmp::Ordering;
 
@@ -124,18 +124,6 @@ pub fn level_of(alloc: Global, entries: &[(Key, u64)], k: usize) -> Result<u64, 
     Ok(*level)
 }
 
-// The key with these bytes.
-fn key_of(alloc: Global, bytes: &[u8]) -> Result<Key, AllocError>
-    requires { (0 < length bytes.now) × (length bytes.now ≤ max_key_len) }
-    ensures { IfOk result (λ key. key ≡ bytes.now) }
-{
-    match Key::new(alloc, bytes) {
-        Ok(key) => Ok(key),
-        Err(KeyFault::Memory) => Err(AllocError),
-        Err(KeyFault::Empty | KeyFault::TooLong) => unreachable!(),
-    }
-}
-
 /// Adds to the key's counter, which is 0 where there is none.
 pub fn add_entry(entries: &mut Vec<(Key, u64)>, key: &[u8], weight: u64) -> Result<(), AllocError>
     requires key { (0 < length key.now) × (length key.now ≤ max_key_len) }
@@ -154,7 +142,7 @@ pub fn add_entry(entries: &mut Vec<(Key, u64)>, key: &[u8], weight: u64) -> Resu
             Ok(())
         }
         Err(place) => {
-            let key = key_of(*entries.allocator(), key)?;
+            let key = Key::of_bytes(*entries.allocator(), key)?;
             Ok(entries.insert(place, (key, weight))?)
         }
     }

@@ -13,7 +13,7 @@ abbrev pub max_key_len : ℕ
 max_key_len = 4096
 
 abbrev pub inline_len : ℕ
-inline_len = 30
+inline_len = 24
 
 abbrev pub max_total : ℕ
 max_total = 9223372036854775807

@@ -18,7 +18,7 @@ use std::marker::Model;
 pub const MAX_KEY_LEN: usize = 4096;
 
 /// The most bytes of a key that takes no memory of its own.
-pub const INLINE_LEN: usize = 30;
+pub const INLINE_LEN: usize = 24;
 
 /// A key: 1 to [`MAX_KEY_LEN`] bytes. Keys are equal, ordered and hashed by their bytes, and a proper
 /// prefix stands before the longer key. A hash takes the bytes alone and no length, so two keys that
@@ -78,17 +78,26 @@ impl Key {
         if bytes.len() > MAX_KEY_LEN {
             return Err(KeyFault::TooLong);
         }
-        if bytes.len() <= INLINE_LEN {
-            return Ok(Key {
-                storage: inline(bytes),
-            });
+        match Key::of_bytes(alloc, bytes) {
+            Ok(key) => Ok(key),
+            Err(AllocError) => Err(KeyFault::Memory),
         }
-        match Vec::from_slice(alloc, bytes) {
-            Ok(bytes) => Ok(Key {
-                storage: Storage::Heap(bytes),
-            }),
-            Err(_) => Err(KeyFault::Memory),
-        }
+    }
+
+    /// [`new`](Key::new) of 1 to [`MAX_KEY_LEN`] bytes, where only memory can be refused.
+    pub fn of_bytes(alloc: Global, bytes: &[u8]) -> Result<Key, AllocError>
+        requires { (0 < length bytes.now) × (length bytes.now ≤ max_key_len) }
+        ensures key { IfOk result (λ key. key ≡ bytes.now) }
+
+        // a short key takes no memory
+        ensures short { length bytes.now ≤ inline_len → IsOk result }
+    {
+        let storage = if bytes.len() <= INLINE_LEN {
+            inline(bytes)
+        } else {
+            Storage::Heap(Vec::from_slice(alloc, bytes)?)
+        };
+        Ok(Key { storage })
     }
 
     /// The bytes of the key.

@@ -28,7 +28,7 @@ returns-in_ok-insert-in-Err-clause-ok c =
     let items = c.args.entries.now.items in
     let gap = subst (IsGap c.args.key.now c.in-Err.place) c.deref.ensures.value c.in-Err.ensures.absent in
     c.in_ok-insert-in-Err.ensures.items
-    ∙ ap (λ (k : Bytes). insert items c.in-Err.place (k, c.args.weight)) c.in_ok-key-in-Err.ensures
+    ∙ ap (λ (k : Bytes). insert items c.in-Err.place (k, c.args.weight)) c.in_ok-key-in-Err.ensures.key
     ∙ insert_is_add_at items c.in-Err.place (c.args.key.now, c.args.weight) gap.0 gap.1 gap.2
 
 pub returns-in_err-key-in-Err-clause-known : goal.returns-in_err-key-in-Err-clause-known
