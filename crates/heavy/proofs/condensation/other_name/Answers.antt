@@ -14,4 +14,4 @@ returns c =
           (numbered_name c.args.number w.if-number-gt0.true c.ranges.number.fits)
       | else-number-gt0 w ↦ rw (w.name-is, c.in_ok-name.ensures.items) (plain_name c.args.number w.if-number-gt0.false)
     ] in
-    subst (λ (bytes : Bytes). IfOk c.key_of.result (λ key. key ≡ bytes)) name c.key_of.ensures
+    subst (λ (bytes : Bytes). IfOk c.of_bytes.result (λ key. key ≡ bytes)) name c.of_bytes.ensures.key
