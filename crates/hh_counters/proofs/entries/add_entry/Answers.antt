@@ -4,16 +4,8 @@ use Rattle.std.specs.List.{insert, AllWithin}
 use Rattle.std.specs.declared.cmp.Ordering.TheVariants.{Less}
 use Rattle.hh_stream.specs.Weights.{Bytes, Entry, key_cmp, weight_of}
 use Rattle.hh_counters.specs.Counters.{Counters}
-use Rattle.hh_counters.proofs.Places.{set_is_add_at, insert_is_add_at, weight_absent}
+use Rattle.hh_counters.proofs.Places.{IsGap, set_is_add_at, insert_is_add_at, not_known}
 use Rattle.hh_counters.proofs.entries.add_entry.Goals as goal
-
--- each key is below or above, at the place where it would go
-abbrev IsGap : Bytes → ℕ → Counters → Type 0
-IsGap key i d = (i ≤ length d) × AllWithin (λ (e : Entry). key_cmp e.0 key ≡ Less) d 0 i × AllWithin (λ (e : Entry). key_cmp key e.0 ≡ Less) d i (length d)
-
--- there is no counter then
-not_known : (items : Counters) (i : ℕ) (key : Bytes) → IsGap key i items → 0 < weight_of key items → ⊥
-not_known items i key gap known = omega (arith, weight_absent items i key gap.1 gap.2)
 
 pub returns-in-Ok-clause-ok : goal.returns-in-Ok-clause-ok
 returns-in-Ok-clause-ok c =
