@@ -1,12 +1,12 @@
 //! Work on lists of keys with counters, by rising key.
 
-ghost use Rattle.std.specs.Prelude.{◌≡◌, ℕ, ◌+◌, ◌<◌, ◌≤◌, ◌^◌, ◌↔◌, ◌-◌, [], ◌∷◌, ◌++◌, map, All, OnOk, OnErr, IsOk, IsTrue, IfOk, IfErr, length, HoldsAt, slice_index_or};
+ghost use Rattle.std.specs.Prelude.{◌≡◌, ℕ, ◌+◌, ◌<◌, ◌≤◌, ◌^◌, ◌↔◌, [], ◌∷◌, ◌++◌, OnOk, OnErr, IsOk, IsTrue, IfOk, IfErr, length, HoldsAt, slice_index_or};
 ghost use Rattle.std.specs.List.{AllWithin, insert};
 ghost use Rattle.std.specs.List.Sorted.{IsStrictlySortedBy};
 ghost use Rattle.std.specs.Map.{keys_of};
 ghost use Rattle.std.specs.declared.cmp.Ordering.TheVariants.{Less, Equal, Greater};
 ghost use Rattle.hh_stream.specs.Weights.{Bytes, Entry, key_cmp, max_key_len, weight_of, total_of};
-ghost use Rattle.hh_counters.specs.Counters.{IsCounters, lower, less_by, level, least_counter as least_counter_of, add_at, plus, join};
+ghost use Rattle.hh_counters.specs.Counters.{IsCounters, lower, level, least_counter as least_counter_of, add_at, plus, join};
 
 use hh_stream::Key;
 use std::alloc::{AllocError, Global};
@@ -53,18 +53,11 @@ pub fn sum_of(entries: &[(Key, u64)]) -> u64
 pub fn lower_all(entries: &mut Vec<(Key, u64)>, t: u64)
     ensures { entries.new.items ≡ lower t entries.old.items }
 {
-    entries.retain(|e| e.1 > t);
-    take_from_each(entries, t);
-}
-
-// Takes t from each counter.
-fn take_from_each(entries: &mut [(Key, u64)], t: u64)
-    requires { All (λ (e : Entry). t < e.1) entries.old }
-    ensures { entries.new ≡ map (less_by t) entries.old }
-{
-    for entry in entries.iter_mut() {
-        entry.1 -= t;
-    }
+    entries.retain_mut(|entry| {
+        let is_above = entry.1 > t;
+        entry.1 = entry.1.saturating_sub(t);
+        is_above
+    });
 }
 
 /// Whether the keys rise and each counter is at least 1.

@@ -3,7 +3,7 @@ use Rattle.std.specs.Prelude.{slice_set, slice_index_or}
 use Rattle.std.specs.List.{insert}
 use Rattle.std.proofs.lemmas.List.{length-set}
 use Rattle.std.proofs.lemmas.List.Edits.{length-insert}
-use Rattle.hh_stream.specs.Weights.{Bytes, Entry}
+use Rattle.hh_stream.specs.Weights.{Entry}
 use Rattle.hh_counters.specs.Counters.{Counters, lower, least_counter, add_at, join}
 use Rattle.hh_counters.proofs.Places.{IsGap, insert_is_add_at, set_is_add_at, not_known}
 use Rattle.hh_counters.proofs.Summaries.{join_full, join_room, lower-insert}
@@ -18,8 +18,8 @@ returns-in-Ok-clause-joined c =
     let entry : Entry = c.index_mut.result.now in
     let found = subst (λ (d : Counters). (i < length d) × ((e : Entry) → (slice_index_or d i e).0 ≡ item.0)) c.deref.ensures.value c.in-Ok.ensures.found in
     let raised : slice_set items i (entry.0, entry.1 + item.1) ≡ add_at items item =
-        ap (λ (e : Entry). slice_set items i (e.0, e.1 + item.1)) c.index_mut.ensures.value
-        ∙ set_is_add_at items i entry item c.requires.counters.rising found.0 (found.1 entry) in
+    ap (λ (e : Entry). slice_set items i (e.0, e.1 + item.1)) c.index_mut.ensures.value
+    ∙ set_is_add_at items i entry item c.requires.counters.rising found.0 (found.1 entry) in
     let few : length (add_at items item) ≤ c.args.k = omega (arith, ap length raised, length-set items i (entry.0, entry.1 + item.1), c.requires.few) in
     raised ∙ sym (join_room items item c.args.k c.requires.counters c.requires.positive few)
 
@@ -54,8 +54,8 @@ returns-clause-joined c =
     let t = c.least_with-level.result in
     let least : t ≡ least_counter (item ∷ items) = c.least_with-level.ensures c.args.key.now ∙ ap (λ (d : Counters). least_counter (item ∷ d)) c.deref-2.ensures.value in
     let left : lower t c.if-level-weight.entries.items ≡ lower t (insert items i item) =
-        elim c.if-level-weight.branch [
-          | then-level-weight+in_ok-insert_entry w ↦ rw (w.entries-is, w.in_ok-insert_entry.ensures.ok) refl
-          | else-level-weight w ↦ rw (w.entries-is) (sym (lower-insert t items i item gap.0 w.if-level-weight.false))
-        ] in
+    elim c.if-level-weight.branch [
+      | then-level-weight+in_ok-insert_entry w ↦ rw (w.entries-is, w.in_ok-insert_entry.ensures.ok) refl
+      | else-level-weight w ↦ rw (w.entries-is) (sym (lower-insert t items i item gap.0 w.if-level-weight.false))
+    ] in
     c.lower_all.ensures ∙ left ∙ ap (λ n. lower n (insert items i item)) least ∙ sym (join_full items i item c.args.k c.requires.counters gap.0 full (insert_is_add_at items i item gap.0 gap.1 gap.2))
