@@ -50,6 +50,10 @@ weight_at (f ∷ c) (suc i) d key h l e =
     let below : key_cmp f.0 key ≡ Less = sym (ap (key_cmp f.0) e) ∙ above_at f.0 c i d h.0 (omega arith) in
     omega (arith, weight_of-cons key f c, at_other key f Greater (flipped f.0 key Less below) refl, weight_at c i d key h.1 (omega arith) e)
 
+-- each key is below or above, at the place where the key would go
+abbrev pub IsGap : Bytes → ℕ → Counters → Type 0
+IsGap key i c = (i ≤ length c) × AllWithin (λ (e : Entry). key_cmp e.0 key ≡ Less) c 0 i × AllWithin (λ (e : Entry). key_cmp key e.0 ≡ Less) c i (length c)
+
 -- no counter where each key is below or above
 pub weight_absent : (c : Counters) (i : ℕ) (key : Bytes) → AllWithin (λ (e : Entry). key_cmp e.0 key ≡ Less) c 0 i → AllWithin (λ (e : Entry). key_cmp key e.0 ≡ Less) c i (length c) → 0 ≡ weight_of key c
 weight_absent [] i key b a = refl
@@ -58,7 +62,12 @@ weight_absent (f ∷ c) zero key b a =
 weight_absent (f ∷ c) (suc i) key b a =
     omega (arith, weight_of-cons key f c, at_other key f Greater (flipped f.0 key Less (b 0 f (omega arith) (omega arith))) refl, weight_absent c i key (λ k d l m. b (suc k) d (omega arith) (omega arith)) (λ k d l m. a (suc k) d (omega arith) (omega arith)))
 
+-- so the key is none of those that have a counter
+pub not_known : (c : Counters) (i : ℕ) (key : Bytes) → IsGap key i c → 0 < weight_of key c → ⊥
+not_known c i key gap known = omega (arith, weight_absent c i key gap.1 gap.2)
+
 -- ---- edits
+-- a newcomer goes to its gap
 pub insert_is_add_at : (c : Counters) (i : ℕ) (e : Entry) → i ≤ length c → AllWithin (λ (d : Entry). key_cmp d.0 e.0 ≡ Less) c 0 i → AllWithin (λ (d : Entry). key_cmp e.0 d.0 ≡ Less) c i (length c) → insert c i e ≡ add_at c e
 insert_is_add_at [] zero e l b a = refl
 insert_is_add_at [] (suc i) e l b a = absurd (omega arith)

@@ -1,7 +1,7 @@
 -- The counters of a stream, and of two summaries joined, are honest.
 use Rattle.std.proofs.Common.{◌≡◌, ℕ, zero, suc, ◌+◌, ◌-◌, ◌*◌, ◌<◌, ◌≤◌, List, [], ◌∷◌, ◌++◌, ◌^◌, Less, Equal, Greater, true, cond, map, length, take, get_or, refl, sym, ap, ◌∙◌, subst, append_assoc, append-nil, mul-add, mul_comm, mul-le-mul_left, mul-zero, add-one, arith}
 use Rattle.std.specs.Prelude.{fold, filter, nat_lt, replicate, IsPermutation}
-use Rattle.std.specs.List.{AllByRecursion}
+use Rattle.std.specs.List.{AllByRecursion, insert}
 use Rattle.std.specs.Ordering.{match_ordering}
 use Rattle.std.proofs.lemmas.Bool.Decides.{nat_tests}
 use Rattle.std.proofs.lemmas.List.{take_more, length-replicate}
@@ -9,9 +9,9 @@ use Rattle.std.proofs.lemmas.List.Sorted.{sum_by-IsPermutation}
 use Rattle.std.proofs.lemmas.List.Sums.{fold_push}
 use Rattle.std.specs.List.Sorted.{IsStrictlySortedBy}
 use Rattle.hh_stream.specs.Weights.{Bytes, Entry, key_cmp, at_key, weight_of, total_of}
-use Rattle.hh_counters.specs.Counters.{Counters, IsCounters, add_at, exceeds, less_by, over, IsLevel, level, lower, plus, join, misra_gries, IsHonest, Fits, added, sketch_of}
+use Rattle.hh_counters.specs.Counters.{Counters, IsCounters, add_at, exceeds, less_by, over, IsLevel, level, lower, least_counter, plus, join, misra_gries, IsHonest, Fits, added, sketch_of}
 use Rattle.hh_counters.proofs.Weights.{plus_is_fold, positive-add_at, key_exact, at_other, weight_of-cons, weight_of-append, total_of-append, rising-tally, weight_of-plus, total_of-plus}
-use Rattle.hh_counters.proofs.Level.{is_level, level_few, length-lower, weight_of-lower, total_of-lower, total_of-lower-le, counters-lower}
+use Rattle.hh_counters.proofs.Level.{over-cons, is_level, one_level, level_one_more, level_few, lower-cons, by_lower, length-lower, weight_of-lower, total_of-lower, total_of-lower-le, counters-lower}
 
 -- ---- a join
 pub counters-join : (c d : Counters) (k : ℕ) → IsCounters (join c d k)
@@ -177,3 +177,31 @@ length-add_at (d ∷ c) e = elim (key_cmp e.0 d.0) as (λ r. length (match_order
   | Equal ↦ omega arith
   | Greater ↦ omega (arith, length-add_at c e)
 ]
+
+-- ---- a newcomer at its place
+over-insert : (c : Counters) (i : ℕ) (e : Entry) (t : ℕ) → i ≤ length c → over (insert c i e) t ≡ over (e ∷ c) t
+over-insert c zero e t l = refl
+over-insert [] (suc i) e t l = absurd (omega arith)
+over-insert (f ∷ c) (suc i) e t l =
+    omega (arith, over-cons f (insert c i e) t, over-insert c i e t (omega arith), over-cons e (f ∷ c) t, over-cons f c t, over-cons e c t)
+
+-- what is not above the level goes, so it need not have come
+pub lower-insert : (t : ℕ) (c : Counters) (i : ℕ) (e : Entry) → i ≤ length c → e.1 ≤ t → lower t (insert c i e) ≡ lower t c
+lower-insert t c zero e l h = by_lower (λ d. d ≡ lower t c) t e c (λ m. absurd (omega arith)) (λ m. refl)
+lower-insert t [] (suc i) e l h = absurd (omega arith)
+lower-insert t (f ∷ c) (suc i) e l h =
+    lower-cons t f (insert c i e)
+    ∙ ap (λ d. cond (nat_lt t f.1) ((f.0, f.1 - t) ∷ d) d) (lower-insert t c i e (omega arith) h)
+    ∙ sym (lower-cons t f c)
+
+-- where a newcomer makes k + 1 counters, the least of all is taken from each
+pub join_full : (c : Counters) (i : ℕ) (e : Entry) (k : ℕ) → IsCounters c → i ≤ length c → length c ≡ k → insert c i e ≡ add_at c e → join c (e ∷ []) k ≡ lower (least_counter (e ∷ c)) (insert c i e)
+join_full c i e k h l full is =
+    let top = is_level (e ∷ c) k in
+    let same : IsLevel (insert c i e) k (level (e ∷ c) k) = record {
+      at_most = omega (arith, top.at_most, over-insert c i e (level (e ∷ c) k) l);
+      least = λ s few. top.least s (omega (arith, few, over-insert c i e s l));
+    } in
+    join_one c e k h
+    ∙ ap (λ d. lower (level d k) d) (sym is)
+    ∙ ap (λ t. lower t (insert c i e)) (one_level (insert c i e) k _ _ (is_level (insert c i e) k) same ∙ level_one_more (e ∷ c) k (omega arith))

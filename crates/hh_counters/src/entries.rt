@@ -1,12 +1,12 @@
 //! Work on lists of keys with counters, by rising key.
 
-ghost use Rattle.std.specs.Prelude.{◌≡◌, ℕ, ◌+◌, ◌<◌, ◌≤◌, ◌^◌, ◌↔◌, ◌-◌, [], ◌∷◌, ◌++◌, map, All, OnOk, OnErr, IsOk, IsTrue, IfOk, IfErr, length, HoldsAt, slice_index_or};
-ghost use Rattle.std.specs.List.{AllWithin};
+ghost use Rattle.std.specs.Prelude.{◌≡◌, ℕ, ◌+◌, ◌<◌, ◌≤◌, ◌^◌, ◌↔◌, [], ◌∷◌, ◌++◌, OnOk, OnErr, IsOk, IsTrue, IfOk, IfErr, length, HoldsAt, slice_index_or};
+ghost use Rattle.std.specs.List.{AllWithin, insert};
 ghost use Rattle.std.specs.List.Sorted.{IsStrictlySortedBy};
 ghost use Rattle.std.specs.Map.{keys_of};
 ghost use Rattle.std.specs.declared.cmp.Ordering.TheVariants.{Less, Equal, Greater};
-ghost use Rattle.hh_stream.specs.Weights.{Entry, key_cmp, max_key_len, weight_of, total_of};
-ghost use Rattle.hh_counters.specs.Counters.{IsCounters, lower, less_by, level, least_counter as least_counter_of, add_at, plus, join};
+ghost use Rattle.hh_stream.specs.Weights.{Bytes, Entry, key_cmp, max_key_len, weight_of, total_of};
+ghost use Rattle.hh_counters.specs.Counters.{IsCounters, lower, level, least_counter as least_counter_of, add_at, plus, join};
 
 use hh_stream::Key;
 use std::alloc::{AllocError, Global};
@@ -53,18 +53,11 @@ pub fn sum_of(entries: &[(Key, u64)]) -> u64
 pub fn lower_all(entries: &mut Vec<(Key, u64)>, t: u64)
     ensures { entries.new.items ≡ lower t entries.old.items }
 {
-    entries.retain(|e| e.1 > t);
-    take_from_each(entries, t);
-}
-
-// Takes t from each counter.
-fn take_from_each(entries: &mut [(Key, u64)], t: u64)
-    requires { All (λ (e : Entry). t < e.1) entries.old }
-    ensures { entries.new ≡ map (less_by t) entries.old }
-{
-    for entry in entries.iter_mut() {
-        entry.1 -= t;
-    }
+    entries.retain_mut(|entry| {
+        let is_above = entry.1 > t;
+        entry.1 = entry.1.saturating_sub(t);
+        is_above
+    });
 }
 
 /// Whether the keys rise and each counter is at least 1.
@@ -101,11 +94,18 @@ pub fn sums_within(entries: &[(Key, u64)], total: u64) -> bool
 pub fn least_counter(entries: &[(Key, u64)]) -> u64
     ensures { result ≡ least_counter_of entries.now }
 {
-    let Some((first, others)) = entries.split_first() else {
-        return 0;
-    };
-    let mut least = first.1;
-    for entry in others {
+    match entries.split_first() {
+        Some((first, others)) => least_with(first.1, others),
+        None => 0,
+    }
+}
+
+// The least of this number and the counters.
+fn least_with(number: u64, entries: &[(Key, u64)]) -> u64
+    ensures { (key : Bytes) → result ≡ least_counter_of ((key, number) ∷ entries.now) }
+{
+    let mut least = number;
+    for entry in entries {
         least = least.min(entry.1);
     }
     least
@@ -141,11 +141,25 @@ pub fn add_entry(entries: &mut Vec<(Key, u64)>, key: &[u8], weight: u64) -> Resu
             entries[place].1 += weight;
             Ok(())
         }
-        Err(place) => {
-            let key = Key::of_bytes(*entries.allocator(), key)?;
-            Ok(entries.insert(place, (key, weight))?)
-        }
+        Err(place) => insert_entry(entries, place, key, weight),
     }
+}
+
+// Puts the key with its number at the place.
+fn insert_entry(
+    entries: &mut Vec<(Key, u64)>,
+    place: usize,
+    key: &[u8],
+    number: u64,
+) -> Result<(), AllocError>
+    requires key { (0 < length key.now) × (length key.now ≤ max_key_len) }
+    requires place { place ≤ length entries.old.items }
+    ensures ok { OnOk result
+        (entries.new.items ≡ insert entries.old.items place (key.now, number)) }
+    ensures err { OnErr result (entries.new.items ≡ entries.old.items) }
+{
+    let key = Key::of_bytes(*entries.allocator(), key)?;
+    Ok(entries.insert(place, (key, number))?)
 }
 
 /// Adds an item: its key's counter grows by the weight, and where more than k keys then have
@@ -166,11 +180,22 @@ pub fn add_item(
     ensures unchanged { OnErr result (entries.new.items ≡ entries.old.items) }
     ensures known { 0 < weight_of key.now entries.old.items → IsOk result }
 {
-    add_entry(entries, key, weight)?;
-    if entries.len() as u64 > k {
-        let level = least_counter(entries);
-        lower_all(entries, level);
+    let place = match place_of(entries, key) {
+        Ok(place) => {
+            entries[place].1 += weight;
+            return Ok(());
+        }
+        Err(place) => place,
+    };
+    if (entries.len() as u64) < k {
+        return insert_entry(entries, place, key, weight);
     }
+    let level = least_with(weight, entries);
+    // a newcomer with the least number gets no counter
+    if level < weight {
+        insert_entry(entries, place, key, weight)?;
+    }
+    lower_all(entries, level);
     Ok(())
 }
 

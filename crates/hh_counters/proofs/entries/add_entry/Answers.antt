@@ -1,19 +1,10 @@
-use Rattle.std.proofs.Common.{◌≡◌, ℕ, ◌+◌, ◌<◌, ◌≤◌, length, ap, ◌∙◌, subst, arith}
+use Rattle.std.proofs.Common.{◌≡◌, ◌+◌, ◌<◌, Ok, Err, OnOk, length, ap, ◌∙◌, subst}
 use Rattle.std.specs.Prelude.{slice_set, slice_index_or}
-use Rattle.std.specs.List.{insert, AllWithin}
-use Rattle.std.specs.declared.cmp.Ordering.TheVariants.{Less}
-use Rattle.hh_stream.specs.Weights.{Bytes, Entry, key_cmp, weight_of}
-use Rattle.hh_counters.specs.Counters.{Counters}
-use Rattle.hh_counters.proofs.Places.{set_is_add_at, insert_is_add_at, weight_absent}
+use Rattle.std.specs.List.{insert}
+use Rattle.hh_stream.specs.Weights.{Entry}
+use Rattle.hh_counters.specs.Counters.{Counters, add_at}
+use Rattle.hh_counters.proofs.Places.{IsGap, set_is_add_at, insert_is_add_at, not_known}
 use Rattle.hh_counters.proofs.entries.add_entry.Goals as goal
-
--- each key is below or above, at the place where it would go
-abbrev IsGap : Bytes → ℕ → Counters → Type 0
-IsGap key i d = (i ≤ length d) × AllWithin (λ (e : Entry). key_cmp e.0 key ≡ Less) d 0 i × AllWithin (λ (e : Entry). key_cmp key e.0 ≡ Less) d i (length d)
-
--- there is no counter then
-not_known : (items : Counters) (i : ℕ) (key : Bytes) → IsGap key i items → 0 < weight_of key items → ⊥
-not_known items i key gap known = omega (arith, weight_absent items i key gap.1 gap.2)
 
 pub returns-in-Ok-clause-ok : goal.returns-in-Ok-clause-ok
 returns-in-Ok-clause-ok c =
@@ -23,18 +14,17 @@ returns-in-Ok-clause-ok c =
     ap (λ (e : Entry). slice_set items c.in-Ok.place (e.0, e.1 + c.args.weight)) c.index_mut.ensures.value
     ∙ set_is_add_at items c.in-Ok.place entry (c.args.key.now, c.args.weight) c.requires.counters.rising found.0 (found.1 entry)
 
-pub returns-in_ok-insert-in-Err-clause-ok : goal.returns-in_ok-insert-in-Err-clause-ok
-returns-in_ok-insert-in-Err-clause-ok c =
+pub returns-in-Err-clause-ok : goal.returns-in-Err-clause-ok
+returns-in-Err-clause-ok c =
     let items = c.args.entries.now.items in
-    let gap = subst (IsGap c.args.key.now c.in-Err.place) c.deref.ensures.value c.in-Err.ensures.absent in
-    c.in_ok-insert-in-Err.ensures.items
-    ∙ ap (λ (k : Bytes). insert items c.in-Err.place (k, c.args.weight)) c.in_ok-key-in-Err.ensures.key
-    ∙ insert_is_add_at items c.in-Err.place (c.args.key.now, c.args.weight) gap.0 gap.1 gap.2
+    let i = c.in-Err.place in
+    let item : Entry = (c.args.key.now, c.args.weight) in
+    let gap = subst (IsGap c.args.key.now i) c.deref.ensures.value c.in-Err.ensures.absent in
+    elim c.insert_entry.result as (λ r. OnOk r (c.insert_entry.new.entries.items ≡ insert items i item) → OnOk r (c.insert_entry.new.entries.items ≡ add_at items item)) [
+      | Ok done ↦ λ is. is ∙ insert_is_add_at items i item gap.0 gap.1 gap.2
+      | Err refused ↦ λ is. is
+    ] c.insert_entry.ensures.ok
 
-pub returns-in_err-key-in-Err-clause-known : goal.returns-in_err-key-in-Err-clause-known
-returns-in_err-key-in-Err-clause-known c = λ known.
-    absurd (not_known c.args.entries.now.items c.in-Err.place c.args.key.now (subst (IsGap c.args.key.now c.in-Err.place) c.deref.ensures.value c.in-Err.ensures.absent) known)
-
-pub returns-in_err-insert-in-Err-clause-known : goal.returns-in_err-insert-in-Err-clause-known
-returns-in_err-insert-in-Err-clause-known c = λ known.
+pub returns-in-Err-clause-known : goal.returns-in-Err-clause-known
+returns-in-Err-clause-known c = λ known.
     absurd (not_known c.args.entries.now.items c.in-Err.place c.args.key.now (subst (IsGap c.args.key.now c.in-Err.place) c.deref.ensures.value c.in-Err.ensures.absent) known)

@@ -1,7 +1,7 @@
 use Rattle.std.proofs.Common.{◌≡◌, min, take}
 use Rattle.std.specs.Prelude.{fold}
 use Rattle.hh_stream.specs.Weights.{Entry}
-use Rattle.hh_counters.proofs.entries.least_counter.Given as goal
+use Rattle.hh_counters.proofs.entries.least_with.Given as goal
 
 abbrev pub invariant-loop-entry : goal.invariant-loop-entry
-invariant-loop-entry l = l.least ≡ fold (λ n (e : Entry). min n e.1) l.initial.least (take l.entry-index l.others)
+invariant-loop-entry l = l.least ≡ fold (λ n (e : Entry). min n e.1) l.number (take l.entry-index l.entries)
