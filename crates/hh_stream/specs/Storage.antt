@@ -6,10 +6,10 @@ use Rattle.hh_stream.specs.Weights.{Bytes, inline_len}
 
 -- the bytes that are stored
 abbrev pub stored : Storage → Bytes
-stored (Inline len bytes) = take len bytes
+stored (Inline len short) = take len short.bytes
 stored (Heap bytes) = bytes.items
 
 -- bytes lie in the value exactly where it has room for them
 abbrev pub IsStorage : Storage → Type 0
-IsStorage (Inline len bytes) = len ≤ inline_len
+IsStorage (Inline len short) = len ≤ inline_len
 IsStorage (Heap bytes) = inline_len < length bytes.items

@@ -35,9 +35,16 @@ pub struct Key {
 #[derive(Debug, Drop)]
 enum Storage {
     /// In the value itself: as many as the number says, from the front.
-    Inline(u8, [u8; INLINE_LEN]),
+    Inline(u8, Short),
     /// In memory of their own.
     Heap(Vec<u8>),
+}
+
+/// Room for a few bytes, at a multiple of 8 as a `Vec` is, so that a key is copied in whole words.
+#[derive(Clone, Copy, Debug, Drop)]
+struct Short {
+    bytes: [u8; INLINE_LEN],
+    aligned: [u64; 0],
 }
 
 impl Model for Key {
@@ -106,7 +113,7 @@ impl Key {
         ensures key { IsKey self.now }
     {
         match &self.storage {
-            Storage::Inline(len, bytes) => &bytes[..usize::from(*len)],
+            Storage::Inline(len, short) => &short.bytes[..usize::from(*len)],
             Storage::Heap(bytes) => bytes.as_slice(),
         }
     }
@@ -119,7 +126,7 @@ impl Key {
         ensures short { length self.now ≤ inline_len → IsOk result }
     {
         let storage = match &self.storage {
-            Storage::Inline(len, bytes) => Storage::Inline(*len, *bytes),
+            Storage::Inline(len, short) => Storage::Inline(*len, *short),
             Storage::Heap(bytes) => Storage::Heap(Vec::from_slice(*bytes.allocator(), bytes)?),
         };
         Ok(Key { storage })
@@ -132,9 +139,13 @@ fn inline(bytes: &[u8]) -> Storage
     ensures bytes { stored result ≡ bytes.now }
     ensures storage { IsStorage result }
 {
-    let mut inline = [0; INLINE_LEN];
-    inline[..bytes.len()].copy_from_slice(bytes);
-    Storage::Inline(bytes.len() as u8, inline)
+    let mut room = [0; INLINE_LEN];
+    room[..bytes.len()].copy_from_slice(bytes);
+    let short = Short {
+        bytes: room,
+        aligned: [],
+    };
+    Storage::Inline(bytes.len() as u8, short)
 }
 
 impl PartialEq for Key {
