@@ -112,9 +112,9 @@ def report(client: Client, k: int, parts: list[str]) -> bytes:
     def each(work, *given) -> list[Future]:
         return [client.submit(work, part, path_of(part), *given, workers=hosts_of(part), pure=False) for part in parts]
 
-    everything = merged(client, each(summarise, k))
-    summary = everything.result()
-    return confirm(summary, client.gather(each(condense, everything, checksum(summary))))
+    summary = merged(client, each(summarise, k)).result()
+    # the bytes go to each worker from here: fetched from a worker that is lost, they would be waited for
+    return confirm(summary, client.gather(each(condense, summary, checksum(summary))))
 
 
 def main() -> None:
