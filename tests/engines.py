@@ -113,8 +113,8 @@ class Room:
         report = programs.run([program, "report", "--k", str(K)], records)
         self.report = (report.status, report.out)
         self.expected = (0, reference.report(records, K))
-        # one part more, with a key that has a line feed
-        self.fed = self.path / "fed.csv"
+        # one part more, with a key that has a line feed and a path that has a colon
+        self.fed = self.path / "fed:9.csv"
         self.fed.write_bytes(b'"a\nb",9000\n' * 3)
         self.expected_fed = (0, reference.report(records + self.fed.read_bytes(), K))
 
@@ -180,9 +180,7 @@ def try_parallel(tally: programs.Tally, room: Room) -> None:
     tally.check("many machines", gave(ended) == room.expected == room.report, ended)
     hosts = sorted(["one", "two"] * PARTS)
     tally.check("each part on its machine, twice", sorted(room.lines("hosts")) == hosts, room.lines("hosts"))
-    colon = room.path / "part:9"
-    colon.write_bytes(room.fed.read_bytes())
-    ended = room.run([machines, str(K), *places, f"one:{colon}"])
+    ended = room.run([machines, str(K), *places, f"one:{room.fed}"])
     tally.check("a line feed in a key, a colon in a path", gave(ended) == room.expected_fed, ended)
     ended = room.run([machines, str(K), *places, f"two:{bad}"])
     told = b"record 1: zero weight" in ended.stderr and b"bad.csv" in ended.stderr
@@ -214,9 +212,16 @@ class Dask:
         self.address = ""
 
     def wait(self) -> None:
-        """Waits until the scheduler tells its address."""
-        waited("Dask's scheduler", self.file.exists)
-        self.address = json.loads(self.file.read_text())["address"]
+        """Waits until the scheduler tells its address: its file is there before it is written."""
+
+        def is_told() -> bool:
+            try:
+                self.address = json.loads(self.file.read_text())["address"]
+            except (FileNotFoundError, json.JSONDecodeError):
+                return False
+            return True
+
+        waited("Dask's scheduler", is_told)
 
     def words(self, what: str) -> list[str]:
         return [self.python, "-m", "distributed.cli.dask_" + what, "--host", "127.0.0.1", "--no-dashboard"]
