@@ -1,11 +1,54 @@
-# What bin/install and bin/install-library share, over bin/build.bash: `build_library` builds the library for C where its
-# sources are newer than what was built, and `put_library PREFIX` installs it below "$prefix", for that PREFIX.
+# What bin/install and bin/install-library share, over bin/build.bash: `build_library` builds the library for C where
+# its sources are newer than what was built, and `put_library PREFIX` installs it below "$prefix", for that PREFIX. CC
+# and AR may name the compiler and ar.
 # shellcheck shell=bash disable=SC2154
 library="$top/crates/heavy_ffi"
 archive="$library/out/libheavy_ffi.a"
 
-# Whether there is what the libraries are made with: a C compiler, which CC may name, and ar.
-has_compiler() { command -v "${CC:-cc}" > /dev/null && command -v ar > /dev/null; }
+# Whether there is what the libraries are made with: a C compiler and ar.
+has_compiler() { command -v "${CC:-cc}" > /dev/null && command -v "${AR:-ar}" > /dev/null; }
+
+# The folder of the toolchain.
+toolchain() { dirname "$(rt doc | awk 'END { print $NF }')"; }
+
+# Whether these crates are as `rt ci` leaves libraries that it proved: all are there, each newer than its sources, and
+# none with a stamp. Without a stamp `rt lib` takes none of them, and proves all once more.
+are_of_gate() {
+  local name built crates
+  for name in "$@"; do
+    built="$top/crates/$name/out/rlib"
+    mapfile -t crates < <(crates_of "$name")
+    [ ! -e "$built/stamp" ] && ! is_stale "$built/$name.rlib/format" "${crates[@]}" || return 1
+  done
+}
+
+# Builds the library over these crates, lowest first, as they stand: proves it and compiles what is proved.
+build_over() {
+  local kit name words
+  kit=$(toolchain)
+  words=(-L "dependency=$kit/rlibs")
+  for name in "$@"; do words+=(-L "dependency=$top/crates/$name/out/rlib"); done
+  for name in std $(sed -n 's/^heavy_ffi staticlib://p' "$top/crates.txt"); do
+    case " $* " in
+      *" $name "*) words+=(--extern "$name=$top/crates/$name/out/rlib/$name.rlib") ;;
+      *) words+=(--extern "$name=$kit/rlibs/$name.rlib") ;;
+    esac
+  done
+  mkdir -p "$library/out"
+  (cd "$library" && exec "$kit/bin/rattle" build --crate-name heavy_ffi src/lib.rt "${words[@]}" \
+    --antt-project "$kit/rattle/logic/antt-project.json" --logic-built "$kit/logic_built" --links heavy_ffi= --jobs 2 \
+    --crate-type staticlib --toolchain "$kit/toolchain" --backend llvm -o "$archive")
+}
+
+# Builds the library over what is there of the crates that it stands on, and those of them that `rt lib` wants.
+build_archive() {
+  local below=("${@:1:$#-1}")
+  if are_of_gate "${below[@]}"; then
+    build_over "${below[@]}"
+  else
+    (cd "$library" && exec rt lib)
+  fi
+}
 
 build_library() {
   local crates
@@ -13,7 +56,7 @@ build_library() {
   is_stale "$archive" "${crates[@]}" || return 0
   command -v rt > /dev/null || { tell "the toolchain's command, rt, is not on the path"; return 1; }
   tell "proving and building the library for C; $library/build.log has its lines"
-  if ! (cd "$library" && exec rt lib) > "$library/build.log" 2>&1 < /dev/null || [ ! -f "$archive" ]; then
+  if ! build_archive "${crates[@]}" > "$library/build.log" 2>&1 < /dev/null || [ ! -f "$archive" ]; then
     tell "the build of the library failed; the last lines of $library/build.log:"
     tail -n 20 "$library/build.log" >&2
     return 1
@@ -27,10 +70,10 @@ calls_of_library() { sed -n 's/^uint32_t \(heavy_[a-z_]*\)(.*/\1/p' "$top/includ
 # The static library in this folder, with the toolchain's own few functions of C.
 make_static() {
   local kit
-  kit=$(dirname "$(rt doc | awk 'END { print $NF }')")
+  kit=$(toolchain)
   cp "$archive" "$1/libheavy.a"
   chmod u+w "$1/libheavy.a"
-  (cd "$1" && ar x "$kit/c/liblibc_c.a" && ar rs libheavy.a ./*.o 2> /dev/null)
+  (cd "$1" && "${AR:-ar}" x "$kit/c/liblibc_c.a" && "${AR:-ar}" rs libheavy.a ./*.o 2> /dev/null)
 }
 
 # The shared library beside it, which shows the calls of the header and nothing else.

@@ -16,6 +16,8 @@ import subprocess
 import sys
 import tempfile
 import time
+from collections.abc import Callable, Iterator
+from contextlib import contextmanager
 from pathlib import Path
 
 import programs
@@ -24,7 +26,8 @@ import reference
 EXAMPLES = programs.TOP / "examples" / "machines"
 K = 20
 PARTS = 8
-SECONDS = 60
+# long enough for two busy cores; Dask itself tries for 30 s to reach a worker that is gone
+SECONDS = 300
 # Stands on the path before the program: notes the command and its input, and does what the file `rule` says of them.
 WATCHED = r"""#!/bin/sh
 input=$(readlink /proc/$$/fd/0)
@@ -60,8 +63,20 @@ def waited(what: str, holds) -> None:
     end = time.monotonic() + SECONDS
     while not holds():
         if time.monotonic() > end:
-            sys.exit(f"engines: waited in vain for {what}")
+            raise TimeoutError(f"waited in vain for {what}")
         time.sleep(0.02)
+
+
+def stop(processes: list[subprocess.Popen]) -> None:
+    """Asks processes to end, and ends those that don't."""
+    for process in processes:
+        process.terminate()
+    for process in processes:
+        try:
+            process.wait(SECONDS)
+        except subprocess.TimeoutExpired:
+            process.kill()
+            process.wait()
 
 
 class Room:
@@ -90,12 +105,16 @@ class Room:
             (bin / name).write_text(text)
             (bin / name).chmod(0o755)
         self.env = {**os.environ, "ROOM": room, "HEAVY": program, "PATH": f"{bin}:{os.environ['PATH']}", "LC_ALL": "C"}
+        # a worker that is killed leaves its folders here
+        rest = self.path / "the rest"
+        rest.mkdir()
+        self.env["TMPDIR"] = str(rest)
         self.forget()
         report = programs.run([program, "report", "--k", str(K)], records)
         self.report = (report.status, report.out)
         self.expected = (0, reference.report(records, K))
-        # one part more, with a key that has a line feed
-        self.fed = self.path / "fed.csv"
+        # one part more, with a key that has a line feed and a path that has a colon
+        self.fed = self.path / "fed:9.csv"
         self.fed.write_bytes(b'"a\nb",9000\n' * 3)
         self.expected_fed = (0, reference.report(records + self.fed.read_bytes(), K))
 
@@ -117,12 +136,28 @@ class Room:
         runs = [line.split(" ", 1) for line in self.lines("log")]
         return sum(words[0] == command and part in (None, Path(words[1])) for words in runs)
 
-    def run(self, words: list[str | Path]) -> programs.Ended:
-        return programs.run([str(word) for word in words], env=self.env, cwd=self.path)
+    def run(self, words: list[str | Path], folder: Path | None = None) -> subprocess.CompletedProcess:
+        """Runs a script to its end, or kills it when it takes too long."""
+        how = {"env": self.env, "cwd": folder or self.path, "stdin": subprocess.DEVNULL, "capture_output": True}
+        return subprocess.run([str(word) for word in words], timeout=SECONDS, **how)
 
     def start(self, words: list[str], log: str) -> subprocess.Popen:
         with open(self.path / log, "ab") as said:
             return subprocess.Popen(words, env=self.env, cwd=self.path, stdout=said, stderr=said)
+
+
+def gave(ended: subprocess.CompletedProcess) -> tuple[int, bytes]:
+    """How a script ended, as what is expected of it is written."""
+    return ended.returncode, ended.stdout
+
+
+def tried(tally: programs.Tally, room: Room, name: str, case: Callable[[], None]) -> None:
+    """Tries a case. What stops it is a failed check, told with the last lines of what Dask said."""
+    try:
+        case()
+    except Exception as error:
+        last = [line for log in ("scheduler.log", "workers.log") for line in room.lines(log)[-20:]]
+        tally.check(name, False, "\n".join([repr(error), *last]))
 
 
 def try_parallel(tally: programs.Tally, room: Room) -> None:
@@ -131,29 +166,33 @@ def try_parallel(tally: programs.Tally, room: Room) -> None:
     bad.write_bytes(b"a,0\n")
     one_file, machines = EXAMPLES / "one_file.sh", EXAMPLES / "many_machines.sh"
     ended = room.run([one_file, str(K), room.whole])
-    tally.check("one file", (ended.status, ended.out) == room.expected == room.report, ended)
-    tally.check("one file in parts", room.times("summarise") == room.times("condense") >= os.cpu_count(), room.lines("log"))
+    tally.check("one file", gave(ended) == room.expected == room.report, ended)
+    cores = len(os.sched_getaffinity(0))
+    tally.check("one file in parts", room.times("summarise") == room.times("condense") >= cores, room.lines("log"))
     ended = room.run([one_file, str(K), bad])
-    tally.check("a bad file", (ended.status, ended.out) == (3, b"") and b"record 1: zero weight" in ended.err, ended)
+    tally.check("a bad file", gave(ended) == (3, b"") and b"record 1: zero weight" in ended.stderr, ended)
+    (room.path / "empty").touch()
+    ended = room.run([one_file, str(K), room.path / "empty"])
+    tally.check("an empty file", gave(ended) == (0, b""), ended)
     places = [f"{'two' if i % 2 else 'one'}:{part}" for i, part in enumerate(room.parts)]
     room.forget()
     ended = room.run([machines, str(K), *places])
-    tally.check("many machines", (ended.status, ended.out) == room.expected == room.report, ended)
+    tally.check("many machines", gave(ended) == room.expected == room.report, ended)
     hosts = sorted(["one", "two"] * PARTS)
     tally.check("each part on its machine, twice", sorted(room.lines("hosts")) == hosts, room.lines("hosts"))
     ended = room.run([machines, str(K), *places, f"one:{room.fed}"])
-    tally.check("a line feed in a key, on many machines", (ended.status, ended.out) == room.expected_fed, ended)
+    tally.check("a line feed in a key, a colon in a path", gave(ended) == room.expected_fed, ended)
     ended = room.run([machines, str(K), *places, f"two:{bad}"])
-    told = b"record 1: zero weight" in ended.err and b"bad.csv" in ended.err
-    tally.check("a bad part", (ended.status, ended.out) == (3, b"") and told, ended)
+    told = b"record 1: zero weight" in ended.stderr and b"bad.csv" in ended.stderr
+    tally.check("a bad part", gave(ended) == (3, b"") and told, ended)
     room.forget(f'fails="condense {quoted(room.parts[2])}" status=3')
     ended = room.run([machines, str(K), *places])
-    tally.check("a fault in the second round", (ended.status, ended.out) == (3, b""), ended)
+    tally.check("a fault in the second round", gave(ended) == (3, b""), ended)
     other = room.path / "other"
     other.write_bytes(programs.run([room.env["HEAVY"], "summarise", "--k", str(K)], b"a,1\n").out)
     room.forget(f'swapped="{other}"')
     ended = room.run([machines, str(K), *places])
-    tally.check("another summary on a machine", ended.status != 0 and ended.out == b"", ended)
+    tally.check("another summary on a machine", ended.returncode != 0 and ended.stdout == b"", ended)
     tally.check("is not condensed by there", room.times("summarise") == PARTS and room.times("condense") == 0, room.lines("log"))
 
 
@@ -166,40 +205,41 @@ class Dask:
     """A scheduler on this machine, its workers, and the example over them, by the Python that has Dask."""
 
     def __init__(self, python: str, room: Room) -> None:
-        self.python, self.room, self.workers, self.count = python, room, [], 0
+        self.python, self.room, self.count = python, room, 0
         self.file = room.path / "scheduler.json"
         words = [*self.words("scheduler"), "--port", "0", "--scheduler-file", str(self.file)]
         self.scheduler = room.start(words, "scheduler.log")
         self.address = ""
 
     def wait(self) -> None:
-        """Waits until the scheduler tells its address."""
-        waited("Dask's scheduler", self.file.exists)
-        self.address = json.loads(self.file.read_text())["address"]
+        """Waits until the scheduler tells its address: its file is there before it is written."""
+
+        def is_told() -> bool:
+            try:
+                self.address = json.loads(self.file.read_text())["address"]
+            except (FileNotFoundError, json.JSONDecodeError):
+                return False
+            return True
+
+        waited("Dask's scheduler", is_told)
 
     def words(self, what: str) -> list[str]:
         return [self.python, "-m", "distributed.cli.dask_" + what, "--host", "127.0.0.1", "--no-dashboard"]
 
-    def start_workers(self) -> None:
+    @contextmanager
+    def two_workers(self) -> Iterator[list[subprocess.Popen]]:
         """Two workers, each of which is the process that was started."""
-        for _ in range(2):
-            self.count += 1
-            words = [self.address, "--no-nanny", "--nthreads", "1", "--local-directory", f"worker{self.count}"]
-            self.workers.append(self.room.start([*self.words("worker"), *words], "workers.log"))
-        asked = f"from dask.distributed import Client\nClient({self.address!r}).wait_for_workers(2, timeout={SECONDS})"
-        subprocess.run([self.python, "-c", asked], check=True, cwd=self.room.path)
-
-    def stop_workers(self) -> None:
-        for worker in self.workers:
-            worker.terminate()
-        for worker in self.workers:
-            worker.wait(SECONDS)
-        self.workers = []
-
-    def stop(self) -> None:
-        self.stop_workers()
-        self.scheduler.terminate()
-        self.scheduler.wait(SECONDS)
+        workers = []
+        try:
+            for _ in range(2):
+                self.count += 1
+                words = [self.address, "--no-nanny", "--nthreads", "1", "--local-directory", f"worker{self.count}"]
+                workers.append(self.room.start([*self.words("worker"), *words], "workers.log"))
+            asked = f"import distributed\ndistributed.Client({self.address!r}).wait_for_workers(2, timeout={SECONDS})"
+            self.room.run([self.python, "-c", asked]).check_returncode()
+            yield workers
+        finally:
+            stop(workers)
 
     def example(self, parts: list[str | Path]) -> list[str]:
         script = str(EXAMPLES / "over_dask.py")
@@ -210,32 +250,29 @@ def kill_a_worker(tally: programs.Tally, dask: Dask, held: str) -> None:
     """A worker is killed while it runs this command on a part."""
     room = dask.room
     room.forget(f"held={held}")
-    dask.start_workers()
-    with open(room.path / "out", "wb") as out:
+    with dask.two_workers() as workers, open(room.path / "out", "wb") as out:
         example = subprocess.Popen(dask.example(room.parts), env=room.env, cwd=room.path, stdout=out)
-    try:
-        waited(f"a worker that runs heavy {held}", (room.path / "holder").exists)
-        holder = int(*room.lines("holder"))
-        victims = [worker for worker in dask.workers if worker.pid == holder]
-        tally.check("a worker runs the program", len(victims) == 1, (holder, dask.workers))
-        for victim in victims:
-            victim.kill()
-            victim.wait(SECONDS)
-        (room.path / "gate").touch()
-        status = example.wait(SECONDS)
-    finally:
-        example.kill()
-        example.wait()
+        try:
+            waited(f"a worker that runs heavy {held}", (room.path / "holder").exists)
+            holder = int(*room.lines("holder"))
+            victims = [worker for worker in workers if worker.pid == holder]
+            tally.check("a worker runs the program", len(victims) == 1, (holder, workers))
+            for victim in victims:
+                victim.kill()
+                victim.wait(SECONDS)
+            (room.path / "gate").touch()
+            status = example.wait(SECONDS)
+        finally:
+            example.kill()
+            example.wait()
     printed = (room.path / "out").read_bytes()
     tally.check(f"a worker killed in {held}", (status, printed) == room.expected == room.report, (status, printed))
     tally.check("its part is done again", room.times(held) > PARTS, room.lines("log"))
-    dask.stop_workers()
 
 
 def try_faults(tally: programs.Tally, dask: Dask) -> None:
     """What is tried again, and what is told, where the program fails on a part."""
     room = dask.room
-    dask.start_workers()
     part = room.parts[3]
     for status, command, once, times in [
         (1, "summarise", True, 2), (4, "condense", True, 2), (1, "condense", False, 3), (4, "summarise", False, 3),
@@ -245,18 +282,23 @@ def try_faults(tally: programs.Tally, dask: Dask) -> None:
         ended = room.run(dask.example(room.parts))
         case = f"status {status} of {command}, {'once' if once else 'each time'}"
         if once:
-            tally.check(case, (ended.status, ended.out) == room.expected == room.report, ended)
+            tally.check(case, gave(ended) == room.expected == room.report, ended)
         else:
             told = f"over_dask: {part}: status {status}: heavy: planted\n".encode()
-            tally.check(case, (ended.status, ended.out) == (status, b"") and told in ended.err, ended)
+            tally.check(case, gave(ended) == (status, b"") and told in ended.stderr, ended)
         tally.check(f"{case}: tried {times} times", room.times(command, part) == times, room.lines("log"))
+
+
+def try_places(tally: programs.Tally, dask: Dask) -> None:
+    """Parts that no worker has, and that some have."""
+    room = dask.room
     room.forget()
     ended = room.run(dask.example([*room.parts, "/nowhere/part.csv"]))
-    told = b"over_dask: /nowhere/part.csv: status 1: [Errno 2]" in ended.err
-    tally.check("a part that isn't there", (ended.status, ended.out) == (1, b"") and told, ended)
+    told = b"over_dask: /nowhere/part.csv: status 1: [Errno 2]" in ended.stderr
+    tally.check("a part that isn't there", gave(ended) == (1, b"") and told, ended)
     places = [f"127.0.0.1:{part}" for part in room.parts]
     ended = room.run(dask.example(places))
-    tally.check("parts at an address", (ended.status, ended.out) == room.expected == room.report, ended)
+    tally.check("parts at an address", gave(ended) == room.expected == room.report, ended)
     room.forget()
     example = subprocess.Popen(dask.example([*room.parts[1:], f"10.0.0.9:{room.parts[0]}"]), env=room.env, cwd=room.path)
     try:
@@ -267,7 +309,6 @@ def try_faults(tally: programs.Tally, dask: Dask) -> None:
     finally:
         example.kill()
         example.wait()
-    dask.stop_workers()
 
 
 def try_alone(tally: programs.Tally, python: str, room: Room) -> None:
@@ -275,11 +316,32 @@ def try_alone(tally: programs.Tally, python: str, room: Room) -> None:
     room.forget()
     script = EXAMPLES / "over_dask.py"
     ended = room.run([python, script, str(K), *room.parts, room.fed])
-    tally.check("over Dask on one machine", (ended.status, ended.out) == room.expected_fed, ended)
+    tally.check("over Dask on one machine", gave(ended) == room.expected_fed, ended)
     asked = f"import over_dask\nover_dask.condense('p', {str(room.parts[0])!r}, b'this', over_dask.checksum(b'that'))"
-    ended = programs.run([python, "-c", asked], env=room.env, cwd=EXAMPLES)
-    tally.check("another summary", ended.status != 0 and b"Fault: p: status 3: the merged summary is another" in ended.err, ended)
+    ended = room.run([python, "-c", asked], EXAMPLES)
+    told = b"Fault: p: status 3: the merged summary is another" in ended.stderr
+    tally.check("another summary", ended.returncode != 0 and told, ended)
     tally.check("is not condensed by", room.times("condense") == PARTS + 1, room.lines("log"))
+
+
+def try_dask(tally: programs.Tally, python: str, room: Room) -> None:
+    """The example over Dask, case by case."""
+    tried(tally, room, "Dask alone", lambda: try_alone(tally, python, room))
+    dask = Dask(python, room)
+
+    def on_two_workers(case: Callable[[programs.Tally, Dask], None]) -> None:
+        with dask.two_workers():
+            case(tally, dask)
+
+    try:
+        tried(tally, room, "Dask's scheduler", dask.wait)
+        if dask.address:
+            tried(tally, room, "a worker killed in summarise", lambda: kill_a_worker(tally, dask, "summarise"))
+            tried(tally, room, "a worker killed in condense", lambda: kill_a_worker(tally, dask, "condense"))
+            tried(tally, room, "faults over Dask", lambda: on_two_workers(try_faults))
+            tried(tally, room, "places over Dask", lambda: on_two_workers(try_places))
+    finally:
+        stop([dask.scheduler])
 
 
 def with_dask() -> str | None:
@@ -298,19 +360,11 @@ def main() -> None:
         room = Room(folder, seed)
         tally.check("the report", room.report == room.expected != room.expected_fed, room.report)
         if shutil.which("parallel"):
-            try_parallel(tally, room)
+            tried(tally, room, "parallel", lambda: try_parallel(tally, room))
         else:
             print("engines: the scripts over GNU parallel are left out, for want of parallel", flush=True)
         if python:
-            try_alone(tally, python, room)
-            dask = Dask(python, room)
-            try:
-                dask.wait()
-                kill_a_worker(tally, dask, "summarise")
-                kill_a_worker(tally, dask, "condense")
-                try_faults(tally, dask)
-            finally:
-                dask.stop()
+            try_dask(tally, python, room)
         else:
             print("engines: the script over Dask is left out, for want of python3-distributed", flush=True)
     tally.end("engines")

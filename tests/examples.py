@@ -7,8 +7,9 @@ with `$ `: what stands behind it is run by bash, and has to print the lines belo
 page are run in order in one folder, which has the folder examples/, the program as `heavy` and as bin/heavy, and a
 stand-in for ssh that runs the words here.
 
-Of other blocks, one that imports is Python over the library for C, which is run where that was built; a drawing needs
-nothing; and each line of any other begins with a command, which has to be there with the options that are shown.
+Of other blocks, one that imports is Python over the library for C, which is run where that was built, or all that it
+stands on; a drawing needs nothing; and each line of any other begins with a command, which has to be there with the
+options that are shown.
 
 usage: tests/examples.py
 """
@@ -145,14 +146,12 @@ def try_python(tally: programs.Tally) -> None:
     """The README's lines of Python, each with what it gives."""
     blocks = [block for block in others_of((programs.TOP / "README.md").read_text()) if "import heavy" in block]
     tally.check("the README has lines of Python", len(blocks) == 1, blocks)
-    if not (programs.TOP / "crates" / "heavy_ffi" / "out" / "libheavy_ffi.a").exists():
+    if not programs.has_library():
         print("examples: the README's lines of Python are left out, for want of the library for C", flush=True)
         return
     with tempfile.TemporaryDirectory() as room:
-        ended = programs.run([str(programs.TOP / "bin" / "install-library"), f"{room}/usr"], env=dict(os.environ))
-        if ended.status != 0:
-            print(f"examples: the README's lines of Python are left out, for want of the library: {ended.err!r}", flush=True)
-            return
+        ended = programs.install_library(f"{room}/usr", programs.compilers()[0])
+        tally.check("the library for C is there", ended.status == 0, ended)
         for name, text in DAYS.items():
             Path(room, name).write_bytes(text)
         saved = programs.run([programs.built("heavy_cli"), "summarise", "--k", "100"], DAYS["tuesday.csv"]).out

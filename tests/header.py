@@ -25,9 +25,8 @@ STRUCTURES = {
 TYPES = {"u8": "uint8_t", "u32": "uint32_t", "u64": "uint64_t", "usize": "size_t"}
 TYPES.update({name: f"struct {words}" for words, (_, name) in STRUCTURES.items()})
 SIZES = {"u32": 4, "u64": 8, "usize": 8}
-# The toolchain's clang has no headers.
-STDINT = "typedef __UINT8_TYPE__ uint8_t;\ntypedef __UINT32_TYPE__ uint32_t;\ntypedef __UINT64_TYPE__ uint64_t;\n"
-STDDEF = "typedef __SIZE_TYPE__ size_t;\n#define offsetof(type, field) __builtin_offsetof(type, field)\n"
+# The toolchain's clang has no headers of its own.
+HEADERS = programs.TOP / "tests" / "c" / "headers"
 
 
 def words_of(name: str) -> str:
@@ -119,8 +118,9 @@ def asserts() -> str:
 
 def compiles(header: str, room: str) -> tuple[bool, str]:
     """Whether this header says what it has to, and else what the toolchain's clang says."""
-    for name, text in (("heavy.h", header), ("stdint.h", STDINT), ("stddef.h", STDDEF), ("asserts.c", asserts())):
+    for name, text in (("heavy.h", header), ("asserts.c", asserts())):
         Path(room, name).write_text(text)
-    words = [programs.clang(), "-std=c11", "-Wall", "-Werror", "-nostdinc", f"-I{room}", "-fsyntax-only"]
+    places = ["-nostdinc", f"-I{room}", f"-I{HEADERS}"]
+    words = [programs.clang(), "-std=c11", "-Wall", "-Werror", *places, "-fsyntax-only"]
     ran = subprocess.run([*words, f"{room}/asserts.c"], capture_output=True, text=True)
     return ran.returncode == 0, ran.stderr

@@ -2,7 +2,7 @@
 """Installs the built program and runs what was installed; and builds by a stand-in of the toolchain's command: what
 the build says, that one is enough for two that begin at once, that none runs where nothing is to be built, and that an
 interrupted one leaves no process. The library for C is installed of what the stand-in leaves, and left out where there
-is no C compiler.
+is no C compiler; it is built over the crates that `rt ci` left, where they are as it left them.
 
 usage: tests/install.py
 """
@@ -59,6 +59,12 @@ echo "the stand-in's last line"
 mkdir -p out
 printf '#!/bin/sh\\necho "built: $*"\\n' > out/heavy_cli
 chmod +x out/heavy_cli
+"""
+# The compiler of that toolchain. It tells what it was given, and leaves a library.
+COMPILER = """#!/usr/bin/env bash
+echo "$*" >> "$RUNS"
+mkdir -p "$(dirname "${!#}")"
+: > "${!#}"
 """
 BEGIN = b"heavy: proving and building the program, once and after each change of its sources\n"
 SOON = 20  # seconds
@@ -282,6 +288,42 @@ def try_library(tally: programs.Tally, room: str) -> None:
     tally.check("no compiler", (ended.status, ended.out, ended.err) == (0, told, LEFT_OUT), ended)
 
 
+def try_over_gate(tally: programs.Tally, room: str) -> None:
+    """The library is built over the crates that `rt ci` left; by `rt lib` where one has a stamp or a newer source."""
+    copy = Copy(room, "gate")
+    (copy.kit / "bin").mkdir(parents=True)
+    (copy.kit / "bin" / "rattle").write_text(COMPILER)
+    (copy.kit / "bin" / "rattle").chmod(0o755)
+    (copy.kit / "calls.a").touch()
+    scripts = "".join(f". {copy.top}/bin/{name}.bash; " for name in ("build", "library"))
+    crates = copy.top / "crates"
+    listed = programs.run(["bash", "-c", f"{scripts} crates_of heavy_ffi"], env=copy.environment())
+    below = listed.out.decode().split()[:-1]
+    places = {name: crates / name / "out" / "rlib" for name in below}
+    for name, place in places.items():
+        (place / f"{name}.rlib").mkdir(parents=True)
+        (place / f"{name}.rlib" / "format").touch()
+    (crates / "hh_saved" / "src" / "lib.rt").touch()
+    stamp, built = places["hh_saved"] / "stamp", places["hh_saved"] / "hh_saved.rlib" / "format"
+    for name, change, wanted in [
+        ("as the gate left them", lambda: None, "build"),
+        ("with a stamp", stamp.touch, "lib"),
+        ("as the gate left them again", stamp.unlink, "build"),
+        ("with a newer source", lambda: os.utime(built, (0, 0)), "lib"),
+    ]:
+        change()
+        ended = [programs.run(["bash", "-c", f"{scripts} build_library"], env=copy.environment()) for _ in range(2)]
+        runs = copy.runs.read_text().splitlines()
+        well = [it.status for it in ended] == [0, 0]
+        tally.check(f"crates {name}", well and [it.split()[0] for it in runs] == [wanted], (ended, runs))
+        if wanted == "build":
+            words = [f"dependency={place}" for place in places.values()]
+            words += [f"heavy={places['heavy']}/heavy.rlib", f"std={copy.kit}/rlibs/std.rlib"]
+            tally.check("what it is built over", not {*words} - {*runs[0].split()}, runs)
+        copy.runs.unlink()
+        (crates / "heavy_ffi" / "out" / "libheavy_ffi.a").unlink()
+
+
 def try_install(tally: programs.Tally, room: str) -> None:
     """All files are where Debian has them, and the installed program answers. The library is left out, which takes long
     to build."""
@@ -314,6 +356,7 @@ def main() -> None:
         try_two(tally, room)
         try_terminal(tally, room)
         try_library(tally, room)
+        try_over_gate(tally, room)
         try_install(tally, room)
     tally.end("install")
 

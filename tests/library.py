@@ -1,17 +1,17 @@
 #!/usr/bin/env python3
-"""Compares the header of the library for C with the definitions; and where the library has been built, installs it and
-tries it from C and from Python: every call with answers known by hand, under the sanitizers of addresses and of
-undefined behaviour where a compiler has them; each request for memory refused in turn; the Python module against the
-program; and a pool of processes.
+"""Compares the header of the library for C with the definitions. Then installs the library and tries it from C and
+from Python: every call with answers known by hand, under the sanitizers of addresses and of undefined behaviour; each
+request for memory refused in turn; the Python module against the program; and a pool of processes. All of it by clang
+and by gcc where they are there, and by the toolchain's own clang, which needs neither a compiler nor headers of the
+machine.
 
 usage: tests/library.py
 
-To build the library proves all crates below it once more, unless their checks kept their work, and `rt ci` keeps none.
-So this script doesn't: where there is none, it compares the header alone, and says so. `bin/install-library` builds it.
+bin/install-library builds the library: in a few minutes after `rt ci` or where `rt check` kept its work. Where neither
+left the crates that it stands on, to prove them all takes long, so the header alone is compared, and that is said.
 """
 import os
 import re
-import shutil
 import subprocess
 import sys
 import tempfile
@@ -60,7 +60,7 @@ def compiled(compiler: str, source: str, prefix: str, room: str, *words: str) ->
     program = f"{room}/{Path(source).stem}"
     common = ["-std=c11", "-Wall", "-Wextra", "-Werror", "-g", f"-I{prefix}/include"]
     made = subprocess.run(
-        [compiler, *common, *words, str(C / source), f"{prefix}/lib/libheavy.a", "-lpthread", "-o", program],
+        [compiler, *common, *words, str(C / source), f"{prefix}/lib/libheavy.a", "-pthread", "-o", program],
         capture_output=True, text=True,
     )
     if made.returncode != 0 and "-fsanitize" not in " ".join(words):
@@ -109,42 +109,42 @@ def try_pool(tally: programs.Tally, prefix: str, room: str) -> None:
 
 def try_symbols(tally: programs.Tally, prefix: str) -> None:
     """The shared library shows its calls alone."""
-    if not shutil.which("nm"):
-        print("library: the shared library's names are left out, for want of nm", flush=True)
-        return
-    words = ["nm", "-D", "--defined-only", "--format=posix", f"{prefix}/lib/libheavy.so.1"]
-    shown = subprocess.run(words, capture_output=True, text=True, check=True).stdout
+    words = ["llvm-nm", "-D", "--defined-only", "--format=posix", f"{prefix}/lib/libheavy.so.1"]
+    shown = subprocess.run(words, executable=programs.clang(), capture_output=True, text=True, check=True).stdout
     names = sorted(line.split("@")[0] for line in shown.splitlines() if " T " in line)
     tally.check("the shared library's names", names == sorted(header.calls()), names)
+
+
+def try_library(tally: programs.Tally, compiler: str, room: str) -> None:
+    """The library as this compiler makes it, and its callers."""
+    prefix = f"{room}/usr"
+    ended = programs.install_library(prefix, compiler)
+    told = "".join(f"{prefix}/{file}\n" for file in INSTALLED).encode()
+    tally.check(f"what is installed by {compiler} is told", (ended.status, ended.out) == (0, told), ended)
+    if ended.status != 0:
+        return
+    tally.check("all is there", all(Path(prefix, file).exists() for file in INSTALLED))
+    try_symbols(tally, prefix)
+    try_c(tally, compiler, prefix, room)
+    try_python(tally, prefix)
+    try_pool(tally, prefix, room)
 
 
 def main() -> None:
     tally = programs.Tally()
     with tempfile.TemporaryDirectory() as room:
         try_header(tally, room)
-    if not (programs.TOP / "crates" / "heavy_ffi" / "out" / "libheavy_ffi.a").exists():
-        print("library: not built, so that all but the header is left out", flush=True)
+    for words in ([], ["usr"], ["/usr", "/opt"]):
+        ended = programs.run([str(programs.TOP / "bin" / "install-library"), *words], env=dict(os.environ))
+        tally.check(f"usage: {words}", ended.status == 2 and b"usage: bin/install-library" in ended.err, ended)
+    if not programs.has_library():
+        print("library: neither built, nor what it stands on, so that all but the header is left out", flush=True)
         tally.end("library")
-    compilers = [name for name in ("clang", "gcc") if shutil.which(name)]
-    if not compilers or not shutil.which("ar"):
-        print("library: left out, for want of clang or gcc, and ar", flush=True)
-        tally.end("library")
-    with tempfile.TemporaryDirectory() as room:
-        prefix = f"{room}/usr"
-        env = {**os.environ, "CC": compilers[0]}
-        install = str(programs.TOP / "bin" / "install-library")
-        ended = programs.run([install, prefix], env=env)
-        told = "".join(f"{prefix}/{file}\n" for file in INSTALLED).encode()
-        tally.check("what is installed is told", (ended.status, ended.out) == (0, told), ended)
-        tally.check("all is there", all(Path(prefix, file).exists() for file in INSTALLED))
-        for words in ([], ["usr"], ["/usr", "/opt"]):
-            ended = programs.run([install, *words], env=env)
-            tally.check(f"usage: {words}", ended.status == 2 and b"usage: bin/install-library" in ended.err, ended)
-        try_symbols(tally, prefix)
-        for compiler in compilers:
-            try_c(tally, compiler, prefix, room)
-        try_python(tally, prefix)
-        try_pool(tally, prefix, room)
+    compilers = programs.compilers()
+    print(f"library: tried by {', '.join(compilers)}", flush=True)
+    for compiler in compilers:
+        with tempfile.TemporaryDirectory() as room:
+            try_library(tally, compiler, room)
     tally.end("library")
 
 

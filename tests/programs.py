@@ -1,5 +1,6 @@
 """The built programs, and how a test runs one."""
 import os
+import shutil
 import subprocess
 import sys
 import tempfile
@@ -7,6 +8,8 @@ from dataclasses import dataclass
 from pathlib import Path
 
 TOP = Path(__file__).resolve().parent.parent
+# The toolchain's clang as a compiler of C, which is there where no other is.
+CC = TOP / "tests" / "c" / "cc"
 
 
 def built(crate: str) -> str:
@@ -36,6 +39,12 @@ def preloaded(source: str, room: str) -> str:
     return library
 
 
+def has_library() -> bool:
+    """Whether the library for C was built, or all that it stands on: `rt ci` leaves that."""
+    places = ("heavy_ffi/out/libheavy_ffi.a", "heavy/out/rlib/heavy.rlib")
+    return any((TOP / "crates" / place).exists() for place in places)
+
+
 @dataclass(frozen=True)
 class Ended:
     """How a run ended."""
@@ -58,6 +67,27 @@ def run(words: list[bytes | str], given: bytes = b"", env: dict[str, str] | None
         out.seek(0)
         err.seek(0)
         return Ended(process.returncode, out.read(), err.read(), used.ru_utime + used.ru_stime)
+
+
+def makes_programs(compiler: str) -> bool:
+    """Whether this compiler of C is there, with the headers and the libraries that it needs."""
+    if not shutil.which(compiler):
+        return False
+    with tempfile.TemporaryDirectory() as room:
+        words = [compiler, "-include", "pthread.h", "-xc", "-", "-pthread", "-o", f"{room}/program"]
+        return run(words, b"int main(void) { return 0; }\n", dict(os.environ)).status == 0
+
+
+def compilers() -> list[str]:
+    """The machine's compilers of C, and the toolchain's."""
+    return [*filter(makes_programs, ("clang", "gcc")), str(CC)]
+
+
+def install_library(prefix: str, compiler: str) -> Ended:
+    """Installs the library for C, made by this compiler, and by the toolchain's ar where there is no other; and first
+    proves and builds it where that is needed."""
+    ar = shutil.which("ar") or str(Path(clang()).parent / "llvm-ar")
+    return run([str(TOP / "bin" / "install-library"), prefix], env={**os.environ, "CC": compiler, "AR": ar})
 
 
 class Tally:

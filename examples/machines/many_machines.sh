@@ -8,16 +8,20 @@ k=$1
 shift
 room=$(mktemp -d)
 trap 'rm -rf "$room"' EXIT
+# read by the shell of each job, whatever the name of the folder
+export room
+host='{= s/:.*//s =}'
 # quoted by Q for the shell of the other machine
 # shellcheck disable=SC2016
-path='{=2 $_ = Q($_) =}'
+path='{= s/^[^:]*://s; $_ = Q($_) =}'
 
-parallel --halt now,fail=1 --colsep : "ssh {1} 'heavy summarise --k $k <' $path > $room/{#}.heavy" ::: "$@"
+parallel --halt now,fail=1 "ssh $host 'heavy summarise --k $k <' $path > \"\$room\"/{#}.heavy" ::: "$@" < /dev/null
 heavy merge "$room"/*.heavy > "$room/all.merged"
 
 # on the machine of a part: the summary is kept while it is needed, and its checksum is compared first
 sum=$(sha256sum < "$room/all.merged" | cut -c -64)
-given="all=\$(mktemp) && trap \"rm -f \$all\" EXIT && cat > \$all && echo \"$sum  \$all\" | sha256sum --check --quiet"
-parallel --halt now,fail=1 --colsep : "ssh {1} '$given && heavy condense \$all <' $path < $room/all.merged" ::: "$@" \
+# shellcheck disable=SC2016
+given='all=$(mktemp) && trap "rm -f \"$all\"" EXIT && cat > "$all" && echo "'$sum'  $all" | sha256sum --check --quiet'
+parallel --halt now,fail=1 "ssh $host '$given && heavy condense \"\$all\" <' $path < \"\$room\"/all.merged" ::: "$@" \
   > "$room/condensed"
 heavy confirm "$room/all.merged" < "$room/condensed"

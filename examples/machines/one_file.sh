@@ -8,10 +8,14 @@
 set -eu
 k=$1
 file=$2
+# of an empty file parallel makes no part
+[ -s "$file" ] || exec heavy report --k "$k" < "$file"
 room=$(mktemp -d)
 trap 'rm -rf "$room"' EXIT
+# read by the shell of each job, whatever the name of the folder
+export room
 
-parallel --halt now,fail=1 --pipepart --block -1 -a "$file" heavy summarise --k "$k" '>' "$room/{#}.heavy"
+parallel --halt now,fail=1 --pipepart --block -1 -a "$file" heavy summarise --k "$k" "> \"\$room\"/{#}.heavy"
 heavy merge "$room"/*.heavy > "$room/all.merged"
-parallel --halt now,fail=1 --pipepart --block -1 -a "$file" heavy condense "$room/all.merged" > "$room/condensed"
+parallel --halt now,fail=1 --pipepart --block -1 -a "$file" "heavy condense \"\$room\"/all.merged" > "$room/condensed"
 heavy confirm "$room/all.merged" < "$room/condensed"

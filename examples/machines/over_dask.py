@@ -53,14 +53,10 @@ def heavy(part: str, words: list[str], path: str) -> bytes:
     return ended.stdout
 
 
-def path_of(part: str) -> str:
-    return part.partition(":")[2] or part
-
-
-def hosts_of(part: str) -> list[str] | None:
-    """Where the workers have to be, if not anywhere."""
-    host, colon, _ = part.partition(":")
-    return [host] if colon else None
+def place_of(part: str) -> tuple[list[str] | None, str]:
+    """Where the workers have to be, if not anywhere, and the path that they read. No host begins with a slash."""
+    host, colon, path = part.partition(":")
+    return ([host], path) if colon and not part.startswith("/") else (None, part)
 
 
 def saved(room: str, name: str, data: bytes) -> str:
@@ -110,11 +106,12 @@ def report(client: Client, k: int, parts: list[str]) -> bytes:
     """Two rounds over the parts. What a lost worker did, or was to do, Dask has done by another one."""
 
     def each(work, *given) -> list[Future]:
-        return [client.submit(work, part, path_of(part), *given, workers=hosts_of(part), pure=False) for part in parts]
+        places = [(part, *place_of(part)) for part in parts]
+        return [client.submit(work, part, path, *given, workers=hosts, pure=False) for part, hosts, path in places]
 
-    everything = merged(client, each(summarise, k))
-    summary = everything.result()
-    return confirm(summary, client.gather(each(condense, everything, checksum(summary))))
+    summary = merged(client, each(summarise, k)).result()
+    # the bytes go to each worker from here: fetched from a worker that is lost, they would be waited for
+    return confirm(summary, client.gather(each(condense, summary, checksum(summary))))
 
 
 def main() -> None:
