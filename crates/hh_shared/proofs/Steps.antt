@@ -13,7 +13,7 @@ use Rattle.atomic_table.proofs.Lists.{at_set, at_snoc, set_again}
 use Rattle.hh_shared.specs.Tally.{times, added, IsDistinctBelow, HasAllBelow, sum_at}
 use Rattle.hh_shared.specs.declared.rule.Lists.{Lists}
 use Rattle.hh_shared.specs.Rule.{lists, newcomer, Fits, IsTallied, Claims, Adds, Looks, taken_in, spent}
-use Rattle.hh_shared.proofs.Tallies.{sum_by-replace, at-le-sum_by, two-le-sum_by, sum_by-only, times-append, times-one, times-push, times-push_other, added-append, added-push, added-push_other}
+use Rattle.hh_shared.proofs.Tallies.{sum_by-replace, at-le-sum_by, two-le-sum_by, sum_by-only, times-append, times-here, times-push, times-push_other, added-append, added-push, added-push_other}
 
 -- what all seats claimed of a number, and what they added to a cell
 abbrev all_claimed : ℕ → List Lists → ℕ
@@ -193,7 +193,7 @@ merged n m ws seats id other one two k at apart there =
 
 none-or-some : (xs : List ℕ) → (xs ≡ []) ⊎ ((j : ℕ) × (0 < times j xs))
 none-or-some [] = inl refl
-none-or-some (x ∷ xs) = inr (x, omega (arith, times-append x (x ∷ []) xs, times-one x))
+none-or-some (x ∷ xs) = inr (x, omega (arith, times-here x xs))
 
 -- all that was added was added through the seat that holds all claims
 pub closes : (n m : ℕ) (ws : List ℕ) (seats : List Lists) (id : ℕ) (seat : Lists) → IsTallied n m ws seats → get_elem? seats id ≡ some seat → HasAllBelow n seat.claims → (cell : ℕ) → cell < m → get_or ws (n + cell) 0 ≡ sum_at seat.adds cell
