@@ -42,11 +42,6 @@ pub record IsMergeTree (t : MergeTree) (p : ℕ) : Type 0 where
   pub once : (i : ℕ) → i < p → times i (leaves t) ≡ 1
   pub within : (i : ℕ) → p ≤ i → times i (leaves t) ≡ 0
 
--- the leaves are different places of a list of so many
-pub record HasPlaces (t : MergeTree) (n : ℕ) : Type 0 where
-  pub once : (i : ℕ) → times i (leaves t) ≤ 1
-  pub within : (i : ℕ) → 0 < times i (leaves t) → i < n
-
 -- ((0 1) 2) and so on, with each next piece on the right: the chain of n + 1 pieces
 abbrev pub chain_of : ℕ → MergeTree
 chain_of zero = Piece 0
@@ -64,7 +59,9 @@ tree_value (Merge l r) cs k = join (tree_value l cs k) (tree_value r cs k) k
 
 -- one summary merged with another, or why not
 abbrev pub merge_result : Sketch → Sketch → Result Sketch MergeFault
-merge_result s t = if s.k == t.k then (if nat_le (s.total + t.total) max_total then Ok (merged s t) else Err fault.TotalTooLarge) else Err fault.DifferentK
+merge_result s t =
+    if s.k == t.k then (if nat_le (s.total + t.total) max_total then Ok (merged s t) else Err fault.TotalTooLarge)
+    else Err fault.DifferentK
 
 -- the left refusal comes before the right one, and that of the node comes last
 abbrev pub merge_both : Result Sketch MergeFault → Result Sketch MergeFault → Result Sketch MergeFault
@@ -89,5 +86,6 @@ items_of (Merge l r) pieces = items_of l pieces ++ items_of r pieces
 abbrev pub MergesHonestly : List Sketch → Sketch → Type 0
 MergesHonestly ss s =
     (lists : List (List Entry)) → length lists ≡ length ss
-    → ((i : ℕ) → i < length ss → let piece = slice_index_or ss i no_sketch in IsHonest piece.counters piece.total (slice_index_or lists i []) s.k)
+    → ((i : ℕ) → i < length ss → let piece = slice_index_or ss i no_sketch in
+    IsHonest piece.counters piece.total (slice_index_or lists i []) s.k)
     → IsHonest s.counters s.total (whole_of lists) s.k

@@ -100,8 +100,9 @@ impl Plan {
     /// The plan of so many pieces that a text spells: a tree is a piece's number, without leading
     /// zeros, or two trees in parentheses with a space between them, as `((0 1) 2)`.
     ///
-    /// The syntax is judged over the whole text first. Then the numbers are taken from left to right:
-    /// the first one that is unknown or came before is told, and then the least one that is missing.
+    /// The syntax is judged over the whole text first. Then the numbers are taken from left to
+    /// right: the first one that is unknown or came before is told, and then the least one that is
+    /// missing.
     pub fn parse(alloc: Global, text: &[u8], pieces: usize) -> Result<Plan, PlanFault>
         requires some { 1 ≤ pieces }
         requires few { pieces ≤ max_pieces }

@@ -21,8 +21,8 @@ pub(crate) struct Calls {
     pub(crate) workers: AtomicU64,
 }
 
-// Holds the pieces below `held` in each pass until all `wanted` calls of that pass have come, for so
-// many turns at most.
+// Holds the pieces below `held` in each pass until all `wanted` calls of that pass have come, for
+// so many turns at most.
 #[derive(Drop)]
 pub(crate) struct Meeting {
     pub(crate) first: Calls,
@@ -115,8 +115,8 @@ impl Gate for Meeting {
     }
 }
 
-// The four items in so many even pieces, for k = 2, with a gate. Whether the outcome is as ever, with
-// one call of the gate for each piece and pass.
+// The four items in so many even pieces, for k = 2, with a gate. Whether the outcome is as ever,
+// with one call of the gate for each piece and pass.
 fn meets<R: Threads + Wait + Abort + Sync>(
     rt: &R,
     alloc: Global,

@@ -118,8 +118,8 @@ fn pieces(rt: &(impl Abort + AllocGlobal), count: usize) -> Vec<Summary> {
     summaries
 }
 
-// What the merge of the pieces by a plan has: how many counters, those of a and d, the total and the
-// slack.
+// What the merge of the pieces by a plan has: how many counters, those of a and d, the total and
+// the slack.
 fn merge_of(
     rt: &(impl Abort + AllocGlobal),
     plan: &Plan,

@@ -111,11 +111,13 @@ fn tally_by_four<R: Threads + Sync>(rt: &R, sums: &SharedSums, mut seat: SumSeat
     let (mut one, other) = join(
         rt,
         || -> SumSeat
-            requires { IsSync R.row × (seat.sums ≡ sums.now) × (sums.now.claims ≡ 100) × (sums.now.cells ≡ 3) }
+            requires { IsSync R.row × (seat.sums ≡ sums.now)
+                × (sums.now.claims ≡ 100) × (sums.now.cells ≡ 3) }
             ensures { result.sums ≡ sums.entry.now }
         { tally_by_two(rt, sums, seat) },
         || -> SumSeat
-            requires { IsSync R.row × (half.sums ≡ sums.now) × (sums.now.claims ≡ 100) × (sums.now.cells ≡ 3) }
+            requires { IsSync R.row × (half.sums ≡ sums.now)
+                × (sums.now.claims ≡ 100) × (sums.now.cells ≡ 3) }
             ensures { result.sums ≡ sums.entry.now }
         { tally_by_two(rt, sums, half) },
     );

@@ -19,9 +19,12 @@ table_of_cells-requires g c =
     let all = subst (λ n. HasAllBelow n seat.claims) count (c.if-not-holds_all.ensures.all.0 refl) in
     let low : total_of stream ≤ max_total = omega (arith, c.total-total.ensures.total, c.total-total.ensures.bounded) in
     let depth = c.depth.ensures.depth ∙ ap (λ f. length f.rows) c.family.ensures.family in
-    let cells : c.in_ok-sums.sums.cells ≡ length options.family.rows * options.width = c.in_ok-sums.ensures.cells ∙ (λ i. depth i * c.width.ensures.width i) in
+    let cells : c.in_ok-sums.sums.cells ≡ length options.family.rows * options.width = c.in_ok-sums.ensures.cells
+    ∙ (λ i. depth i * c.width.ensures.width i) in
     let closed = c.in_ok-cells.ensures in
-    closed_cells c.cells_are_cell_sums.ensures (pieces_of lengths stream) stream options seat _ c.in_ok-cells.cells.items (c.pieces_make_the_whole.ensures.whole lengths stream c.requires) low c.in_ok-seat.ensures.all_done distinct all
+    closed_cells c.cells_are_cell_sums.ensures (pieces_of lengths stream) stream options seat _
+    c.in_ok-cells.cells.items (c.pieces_make_the_whole.ensures.whole lengths stream c.requires) low
+    c.in_ok-seat.ensures.all_done distinct all
     (omega (arith, closed.len, c.in_ok-cells.cells.ok))
     (λ cell inside. closed.sums cell (omega arith))
 
@@ -38,5 +41,6 @@ returns-clause-summaries g c =
     let kept = c.in_ok-seat.ensures.all_done.summaries in
     let numbers = sym (ap (map (λ (it : ℕ × Sketch). it.0)) kept ∙ numbers_at k pieces seat.claims) in
     let found = found_are k pieces seat.claims c.in_ok-seat.found.items kept in
-    c.in_ok-summaries.ensures (λ i. sketch_of k (piece_of pieces i)) (length pieces) found (subst (IsDistinctBelow (length pieces)) numbers distinct) (subst (HasAllBelow (length pieces)) numbers all)
+    c.in_ok-summaries.ensures (λ i. sketch_of k (piece_of pieces i)) (length pieces) found
+    (subst (IsDistinctBelow (length pieces)) numbers distinct) (subst (HasAllBelow (length pieces)) numbers all)
     ∙ by_number k pieces

@@ -1,4 +1,4 @@
-use Rattle.hh_pool.proofs.Merged.{length-leaves}
+use Rattle.hh_pool.proofs.MergeFacts.{length-leaves}
 use Rattle.hh_pool.proofs.TreeFacts.{balanced-merges}
 use Rattle.hh_pool.proofs.plan.Plan.balanced.Goals as goal
 

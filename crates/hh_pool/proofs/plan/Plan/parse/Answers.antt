@@ -1,4 +1,4 @@
-use Rattle.hh_pool.proofs.Merged.{length-leaves}
+use Rattle.hh_pool.proofs.MergeFacts.{length-leaves}
 use Rattle.hh_pool.proofs.plan.Plan.parse.Goals as goal
 
 pub returns-in-Ok-clause-pieces : goal.returns-in-Ok-clause-pieces
