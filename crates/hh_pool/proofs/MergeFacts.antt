@@ -1,5 +1,5 @@
 -- The leaves of a tree, and what its parts need and give where its summaries are merged.
-use Rattle.std.proofs.Common.{◌≡◌, ◌≢◌, ◌+◌, ◌<◌, ◌≤◌, ◌∷◌, ◌++◌, ◌∙◌, ℕ, List, [], length, Ok, Err, refl, sym, arith}
+use Rattle.std.proofs.Common.{◌≡◌, ◌+◌, ◌<◌, ◌∙◌, ℕ, List, [], length, Ok, Err, refl, sym, arith}
 use Rattle.std.specs.Prelude.{slice_index_or, sum_by}
 use Rattle.hh_counters.specs.Counters.{Sketch}
 use Rattle.hh_counters.specs.declared.summary.MergeFault.{MergeFault}

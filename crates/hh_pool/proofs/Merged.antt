@@ -12,7 +12,7 @@ use Rattle.hh_counters.specs.declared.summary.MergeFault.{MergeFault}
 use Rattle.hh_counters.specs.Report.{contenders, heavy, selected, thinned, weights_at}
 use Rattle.hh_counters.specs.Laws.{MisraGriesIsHonest, JoinOfHonestIsHonest, ContendersSuffice, ThinnedSuffice}
 use Rattle.hh_shared.specs.Tally.{times}
-use Rattle.hh_pool.specs.Trees.{MergeTree, Piece, Merge, IsMergeTree, MergesHonestly, leaves, merge_both, merge_result, no_sketch, tree_result, tree_value}
+use Rattle.hh_pool.specs.Trees.{MergeTree, Piece, Merge, IsMergeTree, leaves, merge_both, merge_result, no_sketch, tree_result, tree_value}
 use Rattle.hh_pool.specs.Laws.{TreesMergeSummaries}
 use Rattle.hh_pool.specs.Outcomes.{AreEnough, IsMerged}
 use Rattle.hh_shared.proofs.Tallies.{times-here}
@@ -43,7 +43,8 @@ total-sketches : (k : ℕ) (pieces : List (List Entry)) → sum_by (λ (s : Sket
     ≡ total_of (whole_of pieces)
 total-sketches k [] = refl
 total-sketches k (p ∷ ps) =
-    omega (arith, sum_by-cons (λ (s : Sketch). s.total) (sketch_of k p) (map (sketch_of k) ps), total-sketches k ps, sum_by-append (λ (e : Entry). e.1) p (whole_of ps))
+    let first = sum_by-cons (λ (s : Sketch). s.total) (sketch_of k p) (map (sketch_of k) ps) in
+    omega (arith, first, total-sketches k ps, sum_by-append (λ (e : Entry). e.1) p (whole_of ps))
 
 counters-sketches : (k : ℕ) (pieces : List (List Entry)) → map (λ (s : Sketch). s.counters) (map (sketch_of k) pieces)
     ≡ map (λ p. misra_gries p k) pieces

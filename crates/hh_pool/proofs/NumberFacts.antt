@@ -49,8 +49,9 @@ pub numbers-more : (marks : List Bool) (p n d : ℕ) (xs : List ℕ) → n < len
     → get_or xs n d < p → get_or marks (get_or xs n d) false ≡ false
     → AreMarked (set marks (get_or xs n d) true) p (take (n + 1) xs) × IsDistinctBelow p (take (n + 1) xs)
 numbers-more marks p n d xs lt m own below e =
-    rw (take_more xs n d lt)
-    (marked-push marks p (get_or xs n d) (take n xs) m below, distinct-push p (get_or xs n d) (take n xs) own below (new marks p (get_or xs n d) (take n xs) m below e))
+    let x = get_or xs n d in
+    let distinct = distinct-push p x (take n xs) own below (new marks p x (take n xs) m below e) in
+    rw (take_more xs n d lt) (marked-push marks p x (take n xs) m below, distinct)
 
 -- different numbers below p, each of which came, are the leaves of a merge tree
 pub all-came : (t : MergeTree) (marks : List Bool) (p : ℕ) → AreMarked marks p (leaves t) → IsDistinctBelow p (leaves t)
@@ -78,4 +79,6 @@ pub missing : (marks : List Bool) (p i : ℕ) (xs : List ℕ) → AreMarked mark
     → ((j : ℕ) → j < i → get_or marks j false ≡ true) → NumbersRefused p xs (fault.MissingPiece i)
 missing marks p i xs m own lt e below =
     let within : i < p = omega (arith, lt, m.0) in
-    (own, within, new marks p i xs m within e, λ j less. came marks p j xs m (omega (arith, less, within)) (below j less))
+    let others : (j : ℕ) → j < i → 0 < times j xs =
+    λ j less. came marks p j xs m (omega (arith, less, within)) (below j less) in
+    (own, within, new marks p i xs m within e, others)

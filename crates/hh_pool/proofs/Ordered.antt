@@ -45,7 +45,10 @@ numbered : (xs : List ℕ) (n : ℕ) → IsStrictlyIncreasing xs → length xs �
     → (i : ℕ) → i < n → get_or xs i 0 ≡ i
 numbered xs n rises count below i low =
     let last : i + (n - 1 - i) ≡ n - 1 = omega (arith, low) in
-    omega (arith, climbs xs rises 0 i (omega arith), ap (λ j. get_or xs j 0) (zero-add i), climbs xs rises i (n - 1 - i) (omega arith), ap (λ j. get_or xs j 0) last, below (n - 1) (omega arith))
+    let first = ap (λ j. get_or xs j 0) (zero-add i) in
+    let end = ap (λ j. get_or xs j 0) last in
+    let above = climbs xs rises i (n - 1 - i) (omega arith) in
+    omega (arith, climbs xs rises 0 i (omega arith), first, above, end, below (n - 1) (omega arith))
 
 rising : (xs : List ℕ) → ((k : ℕ) → k + 1 < length xs → get_or xs k 0 ≤ get_or xs (k + 1) 0)
     → ((j : ℕ) → times j xs < 2) → IsStrictlyIncreasing xs
@@ -80,7 +83,10 @@ ordered f n found sorted theirs distinct all perm sort =
     λ i low. once.below (get_or are i 0) (stands are i (omega arith)) in
     let rises : IsStrictlyIncreasing are = rising are (λ k within.
     let inside : k + 1 < length sorted = omega (arith, within, length-map sorted number) in
-    omega (arith, get_or-map number sorted k d 0 (omega arith), get_or-map number sorted (k + 1) d 0 inside, ge_from_not_lt (get_or sorted (k + 1) d).0 (get_or sorted k d).0 (sort k d (omega arith) inside)))
+    let here = get_or-map number sorted k d 0 (omega arith) in
+    let next = get_or-map number sorted (k + 1) d 0 inside in
+    let risen = ge_from_not_lt (get_or sorted (k + 1) d).0 (get_or sorted k d).0 (sort k d (omega arith) inside) in
+    omega (arith, here, next, risen))
     once.once in
     fill_by_all f (map (λ (it : ℕ × Sketch). it.1) sorted) n no_sketch (length-map sorted (λ (it : ℕ × Sketch). it.1)
     ∙ long) (λ i low.

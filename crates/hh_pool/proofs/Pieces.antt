@@ -1,5 +1,5 @@
 -- Sums over the items of pieces.
-use Rattle.std.proofs.Common.{◌≡◌, ℕ, suc, ◌+◌, ◌≤◌, cond, Bool, true, false, List, [], ◌∷◌, length, refl, sym, ap, ◌∙◌, arith}
+use Rattle.std.proofs.Common.{◌≡◌, ℕ, suc, ◌+◌, ◌≤◌, cond, Bool, true, false, List, [], ◌∷◌, length, refl, sym, ap, ◌∙◌, subst, arith}
 use Rattle.std.specs.Prelude.{sum_by}
 use Rattle.std.specs.List.{flat_map}
 use Rattle.std.proofs.lemmas.List.Sums.{sum_by-cons, sum_by-append, sum_by-le-sum_by}
@@ -42,9 +42,21 @@ sum_by-all_items f pieces claims d all = sum_by-flat_map f (piece_of pieces) cla
 pub sum_by-items : (f : Entry → ℕ) (pieces : List (List Entry)) (claims : List ℕ)
     → IsDistinctBelow (length pieces) claims → sum_by f (items_at pieces claims) ≤ sum_by f (whole_of pieces)
 sum_by-items f pieces claims d =
-    omega (arith, sum_by-flat_map f (piece_of pieces) claims, sum_by-distinct (sum_by f) [] pieces claims d, sum_by-flat_map f (λ piece. piece) pieces)
+    let parts = sum_by-flat_map f (piece_of pieces) claims in
+    let whole = sum_by-flat_map f (λ piece. piece) pieces in
+    omega (arith, parts, sum_by-distinct (sum_by f) [] pieces claims d, whole)
 
 -- a cutting gives as many pieces as it has lengths
 pub length-pieces_of : {A : Type 0} (ns : List ℕ) (xs : List A) → length (pieces_of ns xs) ≡ length ns
 length-pieces_of [] xs = refl
 length-pieces_of (n ∷ ns) xs = ap suc (length-pieces_of ns _)
+
+-- numbers that are different and below the count of a cutting's lengths are so below the count of its pieces
+pub distinct_pieces : {A : Type 0} (ns : List ℕ) (xs : List A) (count : ℕ) (claims : List ℕ) → count ≡ length ns
+    → IsDistinctBelow count claims → IsDistinctBelow (length (pieces_of ns xs)) claims
+distinct_pieces ns xs count claims e = subst (λ n. IsDistinctBelow n claims) (e ∙ sym (length-pieces_of ns xs))
+
+-- and all of those are all of these
+pub all_pieces : {A : Type 0} (ns : List ℕ) (xs : List A) (count : ℕ) (claims : List ℕ) → count ≡ length ns
+    → HasAllBelow count claims → HasAllBelow (length (pieces_of ns xs)) claims
+all_pieces ns xs count claims e = subst (λ n. HasAllBelow n claims) (e ∙ sym (length-pieces_of ns xs))

@@ -324,7 +324,9 @@ syntax-at text n d s lt h stuck = record {
 }
   where
     stuck-steps : (rest : List ℕ) → steps first_reading (take (n + 1) text ++ rest) ≡ None
-    stuck-steps rest = rw (steps-append first_reading (take (n + 1) text) rest, take_more text n d lt, steps-append first_reading (take n text) (get_or text n d ∷ []), h, ← stuck) refl
+    stuck-steps rest =
+        let more = steps-append first_reading (take n text) (get_or text n d ∷ []) in
+        rw (steps-append first_reading (take (n + 1) text) rest, take_more text n d lt, more, h, ← stuck) refl
 
     stops : (t : MergeTree) → Begins (take (n + 1) text) t → ⊥
     stops t (has, (rest, e)) = let bad = sym (text-read t has) ∙ ap (steps first_reading) e ∙ stuck-steps rest in cc bad

@@ -1,17 +1,14 @@
 -- What a tree makes of honest counters is honest, and so a report of condensed parts is that of the whole.
-use Rattle.std.proofs.Common.{◌≡◌, ◌+◌, ◌<◌, ◌++◌, ℕ, List, [], length, map, refl, sym, subst, arith}
-use Rattle.std.specs.Prelude.{filter, slice_index_or, IsPermutation}
-use Rattle.std.specs.List.{flat_map}
+use Rattle.std.proofs.Common.{◌+◌, ◌<◌, ◌++◌, ℕ, List, [], length, map, sym, subst, arith}
+use Rattle.std.specs.Prelude.{slice_index_or}
 use Rattle.std.proofs.lemmas.List.{get_or-map}
 use Rattle.std.proofs.lemmas.List.Sums.{sum_by-append}
-use Rattle.hh_stream.specs.Weights.{Bytes, Entry, at_key, total_of, weight_of}
+use Rattle.hh_stream.specs.Weights.{Entry, total_of}
 use Rattle.hh_stream.specs.Cuttings.{whole_of}
 use Rattle.hh_counters.specs.Counters.{Counters, IsHonest, join, misra_gries}
-use Rattle.hh_counters.specs.Report.{has_counter, heavy}
-use Rattle.hh_counters.specs.Condensed.{condensed}
 use Rattle.hh_counters.specs.Laws.{MisraGriesIsHonest, JoinOfHonestIsHonest, HonestInAnyOrder, CondensedPartsReport}
 use Rattle.hh_shared.specs.Tally.{times}
-use Rattle.hh_pool.specs.Trees.{MergeTree, Piece, Merge, IsMergeTree, items_of, leaves, tree_value}
+use Rattle.hh_pool.specs.Trees.{MergeTree, Piece, Merge, items_of, leaves, tree_value}
 use Rattle.hh_pool.specs.Laws.{PartsReportByAnyTree, TreesAreHonest}
 use Rattle.hh_shared.proofs.Tallies.{times-here}
 use Rattle.hh_pool.proofs.MergeFacts.{at-left, at-right, distinct-leaves}

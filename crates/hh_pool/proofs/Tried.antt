@@ -1,20 +1,20 @@
 -- One piece more, and what two workers have made together.
-use Rattle.std.proofs.Common.{◌≡◌, ℕ, zero, suc, ◌+◌, ◌*◌, ◌<◌, ◌≤◌, eqb, cond, eq-eqb, ne_eqb, List, [], ◌∷◌, ◌++◌, length, get_or, map, replicate, take, length-take, zero-add, ⊎_elim, refl, sym, ap, ◌∙◌, subst, arith}
-use Rattle.std.proofs.lemmas.List.{map-append, get_or-take, get_or_past, append-nil, get_or_append_left, get_or_push, length-append}
+use Rattle.std.proofs.Common.{◌≡◌, ℕ, zero, suc, ◌+◌, ◌*◌, ◌^◌, ◌<◌, ◌≤◌, List, [], ◌∷◌, ◌++◌, length, get_or, map, replicate, ⊎_elim, refl, sym, ap, ◌∙◌, subst, arith}
+use Rattle.std.proofs.lemmas.List.{map-append, append-nil, get_or_append_left, get_or_push, length-append}
 use Rattle.std.specs.List.{range_with_len}
-use Rattle.std.specs.Prelude.{All, slice_get, Some}
+use Rattle.std.specs.Prelude.{All, slice_get, Some, sum_by}
 use Rattle.std.proofs.lemmas.Option.{get_or_from_slice_get, slice_get-map}
 use Rattle.std.specs.Option.{option_map}
 use Rattle.std.proofs.lemmas.List.Elements.{All-nil, All-cons, All-push}
 use Rattle.std.specs.List.Sorted.{IsStrictlyIncreasing}
 use Rattle.std.proofs.lemmas.Grind.{flat_map-append}
-use Rattle.std.proofs.lemmas.Bool.{cases_lt, cases_order}
+use Rattle.std.proofs.lemmas.Bool.{cases_lt}
 use mathlib.Core.Logic.{dite}
 use native.Mathlib.Decide.{ℕ_discrete}
-use Rattle.hh_stream.specs.Weights.{Bytes, Entry, at_key, weight_of, total_of}
-use Rattle.hh_stream.specs.Cuttings.{whole_of}
+use Rattle.hh_stream.specs.Weights.{Bytes, Entry, at_key, max_total, weight_of, total_of}
+use Rattle.hh_stream.specs.Cuttings.{pieces_of, whole_of}
 use Rattle.hh_shared.proofs.Tallies.{times-append, times-push, added-append}
-use Rattle.hh_pool.proofs.Pieces.{sum_by-items, weight_of-le}
+use Rattle.hh_pool.proofs.Pieces.{distinct_pieces, sum_by-items, weight_of-le}
 use Rattle.std.proofs.lemmas.List.Sums.{sum_by-append}
 use Rattle.hh_counters.specs.Report.{weights_at, counted}
 use Rattle.hh_counters.specs.Counters.{Sketch, sketch_of}
@@ -67,7 +67,8 @@ pub claim-behind_cell : (family : Coefficients) (width : ℕ) (pieces : List (Li
     → grid ≡ table_of family width (items_at pieces claims) → (cell : ℕ) → 0 < get_or grid.cells cell 0
     → 0 < length claims
 claim-behind_cell family width pieces [] grid e cell some =
-    absurd (omega (arith, ap (λ g. get_or g.cells cell 0) e, all_zero (range_with_len 0 (length family.rows * width)) cell))
+    let none = all_zero (range_with_len 0 (length family.rows * width)) cell in
+    absurd (omega (arith, ap (λ g. get_or g.cells cell 0) e, none))
 claim-behind_cell family width pieces (i ∷ is) grid e cell some = omega arith
 
 -- numbers that rise, and one above them
@@ -78,7 +79,8 @@ rising-push xs n rises low k within = ⊎_elim
     (arith, rises k l, get_or_append_left xs (n ∷ []) 0 k (omega arith), get_or_append_left xs (n ∷ []) 0 (k + 1) l))
     (λ (h : length xs ≤ k + 1).
     let last : k + 1 ≡ length xs = omega (arith, within, length-append xs (n ∷ [])) in
-    omega (arith, low k 0 (omega arith), get_or_append_left xs (n ∷ []) 0 k (omega arith), get_or_push xs n 0 (k + 1) (sym last)))
+    let there = get_or_append_left xs (n ∷ []) 0 k (omega arith) in
+    omega (arith, low k 0 (omega arith), there, get_or_push xs n 0 (k + 1) (sym last)))
     (cases_lt (k + 1) (length xs))
 
 -- what a worker has tried: nothing, one piece more that it met, and one more that it claimed
@@ -170,20 +172,28 @@ pub first_joined : (pieces : List (List Entry)) (settings : Settings) (one other
 first_joined pieces settings one other kept more p q = record {
   tried = tried-joined (length pieces) one other p.tried;
   adds = λ r c row cell.
-      let items = ap (cell_sum settings.family settings.width r c) (items_at-append pieces one.claims other.claims)
-      ∙ sum_by-append (at_cell settings.family settings.width r c) (items_at pieces one.claims)
-      (items_at pieces other.claims) in
-      omega (arith, added-append (r * settings.width + c) one.adds other.adds, p.adds r c row cell, q.adds r c row cell);
+      let f = at_cell settings.family settings.width r c in
+      let items = ap (sum_by f) (items_at-append pieces one.claims other.claims) in
+      let sum = sum_by-append f (items_at pieces one.claims) (items_at pieces other.claims) in
+      let both = added-append (r * settings.width + c) one.adds other.adds in
+      omega (arith, items, sum, both, p.adds r c row cell, q.adds r c row cell);
   summaries = (λ i. p.summaries i ++ q.summaries i) ∙ sym (map-append _ one.claims other.claims);
 }
 
--- the pieces claimed so far and the next one weigh at most what the stream does
-pub next_total : (pieces : List (List Entry)) (claims : List ℕ) (n : ℕ)
-    → IsDistinctBelow (length pieces) (claims ++ n ∷ [])
-    → total_of (items_at pieces claims) + total_of (piece_of pieces n) ≤ total_of (whole_of pieces)
-next_total pieces claims n distinct =
-    omega (arith, sum_by-items (λ (e : Entry). e.1) pieces (claims ++ n ∷ []) distinct, ap total_of (items_at-push pieces claims n), sum_by-append (λ (e : Entry). e.1) (items_at pieces claims) (piece_of pieces n))
+-- the pieces claimed so far and the next one weigh at most what a stream may
+pub next_total : (lengths : List ℕ) (xs piece : List Entry) (n count : ℕ) (seat after : Holding) → count ≡ length lengths
+    → after ≡ record seat { claims = seat.claims ++ n ∷ [] } → IsDistinctBelow count after.claims
+    → piece ≡ piece_of (pieces_of lengths xs) n → whole_of (pieces_of lengths xs) ≡ xs → total_of xs ≤ max_total
+    → total_of (items_at (pieces_of lengths xs) seat.claims) + total_of piece ≤ max_total
+next_total lengths xs piece n count seat after long e distinct is whole most =
+    let weight : Entry → ℕ = λ e. e.1 in
+    let pieces = pieces_of lengths xs in
+    let all = sum_by-items weight pieces after.claims (distinct_pieces lengths xs count after.claims long distinct) in
+    let claims = ap (λ h. total_of (items_at pieces h.claims)) e ∙ ap total_of (items_at-push pieces seat.claims n) in
+    let sum = sum_by-append weight (items_at pieces seat.claims) (piece_of pieces n) in
+    omega (arith, all, claims, sum, ap total_of is, ap total_of whole)
 
+-- no items have no weights
 pub no_weights : (keys : List Bytes) → replicate (length keys) 0 ≡ weights_at keys []
 no_weights [] = refl
 no_weights (k ∷ ks) = ap (λ ns. 0 ∷ ns) (no_weights ks)
@@ -219,14 +229,18 @@ second_claimed pieces keys n seat after numbers more e distinct f p =
           ∙ ap (weights_at keys) (sym (items_at-push pieces seat.claims n) ∙ ap (items_at pieces) (sym claims))));
     }
 
--- each weight in these items, with so much more, is below a limit
-pub weights_fit : (xs : List Entry) (more limit : ℕ) → total_of xs + more < limit → (keys : List Bytes)
-    → All (λ (m : ℕ). m + more < limit) (weights_at keys xs)
-weights_fit xs more limit low [] = All-nil (λ (m : ℕ). m + more < limit)
-weights_fit xs more limit low (k ∷ ks) =
-    All-cons (λ (m : ℕ). m + more < limit) (weight_of k xs) (weights_at ks xs) (omega (arith, weight_of-le k xs))
-    (weights_fit xs more limit low ks)
+-- each weight in these items, with so much more, fits a number
+pub weights_fit : (keys : List Bytes) (xs : List Entry) (more : ℕ) (weights : List ℕ) → total_of xs + more ≤ max_total
+    → weights ≡ weights_at keys xs → All (λ (m : ℕ). m + more < 2 ^ 64) weights
+weights_fit keys xs more weights low e = subst (All (λ (m : ℕ). m + more < 2 ^ 64)) (sym e) (each keys)
+  where
+    each : (keys : List Bytes) → All (λ (m : ℕ). m + more < 2 ^ 64) (weights_at keys xs)
+    each [] = All-nil (λ (m : ℕ). m + more < 2 ^ 64)
+    each (k ∷ ks) =
+        All-cons (λ (m : ℕ). m + more < 2 ^ 64) (weight_of k xs) (weights_at ks xs)
+        (omega (arith, weight_of-le k xs)) (each ks)
 
+-- the number at a key's place is the key's weight
 pub weight_behind_number : (keys : List Bytes) (xs : List Entry) (i : ℕ) (key : Bytes) → slice_get keys i ≡ Some key
     → get_or (weights_at keys xs) i 0 ≡ weight_of key xs
 weight_behind_number keys xs i key at =
@@ -256,7 +270,10 @@ second_ends pieces keys seat after numbers e adds p =
       work = record {
         tried = subst (HasTried (length pieces)) (sym e) p.so_far.tried;
         adds = λ i key at.
-            omega (arith, adds i, ap (added i) p.so_far.none_added, ap (λ ns. get_or ns i 0) p.numbers, weight_behind_number keys (items_at pieces seat.claims) i key at, ap (λ is. weight_of key (items_at pieces is)) claims);
+            let weight = weight_behind_number keys (items_at pieces seat.claims) i key at in
+            let numbers = ap (λ ns. get_or ns i 0) p.numbers in
+            let items = ap (λ is. weight_of key (items_at pieces is)) claims in
+            omega (arith, adds i, ap (added i) p.so_far.none_added, numbers, weight, items);
       };
     }
 

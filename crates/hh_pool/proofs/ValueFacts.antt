@@ -6,7 +6,7 @@ use Rattle.std.proofs.lemmas.List.Sums.{sum_by-append, sum_by-cons}
 use Rattle.std.proofs.Math.ListN.{get_or-map}
 use Rattle.std.proofs.lemmas.List.Elements.{All-from_get_or}
 use Rattle.hh_stream.specs.Cuttings.{whole_of}
-use Rattle.hh_stream.specs.Weights.{Bytes, Entry, at_key, max_total, total_of, weight_of}
+use Rattle.hh_stream.specs.Weights.{Bytes, Entry, at_key, max_total, weight_of}
 use Rattle.hh_counters.specs.Counters.{Counters, IsHonest, Sketch, merged}
 use Rattle.hh_counters.specs.Laws.{JoinOfHonestIsHonest}
 use Rattle.hh_counters.specs.declared.summary.MergeFault.{MergeFault}
@@ -69,7 +69,9 @@ value-of (Merge l r) ss u h =
         → IsValue (Merge l r) ss (merged s t)
     value-merge l r ss s t same vl vr = record {
       k = λ i some. elim (in-part i (leaves l) (leaves r) some) [ inl a ↦ vl.k i a | inr b ↦ vr.k i b ∙ sym same ];
-      total = rw (sum_by-append (λ i. (slice_index_or ss i no_sketch).total) (leaves l) (leaves r), ← vl.total, ← vr.total) refl;
+      total =
+          let both = sum_by-append (λ i. (slice_index_or ss i no_sketch).total) (leaves l) (leaves r) in
+          rw (both, ← vl.total, ← vr.total) refl;
       counters = rw (vl.counters, vr.counters, same) refl;
     }
 

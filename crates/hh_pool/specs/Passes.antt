@@ -25,8 +25,8 @@ abbrev pub HasTried : ℕ → Holding → Type 0
 HasTried n seat = (i : ℕ) → i < n → 0 < times i seat.claims + times i seat.met
 
 -- What workers of the first pass bring back together. Each piece was claimed or met. The additions to the cell that
--- has row r, cell c of the table sum up to the table's cell over the claimed pieces, and the summaries are exactly those
--- of the claimed pieces
+-- has row r, cell c of the table sum up to the table's cell over the claimed pieces, and the summaries are exactly
+-- those of the claimed pieces
 pub record AreFirstPasses (pieces : List (List Entry)) (settings : Settings) (seat : Holding)
     (kept : List (ℕ × Sketch)) : Type 0 where
   pub tried : HasTried (length pieces) seat

@@ -1,9 +1,9 @@
-use Rattle.std.proofs.Common.{◌≡◌, ◌≤◌, ◌<◌, ◌∙◌, ℕ, get_or, refl, sym, subst, arith}
+use Rattle.std.proofs.Common.{◌≡◌, ◌≤◌, ◌<◌, ◌∙◌, ℕ, get_or, refl, arith}
 use Rattle.std.specs.Prelude.{IfOk, Result, Ok, Err, vec_len}
 use Rattle.hh_stream.specs.Weights.{total_of, max_total}
 use Rattle.hh_stream.specs.Cuttings.{pieces_of}
-use Rattle.hh_shared.specs.Tally.{IsDistinctBelow, HasAllBelow, sum_at}
-use Rattle.hh_pool.proofs.Pieces.{length-pieces_of}
+use Rattle.hh_shared.specs.Tally.{sum_at}
+use Rattle.hh_pool.proofs.Pieces.{all_pieces, distinct_pieces}
 use Rattle.hh_pool.proofs.Closed.{closed_weights}
 use Rattle.hh_pool.proofs.analysis.weigh.Goals as goal
 
@@ -18,9 +18,9 @@ returns g c =
     let lengths = c.args.cutting.now in
     let stream = c.args.stream.now in
     let seat = c.in_ok-seat.seat in
-    let count = c.in_ok-sums.ensures.claims ∙ (c.count.ensures.count ∙ sym (length-pieces_of lengths stream)) in
-    let distinct = subst (λ n. IsDistinctBelow n seat.claims) count c.if-not-holds_all.ensures.distinct in
-    let all = subst (λ n. HasAllBelow n seat.claims) count (c.if-not-holds_all.ensures.all.0 refl) in
+    let count = c.in_ok-sums.ensures.claims ∙ c.count.ensures.count in
+    let distinct = distinct_pieces lengths stream _ _ count c.if-not-holds_all.ensures.distinct in
+    let all = all_pieces lengths stream _ _ count (c.if-not-holds_all.ensures.all.0 refl) in
     let low : total_of stream ≤ max_total = omega (arith, c.total-total.ensures.total, c.total-total.ensures.bounded) in
     let cells = c.in_ok-sums.ensures.cells ∙ c.len.ensures.len in
     follows_from c.close.result (λ v. vec_len v ≡ c.in_ok-sums.sums.cells) (λ v. (cell : ℕ)

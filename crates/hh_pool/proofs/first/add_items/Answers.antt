@@ -16,7 +16,9 @@ loop-item-preserved c =
     let after : c.add.new.self ≡ added c.loop-item.table e = c.in-Ok.ensures.added
     ∙ ap (added c.loop-item.table) item in
     record {
-      total = omega (arith, ap (λ (t : Grid). t.total) after, c.loop-item.invariant.total, ap total_of more, sum_by_push (λ (x : Entry). x.1) (take i items) e);
+      total =
+          let push = sum_by_push (λ (x : Entry). x.1) (take i items) e in
+          omega (arith, ap (λ (t : Grid). t.total) after, c.loop-item.invariant.total, ap total_of more, push);
       table = λ family width xs was.
           after
           ∙ (ap (λ (t : Grid). added t e) (c.loop-item.invariant.table family width xs was)

@@ -17,20 +17,23 @@ merge_tree-requires t c =
     let l = c.in-Node.left.value in
     let r = c.in-Node.right.value in
     let size : merges (shape c.args.tree.now) ≡ 1 + merges (shape l) + merges (shape r) = rw c.in-Node.is refl in
-    rw c.deref.ensures (omega (arith, size, c.decreases), (left-places (shape l) (shape r) _ (rw c.in-Node.is at c.requires.places), c.requires.fits))
+    let places = left-places (shape l) (shape r) _ (rw c.in-Node.is at c.requires.places) in
+    rw c.deref.ensures (omega (arith, size, c.decreases), (places, c.requires.fits))
 
 pub merge_tree-requires-in-Node : goal.merge_tree-requires-in-Node
 merge_tree-requires-in-Node t c =
     let l = c.in-Node.left.value in
     let r = c.in-Node.right.value in
     let size : merges (shape c.args.tree.now) ≡ 1 + merges (shape l) + merges (shape r) = rw c.in-Node.is refl in
+    let places = right-places (shape l) (shape r) _ (rw c.in-Node.is at c.requires.places) in
     rw (c.deref-in-Node.ensures, c.merge_tree.auto.summaries)
-    (omega (arith, size, c.decreases), (right-places (shape l) (shape r) _ (rw c.in-Node.is at c.requires.places), c.requires.fits))
+    (omega (arith, size, c.decreases), (places, c.requires.fits))
 
 pub returns-in-Leaf-clause-merged : goal.returns-in-Leaf-clause-merged
 returns-in-Leaf-clause-merged t c =
     let below = piece-place c.in-Leaf.i _ (rw c.in-Leaf.is at c.requires.places) in
-    rw (c.in-Leaf.is, c.take_summary.ensures, get_or_default c.args.summaries.now c.in-Leaf.i c.index-summaries-i.result no_sketch below) refl
+    let here = get_or_default c.args.summaries.now c.in-Leaf.i c.index-summaries-i.result no_sketch below in
+    rw (c.in-Leaf.is, c.take_summary.ensures, here) refl
 
 pub returns-in-Ok-merge_tree-clause-merged : goal.returns-in-Ok-merge_tree-clause-merged
 returns-in-Ok-merge_tree-clause-merged t c =

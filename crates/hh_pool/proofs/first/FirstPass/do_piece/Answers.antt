@@ -1,5 +1,5 @@
 use Rattle.std.proofs.Common.{◌<◌, ◌++◌, ◌∷◌, ◌∙◌, List, [], length, take, ap, arith}
-use Rattle.hh_stream.specs.Weights.{Entry, total_of}
+use Rattle.hh_stream.specs.Weights.{Entry}
 use Rattle.hh_stream.specs.Cuttings.{whole_of}
 use Rattle.hh_counters.specs.Counters.{sketch_of}
 use Rattle.hh_countmin.specs.Table.{Grid, table_of}
@@ -10,10 +10,9 @@ use Rattle.hh_pool.proofs.first.FirstPass.do_piece.Goals as goal
 
 pub add_items-requires : goal.add_items-requires
 add_items-requires g c =
-    let pieces = first_pieces c.args.self.now in
-    let within : c.args.piece < length pieces =
-    omega (arith, c.requires.piece, length-pieces_of c.args.self.now.cutting.now c.args.self.now.stream.now) in
-    omega (arith, total-more pieces c.args.piece within, ap total_of c.piece-items.ensures.whole, ap total_of c.piece-items.ensures.piece, ap (λ (t : Grid). t.total) c.requires.before.table, c.piece-items.ensures.stream)
+    let next = c.piece-items.ensures in
+    let most = total-more _ _ _ _ c.requires.piece next.piece next.whole next.stream in
+    omega (arith, most, ap (λ (t : Grid). t.total) c.requires.before.table)
 
 pub returns : goal.returns
 returns g c =

@@ -1,4 +1,3 @@
-use Rattle.std.proofs.Common.{◌≡◌, take}
 use Rattle.hh_pool.specs.Progress.{HasDoneSecond}
 use Rattle.hh_pool.proofs.second.SecondPass.alone.Given as goal
 
