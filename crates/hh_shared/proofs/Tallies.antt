@@ -14,34 +14,46 @@ use Rattle.hh_shared.specs.Tally.{times, added, IsDistinctBelow, HasAllBelow}
 
 module _ {A : Type 0} where
   -- where one element is replaced, the sum changes by what that element adds
-  pub sum_by-replace : (f : A → ℕ) (xs : List A) (i : ℕ) (v w : A) → get_elem? xs i ≡ some v → sum_by f (set xs i w) + f v ≡ sum_by f xs + f w
+  pub sum_by-replace : (f : A → ℕ) (xs : List A) (i : ℕ) (v w : A) → get_elem? xs i ≡ some v
+      → sum_by f (set xs i w) + f v ≡ sum_by f xs + f w
   sum_by-replace f [] i v w e = absurd (some-ne-none v (sym e))
-  sum_by-replace f (x ∷ xs) zero v w e = let same : f x ≡ f v = ap f (some-injective x v e) in omega (arith, sum_by-cons f x xs, sum_by-cons f w xs)
-  sum_by-replace f (x ∷ xs) (suc i) v w e = omega (arith, sum_by-replace f xs i v w e, sum_by-cons f x xs, sum_by-cons f x (set xs i w))
+  sum_by-replace f (x ∷ xs) zero v w e = let same : f x ≡ f v = ap f (some-injective x v e) in
+      omega (arith, sum_by-cons f x xs, sum_by-cons f w xs)
+  sum_by-replace f (x ∷ xs) (suc i) v w e =
+      omega (arith, sum_by-replace f xs i v w e, sum_by-cons f x xs, sum_by-cons f x (set xs i w))
 
   -- one element adds no more than all
   pub at-le-sum_by : (f : A → ℕ) (xs : List A) (i : ℕ) (v : A) → get_elem? xs i ≡ some v → f v ≤ sum_by f xs
   at-le-sum_by f [] i v e = absurd (some-ne-none v (sym e))
-  at-le-sum_by f (x ∷ xs) zero v e = let same : f x ≡ f v = ap f (some-injective x v e) in omega (arith, sum_by-cons f x xs)
+  at-le-sum_by f (x ∷ xs) zero v e = let same : f x ≡ f v = ap f (some-injective x v e) in
+      omega (arith, sum_by-cons f x xs)
   at-le-sum_by f (x ∷ xs) (suc i) v e = omega (arith, at-le-sum_by f xs i v e, sum_by-cons f x xs)
 
   -- two elements together add no more than all
-  pub two-le-sum_by : (f : A → ℕ) (xs : List A) (i k : ℕ) (v u : A) → k ≢ i → get_elem? xs i ≡ some v → get_elem? xs k ≡ some u → f v + f u ≤ sum_by f xs
+  pub two-le-sum_by : (f : A → ℕ) (xs : List A) (i k : ℕ) (v u : A) → k ≢ i → get_elem? xs i ≡ some v
+      → get_elem? xs k ≡ some u → f v + f u ≤ sum_by f xs
   two-le-sum_by f [] i k v u n e d = absurd (some-ne-none v (sym e))
   two-le-sum_by f (x ∷ xs) zero zero v u n e d = absurd (n refl)
-  two-le-sum_by f (x ∷ xs) zero (suc k) v u n e d = let same : f x ≡ f v = ap f (some-injective x v e) in omega (arith, at-le-sum_by f xs k u d, sum_by-cons f x xs)
-  two-le-sum_by f (x ∷ xs) (suc i) zero v u n e d = let same : f x ≡ f u = ap f (some-injective x u d) in omega (arith, at-le-sum_by f xs i v e, sum_by-cons f x xs)
-  two-le-sum_by f (x ∷ xs) (suc i) (suc k) v u n e d = omega (arith, two-le-sum_by f xs i k v u (λ q. n (ap suc q)) e d, sum_by-cons f x xs)
+  two-le-sum_by f (x ∷ xs) zero (suc k) v u n e d = let same : f x ≡ f v = ap f (some-injective x v e) in
+      omega (arith, at-le-sum_by f xs k u d, sum_by-cons f x xs)
+  two-le-sum_by f (x ∷ xs) (suc i) zero v u n e d = let same : f x ≡ f u = ap f (some-injective x u d) in
+      omega (arith, at-le-sum_by f xs i v e, sum_by-cons f x xs)
+  two-le-sum_by f (x ∷ xs) (suc i) (suc k) v u n e d =
+      omega (arith, two-le-sum_by f xs i k v u (λ q. n (ap suc q)) e d, sum_by-cons f x xs)
 
   sum_by-none : (f : A → ℕ) (xs : List A) → ((k : ℕ) (u : A) → get_elem? xs k ≡ some u → f u ≡ 0) → sum_by f xs ≡ 0
   sum_by-none f [] none = refl
-  sum_by-none f (x ∷ xs) none = omega (arith, none 0 x refl, sum_by-none f xs (λ k u. none (suc k) u), sum_by-cons f x xs)
+  sum_by-none f (x ∷ xs) none =
+      omega (arith, none 0 x refl, sum_by-none f xs (λ k u. none (suc k) u), sum_by-cons f x xs)
 
   -- where all other elements add nothing, the sum is what one adds
-  pub sum_by-only : (f : A → ℕ) (xs : List A) (i : ℕ) (v : A) → get_elem? xs i ≡ some v → ((k : ℕ) (u : A) → k ≢ i → get_elem? xs k ≡ some u → f u ≡ 0) → sum_by f xs ≡ f v
+  pub sum_by-only : (f : A → ℕ) (xs : List A) (i : ℕ) (v : A) → get_elem? xs i ≡ some v
+      → ((k : ℕ) (u : A) → k ≢ i → get_elem? xs k ≡ some u → f u ≡ 0) → sum_by f xs ≡ f v
   sum_by-only f [] i v e others = absurd (some-ne-none v (sym e))
-  sum_by-only f (x ∷ xs) zero v e others = let same : f x ≡ f v = ap f (some-injective x v e) in omega (arith, sum_by-none f xs (λ k u. others (suc k) u (λ q. omega arith)), sum_by-cons f x xs)
-  sum_by-only f (x ∷ xs) (suc i) v e others = omega (arith, others 0 x (λ q. omega arith) refl, sum_by-only f xs i v e (λ k u n. others (suc k) u (λ q. n (omega arith))), sum_by-cons f x xs)
+  sum_by-only f (x ∷ xs) zero v e others = let same : f x ≡ f v = ap f (some-injective x v e) in
+      omega (arith, sum_by-none f xs (λ k u. others (suc k) u (λ q. omega arith)), sum_by-cons f x xs)
+  sum_by-only f (x ∷ xs) (suc i) v e others =
+      omega (arith, others 0 x (λ q. omega arith) refl, sum_by-only f xs i v e (λ k u n. others (suc k) u (λ q. n (omega arith))), sum_by-cons f x xs)
 
 -- the counts of a number in two lists add up, and so do the additions to a cell
 pub times-append : (i : ℕ) (xs ys : List ℕ) → times i (xs ++ ys) ≡ times i xs + times i ys
