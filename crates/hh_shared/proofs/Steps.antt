@@ -103,7 +103,9 @@ claimed_free n m ws seats id j seat k at low free =
     let mine : get_or (set ws j 1) j 0 ≡ all_claimed j (set seats id after) =
     omega (arith, here, claimed-replace j seats id seat after at, times-push j seat.claims, k.claimed j low) in
     let others : (i : ℕ) → i < n → i ≢ j → get_or (set ws j 1) i 0 ≡ all_claimed i (set seats id after) =
-    (λ i l ne. omega (arith, elsewhere i ne, claimed-replace i seats id seat after at, times-push_other j i seat.claims ne, k.claimed i l)) in
+    (λ i l ne.
+    let sum = claimed-replace i seats id seat after at in
+    omega (arith, elsewhere i ne, sum, times-push_other j i seat.claims ne, k.claimed i l)) in
     record {
       size = length-set ws j 1 ∙ k.size;
       each = each-set (Fits n (set ws j 1)) seats id after
@@ -247,11 +249,15 @@ merged n m ws seats id other one two k at apart there =
           })
           k.each);
       claimed = λ i l.
-          omega (arith, claimed-replace i seats id one both at, claimed-replace i half other two spent there, times-append i one.claims two.claims, k.claimed i l);
+          let first = claimed-replace i seats id one both at in
+          let second = claimed-replace i half other two spent there in
+          omega (arith, first, second, times-append i one.claims two.claims, k.claimed i l);
       once = k.once;
       summed = λ cell l.
+          let first = added-replace cell seats id one both at in
+          let second = added-replace cell half other two spent there in
           let same : all_added cell (set half other spent) ≡ all_added cell seats =
-          omega (arith, added-replace cell seats id one both at, added-replace cell half other two spent there, added-append cell one.adds two.adds) in
+          omega (arith, first, second, added-append cell one.adds two.adds) in
           k.summed cell l ∙ ap (λ x. x % 2 ^ 64) (sym same);
     }
 
@@ -270,7 +276,8 @@ closes n m ws seats id seat k at all cell inside =
     (λ (none : u.claims ≡ []). ap (added cell) (f.idle none))
     (λ (its : (j : ℕ) × (0 < times j u.claims)).
     let low = f.claims_below its.0 its.1 in
-    absurd (omega (arith, all.has its.0 low, k.claimed its.0 low, k.once its.0 low, two-le-sum_by (λ (y : Lists). times its.0 y.claims) seats id other seat u apart at there)))
+    let two = two-le-sum_by (λ (y : Lists). times its.0 y.claims) seats id other seat u apart at there in
+    absurd (omega (arith, all.has its.0 low, k.claimed its.0 low, k.once its.0 low, two)))
     (none-or-some u.claims)) in
     k.summed cell inside ∙ ap (λ x. x % 2 ^ 64)
     (sum_by-only (λ (u : Lists). added cell u.adds) seats id seat at nothing)
@@ -336,7 +343,8 @@ add_step counts slots id me first cell amount e same some_claim inside s k homes
     let kept = subst (λ x. IsTallied counts.0 counts.1
     (set s.words (x + cell) ((get_or s.words (x + cell) 0 + amount) % 2 ^ 64)) (set s.views id after)) (sym e)
     (added_to counts.0 counts.1 s.words s.views id cell amount seat k at some_claim inside) in
-    (after, keeps, tt, kept, (ap (λ x. lists seat.counts seat.claims seat.met (seat.adds ++ (x, amount) ∷ [])) here, refl))
+    let is = ap (λ x. lists seat.counts seat.claims seat.met (seat.adds ++ (x, amount) ∷ [])) here in
+    (after, keeps, tt, kept, (is, refl))
 
 pub look_step : (counts : ℕ × ℕ) (slots id : ℕ) (me : Me ℕ Lists) → me.0.counts ≡ counts
     → Allows (λ s. IsTallied counts.0 counts.1 s.words s.views) slots id me 0 (λ n. n) (λ n after. Looks me.0 after.0

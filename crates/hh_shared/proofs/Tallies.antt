@@ -53,7 +53,8 @@ module _ {A : Type 0} where
   sum_by-only f (x ∷ xs) zero v e others = let same : f x ≡ f v = ap f (some-injective x v e) in
       omega (arith, sum_by-none f xs (λ k u. others (suc k) u (λ q. omega arith)), sum_by-cons f x xs)
   sum_by-only f (x ∷ xs) (suc i) v e others =
-      omega (arith, others 0 x (λ q. omega arith) refl, sum_by-only f xs i v e (λ k u n. others (suc k) u (λ q. n (omega arith))), sum_by-cons f x xs)
+      let rest = sum_by-only f xs i v e (λ k u n. others (suc k) u (λ q. n (omega arith))) in
+      omega (arith, others 0 x (λ q. omega arith) refl, rest, sum_by-cons f x xs)
 
 -- the counts of a number in two lists add up, and so do the additions to a cell
 pub times-append : (i : ℕ) (xs ys : List ℕ) → times i (xs ++ ys) ≡ times i xs + times i ys

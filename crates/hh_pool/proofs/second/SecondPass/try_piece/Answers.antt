@@ -13,7 +13,8 @@ count_piece-requires-clause-bounded g c k d low =
     let claim = c.if-claim.ensures in
     let most = next_total _ _ _ _ _ _ _ c.requires.claims claim.claimed_or_met claim.distinct next.piece next.whole
     next.stream in
-    weights_fit _ (items_at (second_pieces c.args.self.now) c.args.seat.now.claims) _ _ most c.requires.before.numbers k d low
+    let before = items_at (second_pieces c.args.self.now) c.args.seat.now.claims in
+    weights_fit _ before _ _ most c.requires.before.numbers k d low
 
 pub returns-then-claim-clause-after : goal.returns-then-claim-clause-after
 returns-then-claim-clause-after g c =
