@@ -12,18 +12,18 @@ use Rattle.hh_pool.specs.PlanTexts.{Begins, Done, HasText, IsSyntaxFault, Left, 
 
 -- ---- what was read
 -- the text before the place that is read
-abbrev opened : List Open → List ℕ
-opened [] = []
-opened (Left ∷ os) = opened os ++ 40 ∷ []
-opened (Right l ∷ os) = opened os ++ (40 ∷ (text_of l ++ 32 ∷ []))
+abbrev outer_text : List Open → List ℕ
+outer_text [] = []
+outer_text (Left ∷ os) = outer_text os ++ 40 ∷ []
+outer_text (Right l ∷ os) = outer_text os ++ (40 ∷ (text_of l ++ 32 ∷ []))
 
 abbrev now_text : Now → List ℕ
 now_text Start = []
 now_text (Number n) = decimal n
 now_text (Done t) = text_of t
 
-abbrev spelled : Reading → List ℕ
-spelled s = opened s.outer ++ now_text s.now
+abbrev read_text : Reading → List ℕ
+read_text s = outer_text s.outer ++ now_text s.now
 
 -- the trees that were read have texts, at their depth
 abbrev AreSound : List Open → Type 0
@@ -60,12 +60,12 @@ decimal-first c low high =
 -- ---- one more byte is one more byte of what was read
 after-sound : (t : MergeTree) (os : List Open) (c : ℕ) (s : Reading) → AreSound os → length os + nesting t ≤ 1023
     → has_short_numbers t ≡ true
-    → after_tree t os c ≡ Some s → (spelled s ≡ (opened os ++ text_of t) ++ c ∷ []) × IsSound s
+    → after_tree t os c ≡ Some s → (read_text s ≡ (outer_text os ++ text_of t) ++ c ∷ []) × IsSound s
 after-sound t [] c s so deep short h = cc h
 after-sound t (Left ∷ os) c s so deep short h = by (eqb_tells c 32)
   where
     by : ((c == 32) ≡ true) × (c ≡ 32) ⊎ ((c == 32) ≡ false) × (c ≢ 32)
-        → (spelled s ≡ (opened (Left ∷ os) ++ text_of t) ++ c ∷ []) × IsSound s
+        → (read_text s ≡ (outer_text (Left ∷ os) ++ text_of t) ++ c ∷ []) × IsSound s
     by (inr e) = let bad = rw e.0 at h in cc bad
     by (inl e) =
         let is = some-eq (record { now = Start; outer = Right t ∷ os }) s (rw e.0 at h) in
@@ -80,7 +80,7 @@ after-sound t (Left ∷ os) c s so deep short h = by (eqb_tells c 32)
 after-sound t (Right l ∷ os) c s so deep short h = by (eqb_tells c 41)
   where
     by : ((c == 41) ≡ true) × (c ≡ 41) ⊎ ((c == 41) ≡ false) × (c ≢ 41)
-        → (spelled s ≡ (opened (Right l ∷ os) ++ text_of t) ++ c ∷ []) × IsSound s
+        → (read_text s ≡ (outer_text (Right l ∷ os) ++ text_of t) ++ c ∷ []) × IsSound s
     by (inr e) = let bad = rw e.0 at h in cc bad
     by (inl e) =
         let is = some-eq (record { now = Done (Merge l t); outer = os }) s (rw e.0 at h) in
@@ -108,25 +108,25 @@ digit-tells c = by (is_digit c) refl
     by false e = inr e
 
 start-sound : (os : List Open) (c : ℕ) (s : Reading) → AreSound os → length os ≤ 1023 → at_start os c ≡ Some s
-    → (spelled s ≡ opened os ++ c ∷ []) × IsSound s
+    → (read_text s ≡ outer_text os ++ c ∷ []) × IsSound s
 start-sound os c s so deep h = by (digit-tells c) ((c == 40) && nat_lt (length os) 1023) refl
   where
     is-open : (c == 40) && nat_lt (length os) 1023 ≡ true → (c ≡ 40) × (length os < 1023)
     is-open e = (grind (arith, nat_tests), grind (arith, nat_tests))
 
     by : ((is_digit c ≡ true) × (48 ≤ c) × (c ≤ 57)) ⊎ (is_digit c ≡ false) → (b : Bool)
-        → (c == 40) && nat_lt (length os) 1023 ≡ b → (spelled s ≡ opened os ++ c ∷ []) × IsSound s
+        → (c == 40) && nat_lt (length os) 1023 ≡ b → (read_text s ≡ outer_text os ++ c ∷ []) × IsSound s
     by (inl d) b e =
         let is = some-eq (record { now = Number (c - 48); outer = os }) s (rw d.0 at h) in
         rw (← is, decimal-first c d.1 d.2) (refl, record { outer = so; now = (omega (arith, d.2), deep) })
     by (inr d) true e =
         let is = some-eq (record { now = Start; outer = Left ∷ os }) s (rw (d, e) at h) in
         let o = is-open e in
-        rw (← is, o.0) (append-nil (opened os ++ 40 ∷ []), record { outer = (o.1, so); now = omega (arith, o.1) })
+        rw (← is, o.0) (append-nil (outer_text os ++ 40 ∷ []), record { outer = (o.1, so); now = omega (arith, o.1) })
     by (inr d) false e = let bad = rw (d, e) at h in cc bad
 
 number-sound : (n : ℕ) (os : List Open) (c : ℕ) (s : Reading) → AreSound os → n < 10000 → length os ≤ 1023
-    → step (record { now = Number n; outer = os }) c ≡ Some s → (spelled s ≡ (opened os ++ decimal n) ++ c ∷ [])
+    → step (record { now = Number n; outer = os }) c ≡ Some s → (read_text s ≡ (outer_text os ++ decimal n) ++ c ∷ [])
     × IsSound s
 number-sound n os c s so small deep h = by (digit-tells c) (nat_le 1 n && nat_lt n 1000) refl
   where
@@ -137,12 +137,12 @@ number-sound n os c s so small deep h = by (digit-tells c) (nat_le 1 n && nat_lt
     short = grind (arith, nat_tests)
 
     by : ((is_digit c ≡ true) × (48 ≤ c) × (c ≤ 57)) ⊎ (is_digit c ≡ false) → (b : Bool)
-        → nat_le 1 n && nat_lt n 1000 ≡ b → (spelled s ≡ (opened os ++ decimal n) ++ c ∷ []) × IsSound s
+        → nat_le 1 n && nat_lt n 1000 ≡ b → (read_text s ≡ (outer_text os ++ decimal n) ++ c ∷ []) × IsSound s
     by (inl d) true e =
         let m = middle e in
         let is = some-eq (record { now = Number (n * 10 + (c - 48)); outer = os }) s (rw (d.0, e) at h) in
         rw (← is, decimal-more n c m.0 m.1 d.1 d.2) (
-          sym (append_assoc (opened os) (decimal n) (c ∷ [])),
+          sym (append_assoc (outer_text os) (decimal n) (c ∷ [])),
           record {
             outer = so;
             now =
@@ -153,13 +153,13 @@ number-sound n os c s so small deep h = by (digit-tells c) (nat_le 1 n && nat_lt
     by (inr d) b e = after-sound (Piece n) os c s so (omega (arith, deep)) short (rw d at h)
 
 step-sound : (s : Reading) (c : ℕ) (s' : Reading) → IsSound s → step s c ≡ Some s'
-    → (spelled s' ≡ spelled s ++ c ∷ []) × IsSound s'
+    → (read_text s' ≡ read_text s ++ c ∷ []) × IsSound s'
 step-sound s c s' sound h = by s.now s.outer sound.outer sound.now h
   where
     by : (now : Now) (os : List Open) → AreSound os → IsSoundNow now (length os)
         → step (record { now = now; outer = os }) c ≡ Some s'
-        → (spelled s' ≡ (opened os ++ now_text now) ++ c ∷ []) × IsSound s'
-    by Start os so sn h = rw (append-nil (opened os)) (start-sound os c s' so sn h)
+        → (read_text s' ≡ (outer_text os ++ now_text now) ++ c ∷ []) × IsSound s'
+    by Start os so sn h = rw (append-nil (outer_text os)) (start-sound os c s' so sn h)
     by (Number n) os so sn h = number-sound n os c s' so sn.0 sn.1 h
     by (Done t) os so sn h = after-sound t os c s' so sn.0 sn.1 h
 
@@ -243,14 +243,14 @@ end-read : (t : MergeTree) → read_tree (record { now = end_of t; outer = [] })
 end-read (Piece i) = refl
 end-read (Merge l r) = refl
 
-read-spells : (s : Reading) (t : MergeTree) → IsSound s → read_tree s ≡ Some t → Spells (spelled s) t
+read-spells : (s : Reading) (t : MergeTree) → IsSound s → read_tree s ≡ Some t → Spells (read_text s) t
 read-spells s t sound h = by s.now s.outer sound.now h
   where
     some-tree : (x y : MergeTree) → ◌≡◌ {A = Option MergeTree} (Some x) (Some y) → x ≡ y
     some-tree x y e = cc e
 
     by : (now : Now) (os : List Open) → IsSoundNow now (length os) → read_tree (record { now = now; outer = os })
-        ≡ Some t → Spells (opened os ++ now_text now) t
+        ≡ Some t → Spells (outer_text os ++ now_text now) t
     by Start os sn h = cc h
     by (Number n) [] sn h = rw (← some-tree (Piece n) t h)
         (record { tree = record { short = grind (arith, nat_tests); shallow = omega arith }; bytes = refl })
@@ -260,30 +260,30 @@ read-spells s t sound h = by s.now s.outer sound.now h
     by (Done u) (o ∷ os) sn h = cc h
 
 -- ---- each reading can be continued
-closed : (os : List Open) (t : MergeTree) → AreSound os → length os + nesting t ≤ 1023 → has_short_numbers t ≡ true
-    → (u : MergeTree) × HasText u × ((rest : List ℕ) × (text_of u ≡ (opened os ++ text_of t) ++ rest))
-closed [] t so deep short =
+has-continuation : (os : List Open) (t : MergeTree) → AreSound os → length os + nesting t ≤ 1023 → has_short_numbers t ≡ true
+    → (u : MergeTree) × HasText u × ((rest : List ℕ) × (text_of u ≡ (outer_text os ++ text_of t) ++ rest))
+has-continuation [] t so deep short =
     (t, record { short = short; shallow = omega (arith, deep) }, ([], sym (append-nil (text_of t))))
-closed (Left ∷ os) t so deep short =
-    let (u, has, (rest, e)) = closed os (Merge t (Piece 0)) so.1 (omega (arith, deep)) (rw short refl) in
+has-continuation (Left ∷ os) t so deep short =
+    let (u, has, (rest, e)) = has-continuation os (Merge t (Piece 0)) so.1 (omega (arith, deep)) (rw short refl) in
     (u, has, (32 ∷ (decimal 0 ++ 41 ∷ []) ++ rest, e ∙ simp append_assoc))
-closed (Right l ∷ os) t so deep short =
-    let (u, has, (rest, e)) = closed os (Merge l t) so.2 (omega (arith, deep, so.0)) (rw (so.1, short) refl) in
+has-continuation (Right l ∷ os) t so deep short =
+    let (u, has, (rest, e)) = has-continuation os (Merge l t) so.2 (omega (arith, deep, so.0)) (rw (so.1, short) refl) in
     (u, has, (41 ∷ rest, e ∙ simp append_assoc))
 
-reading-continues : (s : Reading) → IsSound s → (t : MergeTree) × Begins (spelled s) t
+reading-continues : (s : Reading) → IsSound s → (t : MergeTree) × Begins (read_text s) t
 reading-continues s sound = by s.now s.outer sound.outer sound.now
   where
     by : (now : Now) (os : List Open) → AreSound os → IsSoundNow now (length os)
-        → (t : MergeTree) × Begins (opened os ++ now_text now) t
+        → (t : MergeTree) × Begins (outer_text os ++ now_text now) t
     by Start os so sn =
-        let (u, has, (rest, e)) = closed os (Piece 0) so (omega (arith, sn)) refl in
+        let (u, has, (rest, e)) = has-continuation os (Piece 0) so (omega (arith, sn)) refl in
         (u, (has, (decimal 0 ++ rest, e ∙ simp (append_assoc, append-nil))))
     by (Number n) os so sn =
-        let (u, has, more) = closed os (Piece n) so (omega (arith, sn.1)) (grind (arith, nat_tests)) in
+        let (u, has, more) = has-continuation os (Piece n) so (omega (arith, sn.1)) (grind (arith, nat_tests)) in
         (u, (has, more))
     by (Done t) os so sn =
-        let (u, has, more) = closed os t so sn.0 sn.1 in
+        let (u, has, more) = has-continuation os t so sn.0 sn.1 in
         (u, (has, more))
 
 -- ---- where the first byte stands that can't go on
@@ -291,28 +291,32 @@ first-sound : IsSound first_reading
 first-sound = record { outer = tt; now = omega arith }
 
 steps-sound : (s : Reading) (xs : List ℕ) (s' : Reading) → IsSound s → steps s xs ≡ Some s'
-    → (spelled s' ≡ spelled s ++ xs) × IsSound s'
-steps-sound s [] s' sound h = rw (← some-eq s s' h) (sym (append-nil (spelled s)), sound)
+    → (read_text s' ≡ read_text s ++ xs) × IsSound s'
+steps-sound s [] s' sound h = rw (← some-eq s s' h) (sym (append-nil (read_text s)), sound)
 steps-sound s (x ∷ xs) s' sound h = by (step s x) refl (λ m e. steps-sound m xs s' (step-sound s x m sound e).1) h
   where
     by : (o : Option Reading) → step s x ≡ o
-        → ((m : Reading) → step s x ≡ Some m → steps m xs ≡ Some s' → (spelled s' ≡ spelled m ++ xs) × IsSound s')
-        → option_and_then (λ s. steps s xs) o ≡ Some s' → (spelled s' ≡ spelled s ++ x ∷ xs) × IsSound s'
+        → ((m : Reading) → step s x ≡ Some m → steps m xs ≡ Some s' → (read_text s' ≡ read_text m ++ xs) × IsSound s')
+        → option_and_then (λ s. steps s xs) o ≡ Some s' → (read_text s' ≡ read_text s ++ x ∷ xs) × IsSound s'
     by None e more h = cc h
     by (Some m) e more h =
         let rest = more m e h in
         let first = (step-sound s x m sound e).0 in
-        (rest.0 ∙ ap (λ (t : List ℕ). t ++ xs) first ∙ append_assoc (spelled s) (x ∷ []) xs, rest.1)
+        (rest.0 ∙ ap (λ (t : List ℕ). t ++ xs) first ∙ append_assoc (read_text s) (x ∷ []) xs, rest.1)
 
 -- what was read so far is the text so far
-read-so-far : (text : List ℕ) (s : Reading) → steps first_reading text ≡ Some s → (spelled s ≡ text) × IsSound s
+read-so-far : (text : List ℕ) (s : Reading) → steps first_reading text ≡ Some s → (read_text s ≡ text) × IsSound s
 read-so-far text s h = steps-sound first_reading text s first-sound h
+
+-- the text is read one byte further
 
 pub steps-more : (text : List ℕ) (n d : ℕ) (s s' : Reading) → n < length text
     → steps first_reading (take n text) ≡ Some s → Some s' ≡ step s (get_or text n d)
     → steps first_reading (take (n + 1) text) ≡ Some s'
 steps-more text n d s s' lt h e =
     rw (take_more text n d lt, steps-append first_reading (take n text) (get_or text n d ∷ []), h, ← e) refl
+
+-- where no step goes on, the text has its syntax fault
 
 pub syntax-at : (text : List ℕ) (n d : ℕ) (s : Reading) → n < length text → steps first_reading (take n text) ≡ Some s
     → None ≡ step s (get_or text n d) → IsSyntaxFault text n
@@ -330,6 +334,8 @@ syntax-at text n d s lt h stuck = record {
 
     stops : (t : MergeTree) → Begins (take (n + 1) text) t → ⊥
     stops t (has, (rest, e)) = let bad = sym (text-read t has) ∙ ap (steps first_reading) e ∙ stuck-steps rest in cc bad
+
+-- where the reading has not ended with a tree, the text ends too early
 
 pub syntax-end : (text : List ℕ) (s : Reading) → steps first_reading text ≡ Some s → None ≡ read_tree s
     → IsSyntaxFault text (length text)
@@ -350,6 +356,8 @@ syntax-end text s h none = record {
 pub whole-read : (text : List ℕ) (n : ℕ) (s : Reading) → n ≤ length text → length text ≤ n
     → steps first_reading (take n text) ≡ Some s → steps first_reading text ≡ Some s
 whole-read text n s low high h = let all : n ≡ length text = omega (arith, low, high) in rw (all, take-length text) at h
+
+-- where it has, the text spells that tree
 
 pub spells-end : (text : List ℕ) (s : Reading) (t : MergeTree) → steps first_reading text ≡ Some s
     → Some t ≡ read_tree s → Spells text t

@@ -117,9 +117,13 @@ one_more_claimed pieces n seat after e distinct p =
       none_added = ap (λ h. h.adds) e ∙ p.none_added;
     }
 
+-- a worker of the first pass begins with empty lists and the table of no items
+
 pub first_begins : (pieces : List (List Entry)) (settings : Settings) (sums : Sums) (grid : Grid)
     → grid ≡ table_of settings.family settings.width [] → IsFirstPassUpTo pieces settings 0 (fresh sums) [] grid
 first_begins pieces settings sums grid e = record { so_far = nothing_tried pieces sums; summaries = refl; table = e }
+
+-- it has met one piece more
 
 pub first_met : (pieces : List (List Entry)) (settings : Settings) (n : ℕ) (seat after : Holding)
     (kept : List (ℕ × Sketch)) (grid : Grid) → after ≡ record seat { met = seat.met ++ n ∷ [] }
@@ -127,6 +131,8 @@ pub first_met : (pieces : List (List Entry)) (settings : Settings) (n : ℕ) (se
 first_met pieces settings n seat after kept grid e p =
     subst (λ h. IsFirstPassUpTo pieces settings (n + 1) h kept grid) (sym e)
     (record { so_far = one_more_met pieces n seat p.so_far; summaries = p.summaries; table = p.table })
+
+-- it has claimed one piece more, summarised it and added its items to the table
 
 pub first_claimed : (pieces : List (List Entry)) (settings : Settings) (n : ℕ) (seat after : Holding)
     (kept more : List (ℕ × Sketch)) (grid : Grid)
@@ -166,6 +172,8 @@ first_ends law pieces settings seat after kept grid e adds p =
       };
     }
 
+-- what two workers brought back, joined
+
 pub first_joined : (pieces : List (List Entry)) (settings : Settings) (one other : Holding)
     (kept more : List (ℕ × Sketch)) → AreFirstPasses pieces settings one kept
     → AreFirstPasses pieces settings other more → AreFirstPasses pieces settings (joined one other) (kept ++ more)
@@ -203,6 +211,8 @@ pub second_begins : (pieces : List (List Entry)) (keys : List Bytes) (sums : Sum
     → numbers ≡ replicate (length keys) 0 → IsSecondPassUpTo pieces keys 0 (fresh sums) numbers
 second_begins pieces keys sums numbers e = record { so_far = nothing_tried pieces sums; numbers = e ∙ no_weights keys }
 
+-- one piece more was met
+
 pub second_met : (pieces : List (List Entry)) (keys : List Bytes) (n : ℕ) (seat after : Holding) (numbers : List ℕ)
     → after ≡ record seat { met = seat.met ++ n ∷ [] } → IsSecondPassUpTo pieces keys n seat numbers
     → IsSecondPassUpTo pieces keys (n + 1) after numbers
@@ -214,6 +224,8 @@ pub counted-weights_at : (keys : List Bytes) (xs ys : List Entry)
     → counted keys ys (weights_at keys xs) ≡ weights_at keys (xs ++ ys)
 counted-weights_at [] xs ys = refl
 counted-weights_at (k ∷ ks) xs ys = (λ i. sym (sum_by-append (at_key k) xs ys) i ∷ counted-weights_at ks xs ys i)
+
+-- one piece more was claimed and counted
 
 pub second_claimed : (pieces : List (List Entry)) (keys : List Bytes) (n : ℕ) (seat after : Holding)
     (numbers more : List ℕ)
@@ -276,6 +288,8 @@ second_ends pieces keys seat after numbers e adds p =
             omega (arith, adds i, ap (added i) p.so_far.none_added, numbers, weight, items);
       };
     }
+
+-- what two workers brought back, joined
 
 pub second_joined : (pieces : List (List Entry)) (keys : List Bytes) (one other : Holding)
     → AreSecondPasses pieces keys one → AreSecondPasses pieces keys other

@@ -14,23 +14,23 @@ pub data MergeTree : Type 0 where
   Piece : (number : ℕ) → MergeTree
   Merge : (left right : MergeTree) → MergeTree
 
--- a tree as a stored value, and back
-abbrev pub stored : MergeTree → Gv
-stored (Piece i) = gnum i
-stored (Merge l r) = gcons (stored l) (stored r)
+-- a tree as a code, and back
+abbrev pub code_of : MergeTree → Gv
+code_of (Piece i) = gnum i
+code_of (Merge l r) = gcons (code_of l) (code_of r)
 
-abbrev pub restored : Gv → MergeTree
-restored gnil = Piece 0
-restored (gnum i) = Piece i
-restored (gcons l r) = Merge (restored l) (restored r)
+abbrev pub tree_of_code : Gv → MergeTree
+tree_of_code gnil = Piece 0
+tree_of_code (gnum i) = Piece i
+tree_of_code (gcons l r) = Merge (tree_of_code l) (tree_of_code r)
 
-pub restored-stored : (t : MergeTree) → restored (stored t) ≡ t
-restored-stored (Piece i) = refl
-restored-stored (Merge l r) = λ i. Merge (restored-stored l i) (restored-stored r i)
+pub tree_of_code-code_of : (t : MergeTree) → tree_of_code (code_of t) ≡ t
+tree_of_code-code_of (Piece i) = refl
+tree_of_code-code_of (Merge l r) = λ i. Merge (tree_of_code-code_of l i) (tree_of_code-code_of r i)
 
 -- the code by which proofs tell trees apart
 abbrev pub tree_code : Coded MergeTree
-tree_code = record { code = stored; inj = λ s t e. sym (restored-stored s) ∙ ap restored e ∙ restored-stored t }
+tree_code = record { code = code_of; inj = λ s t e. sym (tree_of_code-code_of s) ∙ ap tree_of_code e ∙ tree_of_code-code_of t }
 
 -- the pieces, from left to right
 abbrev pub leaves : MergeTree → List ℕ

@@ -39,7 +39,7 @@ pub(crate) fn options(alloc: Global, k: u64, workers: u64) -> Result<Options, Fa
     Ok(Options::new(k, 1, k + 1, workers, 4, family)?)
 }
 
-pub(crate) fn analysed<R: Threads + Wait + Abort + Sync, G: Gate + Sync>(
+pub(crate) fn analyse_stream<R: Threads + Wait + Abort + Sync, G: Gate + Sync>(
     rt: &R,
     alloc: Global,
     stream: &Stream,

@@ -2,7 +2,7 @@
 
 ghost use Rattle.std.specs.Prelude.{◌≤◌};
 
-use crate::fixtures::{analysed, four_items, is_of_four_items, options};
+use crate::fixtures::{analyse_stream, four_items, is_of_four_items, options};
 use hh_pool::{Gate, Plan};
 use hh_stream::Cutting;
 use std::alloc::Global;
@@ -130,7 +130,7 @@ fn meets<R: Threads + Wait + Abort + Sync>(
     let cutting = Cutting::even(alloc, stream.len(), pieces)?;
     let plan = Plan::chain(alloc, pieces)?;
     let options = options(alloc, 2, workers)?;
-    let outcome = analysed(rt, alloc, &stream, &cutting, &plan, &options, gate)?;
+    let outcome = analyse_stream(rt, alloc, &stream, &cutting, &plan, &options, gate)?;
     Ok(is_of_four_items(alloc, &outcome)? && gate.is_exact())
 }
 

@@ -87,10 +87,10 @@ not-empty [] x e = cc
 not-empty (y ∷ ys) x e = cc
 
 -- a free claim becomes a seat's
-claimed_free : (n m : ℕ) (ws : List ℕ) (seats : List Lists) (id j : ℕ) (seat : Lists) → IsTallied n m ws seats
+claim_keeps_rule : (n m : ℕ) (ws : List ℕ) (seats : List Lists) (id j : ℕ) (seat : Lists) → IsTallied n m ws seats
     → get_elem? seats id ≡ some seat → j < n → get_or ws j 0 ≡ 0
     → IsTallied n m (set ws j 1) (set seats id (lists seat.counts (seat.claims ++ j ∷ []) seat.met seat.adds))
-claimed_free n m ws seats id j seat k at low free =
+claim_keeps_rule n m ws seats id j seat k at low free =
     let after = lists seat.counts (seat.claims ++ j ∷ []) seat.met seat.adds in
     let size = k.size in
     let f = k.each id seat at in
@@ -128,10 +128,10 @@ claimed_free n m ws seats id j seat k at low free =
     }
 
 -- a claim that was found claimed is met
-claimed_taken : (n m : ℕ) (ws : List ℕ) (seats : List Lists) (id j : ℕ) (seat : Lists) → IsTallied n m ws seats
+meeting_keeps_rule : (n m : ℕ) (ws : List ℕ) (seats : List Lists) (id j : ℕ) (seat : Lists) → IsTallied n m ws seats
     → get_elem? seats id ≡ some seat → j < n → get_or ws j 0 ≡ 1
     → IsTallied n m (set ws j 1) (set seats id (lists seat.counts seat.claims (seat.met ++ j ∷ []) seat.adds))
-claimed_taken n m ws seats id j seat k at low taken =
+meeting_keeps_rule n m ws seats id j seat k at low taken =
     let after = lists seat.counts seat.claims (seat.met ++ j ∷ []) seat.adds in
     let f = k.each id seat at in
     let same_words : set ws j 1 ≡ ws = ap (λ x. set ws j x) (sym taken) ∙ set-get_or ws j 0 in
@@ -157,11 +157,11 @@ claimed_taken n m ws seats id j seat k at low taken =
     subst (λ xs. IsTallied n m xs (set seats id after)) (sym same_words) kept
 
 -- an amount is added to a cell
-added_to : (n m : ℕ) (ws : List ℕ) (seats : List Lists) (id cell amount : ℕ) (seat : Lists) → IsTallied n m ws seats
+addition_keeps_rule : (n m : ℕ) (ws : List ℕ) (seats : List Lists) (id cell amount : ℕ) (seat : Lists) → IsTallied n m ws seats
     → get_elem? seats id ≡ some seat → seat.claims ≢ [] → cell < m
     → IsTallied n m (set ws (n + cell) ((get_or ws (n + cell) 0 + amount) % 2 ^ 64))
     (set seats id (lists seat.counts seat.claims seat.met (seat.adds ++ (cell, amount) ∷ [])))
-added_to n m ws seats id cell amount seat k at some_claim inside =
+addition_keeps_rule n m ws seats id cell amount seat k at some_claim inside =
     let after = lists seat.counts seat.claims seat.met (seat.adds ++ (cell, amount) ∷ []) in
     let sum : ℕ = (get_or ws (n + cell) 0 + amount) % 2 ^ 64 in
     let size = k.size in
@@ -202,9 +202,9 @@ added_to n m ws seats id cell amount seat k at some_claim inside =
     }
 
 -- a new seat comes, with empty lists
-seated : (n m : ℕ) (ws : List ℕ) (seats : List Lists) (counts : ℕ × ℕ) → IsTallied n m ws seats
+split_keeps_rule : (n m : ℕ) (ws : List ℕ) (seats : List Lists) (counts : ℕ × ℕ) → IsTallied n m ws seats
     → IsTallied n m ws (seats ++ newcomer counts ∷ [])
-seated n m ws seats counts k = record {
+split_keeps_rule n m ws seats counts k = record {
   size = k.size;
   each = each-push (Fits n ws) seats (newcomer counts) (fits_new n ws counts) k.each;
   claimed = λ j l. omega (arith, sum_by_push (λ (u : Lists). times j u.claims) seats (newcomer counts), k.claimed j l);
@@ -221,10 +221,10 @@ empty-both [] ys zs ws f g e = let p = f refl in let q = g e in cc
 empty-both (x ∷ xs) ys zs ws f g e = cc
 
 -- the lists of two seats move to the first
-merged : (n m : ℕ) (ws : List ℕ) (seats : List Lists) (id other : ℕ) (one two : Lists) → IsTallied n m ws seats
+join_keeps_rule : (n m : ℕ) (ws : List ℕ) (seats : List Lists) (id other : ℕ) (one two : Lists) → IsTallied n m ws seats
     → get_elem? seats id ≡ some one → (other ≡ id → ⊥) → get_elem? (set seats id (taken_in one two)) other ≡ some two
     → IsTallied n m ws (set (set seats id (taken_in one two)) other spent)
-merged n m ws seats id other one two k at apart there =
+join_keeps_rule n m ws seats id other one two k at apart there =
     let both = taken_in one two in
     let half = set seats id both in
     let was : get_elem? seats other ≡ some two =
@@ -298,7 +298,7 @@ claim_step counts slots id me j same low s k homes at fits =
     dite (ℕ_discrete word 0)
     (λ free.
     let after = lists seat.counts (seat.claims ++ j ∷ []) seat.met seat.adds in
-    let kept = claimed_free n m s.words s.views id j seat k at low free in (
+    let kept = claim_keeps_rule n m s.words s.views id j seat k at low free in (
       after,
       keeps,
       tt,
@@ -316,7 +316,7 @@ claim_step counts slots id me j same low s k homes at fits =
     (λ ne.
     let one : word ≡ 1 = omega (arith, k.once j low) in
     let after = lists seat.counts seat.claims (seat.met ++ j ∷ []) seat.adds in
-    let kept = claimed_taken n m s.words s.views id j seat k at low one in (
+    let kept = meeting_keeps_rule n m s.words s.views id j seat k at low one in (
       after,
       keeps,
       tt,
@@ -332,6 +332,8 @@ claim_step counts slots id me j same low s k homes at fits =
       ),
     ))
 
+-- the same of a step on a cell's word
+
 pub add_step : (counts : ℕ × ℕ) (slots id : ℕ) (me : Me ℕ Lists) (first cell amount : ℕ) → first ≡ counts.0
     → me.0.counts ≡ counts → me.0.claims ≢ [] → cell < counts.1
     → Allows (λ s. IsTallied counts.0 counts.1 s.words s.views) slots id me (first + cell) (λ n. (n + amount) % 2 ^ 64)
@@ -342,9 +344,11 @@ add_step counts slots id me first cell amount e same some_claim inside s k homes
     let here : cell ≡ (first + cell) - seat.counts.0 = (let counts_are = ap (λ (c : ℕ × ℕ). c.0) same in omega arith) in
     let kept = subst (λ x. IsTallied counts.0 counts.1
     (set s.words (x + cell) ((get_or s.words (x + cell) 0 + amount) % 2 ^ 64)) (set s.views id after)) (sym e)
-    (added_to counts.0 counts.1 s.words s.views id cell amount seat k at some_claim inside) in
+    (addition_keeps_rule counts.0 counts.1 s.words s.views id cell amount seat k at some_claim inside) in
     let is = ap (λ x. lists seat.counts seat.claims seat.met (seat.adds ++ (x, amount) ∷ [])) here in
     (after, keeps, tt, kept, (is, refl))
+
+-- of a load
 
 pub look_step : (counts : ℕ × ℕ) (slots id : ℕ) (me : Me ℕ Lists) → me.0.counts ≡ counts
     → Allows (λ s. IsTallied counts.0 counts.1 s.words s.views) slots id me 0 (λ n. n) (λ n after. Looks me.0 after.0
@@ -359,13 +363,17 @@ look_step counts slots id me same s k homes at fits =
     (distinct_at n m _ _ id me.0 k at) in
     (me.0, keeps, tt, kept, ((refl, distinct), refl))
 
+-- of a new seat
+
 pub split_step : (counts : ℕ × ℕ) (id : ℕ) (seat : Lists)
     → Splits {S = ℕ} (λ s. IsTallied counts.0 counts.1 s.words s.views) id seat seat (newcomer seat.counts)
 split_step counts id seat s k at =
-    seated counts.0 counts.1 s.words (set s.views id seat) seat.counts
+    split_keeps_rule counts.0 counts.1 s.words (set s.views id seat) seat.counts
     (subst (λ seats. IsTallied counts.0 counts.1 s.words seats) (sym (set_again s.views id seat at)) k)
+
+-- of a seat that takes in another's lists
 
 pub join_step : (counts : ℕ × ℕ) (id : ℕ) (one : Lists) (other : ℕ) (two : Lists)
     → Joins {S = ℕ} (λ s. IsTallied counts.0 counts.1 s.words s.views) id one other two (taken_in one two) spent
 join_step counts id one other two s k at apart there =
-    merged counts.0 counts.1 s.words s.views id other one two k at apart there
+    join_keeps_rule counts.0 counts.1 s.words s.views id other one two k at apart there

@@ -12,9 +12,9 @@ get_or-at (y ∷ ys) zero x e = some-injective y x e
 get_or-at (y ∷ ys) (suc i) x e = get_or-at ys i x e
 
 -- a list that gains the next value of f has f's values
-pushed : (xs ys : List ℕ) (x : ℕ) (f : ℕ → ℕ) (n : ℕ) → ys ≡ xs ++ x ∷ [] → length xs ≡ n
+get_or-of_push : (xs ys : List ℕ) (x : ℕ) (f : ℕ → ℕ) (n : ℕ) → ys ≡ xs ++ x ∷ [] → length xs ≡ n
     → ((k : ℕ) → k < n → get_or xs k 0 ≡ f k) → x ≡ f n → (k : ℕ) → k < n + 1 → get_or ys k 0 ≡ f k
-pushed xs ys x f n e long before here = below_more (λ k. get_or ys k 0 ≡ f k) n
+get_or-of_push xs ys x f n e long before here = below_more (λ k. get_or ys k 0 ≡ f k) n
     (λ k low. rw e (get_or_append_left xs (x ∷ []) 0 k (omega arith) ∙ before k low))
     (rw e (get_or_push xs x 0 n long ∙ here))
 
@@ -27,7 +27,7 @@ loop-cell-preserved c =
     record {
       len = search rules;
       room = search rules;
-      read = pushed c.loop-cell.sums.items _ c.word.result
+      read = get_or-of_push c.loop-cell.sums.items _ c.word.result
           (λ k. get_or c.close_with-closed.result.words.items (c.self.inside.claims + k) 0) c.loop-cell.cell
           pushes.items (omega (arith, i.len, c.loop-cell.sums.ok)) i.read (sym word);
     }
