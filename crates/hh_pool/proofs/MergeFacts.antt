@@ -26,8 +26,8 @@ all-leaves : (t : MergeTree) (p : ℕ) → IsMergeTree t p → HasAllBelow p (le
 all-leaves t p h = record { has = λ i low. omega (arith, h.once i low) }
 
 -- a merge tree of p pieces has p leaves
-pub length-leaves : (t : MergeTree) (p : ℕ) → IsMergeTree t p → length (leaves t) ≡ p
-length-leaves t p h = all-length p (leaves t) (distinct-leaves t p h) (all-leaves t p h)
+pub length_leaves : (t : MergeTree) (p : ℕ) → IsMergeTree t p → length (leaves t) ≡ p
+length_leaves t p h = all-length p (leaves t) (distinct-leaves t p h) (all-leaves t p h)
 
 -- a sum over the leaves of a merge tree is the sum over the list
 pub sum-leaves : {X : Type 0} (g : X → ℕ) (d : X) (t : MergeTree) (ss : List X) → IsMergeTree t (length ss)

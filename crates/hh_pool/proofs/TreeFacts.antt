@@ -37,11 +37,11 @@ merge_tree : (t : MergeTree) (p : ℕ) → IsRange t 0 p → IsMergeTree t p
 merge_tree t p h = record { once = λ i lt. omega (arith, h i); within = λ i le. omega (arith, h i) }
 
 -- a chain of all pieces is a merge tree
-pub chain-merges : (t : MergeTree) (p : ℕ) → 1 ≤ p → t ≡ chain_of (p - 1) → IsMergeTree t p
-chain-merges t p some e =
+pub chain_merges : (t : MergeTree) (p : ℕ) → 1 ≤ p → t ≡ chain_of (p - 1) → IsMergeTree t p
+chain_merges t p some e =
     let count : p - 1 + 1 ≡ p = omega arith in
     rw e (merge_tree (chain_of (p - 1)) p (rw count at (range-chain (p - 1))))
 
 -- a balanced tree of all pieces is a merge tree
-pub balanced-merges : (t : MergeTree) (p : ℕ) → IsBalanced t 0 p → IsMergeTree t p
-balanced-merges t p h = merge_tree t p (rw (zero-add p) at (range-balanced t 0 p h))
+pub balanced_merges : (t : MergeTree) (p : ℕ) → IsBalanced t 0 p → IsMergeTree t p
+balanced_merges t p h = merge_tree t p (rw (zero-add p) at (range-balanced t 0 p h))

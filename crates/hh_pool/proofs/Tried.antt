@@ -190,7 +190,8 @@ first_joined pieces settings one other kept more p q = record {
 
 -- the pieces claimed so far and the next one weigh at most what a stream may
 pub next_total : (lengths : List ℕ) (xs piece : List Entry) (n count : ℕ) (seat after : Holding)
-    → count ≡ length lengths → after ≡ record seat { claims = seat.claims ++ n ∷ [] } → IsDistinctBelow count after.claims
+    → count ≡ length lengths → after ≡ record seat { claims = seat.claims ++ n ∷ [] }
+    → IsDistinctBelow count after.claims
     → piece ≡ piece_of (pieces_of lengths xs) n → whole_of (pieces_of lengths xs) ≡ xs → total_of xs ≤ max_total
     → total_of (items_at (pieces_of lengths xs) seat.claims) + total_of piece ≤ max_total
 next_total lengths xs piece n count seat after long e distinct is whole most =

@@ -30,7 +30,10 @@ tree_of_code-code_of (Merge l r) = λ i. Merge (tree_of_code-code_of l i) (tree_
 
 -- the code by which proofs tell trees apart
 abbrev pub tree_code : Coded MergeTree
-tree_code = record { code = code_of; inj = λ s t e. sym (tree_of_code-code_of s) ∙ ap tree_of_code e ∙ tree_of_code-code_of t }
+tree_code = record {
+  code = code_of;
+  inj = λ s t e. sym (tree_of_code-code_of s) ∙ ap tree_of_code e ∙ tree_of_code-code_of t;
+}
 
 -- the pieces, from left to right
 abbrev pub leaves : MergeTree → List ℕ

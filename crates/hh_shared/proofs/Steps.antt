@@ -157,7 +157,8 @@ meeting_keeps_rule n m ws seats id j seat k at low taken =
     subst (λ xs. IsTallied n m xs (set seats id after)) (sym same_words) kept
 
 -- an amount is added to a cell
-addition_keeps_rule : (n m : ℕ) (ws : List ℕ) (seats : List Lists) (id cell amount : ℕ) (seat : Lists) → IsTallied n m ws seats
+addition_keeps_rule : (n m : ℕ) (ws : List ℕ) (seats : List Lists) (id cell amount : ℕ) (seat : Lists)
+    → IsTallied n m ws seats
     → get_elem? seats id ≡ some seat → seat.claims ≢ [] → cell < m
     → IsTallied n m (set ws (n + cell) ((get_or ws (n + cell) 0 + amount) % 2 ^ 64))
     (set seats id (lists seat.counts seat.claims seat.met (seat.adds ++ (cell, amount) ∷ [])))

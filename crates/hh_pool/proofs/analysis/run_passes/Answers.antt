@@ -1,13 +1,13 @@
 use Rattle.std.proofs.Common.{◌∙◌, ℕ, length, sym, ap, subst, arith}
 use Rattle.std.specs.Prelude.{zip}
 use Rattle.std.proofs.lemmas.List.{length-map}
-use Rattle.hh_stream.specs.Weights.{total_of}
 use Rattle.hh_stream.specs.Cuttings.{pieces_of}
 use Rattle.hh_counters.specs.Counters.{Sketch, IsHonest, sketch_of}
 use Rattle.hh_counters.specs.Report.{selected}
 use Rattle.hh_countmin.specs.Table.{table_of}
 use Rattle.hh_pool.specs.Trees.{IsMergeTree}
 use Rattle.hh_pool.proofs.Pieces.{length-pieces_of}
+use Rattle.hh_pool.proofs.ValueFacts.{IsMergeOf}
 use Rattle.hh_pool.proofs.Merged.{no_refusal, merged_is, heavy_is}
 use Rattle.hh_pool.proofs.analysis.run_passes.Goals as goal
 
@@ -20,28 +20,20 @@ merge_by-requires g c =
 
 pub unreachable-requires : goal.unreachable-requires
 unreachable-requires g c =
-    let lengths = c.args.cutting.now in
-    let stream = c.args.stream.now in
-    let pieces = pieces_of lengths stream in
-    let plan = subst (IsMergeTree c.args.plan.now) (sym (length-pieces_of lengths stream)) c.requires.plan in
-    let whole = ap total_of (c.pieces_make_the_whole.ensures.whole lengths stream c.requires.same_len) in
-    let refused = c.in-Err-DifferentK.ensures.refused (λ memory. let kind = c.in-Err-DifferentK.field-0-is in cc) in
-    no_refusal c.args.plan.now c.args.options.now.k pieces c.in_ok-summaries.summaries.items c.in-Err-DifferentK.field-0
-    plan (omega (arith, whole, c.total-total.ensures.total, c.total-total.ensures.bounded))
+    let whole = c.pieces_make_the_whole.ensures.whole c.args.cutting.now c.args.stream.now c.requires.same_len in
+    let kind = c.in-Err-DifferentK.field-0-is in
+    let refused = c.in-Err-DifferentK.ensures.refused (λ memory. cc) in
+    let total = c.total-total.ensures in
+    no_refusal _ _ _ _ _ _ c.requires.plan whole (omega (arith, total.total, total.bounded))
     c.in_ok-summaries.ensures.summaries refused
 
 pub unreachable-requires-in-Err-TotalTooLarge : goal.unreachable-requires-in-Err-TotalTooLarge
 unreachable-requires-in-Err-TotalTooLarge g c =
-    let lengths = c.args.cutting.now in
-    let stream = c.args.stream.now in
-    let pieces = pieces_of lengths stream in
-    let plan = subst (IsMergeTree c.args.plan.now) (sym (length-pieces_of lengths stream)) c.requires.plan in
-    let whole = ap total_of (c.pieces_make_the_whole.ensures.whole lengths stream c.requires.same_len) in
-    let refused = c.in-Err-TotalTooLarge.ensures.refused (λ memory. let kind = c.in-Err-TotalTooLarge.field-0-is in
-    cc) in
-    no_refusal c.args.plan.now c.args.options.now.k pieces c.in_ok-summaries.summaries.items
-    c.in-Err-TotalTooLarge.field-0 plan
-    (omega (arith, whole, c.total-total.ensures.total, c.total-total.ensures.bounded))
+    let whole = c.pieces_make_the_whole.ensures.whole c.args.cutting.now c.args.stream.now c.requires.same_len in
+    let kind = c.in-Err-TotalTooLarge.field-0-is in
+    let refused = c.in-Err-TotalTooLarge.ensures.refused (λ memory. cc) in
+    let total = c.total-total.ensures in
+    no_refusal _ _ _ _ _ _ c.requires.plan whole (omega (arith, total.total, total.bounded))
     c.in_ok-summaries.ensures.summaries refused
 
 pub weigh-requires-clause-few : goal.weigh-requires-clause-few
@@ -52,19 +44,13 @@ weigh-requires-clause-few g c = λ _ _.
 
 pub returns-clause-summary : goal.returns-clause-summary
 returns-clause-summary g c =
-    let lengths = c.args.cutting.now in
-    let stream = c.args.stream.now in
     let by = c.in-Ok.ensures in
-    merged_is c.misra_gries_is_honest.ensures c.args.plan.now c.args.options.now.k (pieces_of lengths stream) stream
-    c.in_ok-summaries.summaries.items c.in-Ok.summary (omega (arith, length-pieces_of lengths stream, c.requires.some))
-    (c.pieces_make_the_whole.ensures.whole lengths stream c.requires.same_len)
-    c.in_ok-summaries.ensures.summaries (record {
-      same_k = by.k;
-      total = by.total;
-      counters = by.counters;
-      honest =
-          by.honest;
-    })
+    let of : IsMergeOf c.args.plan.now c.in_ok-summaries.summaries.items c.in-Ok.summary =
+    record { same_k = by.k; total = by.total; counters = by.counters; honest = by.honest } in
+    merged_is c.misra_gries_is_honest.ensures _ _ _ _ _ _
+    (omega (arith, length-pieces_of c.args.cutting.now c.args.stream.now, c.requires.some))
+    (c.pieces_make_the_whole.ensures.whole c.args.cutting.now c.args.stream.now c.requires.same_len)
+    c.in_ok-summaries.ensures.summaries of
 
 pub returns-clause-heavy : goal.returns-clause-heavy
 returns-clause-heavy g c =

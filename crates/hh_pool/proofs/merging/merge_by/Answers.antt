@@ -1,6 +1,6 @@
 use Rattle.std.proofs.Common.{ap, arith, length}
 use Rattle.std.proofs.lemmas.Result.{IfOk-weaker}
-use Rattle.hh_pool.proofs.MergeFacts.{distinct-leaves, length-leaves}
+use Rattle.hh_pool.proofs.MergeFacts.{distinct-leaves, length_leaves}
 use Rattle.hh_pool.proofs.ValueFacts.{merge-of}
 use Rattle.hh_pool.proofs.merging.merge_by.Goals as goal
 
@@ -10,7 +10,7 @@ merge_tree-requires-clause-places c =
 
 pub merge_tree-requires-clause-fits : goal.merge_tree-requires-clause-fits
 merge_tree-requires-clause-fits c =
-    let count = length-leaves c.args.plan.now _ c.requires in
+    let count = length_leaves c.args.plan.now _ c.requires in
     omega (arith, count, c.tree.ensures.few, ap length c.deref_mut.ensures.value)
 
 pub returns-clause-k : goal.returns-clause-k
