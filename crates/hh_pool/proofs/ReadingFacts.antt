@@ -310,7 +310,6 @@ read-so-far : (text : List ℕ) (s : Reading) → steps first_reading text ≡ S
 read-so-far text s h = steps-sound first_reading text s first-sound h
 
 -- the text is read one byte further
-
 pub steps-more : (text : List ℕ) (n d : ℕ) (s s' : Reading) → n < length text
     → steps first_reading (take n text) ≡ Some s → Some s' ≡ step s (get_or text n d)
     → steps first_reading (take (n + 1) text) ≡ Some s'
@@ -318,7 +317,6 @@ steps-more text n d s s' lt h e =
     rw (take_more text n d lt, steps-append first_reading (take n text) (get_or text n d ∷ []), h, ← e) refl
 
 -- where no step goes on, the text has its syntax fault
-
 pub syntax-at : (text : List ℕ) (n d : ℕ) (s : Reading) → n < length text → steps first_reading (take n text) ≡ Some s
     → None ≡ step s (get_or text n d) → IsSyntaxFault text n
 syntax-at text n d s lt h stuck = record {
@@ -337,7 +335,6 @@ syntax-at text n d s lt h stuck = record {
     stops t (has, (rest, e)) = let bad = sym (text-read t has) ∙ ap (steps first_reading) e ∙ stuck-steps rest in cc bad
 
 -- where the reading has not ended with a tree, the text ends too early
-
 pub syntax-end : (text : List ℕ) (s : Reading) → steps first_reading text ≡ Some s → None ≡ read_tree s
     → IsSyntaxFault text (length text)
 syntax-end text s h none = record {
@@ -359,7 +356,6 @@ pub whole-read : (text : List ℕ) (n : ℕ) (s : Reading) → n ≤ length text
 whole-read text n s low high h = let all : n ≡ length text = omega (arith, low, high) in rw (all, take-length text) at h
 
 -- where it has, the text spells that tree
-
 pub spells-end : (text : List ℕ) (s : Reading) (t : MergeTree) → steps first_reading text ≡ Some s
     → Some t ≡ read_tree s → Spells text t
 spells-end text s t h e = let sofar = read-so-far text s h in rw sofar.0 at (read-spells s t sofar.1 (sym e))

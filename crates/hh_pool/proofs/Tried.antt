@@ -118,13 +118,11 @@ one_more_claimed pieces n seat after e distinct p =
     }
 
 -- a worker of the first pass begins with empty lists and the table of no items
-
 pub first_begins : (pieces : List (List Entry)) (settings : Settings) (sums : Sums) (grid : Grid)
     → grid ≡ table_of settings.family settings.width [] → IsFirstPassUpTo pieces settings 0 (fresh sums) [] grid
 first_begins pieces settings sums grid e = record { so_far = nothing_tried pieces sums; summaries = refl; table = e }
 
 -- it has met one piece more
-
 pub first_met : (pieces : List (List Entry)) (settings : Settings) (n : ℕ) (seat after : Holding)
     (kept : List (ℕ × Sketch)) (grid : Grid) → after ≡ record seat { met = seat.met ++ n ∷ [] }
     → IsFirstPassUpTo pieces settings n seat kept grid → IsFirstPassUpTo pieces settings (n + 1) after kept grid
@@ -133,7 +131,6 @@ first_met pieces settings n seat after kept grid e p =
     (record { so_far = one_more_met pieces n seat p.so_far; summaries = p.summaries; table = p.table })
 
 -- it has claimed one piece more, summarised it and added its items to the table
-
 pub first_claimed : (pieces : List (List Entry)) (settings : Settings) (n : ℕ) (seat after : Holding)
     (kept more : List (ℕ × Sketch)) (grid : Grid)
     → after ≡ record seat { claims = seat.claims ++ n ∷ [] } → IsDistinctBelow (length pieces) after.claims
@@ -173,7 +170,6 @@ first_ends law pieces settings seat after kept grid e adds p =
     }
 
 -- what two workers brought back, joined
-
 pub first_joined : (pieces : List (List Entry)) (settings : Settings) (one other : Holding)
     (kept more : List (ℕ × Sketch)) → AreFirstPasses pieces settings one kept
     → AreFirstPasses pieces settings other more → AreFirstPasses pieces settings (joined one other) (kept ++ more)
@@ -213,7 +209,6 @@ pub second_begins : (pieces : List (List Entry)) (keys : List Bytes) (sums : Sum
 second_begins pieces keys sums numbers e = record { so_far = nothing_tried pieces sums; numbers = e ∙ no_weights keys }
 
 -- one piece more was met
-
 pub second_met : (pieces : List (List Entry)) (keys : List Bytes) (n : ℕ) (seat after : Holding) (numbers : List ℕ)
     → after ≡ record seat { met = seat.met ++ n ∷ [] } → IsSecondPassUpTo pieces keys n seat numbers
     → IsSecondPassUpTo pieces keys (n + 1) after numbers
@@ -227,7 +222,6 @@ counted-weights_at [] xs ys = refl
 counted-weights_at (k ∷ ks) xs ys = (λ i. sym (sum_by-append (at_key k) xs ys) i ∷ counted-weights_at ks xs ys i)
 
 -- one piece more was claimed and counted
-
 pub second_claimed : (pieces : List (List Entry)) (keys : List Bytes) (n : ℕ) (seat after : Holding)
     (numbers more : List ℕ)
     → after ≡ record seat { claims = seat.claims ++ n ∷ [] } → IsDistinctBelow (length pieces) after.claims
@@ -291,7 +285,6 @@ second_ends pieces keys seat after numbers e adds p =
     }
 
 -- what two workers brought back, joined
-
 pub second_joined : (pieces : List (List Entry)) (keys : List Bytes) (one other : Holding)
     → AreSecondPasses pieces keys one → AreSecondPasses pieces keys other
     → AreSecondPasses pieces keys (joined one other)

@@ -334,7 +334,6 @@ claim_step counts slots id me j same low s k homes at fits =
     ))
 
 -- the same of a step on a cell's word
-
 pub add_step : (counts : ℕ × ℕ) (slots id : ℕ) (me : Me ℕ Lists) (first cell amount : ℕ) → first ≡ counts.0
     → me.0.counts ≡ counts → me.0.claims ≢ [] → cell < counts.1
     → Allows (λ s. IsTallied counts.0 counts.1 s.words s.views) slots id me (first + cell) (λ n. (n + amount) % 2 ^ 64)
@@ -350,7 +349,6 @@ add_step counts slots id me first cell amount e same some_claim inside s k homes
     (after, keeps, tt, kept, (is, refl))
 
 -- of a load
-
 pub look_step : (counts : ℕ × ℕ) (slots id : ℕ) (me : Me ℕ Lists) → me.0.counts ≡ counts
     → Allows (λ s. IsTallied counts.0 counts.1 s.words s.views) slots id me 0 (λ n. n) (λ n after. Looks me.0 after.0
     × (after.1 ≡ me.1))
@@ -365,7 +363,6 @@ look_step counts slots id me same s k homes at fits =
     (me.0, keeps, tt, kept, ((refl, distinct), refl))
 
 -- of a new seat
-
 pub split_step : (counts : ℕ × ℕ) (id : ℕ) (seat : Lists)
     → Splits {S = ℕ} (λ s. IsTallied counts.0 counts.1 s.words s.views) id seat seat (newcomer seat.counts)
 split_step counts id seat s k at =
@@ -373,7 +370,6 @@ split_step counts id seat s k at =
     (subst (λ seats. IsTallied counts.0 counts.1 s.words seats) (sym (set_again s.views id seat at)) k)
 
 -- of a seat that takes in another's lists
-
 pub join_step : (counts : ℕ × ℕ) (id : ℕ) (one : Lists) (other : ℕ) (two : Lists)
     → Joins {S = ℕ} (λ s. IsTallied counts.0 counts.1 s.words s.views) id one other two (taken_in one two) spent
 join_step counts id one other two s k at apart there =
