@@ -18,8 +18,7 @@ use Rattle.hh_pool.proofs.Tried.{counted-weights_at}
 whole-more : (pieces : List (List Entry)) (n : ℕ) → n < length pieces
     → whole_of (take (n + 1) pieces) ≡ whole_of (take n pieces) ++ piece_of pieces n
 whole-more pieces n low =
-    ap whole_of (take_more pieces n [] low)
-    ∙ (flat_map-append (λ piece. piece) (take n pieces) (piece_of pieces n ∷ [])
+    ap whole_of (take_more pieces n [] low) ∙ (flat_map-append (λ piece. piece) (take n pieces) (piece_of pieces n ∷ [])
     ∙ ap (λ xs. whole_of (take n pieces) ++ xs) (append-nil (piece_of pieces n)))
 
 -- the pieces so far and the next one weigh at most what a stream may
@@ -43,8 +42,7 @@ pub alone_more : (pieces : List (List Entry)) (settings : Settings) (n : ℕ) (s
     → grid ≡ table_of settings.family settings.width (whole_of (take n pieces) ++ piece_of pieces n)
     → IsFirstAloneUpTo pieces settings n sketches was → IsFirstAloneUpTo pieces settings (n + 1) more grid
 alone_more pieces settings n sketches more was grid low e f p = record {
-  summaries = e
-      ∙ (ap (λ ss. ss ++ sketch_of settings.k (piece_of pieces n) ∷ []) p.summaries
+  summaries = e ∙ (ap (λ ss. ss ++ sketch_of settings.k (piece_of pieces n) ∷ []) p.summaries
       ∙ (sym (map-append (sketch_of settings.k) (take n pieces) (piece_of pieces n ∷ []))
       ∙ ap (map (sketch_of settings.k)) (sym (take_more pieces n [] low))));
   table = f ∙ ap (table_of settings.family settings.width) (sym (whole-more pieces n low));

@@ -25,12 +25,10 @@ exact : (n sum : ℕ) → sum ≡ n → n ≤ max_total → sum % 2 ^ 64 ≡ n
 exact n sum e low = omega arith
 
 -- the closed sums of the first pass are the cells of the whole table
-pub closed_cells : CellsAreCellSums
-    → (pieces : List (List Entry)) (xs : List Entry) (settings : Settings) (seat : Holding) (kept : List (ℕ × Sketch))
-    (values : List ℕ)
-    → whole_of pieces ≡ xs → total_of xs ≤ max_total → AreFirstPasses pieces settings seat kept
-    → IsDistinctBelow (length pieces) seat.claims → HasAllBelow (length pieces) seat.claims
-    → length values ≡ length settings.family.rows * settings.width
+pub closed_cells : CellsAreCellSums → (pieces : List (List Entry)) (xs : List Entry) (settings : Settings)
+    (seat : Holding) (kept : List (ℕ × Sketch)) (values : List ℕ) → whole_of pieces ≡ xs → total_of xs ≤ max_total
+    → AreFirstPasses pieces settings seat kept → IsDistinctBelow (length pieces) seat.claims
+    → HasAllBelow (length pieces) seat.claims → length values ≡ length settings.family.rows * settings.width
     → ((cell : ℕ) → cell < length settings.family.rows * settings.width → get_or values cell 0 ≡ sum_at seat.adds cell)
     → values ≡ (table_of settings.family settings.width xs).cells
 closed_cells law pieces xs settings seat kept values whole low p distinct all long each =
@@ -47,8 +45,7 @@ closed_cells law pieces xs settings seat kept values whole low p distinct all lo
 
 -- the closed sums of the second pass are the candidates' weights
 pub closed_weights : (pieces : List (List Entry)) (xs : List Entry) (keys : List Bytes) (seat : Holding)
-    (values : List ℕ)
-    → whole_of pieces ≡ xs → total_of xs ≤ max_total → AreSecondPasses pieces keys seat
+    (values : List ℕ) → whole_of pieces ≡ xs → total_of xs ≤ max_total → AreSecondPasses pieces keys seat
     → IsDistinctBelow (length pieces) seat.claims → HasAllBelow (length pieces) seat.claims
     → length values ≡ length keys → ((cell : ℕ) → cell < length keys → get_or values cell 0 ≡ sum_at seat.adds cell)
     → values ≡ weights_at keys xs
@@ -59,8 +56,7 @@ closed_weights pieces xs keys seat values whole low p distinct all long each =
     let at = slice_get-get_or keys i [] (omega arith) in
     let all_items : added i seat.adds ≡ weight_of key xs =
     p.adds i key at ∙ (sum_by-all_items (at_key key) pieces seat.claims distinct all ∙ ap (weight_of key) whole) in
-    each i (omega arith)
-    ∙ (exact (weight_of key xs) (added i seat.adds) all_items (omega (arith, weight_of-le key xs))
+    each i (omega arith) ∙ (exact (weight_of key xs) (added i seat.adds) all_items (omega (arith, weight_of-le key xs))
     ∙ sym (weight_behind_number keys xs i key at)))
 
 -- each summary found is its piece's

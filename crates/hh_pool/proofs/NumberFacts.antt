@@ -45,8 +45,7 @@ marked-push marks p x xs m lt = (length-set marks x true ∙ m.0, λ i below. ma
 
 -- one more number that is new
 pub numbers-more : (marks : List Bool) (p n d : ℕ) (xs : List ℕ) → n < length xs → AreMarked marks p (take n xs)
-    → IsDistinctBelow p (take n xs)
-    → get_or xs n d < p → get_or marks (get_or xs n d) false ≡ false
+    → IsDistinctBelow p (take n xs) → get_or xs n d < p → get_or marks (get_or xs n d) false ≡ false
     → AreMarked (set marks (get_or xs n d) true) p (take (n + 1) xs) × IsDistinctBelow p (take (n + 1) xs)
 numbers-more marks p n d xs lt m own below e =
     let x = get_or xs n d in

@@ -259,17 +259,16 @@ read-spells s t sound h = by s.now s.outer sound.now h
     by (Number n) (o ∷ os) sn h = cc h
     by (Done u) (o ∷ os) sn h = cc h
 
--- ---- each reading can be goes-on
-goes-on : (os : List Open) (t : MergeTree) → AreSound os → length os + nesting t ≤ 1023
-    → has_short_numbers t ≡ true
+-- ---- each reading can be continued
+continues : (os : List Open) (t : MergeTree) → AreSound os → length os + nesting t ≤ 1023 → has_short_numbers t ≡ true
     → (u : MergeTree) × HasText u × ((rest : List ℕ) × (text_of u ≡ (outer_text os ++ text_of t) ++ rest))
-goes-on [] t so deep short =
+continues [] t so deep short =
     (t, record { short = short; shallow = omega (arith, deep) }, ([], sym (append-nil (text_of t))))
-goes-on (Left ∷ os) t so deep short =
-    let (u, has, (rest, e)) = goes-on os (Merge t (Piece 0)) so.1 (omega (arith, deep)) (rw short refl) in
+continues (Left ∷ os) t so deep short =
+    let (u, has, (rest, e)) = continues os (Merge t (Piece 0)) so.1 (omega (arith, deep)) (rw short refl) in
     (u, has, (32 ∷ (decimal 0 ++ 41 ∷ []) ++ rest, e ∙ simp append_assoc))
-goes-on (Right l ∷ os) t so deep short =
-    let (u, has, (rest, e)) = goes-on os (Merge l t) so.2 (omega (arith, deep, so.0)) (rw (so.1, short) refl) in
+continues (Right l ∷ os) t so deep short =
+    let (u, has, (rest, e)) = continues os (Merge l t) so.2 (omega (arith, deep, so.0)) (rw (so.1, short) refl) in
     (u, has, (41 ∷ rest, e ∙ simp append_assoc))
 
 reading-continues : (s : Reading) → IsSound s → (t : MergeTree) × Begins (read_text s) t
@@ -278,13 +277,13 @@ reading-continues s sound = by s.now s.outer sound.outer sound.now
     by : (now : Now) (os : List Open) → AreSound os → IsSoundNow now (length os)
         → (t : MergeTree) × Begins (outer_text os ++ now_text now) t
     by Start os so sn =
-        let (u, has, (rest, e)) = goes-on os (Piece 0) so (omega (arith, sn)) refl in
+        let (u, has, (rest, e)) = continues os (Piece 0) so (omega (arith, sn)) refl in
         (u, (has, (decimal 0 ++ rest, e ∙ simp (append_assoc, append-nil))))
     by (Number n) os so sn =
-        let (u, has, more) = goes-on os (Piece n) so (omega (arith, sn.1)) (grind (arith, nat_tests)) in
+        let (u, has, more) = continues os (Piece n) so (omega (arith, sn.1)) (grind (arith, nat_tests)) in
         (u, (has, more))
     by (Done t) os so sn =
-        let (u, has, more) = goes-on os t so sn.0 sn.1 in
+        let (u, has, more) = continues os t so sn.0 sn.1 in
         (u, (has, more))
 
 -- ---- where the first byte stands that can't go on

@@ -174,8 +174,7 @@ addition_keeps_rule n m ws seats id cell amount seat k at some_claim inside =
     let mine : get_or (set ws (n + cell) sum) (n + cell) 0 ≡ all_added cell (set seats id after) % 2 ^ 64 =
     (let grown : all_added cell (set seats id after) ≡ all_added cell seats + amount =
     omega (arith, added-replace cell seats id seat after at, added-push cell amount seat.adds) in
-    get_or-set_same ws (n + cell) sum 0 (omega arith)
-    ∙ (ap (λ x. (x + amount) % 2 ^ 64) (k.summed cell inside)
+    get_or-set_same ws (n + cell) sum 0 (omega arith) ∙ (ap (λ x. (x + amount) % 2 ^ 64) (k.summed cell inside)
     ∙ (mod-add-mod _ _ _ ∙ ap (λ x. x % 2 ^ 64) (sym grown)))) in
     let others : (i : ℕ) → i < m → i ≢ cell
     → get_or (set ws (n + cell) sum) (n + i) 0 ≡ all_added i (set seats id after) % 2 ^ 64 =

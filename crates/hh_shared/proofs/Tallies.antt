@@ -209,8 +209,7 @@ distinct-push n x xs d low new = record {
     once i (inl e) = rw (← e.1) (omega (arith, times-push x xs, new))
     once i (inr e) = omega (arith, times-push_other x i xs (λ q. e.1 (sym q)), d.once i)
 
-    below : (i : ℕ) → 0 < times i (xs ++ x ∷ [])
-        → ((x == i) ≡ true) × (x ≡ i) ⊎ ((x == i) ≡ false) × (x ≢ i) → i < n
+    below : (i : ℕ) → 0 < times i (xs ++ x ∷ []) → ((x == i) ≡ true) × (x ≡ i) ⊎ ((x == i) ≡ false) × (x ≢ i) → i < n
     below i h (inl e) = omega (arith, low, e.1)
     below i h (inr e) = d.below i (omega (arith, h, times-push_other x i xs (λ q. e.1 (sym q))))
 

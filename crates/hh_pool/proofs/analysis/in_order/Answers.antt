@@ -20,8 +20,7 @@ pub loop-summary-preserved : goal.loop-summary-preserved
 loop-summary-preserved c =
     let taken = c.loop-summary.summaries.items in
     let left = c.next.new.self.rest.items in
-    c.loop-summary.invariant
-    ∙ (ap (λ found. taken ++ alone found) c.in-Some.ensures.steps.0
+    c.loop-summary.invariant ∙ (ap (λ found. taken ++ alone found) c.in-Some.ensures.steps.0
     ∙ (sym (append_assoc taken (c.in-Some.summary ∷ []) (alone left))
     ∙ ap (λ (more : List Sketch). more ++ alone left) (sym c.in_ok-push.ensures.items)))
 

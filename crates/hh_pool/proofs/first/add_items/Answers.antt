@@ -20,8 +20,7 @@ loop-item-preserved c =
           let push = sum_by_push (λ (x : Entry). x.1) (take i items) e in
           omega (arith, ap (λ (t : Grid). t.total) after, c.loop-item.invariant.total, ap total_of more, push);
       table = λ family width xs was.
-          after
-          ∙ (ap (λ (t : Grid). added t e) (c.loop-item.invariant.table family width xs was)
+          after ∙ (ap (λ (t : Grid). added t e) (c.loop-item.invariant.table family width xs was)
           ∙ ((c.tables_follow_items.ensures family width (xs ++ take i items) [] e).1
           ∙ ap (table_of family width) (append_assoc xs (take i items) (e ∷ []) ∙ ap (λ ys. xs ++ ys) (sym more))));
     }

@@ -45,7 +45,6 @@ returns-clause-sums c cell inside =
     let all = subst (λ (z : ℕ × List ℕ). HasAllBelow z.0 z.1) (λ i. (sym claims_now i, sym mine i)) c.requires.all in
     let low : cell < c.loop-cell.cell = omega (arith, ap (λ s. s.cells) c.self.view_is) in
     let fit : cell < c.self.inside.table.shared.key.1 = omega (arith, ap (λ z. z.1) counts) in
-    c.loop-cell.invariant.read cell low
-    ∙ (ap (λ ws. get_or ws (c.self.inside.claims + cell) 0) (sym final.2)
+    c.loop-cell.invariant.read cell low ∙ (ap (λ ws. get_or ws (c.self.inside.claims + cell) 0) (sym final.2)
     ∙ (ap (λ k. get_or state.words (k + cell) 0) (sym first)
     ∙ (closes _ _ _ _ _ _ final.1.0 final.1.1 all cell fit ∙ ap (λ h. sum_at h.adds cell) c.seat.view_is)))
