@@ -25,9 +25,11 @@ exact : (n sum : ℕ) → sum ≡ n → n ≤ max_total → sum % 2 ^ 64 ≡ n
 exact n sum e low = omega arith
 
 -- the closed sums of the first pass are the cells of the whole table
-pub closed_cells : CellsAreCellSums → (pieces : List (List Entry)) (xs : List Entry) (settings : Settings) (seat : Holding) (kept : List (ℕ × Sketch)) (values : List ℕ)
-    → whole_of pieces ≡ xs → total_of xs ≤ max_total → AreFirstPasses pieces settings seat kept → IsDistinctBelow (length pieces) seat.claims → HasAllBelow (length pieces) seat.claims
-    → length values ≡ length settings.family.rows * settings.width → ((cell : ℕ) → cell < length settings.family.rows * settings.width → get_or values cell 0 ≡ sum_at seat.adds cell)
+pub closed_cells : CellsAreCellSums → (pieces : List (List Entry)) (xs : List Entry) (settings : Settings)
+    (seat : Holding) (kept : List (ℕ × Sketch)) (values : List ℕ) → whole_of pieces ≡ xs → total_of xs ≤ max_total
+    → AreFirstPasses pieces settings seat kept → IsDistinctBelow (length pieces) seat.claims
+    → HasAllBelow (length pieces) seat.claims → length values ≡ length settings.family.rows * settings.width
+    → ((cell : ℕ) → cell < length settings.family.rows * settings.width → get_or values cell 0 ≡ sum_at seat.adds cell)
     → values ≡ (table_of settings.family settings.width xs).cells
 closed_cells law pieces xs settings seat kept values whole low p distinct all long each =
     let family = settings.family in
@@ -35,36 +37,45 @@ closed_cells law pieces xs settings seat kept values whole low p distinct all lo
     let depth = length family.rows in
     (law family width xs).1 values long (λ r c row cell.
     let all_items : added (r * width + c) seat.adds ≡ cell_sum family width r c xs =
-    p.adds r c row cell ∙ (sum_by-all_items (at_cell family width r c) pieces seat.claims distinct all ∙ ap (cell_sum family width r c) whole) in
+    p.adds r c row cell ∙ (sum_by-all_items (at_cell family width r c) pieces seat.claims distinct all
+    ∙ ap (cell_sum family width r c) whole) in
     each (r * width + c) (omega (arith, mul-add-lt r width c depth row cell))
-    ∙ exact (cell_sum family width r c xs) (added (r * width + c) seat.adds) all_items (omega (arith, cell_sum-le family width r c xs)))
+    ∙ exact (cell_sum family width r c xs) (added (r * width + c) seat.adds) all_items
+    (omega (arith, cell_sum-le family width r c xs)))
 
 -- the closed sums of the second pass are the candidates' weights
-pub closed_weights : (pieces : List (List Entry)) (xs : List Entry) (keys : List Bytes) (seat : Holding) (values : List ℕ)
-    → whole_of pieces ≡ xs → total_of xs ≤ max_total → AreSecondPasses pieces keys seat → IsDistinctBelow (length pieces) seat.claims → HasAllBelow (length pieces) seat.claims
+pub closed_weights : (pieces : List (List Entry)) (xs : List Entry) (keys : List Bytes) (seat : Holding)
+    (values : List ℕ) → whole_of pieces ≡ xs → total_of xs ≤ max_total → AreSecondPasses pieces keys seat
+    → IsDistinctBelow (length pieces) seat.claims → HasAllBelow (length pieces) seat.claims
     → length values ≡ length keys → ((cell : ℕ) → cell < length keys → get_or values cell 0 ≡ sum_at seat.adds cell)
     → values ≡ weights_at keys xs
 closed_weights pieces xs keys seat values whole low p distinct all long each =
-    same_number_lists values (weights_at keys xs) (long ∙ sym (length-map keys (λ (x : Bytes). weight_of x xs))) (λ i within.
+    same_number_lists values (weights_at keys xs) (long ∙ sym (length-map keys (λ (x : Bytes). weight_of x xs)))
+    (λ i within.
     let key = get_or keys i [] in
     let at = slice_get-get_or keys i [] (omega arith) in
-    let all_items : added i seat.adds ≡ weight_of key xs = p.adds i key at ∙ (sum_by-all_items (at_key key) pieces seat.claims distinct all ∙ ap (weight_of key) whole) in
-    each i (omega arith)
-    ∙ (exact (weight_of key xs) (added i seat.adds) all_items (omega (arith, weight_of-le key xs)) ∙ sym (weight_behind_number keys xs i key at)))
+    let all_items : added i seat.adds ≡ weight_of key xs =
+    p.adds i key at ∙ (sum_by-all_items (at_key key) pieces seat.claims distinct all ∙ ap (weight_of key) whole) in
+    each i (omega arith) ∙ (exact (weight_of key xs) (added i seat.adds) all_items (omega (arith, weight_of-le key xs))
+    ∙ sym (weight_behind_number keys xs i key at)))
 
 -- each summary found is its piece's
-pub found_are : (k : ℕ) (pieces : List (List Entry)) (claims : List ℕ) (found : List (ℕ × Sketch)) → found ≡ summaries_at k pieces claims → All (λ (it : ℕ × Sketch). it.1 ≡ sketch_of k (piece_of pieces it.0)) found
+pub found_are : (k : ℕ) (pieces : List (List Entry)) (claims : List ℕ) (found : List (ℕ × Sketch))
+    → found ≡ summaries_at k pieces claims → All (λ (it : ℕ × Sketch). it.1 ≡ sketch_of k (piece_of pieces it.0)) found
 found_are k pieces claims found e =
     let P : ℕ × Sketch → Type 0 = λ it. it.1 ≡ sketch_of k (piece_of pieces it.0) in
     subst (All P) (sym e) (All-map P (λ i. (i, sketch_of k (piece_of pieces i))) claims (λ j d low. refl))
 
 -- the numbers of the summaries are the claimed ones
-pub numbers_at : (k : ℕ) (pieces : List (List Entry)) (claims : List ℕ) → map (λ (it : ℕ × Sketch). it.0) (summaries_at k pieces claims) ≡ claims
+pub numbers_at : (k : ℕ) (pieces : List (List Entry)) (claims : List ℕ)
+    → map (λ (it : ℕ × Sketch). it.0) (summaries_at k pieces claims) ≡ claims
 numbers_at k pieces [] = refl
 numbers_at k pieces (i ∷ is) = λ j. i ∷ numbers_at k pieces is j
 
 -- the summaries by number are those of the pieces
-pub by_number : (k : ℕ) (pieces : List (List Entry)) → map (λ i. sketch_of k (piece_of pieces i)) (range_with_len 0 (length pieces)) ≡ map (sketch_of k) pieces
+pub by_number : (k : ℕ) (pieces : List (List Entry))
+    → map (λ i. sketch_of k (piece_of pieces i)) (range_with_len 0 (length pieces)) ≡ map (sketch_of k) pieces
 by_number k pieces =
-    sym (fill_by_all (λ i. sketch_of k (piece_of pieces i)) (map (sketch_of k) pieces) (length pieces) (sketch_of k []) (length-map pieces (sketch_of k))
+    sym (fill_by_all (λ i. sketch_of k (piece_of pieces i)) (map (sketch_of k) pieces) (length pieces) (sketch_of k [])
+    (length-map pieces (sketch_of k))
     (λ i low. get_or-map (sketch_of k) pieces i [] (sketch_of k []) low))

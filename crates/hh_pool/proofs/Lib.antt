@@ -1,4 +1,3 @@
-pub mod NumberSums
 pub mod TreeFacts
 pub mod MergeFacts
 pub mod ValueFacts

@@ -1,67 +1,94 @@
--- What the parts of a tree need and give, where its summaries are merged.
-use Rattle.std.proofs.Common.{◌≡◌, ◌+◌, ◌<◌, ◌≤◌, ◌∷◌, ◌∙◌, ℕ, List, [], Ok, Err, refl, sym, arith}
-use Rattle.std.specs.Prelude.{slice_index_or}
-use Rattle.std.proofs.lemmas.Bool.Decides.{nat_tests}
+-- The leaves of a tree, and what its parts need and give where its summaries are merged.
+use Rattle.std.proofs.Common.{◌≡◌, ◌+◌, ◌<◌, ◌∙◌, ℕ, List, [], length, Ok, Err, refl, sym, arith}
+use Rattle.std.specs.Prelude.{slice_index_or, sum_by}
 use Rattle.hh_counters.specs.Counters.{Sketch}
 use Rattle.hh_counters.specs.declared.summary.MergeFault.{MergeFault}
-use Rattle.hh_pool.specs.Trees.{HasPlaces, IsMergeTree, MergeTree, Piece, Merge, leaves, merge_result, no_sketch, tree_result}
-use Rattle.hh_shared.specs.Tally.{times}
-use Rattle.hh_pool.proofs.NumberSums.{times-append}
+use Rattle.hh_shared.specs.Tally.{times, IsDistinctBelow, HasAllBelow}
+use Rattle.hh_shared.proofs.Tallies.{all-length, sum_by-all, times-append, times-here}
+use Rattle.hh_pool.specs.Trees.{IsMergeTree, MergeTree, Piece, Merge, leaves, merge_result, no_sketch, tree_result}
 
 -- how many merges a tree has
 abbrev pub merges : MergeTree → ℕ
 merges (Piece i) = 0
 merges (Merge l r) = 1 + merges l + merges r
 
--- the pieces of a plan are the places of as many summaries
-pub plan-places : (t : MergeTree) (p : ℕ) → IsMergeTree t p → HasPlaces t p
-plan-places t p h = record { once = λ i. at-most-one t p h i; within = λ i some. below t p h i some }
+-- the leaves of a merge tree of p pieces are different numbers below p
+pub distinct-leaves : (t : MergeTree) (p : ℕ) → IsMergeTree t p → IsDistinctBelow p (leaves t)
+distinct-leaves t p h = record { once = once t p h; below = below t p h }
   where
-    at-most-one : (t : MergeTree) (p : ℕ) → IsMergeTree t p → (i : ℕ) → times i (leaves t) ≤ 1
-    at-most-one t p h i = grind (arith, h.once i, h.within i)
+    once : (t : MergeTree) (p : ℕ) → IsMergeTree t p → (i : ℕ) → times i (leaves t) < 2
+    once t p h i = grind (arith, h.once i, h.within i)
 
     below : (t : MergeTree) (p : ℕ) → IsMergeTree t p → (i : ℕ) → 0 < times i (leaves t) → i < p
     below t p h i some = grind (arith, h.within i)
 
-one-time : (i : ℕ) → times i (i ∷ []) ≡ 1
-one-time i = grind (arith, nat_tests)
+all-leaves : (t : MergeTree) (p : ℕ) → IsMergeTree t p → HasAllBelow p (leaves t)
+all-leaves t p h = record { has = λ i low. omega (arith, h.once i low) }
 
-pub piece-place : (i n : ℕ) → HasPlaces (Piece i) n → i < n
-piece-place i n h = h.within i (omega (arith, one-time i))
+-- a merge tree of p pieces has p leaves
+pub length_leaves : (t : MergeTree) (p : ℕ) → IsMergeTree t p → length (leaves t) ≡ p
+length_leaves t p h = all-length p (leaves t) (distinct-leaves t p h) (all-leaves t p h)
 
-pub left-places : (l r : MergeTree) (n : ℕ) → HasPlaces (Merge l r) n → HasPlaces l n
+-- a sum over the leaves of a merge tree is the sum over the list
+pub sum-leaves : {X : Type 0} (g : X → ℕ) (d : X) (t : MergeTree) (ss : List X) → IsMergeTree t (length ss)
+    → sum_by (λ i. g (slice_index_or ss i d)) (leaves t) ≡ sum_by g ss
+sum-leaves g d t ss h = sum_by-all g d ss (leaves t) (distinct-leaves t (length ss) h) (all-leaves t (length ss) h)
+
+-- what holds at each leaf of a node holds at each leaf of its left tree, and of its right one
+pub at-left : {P : ℕ → Type 0} (l r : MergeTree) → ((i : ℕ) → 0 < times i (leaves (Merge l r)) → P i)
+    → (i : ℕ) → 0 < times i (leaves l) → P i
+at-left l r each i some = each i (omega (arith, some, times-append i (leaves l) (leaves r)))
+
+-- the same of its right tree
+pub at-right : {P : ℕ → Type 0} (l r : MergeTree) → ((i : ℕ) → 0 < times i (leaves (Merge l r)) → P i)
+    → (i : ℕ) → 0 < times i (leaves r) → P i
+at-right l r each i some = each i (omega (arith, some, times-append i (leaves l) (leaves r)))
+
+-- the one leaf of a piece is a place
+pub piece-place : (i n : ℕ) → IsDistinctBelow n (leaves (Piece i)) → i < n
+piece-place i n h = h.below i (omega (arith, times-here i []))
+
+-- different places are different ones in the left tree
+pub left-places : (l r : MergeTree) (n : ℕ) → IsDistinctBelow n (leaves (Merge l r)) → IsDistinctBelow n (leaves l)
 left-places l r n h = record {
   once = λ i. omega (arith, h.once i, times-append i (leaves l) (leaves r));
-  within = λ i some. h.within i (omega (arith, some, times-append i (leaves l) (leaves r)));
+  below = at-left l r h.below;
 }
 
-pub right-places : (l r : MergeTree) (n : ℕ) → HasPlaces (Merge l r) n → HasPlaces r n
+-- and in the right one
+pub right-places : (l r : MergeTree) (n : ℕ) → IsDistinctBelow n (leaves (Merge l r)) → IsDistinctBelow n (leaves r)
 right-places l r n h = record {
   once = λ i. omega (arith, h.once i, times-append i (leaves l) (leaves r));
-  within = λ i some. h.within i (omega (arith, some, times-append i (leaves l) (leaves r)));
+  below = at-right l r h.below;
 }
 
+-- the summaries are the same but at the leaves of the tree
+abbrev AreOutside : MergeTree → List Sketch → List Sketch → Type 0
+AreOutside t xs ys =
+    (i : ℕ) → times i (leaves t) ≡ 0 → slice_index_or ys i no_sketch ≡ slice_index_or xs i no_sketch
+
 -- a result depends on the summaries at the leaves alone
-result-same : (t : MergeTree) (xs ys : List Sketch) → ((i : ℕ) → 0 < times i (leaves t) → slice_index_or ys i no_sketch ≡ slice_index_or xs i no_sketch) → tree_result t ys ≡ tree_result t xs
-result-same (Piece i) xs ys h = rw (h i (omega (arith, one-time i))) refl
+result-same : (t : MergeTree) (xs ys : List Sketch)
+    → ((i : ℕ) → 0 < times i (leaves t) → slice_index_or ys i no_sketch ≡ slice_index_or xs i no_sketch)
+    → tree_result t ys ≡ tree_result t xs
+result-same (Piece i) xs ys h = rw (h i (omega (arith, times-here i []))) refl
 result-same (Merge l r) xs ys h =
-    let left = result-same l xs ys (λ i some. h i (omega (arith, some, times-append i (leaves l) (leaves r)))) in
-    let right = result-same r xs ys (λ i some. h i (omega (arith, some, times-append i (leaves l) (leaves r)))) in
-    rw (left, right) refl
+    rw (result-same l xs ys (at-left l r h), result-same r xs ys (at-right l r h)) refl
 
 -- what the left tree took is none of the right tree's
-right-same : (l r : MergeTree) (n : ℕ) (xs ys : List Sketch) → HasPlaces (Merge l r) n
-    → ((i : ℕ) → times i (leaves l) ≡ 0 → slice_index_or ys i no_sketch ≡ slice_index_or xs i no_sketch) → tree_result r ys ≡ tree_result r xs
-right-same l r n xs ys h others = result-same r xs ys (λ i some. others i (omega (arith, some, h.once i, times-append i (leaves l) (leaves r))))
+right-same : (l r : MergeTree) (n : ℕ) (xs ys : List Sketch) → IsDistinctBelow n (leaves (Merge l r))
+    → AreOutside l xs ys → tree_result r ys ≡ tree_result r xs
+right-same l r n xs ys h others =
+    result-same r xs ys (λ i some. others i (omega (arith, some, h.once i, times-append i (leaves l) (leaves r))))
 
 -- both results are there: the node merges them
-pub node-result : (l r : MergeTree) (n : ℕ) (xs ys : List Sketch) (s t : Sketch) → HasPlaces (Merge l r) n
-    → ((i : ℕ) → times i (leaves l) ≡ 0 → slice_index_or ys i no_sketch ≡ slice_index_or xs i no_sketch)
+pub node-result : (l r : MergeTree) (n : ℕ) (xs ys : List Sketch) (s t : Sketch)
+    → IsDistinctBelow n (leaves (Merge l r)) → AreOutside l xs ys
     → tree_result l xs ≡ Ok s → tree_result r ys ≡ Ok t → tree_result (Merge l r) xs ≡ merge_result s t
 node-result l r n xs ys s t h others left right = rw (left, sym (right-same l r n xs ys h others) ∙ right) refl
 
 -- the right tree is refused
-pub node-refusal : (l r : MergeTree) (n : ℕ) (xs ys : List Sketch) (s : Sketch) (e : MergeFault) → HasPlaces (Merge l r) n
-    → ((i : ℕ) → times i (leaves l) ≡ 0 → slice_index_or ys i no_sketch ≡ slice_index_or xs i no_sketch)
+pub node-refusal : (l r : MergeTree) (n : ℕ) (xs ys : List Sketch) (s : Sketch) (e : MergeFault)
+    → IsDistinctBelow n (leaves (Merge l r)) → AreOutside l xs ys
     → tree_result l xs ≡ Ok s → tree_result r ys ≡ Err e → tree_result (Merge l r) xs ≡ Err e
 node-refusal l r n xs ys s e h others left right = rw (left, sym (right-same l r n xs ys h others) ∙ right) refl

@@ -1,27 +1,24 @@
 -- The merged summary can be made, and is what the analysis says.
-use Rattle.std.proofs.Common.{◌≡◌, ℕ, ◌+◌, ◌*◌, ◌<◌, ◌≤◌, List, [], ◌∷◌, length, length-append, get_or, map, refl, sym, ap, ◌∙◌, subst, arith, ⊎_elim}
-use Rattle.std.specs.Prelude.{All, Ok, Err, sum_by, zip}
+use Rattle.std.proofs.Common.{◌≡◌, ℕ, ◌+◌, ◌*◌, ◌<◌, ◌≤◌, List, [], ◌∷◌, length, length-append, get_or, map, refl, sym, ap, ◌∙◌, subst, arith}
+use Rattle.std.specs.Prelude.{Ok, Err, sum_by, zip}
 use Rattle.std.specs.Map.{keys_of}
 use Rattle.std.proofs.lemmas.List.{get_or-map, length-map}
 use Rattle.std.proofs.lemmas.List.Sums.{sum_by-append, sum_by-cons}
-use Rattle.std.proofs.lemmas.Bool.{cases_lt}
 use Rattle.std.proofs.lemmas.Bool.Decides.{nat_tests}
 use Rattle.hh_stream.specs.Weights.{Bytes, Entry, weight_of, total_of, max_total}
-use Rattle.hh_stream.specs.Cuttings.{whole_of}
+use Rattle.hh_stream.specs.Cuttings.{pieces_of, whole_of}
 use Rattle.hh_counters.specs.Counters.{Sketch, sketch_of, merged, misra_gries, IsHonest}
 use Rattle.hh_counters.specs.declared.summary.MergeFault.{MergeFault}
 use Rattle.hh_counters.specs.Report.{contenders, heavy, selected, thinned, weights_at}
 use Rattle.hh_counters.specs.Laws.{MisraGriesIsHonest, JoinOfHonestIsHonest, ContendersSuffice, ThinnedSuffice}
 use Rattle.hh_shared.specs.Tally.{times}
-use Rattle.hh_pool.specs.Trees.{MergeTree, Piece, Merge, IsMergeTree, MergesHonestly, leaves, merge_both, merge_result, no_sketch, tree_result, tree_value}
+use Rattle.hh_pool.specs.Trees.{MergeTree, Piece, Merge, IsMergeTree, leaves, merge_both, merge_result, no_sketch, tree_result, tree_value}
 use Rattle.hh_pool.specs.Laws.{TreesMergeSummaries}
 use Rattle.hh_pool.specs.Outcomes.{AreEnough, IsMerged}
-use Rattle.hh_pool.proofs.NumberSums.{length-once, times-append, times-here}
-use Rattle.hh_pool.proofs.ValueFacts.{all-k, merges-honestly, sum-leaves, total-of, value-of}
-
--- a plan of p pieces has p leaves
-pub length-leaves : (t : MergeTree) (p : ℕ) → IsMergeTree t p → length (leaves t) ≡ p
-length-leaves t p h = length-once p (leaves t) h.once h.within
+use Rattle.hh_shared.proofs.Tallies.{times-here}
+use Rattle.hh_pool.proofs.MergeFacts.{at-left, at-right, distinct-leaves, length_leaves, sum-leaves}
+use Rattle.hh_pool.proofs.Pieces.{length-pieces_of}
+use Rattle.hh_pool.proofs.ValueFacts.{IsMergeOf, merge-of}
 
 abbrev total_at : List Sketch → ℕ → ℕ
 total_at ss i = (get_or ss i no_sketch).total
@@ -30,58 +27,69 @@ merge_fits : (s t : Sketch) → s.k ≡ t.k → s.total + t.total ≤ max_total 
 merge_fits s t same fits = grind (arith, nat_tests)
 
 -- summaries with one k, whose totals fit together, are merged
-pub tree_merges : (t : MergeTree) (ss : List Sketch) (k : ℕ) → ((i : ℕ) → 0 < times i (leaves t) → (get_or ss i no_sketch).k ≡ k) → sum_by (total_at ss) (leaves t) ≤ max_total
+tree_merges : (t : MergeTree) (ss : List Sketch) (k : ℕ)
+    → ((i : ℕ) → 0 < times i (leaves t) → (get_or ss i no_sketch).k ≡ k) → sum_by (total_at ss) (leaves t) ≤ max_total
     → (s : Sketch) × (tree_result t ss ≡ Ok s) × (s.k ≡ k) × (s.total ≡ sum_by (total_at ss) (leaves t))
-tree_merges (Piece i) ss k one_k fits = (get_or ss i no_sketch, refl, one_k i (omega (arith, times-here i [])), omega arith)
+tree_merges (Piece i) ss k one_k fits =
+    (get_or ss i no_sketch, refl, one_k i (omega (arith, times-here i [])), omega arith)
 tree_merges (Merge l r) ss k one_k fits =
     let both = sum_by-append (total_at ss) (leaves l) (leaves r) in
-    let a = tree_merges l ss k (λ i some. one_k i (omega (arith, times-append i (leaves l) (leaves r)))) (omega arith) in
-    let b = tree_merges r ss k (λ i some. one_k i (omega (arith, times-append i (leaves l) (leaves r)))) (omega arith) in
-    (merged a.0 b.0, (λ i. merge_both (a.1 i) (b.1 i)) ∙ merge_fits a.0 b.0 (a.2 ∙ sym b.2) (omega (arith, a.3, b.3)), a.2, omega (arith, a.3, b.3))
+    let a = tree_merges l ss k (at-left l r one_k) (omega arith) in
+    let b = tree_merges r ss k (at-right l r one_k) (omega arith) in
+    let node = merge_fits a.0 b.0 (a.2 ∙ sym b.2) (omega (arith, a.3, b.3)) in
+    (merged a.0 b.0, (λ i. merge_both (a.1 i) (b.1 i)) ∙ node, a.2, omega (arith, a.3, b.3))
 
 -- the totals of the pieces' summaries add up to the total of all items
-total-sketches : (k : ℕ) (pieces : List (List Entry)) → sum_by (λ (s : Sketch). s.total) (map (sketch_of k) pieces) ≡ total_of (whole_of pieces)
+total-sketches : (k : ℕ) (pieces : List (List Entry)) → sum_by (λ (s : Sketch). s.total) (map (sketch_of k) pieces)
+    ≡ total_of (whole_of pieces)
 total-sketches k [] = refl
 total-sketches k (p ∷ ps) =
-    omega (arith, sum_by-cons (λ (s : Sketch). s.total) (sketch_of k p) (map (sketch_of k) ps), total-sketches k ps, sum_by-append (λ (e : Entry). e.1) p (whole_of ps))
+    let first = sum_by-cons (λ (s : Sketch). s.total) (sketch_of k p) (map (sketch_of k) ps) in
+    omega (arith, first, total-sketches k ps, sum_by-append (λ (e : Entry). e.1) p (whole_of ps))
 
-counters-sketches : (k : ℕ) (pieces : List (List Entry)) → map (λ (s : Sketch). s.counters) (map (sketch_of k) pieces) ≡ map (λ p. misra_gries p k) pieces
+counters-sketches : (k : ℕ) (pieces : List (List Entry)) → map (λ (s : Sketch). s.counters) (map (sketch_of k) pieces)
+    ≡ map (λ p. misra_gries p k) pieces
 counters-sketches k [] = refl
 counters-sketches k (p ∷ ps) = ap (λ cs. misra_gries p k ∷ cs) (counters-sketches k ps)
 
-sketch-at : (k : ℕ) (pieces : List (List Entry)) (i : ℕ) → i < length pieces → get_or (map (sketch_of k) pieces) i no_sketch ≡ sketch_of k (get_or pieces i [])
+sketch-at : (k : ℕ) (pieces : List (List Entry)) (i : ℕ) → i < length pieces
+    → get_or (map (sketch_of k) pieces) i no_sketch ≡ sketch_of k (get_or pieces i [])
 sketch-at k pieces i low = get_or-map (sketch_of k) pieces i [] no_sketch low
 
-leaf-below : (t : MergeTree) (p i : ℕ) → IsMergeTree t p → 0 < times i (leaves t) → i < p
-leaf-below t p i h some = ⊎_elim (λ (low : i < p). low) (λ (high : p ≤ i). absurd (omega (arith, h.within i high))) (cases_lt i p)
-
 -- no plan is refused at the summaries of a stream's pieces
-pieces_merge : (t : MergeTree) (k : ℕ) (pieces : List (List Entry)) → IsMergeTree t (length pieces) → total_of (whole_of pieces) ≤ max_total → (s : Sketch) × (tree_result t (map (sketch_of k) pieces) ≡ Ok s)
+pieces_merge : (t : MergeTree) (k : ℕ) (pieces : List (List Entry)) → IsMergeTree t (length pieces)
+    → total_of (whole_of pieces) ≤ max_total → (s : Sketch) × (tree_result t (map (sketch_of k) pieces) ≡ Ok s)
 pieces_merge t k pieces plan fits =
     let ss = map (sketch_of k) pieces in
     let count = length-map pieces (sketch_of k) in
     let all = sum-leaves (λ (s : Sketch). s.total) no_sketch t ss (subst (IsMergeTree t) (sym count) plan) in
-    let one = tree_merges t ss k (λ i some. ap (λ (s : Sketch). s.k) (sketch-at k pieces i (leaf-below t (length pieces) i plan some))) (omega (arith, all, total-sketches k pieces)) in
+    let below = (distinct-leaves t (length pieces) plan).below in
+    let one_k : (i : ℕ) → 0 < times i (leaves t) → (get_or ss i no_sketch).k ≡ k =
+    λ i some. ap (λ (s : Sketch). s.k) (sketch-at k pieces i (below i some)) in
+    let one = tree_merges t ss k one_k (omega (arith, all, total-sketches k pieces)) in
     (one.0, one.1)
 
 -- what merge_by says of the summaries of a stream's pieces
-pub merged_is : MisraGriesIsHonest → (t : MergeTree) (k : ℕ) (pieces : List (List Entry)) (xs : List Entry) (ss : List Sketch) (s : Sketch) → 0 < length pieces → whole_of pieces ≡ xs → ss ≡ map (sketch_of k) pieces
-    → All (λ (piece : Sketch). piece.k ≡ s.k) ss → s.total ≡ sum_by (λ (piece : Sketch). piece.total) ss → s.counters ≡ tree_value t (map (λ (piece : Sketch). piece.counters) ss) s.k → MergesHonestly ss s
-    → IsMerged t k pieces xs s
-merged_is law t k pieces xs ss s some whole e same_k total counters honest =
+pub merged_is : MisraGriesIsHonest → (t : MergeTree) (k : ℕ) (pieces : List (List Entry)) (xs : List Entry)
+    (ss : List Sketch) (s : Sketch) → 0 < length pieces → whole_of pieces ≡ xs → ss ≡ map (sketch_of k) pieces
+    → IsMergeOf t ss s → IsMerged t k pieces xs s
+merged_is law t k pieces xs ss s some whole e of =
     let sketches = map (sketch_of k) pieces in
+    let here : IsMergeOf t sketches s = subst (λ zs. IsMergeOf t zs s) e of in
     let count : length sketches ≡ length pieces = length-map pieces (sketch_of k) in
-    let first : (get_or sketches 0 no_sketch).k ≡ s.k = subst (All (λ (piece : Sketch). piece.k ≡ s.k)) e same_k 0 no_sketch (omega arith) in
-    let k_is : s.k ≡ k = sym first ∙ ap (λ (piece : Sketch). piece.k) (sketch-at k pieces 0 some) in
-    let total_is = total ∙ (ap (sum_by (λ (piece : Sketch). piece.total)) e ∙ (total-sketches k pieces ∙ ap total_of whole)) in
-    let each : (i : ℕ) → i < length sketches → IsHonest (get_or sketches i no_sketch).counters (get_or sketches i no_sketch).total (get_or pieces i []) s.k =
-    (λ i low. subst (λ (z : Sketch × ℕ). IsHonest z.0.counters z.0.total (get_or pieces i []) z.1) (λ j. (sym (sketch-at k pieces i (omega arith)) j, sym k_is j)) (law (get_or pieces i []) k)) in
-    let whole_honest = subst (λ zs. MergesHonestly zs s) e honest pieces (sym count) each in
+    let first = ap (λ (piece : Sketch). piece.k) (sketch-at k pieces 0 some) in
+    let k_is : s.k ≡ k = sym (here.same_k 0 no_sketch (omega arith)) ∙ first in
+    let total_is = here.total ∙ (total-sketches k pieces ∙ ap total_of whole) in
+    let each : (i : ℕ) → i < length sketches → let piece = get_or sketches i no_sketch in
+    IsHonest piece.counters piece.total (get_or pieces i []) s.k =
+    (λ i low. subst (λ (z : Sketch × ℕ). IsHonest z.0.counters z.0.total (get_or pieces i []) z.1)
+    (λ j. (sym (sketch-at k pieces i (omega arith)) j, sym k_is j)) (law (get_or pieces i []) k)) in
     record {
       same_k = k_is;
       total = total_is;
-      counters = counters ∙ (λ i. tree_value t ((ap (map (λ (piece : Sketch). piece.counters)) e ∙ counters-sketches k pieces) i) (k_is i));
-      honest = subst (λ (z : ℕ × List Entry × ℕ). IsHonest s.counters z.0 z.1 z.2) (λ i. (total_is i, whole i, k_is i)) whole_honest;
+      counters = here.counters ∙ (λ i. tree_value t (counters-sketches k pieces i) (k_is i));
+      honest = subst (λ (z : ℕ × List Entry × ℕ). IsHonest s.counters z.0 z.1 z.2)
+          (λ i. (total_is i, whole i, k_is i)) (here.honest pieces (sym count) each);
     }
 
 some-leaf : (t : MergeTree) → 0 < length (leaves t)
@@ -93,24 +101,36 @@ pub summaries-merge : JoinOfHonestIsHonest → MisraGriesIsHonest → TreesMerge
 summaries-merge join law t k parts s tree made =
     let ss = map (sketch_of k) parts in
     let over : IsMergeTree t (length ss) = rw (length-map parts (sketch_of k)) tree in
-    let some : 0 < length parts = omega (arith, some-leaf t, length-leaves t (length parts) tree) in
-    merged_is law t k parts (whole_of parts) ss s some refl refl (all-k t ss s over made) (total-of t ss s over made) (value-of t ss s made).counters (merges-honestly join t ss s over made)
+    let some : 0 < length parts = omega (arith, some-leaf t, length_leaves t (length parts) tree) in
+    merged_is law t k parts (whole_of parts) ss s some refl refl (merge-of join t ss s over made)
 
 -- the contenders of an honest summary, thinned by numbers that no weight is above, are enough
-pub thinned_enough : ContendersSuffice → ThinnedSuffice → (s : Sketch) (xs : List Entry) (p q total : ℕ) (ks keys : List Bytes) (numbers : List ℕ) (bound : Bytes → ℕ) → IsHonest s.counters s.total xs s.k → q ≤ p * (s.k + 1)
-    → ((x : Bytes) → weight_of x xs ≤ bound x) → total ≡ total_of xs → ks ≡ keys_of (contenders p q s) → numbers ≡ map bound ks → keys ≡ thinned p q total ks numbers → AreEnough keys xs p q
-thinned_enough contend thin s xs p q total ks keys numbers bound honest enough most total_is ks_are numbers_are keys_are =
+pub thinned_enough : ContendersSuffice → ThinnedSuffice
+    → (s : Sketch) (xs : List Entry) (p q total : ℕ) (ks keys : List Bytes) (numbers : List ℕ) (bound : Bytes → ℕ)
+    → IsHonest s.counters s.total xs s.k → q ≤ p * (s.k + 1)
+    → ((x : Bytes) → weight_of x xs ≤ bound x) → total ≡ total_of xs → ks ≡ keys_of (contenders p q s)
+    → numbers ≡ map bound ks → keys ≡ thinned p q total ks numbers → AreEnough keys xs p q
+thinned_enough contend thin s xs p q total ks keys numbers bound honest enough most total_is ks_are numbers_are
+    keys_are =
     let all = keys_of (contenders p q s) in
-    let here : keys ≡ thinned p q (total_of xs) all (map bound all) = keys_are ∙ (λ i. thinned p q (total_is i) (ks_are i) ((numbers_are ∙ ap (map bound) ks_are) i)) in
-    subst (λ (z : List Bytes). AreEnough z xs p q) (sym here) (thin all bound xs p q most ∙ contend s xs p q honest enough)
+    let here : keys ≡ thinned p q (total_of xs) all (map bound all) = keys_are
+    ∙ (λ i. thinned p q (total_is i) (ks_are i) ((numbers_are ∙ ap (map bound) ks_are) i)) in
+    subst (λ (z : List Bytes). AreEnough z xs p q) (sym here) (thin all bound xs p q most
+    ∙ contend s xs p q honest enough)
 
 -- the second pass over candidates that are enough finds the heavy keys
-pub heavy_is : (xs : List Entry) (p q total : ℕ) (keys : List Bytes) (weights : List ℕ) → AreEnough keys xs p q → total ≡ total_of xs → weights ≡ weights_at keys xs → selected p q total (zip keys weights) ≡ heavy xs p q
-heavy_is xs p q total keys weights enough total_is weights_are = (λ i. selected p q (total_is i) (zip keys (weights_are i))) ∙ enough
+pub heavy_is : (xs : List Entry) (p q total : ℕ) (keys : List Bytes) (weights : List ℕ) → AreEnough keys xs p q
+    → total ≡ total_of xs → weights ≡ weights_at keys xs → selected p q total (zip keys weights) ≡ heavy xs p q
+heavy_is xs p q total keys weights enough total_is weights_are =
+    (λ i. selected p q (total_is i) (zip keys (weights_are i))) ∙ enough
 
 -- so no refusal comes
-pub no_refusal : (t : MergeTree) (k : ℕ) (pieces : List (List Entry)) (ss : List Sketch) (e : MergeFault) → IsMergeTree t (length pieces) → total_of (whole_of pieces) ≤ max_total → ss ≡ map (sketch_of k) pieces → tree_result t ss ≡ Err e → ⊥
-no_refusal t k pieces ss e plan fits is refused =
-    let merges = pieces_merge t k pieces plan fits in
+pub no_refusal : (t : MergeTree) (k : ℕ) (lengths : List ℕ) (xs : List Entry) (ss : List Sketch) (e : MergeFault)
+    → IsMergeTree t (length lengths) → whole_of (pieces_of lengths xs) ≡ xs → total_of xs ≤ max_total
+    → ss ≡ map (sketch_of k) (pieces_of lengths xs) → tree_result t ss ≡ Err e → ⊥
+no_refusal t k lengths xs ss e tree whole most is refused =
+    let pieces = pieces_of lengths xs in
+    let plan = subst (IsMergeTree t) (sym (length-pieces_of lengths xs)) tree in
+    let merges = pieces_merge t k pieces plan (omega (arith, most, ap total_of whole)) in
     let here : tree_result t ss ≡ Ok merges.0 = ap (tree_result t) is ∙ merges.1 in
     cc

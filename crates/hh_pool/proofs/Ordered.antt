@@ -13,10 +13,11 @@ use Rattle.std.proofs.lemmas.Map.Keys.{ge_from_not_lt}
 use Rattle.hh_counters.specs.Counters.{Sketch}
 use Rattle.hh_shared.specs.Tally.{times, IsDistinctBelow, HasAllBelow}
 use Rattle.hh_pool.specs.Trees.{no_sketch}
-use Rattle.hh_pool.proofs.NumberSums.{length-once, none-above, times-append}
+use Rattle.hh_shared.proofs.Tallies.{all-length, times-append}
 
 -- how often a number stands in the list up to its place, and in the whole list
-up_to : (xs : List ℕ) (k j : ℕ) → k < length xs → get_or xs k 0 ≡ j → times j (take (k + 1) xs) ≡ times j (take k xs) + 1
+up_to : (xs : List ℕ) (k j : ℕ) → k < length xs → get_or xs k 0 ≡ j
+    → times j (take (k + 1) xs) ≡ times j (take k xs) + 1
 up_to xs k j within is = count_by_more_yes (λ x. x == j) xs k 0 within (eq-eqb (get_or xs k 0) j is)
 
 within-whole : (xs : List ℕ) (k j : ℕ) → times j (take k xs) ≤ times j xs
@@ -32,19 +33,25 @@ twice xs k within same =
     omega (arith, up_to xs k j (omega arith) refl, up_to xs (k + 1) j within same, within-whole xs (k + 1 + 1) j)
 
 -- rising numbers are at least as far apart as their places
-climbs : (xs : List ℕ) → IsStrictlyIncreasing xs → (i d : ℕ) → i + d < length xs → get_or xs i 0 + d ≤ get_or xs (i + d) 0
+climbs : (xs : List ℕ) → IsStrictlyIncreasing xs → (i d : ℕ) → i + d < length xs
+    → get_or xs i 0 + d ≤ get_or xs (i + d) 0
 climbs xs rises i zero within = omega (arith, ap (λ j. get_or xs j 0) (add-zero i))
 climbs xs rises i (suc d) within =
     let next : i + suc d ≡ i + d + 1 = omega arith in
     omega (arith, climbs xs rises i d (omega arith), rises (i + d) (omega arith), ap (λ j. get_or xs j 0) next)
 
 -- so n of them below n are 0, 1 and so on
-numbered : (xs : List ℕ) (n : ℕ) → IsStrictlyIncreasing xs → length xs ≡ n → ((i : ℕ) → i < n → get_or xs i 0 < n) → (i : ℕ) → i < n → get_or xs i 0 ≡ i
+numbered : (xs : List ℕ) (n : ℕ) → IsStrictlyIncreasing xs → length xs ≡ n → ((i : ℕ) → i < n → get_or xs i 0 < n)
+    → (i : ℕ) → i < n → get_or xs i 0 ≡ i
 numbered xs n rises count below i low =
     let last : i + (n - 1 - i) ≡ n - 1 = omega (arith, low) in
-    omega (arith, climbs xs rises 0 i (omega arith), ap (λ j. get_or xs j 0) (zero-add i), climbs xs rises i (n - 1 - i) (omega arith), ap (λ j. get_or xs j 0) last, below (n - 1) (omega arith))
+    let first = ap (λ j. get_or xs j 0) (zero-add i) in
+    let end = ap (λ j. get_or xs j 0) last in
+    let above = climbs xs rises i (n - 1 - i) (omega arith) in
+    omega (arith, climbs xs rises 0 i (omega arith), first, above, end, below (n - 1) (omega arith))
 
-rising : (xs : List ℕ) → ((k : ℕ) → k + 1 < length xs → get_or xs k 0 ≤ get_or xs (k + 1) 0) → ((j : ℕ) → times j xs < 2) → IsStrictlyIncreasing xs
+rising : (xs : List ℕ) → ((k : ℕ) → k + 1 < length xs → get_or xs k 0 ≤ get_or xs (k + 1) 0)
+    → ((j : ℕ) → times j xs < 2) → IsStrictlyIncreasing xs
 rising xs ordered once k within = ⊎_elim
     (λ (low : get_or xs k 0 < get_or xs (k + 1) 0). low)
     (λ (high : get_or xs (k + 1) 0 ≤ get_or xs k 0).
@@ -53,22 +60,38 @@ rising xs ordered once k within = ⊎_elim
     (cases_lt (get_or xs k 0) (get_or xs (k + 1) 0))
 
 -- sorted by their numbers, the summaries are those of 0, 1 and so on
-pub ordered : (f : ℕ → Sketch) (n : ℕ) (found sorted : List (ℕ × Sketch)) → All (λ (it : ℕ × Sketch). it.1 ≡ f it.0) found → IsDistinctBelow n (map (λ (it : ℕ × Sketch). it.0) found) → HasAllBelow n (map (λ (it : ℕ × Sketch). it.0) found)
-    → IsPermutation found sorted → IsSortedBy (λ (x y : ℕ × Sketch). is_lt (nat_cmp x.0 y.0)) sorted → map (λ (it : ℕ × Sketch). it.1) sorted ≡ map f (range_with_len 0 n)
+pub ordered : (f : ℕ → Sketch) (n : ℕ) (found sorted : List (ℕ × Sketch))
+    → All (λ (it : ℕ × Sketch). it.1 ≡ f it.0) found → IsDistinctBelow n (map (λ (it : ℕ × Sketch). it.0) found)
+    → HasAllBelow n (map (λ (it : ℕ × Sketch). it.0) found)
+    → IsPermutation found sorted → IsSortedBy (λ (x y : ℕ × Sketch). is_lt (nat_cmp x.0 y.0)) sorted
+    → map (λ (it : ℕ × Sketch). it.1) sorted ≡ map f (range_with_len 0 n)
 ordered f n found sorted theirs distinct all perm sort =
     let d : ℕ × Sketch = (0, no_sketch) in
     let number : ℕ × Sketch → ℕ = λ it. it.0 in
     let were = map number found in
     let are = map number sorted in
-    let same : (j : ℕ) → times j are ≡ times j were = λ j. sum_by-IsPermutation _ were are (IsPermutation-map number found sorted perm) in
-    let count : length are ≡ n = length-once n are (λ i low. omega (arith, same i, distinct.once i, all.has i low)) (λ i high. same i ∙ none-above n i were distinct.below high) in
+    let same : (j : ℕ) → times j are ≡ times j were =
+    λ j. sum_by-IsPermutation _ were are (IsPermutation-map number found sorted perm) in
+    let once : IsDistinctBelow n are = record {
+      once = λ i. omega (arith, same i, distinct.once i);
+      below = λ i some. distinct.below i (omega (arith, some, same i));
+    } in
+    let count : length are ≡ n =
+    all-length n are once (record { has = λ i low. omega (arith, same i, all.has i low) }) in
     let long : length sorted ≡ n = sym (length-map sorted number) ∙ count in
-    let below : (i : ℕ) → i < n → get_or are i 0 < n = λ i low. distinct.below (get_or are i 0) (omega (arith, stands are i (omega arith), same (get_or are i 0))) in
+    let below : (i : ℕ) → i < n → get_or are i 0 < n =
+    λ i low. once.below (get_or are i 0) (stands are i (omega arith)) in
     let rises : IsStrictlyIncreasing are = rising are (λ k within.
     let inside : k + 1 < length sorted = omega (arith, within, length-map sorted number) in
-    omega (arith, get_or-map number sorted k d 0 (omega arith), get_or-map number sorted (k + 1) d 0 inside, ge_from_not_lt (get_or sorted (k + 1) d).0 (get_or sorted k d).0 (sort k d (omega arith) inside)))
-    (λ j. omega (arith, same j, distinct.once j)) in
-    fill_by_all f (map (λ (it : ℕ × Sketch). it.1) sorted) n no_sketch (length-map sorted (λ (it : ℕ × Sketch). it.1) ∙ long) (λ i low.
+    let here = get_or-map number sorted k d 0 (omega arith) in
+    let next = get_or-map number sorted (k + 1) d 0 inside in
+    let risen = ge_from_not_lt (get_or sorted (k + 1) d).0 (get_or sorted k d).0 (sort k d (omega arith) inside) in
+    omega (arith, here, next, risen))
+    once.once in
+    fill_by_all f (map (λ (it : ℕ × Sketch). it.1) sorted) n no_sketch (length-map sorted (λ (it : ℕ × Sketch). it.1)
+    ∙ long) (λ i low.
     let inside : i < length sorted = omega arith in
-    let at : (get_or sorted i d).0 ≡ i = sym (get_or-map number sorted i d 0 inside) ∙ numbered are n rises count below i low in
-    get_or-map (λ (it : ℕ × Sketch). it.1) sorted i d no_sketch inside ∙ (All-permutation (λ (it : ℕ × Sketch). it.1 ≡ f it.0) found sorted perm theirs i d inside ∙ ap f at))
+    let at : (get_or sorted i d).0 ≡ i = sym (get_or-map number sorted i d 0 inside)
+    ∙ numbered are n rises count below i low in
+    get_or-map (λ (it : ℕ × Sketch). it.1) sorted i d no_sketch inside
+    ∙ (All-permutation (λ (it : ℕ × Sketch). it.1 ≡ f it.0) found sorted perm theirs i d inside ∙ ap f at))

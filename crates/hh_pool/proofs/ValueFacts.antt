@@ -2,44 +2,40 @@
 use Rattle.std.proofs.Common.{◌≡◌, ◌≢◌, ◌+◌, ◌<◌, ◌==◌, ◌∷◌, ◌++◌, ◌∙◌, ℕ, zero, suc, Bool, true, false, List, [], length, map, Result, Ok, Err, refl, sym, ap, inl, inr, ◌⊎◌, arith}
 use Rattle.std.specs.Prelude.{nat_le, sum_by, slice_index_or, All}
 use Rattle.std.proofs.lemmas.Bool.Decides.{eqb_tells}
-use Rattle.std.proofs.Math.Seq.{take-length}
 use Rattle.std.proofs.lemmas.List.Sums.{sum_by-append, sum_by-cons}
 use Rattle.std.proofs.Math.ListN.{get_or-map}
 use Rattle.std.proofs.lemmas.List.Elements.{All-from_get_or}
 use Rattle.hh_stream.specs.Cuttings.{whole_of}
-use Rattle.hh_stream.specs.Weights.{Bytes, Entry, at_key, max_total, total_of, weight_of}
-use Rattle.hh_counters.specs.Counters.{IsHonest, Sketch, merged}
+use Rattle.hh_stream.specs.Weights.{Bytes, Entry, at_key, max_total, weight_of}
+use Rattle.hh_counters.specs.Counters.{Counters, IsHonest, Sketch, merged}
 use Rattle.hh_counters.specs.Laws.{JoinOfHonestIsHonest}
 use Rattle.hh_counters.specs.declared.summary.MergeFault.{MergeFault}
 use Rattle.hh_pool.specs.Trees.{IsMergeTree, MergeTree, MergesHonestly, Piece, Merge, items_of, leaves, merge_both, no_sketch, tree_result, tree_value}
 use Rattle.hh_shared.specs.Tally.{times}
-use Rattle.hh_pool.proofs.MergeFacts.{plan-places}
-use Rattle.hh_pool.proofs.NumberSums.{sum-once, sum-weighed, times-append, times-elsewhere, times-here}
-
--- a sum over the leaves of a merge tree is the sum over the list
-pub sum-leaves : {X : Type 0} (g : X → ℕ) (d : X) (t : MergeTree) (ss : List X) → IsMergeTree t (length ss) → sum_by (λ i. g (slice_index_or ss i d)) (leaves t) ≡ sum_by g ss
-sum-leaves g d t ss h =
-    sum-weighed (λ i. g (slice_index_or ss i d)) (leaves t) (length ss) h.within
-    ∙ sum-once g d ss (leaves t) (length ss) (omega arith) h.once
-    ∙ ap (λ l. sum_by g l) (take-length ss)
+use Rattle.hh_shared.proofs.Tallies.{times-append, times-elsewhere, times-here}
+use Rattle.hh_pool.proofs.MergeFacts.{at-left, at-right, distinct-leaves, sum-leaves}
+use Rattle.hh_pool.proofs.Pieces.{sum_by-flat_map}
 
 -- a merge that went well had two results with one k
-both-ok : (a b : Result Sketch MergeFault) (u : Sketch) → merge_both a b ≡ Ok u → (s : Sketch) × (t : Sketch) × (a ≡ Ok s) × (b ≡ Ok t) × (s.k ≡ t.k) × (merged s t ≡ u)
+both-ok : (a b : Result Sketch MergeFault) (u : Sketch) → merge_both a b ≡ Ok u
+    → (s : Sketch) × (t : Sketch) × (a ≡ Ok s) × (b ≡ Ok t) × (s.k ≡ t.k) × (merged s t ≡ u)
 both-ok (Err e) b u h = cc h
 both-ok (Ok s) (Err e) u h = cc h
 both-ok (Ok s) (Ok t) u h = by (eqb_tells s.k t.k) (nat_le (s.total + t.total) max_total) refl
   where
-    by : ((s.k == t.k) ≡ true) × (s.k ≡ t.k) ⊎ ((s.k == t.k) ≡ false) × (s.k ≢ t.k) → (b : Bool) → nat_le (s.total + t.total) max_total ≡ b
-        → (s' : Sketch) × (t' : Sketch) × (◌≡◌ {A = Result Sketch MergeFault} (Ok s) (Ok s')) × (◌≡◌ {A = Result Sketch MergeFault} (Ok t) (Ok t')) × (s'.k ≡ t'.k) × (merged s' t' ≡ u)
+    by : ((s.k == t.k) ≡ true) × (s.k ≡ t.k) ⊎ ((s.k == t.k) ≡ false) × (s.k ≢ t.k) → (b : Bool)
+        → nat_le (s.total + t.total) max_total ≡ b
+        → (s' : Sketch) × (t' : Sketch) × (◌≡◌ {A = Result Sketch MergeFault} (Ok s) (Ok s'))
+        × (◌≡◌ {A = Result Sketch MergeFault} (Ok t) (Ok t')) × (s'.k ≡ t'.k) × (merged s' t' ≡ u)
     by (inr e) b f = let bad = rw e.0 at h in cc bad
     by (inl e) false f = let bad = rw (e.0, f) at h in cc bad
     by (inl e) true f = let fine = rw (e.0, f) at h in (s, t, refl, refl, e.1, cc fine)
 
 -- what a tree's result is, leaf by leaf
-pub record IsValue (t : MergeTree) (ss : List Sketch) (s : Sketch) : Type 0 where
-  pub k : (i : ℕ) → 0 < times i (leaves t) → (slice_index_or ss i no_sketch).k ≡ s.k
-  pub total : s.total ≡ sum_by (λ i. (slice_index_or ss i no_sketch).total) (leaves t)
-  pub counters : s.counters ≡ tree_value t (map (λ s. s.counters) ss) s.k
+record IsValue (t : MergeTree) (ss : List Sketch) (s : Sketch) : Type 0 where
+  k : (i : ℕ) → 0 < times i (leaves t) → (slice_index_or ss i no_sketch).k ≡ s.k
+  total : s.total ≡ sum_by (λ i. (slice_index_or ss i no_sketch).total) (leaves t)
+  counters : s.counters ≡ tree_value t (map (λ s. s.counters) ss) s.k
 
 one-leaf : (i j : ℕ) → 0 < times i (j ∷ []) → j ≡ i
 one-leaf i j some = by (eqb_tells j i)
@@ -55,7 +51,7 @@ in-part i xs ys some = by (times i xs) refl
     by zero e = inr (omega (arith, some, e, times-append i xs ys))
     by (suc n) e = inl (omega (arith, e))
 
-pub value-of : (t : MergeTree) (ss : List Sketch) (s : Sketch) → tree_result t ss ≡ Ok s → IsValue t ss s
+value-of : (t : MergeTree) (ss : List Sketch) (s : Sketch) → tree_result t ss ≡ Ok s → IsValue t ss s
 value-of (Piece i) ss s h =
     let is : slice_index_or ss i no_sketch ≡ s = cc h in
     record {
@@ -69,28 +65,49 @@ value-of (Merge l r) ss u h =
     let vr = value-of r ss t right in
     rw (← is) (value-merge l r ss s t same vl vr)
   where
-    value-merge : (l r : MergeTree) (ss : List Sketch) (s t : Sketch) → s.k ≡ t.k → IsValue l ss s → IsValue r ss t → IsValue (Merge l r) ss (merged s t)
+    value-merge : (l r : MergeTree) (ss : List Sketch) (s t : Sketch) → s.k ≡ t.k → IsValue l ss s → IsValue r ss t
+        → IsValue (Merge l r) ss (merged s t)
     value-merge l r ss s t same vl vr = record {
       k = λ i some. elim (in-part i (leaves l) (leaves r) some) [ inl a ↦ vl.k i a | inr b ↦ vr.k i b ∙ sym same ];
-      total = rw (sum_by-append (λ i. (slice_index_or ss i no_sketch).total) (leaves l) (leaves r), ← vl.total, ← vr.total) refl;
+      total =
+          let both = sum_by-append (λ i. (slice_index_or ss i no_sketch).total) (leaves l) (leaves r) in
+          rw (both, ← vl.total, ← vr.total) refl;
       counters = rw (vl.counters, vr.counters, same) refl;
     }
 
 -- any sum over the items of a tree's pieces, by pieces
-sum-items : (f : Entry → ℕ) (t : MergeTree) (lists : List (List Entry)) → sum_by f (items_of t lists) ≡ sum_by (λ i. sum_by f (slice_index_or lists i [])) (leaves t)
+sum-items : (f : Entry → ℕ) (t : MergeTree) (lists : List (List Entry))
+    → sum_by f (items_of t lists) ≡ sum_by (λ i. sum_by f (slice_index_or lists i [])) (leaves t)
 sum-items f (Piece i) lists = omega (arith, sum_by-cons (λ i. sum_by f (slice_index_or lists i [])) i [])
-sum-items f (Merge l r) lists = omega (arith, sum_by-append f (items_of l lists) (items_of r lists), sum_by-append (λ i. sum_by f (slice_index_or lists i [])) (leaves l) (leaves r), sum-items f l lists, sum-items f r lists)
+sum-items f (Merge l r) lists =
+    let items = sum_by-append f (items_of l lists) (items_of r lists) in
+    let pieces = sum_by-append (λ i. sum_by f (slice_index_or lists i [])) (leaves l) (leaves r) in
+    omega (arith, items, pieces, sum-items f l lists, sum-items f r lists)
 
-sum-whole : (f : Entry → ℕ) (lists : List (List Entry)) → sum_by f (whole_of lists) ≡ sum_by (λ xs. sum_by f xs) lists
-sum-whole f [] = refl
-sum-whole f (xs ∷ lists) = omega (arith, sum_by-append f xs (whole_of lists), sum_by-cons (λ xs. sum_by f xs) xs lists, sum-whole f lists)
+-- and by the tree: a sum over the items of its pieces is that over all items
+same-sum : (f : Entry → ℕ) (t : MergeTree) (lists : List (List Entry)) → IsMergeTree t (length lists)
+    → sum_by f (items_of t lists) ≡ sum_by f (whole_of lists)
+same-sum f t lists h =
+    sum-items f t lists ∙ sum-leaves (λ xs. sum_by f xs) [] t lists h ∙ sym (sum_by-flat_map f (λ xs. xs) lists)
 
-pub same-sum : (f : Entry → ℕ) (t : MergeTree) (lists : List (List Entry)) → IsMergeTree t (length lists) → sum_by f (items_of t lists) ≡ sum_by f (whole_of lists)
-same-sum f t lists h = sum-items f t lists ∙ sum-leaves (λ xs. sum_by f xs) [] t lists h ∙ sym (sum-whole f lists)
+-- counters that are honest for the items of a tree's pieces are so for all items
+pub honest-whole : (t : MergeTree) (lists : List (List Entry)) (c : Counters) (m k : ℕ) → IsMergeTree t (length lists)
+    → IsHonest c m (items_of t lists) k → IsHonest c m (whole_of lists) k
+honest-whole t lists c m k tree h =
+    let weights : (x : Bytes) → weight_of x (items_of t lists) ≡ weight_of x (whole_of lists) =
+    λ x. same-sum (at_key x) t lists tree in
+    record {
+      counters = h.counters;
+      counted = h.counted ∙ same-sum (λ (e : Entry). e.1) t lists tree;
+      few = h.few;
+      below = λ x. rw (← weights x) (h.below x);
+      near = λ x. rw (← weights x) (h.near x);
+    }
 
 -- honest pieces make an honest tree
-honest-items : JoinOfHonestIsHonest → (t : MergeTree) (ss : List Sketch) (lists : List (List Entry)) (s : Sketch) → tree_result t ss ≡ Ok s
-    → ((i : ℕ) → 0 < times i (leaves t) → IsHonest (slice_index_or ss i no_sketch).counters (slice_index_or ss i no_sketch).total (slice_index_or lists i []) s.k)
+honest-items : JoinOfHonestIsHonest → (t : MergeTree) (ss : List Sketch) (lists : List (List Entry)) (s : Sketch)
+    → tree_result t ss ≡ Ok s → ((i : ℕ) → 0 < times i (leaves t) → let piece = slice_index_or ss i no_sketch in
+    IsHonest piece.counters piece.total (slice_index_or lists i []) s.k)
     → IsHonest s.counters s.total (items_of t lists) s.k
 honest-items law (Piece i) ss lists s h each =
     let is : slice_index_or ss i no_sketch ≡ s = cc h in
@@ -98,29 +115,31 @@ honest-items law (Piece i) ss lists s h each =
 honest-items law (Merge l r) ss lists u h each =
     let (s, t, left, right, same, is) = both-ok (tree_result l ss) (tree_result r ss) u h in
     let k : u.k ≡ s.k = ap (λ (v : Sketch). v.k) (sym is) in
-    let hl = honest-items law l ss lists s left (λ i some. rw k at (each i (omega (arith, some, times-append i (leaves l) (leaves r))))) in
-    let hr = honest-items law r ss lists t right (λ i some. rw (k, same) at (each i (omega (arith, some, times-append i (leaves l) (leaves r))))) in
-    rw (← is) (law s.counters t.counters s.total t.total (items_of l lists) (items_of r lists) s.k hl (rw (← same) at hr))
+    let hl = honest-items law l ss lists s left (λ i some. rw k at (at-left l r each i some)) in
+    let hr = honest-items law r ss lists t right (λ i some. rw (k, same) at (at-right l r each i some)) in
+    let both = law s.counters t.counters s.total t.total (items_of l lists) (items_of r lists) s.k in
+    rw (← is) (both hl (rw (← same) at hr))
 
--- honest summaries of the pieces make an honest summary of the whole
-pub merges-honestly : JoinOfHonestIsHonest → (t : MergeTree) (ss : List Sketch) (s : Sketch) → IsMergeTree t (length ss) → tree_result t ss ≡ Ok s → MergesHonestly ss s
-merges-honestly law t ss s tree h lists len each =
-    let below : (i : ℕ) → 0 < times i (leaves t) → i < length ss = λ i some. (plan-places t (length ss) tree).within i some in
-    let part = honest-items law t ss lists s h (λ i some. each i (below i some)) in
-    let over : IsMergeTree t (length lists) = rw len tree in
-    let total : total_of (items_of t lists) ≡ total_of (whole_of lists) = same-sum (λ (e : Entry). e.1) t lists over in
-    let weights : (x : Bytes) → weight_of x (items_of t lists) ≡ weight_of x (whole_of lists) = λ x. same-sum (at_key x) t lists over in
+-- What a merge by a plan gives: the summaries had its k, its total is the sum of theirs, its counters are the tree's,
+-- and it is honest where they are
+pub record IsMergeOf (t : MergeTree) (ss : List Sketch) (s : Sketch) : Type 0 where
+  pub same_k : All (λ piece. piece.k ≡ s.k) ss
+  pub total : s.total ≡ sum_by (λ piece. piece.total) ss
+  pub counters : s.counters ≡ tree_value t (map (λ piece. piece.counters) ss) s.k
+  pub honest : MergesHonestly ss s
+
+-- the summary that a tree's result is
+pub merge-of : JoinOfHonestIsHonest → (t : MergeTree) (ss : List Sketch) (s : Sketch) → IsMergeTree t (length ss)
+    → tree_result t ss ≡ Ok s → IsMergeOf t ss s
+merge-of law t ss s tree h =
+    let value = value-of t ss s h in
+    let below = (distinct-leaves t (length ss) tree).below in
     record {
-      counters = part.counters;
-      counted = part.counted ∙ total;
-      few = part.few;
-      below = λ x. rw (← weights x) (part.below x);
-      near = λ x. rw (← weights x) (part.near x);
+      same_k = All-from_get_or (λ (piece : Sketch). piece.k ≡ s.k) ss no_sketch
+          (λ i lt. value.k i (omega (arith, tree.once i lt)));
+      total = value.total ∙ sum-leaves (λ (piece : Sketch). piece.total) no_sketch t ss tree;
+      counters = value.counters;
+      honest = λ lists len each.
+          let part = honest-items law t ss lists s h (λ i some. each i (below i some)) in
+          honest-whole t lists s.counters s.total s.k (rw len tree) part;
     }
-
--- the clauses of a merge by a plan, from its tree's result
-pub all-k : (t : MergeTree) (ss : List Sketch) (s : Sketch) → IsMergeTree t (length ss) → tree_result t ss ≡ Ok s → All (λ piece. piece.k ≡ s.k) ss
-all-k t ss s tree h = All-from_get_or (λ (piece : Sketch). piece.k ≡ s.k) ss no_sketch (λ i lt. (value-of t ss s h).k i (omega (arith, tree.once i lt)))
-
-pub total-of : (t : MergeTree) (ss : List Sketch) (s : Sketch) → IsMergeTree t (length ss) → tree_result t ss ≡ Ok s → s.total ≡ sum_by (λ piece. piece.total) ss
-total-of t ss s tree h = (value-of t ss s h).total ∙ sum-leaves (λ (piece : Sketch). piece.total) no_sketch t ss tree

@@ -9,8 +9,10 @@ use Rattle.hh_pool.specs.Trees.{MergeTree, tree_value}
 abbrev pub AreEnough : List Bytes → List Entry → ℕ → ℕ → Type 0
 AreEnough ks xs p q = selected p q (total_of xs) (zip ks (weights_at ks xs)) ≡ heavy xs p q
 
--- The summary has this k, the total of all items, and the counters that the tree makes of those of the pieces, and it is honest for the items xs
-pub record IsMerged (tree : MergeTree) (k : ℕ) (pieces : List (List Entry)) (xs : List Entry) (summary : Sketch) : Type 0 where
+-- The summary has this k, the total of all items, and the counters that the tree makes of those of the pieces, and it
+-- is honest for the items xs
+pub record IsMerged (tree : MergeTree) (k : ℕ) (pieces : List (List Entry)) (xs : List Entry)
+    (summary : Sketch) : Type 0 where
   pub same_k : summary.k ≡ k
   pub total : summary.total ≡ total_of xs
   pub counters : summary.counters ≡ tree_value tree (map (λ piece. misra_gries piece k) pieces) k

@@ -1,13 +1,11 @@
 -- What the workers of a pass bring back.
-use Rattle.std.specs.Prelude.{◌≡◌, ℕ, ◌+◌, ◌*◌, ◌<◌, All, List, [], length, map, take, slice_get, slice_index_or, Some}
+use Rattle.std.specs.Prelude.{◌≡◌, ℕ, ◌+◌, ◌*◌, ◌<◌, List, [], length, map, slice_get, slice_index_or, Some}
 use Rattle.std.specs.List.{flat_map}
 use Rattle.std.specs.List.Sorted.{IsStrictlyIncreasing}
 use Rattle.hh_stream.specs.Weights.{Bytes, Entry, weight_of}
-use Rattle.hh_stream.specs.Cuttings.{whole_of}
 use Rattle.hh_counters.specs.Counters.{Sketch, sketch_of}
-use Rattle.hh_counters.specs.Report.{weights_at}
-use Rattle.hh_countmin.specs.Table.{Grid, cell_sum, table_of}
-use Rattle.hh_shared.specs.Tally.{times, added, IsDistinctBelow}
+use Rattle.hh_countmin.specs.Table.{cell_sum}
+use Rattle.hh_shared.specs.Tally.{times, added}
 use Rattle.hh_shared.specs.Seats.{Holding}
 use Rattle.hh_pool.specs.Settings.{Settings}
 
@@ -26,46 +24,31 @@ summaries_at k pieces numbers = map (λ i. (i, sketch_of k (piece_of pieces i)))
 abbrev pub HasTried : ℕ → Holding → Type 0
 HasTried n seat = (i : ℕ) → i < n → 0 < times i seat.claims + times i seat.met
 
--- What workers of the first pass bring back together. Each piece was claimed or met. The additions to the cell that has row r, cell c of the table sum up to the table's cell over the claimed pieces, and the summaries are exactly those of the claimed pieces
-pub record AreFirstPasses (pieces : List (List Entry)) (settings : Settings) (seat : Holding) (kept : List (ℕ × Sketch)) : Type 0 where
+-- What workers of the first pass bring back together. Each piece was claimed or met. The additions to the cell that
+-- has row r, cell c of the table sum up to the table's cell over the claimed pieces, and the summaries are exactly
+-- those of the claimed pieces
+pub record AreFirstPasses (pieces : List (List Entry)) (settings : Settings) (seat : Holding)
+    (kept : List (ℕ × Sketch)) : Type 0 where
   pub tried : HasTried (length pieces) seat
-  pub adds : (r c : ℕ) → r < length settings.family.rows → c < settings.width → added (r * settings.width + c) seat.adds ≡ cell_sum settings.family settings.width r c (items_at pieces seat.claims)
+  pub adds : (r c : ℕ) → r < length settings.family.rows → c < settings.width
+      → added (r * settings.width + c) seat.adds
+      ≡ cell_sum settings.family settings.width r c (items_at pieces seat.claims)
   pub summaries : kept ≡ summaries_at settings.k pieces seat.claims
 
--- What workers of the second pass bring back together. Each piece was claimed or met. The additions to a key's cell sum up to its weight over the claimed pieces
+-- What workers of the second pass bring back together. Each piece was claimed or met. The additions to a key's cell sum
+-- up to its weight over the claimed pieces
 pub record AreSecondPasses (pieces : List (List Entry)) (keys : List Bytes) (seat : Holding) : Type 0 where
   pub tried : HasTried (length pieces) seat
-  pub adds : (i : ℕ) (key : Bytes) → slice_get keys i ≡ Some key → added i seat.adds ≡ weight_of key (items_at pieces seat.claims)
+  pub adds : (i : ℕ) (key : Bytes) → slice_get keys i ≡ Some key
+      → added i seat.adds ≡ weight_of key (items_at pieces seat.claims)
 
--- One worker takes the lowest piece that it finds unclaimed: each piece that it claims is above those that it claimed before
-pub record IsFirstPass (pieces : List (List Entry)) (settings : Settings) (seat : Holding) (kept : List (ℕ × Sketch)) : Type 0 where
+-- One worker takes the lowest piece that it finds unclaimed: each piece that it claims is above those that it claimed
+-- before
+pub record IsFirstPass (pieces : List (List Entry)) (settings : Settings) (seat : Holding)
+    (kept : List (ℕ × Sketch)) : Type 0 where
   pub rising : IsStrictlyIncreasing seat.claims
   pub work : AreFirstPasses pieces settings seat kept
 
 pub record IsSecondPass (pieces : List (List Entry)) (keys : List Bytes) (seat : Holding) : Type 0 where
   pub rising : IsStrictlyIncreasing seat.claims
   pub work : AreSecondPasses pieces keys seat
-
--- a worker has tried the first n pieces from the lowest on, each once
-pub record HasTriedUpTo (pieces : List (List Entry)) (n : ℕ) (seat : Holding) : Type 0 where
-  pub tried : HasTried n seat
-  pub distinct : IsDistinctBelow (length pieces) seat.claims
-  pub rising : IsStrictlyIncreasing seat.claims
-  pub low : All (λ i. i < n) seat.claims
-  pub none_added : seat.adds ≡ []
-
--- a worker of the first pass has tried n pieces, and hasn't yet added what its table holds
-pub record IsFirstPassUpTo (pieces : List (List Entry)) (settings : Settings) (n : ℕ) (seat : Holding) (kept : List (ℕ × Sketch)) (grid : Grid) : Type 0 where
-  pub so_far : HasTriedUpTo pieces n seat
-  pub summaries : kept ≡ summaries_at settings.k pieces seat.claims
-  pub table : grid ≡ table_of settings.family settings.width (items_at pieces seat.claims)
-
--- a worker of the second pass has tried n pieces, and hasn't yet added its numbers
-pub record IsSecondPassUpTo (pieces : List (List Entry)) (keys : List Bytes) (n : ℕ) (seat : Holding) (counts : List ℕ) : Type 0 where
-  pub so_far : HasTriedUpTo pieces n seat
-  pub numbers : counts ≡ weights_at keys (items_at pieces seat.claims)
-
--- what the calling thread has made of the first n pieces
-pub record IsFirstAloneUpTo (pieces : List (List Entry)) (settings : Settings) (n : ℕ) (sketches : List Sketch) (grid : Grid) : Type 0 where
-  pub summaries : sketches ≡ map (sketch_of settings.k) (take n pieces)
-  pub table : grid ≡ table_of settings.family settings.width (whole_of (take n pieces))

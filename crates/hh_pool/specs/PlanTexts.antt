@@ -2,7 +2,7 @@
 use Rattle.std.specs.Prelude.{◌≡◌, ℕ, ◌+◌, ◌-◌, ◌*◌, ◌<◌, ◌≤◌, ◌==◌, ◌&&◌, max, nat_lt, nat_le, Bool, true, false, slice_index_or, List, [], ◌∷◌, ◌++◌, length, take, Option, Some, None, ⊤, if◌then◌else◌}
 use Rattle.std.specs.Option.{option_and_then}
 use Rattle.std.specs.Fmt.{decimal}
-use Rattle.hh_shared.specs.Tally.{times}
+use Rattle.hh_shared.specs.Tally.{times, IsDistinctBelow}
 use Rattle.hh_pool.specs.Trees.{MergeTree, Piece, Merge, leaves}
 use Rattle.hh_pool.specs.declared.reading.PlanFault.{PlanFault}
 use Rattle.hh_pool.specs.declared.reading.PlanFault.TheVariants as fault
@@ -35,21 +35,18 @@ pub record Spells (text : List ℕ) (t : MergeTree) : Type 0 where
 abbrev pub Begins : List ℕ → MergeTree → Type 0
 Begins text t = HasText t × ((rest : List ℕ) × (text_of t ≡ text ++ rest))
 
--- the text up to n can be continued to a tree, and with the byte there it can't; n is the text's length where the text ends too early
+-- the text up to n can be continued to a tree, and with the byte there it can't; n is the text's length where the
+-- text ends too early
 pub record IsSyntaxFault (text : List ℕ) (n : ℕ) : Type 0 where
   pub within : n ≤ length text
   pub continues : (t : MergeTree) × Begins (take n text) t
   pub stops : n < length text → (t : MergeTree) → Begins (take (n + 1) text) t → ⊥
   pub ends : (t : MergeTree) → Spells text t → ⊥
 
--- the numbers are different ones below p
-pub record AreOwn (p : ℕ) (xs : List ℕ) : Type 0 where
-  pub once : (i : ℕ) → times i xs ≤ 1
-  pub below : (i : ℕ) → 0 < times i xs → i < p
-
 -- each number below p is marked where it is one of the numbers
 abbrev pub AreMarked : List Bool → ℕ → List ℕ → Type 0
-AreMarked marks p xs = (length marks ≡ p) × ((i : ℕ) → i < p → slice_index_or marks i false ≡ nat_lt 0 (times i xs))
+AreMarked marks p xs =
+    (length marks ≡ p) × ((i : ℕ) → i < p → slice_index_or marks i false ≡ nat_lt 0 (times i xs))
 
 -- what a refusal of a text tells, and of a tree's numbers
 abbrev pub SyntaxRefused : List ℕ → PlanFault → Type 0
@@ -59,12 +56,16 @@ SyntaxRefused text _ = ⊥
 
 abbrev pub NumbersRefused : ℕ → List ℕ → PlanFault → Type 0
 NumbersRefused p xs (fault.Syntax n) = ⊥
-NumbersRefused p xs (fault.UnknownPiece i) = (before : List ℕ) × (after : List ℕ) × (xs ≡ before ++ i ∷ after) × AreOwn p before × (p ≤ i)
-NumbersRefused p xs (fault.RepeatedPiece i) = (before : List ℕ) × (after : List ℕ) × (xs ≡ before ++ i ∷ after) × AreOwn p before × (0 < times i before)
-NumbersRefused p xs (fault.MissingPiece i) = AreOwn p xs × (i < p) × (times i xs ≡ 0) × ((j : ℕ) → j < i → 0 < times j xs)
+NumbersRefused p xs (fault.UnknownPiece i) =
+    (before : List ℕ) × (after : List ℕ) × (xs ≡ before ++ i ∷ after) × IsDistinctBelow p before × (p ≤ i)
+NumbersRefused p xs (fault.RepeatedPiece i) =
+    (before : List ℕ) × (after : List ℕ) × (xs ≡ before ++ i ∷ after) × IsDistinctBelow p before × (0 < times i before)
+NumbersRefused p xs (fault.MissingPiece i) =
+    IsDistinctBelow p xs × (i < p) × (times i xs ≡ 0) × ((j : ℕ) → j < i → 0 < times j xs)
 NumbersRefused p xs fault.Memory = ⊤
 
--- what a refusal of a plan's text for p pieces tells: its syntax is judged first, and then its numbers from left to right
+-- what a refusal of a plan's text for p pieces tells: its syntax is judged first, and then its numbers from left to
+-- right
 abbrev pub PlanRefused : List ℕ → ℕ → PlanFault → Type 0
 PlanRefused text p (fault.Syntax n) = IsSyntaxFault text n
 PlanRefused text p fault.Memory = ⊤
@@ -109,7 +110,10 @@ step s c = step_now s.now s.outer c
   where
     step_now : Now → List Open → ℕ → Option Reading
     step_now Start os c = at_start os c
-    step_now (Number n) os c = if is_digit c then (if nat_le 1 n && nat_lt n 1000 then Some (record { now = Number (n * 10 + (c - 48)); outer = os }) else None) else after_tree (Piece n) os c
+    step_now (Number n) os c =
+        if is_digit c then
+        (if nat_le 1 n && nat_lt n 1000 then Some (record { now = Number (n * 10 + (c - 48)); outer = os }) else None)
+        else after_tree (Piece n) os c
     step_now (Done t) os c = after_tree t os c
 
 abbrev pub steps : Reading → List ℕ → Option Reading

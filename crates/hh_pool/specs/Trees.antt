@@ -14,23 +14,26 @@ pub data MergeTree : Type 0 where
   Piece : (number : ℕ) → MergeTree
   Merge : (left right : MergeTree) → MergeTree
 
--- a tree as a stored value, and back
-abbrev pub stored : MergeTree → Gv
-stored (Piece i) = gnum i
-stored (Merge l r) = gcons (stored l) (stored r)
+-- a tree as a code, and back
+abbrev pub code_of : MergeTree → Gv
+code_of (Piece i) = gnum i
+code_of (Merge l r) = gcons (code_of l) (code_of r)
 
-abbrev pub restored : Gv → MergeTree
-restored gnil = Piece 0
-restored (gnum i) = Piece i
-restored (gcons l r) = Merge (restored l) (restored r)
+abbrev pub tree_of_code : Gv → MergeTree
+tree_of_code gnil = Piece 0
+tree_of_code (gnum i) = Piece i
+tree_of_code (gcons l r) = Merge (tree_of_code l) (tree_of_code r)
 
-pub restored-stored : (t : MergeTree) → restored (stored t) ≡ t
-restored-stored (Piece i) = refl
-restored-stored (Merge l r) = λ i. Merge (restored-stored l i) (restored-stored r i)
+pub tree_of_code-code_of : (t : MergeTree) → tree_of_code (code_of t) ≡ t
+tree_of_code-code_of (Piece i) = refl
+tree_of_code-code_of (Merge l r) = λ i. Merge (tree_of_code-code_of l i) (tree_of_code-code_of r i)
 
 -- the code by which proofs tell trees apart
 abbrev pub tree_code : Coded MergeTree
-tree_code = record { code = stored; inj = λ s t e. sym (restored-stored s) ∙ ap restored e ∙ restored-stored t }
+tree_code = record {
+  code = code_of;
+  inj = λ s t e. sym (tree_of_code-code_of s) ∙ ap tree_of_code e ∙ tree_of_code-code_of t;
+}
 
 -- the pieces, from left to right
 abbrev pub leaves : MergeTree → List ℕ
@@ -41,11 +44,6 @@ leaves (Merge l r) = leaves l ++ leaves r
 pub record IsMergeTree (t : MergeTree) (p : ℕ) : Type 0 where
   pub once : (i : ℕ) → i < p → times i (leaves t) ≡ 1
   pub within : (i : ℕ) → p ≤ i → times i (leaves t) ≡ 0
-
--- the leaves are different places of a list of so many
-pub record HasPlaces (t : MergeTree) (n : ℕ) : Type 0 where
-  pub once : (i : ℕ) → times i (leaves t) ≤ 1
-  pub within : (i : ℕ) → 0 < times i (leaves t) → i < n
 
 -- ((0 1) 2) and so on, with each next piece on the right: the chain of n + 1 pieces
 abbrev pub chain_of : ℕ → MergeTree
@@ -64,7 +62,9 @@ tree_value (Merge l r) cs k = join (tree_value l cs k) (tree_value r cs k) k
 
 -- one summary merged with another, or why not
 abbrev pub merge_result : Sketch → Sketch → Result Sketch MergeFault
-merge_result s t = if s.k == t.k then (if nat_le (s.total + t.total) max_total then Ok (merged s t) else Err fault.TotalTooLarge) else Err fault.DifferentK
+merge_result s t =
+    if s.k == t.k then (if nat_le (s.total + t.total) max_total then Ok (merged s t) else Err fault.TotalTooLarge)
+    else Err fault.DifferentK
 
 -- the left refusal comes before the right one, and that of the node comes last
 abbrev pub merge_both : Result Sketch MergeFault → Result Sketch MergeFault → Result Sketch MergeFault
@@ -89,5 +89,6 @@ items_of (Merge l r) pieces = items_of l pieces ++ items_of r pieces
 abbrev pub MergesHonestly : List Sketch → Sketch → Type 0
 MergesHonestly ss s =
     (lists : List (List Entry)) → length lists ≡ length ss
-    → ((i : ℕ) → i < length ss → let piece = slice_index_or ss i no_sketch in IsHonest piece.counters piece.total (slice_index_or lists i []) s.k)
+    → ((i : ℕ) → i < length ss → let piece = slice_index_or ss i no_sketch in
+    IsHonest piece.counters piece.total (slice_index_or lists i []) s.k)
     → IsHonest s.counters s.total (whole_of lists) s.k

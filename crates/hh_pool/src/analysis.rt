@@ -1,6 +1,7 @@
 //! The analysis of a stream: two passes by workers, and a merge between them.
 
-ghost use Rattle.std.specs.Prelude.{◌≡◌, ◌≢◌, ◌+◌, ◌*◌, ◌≤◌, ◌<◌, ◌∷◌, ◌↔◌, ℕ, List, All, length, map, sum, IfOk, IfSome, IsErrOf};
+ghost use Rattle.std.specs.Prelude.{◌≡◌, ◌≢◌, ◌+◌, ◌*◌, ◌≤◌, ◌<◌, ◌∷◌, ◌↔◌};
+ghost use Rattle.std.specs.Prelude.{ℕ, List, All, length, map, sum, IfOk, IfSome, IsErrOf};
 ghost use Rattle.std.specs.List.{range_with_len};
 ghost use Rattle.hh_stream.specs.Weights.{Entry};
 ghost use Rattle.hh_stream.specs.Cuttings.{max_pieces, pieces_of};
@@ -210,12 +211,13 @@ fn run_passes<R: Threads + Wait + Sync, G: Gate + Sync>(
     })
 }
 
-/// Analyses a stream, with workers that share nothing but atomic sums: they summarise the pieces and
-/// fill the table, the summaries are merged as the plan says, and the workers count those of the merged
-/// summary's keys that can be above the threshold, as far as counters and table tell. The outcome is the
-/// same for every number of workers and whatever worker does which piece: the counters are those of the plan's merges, honest for the stream (Agarwal et al., PODS
-/// 2012), the table is the stream's, cell for cell (Cormode and Muthukrishnan 2005), and the heavy keys
-/// are exactly those above the options' threshold, with their true weights.
+/// Analyses a stream, with workers that share nothing but atomic sums: they summarise the pieces
+/// and fill the table, the summaries are merged as the plan says, and the workers count those of
+/// the merged summary's keys that can be above the threshold, as far as counters and table tell.
+/// The outcome is the same for every number of workers and whatever worker does which piece: the
+/// counters are those of the plan's merges, honest for the stream (Agarwal et al., PODS 2012), the
+/// table is the stream's, cell for cell (Cormode and Muthukrishnan 2005), and the heavy keys are
+/// exactly those above the options' threshold, with their true weights.
 ///
 /// It starts the workers, numbered from 0, in threads of their own, and waits for them.
 pub fn analyse<R: Threads + Wait + Sync, G: Gate + Sync>(

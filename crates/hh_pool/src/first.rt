@@ -1,6 +1,7 @@
 //! The first pass: each piece is summarised, and its items are added to the cells of one table.
 
-ghost use Rattle.std.specs.Prelude.{◌≡◌, ◌+◌, ◌*◌, ◌<◌, ◌≤◌, ◌++◌, ◌∷◌, [], ℕ, List, length, map, slice_index, sum, IfOk, OnOk};
+ghost use Rattle.std.specs.Prelude.{◌≡◌, ◌+◌, ◌*◌, ◌<◌, ◌≤◌, ◌++◌, ◌∷◌};
+ghost use Rattle.std.specs.Prelude.{[], ℕ, List, length, map, slice_index, sum, IfOk, OnOk};
 ghost use Rattle.hh_stream.specs.Weights.{max_total, Entry, total_of};
 ghost use Rattle.hh_stream.specs.Cuttings.{pieces_of};
 ghost use Rattle.hh_counters.specs.Counters.{sketch_of};
@@ -8,7 +9,8 @@ ghost use Rattle.hh_countmin.specs.Family.{Coefficients};
 ghost use Rattle.hh_countmin.specs.Table.{table_of};
 ghost use Rattle.hh_shared.specs.Tally.{added};
 ghost use Rattle.hh_shared.specs.Seats.{fresh};
-ghost use Rattle.hh_pool.specs.Passes.{IsFirstPass, IsFirstPassUpTo, IsFirstAloneUpTo};
+ghost use Rattle.hh_pool.specs.Passes.{IsFirstPass};
+ghost use Rattle.hh_pool.specs.Progress.{HasDoneFirst, HasTriedFirst, first_pieces};
 
 use crate::gate::Gate;
 use crate::options::Options;
@@ -31,10 +33,11 @@ pub(crate) struct FirstPass<'a, G> {
     pub(crate) gate: &'a G,
 }
 
-/// What a worker of the first pass runs: it claims pieces from the lowest on, and of each that it gets
-/// it calls the gate and makes the summary. What the items of its pieces add to the cells it gathers
-/// in a table of its own, whose cells it adds to the shared ones at the end: row r, cell c is number
-/// r * width + c there. It waits for nobody, unless the gate does. Memory gives the seat up.
+/// What a worker of the first pass runs: it claims pieces from the lowest on, and of each that it
+/// gets it calls the gate and makes the summary. What the items of its pieces add to the cells it
+/// gathers in a table of its own, whose cells it adds to the shared ones at the end: row r, cell c
+/// is number r * width + c there. It waits for nobody, unless the gate does. Memory gives the seat
+/// up.
 pub fn first_pass<G: Gate>(
     alloc: Global,
     sums: &SharedSums,
@@ -128,13 +131,9 @@ impl<'a, G: Gate> FirstPass<'a, G> {
         requires piece { piece < sums.now.claims }
         requires claims { sums.now.claims ≡ length self.now.cutting.now }
         requires same_len { sum self.now.cutting.now ≡ length self.now.stream.now }
-        requires before { let pieces = pieces_of self.now.cutting.now self.now.stream.now in
-            IsFirstPassUpTo pieces self.now.options.now piece
-            seat.old made.old.summaries.items made.old.table }
+        requires before { HasTriedFirst self.now piece seat.old made.old }
         ensures sums { seat.new.sums ≡ seat.old.sums }
-        ensures after { let pieces = pieces_of self.now.cutting.now self.now.stream.now in
-            OnOk result (IsFirstPassUpTo pieces self.now.options.now (piece + 1)
-            seat.new made.new.summaries.items made.new.table) }
+        ensures after { OnOk result (HasTriedFirst self.now (piece + 1) seat.new made.new) }
     {
         if !sums.claim(seat, piece) {
             return Ok(());
@@ -153,8 +152,8 @@ impl<'a, G: Gate> FirstPass<'a, G> {
     /// table of the stream.
     pub(crate) fn alone(&self) -> Result<(Vec<Summary>, Table), AllocError>
         requires { sum self.now.cutting.now ≡ length self.now.stream.now }
-        ensures summaries { let pieces = pieces_of self.now.cutting.now self.now.stream.now in
-            IfOk result (λ r. r.0.items ≡ map (sketch_of self.now.options.now.k) pieces) }
+        ensures summaries { IfOk result (λ r.
+            r.0.items ≡ map (sketch_of self.now.options.now.k) (first_pieces self.now)) }
         ensures table { let options = self.now.options.now in
             IfOk result (λ r. r.1 ≡ table_of options.family options.width self.now.stream.now) }
     {
@@ -176,11 +175,8 @@ impl<'a, G: Gate> FirstPass<'a, G> {
     ) -> Result<(), AllocError>
         requires same_len { sum self.now.cutting.now ≡ length self.now.stream.now }
         requires piece { piece < length self.now.cutting.now }
-        requires before { let pieces = pieces_of self.now.cutting.now self.now.stream.now in
-            IsFirstAloneUpTo pieces self.now.options.now piece summaries.old.items table.old }
-        ensures { let pieces = pieces_of self.now.cutting.now self.now.stream.now in
-            OnOk result (IsFirstAloneUpTo pieces self.now.options.now (piece + 1)
-            summaries.new.items table.new) }
+        requires before { HasDoneFirst self.now piece summaries.old.items table.old }
+        ensures { OnOk result (HasDoneFirst self.now (piece + 1) summaries.new.items table.new) }
     {
         self.gate.before(1, self.options.workers(), piece as u64);
         let items = self.cutting.piece(self.stream, piece);
@@ -194,16 +190,17 @@ impl<'a, G: Gate> Pass for FirstPass<'a, G> {
     type Kept = Vec<(usize, Summary)>;
 
     ghost use Rattle.hh_pool.specs.Passes.{AreFirstPasses, IsFirstPass};
+    ghost use Rattle.hh_pool.specs.Progress.{first_pieces};
 
     ghost fits = { λ p sums. (sum p.cutting.now ≡ length p.stream.now)
         × (sums.claims ≡ length p.cutting.now)
         × (sums.cells ≡ length p.options.now.family.rows * p.options.now.width) };
 
     ghost done = { λ p seat summaries.
-        IsFirstPass (pieces_of p.cutting.now p.stream.now) p.options.now seat summaries.items };
+        IsFirstPass (first_pieces p) p.options.now seat summaries.items };
 
     ghost all_done = { λ p seat summaries.
-        AreFirstPasses (pieces_of p.cutting.now p.stream.now) p.options.now seat summaries.items };
+        AreFirstPasses (first_pieces p) p.options.now seat summaries.items };
 
     fn run(
         &self,

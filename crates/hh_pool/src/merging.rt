@@ -1,12 +1,14 @@
 //! Summaries merged by a plan.
 
-ghost use Rattle.std.specs.Prelude.{◌≡◌, ◌≢◌, ℕ, List, length, map, sum_by, ◌≤◌, All, Ok, Err, IfOk, IfErr, slice_index_or};
+ghost use Rattle.std.specs.Prelude.{◌≡◌, ◌≢◌, ◌≤◌, ℕ, List, length, map, sum_by, slice_index_or};
+ghost use Rattle.std.specs.Prelude.{All, Ok, Err, IfOk, IfErr};
 ghost use Rattle.hh_stream.specs.Weights.{Entry};
 ghost use Rattle.hh_stream.specs.Cuttings.{max_pieces, whole_of};
 ghost use Rattle.hh_counters.specs.Counters.{IsHonest, Sketch};
-ghost use Rattle.hh_shared.specs.Tally.{times};
+ghost use Rattle.hh_shared.specs.Tally.{times, IsDistinctBelow};
 ghost use Rattle.hh_pool.specs.Plans.{shape};
-ghost use Rattle.hh_pool.specs.Trees.{HasPlaces, IsMergeTree, MergesHonestly, leaves, merge_result, no_sketch, tree_result, tree_value};
+ghost use Rattle.hh_pool.specs.Trees.{IsMergeTree, MergesHonestly};
+ghost use Rattle.hh_pool.specs.Trees.{leaves, merge_result, no_sketch, tree_result, tree_value};
 
 use crate::plan::{Plan, Tree};
 use hh_counters::laws::join_of_honest_is_honest;
@@ -39,7 +41,7 @@ fn merge_two(left: Summary, right: &Summary) -> Result<Summary, MergeFault>
 
 /// Merges the summaries of a tree's pieces, which it takes from their places.
 fn merge_tree(alloc: Global, tree: &Tree, summaries: &mut [Summary]) -> Result<Summary, MergeFault>
-    requires places { HasPlaces (shape tree.now) (length summaries.old) }
+    requires places { IsDistinctBelow (length summaries.old) (leaves (shape tree.now)) }
     requires fits { length summaries.old ≤ max_pieces }
     ensures merged { IfOk result (λ s. tree_result (shape tree.now) summaries.old ≡ Ok s) }
     ensures refused { IfErr result (λ e.
@@ -62,12 +64,12 @@ fn merge_tree(alloc: Global, tree: &Tree, summaries: &mut [Summary]) -> Result<S
     }
 }
 
-/// The summaries of the pieces merged as the plan says: a leaf is its piece's summary, and a node is
-/// the left result merged with the right one. The refusal is the first one met, in the left tree
+/// The summaries of the pieces merged as the plan says: a leaf is its piece's summary, and a node
+/// is the left result merged with the right one. The refusal is the first one met, in the left tree
 /// before the right tree before the node.
 ///
-/// Whatever the plan, where each summary is honest for a list of items, the result is honest for all
-/// of them (Agarwal et al., Mergeable Summaries, PODS 2012).
+/// Whatever the plan, where each summary is honest for a list of items, the result is honest for
+/// all of them (Agarwal et al., Mergeable Summaries, PODS 2012).
 pub fn merge_by(alloc: Global, plan: &Plan, summaries: Vec<Summary>) -> Result<Summary, MergeFault>
     requires { IsMergeTree plan.now (length summaries.items) }
     ensures merged { IfOk result (λ s. tree_result plan.now summaries.items ≡ Ok s) }

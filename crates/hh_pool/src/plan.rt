@@ -70,6 +70,7 @@ fn balanced_tree(alloc: Global, first: usize, pieces: usize) -> Result<Tree, All
 
 impl Plan {
     /// The pieces merged one after the other: `((0 1) 2)` and so on.
+    #[tactic(auto, using(crate::proofs::TreeFacts::chain_merges))]
     pub fn chain(alloc: Global, pieces: usize) -> Result<Plan, AllocError>
         requires some { 1 ≤ pieces }
         requires few { pieces ≤ max_pieces }
@@ -84,6 +85,7 @@ impl Plan {
     }
 
     /// A balanced tree: of more than one piece, the first half, rounded up, are the left tree.
+    #[tactic(auto, using(crate::proofs::TreeFacts::balanced_merges))]
     pub fn balanced(alloc: Global, pieces: usize) -> Result<Plan, AllocError>
         requires some { 1 ≤ pieces }
         requires few { pieces ≤ max_pieces }
@@ -100,8 +102,10 @@ impl Plan {
     /// The plan of so many pieces that a text spells: a tree is a piece's number, without leading
     /// zeros, or two trees in parentheses with a space between them, as `((0 1) 2)`.
     ///
-    /// The syntax is judged over the whole text first. Then the numbers are taken from left to right:
-    /// the first one that is unknown or came before is told, and then the least one that is missing.
+    /// The syntax is judged over the whole text first. Then the numbers are taken from left to
+    /// right: the first one that is unknown or came before is told, and then the least one that is
+    /// missing.
+    #[tactic(auto, using(crate::proofs::MergeFacts::length_leaves))]
     pub fn parse(alloc: Global, text: &[u8], pieces: usize) -> Result<Plan, PlanFault>
         requires some { 1 ≤ pieces }
         requires few { pieces ≤ max_pieces }
@@ -120,6 +124,7 @@ impl Plan {
     }
 
     /// The number of pieces.
+    #[tactic(auto, using(crate::proofs::MergeFacts::length_leaves))]
     pub fn count(&self) -> usize
         ensures pieces { result ≡ length (leaves self.now) }
         ensures tree { IsMergeTree self.now result }
@@ -130,6 +135,7 @@ impl Plan {
     }
 
     /// The tree.
+    #[tactic(auto, using(crate::proofs::MergeFacts::length_leaves))]
     pub(crate) fn tree(&self) -> &Tree
         ensures tree { shape result.now ≡ self.now }
         ensures few { length (leaves self.now) ≤ max_pieces }

@@ -1,8 +1,11 @@
 //! Plans read from their texts.
 
-ghost use Rattle.std.specs.Prelude.{◌≡◌, ◌<◌, ◌++◌, ℕ, false, true, length, slice_index_or, IfOk, IfErr, IfSome, IfNone, OnOk, Some, None, map, option_map};
+ghost use Rattle.std.specs.Prelude.{◌≡◌, ◌<◌, ◌++◌, ℕ, false, true, length, map, slice_index_or};
+ghost use Rattle.std.specs.Prelude.{IfOk, IfErr, IfSome, IfNone, OnOk, Some, None, option_map};
 ghost use Rattle.hh_pool.specs.Plans.{now_of, open_of, reading_of, shape};
-ghost use Rattle.hh_pool.specs.PlanTexts.{AreMarked, AreOwn, NumbersRefused, PlanRefused, Spells, SyntaxRefused, after_tree, at_start, read_tree, step};
+ghost use Rattle.hh_shared.specs.Tally.{IsDistinctBelow};
+ghost use Rattle.hh_pool.specs.PlanTexts.{AreMarked, NumbersRefused, PlanRefused, SyntaxRefused};
+ghost use Rattle.hh_pool.specs.PlanTexts.{Spells, after_tree, at_start, read_tree, step};
 ghost use Rattle.hh_pool.specs.Trees.{IsMergeTree, leaves};
 
 use crate::plan::Tree;
@@ -168,7 +171,7 @@ fn add_numbers(tree: &Tree, numbers: &mut Vec<usize>) -> Result<(), AllocError>
 /// Which of so many pieces the numbers have, if they are different ones.
 fn marks_of(alloc: Global, numbers: &[usize], pieces: usize) -> Result<Vec<bool>, PlanFault>
     ensures marks { IfOk result (λ marks. AreMarked marks.items pieces numbers.now) }
-    ensures own { OnOk result (AreOwn pieces numbers.now) }
+    ensures own { OnOk result (IsDistinctBelow pieces numbers.now) }
     ensures refused { IfErr result (λ fault. NumbersRefused pieces numbers.now fault) }
 {
     let Ok(mut marks) = vec![in alloc; false; pieces] else {

@@ -1,10 +1,11 @@
 //! The second pass: the candidates' exact weights are counted.
 
-ghost use Rattle.std.specs.Prelude.{◌≡◌, ◌+◌, ◌<◌, ◌≤◌, length, sum, take, IfOk};
-ghost use Rattle.hh_stream.specs.Cuttings.{pieces_of, whole_of};
+ghost use Rattle.std.specs.Prelude.{◌≡◌, ◌+◌, ◌<◌, ◌≤◌, length, sum, IfOk};
+ghost use Rattle.hh_stream.specs.Cuttings.{pieces_of};
 ghost use Rattle.hh_counters.specs.Report.{weights_at};
 ghost use Rattle.hh_shared.specs.Seats.{fresh};
-ghost use Rattle.hh_pool.specs.Passes.{AreSecondPasses, IsSecondPass, IsSecondPassUpTo};
+ghost use Rattle.hh_pool.specs.Passes.{AreSecondPasses, IsSecondPass};
+ghost use Rattle.hh_pool.specs.Progress.{HasDoneSecond, HasTriedSecond, second_pieces};
 
 use crate::gate::Gate;
 use crate::pass::{Pass, add_numbers};
@@ -24,10 +25,10 @@ pub(crate) struct SecondPass<'a, G> {
     pub(crate) gate: &'a G,
 }
 
-/// What a worker of the second pass runs: it claims pieces from the lowest on, and of each that it gets
-/// it calls the gate and counts the candidates. It gathers their weights in numbers of its own, which
-/// it adds to the shared cells, one for each candidate, at the end. It waits for nobody, unless the
-/// gate does. Memory gives the seat up.
+/// What a worker of the second pass runs: it claims pieces from the lowest on, and of each that it
+/// gets it calls the gate and counts the candidates. It gathers their weights in numbers of its
+/// own, which it adds to the shared cells, one for each candidate, at the end. It waits for nobody,
+/// unless the gate does. Memory gives the seat up.
 pub fn second_pass<G: Gate>(
     alloc: Global,
     sums: &SharedSums,
@@ -71,11 +72,9 @@ impl<'a, G: Gate> SecondPass<'a, G> {
         requires piece { piece < sums.now.claims }
         requires claims { sums.now.claims ≡ length self.now.cutting.now }
         requires same_len { sum self.now.cutting.now ≡ length self.now.stream.now }
-        requires before { let pieces = pieces_of self.now.cutting.now self.now.stream.now in
-            IsSecondPassUpTo pieces self.now.candidates.now piece seat.old numbers.old }
+        requires before { HasTriedSecond self.now piece seat.old numbers.old }
         ensures sums { seat.new.sums ≡ seat.old.sums }
-        ensures after { let pieces = pieces_of self.now.cutting.now self.now.stream.now in
-            IsSecondPassUpTo pieces self.now.candidates.now (piece + 1) seat.new numbers.new }
+        ensures after { HasTriedSecond self.now (piece + 1) seat.new numbers.new }
     {
         if sums.claim(seat, piece) {
             self.gate.before(2, worker, piece as u64);
@@ -86,8 +85,8 @@ impl<'a, G: Gate> SecondPass<'a, G> {
 }
 
 impl<'a, G: Gate> SecondPass<'a, G> {
-    /// The same by the calling thread, without sums: the candidates' weights in the stream. `workers` is
-    /// what the gate hears.
+    /// The same by the calling thread, without sums: the candidates' weights in the stream.
+    /// `workers` is what the gate hears.
     pub(crate) fn alone(&self, workers: u64) -> Result<Vec<u64>, AllocError>
         requires { sum self.now.cutting.now ≡ length self.now.stream.now }
         ensures { IfOk result (λ weights.
@@ -105,10 +104,8 @@ impl<'a, G: Gate> SecondPass<'a, G> {
     fn do_piece(&self, weights: &mut [u64], workers: u64, piece: usize)
         requires same_len { sum self.now.cutting.now ≡ length self.now.stream.now }
         requires piece { piece < length self.now.cutting.now }
-        requires before { let pieces = pieces_of self.now.cutting.now self.now.stream.now in
-            weights.old ≡ weights_at self.now.candidates.now (whole_of (take piece pieces)) }
-        ensures { let pieces = pieces_of self.now.cutting.now self.now.stream.now in
-            weights.new ≡ weights_at self.now.candidates.now (whole_of (take (piece + 1) pieces)) }
+        requires before { HasDoneSecond self.now piece weights.old }
+        ensures { HasDoneSecond self.now (piece + 1) weights.new }
     {
         self.gate.before(2, workers, piece as u64);
         let items = self.cutting.piece(self.stream, piece);
@@ -123,10 +120,10 @@ impl<'a, G: Gate> Pass for SecondPass<'a, G> {
         × (sums.claims ≡ length p.cutting.now) × (sums.cells ≡ length p.candidates.now) };
 
     ghost done = { λ p seat _.
-        IsSecondPass (pieces_of p.cutting.now p.stream.now) p.candidates.now seat };
+        IsSecondPass (second_pieces p) p.candidates.now seat };
 
     ghost all_done = { λ p seat _.
-        AreSecondPasses (pieces_of p.cutting.now p.stream.now) p.candidates.now seat };
+        AreSecondPasses (second_pieces p) p.candidates.now seat };
 
     fn run(
         &self,

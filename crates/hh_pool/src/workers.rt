@@ -25,8 +25,8 @@ impl<P: Pass> Promise<Result<(SumSeat, P::Kept), AllocError>> for Promised<P> {
         × P.all_done p.pass.value x.0 x.1) };
 }
 
-/// Runs so many workers with one seat, numbered from `first` on: where they are more than one, half of
-/// them in a thread of their own. Memory also where the system refuses a thread; all threads are
+/// Runs so many workers with one seat, numbered from `first` on: where they are more than one, half
+/// of them in a thread of their own. Memory also where the system refuses a thread; all threads are
 /// joined.
 #[cycle(workers)]
 fn run_workers<R: Threads + Wait + Sync, P: Pass + Sync>(

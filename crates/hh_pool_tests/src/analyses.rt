@@ -1,6 +1,8 @@
 //! The worked rows on options and analyses.
 
-use crate::fixtures::{analysed, four_items, is_of_four_items, options, plain_family, stream_of};
+use crate::fixtures::{
+    analyse_stream, four_items, is_of_four_items, options, plain_family, stream_of,
+};
 use hh_pool::{MAX_WORKERS, OpenGate, Options, OptionsFault, Outcome, Plan, RunError};
 use hh_stream::{Cutting, Key};
 use std::alloc::Global;
@@ -60,7 +62,7 @@ fn is_as_ever<R: Threads + Wait + Abort + Sync>(
     let stream = four_items(alloc)?;
     let cutting = Cutting::even(alloc, stream.len(), plan.count())?;
     let options = options(alloc, 2, workers)?;
-    let outcome = analysed(rt, alloc, &stream, &cutting, plan, &options, &OpenGate)?;
+    let outcome = analyse_stream(rt, alloc, &stream, &cutting, plan, &options, &OpenGate)?;
     is_of_four_items(alloc, &outcome)
 }
 
@@ -111,7 +113,7 @@ fn counters_follow_the_plan(rt: HostRuntime) -> Result<(), Fail> {
     let options = options(alloc, 1, 2)?;
     for (text, counter, slack) in [(b"((0 1) 2)", 0, 2), (b"(0 (1 2))", 2, 1)] {
         let plan = Plan::parse(alloc, text, 3)?;
-        let outcome = analysed(&rt, alloc, &stream, &cutting, &plan, &options, &OpenGate)?;
+        let outcome = analyse_stream(&rt, alloc, &stream, &cutting, &plan, &options, &OpenGate)?;
         assert_eq!(rt; numbers_of(alloc, &outcome)?, (0, counter, 4, slack));
     }
     Ok(())
@@ -130,7 +132,7 @@ fn report_above<R: Threads + Wait + Abort + Sync>(
     let cutting = Cutting::even(alloc, stream.len(), 2)?;
     let plan = Plan::chain(alloc, 2)?;
     let options = Options::new(k, p, q, 2, 4, plain_family(alloc)?)?;
-    let outcome = analysed(rt, alloc, &stream, &cutting, &plan, &options, &OpenGate)?;
+    let outcome = analyse_stream(rt, alloc, &stream, &cutting, &plan, &options, &OpenGate)?;
     let mut text = String::new(alloc);
     for row in &outcome.heavy {
         for byte in row.key.bytes() {
@@ -169,7 +171,7 @@ fn plan_has_to_match_the_cutting(rt: HostRuntime) -> Result<(), Fail> {
     let cutting = Cutting::even(alloc, stream.len(), 2)?;
     let plan = Plan::chain(alloc, 3)?;
     let options = options(alloc, 2, 1)?;
-    let outcome = analysed(&rt, alloc, &stream, &cutting, &plan, &options, &OpenGate);
+    let outcome = analyse_stream(&rt, alloc, &stream, &cutting, &plan, &options, &OpenGate);
     assert_eq!(rt; outcome.err(), Some(RunError::PlanMismatch));
     Ok(())
 }

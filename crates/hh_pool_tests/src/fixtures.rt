@@ -26,7 +26,7 @@ pub(crate) fn four_items(alloc: Global) -> Result<Stream, Fail> {
     stream_of(alloc, &items)
 }
 
-// The family by which a and e fall on cells 2 and 3 of a row of four, b on 3 and 2, and c on 0 and 1.
+// The family by which a and e fall on cells 2 and 3 of a row of four, b on 3 and 2, c on 0 and 1.
 pub(crate) fn plain_family(alloc: Global) -> Result<Family, Fail> {
     Ok(Family::from_parts(alloc, 256, &[(1, 0), (3, 1)])?)
 }
@@ -39,7 +39,7 @@ pub(crate) fn options(alloc: Global, k: u64, workers: u64) -> Result<Options, Fa
     Ok(Options::new(k, 1, k + 1, workers, 4, family)?)
 }
 
-pub(crate) fn analysed<R: Threads + Wait + Abort + Sync, G: Gate + Sync>(
+pub(crate) fn analyse_stream<R: Threads + Wait + Abort + Sync, G: Gate + Sync>(
     rt: &R,
     alloc: Global,
     stream: &Stream,

@@ -1,5 +1,5 @@
-//! The worked rows on plans, merges, passes and analyses. They are a crate of their own, since a crate
-//! with tests is proved twice.
+//! The worked rows on plans, merges, passes and analyses. They are a crate of their own, since a
+//! crate with tests is proved twice.
 #![tactic(auto)]
 
 #[cfg(test)]

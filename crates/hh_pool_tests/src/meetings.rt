@@ -2,7 +2,7 @@
 
 ghost use Rattle.std.specs.Prelude.{◌≤◌};
 
-use crate::fixtures::{analysed, four_items, is_of_four_items, options};
+use crate::fixtures::{analyse_stream, four_items, is_of_four_items, options};
 use hh_pool::{Gate, Plan};
 use hh_stream::Cutting;
 use std::alloc::Global;
@@ -21,8 +21,8 @@ pub(crate) struct Calls {
     pub(crate) workers: AtomicU64,
 }
 
-// Holds the pieces below `held` in each pass until all `wanted` calls of that pass have come, for so
-// many turns at most.
+// Holds the pieces below `held` in each pass until all `wanted` calls of that pass have come, for
+// so many turns at most.
 #[derive(Drop)]
 pub(crate) struct Meeting {
     pub(crate) first: Calls,
@@ -115,8 +115,8 @@ impl Gate for Meeting {
     }
 }
 
-// The four items in so many even pieces, for k = 2, with a gate. Whether the outcome is as ever, with
-// one call of the gate for each piece and pass.
+// The four items in so many even pieces, for k = 2, with a gate. Whether the outcome is as ever,
+// with one call of the gate for each piece and pass.
 fn meets<R: Threads + Wait + Abort + Sync>(
     rt: &R,
     alloc: Global,
@@ -130,7 +130,7 @@ fn meets<R: Threads + Wait + Abort + Sync>(
     let cutting = Cutting::even(alloc, stream.len(), pieces)?;
     let plan = Plan::chain(alloc, pieces)?;
     let options = options(alloc, 2, workers)?;
-    let outcome = analysed(rt, alloc, &stream, &cutting, &plan, &options, gate)?;
+    let outcome = analyse_stream(rt, alloc, &stream, &cutting, &plan, &options, gate)?;
     Ok(is_of_four_items(alloc, &outcome)? && gate.is_exact())
 }
 

@@ -28,7 +28,12 @@ fn has_counters(
 }
 
 // The sums, once both seats are joined.
-fn closed(rt: &impl Abort, sums: SharedSums, one: SumSeat, other: SumSeat) -> Result<Vec<u64>, Fail>
+fn close_both(
+    rt: &impl Abort,
+    sums: SharedSums,
+    one: SumSeat,
+    other: SumSeat,
+) -> Result<Vec<u64>, Fail>
     requires one { one.sums ≡ sums }
     requires other { other.sums ≡ sums }
 {
@@ -56,7 +61,7 @@ fn first_of_two_seats_summarises_all_pieces(rt: HostRuntime) -> Result<(), Fail>
     assert_eq!(rt; (found.len(), none.len()), (2, 0));
     assert!(rt; has_counters(alloc, &found[0], 0, (b"a", 5), (b"b", 3))?);
     assert!(rt; has_counters(alloc, &found[1], 1, (b"a", 1), (b"c", 2))?);
-    let cells = closed(&rt, sums, one, other)?;
+    let cells = close_both(&rt, sums, one, other)?;
     assert_eq!(rt; cells.as_slice(), [2, 0, 6, 3, 0, 2, 3, 6].as_slice());
     Ok(())
 }
@@ -93,7 +98,7 @@ fn first_of_two_seats_counts_all_candidates(rt: HostRuntime) -> Result<(), Fail>
     )?;
     assert!(rt; !sums.holds_all(&other));
     assert_eq!(rt;
-        closed(&rt, sums, one, other)?.as_slice(),
+        close_both(&rt, sums, one, other)?.as_slice(),
         [6, 3].as_slice()
     );
     Ok(())

@@ -53,7 +53,7 @@ fn parentheses_are_open_1023_deep(rt: HostRuntime) -> Result<(), Fail> {
 }
 
 // The plan with its whole tree.
-fn shown(alloc: Global, plan: &Plan) -> Result<String, Fail> {
+fn tree_text(alloc: Global, plan: &Plan) -> Result<String, Fail> {
     Ok(format!(in alloc; "{plan:?}")?)
 }
 
@@ -68,7 +68,7 @@ fn plans_have_the_trees_of_their_texts(rt: HostRuntime) -> Result<(), Fail> {
     ];
     for (text, plan) in texts {
         let read = Plan::parse(alloc, text, plan.count())?;
-        assert!(rt; shown(alloc, &read)? == shown(alloc, &plan)?);
+        assert!(rt; tree_text(alloc, &read)? == tree_text(alloc, &plan)?);
     }
     Ok(())
 }
@@ -91,13 +91,13 @@ fn plans_have_up_to_1024_pieces(rt: HostRuntime) -> Result<(), Fail> {
     let alloc = rt.alloc();
     let chain = Plan::chain(alloc, 1024)?;
     let read = Plan::parse(alloc, long_text(alloc)?.as_bytes(), 1024)?;
-    assert!(rt; shown(alloc, &read)? == shown(alloc, &chain)?);
+    assert!(rt; tree_text(alloc, &read)? == tree_text(alloc, &chain)?);
     assert_eq!(rt; Plan::balanced(alloc, 1024)?.count(), 1024);
     Ok(())
 }
 
 /// The merge of as many summaries as the plan has pieces.
-fn merged(
+fn merge_all(
     rt: &(impl Abort + AllocGlobal),
     plan: &Plan,
     summaries: Vec<Summary>,
@@ -118,13 +118,13 @@ fn pieces(rt: &(impl Abort + AllocGlobal), count: usize) -> Vec<Summary> {
     summaries
 }
 
-// What the merge of the pieces by a plan has: how many counters, those of a and d, the total and the
-// slack.
+// What the merge of the pieces by a plan has: how many counters, those of a and d, the total and
+// the slack.
 fn merge_of(
     rt: &(impl Abort + AllocGlobal),
     plan: &Plan,
 ) -> Result<(usize, u64, u64, u64, u64), Fail> {
-    let summary = merged(rt, plan, pieces(rt, plan.count()))?;
+    let summary = merge_all(rt, plan, pieces(rt, plan.count()))?;
     let a = summary.get(&Key::new(rt.alloc(), b"a")?);
     let d = summary.get(&Key::new(rt.alloc(), b"d")?);
     Ok((summary.len(), a, d, summary.total(), summary.slack()))
@@ -155,7 +155,7 @@ fn different_k_is_not_merged(rt: HostRuntime) -> Result<(), Fail> {
     summaries.push(one(&rt, 3, b"a", 1))?;
     let plan = Plan::parse(rt.alloc(), b"(0 1)", 2)?;
     assert_eq!(rt;
-        merged(&rt, &plan, summaries).err(),
+        merge_all(&rt, &plan, summaries).err(),
         Some(MergeFault::DifferentK)
     );
     Ok(())
@@ -167,7 +167,7 @@ fn chain_of_1024_pieces_merges(rt: HostRuntime) -> Result<(), Fail> {
     for _ in 0..1024 {
         summaries.push(one(&rt, 1, b"a", 1))?;
     }
-    let summary = merged(&rt, &Plan::chain(rt.alloc(), 1024)?, summaries)?;
+    let summary = merge_all(&rt, &Plan::chain(rt.alloc(), 1024)?, summaries)?;
     let counter = summary.get(&Key::new(rt.alloc(), b"a")?);
     assert_eq!(rt;
         (counter, summary.total(), summary.slack()),

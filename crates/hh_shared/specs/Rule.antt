@@ -15,20 +15,23 @@ lists counts claims met adds = record { counts = counts; claims = claims; met = 
 abbrev pub newcomer : ℕ × ℕ → Lists
 newcomer counts = lists counts [] [] []
 
--- what the rule says of one seat: its numbers are numbers of claims, those that it met are claimed, and without a claim it has no adds
+-- what the rule says of one seat: its numbers are numbers of claims, those that it met are claimed, and without a claim
+-- it has no adds
 pub record Fits (claims : ℕ) (words : List ℕ) (seat : Lists) : Type 0 where
   pub claims_below : (j : ℕ) → 0 < times j seat.claims → j < claims
   pub met_below : (j : ℕ) → 0 < times j seat.met → j < claims
   pub met_claimed : (j : ℕ) → 0 < times j seat.met → slice_index words j ≡ 1
   pub idle : seat.claims ≡ [] → seat.adds ≡ []
 
--- The words of the claims stand first. A claim's word is 0 or 1, and the number of times that it stands in the claims of all seats; a cell's word is the sum of what all seats added. Dropped seats count
+-- The words of the claims stand first. A claim's word is 0 or 1, and the number of times that it stands in the claims
+-- of all seats; a cell's word is the sum of what all seats added. Dropped seats count
 pub record IsTallied (claims cells : ℕ) (words : List ℕ) (seats : List Lists) : Type 0 where
   pub size : length words ≡ claims + cells
   pub each : (id : ℕ) (seat : Lists) → get_elem? seats id ≡ some seat → Fits claims words seat
   pub claimed : (j : ℕ) → j < claims → slice_index words j ≡ sum_by (λ seat. times j seat.claims) seats
   pub once : (j : ℕ) → j < claims → slice_index words j < 2
-  pub summed : (cell : ℕ) → cell < cells → slice_index words (claims + cell) ≡ sum_by (λ seat. added cell seat.adds) seats % 2 ^ 64
+  pub summed : (cell : ℕ) → cell < cells
+      → slice_index words (claims + cell) ≡ sum_by (λ seat. added cell seat.adds) seats % 2 ^ 64
 
 -- the number was found free, and is the seat's; or it was found claimed, and was met
 pub record Claims (seat : Lists) (j found : ℕ) (after : Lists) : Type 0 where
@@ -38,7 +41,8 @@ pub record Claims (seat : Lists) (j found : ℕ) (after : Lists) : Type 0 where
 
 -- an amount was added to the cell whose word this is
 abbrev pub Adds : Lists → ℕ → ℕ → Lists → Type 0
-Adds seat word amount after = after ≡ lists seat.counts seat.claims seat.met (seat.adds ++ (word - seat.counts.0, amount) ∷ [])
+Adds seat word amount after =
+    after ≡ lists seat.counts seat.claims seat.met (seat.adds ++ (word - seat.counts.0, amount) ∷ [])
 
 -- nothing changed, and the claims are distinct
 abbrev pub Looks : Lists → Lists → Type 0
@@ -54,7 +58,12 @@ spent = newcomer (0, 0)
 
 -- a table's seat as contracts see it
 abbrev pub holding_of : TableId → Lists → Holding
-holding_of table seat = record { sums = record { table = table; claims = seat.counts.0; cells = seat.counts.1 }; claims = seat.claims; met = seat.met; adds = seat.adds }
+holding_of table seat = record {
+  sums = record { table = table; claims = seat.counts.0; cells = seat.counts.1 };
+  claims = seat.claims;
+  met = seat.met;
+  adds = seat.adds;
+}
 
 -- a seat that holds no slot and has so many claims, all distinct
 pub record IsCounted (me : Me ℕ Lists) (count : ℕ) : Type 0 where

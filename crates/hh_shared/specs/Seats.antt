@@ -15,7 +15,8 @@ pub record Sums : Type 0 where
   pub claims : ℕ
   pub cells : ℕ
 
--- what a seat stands for: whose seat it is, what it claimed, what it found claimed, and the cells and amounts that it added
+-- what a seat stands for: whose seat it is, what it claimed, what it found claimed, and the cells and amounts that it
+-- added
 pub record Holding : Type 0 where
   pub sums : Sums
   pub claims : List ℕ
@@ -28,7 +29,12 @@ fresh sums = record { sums = sums; claims = []; met = []; adds = [] }
 
 -- the first seat with the lists of both
 abbrev pub joined : Holding → Holding → Holding
-joined one other = record { sums = one.sums; claims = one.claims ++ other.claims; met = one.met ++ other.met; adds = one.adds ++ other.adds }
+joined one other = record {
+  sums = one.sums;
+  claims = one.claims ++ other.claims;
+  met = one.met ++ other.met;
+  adds = one.adds ++ other.adds;
+}
 
 -- a table of this key has a word for each claim and each cell, and no slot
 pub record IsLaid (key : ℕ × ℕ) (table : TableId) (claims cells : ℕ) : Type 0 where

@@ -41,7 +41,8 @@ impl Play<u8, Lists> for Add {
     ghost use Rattle.std.specs.Prelude.{◌≡◌};
     ghost use Rattle.hh_shared.specs.Rule.{Adds};
 
-    ghost then = { λ step me found after. Adds me.0 step.word step.first after.0 × (after.1 ≡ me.1) };
+    ghost then = { λ step me found after.
+        Adds me.0 step.word step.first after.0 × (after.1 ≡ me.1) };
 }
 
 /// A load that changes nothing and tells that the seat's claims are distinct.

@@ -1,6 +1,7 @@
 //! The sums that threads share, and the seats by which they claim and add.
 
-ghost use Rattle.std.specs.Prelude.{◌≡◌, ◌+◌, ◌<◌, ◌≤◌, ◌↔◌, ℕ, [], ◌∷◌, ◌++◌, length, slice_index, vec_len, IsOk, IfOk, IsTrue, MatchBool};
+ghost use Rattle.std.specs.Prelude.{◌≡◌, ◌+◌, ◌<◌, ◌≤◌, ◌↔◌, ◌∷◌, ◌++◌, ℕ, [], length, slice_index};
+ghost use Rattle.std.specs.Prelude.{vec_len, IsOk, IfOk, IsTrue, MatchBool};
 ghost use Rattle.hh_shared.specs.Tally.{sum_at, IsDistinctBelow, HasAllBelow, AreDisjoint};
 ghost use Rattle.hh_shared.specs.Seats.{max_claims, max_cells, fresh, joined};
 
@@ -32,13 +33,19 @@ impl Model for SharedSums {
 
     ghost Value = { Sums };
 
-    ghost view = { λ sums. record { table = sums.table.shared.table_id; claims = sums.claims; cells = sums.cells } };
+    ghost view = { λ sums. record {
+      table = sums.table.shared.table_id;
+      claims = sums.claims;
+      cells = sums.cells;
+    } };
 
-    ghost invariant = { λ sums. IsLaid sums.table.shared.key sums.table.shared.table_id sums.claims sums.cells };
+    ghost invariant = { λ sums.
+        IsLaid sums.table.shared.key sums.table.shared.table_id sums.claims sums.cells };
 }
 
-/// The right to claim and to add, which takes no bytes but a count. A contract sees whose seat it is
-/// and three lists: the claims that it holds, the numbers that it found claimed, and what it added.
+/// The right to claim and to add, which takes no bytes but a count. A contract sees whose seat it
+/// is and three lists: the claims that it holds, the numbers that it found claimed, and what it
+/// added.
 ///
 /// A seat that is dropped keeps its claims: where it has any, no seat holds all from then on.
 #[derive(Drop)]
@@ -97,8 +104,8 @@ impl SharedSums {
         }
     }
 
-    /// Claims a number for the seat, unless some seat has claimed it before: then the answer is false,
-    /// and the seat has met the number.
+    /// Claims a number for the seat, unless some seat has claimed it before: then the answer is
+    /// false, and the seat has met the number.
     pub fn claim(&self, seat: &mut SumSeat, number: usize) -> bool
         requires seat { seat.old.sums ≡ self.now }
         requires number { number < self.now.claims }
@@ -160,7 +167,8 @@ impl SharedSums {
         requires all { HasAllBelow self.claims seat.claims }
         ensures len { IfOk result (λ sums. vec_len sums ≡ self.cells) }
         ensures none { self.cells ≡ 0 → IsOk result }
-        ensures sums { IfOk result (λ sums. (cell : ℕ) → cell < self.cells → slice_index sums.items cell ≡ sum_at seat.adds cell) }
+        ensures sums { IfOk result (λ sums. (cell : ℕ) → cell < self.cells
+            → slice_index sums.items cell ≡ sum_at seat.adds cell) }
     {
         let SumSeat { seat, count: _ } = seat;
         let SharedSums {

@@ -10,7 +10,7 @@ use std::test::*;
 use std::thread::{Threads, join};
 
 // The sums, which the seat has to hold all claims of.
-fn closed(rt: &impl Abort, sums: SharedSums, seat: SumSeat) -> Result<Vec<u64>, AllocError>
+fn close_all(rt: &impl Abort, sums: SharedSums, seat: SumSeat) -> Result<Vec<u64>, AllocError>
     requires { seat.sums ≡ sums }
 {
     assert!(rt; sums.holds_all(&seat));
@@ -28,7 +28,7 @@ fn two_seats_close_with_the_sums_of_both(rt: HostRuntime) -> Result<(), Fail> {
     assert!(rt; !sums.claim(&mut second, 0));
     assert!(rt; !sums.holds_all(&first) && !sums.holds_all(&second));
     sums.join(&mut first, second);
-    assert_eq!(rt; closed(&rt, sums, first)?.as_slice(), [12].as_slice());
+    assert_eq!(rt; close_all(&rt, sums, first)?.as_slice(), [12].as_slice());
     Ok(())
 }
 
@@ -39,7 +39,7 @@ fn a_claim_is_given_once_and_a_cell_wraps(rt: HostRuntime) -> Result<(), Fail> {
     assert!(rt; !sums.claim(&mut seat, 0));
     sums.add(&mut seat, 0, u64::MAX);
     sums.add(&mut seat, 0, 2);
-    assert_eq!(rt; closed(&rt, sums, seat)?.as_slice(), [1].as_slice());
+    assert_eq!(rt; close_all(&rt, sums, seat)?.as_slice(), [1].as_slice());
     Ok(())
 }
 
@@ -111,11 +111,13 @@ fn tally_by_four<R: Threads + Sync>(rt: &R, sums: &SharedSums, mut seat: SumSeat
     let (mut one, other) = join(
         rt,
         || -> SumSeat
-            requires { IsSync R.row × (seat.sums ≡ sums.now) × (sums.now.claims ≡ 100) × (sums.now.cells ≡ 3) }
+            requires { IsSync R.row × (seat.sums ≡ sums.now)
+                × (sums.now.claims ≡ 100) × (sums.now.cells ≡ 3) }
             ensures { result.sums ≡ sums.entry.now }
         { tally_by_two(rt, sums, seat) },
         || -> SumSeat
-            requires { IsSync R.row × (half.sums ≡ sums.now) × (sums.now.claims ≡ 100) × (sums.now.cells ≡ 3) }
+            requires { IsSync R.row × (half.sums ≡ sums.now)
+                × (sums.now.claims ≡ 100) × (sums.now.cells ≡ 3) }
             ensures { result.sums ≡ sums.entry.now }
         { tally_by_two(rt, sums, half) },
     );
@@ -128,7 +130,7 @@ fn four_threads_claim_a_hundred_numbers(rt: HostRuntime) -> Result<(), Fail> {
     let (sums, seat) = SharedSums::new(rt.alloc(), 100, 3)?;
     let seat = tally_by_four(&rt, &sums, seat);
     assert_eq!(rt;
-        closed(&rt, sums, seat)?.as_slice(),
+        close_all(&rt, sums, seat)?.as_slice(),
         [1683, 1617, 1650].as_slice()
     );
     Ok(())

@@ -8,8 +8,16 @@ use Rattle.hh_pool.proofs.analysis.candidates.Goals as goal
 pub returns-clause-enough : goal.returns-clause-enough
 returns-clause-enough c = λ xs honest le is.
     let t = c.args.table.now in
-    let same = (c.cells_are_cell_sums.ensures t.family t.width xs).2 c.requires.rows c.total.ensures.fits.width_in_range.0 in
-    let most : (x : Bytes) → weight_of x xs ≤ estimate_in t x = λ x. omega (arith, ap (λ (g : Grid). estimate_in g x) is ∙ same x, c.estimate_is_never_below.ensures.never_below t.family t.width x xs) in
-    thinned_enough c.contenders_suffice.ensures c.thinned_suffice.ensures c.args.summary.now xs c.args.p c.args.q c.total.result c.in_ok-contenders.contenders c.in_ok-candidates.candidates c.in_ok-estimates.estimates.items (estimate_in t)
-    honest le most (c.total.ensures.total ∙ ap (λ (g : Grid). g.total) is) c.in_ok-contenders.ensures.keys c.in_ok-estimates.ensures
-    (c.in_ok-candidates.ensures.keys ∙ ap (thinned c.args.p c.args.q c.total.result c.in_ok-contenders.contenders) c.deref.ensures.value)
+    let same = (c.cells_are_cell_sums.ensures t.family t.width xs).2 c.requires.rows
+    c.total.ensures.fits.width_in_range.0 in
+    let most : (x : Bytes) → weight_of x xs ≤ estimate_in t x =
+    λ x.
+    let never = c.estimate_is_never_below.ensures.never_below t.family t.width x xs in
+    omega (arith, ap (λ (g : Grid). estimate_in g x) is ∙ same x, never) in
+    thinned_enough c.contenders_suffice.ensures c.thinned_suffice.ensures c.args.summary.now xs c.args.p c.args.q
+    c.total.result c.in_ok-contenders.contenders c.in_ok-candidates.candidates c.in_ok-estimates.estimates.items
+    (estimate_in t)
+    honest le most (c.total.ensures.total ∙ ap (λ (g : Grid). g.total) is) c.in_ok-contenders.ensures.keys
+    c.in_ok-estimates.ensures
+    (c.in_ok-candidates.ensures.keys
+    ∙ ap (thinned c.args.p c.args.q c.total.result c.in_ok-contenders.contenders) c.deref.ensures.value)

@@ -11,5 +11,7 @@ loop-i-preserved c =
     let i = c.loop-i.i in
     let k = c.key.result.now in
     c.in_ok-push.ensures.items
-    ∙ ap₂ (λ (ns : List ℕ) (n : ℕ). ns ++ n ∷ []) c.loop-i.invariant (c.estimate.ensures.estimate ∙ ap f (sym (get_or_from_slice_get ks i k k c.key.ensures)))
-    ∙ sym (ap (map f) (take_more ks i k (omega (arith, c.loop-i-test.true, c.len-i-end.ensures.len))) ∙ map-append f (take i ks) (get_or ks i k ∷ []))
+    ∙ ap₂ (λ (ns : List ℕ) (n : ℕ). ns ++ n ∷ []) c.loop-i.invariant (c.estimate.ensures.estimate
+    ∙ ap f (sym (get_or_from_slice_get ks i k k c.key.ensures)))
+    ∙ sym (ap (map f) (take_more ks i k (omega (arith, c.loop-i-test.true, c.len-i-end.ensures.len)))
+    ∙ map-append f (take i ks) (get_or ks i k ∷ []))

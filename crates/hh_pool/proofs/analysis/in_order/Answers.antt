@@ -13,20 +13,24 @@ abbrev alone : List (ℕ × Sketch) → List Sketch
 alone found = map (λ (it : ℕ × Sketch). it.1) found
 
 pub loop-summary-init : goal.loop-summary-init
-loop-summary-init c = ap (λ taken. taken ++ alone c.into_iter-summary-iterator.result.rest.items) (sym c.new-summaries.ensures.items)
+loop-summary-init c = ap (λ taken. taken ++ alone c.into_iter-summary-iterator.result.rest.items)
+    (sym c.new-summaries.ensures.items)
 
 pub loop-summary-preserved : goal.loop-summary-preserved
 loop-summary-preserved c =
     let taken = c.loop-summary.summaries.items in
     let left = c.next.new.self.rest.items in
-    c.loop-summary.invariant
-    ∙ (ap (λ found. taken ++ alone found) c.in-Some.ensures.steps.0
-    ∙ (sym (append_assoc taken (c.in-Some.summary ∷ []) (alone left)) ∙ ap (λ (more : List Sketch). more ++ alone left) (sym c.in_ok-push.ensures.items)))
+    c.loop-summary.invariant ∙ (ap (λ found. taken ++ alone found) c.in-Some.ensures.steps.0
+    ∙ (sym (append_assoc taken (c.in-Some.summary ∷ []) (alone left))
+    ∙ ap (λ (more : List Sketch). more ++ alone left) (sym c.in_ok-push.ensures.items)))
 
 pub returns : goal.returns
 returns c f count theirs distinct all =
-    let none = nil_from_length c.loop-summary.summary-iterator.rest.items (omega (arith, c.in-None.ensures.steps.0, c.loop-summary.summary-iterator.rest.ok)) in
-    let sorted = c.sort_unstable_by.ensures.sorted (λ x y. is_lt (nat_cmp x.0 y.0)) (ranks_by nat_cmp_total (λ (it : ℕ × Sketch). it.0)) (always_returns_same _ _ _ (λ a r g k. search rules)) in
+    let none = nil_from_length c.loop-summary.summary-iterator.rest.items
+    (omega (arith, c.in-None.ensures.steps.0, c.loop-summary.summary-iterator.rest.ok)) in
+    let sorted = c.sort_unstable_by.ensures.sorted (λ x y. is_lt (nat_cmp x.0 y.0))
+    (ranks_by nat_cmp_total (λ (it : ℕ × Sketch). it.0)) (always_returns_same _ _ _ (λ a r g k. search rules)) in
     let taken = c.loop-summary.summaries.items in
     sym (c.loop-summary.invariant ∙ (ap (λ found. taken ++ alone found) none ∙ append-nil taken))
-    ∙ (ap alone c.into_iter-summary-iterator.ensures.into_iter_gives.0 ∙ ordered f count c.args.found.items _ theirs distinct all c.sort_unstable_by.ensures.permutation sorted)
+    ∙ (ap alone c.into_iter-summary-iterator.ensures.into_iter_gives.0
+    ∙ ordered f count c.args.found.items _ theirs distinct all c.sort_unstable_by.ensures.permutation sorted)

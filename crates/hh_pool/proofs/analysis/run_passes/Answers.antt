@@ -1,41 +1,40 @@
 use Rattle.std.proofs.Common.{◌∙◌, ℕ, length, sym, ap, subst, arith}
 use Rattle.std.specs.Prelude.{zip}
 use Rattle.std.proofs.lemmas.List.{length-map}
-use Rattle.hh_stream.specs.Weights.{total_of}
 use Rattle.hh_stream.specs.Cuttings.{pieces_of}
 use Rattle.hh_counters.specs.Counters.{Sketch, IsHonest, sketch_of}
 use Rattle.hh_counters.specs.Report.{selected}
 use Rattle.hh_countmin.specs.Table.{table_of}
 use Rattle.hh_pool.specs.Trees.{IsMergeTree}
 use Rattle.hh_pool.proofs.Pieces.{length-pieces_of}
+use Rattle.hh_pool.proofs.ValueFacts.{IsMergeOf}
 use Rattle.hh_pool.proofs.Merged.{no_refusal, merged_is, heavy_is}
 use Rattle.hh_pool.proofs.analysis.run_passes.Goals as goal
 
 pub merge_by-requires : goal.merge_by-requires
 merge_by-requires g c =
     let pieces = pieces_of c.args.cutting.now c.args.stream.now in
-    let count = ap length c.in_ok-summaries.ensures.summaries ∙ (length-map pieces (sketch_of c.args.options.now.k) ∙ length-pieces_of c.args.cutting.now c.args.stream.now) in
+    let count = ap length c.in_ok-summaries.ensures.summaries
+    ∙ (length-map pieces (sketch_of c.args.options.now.k) ∙ length-pieces_of c.args.cutting.now c.args.stream.now) in
     subst (IsMergeTree c.args.plan.now) (sym count) c.requires.plan
 
 pub unreachable-requires : goal.unreachable-requires
 unreachable-requires g c =
-    let lengths = c.args.cutting.now in
-    let stream = c.args.stream.now in
-    let pieces = pieces_of lengths stream in
-    let plan = subst (IsMergeTree c.args.plan.now) (sym (length-pieces_of lengths stream)) c.requires.plan in
-    let whole = ap total_of (c.pieces_make_the_whole.ensures.whole lengths stream c.requires.same_len) in
-    let refused = c.in-Err-DifferentK.ensures.refused (λ memory. let kind = c.in-Err-DifferentK.field-0-is in cc) in
-    no_refusal c.args.plan.now c.args.options.now.k pieces c.in_ok-summaries.summaries.items c.in-Err-DifferentK.field-0 plan (omega (arith, whole, c.total-total.ensures.total, c.total-total.ensures.bounded)) c.in_ok-summaries.ensures.summaries refused
+    let whole = c.pieces_make_the_whole.ensures.whole c.args.cutting.now c.args.stream.now c.requires.same_len in
+    let kind = c.in-Err-DifferentK.field-0-is in
+    let refused = c.in-Err-DifferentK.ensures.refused (λ memory. cc) in
+    let total = c.total-total.ensures in
+    no_refusal _ _ _ _ _ _ c.requires.plan whole (omega (arith, total.total, total.bounded))
+    c.in_ok-summaries.ensures.summaries refused
 
 pub unreachable-requires-in-Err-TotalTooLarge : goal.unreachable-requires-in-Err-TotalTooLarge
 unreachable-requires-in-Err-TotalTooLarge g c =
-    let lengths = c.args.cutting.now in
-    let stream = c.args.stream.now in
-    let pieces = pieces_of lengths stream in
-    let plan = subst (IsMergeTree c.args.plan.now) (sym (length-pieces_of lengths stream)) c.requires.plan in
-    let whole = ap total_of (c.pieces_make_the_whole.ensures.whole lengths stream c.requires.same_len) in
-    let refused = c.in-Err-TotalTooLarge.ensures.refused (λ memory. let kind = c.in-Err-TotalTooLarge.field-0-is in cc) in
-    no_refusal c.args.plan.now c.args.options.now.k pieces c.in_ok-summaries.summaries.items c.in-Err-TotalTooLarge.field-0 plan (omega (arith, whole, c.total-total.ensures.total, c.total-total.ensures.bounded)) c.in_ok-summaries.ensures.summaries refused
+    let whole = c.pieces_make_the_whole.ensures.whole c.args.cutting.now c.args.stream.now c.requires.same_len in
+    let kind = c.in-Err-TotalTooLarge.field-0-is in
+    let refused = c.in-Err-TotalTooLarge.ensures.refused (λ memory. cc) in
+    let total = c.total-total.ensures in
+    no_refusal _ _ _ _ _ _ c.requires.plan whole (omega (arith, total.total, total.bounded))
+    c.in_ok-summaries.ensures.summaries refused
 
 pub weigh-requires-clause-few : goal.weigh-requires-clause-few
 weigh-requires-clause-few g c = λ _ _.
@@ -45,26 +44,26 @@ weigh-requires-clause-few g c = λ _ _.
 
 pub returns-clause-summary : goal.returns-clause-summary
 returns-clause-summary g c =
-    let lengths = c.args.cutting.now in
-    let stream = c.args.stream.now in
     let by = c.in-Ok.ensures in
-    merged_is c.misra_gries_is_honest.ensures c.args.plan.now c.args.options.now.k (pieces_of lengths stream) stream c.in_ok-summaries.summaries.items c.in-Ok.summary (omega (arith, length-pieces_of lengths stream, c.requires.some)) (c.pieces_make_the_whole.ensures.whole lengths stream c.requires.same_len)
-    c.in_ok-summaries.ensures.summaries by.k by.total by.counters by.honest
+    let of : IsMergeOf c.args.plan.now c.in_ok-summaries.summaries.items c.in-Ok.summary =
+    record { same_k = by.k; total = by.total; counters = by.counters; honest = by.honest } in
+    merged_is c.misra_gries_is_honest.ensures _ _ _ _ _ _
+    (omega (arith, length-pieces_of c.args.cutting.now c.args.stream.now, c.requires.some))
+    (c.pieces_make_the_whole.ensures.whole c.args.cutting.now c.args.stream.now c.requires.same_len)
+    c.in_ok-summaries.ensures.summaries of
 
 pub returns-clause-heavy : goal.returns-clause-heavy
 returns-clause-heavy g c =
-    let lengths = c.args.cutting.now in
     let stream = c.args.stream.now in
-    let by = c.in-Ok.ensures in
-    let k = c.args.options.now.k in
     let keys = c.in_ok-candidates.candidates in
-    let merged =
-    merged_is c.misra_gries_is_honest.ensures c.args.plan.now k (pieces_of lengths stream) stream c.in_ok-summaries.summaries.items c.in-Ok.summary (omega (arith, length-pieces_of lengths stream, c.requires.some)) (c.pieces_make_the_whole.ensures.whole lengths stream c.requires.same_len)
-    c.in_ok-summaries.ensures.summaries by.k by.total by.counters by.honest in
+    let merged = returns-clause-summary g c in
     let asked = c.threshold-p.ensures in
-    let honest = subst (λ (z : ℕ × ℕ). IsHonest c.in-Ok.summary.counters z.0 stream z.1) (λ i. (sym merged.total i, sym merged.same_k i)) merged.honest in
+    let honest = subst (λ (z : ℕ × ℕ). IsHonest c.in-Ok.summary.counters z.0 stream z.1)
+    (λ i. (sym merged.total i, sym merged.same_k i)) merged.honest in
     let filled = c.in_ok-summaries.ensures.table in
-    let enough = c.in_ok-candidates.ensures.enough stream honest (rw (merged.same_k, asked.p, asked.q) asked.in_range.1) (filled ∙ (λ i. table_of (sym filled i).family (sym filled i).width stream)) in
+    let enough = c.in_ok-candidates.ensures.enough stream honest (rw (merged.same_k, asked.p, asked.q) asked.in_range.1)
+    (filled ∙ (λ i. table_of (sym filled i).family (sym filled i).width stream)) in
     c.in_ok-heavy.ensures.rows
     ∙ ((λ i. selected (asked.p i) (asked.q i) c.total-total.result (zip keys (c.deref.ensures.value i)))
-    ∙ heavy_is stream c.args.options.now.p c.args.options.now.q c.total-total.result keys c.in_ok-weights.weights.items (rw (asked.p, asked.q) at enough) c.total-total.ensures.total c.in_ok-weights.ensures)
+    ∙ heavy_is stream c.args.options.now.p c.args.options.now.q c.total-total.result keys c.in_ok-weights.weights.items
+    (rw (asked.p, asked.q) at enough) c.total-total.ensures.total c.in_ok-weights.ensures)

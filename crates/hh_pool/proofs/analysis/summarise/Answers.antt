@@ -4,7 +4,7 @@ use Rattle.hh_stream.specs.Cuttings.{pieces_of}
 use Rattle.hh_counters.specs.Counters.{Sketch, sketch_of}
 use Rattle.hh_shared.specs.Tally.{IsDistinctBelow, HasAllBelow}
 use Rattle.hh_pool.specs.Passes.{piece_of}
-use Rattle.hh_pool.proofs.Pieces.{length-pieces_of}
+use Rattle.hh_pool.proofs.Pieces.{all_pieces, distinct_pieces}
 use Rattle.hh_pool.proofs.Closed.{closed_cells, found_are, by_number, numbers_at}
 use Rattle.hh_pool.proofs.analysis.summarise.Goals as goal
 
@@ -14,14 +14,17 @@ table_of_cells-requires g c =
     let stream = c.args.stream.now in
     let options = c.args.options.now in
     let seat = c.in_ok-seat.seat in
-    let count = c.in_ok-sums.ensures.claims ∙ (c.count.ensures.count ∙ sym (length-pieces_of lengths stream)) in
-    let distinct = subst (λ n. IsDistinctBelow n seat.claims) count c.if-not-holds_all.ensures.distinct in
-    let all = subst (λ n. HasAllBelow n seat.claims) count (c.if-not-holds_all.ensures.all.0 refl) in
+    let count = c.in_ok-sums.ensures.claims ∙ c.count.ensures.count in
+    let distinct = distinct_pieces lengths stream _ _ count c.if-not-holds_all.ensures.distinct in
+    let all = all_pieces lengths stream _ _ count (c.if-not-holds_all.ensures.all.0 refl) in
     let low : total_of stream ≤ max_total = omega (arith, c.total-total.ensures.total, c.total-total.ensures.bounded) in
     let depth = c.depth.ensures.depth ∙ ap (λ f. length f.rows) c.family.ensures.family in
-    let cells : c.in_ok-sums.sums.cells ≡ length options.family.rows * options.width = c.in_ok-sums.ensures.cells ∙ (λ i. depth i * c.width.ensures.width i) in
+    let cells : c.in_ok-sums.sums.cells ≡ length options.family.rows * options.width = c.in_ok-sums.ensures.cells
+    ∙ (λ i. depth i * c.width.ensures.width i) in
     let closed = c.in_ok-cells.ensures in
-    closed_cells c.cells_are_cell_sums.ensures (pieces_of lengths stream) stream options seat _ c.in_ok-cells.cells.items (c.pieces_make_the_whole.ensures.whole lengths stream c.requires) low c.in_ok-seat.ensures.all_done distinct all
+    closed_cells c.cells_are_cell_sums.ensures (pieces_of lengths stream) stream options seat _
+    c.in_ok-cells.cells.items (c.pieces_make_the_whole.ensures.whole lengths stream c.requires) low
+    c.in_ok-seat.ensures.all_done distinct all
     (omega (arith, closed.len, c.in_ok-cells.cells.ok))
     (λ cell inside. closed.sums cell (omega arith))
 
@@ -32,11 +35,12 @@ returns-clause-summaries g c =
     let pieces = pieces_of lengths stream in
     let k = c.args.options.now.k in
     let seat = c.in_ok-seat.seat in
-    let count = c.in_ok-sums.ensures.claims ∙ (c.count.ensures.count ∙ sym (length-pieces_of lengths stream)) in
-    let distinct = subst (λ n. IsDistinctBelow n seat.claims) count c.if-not-holds_all.ensures.distinct in
-    let all = subst (λ n. HasAllBelow n seat.claims) count (c.if-not-holds_all.ensures.all.0 refl) in
+    let count = c.in_ok-sums.ensures.claims ∙ c.count.ensures.count in
+    let distinct = distinct_pieces lengths stream _ _ count c.if-not-holds_all.ensures.distinct in
+    let all = all_pieces lengths stream _ _ count (c.if-not-holds_all.ensures.all.0 refl) in
     let kept = c.in_ok-seat.ensures.all_done.summaries in
     let numbers = sym (ap (map (λ (it : ℕ × Sketch). it.0)) kept ∙ numbers_at k pieces seat.claims) in
     let found = found_are k pieces seat.claims c.in_ok-seat.found.items kept in
-    c.in_ok-summaries.ensures (λ i. sketch_of k (piece_of pieces i)) (length pieces) found (subst (IsDistinctBelow (length pieces)) numbers distinct) (subst (HasAllBelow (length pieces)) numbers all)
+    c.in_ok-summaries.ensures (λ i. sketch_of k (piece_of pieces i)) (length pieces) found
+    (subst (IsDistinctBelow (length pieces)) numbers distinct) (subst (HasAllBelow (length pieces)) numbers all)
     ∙ by_number k pieces

@@ -7,5 +7,6 @@ use Rattle.hh_pool.proofs.first.add_items.Given as goal
 abbrev pub invariant-loop-item : goal.invariant-loop-item
 invariant-loop-item l = record {
   total : l.table.total ≡ l.initial.table.total + total_of (take l.item-index l.items);
-  table : (family : Coefficients) (width : ℕ) (xs : List Entry) → l.initial.table ≡ table_of family width xs → l.table ≡ table_of family width (xs ++ take l.item-index l.items);
+  table : (family : Coefficients) (width : ℕ) (xs : List Entry) → l.initial.table ≡ table_of family width xs
+      → l.table ≡ table_of family width (xs ++ take l.item-index l.items);
 }

@@ -9,39 +9,53 @@ pub bounds-summaries-i : goal.bounds-summaries-i
 bounds-summaries-i t c = piece-place c.in-Leaf.i _ (rw c.in-Leaf.is at c.requires.places)
 
 pub offset_bounds-summaries-i : goal.offset_bounds-summaries-i
-offset_bounds-summaries-i t c = let below = piece-place c.in-Leaf.i _ (rw c.in-Leaf.is at c.requires.places) in omega (arith, below, c.requires.fits)
+offset_bounds-summaries-i t c = let below = piece-place c.in-Leaf.i _ (rw c.in-Leaf.is at c.requires.places) in
+    omega (arith, below, c.requires.fits)
 
 pub merge_tree-requires : goal.merge_tree-requires
 merge_tree-requires t c =
     let l = c.in-Node.left.value in
     let r = c.in-Node.right.value in
     let size : merges (shape c.args.tree.now) ≡ 1 + merges (shape l) + merges (shape r) = rw c.in-Node.is refl in
-    rw c.deref.ensures (omega (arith, size, c.decreases), (left-places _ _ _ (rw c.in-Node.is at c.requires.places), c.requires.fits))
+    let places = left-places (shape l) (shape r) _ (rw c.in-Node.is at c.requires.places) in
+    rw c.deref.ensures (omega (arith, size, c.decreases), (places, c.requires.fits))
 
 pub merge_tree-requires-in-Node : goal.merge_tree-requires-in-Node
 merge_tree-requires-in-Node t c =
     let l = c.in-Node.left.value in
     let r = c.in-Node.right.value in
     let size : merges (shape c.args.tree.now) ≡ 1 + merges (shape l) + merges (shape r) = rw c.in-Node.is refl in
-    rw (c.deref-in-Node.ensures, c.merge_tree.auto.summaries) (omega (arith, size, c.decreases), (right-places (shape l) _ _ (rw c.in-Node.is at c.requires.places), c.requires.fits))
+    let places = right-places (shape l) (shape r) _ (rw c.in-Node.is at c.requires.places) in
+    rw (c.deref-in-Node.ensures, c.merge_tree.auto.summaries)
+    (omega (arith, size, c.decreases), (places, c.requires.fits))
 
 pub returns-in-Leaf-clause-merged : goal.returns-in-Leaf-clause-merged
 returns-in-Leaf-clause-merged t c =
     let below = piece-place c.in-Leaf.i _ (rw c.in-Leaf.is at c.requires.places) in
-    rw (c.in-Leaf.is, c.take_summary.ensures, get_or_default c.args.summaries.now c.in-Leaf.i c.index-summaries-i.result no_sketch below) refl
+    let here = get_or_default c.args.summaries.now c.in-Leaf.i c.index-summaries-i.result no_sketch below in
+    rw (c.in-Leaf.is, c.take_summary.ensures, here) refl
 
 pub returns-in-Ok-merge_tree-clause-merged : goal.returns-in-Ok-merge_tree-clause-merged
 returns-in-Ok-merge_tree-clause-merged t c =
-    let node : tree_result (shape c.args.tree.now) c.args.summaries.now ≡ merge_result c.in-Ok.merged c.in-Ok-merge_tree.other =
-    rw c.in-Node.is (node-result (shape c.in-Node.left.value) (shape c.in-Node.right.value) _ _ c.merge_tree.new.summaries _ _ (rw c.in-Node.is at c.requires.places) (rw c.deref.ensures at c.in-Ok.ensures.others) (rw c.deref.ensures at c.in-Ok.ensures.merged) (rw c.deref-in-Node.ensures at c.in-Ok-merge_tree.ensures.merged)) in
+    let node : tree_result (shape c.args.tree.now) c.args.summaries.now
+    ≡ merge_result c.in-Ok.merged c.in-Ok-merge_tree.other =
+    rw c.in-Node.is (node-result (shape c.in-Node.left.value) (shape c.in-Node.right.value) _ _
+    c.merge_tree.new.summaries _ _ (rw c.in-Node.is at c.requires.places) (rw c.deref.ensures at c.in-Ok.ensures.others)
+    (rw c.deref.ensures at c.in-Ok.ensures.merged) (rw c.deref-in-Node.ensures at c.in-Ok-merge_tree.ensures.merged)) in
     rw node c.merge_two.ensures.merged
 
 pub returns-in-Ok-merge_tree-clause-refused : goal.returns-in-Ok-merge_tree-clause-refused
 returns-in-Ok-merge_tree-clause-refused t c =
-    let node : tree_result (shape c.args.tree.now) c.args.summaries.now ≡ merge_result c.in-Ok.merged c.in-Ok-merge_tree.other =
-    rw c.in-Node.is (node-result (shape c.in-Node.left.value) (shape c.in-Node.right.value) _ _ c.merge_tree.new.summaries _ _ (rw c.in-Node.is at c.requires.places) (rw c.deref.ensures at c.in-Ok.ensures.others) (rw c.deref.ensures at c.in-Ok.ensures.merged) (rw c.deref-in-Node.ensures at c.in-Ok-merge_tree.ensures.merged)) in
+    let node : tree_result (shape c.args.tree.now) c.args.summaries.now
+    ≡ merge_result c.in-Ok.merged c.in-Ok-merge_tree.other =
+    rw c.in-Node.is (node-result (shape c.in-Node.left.value) (shape c.in-Node.right.value) _ _
+    c.merge_tree.new.summaries _ _ (rw c.in-Node.is at c.requires.places) (rw c.deref.ensures at c.in-Ok.ensures.others)
+    (rw c.deref.ensures at c.in-Ok.ensures.merged) (rw c.deref-in-Node.ensures at c.in-Ok-merge_tree.ensures.merged)) in
     rw node c.merge_two.ensures.refused
 
 pub returns-in-Err-merge_tree-clause-refused : goal.returns-in-Err-merge_tree-clause-refused
 returns-in-Err-merge_tree-clause-refused t c = λ other.
-    rw c.in-Node.is (node-refusal (shape c.in-Node.left.value) (shape c.in-Node.right.value) _ _ c.merge_tree.new.summaries _ _ (rw c.in-Node.is at c.requires.places) (rw c.deref.ensures at c.in-Ok.ensures.others) (rw c.deref.ensures at c.in-Ok.ensures.merged) (rw c.deref-in-Node.ensures at (c.in-Err-merge_tree.ensures.refused other)))
+    rw c.in-Node.is (node-refusal (shape c.in-Node.left.value) (shape c.in-Node.right.value) _ _
+    c.merge_tree.new.summaries _ _ (rw c.in-Node.is at c.requires.places) (rw c.deref.ensures at c.in-Ok.ensures.others)
+    (rw c.deref.ensures at c.in-Ok.ensures.merged)
+    (rw c.deref-in-Node.ensures at (c.in-Err-merge_tree.ensures.refused other)))

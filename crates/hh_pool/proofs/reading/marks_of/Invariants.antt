@@ -1,6 +1,8 @@
 use Rattle.std.proofs.Common.{take}
-use Rattle.hh_pool.specs.PlanTexts.{AreMarked, AreOwn}
+use Rattle.hh_shared.specs.Tally.{IsDistinctBelow}
+use Rattle.hh_pool.specs.PlanTexts.{AreMarked}
 use Rattle.hh_pool.proofs.reading.marks_of.Given as goal
 
 abbrev pub invariant-loop-number : goal.invariant-loop-number
-invariant-loop-number l = AreMarked l.marks.items l.pieces (take l.number-index l.numbers) × AreOwn l.pieces (take l.number-index l.numbers)
+invariant-loop-number l =
+    let came = take l.number-index l.numbers in AreMarked l.marks.items l.pieces came × IsDistinctBelow l.pieces came

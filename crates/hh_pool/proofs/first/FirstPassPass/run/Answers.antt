@@ -1,36 +1,40 @@
 use Rattle.std.proofs.Common.{◌≡◌, ◌+◌, ◌∙◌, ℕ, List, length, get_or, sym, ap, subst, arith}
-use Rattle.hh_stream.specs.Cuttings.{pieces_of}
 use Rattle.hh_counters.specs.Counters.{Sketch}
 use Rattle.hh_shared.specs.Seats.{Holding}
 use Rattle.hh_shared.specs.Tally.{added}
-use Rattle.hh_pool.specs.Passes.{IsFirstPassUpTo}
+use Rattle.hh_pool.specs.Progress.{first_pieces, IsFirstPassUpTo}
 use Rattle.hh_pool.proofs.Pieces.{length-pieces_of}
 use Rattle.hh_pool.proofs.Tried.{first_begins, first_ends, claim-behind_cell}
 use Rattle.hh_pool.proofs.first.FirstPassPass.run.Goals as goal
 
 pub loop-piece-init : goal.loop-piece-init
 loop-piece-init g c =
-    let pieces = pieces_of c.args.self.now.cutting.now c.args.self.now.stream.now in
+    let pieces = first_pieces c.args.self.now in
     let options = c.args.self.now.options.now in
     let begins = first_begins pieces options c.args.sums.now _ c.in_ok-empty_table.ensures in
     record {
       sums = ap (λ h. h.sums) c.requires.seat;
-      so_far = subst (λ (z : Holding × List (ℕ × Sketch)). IsFirstPassUpTo pieces options 0 z.0 z.1 c.in_ok-empty_table.field-0) (λ i. (sym c.requires.seat i, sym c.new.ensures.items i)) begins;
+      so_far = subst (λ (z : Holding × List (ℕ × Sketch)). IsFirstPassUpTo pieces options 0 z.0 z.1
+          c.in_ok-empty_table.field-0) (λ i. (sym c.requires.seat i, sym c.new.ensures.items i)) begins;
     }
 
 pub add_numbers-requires-clause-holds_a_claim : goal.add_numbers-requires-clause-holds_a_claim
 add_numbers-requires-clause-holds_a_claim g c cell some =
-    claim-behind_cell _ _ _ _ _ c.loop-piece.invariant.so_far.table cell (omega (arith, ap (λ xs. get_or xs cell 0) c.cells.ensures))
+    claim-behind_cell _ _ _ _ _ c.loop-piece.invariant.so_far.table cell
+    (omega (arith, ap (λ xs. get_or xs cell 0) c.cells.ensures))
 
 pub returns-clause-done : goal.returns-clause-done
 returns-clause-done g c =
-    let pieces = pieces_of c.args.self.now.cutting.now c.args.self.now.stream.now in
+    let pieces = first_pieces c.args.self.now in
     let options = c.args.self.now.options.now in
     let seat = c.loop-piece.seat in
     let made = c.loop-piece.made in
-    let tried : c.loop-piece.piece ≡ length pieces = omega (arith, length-pieces_of c.args.self.now.cutting.now c.args.self.now.stream.now) in
-    let all = subst (λ n. IsFirstPassUpTo pieces options n seat made.summaries.items made.table) tried c.loop-piece.invariant.so_far in
-    first_ends c.cells_are_cell_sums.ensures pieces options seat _ _ made.table c.add_numbers.ensures.unchanged (λ cell. c.add_numbers.ensures.added cell ∙ ap (λ xs. added cell seat.adds + get_or xs cell 0) c.cells.ensures) all
+    let tried : c.loop-piece.piece ≡ length pieces =
+    omega (arith, length-pieces_of c.args.self.now.cutting.now c.args.self.now.stream.now) in
+    let all = subst (λ n. IsFirstPassUpTo pieces options n seat made.summaries.items made.table) tried
+    c.loop-piece.invariant.so_far in
+    first_ends c.cells_are_cell_sums.ensures pieces options seat _ _ made.table c.add_numbers.ensures.unchanged
+    (λ cell. c.add_numbers.ensures.added cell ∙ ap (λ xs. added cell seat.adds + get_or xs cell 0) c.cells.ensures) all
 
 pub returns-clause-all_done : goal.returns-clause-all_done
 returns-clause-all_done g c = (returns-clause-done g c).work

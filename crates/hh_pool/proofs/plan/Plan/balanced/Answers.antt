@@ -1,12 +1,6 @@
-use Rattle.hh_pool.proofs.Merged.{length-leaves}
-use Rattle.hh_pool.proofs.TreeFacts.{balanced-merges}
+use Rattle.hh_pool.proofs.MergeFacts.{length_leaves}
+use Rattle.hh_pool.proofs.TreeFacts.{balanced_merges}
 use Rattle.hh_pool.proofs.plan.Plan.balanced.Goals as goal
 
-pub invariant_of-result : goal.invariant_of-result
-invariant_of-result c = (balanced-merges _ _ c.in_ok-balanced_tree.ensures, c.requires.some, c.requires.few)
-
 pub returns-clause-pieces : goal.returns-clause-pieces
-returns-clause-pieces c = length-leaves _ _ (balanced-merges _ _ c.in_ok-balanced_tree.ensures)
-
-pub returns-clause-tree : goal.returns-clause-tree
-returns-clause-tree c = balanced-merges _ _ c.in_ok-balanced_tree.ensures
+returns-clause-pieces c = length_leaves _ _ (balanced_merges _ _ c.in_ok-balanced_tree.ensures)

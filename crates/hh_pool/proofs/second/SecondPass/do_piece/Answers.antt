@@ -1,8 +1,8 @@
-use Rattle.std.proofs.Common.{◌+◌, ◌<◌, ◌^◌, ◌∙◌, ℕ, List, length, take, sym, ap, subst, arith}
-use Rattle.std.specs.Prelude.{All}
-use Rattle.hh_stream.specs.Weights.{Entry, total_of}
-use Rattle.hh_stream.specs.Cuttings.{pieces_of, whole_of}
+use Rattle.std.proofs.Common.{◌<◌, ◌∙◌, List, length, take, ap, arith}
+use Rattle.hh_stream.specs.Weights.{Entry}
+use Rattle.hh_stream.specs.Cuttings.{whole_of}
 use Rattle.hh_counters.specs.Report.{counted}
+use Rattle.hh_pool.specs.Progress.{second_pieces}
 use Rattle.hh_pool.proofs.Pieces.{length-pieces_of}
 use Rattle.hh_pool.proofs.Tried.{weights_fit}
 use Rattle.hh_pool.proofs.Alone.{total-more, weights-more}
@@ -10,17 +10,15 @@ use Rattle.hh_pool.proofs.second.SecondPass.do_piece.Goals as goal
 
 pub count_piece-requires-clause-bounded : goal.count_piece-requires-clause-bounded
 count_piece-requires-clause-bounded g c k d low =
-    let pieces = pieces_of c.args.self.now.cutting.now c.args.self.now.stream.now in
-    let within : c.args.piece < length pieces = omega (arith, c.requires.piece, length-pieces_of c.args.self.now.cutting.now c.args.self.now.stream.now) in
-    let before = whole_of (take c.args.piece pieces) in
-    let limit : total_of before + total_of c.piece-items.result.now < 2 ^ 64 =
-    omega (arith, total-more pieces c.args.piece within, ap total_of c.piece-items.ensures.whole, ap total_of c.piece-items.ensures.piece, c.piece-items.ensures.stream) in
-    let fits = weights_fit before (total_of c.piece-items.result.now) (2 ^ 64) limit c.args.self.now.candidates.now in
-    subst (All (λ (m : ℕ). m + total_of c.piece-items.result.now < 2 ^ 64)) (sym c.requires.before) fits k d low
+    let next = c.piece-items.ensures in
+    let most = total-more _ _ _ _ c.requires.piece next.piece next.whole next.stream in
+    weights_fit _ (whole_of (take c.args.piece (second_pieces c.args.self.now))) _ _ most c.requires.before k d low
 
 pub returns : goal.returns
 returns g c =
-    let pieces = pieces_of c.args.self.now.cutting.now c.args.self.now.stream.now in
+    let pieces = second_pieces c.args.self.now in
     let keys = c.args.self.now.candidates.now in
-    let within : c.args.piece < length pieces = omega (arith, c.requires.piece, length-pieces_of c.args.self.now.cutting.now c.args.self.now.stream.now) in
-    weights-more pieces keys c.args.piece c.args.weights.now _ within c.requires.before (c.count_piece.ensures ∙ ap (λ (xs : List Entry). counted keys xs c.args.weights.now) c.piece-items.ensures.piece)
+    let within : c.args.piece < length pieces =
+    omega (arith, c.requires.piece, length-pieces_of c.args.self.now.cutting.now c.args.self.now.stream.now) in
+    weights-more pieces keys c.args.piece c.args.weights.now _ within c.requires.before (c.count_piece.ensures
+    ∙ ap (λ (xs : List Entry). counted keys xs c.args.weights.now) c.piece-items.ensures.piece)

@@ -10,6 +10,9 @@ fetch_add-requires c =
     let first = ap (λ k. k.0) laid.counts in
     let cells = ap (λ k. k.1) laid.counts in
     let cells_now = ap (λ s. s.cells) c.self.view_is in
-    let some_claim : c.seat.inside.seat.me.0.claims ≢ [] = λ none. absurd (omega (arith, ap (λ h. length h.claims) c.seat.view_is, ap length none, c.requires.holds_a_claim)) in
+    let some_claim : c.seat.inside.seat.me.0.claims ≢ [] =
+    λ none.
+    let mine = ap (λ h. length h.claims) c.seat.view_is in
+    absurd (omega (arith, mine, ap length none, c.requires.holds_a_claim)) in
     let inside : c.args.cell < c.self.inside.table.shared.key.1 = omega (arith, c.requires.cell) in
     (ap (λ s. s.table) sums, omega (arith, laid.words), add_step _ _ _ _ _ _ _ (sym first) counts some_claim inside)

@@ -20,4 +20,5 @@ overflow_add-seat c =
     let is = claimed.free c.if-found-eq0.true in
     let long = ap (λ v. length v.claims) is in
     let counts = ap (λ v. v.counts.0) is ∙ ap (λ s. s.claims) sums in
-    omega (arith, distinct-le _ _ claimed.distinct, c.self.invariant.few_claims, c.seat.invariant.counted, length-append c.seat.inside.seat.me.0.claims (c.args.number ∷ []))
+    let more = length-append c.seat.inside.seat.me.0.claims (c.args.number ∷ []) in
+    omega (arith, distinct-le _ _ claimed.distinct, c.self.invariant.few_claims, c.seat.invariant.counted, more)

@@ -15,14 +15,18 @@ pub returns : goal.returns
 returns c =
     let sums = ap (λ h. h.sums) c.seat.view_is ∙ (c.requires.seat ∙ sym c.self.view_is) in
     let counts = ap (λ s. s.claims) sums in
-    let whole : c.seat.inside.seat.me.0.counts.0 ≡ c.args.self.now.claims = counts ∙ ap (λ s. s.claims) c.self.view_is in
+    let whole : c.seat.inside.seat.me.0.counts.0 ≡ c.args.self.now.claims = counts
+    ∙ ap (λ s. s.claims) c.self.view_is in
     let mine : c.seat.inside.seat.me.0.claims ≡ c.args.seat.now.claims = ap (λ h. h.claims) c.seat.view_is in
     let counted = c.seat.invariant.counted in
     let distinct = c.seat.invariant.distinct in
     record {
       all = (
-        (λ t. subst (λ (z : ℕ × List ℕ). HasAllBelow z.0 z.1) (λ i. (whole i, mine i)) (distinct-all _ _ distinct (sym counted ∙ (same_of _ _ t ∙ sym counts)))),
-        λ all. true_of _ _ (counted ∙ (all-length _ _ distinct (subst (λ (z : ℕ × List ℕ). HasAllBelow z.0 z.1) (λ i. (sym whole i, sym mine i)) all) ∙ counts)),
+        (λ t. subst (λ (z : ℕ × List ℕ). HasAllBelow z.0 z.1) (λ i. (whole i, mine i))
+            (distinct-all _ _ distinct (sym counted ∙ (same_of _ _ t ∙ sym counts)))),
+        λ all. true_of _ _ (counted
+            ∙ (all-length _ _ distinct (subst (λ (z : ℕ × List ℕ). HasAllBelow z.0 z.1) (λ i. (sym whole i, sym mine i))
+            all) ∙ counts)),
       );
       distinct = subst (λ (z : ℕ × List ℕ). IsDistinctBelow z.0 z.1) (λ i. (whole i, mine i)) distinct;
     }

@@ -9,7 +9,9 @@ join_seat-requires c =
     let sums = ap (λ h. h.sums) c.seat.view_is ∙ (c.requires.seat ∙ sym c.self.view_is) in
     let theirs = ap (λ h. h.sums) c.other.view_is ∙ (c.requires.other ∙ sym c.self.view_is) in
     let laid = c.self.invariant in
-    (ap (λ s. s.table) sums, ap (λ s. s.table) theirs, c.other.invariant.no_slot, omega (arith, laid.words, laid.some_claim), join_step _ _ _ _ _)
+    let mine = ap (λ s. s.table) sums in
+    let other = ap (λ s. s.table) theirs in
+    (mine, other, c.other.invariant.no_slot, omega (arith, laid.words, laid.some_claim), join_step _ _ _ _ _)
 
 pub load-requires : goal.load-requires
 load-requires c =
@@ -17,7 +19,8 @@ load-requires c =
     let laid = c.self.invariant in
     let joined = c.join_seat.ensures in
     let counts = (λ i. ((sums i).claims, (sums i).cells)) ∙ sym laid.counts in
-    (joined.0 ∙ ap (λ s. s.table) sums, omega (arith, laid.words, laid.some_claim), look_step _ _ _ _ (ap (λ m. m.0.counts) joined.2 ∙ counts))
+    let look = look_step _ _ _ _ (ap (λ m. m.0.counts) joined.2 ∙ counts) in
+    (joined.0 ∙ ap (λ s. s.table) sums, omega (arith, laid.words, laid.some_claim), look)
 
 pub overflow_add-seat : goal.overflow_add-seat
 overflow_add-seat c =
@@ -26,7 +29,9 @@ overflow_add-seat c =
     let is = looked.0 ∙ ap (λ m. m.0) c.join_seat.ensures.2 in
     let long = ap (λ v. length v.claims) is in
     let counts = ap (λ v. v.counts.0) is ∙ ap (λ s. s.claims) sums in
-    omega (arith, distinct-le _ _ looked.1, c.self.invariant.few_claims, c.seat.invariant.counted, c.other.invariant.counted, length-append c.seat.inside.seat.me.0.claims c.other.inside.seat.me.0.claims)
+    let both = length-append c.seat.inside.seat.me.0.claims c.other.inside.seat.me.0.claims in
+    let few = c.self.invariant.few_claims in
+    omega (arith, distinct-le _ _ looked.1, few, c.seat.invariant.counted, c.other.invariant.counted, both)
 
 pub returns-clause-disjoint : goal.returns-clause-disjoint
 returns-clause-disjoint c j some =

@@ -1,0 +1,63 @@
+-- How far a pass has come.
+use Rattle.std.specs.Prelude.{◌≡◌, ℕ, ◌<◌, All, List, [], length, map, take}
+use Rattle.std.specs.List.Sorted.{IsStrictlyIncreasing}
+use Rattle.hh_stream.specs.Weights.{Bytes, Entry}
+use Rattle.hh_stream.specs.Cuttings.{pieces_of, whole_of}
+use Rattle.hh_counters.specs.Counters.{Sketch, sketch_of}
+use Rattle.hh_counters.specs.Report.{weights_at}
+use Rattle.hh_countmin.specs.Table.{Grid, table_of}
+use Rattle.hh_shared.specs.Tally.{IsDistinctBelow}
+use Rattle.hh_shared.specs.Seats.{Holding}
+use Rattle.hh_pool.specs.Settings.{Settings}
+use Rattle.hh_pool.specs.Passes.{items_at, summaries_at, HasTried}
+use Rattle.hh_pool.specs.declared.first.FirstPass.{FirstPass}
+use Rattle.hh_pool.specs.declared.first.Made.{Made}
+use Rattle.hh_pool.specs.declared.second.SecondPass.{SecondPass}
+
+-- a worker has tried the first n pieces from the lowest on, each once
+pub record HasTriedUpTo (pieces : List (List Entry)) (n : ℕ) (seat : Holding) : Type 0 where
+  pub tried : HasTried n seat
+  pub distinct : IsDistinctBelow (length pieces) seat.claims
+  pub rising : IsStrictlyIncreasing seat.claims
+  pub low : All (λ i. i < n) seat.claims
+  pub none_added : seat.adds ≡ []
+
+-- a worker of the first pass has tried n pieces, and hasn't yet added what its table holds
+pub record IsFirstPassUpTo (pieces : List (List Entry)) (settings : Settings) (n : ℕ) (seat : Holding)
+    (kept : List (ℕ × Sketch)) (grid : Grid) : Type 0 where
+  pub so_far : HasTriedUpTo pieces n seat
+  pub summaries : kept ≡ summaries_at settings.k pieces seat.claims
+  pub table : grid ≡ table_of settings.family settings.width (items_at pieces seat.claims)
+
+-- a worker of the second pass has tried n pieces, and hasn't yet added its numbers
+pub record IsSecondPassUpTo (pieces : List (List Entry)) (keys : List Bytes) (n : ℕ) (seat : Holding)
+    (counts : List ℕ) : Type 0 where
+  pub so_far : HasTriedUpTo pieces n seat
+  pub numbers : counts ≡ weights_at keys (items_at pieces seat.claims)
+
+-- what the calling thread has made of the first n pieces
+pub record IsFirstAloneUpTo (pieces : List (List Entry)) (settings : Settings) (n : ℕ) (sketches : List Sketch)
+    (grid : Grid) : Type 0 where
+  pub summaries : sketches ≡ map (sketch_of settings.k) (take n pieces)
+  pub table : grid ≡ table_of settings.family settings.width (whole_of (take n pieces))
+
+-- the pieces that the first pass goes over, and what a worker and the calling thread have done of them
+abbrev pub first_pieces : {G : Type 0} → FirstPass G → List (List Entry)
+first_pieces pass = pieces_of pass.cutting.now pass.stream.now
+
+abbrev pub HasTriedFirst : {G : Type 0} → FirstPass G → ℕ → Holding → Made → Type 0
+HasTriedFirst pass n seat made =
+    IsFirstPassUpTo (first_pieces pass) pass.options.now n seat made.summaries.items made.table
+
+abbrev pub HasDoneFirst : {G : Type 0} → FirstPass G → ℕ → List Sketch → Grid → Type 0
+HasDoneFirst pass n sketches grid = IsFirstAloneUpTo (first_pieces pass) pass.options.now n sketches grid
+
+-- the same of the second pass
+abbrev pub second_pieces : {G : Type 0} → SecondPass G → List (List Entry)
+second_pieces pass = pieces_of pass.cutting.now pass.stream.now
+
+abbrev pub HasTriedSecond : {G : Type 0} → SecondPass G → ℕ → Holding → List ℕ → Type 0
+HasTriedSecond pass n seat numbers = IsSecondPassUpTo (second_pieces pass) pass.candidates.now n seat numbers
+
+abbrev pub HasDoneSecond : {G : Type 0} → SecondPass G → ℕ → List ℕ → Type 0
+HasDoneSecond pass n weights = weights ≡ weights_at pass.candidates.now (whole_of (take n (second_pieces pass)))
