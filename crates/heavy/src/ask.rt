@@ -165,8 +165,8 @@ pub fn ask_keys(alloc: Global, file: &[u8], keys: &[Vec<u8>]) -> Result<Vec<(u64
 }
 
 /// The least and the most that a key's weight in the stream can be, as a saved file tells: the two
-/// numbers of the key's row of [`ask_bytes`], with the same refusals in the same order, where the key
-/// is number 1.
+/// numbers of the key's row of [`ask_bytes`], with the same refusals in the same order, where the
+/// key is number 1.
 pub fn ask_key(alloc: Global, file: &[u8], key: &[u8]) -> Result<(u64, u64), ToolError>
     ensures bounds { IfOk result (λ bounds. answer file.now key.now ≡ Ok bounds) }
     ensures refused { IfErr result (λ fault. Refuses (answer file.now key.now) fault) }

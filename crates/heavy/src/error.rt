@@ -63,8 +63,8 @@ impl fmt::Display for KeyCause {
     }
 }
 
-/// What stops a command. Each command says in which order its refusals come. Records, files and keys
-/// are numbered from 1.
+/// What stops a command. Each command says in which order its refusals come. Records, files and
+/// keys are numbered from 1.
 #[derive(Clone, Copy, Debug, PartialEq, Eq, Error)]
 pub enum ToolError {
     #[error("depth must be 1 to 16")]

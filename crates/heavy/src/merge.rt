@@ -109,7 +109,8 @@ fn merge_files(alloc: Global, files: &[Vec<u8>]) -> Result<Saved, ToolError>
 pub fn merge_bytes(alloc: Global, files: &[Vec<u8>]) -> Result<Vec<u8>, ToolError>
     requires { 0 < length files.now }
     ensures merged { IfOk result (λ bytes. (saved : Saved)
-        × (merged_files (map vec_items files.now) ≡ Ok saved) × Spells version.Two bytes.items saved) }
+        × (merged_files (map vec_items files.now) ≡ Ok saved)
+        × Spells version.Two bytes.items saved) }
     ensures refused { IfErr result (λ fault.
         Refuses (merged_files (map vec_items files.now)) fault) }
 {

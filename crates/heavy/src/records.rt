@@ -66,7 +66,8 @@ enum RecordFault {
 pub(crate) fn number_in(field: &[u8], most: usize) -> Option<u64>
     ensures number { MatchOption result
         (is_number most field.now ≡ false)
-        (λ number. (is_number most field.now ≡ true) × (number ≡ min (value_of field.now) u64.MAX)) }
+        (λ number. (is_number most field.now ≡ true)
+        × (number ≡ min (value_of field.now) u64.MAX)) }
     ensures below { IfSome result (λ number. number < 10 ^ most) }
 {
     if field.is_empty() || field.len() > most {

@@ -182,12 +182,12 @@ pub(crate) fn read_fault(error: ReadError) -> ToolError
 }
 
 /// Reads records as [`read_stream`](crate::read_stream) does, and writes the report of their
-/// stream: exactly the keys whose weight is more than the threshold's share of the total, with their
-/// true weights, by falling weight and then by rising key. The stream is cut evenly and analysed by
-/// workers in threads of their own; the report is the same for all other options.
+/// stream: exactly the keys whose weight is more than the threshold's share of the total, with
+/// their true weights, by falling weight and then by rising key. The stream is cut evenly and
+/// analysed by workers in threads of their own; the report is the same for all other options.
 ///
-/// The options are tested before anything is read, in the order depth, k, workers, width, threshold,
-/// pieces and tree. A refusal other than [`ToolError::WriteFault`] has written nothing.
+/// The options are tested before anything is read, in the order depth, k, workers, width,
+/// threshold, pieces and tree. A refusal other than [`ToolError::WriteFault`] has written nothing.
 pub fn run_report<T: Threads + Wait + Sync, R: Read + Drop, S: Sink>(
     rt: &T,
     alloc: Global,

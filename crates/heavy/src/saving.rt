@@ -258,8 +258,8 @@ pub fn confirm_bytes<R: Read + Drop>(
 /// writes them, but that the first key is in quotes where it begins with the three bytes of a byte
 /// order mark.
 ///
-/// The file is tested first ([`ToolError::BadFile`], as file 1, and [`ToolError::NotCounters`]), and
-/// then the records, whose total need not be the summary's.
+/// The file is tested first ([`ToolError::BadFile`], as file 1, and [`ToolError::NotCounters`]),
+/// and then the records, whose total need not be the summary's.
 pub fn condense_bytes<R: Read + Drop>(
     alloc: Global,
     file: &[u8],

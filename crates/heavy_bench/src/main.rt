@@ -1,7 +1,7 @@
 //! Times the calls that a report is made of, over the records of standard input.
 //!
-//! `heavy_bench CALL K` prints a number: the nanoseconds that the call takes for each item, merge or
-//! counter.
+//! `heavy_bench CALL K` prints a number: the nanoseconds that the call takes for each item, merge
+//! or counter.
 #![tactic(auto)]
 
 mod calls;

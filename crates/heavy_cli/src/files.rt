@@ -5,8 +5,8 @@ ghost use Rattle.std.specs.Prelude.{◌<◌, length, IfOk};
 use heavy::ToolError;
 use std::{fs, io};
 
-/// The bytes of a file with its number, from 1 on. The standard library opens files by texts alone, so
-/// one whose name is not UTF-8 can't be read.
+/// The bytes of a file with its number, from 1 on. The standard library opens files by texts alone,
+/// so one whose name is not UTF-8 can't be read.
 pub fn read_file(rt: &HostRuntime, number: u64, path: &[u8]) -> Result<Vec<u8>, ToolError> {
     let Ok(path) = str::from_utf8(path) else {
         return Err(ToolError::FileFault { number });

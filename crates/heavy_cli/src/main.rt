@@ -54,8 +54,8 @@ fn status_after(rt: &HostRuntime, fault: ToolError) -> ExitCode {
     ExitCode::from(fault.status())
 }
 
-/// Prints help or a fault of the command line as `clap` words it. Help that could not be printed is a
-/// device's fault.
+/// Prints help or a fault of the command line as `clap` words it. Help that could not be printed is
+/// a device's fault.
 fn status_told(rt: &HostRuntime, error: clap::Error) -> ExitCode {
     let is_help = error.exit_code() == 0;
     match error.print(rt) {

@@ -62,8 +62,8 @@ impl<'a> Progress<'a> {
         self.tell(now.duration_since(self.started).as_millis().max(1))
     }
 
-    /// Tells what was read in so many milliseconds. Of a file that has more it tells the share that is
-    /// read, and how long the rest takes at the same rate.
+    /// Tells what was read in so many milliseconds. Of a file that has more it tells the share that
+    /// is read, and how long the rest takes at the same rate.
     fn tell(&self, millis: u128) -> io::Result<()>
         requires { 1 ≤ millis }
     {

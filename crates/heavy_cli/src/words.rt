@@ -1,7 +1,8 @@
 //! The words of the command line, which are bytes.
 //!
 //! `clap` reads words that are text. A word that is not UTF-8 is handed to it as a text of which
-//! [`bytes_of`] takes the word's bytes back: each byte above 127 is spelled by a character of its own.
+//! [`bytes_of`] takes the word's bytes back: each byte above 127 is spelled by a character of its
+//! own.
 
 use std::alloc::{AllocError, Global};
 use std::env::{Env, FillError};

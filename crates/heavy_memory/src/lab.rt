@@ -8,7 +8,8 @@ use std::fmt::Display;
 use std::hint::black_box;
 use std::test::Fail;
 
-/// A request for a block of this size marks where a call begins, and one of the other where it ends.
+/// A request for a block of this size marks where a call begins, and one of the other where it
+/// ends.
 const BEGIN: usize = 100_003;
 
 const END: usize = 100_019;

@@ -1,8 +1,8 @@
 //! Runs one public call, so that a test can refuse its requests for memory one by one.
 //!
 //! `heavy_memory CRATE CALL short|long` sets a call up with ample memory, marks where it begins and
-//! where it ends, and prints what it answered and what the objects that were lent to it show before and
-//! after. After a want of memory the same call is made again. The keys have 1 byte or 40.
+//! where it ends, and prints what it answered and what the objects that were lent to it show before
+//! and after. After a want of memory the same call is made again. The keys have 1 byte or 40.
 #![tactic(auto)]
 
 mod commands;

@@ -24,8 +24,8 @@ pub fn call(lab: &Lab, name: &str) -> Result<Said, Fail> {
     }
 }
 
-// The calls on Space-Saving in buckets. The four items give a 6, b 3 and c 2, each in a bucket of its
-// own: with 4 more a newcomer, and c, go into the bucket of a, and with 9 more into a new one.
+// The calls on Space-Saving in buckets. The four items give a 6, b 3 and c 2, each in a bucket of
+// its own: with 4 more a newcomer, and c, go into the bucket of a, and with 9 more into a new one.
 fn bucketed(lab: &Lab, name: &str) -> Result<Said, Fail> {
     match name {
         "BucketSaving::new" => bucket_saving_new(lab),
@@ -39,8 +39,8 @@ fn bucketed(lab: &Lab, name: &str) -> Result<Said, Fail> {
     }
 }
 
-// The calls where hits are gathered. With c in a bucket of 1 before the four items, it moves to that
-// of 3, where b is, before b is dropped.
+// The calls where hits are gathered. With c in a bucket of 1 before the four items, it moves to
+// that of 3, where b is, before b is dropped.
 fn gathered(lab: &Lab, name: &str) -> Result<Said, Fail> {
     match name {
         "GatheredSaving::new" => gathered_saving_new(lab),

@@ -1,6 +1,6 @@
-//! The worked rows on records, rows, sinks, reports and saved files, and what no clause says: texts,
-//! statuses, devices that fail, when a reader is touched. They are a crate of their own, since a crate
-//! with tests is proved twice.
+//! The worked rows on records, rows, sinks, reports and saved files, and what no clause says:
+//! texts, statuses, devices that fail, when a reader is touched. They are a crate of their own,
+//! since a crate with tests is proved twice.
 #![tactic(auto)]
 
 #[cfg(test)]

@@ -161,8 +161,8 @@ fn refused_records_write_nothing(rt: HostRuntime) {
     );
 }
 
-/// What a report of the records writes, where the read with a number fails; the refusal, and how many
-/// reads there were.
+/// What a report of the records writes, where the read with a number fails; the refusal, and how
+/// many reads there were.
 fn report_from(
     rt: &(impl Abort + AllocGlobal + Threads + Wait + Sync),
     fails_at: u64,

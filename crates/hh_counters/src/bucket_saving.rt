@@ -21,9 +21,9 @@ use std::marker::Model;
 /// the first one of the first bucket.
 ///
 /// An item costs a look-up by hash and searches in ordered maps, whose steps grow as the logarithm
-/// of the number of counters. A newcomer's key is hashed a second time and copied twice, a monitored
-/// key is copied once, and either may have one other key copied, the least of the bucket that it
-/// comes to. A contract sees k, the total and the counters by rising key.
+/// of the number of counters. A newcomer's key is hashed a second time and copied twice, a
+/// monitored key is copied once, and either may have one other key copied, the least of the bucket
+/// that it comes to. A contract sees k, the total and the counters by rising key.
 #[derive(Debug, Drop)]
 pub struct BucketSaving {
     alloc: Global,

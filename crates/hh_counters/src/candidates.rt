@@ -80,8 +80,8 @@ impl Candidates {
         Ok(Candidates { keys })
     }
 
-    /// The keys that can have more than p/q of the total, as far as the counters tell: a counter is at
-    /// most [`slack`](Summary::slack) below its key's weight. p/q is at most 1, and q at most
+    /// The keys that can have more than p/q of the total, as far as the counters tell: a counter is
+    /// at most [`slack`](Summary::slack) below its key's weight. p/q is at most 1, and q at most
     /// [`MAX_Q`](crate::MAX_Q).
     pub fn contenders(
         alloc: Global,
@@ -90,7 +90,8 @@ impl Candidates {
         q: u64,
     ) -> Result<Candidates, AllocError>
         requires share { IsShare p q }
-        ensures keys { IfOk result (λ candidates. candidates ≡ keys_of (contenders p q summary.now)) }
+        ensures keys { IfOk result (λ candidates.
+            candidates ≡ keys_of (contenders p q summary.now)) }
         ensures few { IfOk result (λ candidates. length candidates ≤ length summary.now.counters) }
     {
         let mut keys = IndexSet::new(alloc);
@@ -104,9 +105,9 @@ impl Candidates {
         Ok(Candidates { keys })
     }
 
-    /// Those candidates of which the number is more than p/q of the total, where `numbers` has one for
-    /// each place. Numbers that are not below the keys' weights leave each heavy key. p/q is at most 1,
-    /// and q at most [`MAX_Q`](crate::MAX_Q).
+    /// Those candidates of which the number is more than p/q of the total, where `numbers` has one
+    /// for each place. Numbers that are not below the keys' weights leave each heavy key. p/q is at
+    /// most 1, and q at most [`MAX_Q`](crate::MAX_Q).
     pub fn thinned(
         &self,
         numbers: &[u64],

@@ -23,14 +23,14 @@ use std::marker::Model;
 /// El Abbadi 2005, whose list of buckets moves a key with each item).
 ///
 /// No key stands in the bucket of a number above its counter. So before a key is dropped, the first
-/// key of the first bucket moves to that of its counter, again and again, until the first key stands
-/// right: it then has the least counter. The counters are those of [`BucketSaving`] after the same
-/// items.
+/// key of the first bucket moves to that of its counter, again and again, until the first key
+/// stands right: it then has the least counter. The counters are those of [`BucketSaving`] after
+/// the same items.
 ///
 /// An item whose key is monitored costs one look-up by hash, and takes no memory. A newcomer costs
 /// what it does in `BucketSaving`, and the moves of keys that were hit since they moved last;
-/// [`least`](Monitor::least) looks at each counter. A contract sees k, the total and the counters by
-/// rising key.
+/// [`least`](Monitor::least) looks at each counter. A contract sees k, the total and the counters
+/// by rising key.
 ///
 /// [`BucketSaving`]: crate::BucketSaving
 #[derive(Debug, Drop)]

@@ -51,8 +51,8 @@ pub fn candidates_suffice()
     ensures { CandidatesSuffice }
 {}
 
-/// Of an honest summary the keys whose counters allow more than a share are candidates enough for the
-/// report above that share.
+/// Of an honest summary the keys whose counters allow more than a share are candidates enough for
+/// the report above that share.
 pub fn contenders_suffice()
     ensures { ContendersSuffice }
 {}
@@ -87,8 +87,8 @@ pub fn translation_is_misra_gries()
     ensures steps { StepsAreARun }
 {}
 
-/// Adding an item takes the summary of a list, and the monitor of a list, to that of the longer list;
-/// the translated monitor is the summary.
+/// Adding an item takes the summary of a list, and the monitor of a list, to that of the longer
+/// list; the translated monitor is the summary.
 pub fn summaries_follow_items()
     ensures summaries { SummariesFollowItems }
     ensures monitors { MonitorsFollowItems }

@@ -65,8 +65,8 @@ pub trait Monitor: Drop {
         ensures handed_back { IfErr result (λ m. seen m ≡ seen self) };
 }
 
-/// The summary of Misra and Gries of the items, by a monitor that has seen none: it adds them one by
-/// one, and is translated at the end.
+/// The summary of Misra and Gries of the items, by a monitor that has seen none: it adds them one
+/// by one, and is translated at the end.
 pub fn monitored_summary<M: Monitor>(monitor: M, items: &[Item]) -> Result<Summary, AllocError>
     requires empty { M.seen monitor ≡ monitor_of (M.seen monitor).k [] }
     requires bounded { total_of items.now ≤ max_total }

@@ -39,7 +39,8 @@ pub fn selected_rows(
 ) -> Result<Vec<Heavy>, AllocError>
     requires rising { IsStrictlySortedBy key_cmp keys.now }
     requires lengths { length numbers.now ≡ length keys.now }
-    ensures rows { IfOk result (λ rows. rows.items ≡ selected p q total (zip keys.now numbers.now)) }
+    ensures rows { IfOk result (λ rows.
+        rows.items ≡ selected p q total (zip keys.now numbers.now)) }
     ensures none { selected p q total (zip keys.now numbers.now) ≡ [] → IsOk result }
 {
     let mut rows = heavy_rows(alloc, keys, numbers, p, q, total)?;

@@ -18,8 +18,8 @@ pub const MAX_K: u64 = 65_535;
 /// A key's counter is never above its weight in the stream, and at most [`slack`](Summary::slack)
 /// below it, so each key whose weight is more than the total divided by k + 1 has a counter. Merged
 /// summaries keep that promise (Agarwal et al., Mergeable Summaries, PODS 2012). A summary made by
-/// [`from_entries`](Summary::from_entries) promises as much as the entries do. A contract sees k, the
-/// total and the list of counters by rising key.
+/// [`from_entries`](Summary::from_entries) promises as much as the entries do. A contract sees k,
+/// the total and the list of counters by rising key.
 #[derive(Debug, Drop)]
 pub struct Summary {
     k: u64,
@@ -122,9 +122,9 @@ impl Summary {
             && sums_within(entries, total)
     }
 
-    /// The summary with these counters. That they are of some stream is not asked, and so nothing is
-    /// promised of any: what a summary says of a stream's weights holds where its counters came from
-    /// that stream, by adding, merging or reading back what was saved of such a summary.
+    /// The summary with these counters. That they are of some stream is not asked, and so nothing
+    /// is promised of any: what a summary says of a stream's weights holds where its counters came
+    /// from that stream, by adding, merging or reading back what was saved of such a summary.
     pub fn from_entries(k: u64, total: u64, entries: Vec<(Key, u64)>) -> Summary
         requires { Fits k total entries.items }
         ensures { result ≡ record { k = k; total = total; counters = entries.items } }
@@ -197,9 +197,9 @@ impl Summary {
         (&entry.0, entry.1)
     }
 
-    /// Adds an item: its key's counter grows by the weight, and where k + 1 keys then have counters,
-    /// the least of them is taken from each, and only what stays above 0 is kept. After a refusal the
-    /// summary is as it was.
+    /// Adds an item: its key's counter grows by the weight, and where k + 1 keys then have
+    /// counters, the least of them is taken from each, and only what stays above 0 is kept. After a
+    /// refusal the summary is as it was.
     pub fn add(&mut self, key: &Key, weight: u64) -> Result<(), AddFault>
         requires { 0 < weight }
         ensures added { OnOk result (self.new ≡ added self.old (key.now, weight)) }
@@ -240,8 +240,8 @@ impl Summary {
     }
 
     /// Merges another summary with the same k: counters are added key by key, and where more than k
-    /// keys then have counters, the (k + 1)-th largest is taken from each, and only what stays above 0
-    /// is kept. After a refusal the summary is as it was.
+    /// keys then have counters, the (k + 1)-th largest is taken from each, and only what stays
+    /// above 0 is kept. After a refusal the summary is as it was.
     pub fn merge(&mut self, other: &Summary) -> Result<(), MergeFault>
         ensures merged { OnOk result (self.new ≡ merged self.old other.now) }
         ensures unchanged { OnErr result (self.new ≡ self.old) }

@@ -21,9 +21,9 @@ pub const MAX_WIDTH: u64 = 65_536;
 
 /// A hash family: for each of its 1 to 16 rows, a function from keys to the cells of a row.
 ///
-/// A key has one fingerprint, its bytes read as the digits of a number to the base `z`, each raised by
-/// one, modulo [`MODULUS`]; a row with the coefficients (a, b) takes the fingerprint f to the cell
-/// `(a * f + b) mod MODULUS mod width`.
+/// A key has one fingerprint, its bytes read as the digits of a number to the base `z`, each raised
+/// by one, modulo [`MODULUS`]; a row with the coefficients (a, b) takes the fingerprint f to the
+/// cell `(a * f + b) mod MODULUS mod width`.
 #[derive(Debug, Drop)]
 pub struct Family {
     z: u64,
@@ -87,8 +87,8 @@ impl Family {
         }
     }
 
-    /// The family with these coefficients: `z`, and a pair (a, b) for each row. `z` and each a are 1 or
-    /// more, and all are below [`MODULUS`].
+    /// The family with these coefficients: `z`, and a pair (a, b) for each row. `z` and each a are
+    /// 1 or more, and all are below [`MODULUS`].
     pub fn from_parts(alloc: Global, z: u64, rows: &[(u64, u64)]) -> Result<Family, PartsFault>
         ensures parts { IfOk result (λ family. family ≡ record { z = z; rows = rows.now }) }
         ensures in_range { IfOk result IsFamily }
@@ -172,7 +172,8 @@ impl Family {
         fingerprint
     }
 
-    // The fingerprint of up to 8 bytes: none waits for the one before it, and there is one reduction.
+    // The fingerprint of up to 8 bytes: none waits for the one before it, and there is one
+    // reduction.
     #[inline]
     fn digits(&self, bytes: &[u8]) -> u64
         requires few { length bytes.now ≤ 8 }

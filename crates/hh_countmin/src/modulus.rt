@@ -18,8 +18,8 @@ pub fn multiply_add(a: u64, b: u64, c: u64) -> u64
     reduce(u128::from(a) * u128::from(b) + u128::from(c))
 }
 
-/// A number of up to 122 bits modulo [`MODULUS`], without a division: 2^61 is 1 there, so the bits from the
-/// 61st on are added to those below, and at most one modulus is left over.
+/// A number of up to 122 bits modulo [`MODULUS`], without a division: 2^61 is 1 there, so the bits
+/// from the 61st on are added to those below, and at most one modulus is left over.
 #[inline]
 pub fn reduce(wide: u128) -> u64
     requires { wide < modulus * 2 ^ 61 }

@@ -10,9 +10,9 @@ use hh_stream::{Key, MAX_TOTAL};
 use std::alloc::Global;
 use std::marker::Model;
 
-/// A Count-Min table (Cormode and Muthukrishnan 2005): rows of `width` cells, one row for each row of
-/// its hash family. An item adds its weight to one cell of each row, so each row adds up to the total,
-/// and the least of a key's cells is never below the key's weight. A table made by
+/// A Count-Min table (Cormode and Muthukrishnan 2005): rows of `width` cells, one row for each row
+/// of its hash family. An item adds its weight to one cell of each row, so each row adds up to the
+/// total, and the least of a key's cells is never below the key's weight. A table made by
 /// [`from_cells`](Table::from_cells) promises as much as its cells do.
 #[derive(Debug, Drop)]
 pub struct Table {
@@ -86,8 +86,8 @@ impl Table {
     }
 
     /// Whether these are the parts of a table: the width is 1 to 65,536, the total is at most
-    /// [`MAX_TOTAL`], and there are as many rows of `width` cells as the family has, each of which adds
-    /// up to the total.
+    /// [`MAX_TOTAL`], and there are as many rows of `width` cells as the family has, each of which
+    /// adds up to the total.
     pub fn fits(family: &Family, width: u64, total: u64, cells: &[u64]) -> bool
         ensures { IsTrue result ↔ Fits family.now width total cells.now }
     {
@@ -98,9 +98,9 @@ impl Table {
             && rows_sum_to(cells, family.depth() as usize, width as usize, total)
     }
 
-    /// The table with these cells, which lie row by row. That they are of some stream is not asked, and
-    /// so nothing is promised of any: an estimate is not below a weight in a stream where the cells came
-    /// from that stream.
+    /// The table with these cells, which lie row by row. That they are of some stream is not asked,
+    /// and so nothing is promised of any: an estimate is not below a weight in a stream where the
+    /// cells came from that stream.
     pub fn from_cells(family: Family, width: u64, total: u64, cells: Vec<u64>) -> Table
         requires { Fits family width total cells.items }
         ensures { result

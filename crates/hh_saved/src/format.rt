@@ -5,8 +5,8 @@ ghost use Rattle.hh_saved.specs.Spelling.{magic_of, max_len};
 
 use hh_stream::MAX_KEY_LEN;
 
-/// A version of the format: they differ in the magic and in the length of a key. [`write`] gives the
-/// last one, and [`read`] takes each.
+/// A version of the format: they differ in the magic and in the length of a key. [`write`] gives
+/// the last one, and [`read`] takes each.
 ///
 /// [`write`]: crate::write
 /// [`read`]: crate::read

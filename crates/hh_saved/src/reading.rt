@@ -17,9 +17,10 @@ use hh_countmin::{Family, MAX_DEPTH, MAX_WIDTH, PartsFault, Table, sums_to};
 use hh_stream::{Key, KeyFault, MAX_TOTAL};
 use std::alloc::{AllocError, Global};
 
-/// The summary or table that the bytes spell in some version, all of the bytes. Where they spell none,
-/// the answer is the first fault from left to right: fields are read in order, a field that is short
-/// is [`SavedFault::Truncated`], and otherwise its own check decides before the next field is read.
+/// The summary or table that the bytes spell in some version, all of the bytes. Where they spell
+/// none, the answer is the first fault from left to right: fields are read in order, a field that
+/// is short is [`SavedFault::Truncated`], and otherwise its own check decides before the next field
+/// is read.
 ///
 /// No memory is taken for a field before its bytes are known to be there.
 pub fn read(alloc: Global, bytes: &[u8]) -> Result<Saved, SavedFault>

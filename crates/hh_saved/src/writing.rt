@@ -61,7 +61,8 @@ fn put_u64(out: &mut Vec<u8>, number: u64) -> Result<(), AllocError>
 // ---- a counter summary
 
 fn put_summary(out: &mut Vec<u8>, summary: &Summary) -> Result<(), AllocError>
-    ensures spelled { OnOk result (out.new.items ≡ out.old.items ++ sketch_bytes Version.Two summary.now) }
+    ensures spelled { OnOk result
+        (out.new.items ≡ out.old.items ++ sketch_bytes Version.Two summary.now) }
     ensures saved { OnOk result (IsSaved Version.Two (Counters summary.now)) }
 {
     put_u16(out, summary.k() as u16)?;
@@ -74,7 +75,8 @@ fn put_summary(out: &mut Vec<u8>, summary: &Summary) -> Result<(), AllocError>
 fn put_entries(out: &mut Vec<u8>, summary: &Summary) -> Result<(), AllocError>
     ensures spelled { OnOk result
         (out.new.items ≡ out.old.items ++ flat_map (entry_bytes Version.Two) summary.now.counters) }
-    ensures keys { OnOk result (AllByRecursion (λ e. IsSavedKey Version.Two e.0) summary.now.counters) }
+    ensures keys { OnOk result
+        (AllByRecursion (λ e. IsSavedKey Version.Two e.0) summary.now.counters) }
 {
     for i in 0..summary.len() {
         let (key, counter) = summary.entry(i);

@@ -96,8 +96,8 @@ fn sum_of(lengths: &[usize]) -> usize
 }
 
 impl Cutting {
-    /// `len` items in so many pieces: each has `len / pieces` items, and one more where its number is
-    /// below `len % pieces`.
+    /// `len` items in so many pieces: each has `len / pieces` items, and one more where its number
+    /// is below `len % pieces`.
     pub fn even(alloc: Global, len: usize, pieces: usize) -> Result<Cutting, CuttingFault>
         ensures even { IfOk result (λ cutting. cutting ≡ even_lengths len pieces) }
         ensures adds_up { IfOk result (λ cutting. sum cutting ≡ len) }

@@ -20,10 +20,10 @@ pub const MAX_KEY_LEN: usize = 4096;
 /// The most bytes of a key that takes no memory of its own.
 pub const INLINE_LEN: usize = 24;
 
-/// A key: 1 to [`MAX_KEY_LEN`] bytes. Keys are equal, ordered and hashed by their bytes, and a proper
-/// prefix stands before the longer key. A hash takes the bytes alone and no length, so two keys that
-/// are hashed one after the other are hashed as the bytes of both. A contract sees a key as the list of
-/// its bytes.
+/// A key: 1 to [`MAX_KEY_LEN`] bytes. Keys are equal, ordered and hashed by their bytes, and a
+/// proper prefix stands before the longer key. A hash takes the bytes alone and no length, so two
+/// keys that are hashed one after the other are hashed as the bytes of both. A contract sees a key
+/// as the list of its bytes.
 ///
 /// A key of up to [`INLINE_LEN`] bytes lies in the value itself.
 #[derive(Debug, Drop)]
