@@ -1,7 +1,12 @@
 //! The texts of faults, and their exit statuses.
 
 use heavy::{BadRecordCause, KeyCause, MergeCause, ToolError, TreeFault};
+use hh_counters::{AddFault, BadK, NewFault, OfItemsFault};
+use hh_countmin::{DrawFault, PartsFault, TableFault, TotalTooLarge};
+use hh_pool::{OptionsFault, PlanFault, RunError};
 use hh_saved::SavedFault;
+use hh_stream::{CuttingFault, KeyFault, PushFault};
+use std::fmt::Display;
 use std::process::Abort;
 use std::test::Fail;
 
@@ -155,4 +160,100 @@ fn faults_of_summaries_and_keys(rt: HostRuntime) -> Result<(), Fail> {
         shows(&rt, fault, text, 3)?;
     }
     Ok(())
+}
+
+/// Compares what a fault prints with this.
+fn tells<T: Display + Drop>(
+    rt: &(impl Abort + AllocGlobal),
+    fault: T,
+    text: &str,
+) -> Result<(), Fail> {
+    assert_eq!(rt; fault.to_string(rt.alloc())?.as_str(), text);
+    Ok(())
+}
+
+#[test]
+fn faults_of_streams(rt: HostRuntime) -> Result<(), Fail> {
+    tells(&rt, KeyFault::Empty, "a key has at least 1 byte")?;
+    tells(&rt, KeyFault::TooLong, "a key has at most 4096 bytes")?;
+    tells(&rt, KeyFault::Memory, "out of memory")?;
+    tells(&rt, PushFault::ZeroWeight, "a weight is at least 1")?;
+    tells(
+        &rt,
+        PushFault::TotalTooLarge,
+        "the total would be above 2^63 - 1",
+    )?;
+    tells(&rt, PushFault::Memory, "out of memory")?;
+    tells(
+        &rt,
+        CuttingFault::NoPieces,
+        "a cutting has at least 1 piece",
+    )?;
+    tells(
+        &rt,
+        CuttingFault::TooManyPieces,
+        "a cutting has at most 1024 pieces",
+    )?;
+    let sum = "the lengths do not add up to the number of items";
+    tells(&rt, CuttingFault::WrongSum, sum)?;
+    tells(&rt, CuttingFault::Memory, "out of memory")
+}
+
+#[test]
+fn faults_of_summaries(rt: HostRuntime) -> Result<(), Fail> {
+    tells(&rt, BadK, "k must be 1 to 65535")?;
+    tells(&rt, NewFault::BadK, "k must be 1 to 65535")?;
+    tells(&rt, NewFault::Memory, "out of memory")?;
+    tells(&rt, OfItemsFault::BadK, "k must be 1 to 65535")?;
+    tells(&rt, OfItemsFault::Memory, "out of memory")?;
+    tells(
+        &rt,
+        AddFault::TotalTooLarge,
+        "the total would be above 2^63 - 1",
+    )?;
+    tells(&rt, AddFault::Memory, "out of memory")?;
+    let different_k = hh_counters::MergeFault::DifferentK;
+    tells(&rt, different_k, "the summaries have different k")?;
+    let total = hh_counters::MergeFault::TotalTooLarge;
+    tells(&rt, total, "the total would be above 2^63 - 1")?;
+    tells(&rt, hh_counters::MergeFault::Memory, "out of memory")
+}
+
+#[test]
+fn faults_of_tables(rt: HostRuntime) -> Result<(), Fail> {
+    tells(&rt, DrawFault::BadDepth, "depth must be 1 to 16")?;
+    tells(&rt, DrawFault::Memory, "out of memory")?;
+    tells(&rt, PartsFault::BadDepth, "depth must be 1 to 16")?;
+    tells(
+        &rt,
+        PartsFault::BadCoefficient,
+        "a coefficient is out of range",
+    )?;
+    tells(&rt, PartsFault::Memory, "out of memory")?;
+    tells(&rt, TableFault::BadWidth, "width must be 1 to 65536")?;
+    tells(&rt, TableFault::Memory, "out of memory")?;
+    tells(&rt, TotalTooLarge, "the total would be above 2^63 - 1")?;
+    let family = hh_countmin::MergeFault::DifferentFamily;
+    tells(&rt, family, "the tables have different hash families")?;
+    let width = hh_countmin::MergeFault::DifferentWidth;
+    tells(&rt, width, "the tables have different widths")?;
+    let total = hh_countmin::MergeFault::TotalTooLarge;
+    tells(&rt, total, "the total would be above 2^63 - 1")
+}
+
+#[test]
+fn faults_of_analyses(rt: HostRuntime) -> Result<(), Fail> {
+    tells(&rt, OptionsFault::BadK, "k must be 1 to 65535")?;
+    tells(&rt, OptionsFault::BadWorkers, "workers must be 1 to 64")?;
+    tells(&rt, OptionsFault::BadWidth, "width must be 1 to 65536")?;
+    let threshold = "threshold must be p/q with 1 <= p <= q <= 4294967296 and p*(k+1) >= q";
+    tells(&rt, OptionsFault::BadThreshold, threshold)?;
+    tells(&rt, PlanFault::Syntax(3), "syntax at byte 3")?;
+    tells(&rt, PlanFault::UnknownPiece(4), "no piece 4")?;
+    tells(&rt, PlanFault::RepeatedPiece(5), "piece 5 twice")?;
+    tells(&rt, PlanFault::MissingPiece(6), "piece 6 missing")?;
+    tells(&rt, PlanFault::Memory, "out of memory")?;
+    let mismatch = "the plan has another number of pieces than the cutting";
+    tells(&rt, RunError::PlanMismatch, mismatch)?;
+    tells(&rt, RunError::Memory, "out of memory")
 }

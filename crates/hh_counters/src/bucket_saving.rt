@@ -16,6 +16,7 @@ use indexmap::IndexMap;
 use std::alloc::{AllocError, Global};
 use std::collections::BTreeMap;
 use std::marker::Model;
+use thiserror::Error;
 
 /// Space-Saving with the monitored keys in buckets by their counters, so that the key to drop is
 /// the first one of the first bucket.
@@ -45,11 +46,13 @@ impl Model for BucketSaving {
 }
 
 /// Why there is no new Space-Saving: the first of these that holds.
-#[derive(Clone, Copy, Debug, PartialEq, Eq)]
+#[derive(Clone, Copy, Debug, PartialEq, Eq, Error)]
 pub enum NewFault {
     /// k is not 1 to [`MAX_K`].
+    #[error("k must be 1 to 65535")]
     BadK,
     /// The allocator had no memory.
+    #[error("out of memory")]
     Memory,
 }
 

@@ -8,6 +8,7 @@ use crate::entries::{add_item, are_counters, counter_of, joined, sum_of, sums_wi
 use hh_stream::{Item, Key, MAX_TOTAL};
 use std::alloc::Global;
 use std::marker::Model;
+use thiserror::Error;
 
 /// The largest k.
 pub const MAX_K: u64 = 65_535;
@@ -38,35 +39,43 @@ impl Model for Summary {
 }
 
 /// k is not 1 to [`MAX_K`].
-#[derive(Clone, Copy, Debug, PartialEq, Eq)]
+#[derive(Clone, Copy, Debug, PartialEq, Eq, Error)]
+#[error("k must be 1 to 65535")]
 pub struct BadK;
 
 /// Why an item was not added: the first of these that holds.
-#[derive(Clone, Copy, Debug, PartialEq, Eq)]
+#[derive(Clone, Copy, Debug, PartialEq, Eq, Error)]
 pub enum AddFault {
     /// The total would be above [`MAX_TOTAL`].
+    #[error("the total would be above 2^63 - 1")]
     TotalTooLarge,
     /// The allocator had no memory.
+    #[error("out of memory")]
     Memory,
 }
 
 /// Why a summary was not merged: the first of these that holds.
-#[derive(Clone, Copy, Debug, PartialEq, Eq)]
+#[derive(Clone, Copy, Debug, PartialEq, Eq, Error)]
 pub enum MergeFault {
     /// The two summaries have different k.
+    #[error("the summaries have different k")]
     DifferentK,
     /// The total would be above [`MAX_TOTAL`].
+    #[error("the total would be above 2^63 - 1")]
     TotalTooLarge,
     /// The allocator had no memory.
+    #[error("out of memory")]
     Memory,
 }
 
 /// Why there is no summary of the items: the first of these that holds.
-#[derive(Clone, Copy, Debug, PartialEq, Eq)]
+#[derive(Clone, Copy, Debug, PartialEq, Eq, Error)]
 pub enum OfItemsFault {
     /// k is not 1 to [`MAX_K`].
+    #[error("k must be 1 to 65535")]
     BadK,
     /// The allocator had no memory.
+    #[error("out of memory")]
     Memory,
 }
 

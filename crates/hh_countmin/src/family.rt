@@ -12,6 +12,7 @@ use rand_core::utils::NextWord;
 use rand_pcg::Pcg64;
 use std::alloc::{AllocError, Global};
 use std::marker::Model;
+use thiserror::Error;
 
 /// The most rows of a family.
 pub const MAX_DEPTH: u64 = 16;
@@ -45,22 +46,27 @@ impl Model for Family {
 }
 
 /// Why a family was not drawn: the first of these that holds.
-#[derive(Clone, Copy, Debug, PartialEq, Eq)]
+#[derive(Clone, Copy, Debug, PartialEq, Eq, Error)]
 pub enum DrawFault {
     /// The depth is not 1 to 16.
+    #[error("depth must be 1 to 16")]
     BadDepth,
     /// The allocator had no memory.
+    #[error("out of memory")]
     Memory,
 }
 
 /// Why parts are no family: the first of these that holds.
-#[derive(Clone, Copy, Debug, PartialEq, Eq)]
+#[derive(Clone, Copy, Debug, PartialEq, Eq, Error)]
 pub enum PartsFault {
     /// There are no rows, or more than 16.
+    #[error("depth must be 1 to 16")]
     BadDepth,
     /// A multiplier is 0, or a coefficient is not below [`MODULUS`].
+    #[error("a coefficient is out of range")]
     BadCoefficient,
     /// The allocator had no memory.
+    #[error("out of memory")]
     Memory,
 }
 

@@ -9,6 +9,7 @@ use crate::family::{Family, MAX_WIDTH};
 use hh_stream::{Key, MAX_TOTAL};
 use std::alloc::Global;
 use std::marker::Model;
+use thiserror::Error;
 
 /// A Count-Min table (Cormode and Muthukrishnan 2005): rows of `width` cells, one row for each row
 /// of its hash family. An item adds its weight to one cell of each row, so each row adds up to the
@@ -40,26 +41,32 @@ impl Model for Table {
 }
 
 /// Why there is no table: the first of these that holds.
-#[derive(Clone, Copy, Debug, PartialEq, Eq)]
+#[derive(Clone, Copy, Debug, PartialEq, Eq, Error)]
 pub enum TableFault {
     /// The width is not 1 to 65,536.
+    #[error("width must be 1 to 65536")]
     BadWidth,
     /// The allocator had no memory.
+    #[error("out of memory")]
     Memory,
 }
 
 /// The total would be above [`MAX_TOTAL`].
-#[derive(Clone, Copy, Debug, PartialEq, Eq)]
+#[derive(Clone, Copy, Debug, PartialEq, Eq, Error)]
+#[error("the total would be above 2^63 - 1")]
 pub struct TotalTooLarge;
 
 /// Why a table was not merged: the first of these that holds.
-#[derive(Clone, Copy, Debug, PartialEq, Eq)]
+#[derive(Clone, Copy, Debug, PartialEq, Eq, Error)]
 pub enum MergeFault {
     /// The hash families differ.
+    #[error("the tables have different hash families")]
     DifferentFamily,
     /// The widths differ.
+    #[error("the tables have different widths")]
     DifferentWidth,
     /// The total would be above [`MAX_TOTAL`].
+    #[error("the total would be above 2^63 - 1")]
     TotalTooLarge,
 }
 

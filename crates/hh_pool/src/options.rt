@@ -9,6 +9,7 @@ ghost use Rattle.hh_pool.specs.Settings.{max_workers, IsK, IsThreshold, IsWorker
 use hh_counters::{MAX_K, MAX_Q};
 use hh_countmin::{Family, MAX_WIDTH};
 use std::marker::Model;
+use thiserror::Error;
 
 /// The most workers.
 pub const MAX_WORKERS: u64 = 64;
@@ -45,15 +46,19 @@ impl Model for Options {
 }
 
 /// Why there are no such options.
-#[derive(Clone, Copy, Debug, PartialEq, Eq)]
+#[derive(Clone, Copy, Debug, PartialEq, Eq, Error)]
 pub enum OptionsFault {
     /// k is not 1 to 65,535.
+    #[error("k must be 1 to 65535")]
     BadK,
     /// The number of workers is not 1 to [`MAX_WORKERS`].
+    #[error("workers must be 1 to 64")]
     BadWorkers,
     /// The width is not 1 to 65,536.
+    #[error("width must be 1 to 65536")]
     BadWidth,
     /// The threshold is not p/q with 1 <= p <= q <= [`MAX_Q`], or it is below 1/(k + 1).
+    #[error("threshold must be p/q with 1 <= p <= q <= 4294967296 and p*(k+1) >= q")]
     BadThreshold,
 }
 

@@ -2,6 +2,7 @@
 
 use hh_counters::{Heavy, Summary};
 use hh_countmin::Table;
+use thiserror::Error;
 
 /// What an analysis of a stream comes to.
 #[derive(Debug, Drop)]
@@ -16,10 +17,12 @@ pub struct Outcome {
 }
 
 /// Why there is no outcome.
-#[derive(Clone, Copy, Debug, PartialEq, Eq)]
+#[derive(Clone, Copy, Debug, PartialEq, Eq, Error)]
 pub enum RunError {
     /// The plan has another number of pieces than the cutting.
+    #[error("the plan has another number of pieces than the cutting")]
     PlanMismatch,
     /// The allocator had no memory, or the system refused a thread.
+    #[error("out of memory")]
     Memory,
 }

@@ -11,20 +11,26 @@ ghost use Rattle.hh_pool.specs.Trees.{IsMergeTree, leaves};
 use crate::plan::Tree;
 use std::alloc::{AllocError, Global};
 use std::collections::VecDeque;
+use thiserror::Error;
 
 /// Why a text is no plan of so many pieces.
-#[derive(Clone, Copy, Debug, PartialEq, Eq)]
+#[derive(Clone, Copy, Debug, PartialEq, Eq, Error)]
 pub enum PlanFault {
     /// The text up to this byte can be continued to a tree, and with the byte it can't; where the
     /// text ends too early it is the text's length.
+    #[error("syntax at byte {0}")]
     Syntax(usize),
     /// There is no piece of this number.
+    #[error("no piece {0}")]
     UnknownPiece(usize),
     /// The piece of this number came before.
+    #[error("piece {0} twice")]
     RepeatedPiece(usize),
     /// The piece of this number didn't come, and it is the least such one.
+    #[error("piece {0} missing")]
     MissingPiece(usize),
     /// The allocator had no memory.
+    #[error("out of memory")]
     Memory,
 }
 

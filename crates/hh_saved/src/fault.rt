@@ -4,66 +4,59 @@ ghost use Rattle.std.specs.Prelude.{◌≡◌};
 ghost use Rattle.hh_saved.specs.declared.fault.SavedFault.TheVariants.{Memory};
 
 use std::alloc::{AllocError, AllocFailed};
-use std::fmt;
+use thiserror::Error;
 
 /// What is wrong with the bytes of a file: the first fault from left to right.
-#[derive(Clone, Copy, Debug, PartialEq, Eq)]
+#[derive(Clone, Copy, Debug, PartialEq, Eq, Error)]
 pub enum SavedFault {
     /// Fewer bytes are left than the field has.
+    #[error("truncated")]
     Truncated,
     /// The file begins with neither `HHS1` nor `HHS2`.
+    #[error("bad magic")]
     BadMagic,
     /// The kind is neither 1 nor 2.
+    #[error("bad kind")]
     BadKind,
     /// k is 0.
+    #[error("bad k")]
     BadK,
     /// There are more counters than k.
+    #[error("bad count")]
     BadCount,
     /// A key has no bytes, or more than a key can have.
+    #[error("bad key")]
     BadKey,
     /// A key is not above the one before it.
+    #[error("keys out of order")]
     KeyOrder,
     /// A counter is 0.
+    #[error("bad counter")]
     BadCounter,
     /// The counters add up to more than the total.
+    #[error("counters above total")]
     SumTooLarge,
     /// The width is not 1 to 65,536.
+    #[error("bad width")]
     BadWidth,
     /// The depth is not 1 to 16.
+    #[error("bad depth")]
     BadDepth,
     /// A coefficient of the hash family is out of range.
+    #[error("bad coefficient")]
     BadCoefficient,
     /// The total is above 2^63 - 1.
+    #[error("total too large")]
     TotalTooLarge,
     /// A row of cells does not add up to the total.
+    #[error("row does not sum to total")]
     RowSum,
     /// Bytes follow the last field.
+    #[error("trailing bytes")]
     Trailing,
     /// The allocator had no memory.
+    #[error("out of memory")]
     Memory,
-}
-
-impl fmt::Display for SavedFault {
-    fn fmt<W: fmt::Write>(&self, f: &mut fmt::Formatter<W>) -> fmt::Result {
-        f.write_str(match self {
-            SavedFault::Truncated => "truncated",
-            SavedFault::BadMagic => "bad magic",
-            SavedFault::BadKind => "bad kind",
-            SavedFault::BadK => "bad k",
-            SavedFault::BadCount => "bad count",
-            SavedFault::BadKey => "bad key",
-            SavedFault::KeyOrder => "keys out of order",
-            SavedFault::BadCounter => "bad counter",
-            SavedFault::SumTooLarge => "counters above total",
-            SavedFault::BadWidth => "bad width",
-            SavedFault::BadDepth => "bad depth",
-            SavedFault::BadCoefficient => "bad coefficient",
-            SavedFault::TotalTooLarge => "total too large",
-            SavedFault::RowSum => "row does not sum to total",
-            SavedFault::Trailing => "trailing bytes",
-            SavedFault::Memory => "out of memory",
-        })
-    }
 }
 
 impl From<AllocError> for SavedFault {

@@ -7,6 +7,7 @@ ghost use Rattle.hh_stream.specs.Cuttings.{max_pieces, even_lengths, pieces_of, 
 use crate::stream::{Item, Stream};
 use std::alloc::{AllocError, Global};
 use std::marker::Model;
+use thiserror::Error;
 
 /// The most pieces of a cutting.
 pub const MAX_PIECES: usize = 1024;
@@ -32,15 +33,19 @@ impl Model for Cutting {
 }
 
 /// Why there is no such cutting: the first of these that holds.
-#[derive(Clone, Copy, Debug, PartialEq, Eq)]
+#[derive(Clone, Copy, Debug, PartialEq, Eq, Error)]
 pub enum CuttingFault {
     /// There is no piece.
+    #[error("a cutting has at least 1 piece")]
     NoPieces,
     /// There are more than [`MAX_PIECES`] pieces.
+    #[error("a cutting has at most 1024 pieces")]
     TooManyPieces,
     /// The lengths don't add up to the number of items.
+    #[error("the lengths do not add up to the number of items")]
     WrongSum,
     /// The allocator had no memory.
+    #[error("out of memory")]
     Memory,
 }
 

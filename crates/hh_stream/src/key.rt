@@ -13,6 +13,7 @@ use std::alloc::{AllocError, Global};
 use std::cmp::Ordering;
 use std::hash::{Hash, Hasher};
 use std::marker::Model;
+use thiserror::Error;
 
 /// The most bytes that a key has.
 pub const MAX_KEY_LEN: usize = 4096;
@@ -59,13 +60,16 @@ impl Model for Key {
 }
 
 /// Why bytes are no key: the first of these that holds.
-#[derive(Clone, Copy, Debug, PartialEq, Eq)]
+#[derive(Clone, Copy, Debug, PartialEq, Eq, Error)]
 pub enum KeyFault {
     /// There are none.
+    #[error("a key has at least 1 byte")]
     Empty,
     /// There are more than [`MAX_KEY_LEN`].
+    #[error("a key has at most 4096 bytes")]
     TooLong,
     /// The allocator had no memory.
+    #[error("out of memory")]
     Memory,
 }
 

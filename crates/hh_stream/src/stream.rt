@@ -6,6 +6,7 @@ ghost use Rattle.hh_stream.specs.Weights.{max_total, total_of};
 use crate::key::Key;
 use std::alloc::Global;
 use std::marker::Model;
+use thiserror::Error;
 
 /// The largest total weight of a stream: 2^63 - 1.
 pub const MAX_TOTAL: u64 = 9_223_372_036_854_775_807;
@@ -66,13 +67,16 @@ impl Model for Stream {
 }
 
 /// Why an item was not pushed: the first of these that holds.
-#[derive(Clone, Copy, Debug, PartialEq, Eq)]
+#[derive(Clone, Copy, Debug, PartialEq, Eq, Error)]
 pub enum PushFault {
     /// The weight is 0.
+    #[error("a weight is at least 1")]
     ZeroWeight,
     /// The total would be above [`MAX_TOTAL`].
+    #[error("the total would be above 2^63 - 1")]
     TotalTooLarge,
     /// The allocator had no memory.
+    #[error("out of memory")]
     Memory,
 }
 
