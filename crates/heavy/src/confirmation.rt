@@ -19,13 +19,16 @@ use hh_counters::{Heavy, Summary};
 use hh_stream::Stream;
 use std::alloc::{AllocError, Global};
 use std::io::Read;
+use thiserror::Error;
 
 /// Why a summary was not confirmed.
-#[derive(Clone, Copy, Debug, PartialEq, Eq)]
+#[derive(Clone, Copy, Debug, PartialEq, Eq, Error)]
 pub enum ConfirmFault {
     /// The summary's total is not the stream's.
+    #[error("the summary's total is not the stream's")]
     TotalDiffers,
     /// The allocator had no memory.
+    #[error("out of memory")]
     Memory,
 }
 

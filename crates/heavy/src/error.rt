@@ -5,7 +5,6 @@ ghost use Rattle.heavy.specs.Status.{status_of};
 
 use crate::records::BadRecordCause;
 use hh_saved::SavedFault;
-use std::fmt;
 use thiserror::Error;
 
 /// Why a plan's text is refused.
@@ -22,45 +21,31 @@ pub enum TreeFault {
 }
 
 /// Why a file is not merged into the files before it.
-#[derive(Clone, Copy, Debug, PartialEq, Eq)]
+#[derive(Clone, Copy, Debug, PartialEq, Eq, Error)]
 pub enum MergeCause {
     /// The summaries have different k.
+    #[error("another k")]
     DifferentK,
     /// The tables have different hash families.
+    #[error("another hash family")]
     DifferentFamily,
     /// The tables have different widths.
+    #[error("another width")]
     DifferentWidth,
     /// The total would be above 2^63 - 1.
+    #[error("total too large")]
     TotalTooLarge,
 }
 
-impl fmt::Display for MergeCause {
-    fn fmt<W: fmt::Write>(&self, f: &mut fmt::Formatter<W>) -> fmt::Result {
-        f.write_str(match self {
-            MergeCause::DifferentK => "another k",
-            MergeCause::DifferentFamily => "another hash family",
-            MergeCause::DifferentWidth => "another width",
-            MergeCause::TotalTooLarge => "total too large",
-        })
-    }
-}
-
 /// Why a word is no key.
-#[derive(Clone, Copy, Debug, PartialEq, Eq)]
+#[derive(Clone, Copy, Debug, PartialEq, Eq, Error)]
 pub enum KeyCause {
     /// It has no bytes.
+    #[error("empty")]
     Empty,
     /// It has more than 4,096 bytes.
+    #[error("too long")]
     TooLong,
-}
-
-impl fmt::Display for KeyCause {
-    fn fmt<W: fmt::Write>(&self, f: &mut fmt::Formatter<W>) -> fmt::Result {
-        f.write_str(match self {
-            KeyCause::Empty => "empty",
-            KeyCause::TooLong => "too long",
-        })
-    }
 }
 
 /// What stops a command. Each command says in which order its refusals come. Records, files and

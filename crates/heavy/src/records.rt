@@ -11,47 +11,43 @@ use crate::taking::TakeItems;
 use csv::{ByteRecord, ErrorKind, ReaderBuilder};
 use hh_stream::{MAX_KEY_LEN, MAX_TOTAL, Stream};
 use std::alloc::{AllocError, Global};
-use std::fmt;
 use std::io::Read;
+use thiserror::Error;
 
 /// Why a record is refused, in the order of the tests.
-#[derive(Clone, Copy, Debug, PartialEq, Eq)]
+#[derive(Clone, Copy, Debug, PartialEq, Eq, Error)]
 pub enum BadRecordCause {
     /// There are not one or two fields.
+    #[error("wrong number of fields")]
     FieldCount,
     /// The first field is empty.
+    #[error("empty key")]
     EmptyKey,
     /// The first field has more than 4,096 bytes.
+    #[error("key too long")]
     KeyTooLong,
     /// The second field is not 1 to 20 ASCII digits.
+    #[error("bad weight")]
     BadWeight,
     /// The weight is 0.
+    #[error("zero weight")]
     ZeroWeight,
     /// The total with this weight is above 2^63 - 1.
+    #[error("total too large")]
     TotalTooLarge,
 }
 
-impl fmt::Display for BadRecordCause {
-    fn fmt<W: fmt::Write>(&self, f: &mut fmt::Formatter<W>) -> fmt::Result {
-        f.write_str(match self {
-            BadRecordCause::FieldCount => "wrong number of fields",
-            BadRecordCause::EmptyKey => "empty key",
-            BadRecordCause::KeyTooLong => "key too long",
-            BadRecordCause::BadWeight => "bad weight",
-            BadRecordCause::ZeroWeight => "zero weight",
-            BadRecordCause::TotalTooLarge => "total too large",
-        })
-    }
-}
-
 /// Why a text was not read as a stream.
-#[derive(Clone, Copy, Debug, PartialEq, Eq)]
+#[derive(Clone, Copy, Debug, PartialEq, Eq, Error)]
 pub enum ReadError {
     /// The reader failed.
+    #[error("input could not be read")]
     ReadFault,
     /// The record with this number, from 1 on, failed a test.
+    #[error("record {number}: {cause}")]
     BadRecord { number: u64, cause: BadRecordCause },
     /// The allocator had no memory.
+    #[error("out of memory")]
     Memory,
 }
 

@@ -13,6 +13,7 @@ use hh_stream::Key;
 use itoa::Buffer;
 use std::alloc::{AllocError, Global};
 use std::slice;
+use thiserror::Error;
 
 /// The three bytes of U+FEFF in UTF-8.
 const BYTE_ORDER_MARK: &[u8] = b"\xef\xbb\xbf";
@@ -107,11 +108,13 @@ pub(crate) fn condensed_text(alloc: Global, rows: &[Heavy]) -> Result<Vec<u8>, A
 }
 
 /// Why rows were not written.
-#[derive(Clone, Copy, Debug, PartialEq, Eq)]
+#[derive(Clone, Copy, Debug, PartialEq, Eq, Error)]
 pub enum ReportFault {
     /// The sink took this many bytes, and then failed.
+    #[error("output could not be written")]
     WriteFault { written: u64 },
     /// The allocator had no memory. Nothing was written.
+    #[error("out of memory")]
     Memory,
 }
 

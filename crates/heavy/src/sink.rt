@@ -6,9 +6,11 @@ ghost use Rattle.heavy.specs.Sinks.{take_fails, took_nothing, TakesFirst};
 
 use crate::retrying;
 use std::io::Write;
+use thiserror::Error;
 
 /// A sink that could not do what it was asked.
-#[derive(Clone, Copy, Debug, PartialEq, Eq)]
+#[derive(Clone, Copy, Debug, PartialEq, Eq, Error)]
+#[error("the sink could not do what it was asked")]
 pub struct SinkFault;
 
 /// What bytes are written to.
@@ -106,7 +108,8 @@ impl<W: Write> Sink for Out<W> {
 }
 
 /// A write that stopped: the sink took exactly this many bytes.
-#[derive(Clone, Copy, Debug, PartialEq, Eq)]
+#[derive(Clone, Copy, Debug, PartialEq, Eq, Error)]
+#[error("output could not be written")]
 pub struct WriteFault {
     pub written: u64,
 }

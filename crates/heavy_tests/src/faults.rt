@@ -1,6 +1,9 @@
 //! The texts of faults, and their exit statuses.
 
-use heavy::{BadRecordCause, KeyCause, MergeCause, ToolError, TreeFault};
+use heavy::{
+    BadRecordCause, ConfirmFault, KeyCause, MergeCause, ReadError, ReportFault, SinkFault,
+    ToolError, TreeFault, WriteFault,
+};
 use hh_counters::{AddFault, BadK, NewFault, OfItemsFault};
 use hh_countmin::{DrawFault, PartsFault, TableFault, TotalTooLarge};
 use hh_pool::{OptionsFault, PlanFault, RunError};
@@ -256,4 +259,25 @@ fn faults_of_analyses(rt: HostRuntime) -> Result<(), Fail> {
     let mismatch = "the plan has another number of pieces than the cutting";
     tells(&rt, RunError::PlanMismatch, mismatch)?;
     tells(&rt, RunError::Memory, "out of memory")
+}
+
+#[test]
+fn faults_of_single_steps(rt: HostRuntime) -> Result<(), Fail> {
+    tells(&rt, ReadError::ReadFault, "input could not be read")?;
+    let (number, cause) = (7, BadRecordCause::ZeroWeight);
+    tells(
+        &rt,
+        ReadError::BadRecord { number, cause },
+        "record 7: zero weight",
+    )?;
+    tells(&rt, ReadError::Memory, "out of memory")?;
+    tells(&rt, SinkFault, "the sink could not do what it was asked")?;
+    let written = 3;
+    tells(&rt, WriteFault { written }, "output could not be written")?;
+    let written = ReportFault::WriteFault { written };
+    tells(&rt, written, "output could not be written")?;
+    tells(&rt, ReportFault::Memory, "out of memory")?;
+    let total = "the summary's total is not the stream's";
+    tells(&rt, ConfirmFault::TotalDiffers, total)?;
+    tells(&rt, ConfirmFault::Memory, "out of memory")
 }
