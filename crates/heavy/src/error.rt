@@ -2,9 +2,11 @@
 
 ghost use Rattle.std.specs.Prelude.{◌≡◌};
 ghost use Rattle.heavy.specs.Status.{status_of};
+ghost use Rattle.heavy.specs.declared.error.ToolError.TheVariants.{Memory};
 
 use crate::records::BadRecordCause;
 use hh_saved::SavedFault;
+use std::alloc::AllocError;
 use std::fmt;
 use thiserror::Error;
 
@@ -132,5 +134,13 @@ impl ToolError {
             | ToolError::TotalDiffers => 3,
             ToolError::Memory => 4,
         }
+    }
+}
+
+impl From<AllocError> for ToolError {
+    ghost from_gives = { λ _ fault. fault ≡ Memory };
+
+    fn from(_: AllocError) -> ToolError {
+        ToolError::Memory
     }
 }
