@@ -1,5 +1,5 @@
 -- Saved files, merged one after the other.
-use Rattle.std.proofs.Common.{◌≡◌, ℕ, ◌+◌, ◌<◌, ◌≤◌, ◌∙◌, Bool, true, false, List, [], ◌∷◌, length, map, drop, get_or, Result, Ok, Err, ◌⊎◌, inl, inr, sym, refl, ap, arith}
+use Rattle.std.proofs.Common.{◌≡◌, ℕ, ◌+◌, ◌<◌, ◌≤◌, ◌∙◌, Bool, true, false, List, ◌∷◌, length, map, drop, get_or, Result, Ok, Err, ◌⊎◌, inl, inr, sym, refl, ap, arith}
 use Rattle.std.specs.Prelude.{◌≢◌}
 use Rattle.std.specs.Bool.{Decides}
 use Rattle.std.specs.List.{drop-map}
@@ -72,38 +72,40 @@ pub refuses_along : {X Y : Type 0} (e : ToolError) (part : Result X ToolError) (
 refuses_along tool.Memory part whole so refused = tt
 refuses_along e part whole so refused = so refused
 
-module _ {X : Type 0} (f : X → List ℕ) (xs : List X) where
-  -- what is left of the contents, from the i-th on
-  pub drop_contents : (i : ℕ) (d : X) → i < length xs → drop i (map f xs) ≡ f (get_or xs i d) ∷ drop (i + 1) (map f xs)
-  drop_contents i d lt = drop-map f i xs ∙ ap (map f) (drop_more xs i d lt) ∙ ap (λ (ys : List (List ℕ)). f (get_or xs i d) ∷ ys) (sym (drop-map f (i + 1) xs))
+-- the contents of the i-th file, which has number i + 1
+module _ {X : Type 0} (f : X → List ℕ) (xs : List X) (i : ℕ) (d : X) (file : List ℕ)
+    (is : file ≡ f (get_or xs i d)) (lt : i < length xs) where
+  -- what is left of the contents begins with it
+  pub drop_contents : drop i (map f xs) ≡ file ∷ drop (i + 1) (map f xs)
+  drop_contents =
+      drop-map f i xs ∙ ap (map f) (drop_more xs i d lt) ∙ (λ j. sym is j ∷ sym (drop-map f (i + 1) xs) j)
 
-  -- the i-th file, with the number n, is merged into v
-  module _ (i n : ℕ) (d : X) (v : Saved) (whole : Result Saved ToolError) (lt : i < length xs) (so_far : merged_from n v (drop i (map f xs)) ≡ whole) where
-    merge_next : merged_from n v (f (get_or xs i d) ∷ drop (i + 1) (map f xs)) ≡ whole
-    merge_next = ap (merged_from n v) (sym (drop_contents i d lt)) ∙ so_far
+  -- it is merged into v
+  module _ (v : Saved) (whole : Result Saved ToolError)
+      (so_far : merged_from (i + 1) v (drop i (map f xs)) ≡ whole) where
+    merge_next : merged_from (i + 1) v (file ∷ drop (i + 1) (map f xs)) ≡ whole
+    merge_next = ap (merged_from (i + 1) v) (sym drop_contents) ∙ so_far
 
-    pub merge_goes_on : (next both : Saved) → file_of n (f (get_or xs i d)) ≡ Ok next → merge_saved n v next ≡ Ok both → merged_from (n + 1) both (drop (i + 1) (map f xs)) ≡ whole
+    -- the others are merged into both
+    pub merge_goes_on : {next both : Saved} → file_of (i + 1) file ≡ Ok next → merge_saved (i + 1) v next ≡ Ok both
+        → merged_from (i + 1 + 1) both (drop (i + 1) (map f xs)) ≡ whole
     unfolding merged_from
-    merge_goes_on next both read merged =
-        let one : merged_from n v (f (get_or xs i d) ∷ drop (i + 1) (map f xs)) ≡ merged_from (n + 1) both (drop (i + 1) (map f xs)) = rw (read, merged) refl in
-        sym one ∙ merge_next
+    merge_goes_on read merged = rw (read, merged) at merge_next
 
-    pub merge_unread : (e : ToolError) → Refuses (file_of n (f (get_or xs i d))) e → Refuses whole e
+    -- a file that is refused is the refusal of all
+    pub merge_unread : (e : ToolError) → Refuses (file_of (i + 1) file) e → Refuses whole e
     unfolding merged_from
-    merge_unread e refused =
-        refuses_along e (file_of n (f (get_or xs i d))) whole
-        (λ h. let one : merged_from n v (f (get_or xs i d) ∷ drop (i + 1) (map f xs)) ≡ Err e = rw h refl in sym merge_next ∙ one) refused
+    merge_unread e refused = refuses_along e (file_of (i + 1) file) whole (λ h. sym merge_next ∙ rw h refl) refused
 
-    pub merge_stops : (next : Saved) (e : ToolError) → file_of n (f (get_or xs i d)) ≡ Ok next → Refuses (merge_saved n v next) e → Refuses whole e
+    -- and so is a file that is not merged
+    pub merge_stops : (e : ToolError) {next : Saved} → file_of (i + 1) file ≡ Ok next
+        → Refuses (merge_saved (i + 1) v next) e → Refuses whole e
     unfolding merged_from
-    merge_stops next e read refused =
-        refuses_along e (merge_saved n v next) whole
-        (λ h. let one : merged_from n v (f (get_or xs i d) ∷ drop (i + 1) (map f xs)) ≡ Err e = rw (read, h) refl in sym merge_next ∙ one) refused
+    merge_stops e {next} read refused =
+        refuses_along e (merge_saved (i + 1) v next) whole (λ h. sym merge_next ∙ rw (read, h) refl) refused
 
-  -- no file is left
-  pub merge_ends : (i n : ℕ) (v : Saved) (whole : Result Saved ToolError) → length xs ≤ i → merged_from n v (drop i (map f xs)) ≡ whole → whole ≡ Ok v
-  unfolding merged_from
-  merge_ends i n v whole le so_far =
-      let none : drop i (map f xs) ≡ [] = drop_all i (map f xs) (rw (length-map xs f) le) in
-      let one : merged_from n v (drop i (map f xs)) ≡ Ok v = rw none refl in
-      sym so_far ∙ one
+-- no file is left
+pub merge_ends : {X : Type 0} (f : X → List ℕ) (xs : List X) (i n : ℕ) (v : Saved) (whole : Result Saved ToolError)
+    → length xs ≤ i → merged_from n v (drop i (map f xs)) ≡ whole → whole ≡ Ok v
+unfolding merged_from
+merge_ends f xs i n v whole le so_far = sym so_far ∙ rw (drop_all i (map f xs) (rw (length-map xs f) le)) refl

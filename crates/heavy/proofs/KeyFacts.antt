@@ -46,33 +46,30 @@ keys_pass n (x ∷ xs) none i d lt = by (key_fault n x) refl none i lt (λ rest 
     by None is none zero lt rest = key_fault-none n x is
     by None is none (suc i) lt rest = rest none i (omega (arith, lt))
 
-module _ {X : Type 0} (f : X → List ℕ) (xs : List X) (i : ℕ) where
-  -- each of words that pass is a key
-  pub word_passes : (d : X) → i < length xs → bad_key 1 (map f xs) ≡ None → IsKeyLength (f (get_or xs i d))
-  word_passes d lt none =
-      subst IsKeyLength (get_or-map f xs i d [] lt) (keys_pass 1 (map f xs) none i [] (rw (length-map xs f) lt))
+-- each of words that pass is a key
+pub word_passes : {X : Type 0} (f : X → List ℕ) (xs : List X) (i : ℕ) (d : X) → i < length xs
+    → bad_key 1 (map f xs) ≡ None → IsKeyLength (f (get_or xs i d))
+word_passes f xs i d lt none =
+    subst IsKeyLength (get_or-map f xs i d [] lt) (keys_pass 1 (map f xs) none i [] (rw (length-map xs f) lt))
 
-  keys_next : (n : ℕ) (d : X) → i < length xs → bad_key n (drop i (map f xs)) ≡ or_else (key_fault n (f (get_or xs i d))) (bad_key (n + 1) (drop (i + 1) (map f xs)))
+-- the i-th word, which has number i + 1
+module _ {X : Type 0} (f : X → List ℕ) (xs : List X) (i : ℕ) (d : X) (word : List ℕ)
+    (is : word ≡ f (get_or xs i d)) (lt : i < length xs) (whole : Option ToolError)
+    (so_far : bad_key (i + 1) (drop i (map f xs)) ≡ whole) where
+  keys_next : or_else (key_fault (i + 1) word) (bad_key (i + 1 + 1) (drop (i + 1) (map f xs))) ≡ whole
   unfolding bad_key
-  keys_next n d lt = ap (bad_key n) (drop_contents f xs i d lt)
+  keys_next = ap (bad_key (i + 1)) (sym (drop_contents f xs i d word is lt)) ∙ so_far
 
-  -- the i-th word passed
-  pub keys_go_on : (n : ℕ) (d : X) (whole : Option ToolError) → i < length xs → key_fault n (f (get_or xs i d)) ≡ None → bad_key n (drop i (map f xs)) ≡ whole
-      → bad_key (n + 1) (drop (i + 1) (map f xs)) ≡ whole
-  keys_go_on n d whole lt none so_far =
-      let one : bad_key n (drop i (map f xs)) ≡ bad_key (n + 1) (drop (i + 1) (map f xs)) = keys_next n d lt ∙ rw none refl in
-      sym one ∙ so_far
+  -- it passed
+  pub keys_go_on : key_fault (i + 1) word ≡ None → bad_key (i + 1 + 1) (drop (i + 1) (map f xs)) ≡ whole
+  keys_go_on none = rw none at keys_next
 
-  -- the i-th word failed
-  pub keys_stop : (n : ℕ) (d : X) (whole : Option ToolError) (e : ToolError) → i < length xs → key_fault n (f (get_or xs i d)) ≡ Some e → bad_key n (drop i (map f xs)) ≡ whole → whole ≡ Some e
-  keys_stop n d whole e lt bad so_far =
-      let one : bad_key n (drop i (map f xs)) ≡ Some e = keys_next n d lt ∙ rw bad refl in
-      sym so_far ∙ one
+  -- it failed
+  pub keys_stop : {e : ToolError} → key_fault (i + 1) word ≡ Some e → whole ≡ Some e
+  keys_stop bad = sym keys_next ∙ rw bad refl
 
-  -- no word is left
-  pub keys_end : (n : ℕ) (whole : Option ToolError) → length xs ≤ i → bad_key n (drop i (map f xs)) ≡ whole → whole ≡ None
-  unfolding bad_key
-  keys_end n whole le so_far =
-      let none : drop i (map f xs) ≡ [] = drop_all i (map f xs) (rw (length-map xs f) le) in
-      let one : bad_key n (drop i (map f xs)) ≡ None = rw none refl in
-      sym so_far ∙ one
+-- no word is left
+pub keys_end : {X : Type 0} (f : X → List ℕ) (xs : List X) (i n : ℕ) (whole : Option ToolError)
+    → length xs ≤ i → bad_key n (drop i (map f xs)) ≡ whole → whole ≡ None
+unfolding bad_key
+keys_end f xs i n whole le so_far = sym so_far ∙ rw (drop_all i (map f xs) (rw (length-map xs f) le)) refl

@@ -39,10 +39,7 @@ fn check_keys(words: &[Vec<u8>]) -> Result<(), ToolError>
         (λ fault. bad_key 1 (map vec_items words.now) ≡ Some fault) }
 {
     for i in 0..words.len() {
-        match check_key(i as u64 + 1, &words[i]) {
-            Ok(()) => {}
-            Err(fault) => return Err(fault),
-        }
+        check_key(i as u64 + 1, &words[i])?;
     }
     Ok(())
 }
@@ -75,10 +72,9 @@ fn write_answer(writer: &mut Writer<Vec<u8>>, saved: &Saved, key: &Key) -> Resul
     let low = low_digits.format(low).as_bytes();
     let mut high_digits = Buffer::new();
     let high = high_digits.format(high).as_bytes();
-    match writer.write_fields(&[key.bytes(), low, high]) {
-        Ok(()) => Ok(()),
-        Err(_) => Err(AllocError),
-    }
+    writer
+        .write_fields(&[key.bytes(), low, high])
+        .map_err(|_| AllocError)
 }
 
 /// The rows of words that passed their tests.
@@ -92,10 +88,7 @@ fn answers_text(alloc: Global, saved: &Saved, words: &[Vec<u8>]) -> Result<Vec<u
         let key = Key::of_bytes(alloc, word)?;
         write_answer(&mut writer, saved, &key)?;
     }
-    match writer.into_inner() {
-        Ok(text) => Ok(text),
-        Err(_) => Err(AllocError),
-    }
+    writer.into_inner().map_err(|_| AllocError)
 }
 
 /// What a saved file tells of keys: for each, in order, a row `key,low,high` as `csv` writes it,
@@ -110,18 +103,9 @@ pub fn ask_bytes(alloc: Global, file: &[u8], keys: &[Vec<u8>]) -> Result<Vec<u8>
     ensures refused { IfErr result (λ fault.
         Refuses (answers file.now (map vec_items keys.now)) fault) }
 {
-    let saved = match file_of(alloc, 1, file) {
-        Ok(saved) => saved,
-        Err(fault) => return Err(fault),
-    };
-    match check_keys(keys) {
-        Ok(()) => {}
-        Err(fault) => return Err(fault),
-    }
-    match answers_text(alloc, &saved, keys) {
-        Ok(text) => Ok(text),
-        Err(_) => Err(ToolError::Memory),
-    }
+    let saved = file_of(alloc, 1, file)?;
+    check_keys(keys)?;
+    Ok(answers_text(alloc, &saved, keys)?)
 }
 
 /// The two numbers of words that passed their tests.
@@ -150,18 +134,9 @@ pub fn ask_keys(alloc: Global, file: &[u8], keys: &[Vec<u8>]) -> Result<Vec<(u64
     ensures refused { IfErr result (λ fault.
         Refuses (answers_of file.now (map vec_items keys.now)) fault) }
 {
-    let saved = match file_of(alloc, 1, file) {
-        Ok(saved) => saved,
-        Err(fault) => return Err(fault),
-    };
-    match check_keys(keys) {
-        Ok(()) => {}
-        Err(fault) => return Err(fault),
-    }
-    match answers_of(alloc, &saved, keys) {
-        Ok(bounds) => Ok(bounds),
-        Err(_) => Err(ToolError::Memory),
-    }
+    let saved = file_of(alloc, 1, file)?;
+    check_keys(keys)?;
+    Ok(answers_of(alloc, &saved, keys)?)
 }
 
 /// The least and the most that a key's weight in the stream can be, as a saved file tells: the two
@@ -171,16 +146,8 @@ pub fn ask_key(alloc: Global, file: &[u8], key: &[u8]) -> Result<(u64, u64), Too
     ensures bounds { IfOk result (λ bounds. answer file.now key.now ≡ Ok bounds) }
     ensures refused { IfErr result (λ fault. Refuses (answer file.now key.now) fault) }
 {
-    let saved = match file_of(alloc, 1, file) {
-        Ok(saved) => saved,
-        Err(fault) => return Err(fault),
-    };
-    match check_key(1, key) {
-        Ok(()) => {}
-        Err(fault) => return Err(fault),
-    }
-    let Ok(key) = Key::of_bytes(alloc, key) else {
-        return Err(ToolError::Memory);
-    };
+    let saved = file_of(alloc, 1, file)?;
+    check_key(1, key)?;
+    let key = Key::of_bytes(alloc, key)?;
     Ok(answer_of(&saved, &key))
 }

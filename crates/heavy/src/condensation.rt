@@ -12,7 +12,6 @@ ghost use Rattle.heavy.specs.Streams.{ReadsAs};
 use crate::counts::Counts;
 use crate::error::ToolError;
 use crate::records::read_items;
-use crate::report::read_fault;
 use crate::taking::TakeItems;
 use hh_counters::laws::{condensed_is_counted, free_name_is_first};
 use hh_counters::{Heavy, Summary};
@@ -95,15 +94,7 @@ pub(crate) fn condense_records<R: Read + Drop>(
         × (rows.items ≡ condensed summary.now.counters xs)) }
     ensures refused { IfErr result (λ fault. RecordsRefused (R.remaining reader) fault) }
 {
-    let Ok(counts) = Counts::of(alloc, summary) else {
-        return Err(ToolError::Memory);
-    };
-    let counts = match read_items(alloc, reader, counts) {
-        Ok(counts) => counts,
-        Err(error) => return Err(read_fault(error)),
-    };
-    match condensed_rows(alloc, summary, &counts) {
-        Ok(rows) => Ok(rows),
-        Err(_) => Err(ToolError::Memory),
-    }
+    let counts = Counts::of(alloc, summary)?;
+    let counts = read_items(alloc, reader, counts)?;
+    Ok(condensed_rows(alloc, summary, &counts)?)
 }

@@ -12,7 +12,6 @@ ghost use Rattle.heavy.specs.declared.confirmation.ConfirmFault.TheVariants.{Mem
 use crate::counts::Counts;
 use crate::error::ToolError;
 use crate::records::read_items;
-use crate::report::read_fault;
 use crate::taking::TakeItems;
 use hh_counters::laws::{candidates_suffice, counts_add_up};
 use hh_counters::{Heavy, Summary};
@@ -86,18 +85,10 @@ pub(crate) fn confirm_records<R: Read + Drop>(
     ensures refused { IfErr result (λ fault.
         CountRefused summary.now (R.remaining reader) fault) }
 {
-    let Ok(counts) = Counts::of(alloc, summary) else {
-        return Err(ToolError::Memory);
-    };
-    let counts = match read_items(alloc, reader, counts) {
-        Ok(counts) => counts,
-        Err(error) => return Err(read_fault(error)),
-    };
+    let counts = Counts::of(alloc, summary)?;
+    let counts = read_items(alloc, reader, counts)?;
     if summary.total() != counts.total() {
         return Err(ToolError::TotalDiffers);
     }
-    match heavy_rows(summary, &counts) {
-        Ok(rows) => Ok(rows),
-        Err(_) => Err(ToolError::Memory),
-    }
+    Ok(heavy_rows(summary, &counts)?)
 }

@@ -1,10 +1,13 @@
 //! What stops a command, with its text and its exit status.
 
 ghost use Rattle.std.specs.Prelude.{◌≡◌};
+ghost use Rattle.heavy.specs.Reports.{read_fault};
 ghost use Rattle.heavy.specs.Status.{status_of};
+ghost use Rattle.heavy.specs.declared.error.ToolError.TheVariants.{Memory};
 
-use crate::records::BadRecordCause;
+use crate::records::{BadRecordCause, ReadError};
 use hh_saved::SavedFault;
+use std::alloc::AllocError;
 use thiserror::Error;
 
 /// Why a plan's text is refused.
@@ -116,6 +119,26 @@ impl ToolError {
             | ToolError::NotCounters
             | ToolError::TotalDiffers => 3,
             ToolError::Memory => 4,
+        }
+    }
+}
+
+impl From<AllocError> for ToolError {
+    ghost from_gives = { λ _ fault. fault ≡ Memory };
+
+    fn from(_: AllocError) -> ToolError {
+        ToolError::Memory
+    }
+}
+
+impl From<ReadError> for ToolError {
+    ghost from_gives = { λ error fault. fault ≡ read_fault error };
+
+    fn from(error: ReadError) -> ToolError {
+        match error {
+            ReadError::ReadFault => ToolError::ReadFault,
+            ReadError::BadRecord { number, cause } => ToolError::BadRecord { number, cause },
+            ReadError::Memory => ToolError::Memory,
         }
     }
 }

@@ -79,20 +79,11 @@ fn merge_files(alloc: Global, files: &[Vec<u8>]) -> Result<Saved, ToolError>
     ensures refused { IfErr result (λ fault.
         Refuses (merged_files (map vec_items files.now)) fault) }
 {
-    let mut merged = match file_of(alloc, 1, &files[0]) {
-        Ok(saved) => saved,
-        Err(fault) => return Err(fault),
-    };
+    let mut merged = file_of(alloc, 1, &files[0])?;
     for i in 1..files.len() {
         let number = i as u64 + 1;
-        let next = match file_of(alloc, number, &files[i]) {
-            Ok(saved) => saved,
-            Err(fault) => return Err(fault),
-        };
-        match merge_saved(&mut merged, number, &next) {
-            Ok(()) => {}
-            Err(fault) => return Err(fault),
-        }
+        let next = file_of(alloc, number, &files[i])?;
+        merge_saved(&mut merged, number, &next)?;
     }
     Ok(merged)
 }
@@ -114,12 +105,6 @@ pub fn merge_bytes(alloc: Global, files: &[Vec<u8>]) -> Result<Vec<u8>, ToolErro
     ensures refused { IfErr result (λ fault.
         Refuses (merged_files (map vec_items files.now)) fault) }
 {
-    let saved = match merge_files(alloc, files) {
-        Ok(saved) => saved,
-        Err(fault) => return Err(fault),
-    };
-    match write(alloc, &saved) {
-        Ok(bytes) => Ok(bytes),
-        Err(_) => Err(ToolError::Memory),
-    }
+    let saved = merge_files(alloc, files)?;
+    Ok(write(alloc, &saved)?)
 }

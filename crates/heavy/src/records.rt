@@ -89,10 +89,8 @@ fn parts_of(row: &ByteRecord) -> Option<(&[u8], Option<&[u8]>)>
     if row.len() == 0 || row.len() > 2 {
         return None;
     }
-    match row.get(0) {
-        Some(key) => Some((key, row.get(1))),
-        None => None,
-    }
+    let key = row.get(0)?;
+    Some((key, row.get(1)))
 }
 
 /// Hands on the item of a record, as one more after those that were taken.

@@ -4,11 +4,11 @@ ghost use Rattle.std.specs.Prelude.{◌≡◌, false, true, length, IfOk, IfErr,
 ghost use Rattle.hh_pool.specs.Trees.{leaves};
 ghost use Rattle.hh_counters.specs.Report.{heavy};
 ghost use Rattle.heavy.specs.Limits.{in_range, most_pieces};
-ghost use Rattle.heavy.specs.Reports.{IsReported, Names, ReportRefused, TreeRefused, bad_option, failed_by, read_fault, settings_of};
+ghost use Rattle.heavy.specs.Reports.{IsReported, Names, ReportRefused, TreeRefused, bad_option, failed_by, settings_of};
 ghost use Rattle.heavy.specs.Thresholds.{threshold_of};
 
 use crate::error::{ToolError, TreeFault};
-use crate::records::{ReadError, read_stream};
+use crate::records::read_stream;
 use crate::rows::{ReportFault, write_report};
 use crate::sink::Sink;
 use crate::threshold::{Share, threshold_of};
@@ -170,17 +170,6 @@ fn heavy_keys<T: Threads + Wait + Sync>(
     }
 }
 
-/// The error of a command whose input was not read.
-pub(crate) fn read_fault(error: ReadError) -> ToolError
-    ensures { result ≡ read_fault error }
-{
-    match error {
-        ReadError::ReadFault => ToolError::ReadFault,
-        ReadError::BadRecord { number, cause } => ToolError::BadRecord { number, cause },
-        ReadError::Memory => ToolError::Memory,
-    }
-}
-
 /// Reads records as [`read_stream`](crate::read_stream) does, and writes the report of their
 /// stream: exactly the keys whose weight is more than the threshold's share of the total, with
 /// their true weights, by falling weight and then by rising key. The stream is cut evenly and
@@ -205,26 +194,16 @@ pub fn run_report<T: Threads + Wait + Sync, R: Read + Drop, S: Sink>(
     ensures flushed { OnOk result (S.is_flushed sink.new ≡ true) }
     ensures failed { S.has_failed sink.new ≡ failed_by result }
 {
-    let (p, q) = match check_options(options) {
-        Ok(threshold) => threshold,
-        Err(fault) => return Err(fault),
-    };
+    let (p, q) = check_options(options)?;
     let pieces = options.pieces as usize;
     let plan = match plan_of(alloc, &options.tree, pieces) {
         Ok(plan) => plan,
         Err(NoPlan::Bad(fault)) => return Err(ToolError::BadTree(fault)),
         Err(NoPlan::Memory) => return Err(ToolError::Memory),
     };
-    let Ok(settings) = settings_of(alloc, options, p, q) else {
-        return Err(ToolError::Memory);
-    };
-    let stream = match read_stream(alloc, reader) {
-        Ok(stream) => stream,
-        Err(error) => return Err(read_fault(error)),
-    };
-    let Ok(rows) = heavy_keys(rt, alloc, &stream, pieces, &plan, &settings) else {
-        return Err(ToolError::Memory);
-    };
+    let settings = settings_of(alloc, options, p, q)?;
+    let stream = read_stream(alloc, reader)?;
+    let rows = heavy_keys(rt, alloc, &stream, pieces, &plan, &settings)?;
     match write_report(alloc, sink, &rows) {
         Ok(()) => Ok(()),
         Err(ReportFault::WriteFault { written }) => Err(ToolError::WriteFault { written }),

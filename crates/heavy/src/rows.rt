@@ -29,10 +29,9 @@ fn write_row(writer: &mut Writer<Vec<u8>>, row: &Heavy) -> Result<(), AllocError
 {
     let mut digits = Buffer::new();
     let weight = digits.format(row.weight).as_bytes();
-    match writer.write_fields(&[row.key.bytes(), weight]) {
-        Ok(()) => Ok(()),
-        Err(_) => Err(AllocError),
-    }
+    writer
+        .write_fields(&[row.key.bytes(), weight])
+        .map_err(|_| AllocError)
 }
 
 /// A text with rows behind it.
@@ -43,10 +42,7 @@ fn with_rows(text: Vec<u8>, rows: &[Heavy]) -> Result<Vec<u8>, AllocError>
     for row in rows {
         write_row(&mut writer, row)?;
     }
-    match writer.into_inner() {
-        Ok(whole) => Ok(whole),
-        Err(_) => Err(AllocError),
-    }
+    writer.into_inner().map_err(|_| AllocError)
 }
 
 /// The rows of a report as `csv` writes them, `key,weight`, each ended by a line feed.
@@ -64,13 +60,8 @@ fn quoted_key(alloc: Global, key: &Key) -> Result<Vec<u8>, AllocError>
     let mut writer = WriterBuilder::new()
         .quote_style(QuoteStyle::Always)
         .from_writer(Vec::new(alloc));
-    let Ok(()) = writer.write_field(key.bytes()) else {
-        return Err(AllocError);
-    };
-    match writer.into_inner() {
-        Ok(text) => Ok(text),
-        Err(_) => Err(AllocError),
-    }
+    writer.write_field(key.bytes()).map_err(|_| AllocError)?;
+    writer.into_inner().map_err(|_| AllocError)
 }
 
 /// A row whose key is in quotes.
@@ -127,9 +118,7 @@ pub fn write_report<S: Sink>(alloc: Global, sink: &mut S, rows: &[Heavy]) -> Res
     ensures flushed { OnOk result (S.is_flushed sink.new ≡ true) }
     ensures failed { S.has_failed sink.new ≡ is_write_fault result }
 {
-    let Ok(text) = report_text(alloc, rows) else {
-        return Err(ReportFault::Memory);
-    };
+    let text = report_text(alloc, rows).map_err(|_| ReportFault::Memory)?;
     match put(sink, text.as_slice()) {
         Ok(()) => Ok(()),
         Err(WriteFault { written }) => Err(ReportFault::WriteFault { written }),

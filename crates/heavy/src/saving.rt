@@ -18,7 +18,7 @@ use crate::condensation::condense_records;
 use crate::confirmation::confirm_records;
 use crate::error::ToolError;
 use crate::records::read_items;
-use crate::report::{in_range, read_fault};
+use crate::report::in_range;
 use crate::rows::{condensed_text, report_text};
 use hh_counters::laws::summaries_follow_items;
 use hh_counters::{GatheredSaving, MAX_K, Monitor, NewFault, Summary};
@@ -83,10 +83,7 @@ fn summary_by_counting<R: Read + Drop>(
     let Ok(summary) = Summary::new(alloc, k) else {
         unreachable!()
     };
-    match read_items(alloc, reader, summary) {
-        Ok(summary) => Ok(summary),
-        Err(error) => Err(read_fault(error)),
-    }
+    Ok(read_items(alloc, reader, summary)?)
 }
 
 /// The summary of the records of a reader, whose items are monitored and translated at the end.
@@ -105,23 +102,9 @@ fn summary_by_monitoring<R: Read + Drop>(
         Err(NewFault::BadK) => unreachable!(),
         Err(NewFault::Memory) => return Err(ToolError::Memory),
     };
-    let monitor = match read_items(alloc, reader, monitor) {
-        Ok(monitor) => monitor,
-        Err(error) => return Err(read_fault(error)),
-    };
+    let monitor = read_items(alloc, reader, monitor)?;
     match monitor.into_summary() {
         Ok(summary) => Ok(summary),
-        Err(_) => Err(ToolError::Memory),
-    }
-}
-
-/// The bytes of a saved value, in version 2.
-fn saved_bytes(alloc: Global, saved: &Saved) -> Result<Vec<u8>, ToolError>
-    ensures bytes { IfOk result (λ bytes. Spells version.Two bytes.items saved.now) }
-    ensures refused { IfErr result (λ fault. fault ≡ ToolError.Memory) }
-{
-    match write(alloc, saved) {
-        Ok(bytes) => Ok(bytes),
         Err(_) => Err(ToolError::Memory),
     }
 }
@@ -144,7 +127,7 @@ pub fn summary_bytes<R: Read + Drop>(
         return Err(ToolError::BadK);
     }
     let summary = summary_of(alloc, k, method, reader)?;
-    saved_bytes(alloc, &Saved::Counters(summary))
+    Ok(write(alloc, &Saved::Counters(summary))?)
 }
 
 /// The table of no items, with the family that is drawn from the seed.
@@ -190,13 +173,9 @@ pub fn table_bytes<R: Read + Drop>(
         return Err(ToolError::BadWidth);
     }
     tables_follow_items();
-    let Ok(table) = empty_table(alloc, width, depth, seed) else {
-        return Err(ToolError::Memory);
-    };
-    match read_items(alloc, reader, table) {
-        Ok(table) => saved_bytes(alloc, &Saved::Cells(table)),
-        Err(error) => Err(read_fault(error)),
-    }
+    let table = empty_table(alloc, width, depth, seed)?;
+    let table = read_items(alloc, reader, table)?;
+    Ok(write(alloc, &Saved::Cells(table))?)
 }
 
 /// The summary that a file holds.
@@ -223,10 +202,7 @@ pub fn list_entries(alloc: Global, file: &[u8]) -> Result<Vec<Place>, ToolError>
     ensures refused { IfErr result (λ fault. SummaryRefused file.now fault) }
 {
     let summary = summary_in(alloc, file)?;
-    match places(alloc, file, &summary) {
-        Ok(places) => Ok(places),
-        Err(_) => Err(ToolError::Memory),
-    }
+    Ok(places(alloc, file, &summary)?)
 }
 
 /// The report text of the saved summary's keys that are heavy in the stream of the reader's
@@ -242,10 +218,7 @@ pub fn confirm_bytes<R: Read + Drop>(
 {
     let summary = summary_in(alloc, file)?;
     let rows = confirm_records(alloc, &summary, reader)?;
-    match report_text(alloc, &rows) {
-        Ok(text) => Ok(text),
-        Err(_) => Err(ToolError::Memory),
-    }
+    Ok(report_text(alloc, &rows)?)
 }
 
 /// Records that say the same to [`confirm_bytes`] with the same file as those of the reader, at
@@ -271,8 +244,5 @@ pub fn condense_bytes<R: Read + Drop>(
 {
     let summary = summary_in(alloc, file)?;
     let rows = condense_records(alloc, &summary, reader)?;
-    match condensed_text(alloc, &rows) {
-        Ok(text) => Ok(text),
-        Err(_) => Err(ToolError::Memory),
-    }
+    Ok(condensed_text(alloc, &rows)?)
 }
