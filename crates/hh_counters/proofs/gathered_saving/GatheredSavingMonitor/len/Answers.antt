@@ -10,4 +10,5 @@ returns-clause-len c =
 pub returns-clause-few : goal.returns-clause-few
 returns-clause-few c =
     let old = c.self.invariant.stand.1 in
-    rw (← c.self.view_is) (omega (arith, c.len.ensures.len, length-view c.self.inside.index.entries old.distinct old.positive, c.self.invariant.monitor.few))
+    let long = length-view c.self.inside.index.entries old.distinct old.positive in
+    rw (← c.self.view_is) (omega (arith, c.len.ensures.len, long, c.self.invariant.monitor.few))
