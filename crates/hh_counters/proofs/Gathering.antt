@@ -11,8 +11,8 @@ use Rattle.hh_stream.specs.Weights.{Bytes, Entry, same_key, weight_of}
 use Rattle.hh_counters.specs.Counters.{tally, least_counter}
 use Rattle.hh_counters.specs.Buckets.{Buckets, place_at, AreOrdered, IsFirst, HasFirst, RaisesFirst, Agree, IsStanding, Stand}
 use Rattle.hh_counters.proofs.Weights.{same_exact, same_self, weight_of-tally}
-use Rattle.hh_counters.proofs.Stepping.{at_least_all, at_least_each, least_counter-le}
-use Rattle.hh_counters.proofs.Linked.{Distinct, PositiveAt, counters-view, found, held, least_counter-ge, length-view, moved_up, somewhere, stored_key}
+use Rattle.hh_counters.proofs.Stepping.{at_least_all, at_least_each, least_counter-le, least_counter-ge}
+use Rattle.hh_counters.proofs.Linked.{Distinct, PositiveAt, counters-view, found, held, length-view, moved_up, somewhere, stored_key}
 
 -- ---- how far the keys stand below their counters
 -- by how many numbers a bucket of the key q lies below the number n

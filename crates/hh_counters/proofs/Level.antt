@@ -172,10 +172,6 @@ total_of-lower-le t (e ∷ c) = by_lower (λ d. total_of d ≤ total_of (e ∷ c
     (λ l. omega (arith, total_of-cons (e.0, e.1 - t) (lower t c), total_of-cons e c, total_of-lower-le t c))
     (λ l. omega (arith, total_of-cons e c, total_of-lower-le t c))
 
-pub lower_is : (t : ℕ) (c : Counters) → lower t c ≡ map (less_by t) (filter (exceeds t) c)
-unfolding lower
-lower_is t c = refl
-
 -- ---- the level where few counters, or one too many, are there
 over-le-length : (c : Counters) (t : ℕ) → over c t ≤ length c
 over-le-length c t = count_by-le-length (exceeds t) c

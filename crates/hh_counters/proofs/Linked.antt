@@ -1,6 +1,6 @@
 -- The index of the monitored keys and their buckets: what each way through an addition leaves of both.
 use Rattle.std.proofs.Common.{◌≡◌, ℕ, ◌+◌, ◌<◌, ◌≤◌, ◌^◌, ◌⊎◌, inl, inr, Bool, true, false, cond, ◌&&◌, List, [], ◌∷◌, ◌++◌, length, get_or, set, Option, Some, None, Less, Equal, Greater, is_eq, is_gt, refl, sym, ap, ap₂, ◌∙◌, subst, true≢false, arith}
-use Rattle.std.specs.Prelude.{fold, min, nat_lt, nat_le, ◌==◌, ◌||◌, unwrap_or, IsSome, IfSome, slice_get, position}
+use Rattle.std.specs.Prelude.{fold, nat_lt, nat_le, ◌==◌, ◌||◌, unwrap_or, IsSome, IfSome, slice_get, position}
 use Rattle.std.specs.List.{AllByRecursion, IsDistinct, swap_remove}
 use Rattle.std.specs.List.Sorted.{IsStrictlySortedBy}
 use Rattle.std.specs.Map.{keys_of, lookup}
@@ -18,7 +18,7 @@ use Rattle.hh_counters.specs.SpaceSaving.{least_of, without, first_with, key_to_
 use Rattle.hh_counters.specs.Buckets.{Buckets, place_in, place_at, AreOrdered, Changes, Moves, HasNone, IsFirst, HasFirst, Agree, IsStanding, Stand, IsLinked, IsTakenIn, IsSettled, HasSettled}
 use Rattle.hh_counters.specs.declared.buckets.Bucket.{Bucket}
 use Rattle.hh_counters.proofs.Weights.{same_exact, same_sym, same_self, flipped, turned, weight_of-cons, weight_of-add_at, weight_of-tally, rising-tally, positive-tally, weight_above, weight_first, above_first, same_counters}
-use Rattle.hh_counters.proofs.Stepping.{least_of_free, least_of_full, at_least_all, least_counter-le, counters-add_at, counters-without, weight_of-without, length-add_at_new, by_key}
+use Rattle.hh_counters.proofs.Stepping.{least_of_free, least_of_full, at_least_all, least_counter-le, least_counter-ge, counters-add_at, counters-without, weight_of-without, length-add_at_new, by_key}
 use Rattle.hh_counters.proofs.Runs.{Positive}
 use Rattle.hh_counters.proofs.Counting.{weight_of-le-total_of}
 use Rattle.hh_counters.proofs.InBuckets.{both_first, first_stays}
@@ -244,17 +244,6 @@ in_a_bucket exact f es b q old h =
   where
     tests : (n : ℕ) → 0 < n → (nat_lt 0 n && (n == n)) ≡ true
     tests n h = grind (arith, nat_tests, h)
-
--- what is not above any counter is not above the least
-pub least_counter-ge : (m : ℕ) (s : Counters) → 0 < length s → AllByRecursion (λ (e : Entry). m ≤ e.1) s
-    → m ≤ least_counter s
-least_counter-ge m [] l a = absurd (omega arith)
-least_counter-ge m (e ∷ s) l a = from e.1 s a.0 a.1
-  where
-    from : (n : ℕ) (s : Counters) → m ≤ n → AllByRecursion (λ (e : Entry). m ≤ e.1) s
-        → m ≤ fold (λ n (d : Entry). min n d.1) n s
-    from n [] h a = h
-    from n (e ∷ s) h a = from (min n e.1) s (omega (arith, h, a.0)) a.1
 
 -- no key with the counter n stands before the one that is to be dropped for it
 first_with_first : (s : Counters) (n : ℕ) (z : Bytes) → 0 < n → IsStrictlySortedBy key_cmp (keys_of s) → weight_of z s ≡ n → is_gt (key_cmp (first_with n s) z) ≡ false × (weight_of (first_with n s) s ≡ n)
@@ -585,8 +574,16 @@ first_is_least k es b n i stand full first =
     let is = drop_is true stand.0 es b n settled.0 i old (omega (arith, full)) settled.1 in
     sym (least_of_full (tally es) k (omega (arith, length-view es old.distinct old.positive, full)) ∙ is.0)
 
-pub least_free : (k : ℕ) (es : List Entry) → Distinct es → PositiveAt es → length es ≤ k → 0 ≡ least_of (tally es) k
-least_free k es d p free = sym (least_of_free (tally es) k (omega (arith, length-view es d p, free)))
+-- as many keys have counters as the index has entries
+pub length-linked : (exact : Bool) (k n : ℕ) (es : List Entry) (b : Buckets) → IsLinked exact k n es b
+    → length es ≡ length (tally es)
+length-linked exact k n es b linked = sym (length-view es linked.stand.1.distinct linked.stand.1.positive)
+
+-- where one is free, the least is 0
+pub least_free : (exact : Bool) (k n : ℕ) (es : List Entry) (b : Buckets) → IsLinked exact k n es b → length es ≤ k
+    → 0 ≡ least_of (tally es) k
+least_free exact k n es b linked free =
+    sym (least_of_free (tally es) k (omega (arith, length-linked exact k n es b linked, free)))
 
 -- no counter is above the total
 pub counter-le-total : (es : List Entry) (x : Bytes) (n : ℕ) → Distinct es → lookup (same_key x) es ≡ Some n

@@ -1,6 +1,6 @@
 -- What a step of Space-Saving does to the weights, the length and the total.
 use Rattle.std.proofs.Common.{◌≡◌, ℕ, ◌+◌, ◌-◌, ◌<◌, ◌≤◌, Bool, true, false, cond, not, [], ◌∷◌, length, Less, Equal, Greater, is_eq, refl, sym, ap, ◌∙◌, subst, arith}
-use Rattle.std.specs.Prelude.{nat_le}
+use Rattle.std.specs.Prelude.{fold, min, nat_le}
 use Rattle.std.specs.List.{AllByRecursion}
 use Rattle.std.specs.List.Sorted.{IsStrictlySortedBy}
 use Rattle.std.specs.Map.{keys_of}
@@ -105,6 +105,17 @@ at_least_each (e ∷ s) m q a l = elim (same_key q e.0) as (λ b. same_key q e.0
 -- a counter is at least the least
 pub least_counter-le : (s : Counters) (q : Bytes) → 0 < weight_of q s → least_counter s ≤ weight_of q s
 least_counter-le s q l = at_least_each s (least_counter s) q (least_counter-all s) l
+
+-- what is not above any counter is not above the least
+pub least_counter-ge : (m : ℕ) (s : Counters) → 0 < length s → AllByRecursion (λ (e : Entry). m ≤ e.1) s
+    → m ≤ least_counter s
+least_counter-ge m [] l a = absurd (omega arith)
+least_counter-ge m (e ∷ s) l a = from e.1 s a.0 a.1
+  where
+    from : (n : ℕ) (s : Counters) → m ≤ n → AllByRecursion (λ (e : Entry). m ≤ e.1) s
+        → m ≤ fold (λ n (d : Entry). min n d.1) n s
+    from n [] h a = h
+    from n (e ∷ s) h a = from (min n e.1) s (omega (arith, h, a.0)) a.1
 
 pub least_of_free : (s : Counters) (k : ℕ) → length s ≤ k → least_of s k ≡ 0
 least_of_free s k h = let yes : nat_le (length s) k ≡ true = grind (arith, nat_tests, h) in ap (λ b. cond b 0 (least_counter s)) yes

@@ -1,43 +1,32 @@
 -- The least counter's place among entries, and its key dropped for a newcomer.
-use Rattle.std.proofs.Common.{◌≡◌, ℕ, zero, suc, ◌+◌, ◌<◌, ◌≤◌, Bool, true, false, cond, not, [], ◌∷◌, length, get_or, Less, Equal, Greater, is_eq, is_lt, refl, sym, ap, ap₂, ◌∙◌, add-one, ◌^◌, arith}
-use Rattle.std.specs.Prelude.{fold, min, remove, ◌==◌}
+use Rattle.std.proofs.Common.{subst, ◌≡◌, ℕ, zero, suc, ◌+◌, ◌<◌, ◌≤◌, Bool, true, false, cond, not, [], ◌∷◌, length, get_or, Less, Equal, Greater, is_eq, is_lt, refl, sym, ap, ap₂, ◌∙◌, add-one, ◌^◌, arith}
+use Rattle.std.specs.Prelude.{remove, ◌==◌}
 use Rattle.std.proofs.lemmas.List.{get_or_default}
+use Rattle.std.proofs.lemmas.List.Elements.{All-from_recursion, recursion_from_All}
+use Rattle.std.specs.List.{AllByRecursion}
 use Rattle.std.specs.List.Sorted.{IsStrictlySortedBy}
 use Rattle.std.specs.Map.{keys_of}
 use Rattle.std.specs.Ordering.{match_ordering}
 use Rattle.std.proofs.lemmas.Bool.Decides.{nat_tests}
 use Rattle.hh_stream.specs.Weights.{Bytes, Entry, key_cmp, same_key, at_key, weight_of}
-use Rattle.hh_counters.specs.Counters.{Counters, IsCounters, Fits, add_at, over, least_counter}
-use Rattle.hh_counters.specs.SpaceSaving.{least_of, translate, without, first_with, key_to_drop, taken_over, IsFirstLeast, step, IsMonitor}
+use Rattle.hh_counters.specs.Counters.{Counters, IsCounters, Fits, add_at, lower, over, least_counter}
+use Rattle.hh_counters.specs.SpaceSaving.{least_of, without, first_with, key_to_drop, taken_over, IsFirstLeast, step, IsMonitor}
 use Rattle.hh_counters.proofs.Weights.{same_exact, same_self, turned, flipped, above_first, weight_of-cons, weight_of-add_at, rising-add_at, same_counters}
-use Rattle.hh_counters.proofs.Level.{min_all, is_level, counters-lower, length-lower, total_of-lower-le}
+use Rattle.hh_counters.proofs.Level.{least_counter-all, is_level, counters-lower, length-lower, total_of-lower-le}
 use Rattle.hh_counters.proofs.Lowering.{level-least}
-use Rattle.hh_counters.proofs.Stepping.{weight_of-without, counters-without, counters-add_at, without_above, length-add_at_new}
+use Rattle.hh_counters.proofs.Stepping.{least_counter-ge, weight_of-without, counters-without, counters-add_at, without_above, length-add_at_new}
 use Rattle.hh_counters.proofs.Places.{above_at, weight_at, positive_at}
 use Rattle.hh_counters.proofs.Runs.{step_kept}
 
 -- ---- the first of the least counters
-min-ge : (m n : ℕ) (s : Counters) → m ≤ n → ((j : ℕ) (d : Entry) → j < length s → m ≤ (get_or s j d).1) → m ≤ fold (λ n (e : Entry). min n e.1) n s
-min-ge m n [] h a = h
-min-ge m n (e ∷ s) h a = min-ge m (min n e.1) s (omega (arith, h, a 0 e (omega arith))) (λ j d l. a (suc j) d (omega arith))
-
-min-le : (s : Counters) (n i : ℕ) (d : Entry) → i < length s → fold (λ n (e : Entry). min n e.1) n s ≤ (get_or s i d).1
-min-le [] n i d l = absurd (omega arith)
-min-le (e ∷ s) n zero d l = omega (arith, (min_all (min n e.1) s).0)
-min-le (e ∷ s) n (suc i) d l = min-le s (min n e.1) i d (omega arith)
-
+-- the number at the place of the least is the least
 pub least_number : (s : Counters) (i : ℕ) (d : Entry) → IsFirstLeast s i → (get_or s i d).1 ≡ least_counter s
-least_number [] i d h = absurd (omega (arith, h.in_range))
-least_number (e ∷ s) i d h =
-    let least : (get_or (e ∷ s) i d).1 ≤ least_counter (e ∷ s) = min-ge (get_or (e ∷ s) i d).1 e.1 s (h.no_less 0 d (omega arith)) (λ j f l. omega (arith, h.no_less (suc j) d (omega arith), same_number s j f d l)) in
-    omega (arith, least, at_most i d h.in_range)
-  where
-    same_number : (s : Counters) (j : ℕ) (f d : Entry) → j < length s → (get_or s j f).1 ≡ (get_or s j d).1
-    same_number s j f d l = ap (λ (e : Entry). e.1) (get_or_default s j f d l)
-
-    at_most : (i : ℕ) (d : Entry) → i < length (e ∷ s) → least_counter (e ∷ s) ≤ (get_or (e ∷ s) i d).1
-    at_most zero d l = (min_all e.1 s).0
-    at_most (suc i) d l = min-le s e.1 i d (omega arith)
+least_number s i d h =
+    let n = (get_or s i d).1 in
+    let each : AllByRecursion (λ (e : Entry). n ≤ e.1) s = recursion_from_All (λ (e : Entry). n ≤ e.1) s
+    (λ j f l. omega (arith, h.no_less j d l, ap (λ (e : Entry). e.1) (get_or_default s j f d l))) in
+    let all = All-from_recursion (λ (e : Entry). least_counter s ≤ e.1) s (least_counter-all s) in
+    omega (arith, least_counter-ge n s (omega (arith, h.in_range)) each, all i d h.in_range)
 
 first_with_at : (s : Counters) (n i : ℕ) (d : Entry) → i < length s → (get_or s i d).1 ≡ n → ((j : ℕ) → j < i → n < (get_or s j d).1) → first_with n s ≡ (get_or s i d).0
 first_with_at [] n i d l is before = absurd (omega arith)
@@ -128,16 +117,18 @@ pub monitor_nothing : (k : ℕ) → 1 ≤ k → k ≤ 65535 → IsMonitor k 0 []
 unfolding IsStrictlySortedBy
 monitor_nothing k a b = record { some = a; bounded_k = b; bounded_total = omega arith; few = omega arith; entries = record { rising = tt; positive = tt }; sum_is = refl }
 
-pub fits_translated : (k n : ℕ) (s : Counters) → IsMonitor k n s → Fits k n (translate s k)
-fits_translated k n s h = record {
+-- a monitor's counters, less the least of them, are a summary's
+pub fits_lowered : (k n t : ℕ) (s items : Counters) → IsMonitor k n s → t ≡ least_of s k → items ≡ lower t s → Fits k n items
+fits_lowered k n t s items h least is = subst (Fits k n) (sym (is ∙ ap (λ m. lower m s) least)) (record {
   some = h.some;
   bounded_k = h.bounded_k;
   bounded_total = h.bounded_total;
   few = omega (arith, length-lower (least_of s k) s, ap (over s) (level-least s k h.few), (is_level s k).at_most);
   entries = counters-lower (least_of s k) s h.entries.rising;
   within = omega (arith, total_of-lower-le (least_of s k) s, h.sum_is);
-}
+})
 
+-- one more item keeps a monitor one
 pub monitor_step : (k n : ℕ) (s : Counters) (e : Entry) → IsMonitor k n s → 0 < e.1 → n + e.1 < 2 ^ 63 → IsMonitor k (n + e.1) (step s e k)
 monitor_step k n s e h p b =
     let kept = step_kept s e k p (record { counters = h.entries; few = h.few }) in

@@ -136,10 +136,7 @@ impl Monitor for GatheredSaving {
     }
 
     fn get(&self, key: &Key) -> u64 {
-        match self.index.get(key) {
-            Some(counter) => *counter,
-            None => 0,
-        }
+        self.index.get(key).copied().unwrap_or(0)
     }
 
     fn add(&mut self, key: &Key, weight: u64) -> Result<(), AddFault>

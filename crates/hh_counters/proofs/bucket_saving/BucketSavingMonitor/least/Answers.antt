@@ -3,9 +3,7 @@ use Rattle.hh_counters.proofs.Linked.{first_is_least, least_free, none_first}
 use Rattle.hh_counters.proofs.bucket_saving.BucketSavingMonitor.least.Goals as goal
 
 pub returns-then-len-self : goal.returns-then-len-self
-returns-then-len-self c =
-    let old = c.self.invariant.stand.1 in
-    rw (← c.self.view_is) (least_free c.self.inside.k c.self.inside.index.entries old.distinct old.positive (omega arith))
+returns-then-len-self c = rw (← c.self.view_is) (least_free _ _ _ _ _ c.self.invariant (omega arith))
 
 pub returns-in-Some : goal.returns-in-Some
 returns-in-Some c =
