@@ -30,14 +30,16 @@ gap_is : (f : Bytes → ℕ) (ks : List Bytes) (b : Buckets) (q : Bytes) (n : �
     → IsSome (position (same_key q) ks) → 0 < f q → f q ≤ n → gap b q n + f q ≡ n
 gap_is f ks b q zero a there some le = absurd (omega (arith, some, le))
 gap_is f ks b q (suc n) a there some le =
-    ap (λ t. cond t 0 (suc (gap b q n)) + f q) (ap is_some (a (suc n) q) ∙ test (nat_lt 0 (suc n) && (f q == suc n)) (position (same_key q) ks) there)
+    ap (λ t. cond t 0 (suc (gap b q n)) + f q) (ap is_some (a (suc n) q)
+    ∙ test (nat_lt 0 (suc n) && (f q == suc n)) (position (same_key q) ks) there)
     ∙ by (nat_lt 0 (suc n) && (f q == suc n)) refl (λ within. gap_is f ks b q n a there some within)
   where
     test : (t : Bool) (o : Option ℕ) → IsSome o → is_some (cond t o None) ≡ t
     test true o there = there
     test false o there = refl
 
-    by : (t : Bool) → (nat_lt 0 (suc n) && (f q == suc n)) ≡ t → (f q ≤ n → gap b q n + f q ≡ n) → cond t 0 (suc (gap b q n)) + f q ≡ suc n
+    by : (t : Bool) → (nat_lt 0 (suc n) && (f q == suc n)) ≡ t → (f q ≤ n → gap b q n + f q ≡ n)
+        → cond t 0 (suc (gap b q n)) + f q ≡ suc n
     by true is rest = omega (arith, here (f q) n is)
     by false is rest = omega (arith, rest (up_to (f q) n is le))
 
@@ -55,10 +57,12 @@ sum_le : (f g : Bytes → ℕ) (ks : List Bytes) → ((q : Bytes) → g q ≤ f 
 sum_le f g [] le = omega arith
 sum_le f g (k ∷ ks) le = omega (arith, le k, sum_le f g ks le, sum_by-cons g k ks, sum_by-cons f k ks)
 
-sum_less : (f g : Bytes → ℕ) (ks : List Bytes) (i : ℕ) (d : Bytes) → ((q : Bytes) → g q ≤ f q) → i < length ks → g (get_or ks i d) < f (get_or ks i d) → sum_by g ks < sum_by f ks
+sum_less : (f g : Bytes → ℕ) (ks : List Bytes) (i : ℕ) (d : Bytes) → ((q : Bytes) → g q ≤ f q) → i < length ks
+    → g (get_or ks i d) < f (get_or ks i d) → sum_by g ks < sum_by f ks
 sum_less f g [] i d le l less = absurd (omega (arith, l))
 sum_less f g (k ∷ ks) zero d le l less = omega (arith, less, sum_le f g ks le, sum_by-cons g k ks, sum_by-cons f k ks)
-sum_less f g (k ∷ ks) (suc i) d le l less = omega (arith, le k, sum_less f g ks i d le (omega (arith, l)) less, sum_by-cons g k ks, sum_by-cons f k ks)
+sum_less f g (k ∷ ks) (suc i) d le l less =
+    omega (arith, le k, sum_less f g ks i d le (omega (arith, l)) less, sum_by-cons g k ks, sum_by-cons f k ks)
 
 -- it falls where a key moves up to the bucket of its counter and the others stay
 lag_falls : (f : Bytes → ℕ) (es : List Entry) (b d : Buckets) (n v : ℕ) (x : Bytes) (i : ℕ) → IsStanding false f es b
@@ -89,7 +93,8 @@ lag_falls f es b d n v x i old new from at counter less =
 -- ---- the first key moved up
 -- what stands at the place of the first key of the first bucket is that key with its counter
 pub settled_key : (es : List Entry) (b : Buckets) (n : ℕ) (x : Bytes) (i : ℕ) (y : Bytes) (v : ℕ) → Stand false es b
-    → IsFirst b n x i → slice_get es i ≡ Some (y, v) → lookup (same_key y) es ≡ Some v → (y ≡ x) × (weight_of x (tally es) ≡ v)
+    → IsFirst b n x i → slice_get es i ≡ Some (y, v) → lookup (same_key y) es ≡ Some v
+    → (y ≡ x) × (weight_of x (tally es) ≡ v)
 settled_key es b n x i y v stand first at value =
     let place = held stand.0 (keys_of es) b n x i stand.1.agree first.there in
     let same : y ≡ x = stored_key es x i y v place.2 at in
@@ -120,7 +125,8 @@ pub record IsLeastOf (es : List Entry) (i n : ℕ) : Type 0 where
   pub reached : 0 < i → (x : Bytes) × (lookup (same_key x) es ≡ Some n)
   pub below : (j : ℕ) (d : Entry) → j < i → n ≤ (get_or es j d).1
 
-pub least_of_all : (es : List Entry) (i n : ℕ) → Distinct es → PositiveAt es → i ≡ length es → IsLeastOf es i n → n ≡ least_counter (tally es)
+pub least_of_all : (es : List Entry) (i n : ℕ) → Distinct es → PositiveAt es → i ≡ length es → IsLeastOf es i n
+    → n ≡ least_counter (tally es)
 unfolding tally
 least_of_all [] i n distinct positive whole h = h.none whole
 least_of_all (e ∷ es) i n distinct positive whole h =
@@ -129,6 +135,9 @@ least_of_all (e ∷ es) i n distinct positive whole h =
     let at = found all r.0 n distinct r.1 in
     let some : 0 < n = subst (λ o. IfSome o (λ m. 0 < m)) r.1 (positive r.0) in
     let counters = counters-view all distinct positive in
-    let each : AllByRecursion (λ (e : Entry). n ≤ e.1) all = recursion_from_All (λ (e : Entry). n ≤ e.1) all (λ j d l. h.below j d (omega (arith, l, whole))) in
-    let above = least_counter-ge n (tally all) (omega (arith, length-view all distinct positive)) (at_least_all (tally all) n counters (λ q p. rw (weight_of-tally q all) (at_least_each all n q each (rw (← weight_of-tally q all) p)))) in
+    let each : AllByRecursion (λ (e : Entry). n ≤ e.1) all =
+    recursion_from_All (λ (e : Entry). n ≤ e.1) all (λ j d l. h.below j d (omega (arith, l, whole))) in
+    let above = least_counter-ge n (tally all) (omega (arith, length-view all distinct positive))
+    (at_least_all (tally all) n counters (λ q p. rw (weight_of-tally q all)
+    (at_least_each all n q each (rw (← weight_of-tally q all) p)))) in
     omega (arith, above, at, some, least_counter-le (tally all) r.0 (omega (arith, at, some)))

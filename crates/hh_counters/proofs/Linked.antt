@@ -33,51 +33,70 @@ Distinct es = IsDistinct same_key (keys_of es)
 abbrev pub PositiveAt : List Entry → Type 0
 PositiveAt es = (q : Bytes) → IfSome (lookup (same_key q) es) (λ m. 0 < m)
 
-pub none_alike : (q x : Bytes) (es : List Entry) → same_key q x ≡ true → AllByRecursion (λ y. same_key x y ≡ false) (keys_of es) → weight_of q es ≡ 0
+pub none_alike : (q x : Bytes) (es : List Entry) → same_key q x ≡ true
+    → AllByRecursion (λ y. same_key x y ≡ false) (keys_of es) → weight_of q es ≡ 0
 none_alike q x [] s h = refl
 none_alike q x (e ∷ es) s h =
     let other : at_key q e ≡ 0 = ap (λ b. cond b e.1 0) (ap (λ z. same_key z e.0) (same_exact q x s) ∙ h.0) in
     omega (arith, weight_of-cons q e es, other, none_alike q x es s h.1)
 
 -- with distinct keys a weight is what a look-up finds
-pub weight_of-lookup : (q : Bytes) (es : List Entry) → Distinct es → weight_of q es ≡ unwrap_or (lookup (same_key q) es) 0
+pub weight_of-lookup : (q : Bytes) (es : List Entry) → Distinct es
+    → weight_of q es ≡ unwrap_or (lookup (same_key q) es) 0
 unfolding IsDistinct
 weight_of-lookup q [] h = refl
-weight_of-lookup q (e ∷ es) h = elim (same_key q e.0) as (λ b. same_key q e.0 ≡ b → weight_of q (e ∷ es) ≡ unwrap_or (cond b (Some e.1) (lookup (same_key q) es)) 0) [
-  | true ↦ λ s. let here : at_key q e ≡ e.1 = ap (λ b. cond b e.1 0) s in omega (arith, weight_of-cons q e es, here, none_alike q e.0 es s h.0)
-  | false ↦ λ s. let other : at_key q e ≡ 0 = ap (λ b. cond b e.1 0) s in omega (arith, weight_of-cons q e es, other, weight_of-lookup q es h.1)
-] refl
+weight_of-lookup q (e ∷ es) h =
+    elim (same_key q e.0) as (λ b. same_key q e.0 ≡ b
+    → weight_of q (e ∷ es) ≡ unwrap_or (cond b (Some e.1) (lookup (same_key q) es)) 0) [
+      | true ↦ λ s. let here : at_key q e ≡ e.1 =
+          ap (λ b. cond b e.1 0) s in omega (arith, weight_of-cons q e es, here, none_alike q e.0 es s h.0)
+      | false ↦ λ s. let other : at_key q e ≡ 0 =
+          ap (λ b. cond b e.1 0) s in omega (arith, weight_of-cons q e es, other, weight_of-lookup q es h.1)
+    ] refl
 
-pub weight_of-view : (q : Bytes) (es : List Entry) → Distinct es → weight_of q (tally es) ≡ unwrap_or (lookup (same_key q) es) 0
+pub weight_of-view : (q : Bytes) (es : List Entry) → Distinct es
+    → weight_of q (tally es) ≡ unwrap_or (lookup (same_key q) es) 0
 weight_of-view q es h = weight_of-tally q es ∙ weight_of-lookup q es h
 
 positive_entries : (es : List Entry) → Distinct es → PositiveAt es → Positive es
 unfolding IsDistinct
 positive_entries [] h p = tt
 positive_entries (e ∷ es) h p =
-    let here : lookup (same_key e.0) (e ∷ es) ≡ Some e.1 = ap (λ b. cond b (Some e.1) (lookup (same_key e.0) es)) (same_self e.0) in (
+    let here : lookup (same_key e.0) (e ∷ es) ≡ Some e.1 =
+    ap (λ b. cond b (Some e.1) (lookup (same_key e.0) es)) (same_self e.0) in (
       subst (λ o. IfSome o (λ m. 0 < m)) here (p e.0),
-      positive_entries es h.1 (λ q. elim (same_key q e.0) as (λ b. same_key q e.0 ≡ b → IfSome (cond b (Some e.1) (lookup (same_key q) es)) (λ m. 0 < m) → IfSome (lookup (same_key q) es) (λ m. 0 < m)) [
-        | true ↦ λ s f. subst (λ o. IfSome o (λ m. 0 < m)) (sym (absent q e.0 es s h.0)) tt
-        | false ↦ λ s f. f
-      ] refl (p q)),
+      positive_entries es h.1 (λ q. elim (same_key q e.0) as (λ b. same_key q e.0 ≡ b
+          → IfSome (cond b (Some e.1) (lookup (same_key q) es)) (λ m. 0 < m)
+          → IfSome (lookup (same_key q) es) (λ m. 0 < m)) [
+            | true ↦ λ s f. subst (λ o. IfSome o (λ m. 0 < m)) (sym (absent q e.0 es s h.0)) tt
+            | false ↦ λ s f. f
+          ] refl (p q)),
     )
   where
-    absent : (q x : Bytes) (es : List Entry) → same_key q x ≡ true → AllByRecursion (λ y. same_key x y ≡ false) (keys_of es) → lookup (same_key q) es ≡ None
+    absent : (q x : Bytes) (es : List Entry) → same_key q x ≡ true
+        → AllByRecursion (λ y. same_key x y ≡ false) (keys_of es) → lookup (same_key q) es ≡ None
     absent q x [] s h = refl
-    absent q x (e ∷ es) s h = ap (λ b. cond b (Some e.1) (lookup (same_key q) es)) (ap (λ z. same_key z e.0) (same_exact q x s) ∙ h.0) ∙ absent q x es s h.1
+    absent q x (e ∷ es) s h = ap (λ b. cond b (Some e.1) (lookup (same_key q) es))
+        (ap (λ z. same_key z e.0) (same_exact q x s) ∙ h.0) ∙ absent q x es s h.1
 
 pub counters-view : (es : List Entry) → Distinct es → PositiveAt es → IsCounters (tally es)
 counters-view es h p = record { rising = rising-tally es; positive = positive-tally es (positive_entries es h p) }
 
 -- the view has as many keys as the index
-length_from : (c : Counters) (es : List Entry) → IsCounters c → Distinct es → Positive es → AllByRecursion (λ (e : Entry). weight_of e.0 c ≡ 0) es → length (fold add_at c es) ≡ length c + length es
+length_from : (c : Counters) (es : List Entry) → IsCounters c → Distinct es → Positive es
+    → AllByRecursion (λ (e : Entry). weight_of e.0 c ≡ 0) es → length (fold add_at c es) ≡ length c + length es
 unfolding IsDistinct
 length_from c [] h d p z = omega arith
 length_from c (e ∷ es) h d p z =
-    omega (arith, length-add_at_new c e h.positive z.0, length_from (add_at c e) es (counters-add_at c e h p.0) d.1 p.1 (still_none es z.1 d.0))
+    omega (
+      arith,
+      length-add_at_new c e h.positive z.0,
+      length_from (add_at c e) es (counters-add_at c e h p.0) d.1 p.1 (still_none es z.1 d.0),
+    )
   where
-    still_none : (fs : List Entry) → AllByRecursion (λ (f : Entry). weight_of f.0 c ≡ 0) fs → AllByRecursion (λ y. same_key e.0 y ≡ false) (keys_of fs) → AllByRecursion (λ (f : Entry). weight_of f.0 (add_at c e) ≡ 0) fs
+    still_none : (fs : List Entry) → AllByRecursion (λ (f : Entry). weight_of f.0 c ≡ 0) fs
+        → AllByRecursion (λ y. same_key e.0 y ≡ false) (keys_of fs)
+        → AllByRecursion (λ (f : Entry). weight_of f.0 (add_at c e) ≡ 0) fs
     still_none [] a b = tt
     still_none (f ∷ fs) a b =
         let other : at_key f.0 e ≡ 0 = ap (λ b. cond b e.1 0) (same_sym f.0 e.0 ∙ b.0) in
@@ -89,10 +108,12 @@ none_yet (e ∷ es) = (refl, none_yet es)
 
 pub length-view : (es : List Entry) → Distinct es → PositiveAt es → length (tally es) ≡ length es
 unfolding tally IsStrictlySortedBy
-length-view es h p = omega (arith, length_from [] es (record { rising = tt; positive = tt }) h (positive_entries es h p) (none_yet es))
+length-view es h p =
+    omega (arith, length_from [] es (record { rising = tt; positive = tt }) h (positive_entries es h p) (none_yet es))
 
 -- ---- what a look-up finds
-pub found : (es : List Entry) (x : Bytes) (n : ℕ) → Distinct es → lookup (same_key x) es ≡ Some n → weight_of x (tally es) ≡ n
+pub found : (es : List Entry) (x : Bytes) (n : ℕ) → Distinct es → lookup (same_key x) es ≡ Some n
+    → weight_of x (tally es) ≡ n
 found es x n d f = weight_of-view x es d ∙ ap (λ o. unwrap_or o 0) f
 
 pub absent : (es : List Entry) (x : Bytes) → Distinct es → lookup (same_key x) es ≡ None → weight_of x (tally es) ≡ 0
@@ -125,7 +146,8 @@ pub view_put : (es fs : List Entry) (x : Bytes) (v w : ℕ) → 0 < w → Distin
 view_put es fs x v w l d p e u is =
     same_counters _ _ (counters-view fs e (positive_set es fs x (Some v) (omega (arith, l, is)) p u))
     (counters-add_at (tally es) (x, w) (counters-view es d p) l)
-    (λ q. weight_set es fs x (Some v) d e u q ∙ grown q (same_key x q) refl ∙ sym (weight_of-add_at q (tally es) (x, w)))
+    (λ q. weight_set es fs x (Some v) d e u q ∙ grown q (same_key x q) refl
+    ∙ sym (weight_of-add_at q (tally es) (x, w)))
   where
     grown : (q : Bytes) (b : Bool) → same_key x q ≡ b
         → cond b v (weight_of q (tally es)) ≡ weight_of q (tally es) + at_key q (x, w)
@@ -156,16 +178,21 @@ agree_changed : (f g : Bytes → ℕ) (p r : Bytes → Option ℕ) (b d : Bucket
 agree_changed f g p r b d x a stays others own c q =
     elim (same_key x q) as (λ v. same_key x q ≡ v → place_at d c q ≡ stood g r c q) [
       | true ↦ λ same. subst (λ z. place_at d c z ≡ stood g r c z) (same_exact x q same) (own c)
-      | false ↦ λ other. stays c q other ∙ a c q ∙ sym (ap₂ (λ n o. cond (nat_lt 0 c && (n == c)) o None) (others q other).0 (others q other).1)
+      | false ↦ λ other. stays c q other ∙ a c q ∙ sym
+          (ap₂ (λ n o. cond (nat_lt 0 c && (n == c)) o None) (others q other).0 (others q other).1)
     ] refl
 
-moved_tests : (n v c : ℕ) (o : Option ℕ) → 0 < n → n < v → cond (is_eq (nat_cmp n c)) None (cond (is_eq (nat_cmp v c)) o (cond (nat_lt 0 c && (n == c)) o None)) ≡ cond (nat_lt 0 c && (v == c)) o None
+moved_tests : (n v c : ℕ) (o : Option ℕ) → 0 < n → n < v
+    → cond (is_eq (nat_cmp n c)) None (cond (is_eq (nat_cmp v c)) o (cond (nat_lt 0 c && (n == c)) o None))
+    ≡ cond (nat_lt 0 c && (v == c)) o None
 moved_tests n v c o p h = grind (arith, nat_tests)
 
-put_tests : (w c : ℕ) (o r : Option ℕ) → 0 < w → cond (is_eq (nat_cmp w c)) o (cond (nat_lt 0 c && (0 == c)) r None) ≡ cond (nat_lt 0 c && (w == c)) o None
+put_tests : (w c : ℕ) (o r : Option ℕ) → 0 < w → cond (is_eq (nat_cmp w c)) o (cond (nat_lt 0 c && (0 == c)) r None)
+    ≡ cond (nat_lt 0 c && (w == c)) o None
 put_tests w c o r h = grind (arith, nat_tests)
 
-taken_tests : (n c : ℕ) (o r : Option ℕ) → cond (is_eq (nat_cmp n c)) None (cond (nat_lt 0 c && (n == c)) o None) ≡ cond (nat_lt 0 c && (0 == c)) r None
+taken_tests : (n c : ℕ) (o r : Option ℕ) → cond (is_eq (nat_cmp n c)) None (cond (nat_lt 0 c && (n == c)) o None)
+    ≡ cond (nat_lt 0 c && (0 == c)) r None
 taken_tests n c o r = grind (arith, nat_tests)
 
 and_true : (b : Bool) → (b && true) ≡ b
@@ -178,7 +205,8 @@ and_false false = refl
 
 -- a key goes from the bucket of n to that of v
 pub agree_moved : (f : Bytes → ℕ) (ks : List Bytes) (b d : Buckets) (x : Bytes) (i n v : ℕ) → 0 < n → n < v → f x ≡ n
-    → position (same_key x) ks ≡ Some i → Agree f ks b → Moves b d n v x i → Agree (λ q. cond (same_key x q) v (f q)) ks d
+    → position (same_key x) ks ≡ Some i → Agree f ks b → Moves b d n v x i
+    → Agree (λ q. cond (same_key x q) v (f q)) ks d
 agree_moved f ks b d x i n v p h at there a m =
     let places : Bytes → Option ℕ = λ q. position (same_key q) ks in
     agree_changed f (λ q. cond (same_key x q) v (f q)) places places b d x a
@@ -187,7 +215,8 @@ agree_moved f ks b d x i n v p h at there a m =
     (λ c. m c x ∙ simp (same_self x, and_true, a c x, at, there) (moved_tests n v c (Some i) p h))
 
 -- a newcomer goes into the bucket of w, with the place i
-agree_put : (f : Bytes → ℕ) (p r : Bytes → Option ℕ) (b d : Buckets) (x : Bytes) (i w : ℕ) → 0 < w → f x ≡ 0 → r x ≡ Some i
+agree_put : (f : Bytes → ℕ) (p r : Bytes → Option ℕ) (b d : Buckets) (x : Bytes) (i w : ℕ) → 0 < w → f x ≡ 0
+    → r x ≡ Some i
     → ((q : Bytes) → same_key x q ≡ false → r q ≡ p q) → ((c : ℕ) (q : Bytes) → place_at b c q ≡ stood f p c q)
     → Changes b d w x (Some i) → (c : ℕ) (q : Bytes) → place_at d c q ≡ stood (λ q. cond (same_key x q) w (f q)) r c q
 agree_put f p r b d x i w h at there stay a m =
@@ -197,9 +226,11 @@ agree_put f p r b d x i w h at there stay a m =
     (λ c. m c x ∙ simp (same_self x, and_true, a c x, at, there) (put_tests w c (Some i) (p x) h))
 
 -- a newcomer goes into the bucket of v with the place of y, which stood in that of n
-agree_replaced : (f : Bytes → ℕ) (ks ls : List Bytes) (b d a : Buckets) (x y : Bytes) (i n v : ℕ) → 0 < v → f x ≡ 0 → f y ≡ n
+agree_replaced : (f : Bytes → ℕ) (ks ls : List Bytes) (b d a : Buckets) (x y : Bytes) (i n v : ℕ) → 0 < v → f x ≡ 0
+    → f y ≡ n
     → same_key x y ≡ false
-    → ((q : Bytes) → same_key y q ≡ false → position (same_key q) ls ≡ cond (same_key x q) (Some i) (position (same_key q) ks))
+    → ((q : Bytes) → same_key y q ≡ false → position (same_key q) ls ≡ cond (same_key x q) (Some i)
+    (position (same_key q) ks))
     → Agree f ks b → Changes b d v x (Some i) → Changes d a n y None
     → Agree (λ q. cond (same_key y q) 0 (cond (same_key x q) v (f q))) ls a
 agree_replaced f ks ls b d a x y i n v h at_x at_y differ places agree put taken =
@@ -246,29 +277,33 @@ in_a_bucket exact f es b q old h =
     tests n h = grind (arith, nat_tests, h)
 
 -- no key with the counter n stands before the one that is to be dropped for it
-first_with_first : (s : Counters) (n : ℕ) (z : Bytes) → 0 < n → IsStrictlySortedBy key_cmp (keys_of s) → weight_of z s ≡ n → is_gt (key_cmp (first_with n s) z) ≡ false × (weight_of (first_with n s) s ≡ n)
+first_with_first : (s : Counters) (n : ℕ) (z : Bytes) → 0 < n → IsStrictlySortedBy key_cmp (keys_of s)
+    → weight_of z s ≡ n → is_gt (key_cmp (first_with n s) z) ≡ false × (weight_of (first_with n s) s ≡ n)
 unfolding IsStrictlySortedBy
 first_with_first [] n z p h at = absurd (omega (arith, at, p))
-first_with_first (e ∷ s) n z p h at = elim (e.1 == n) as (λ b. (e.1 == n) ≡ b → is_gt (key_cmp (cond b e.0 (first_with n s)) z) ≡ false × (weight_of (cond b e.0 (first_with n s)) (e ∷ s) ≡ n)) [
-  | true ↦ λ t. (
-    elim (key_cmp z e.0) as (λ r. key_cmp z e.0 ≡ r → is_gt (key_cmp e.0 z) ≡ false) [
-      | Less ↦ λ q. absurd (omega (arith, at, p, weight_above z (e ∷ s) (q, above_first z e.0 (keys_of s) q h.0)))
-      | Equal ↦ λ q. ap is_gt (flipped z e.0 Equal q)
-      | Greater ↦ λ q. ap is_gt (turned z e.0 q)
-    ] refl,
-    weight_first e s h.0 ∙ grind (arith, nat_tests, t),
-  )
-  | false ↦ λ f.
-      let differs : weight_of z s ≡ n = by_key z e _
-      (λ same here. absurd (let whole : weight_of z (e ∷ s) ≡ e.1 = ap (λ k. weight_of k (e ∷ s)) same ∙ weight_first e s h.0 in grind (arith, nat_tests, f, whole, at)))
-      (λ other here. omega (arith, weight_of-cons z e s, here, at)) in
-      let rest = first_with_first s n z p h.1 differs in (
-        rest.0,
-        by_key (first_with n s) e _
-            (λ same here. absurd (omega (arith, rest.1, p, ap (λ k. weight_of k s) same, weight_above e.0 s h.0)))
-            (λ other here. omega (arith, weight_of-cons (first_with n s) e s, here, rest.1)),
+first_with_first (e ∷ s) n z p h at =
+    elim (e.1 == n) as (λ b. (e.1 == n) ≡ b → is_gt (key_cmp (cond b e.0 (first_with n s)) z) ≡ false
+    × (weight_of (cond b e.0 (first_with n s)) (e ∷ s) ≡ n)) [
+      | true ↦ λ t. (
+        elim (key_cmp z e.0) as (λ r. key_cmp z e.0 ≡ r → is_gt (key_cmp e.0 z) ≡ false) [
+          | Less ↦ λ q. absurd (omega (arith, at, p, weight_above z (e ∷ s) (q, above_first z e.0 (keys_of s) q h.0)))
+          | Equal ↦ λ q. ap is_gt (flipped z e.0 Equal q)
+          | Greater ↦ λ q. ap is_gt (turned z e.0 q)
+        ] refl,
+        weight_first e s h.0 ∙ grind (arith, nat_tests, t),
       )
-] refl
+      | false ↦ λ f.
+          let differs : weight_of z s ≡ n = by_key z e _
+          (λ same here. absurd (let whole : weight_of z (e ∷ s) ≡ e.1 = ap (λ k. weight_of k (e ∷ s)) same
+          ∙ weight_first e s h.0 in grind (arith, nat_tests, f, whole, at)))
+          (λ other here. omega (arith, weight_of-cons z e s, here, at)) in
+          let rest = first_with_first s n z p h.1 differs in (
+            rest.0,
+            by_key (first_with n s) e _
+                (λ same here. absurd (omega (arith, rest.1, p, ap (λ k. weight_of k s) same, weight_above e.0 s h.0)))
+                (λ other here. omega (arith, weight_of-cons (first_with n s) e s, here, rest.1)),
+          )
+    ] refl
 
 -- the first key of the first bucket, where that is the one of its counter, has the least counter and is the key to drop
 pub drop_is : (exact : Bool) (f : Bytes → ℕ) (es : List Entry) (b : Buckets) (n : ℕ) (y : Bytes) (i : ℕ)
@@ -280,7 +315,8 @@ drop_is exact f es b n y i old some settled =
     let counter : weight_of y s ≡ n = settled.counter in
     let c = counters-view es old.distinct old.positive in
     let at = held f (keys_of es) b n y i old.agree front.there in
-    let there : (q : Bytes) → 0 < weight_of q s → IsSome (place_at b (f q) q) = λ q h. in_a_bucket exact f es b q old h in
+    let there : (q : Bytes) → 0 < weight_of q s → IsSome (place_at b (f q) q) =
+    λ q h. in_a_bucket exact f es b q old h in
     let above =
     least_counter-ge n s (omega (arith, length-view es old.distinct old.positive, some))
     (at_least_all s n c (λ q h. omega (arith, front.lowest (f q) q (there q h), (old.below q).0))) in
@@ -299,7 +335,8 @@ none_first exact [] b stand some none = omega (arith, some)
 none_first exact (e ∷ es) b stand some none =
     let all = e ∷ es in
     let old = stand.1 in
-    let has : lookup (same_key e.0) all ≡ Some e.1 = ap (λ v. cond v (Some e.1) (lookup (same_key e.0) es)) (same_self e.0) in
+    let has : lookup (same_key e.0) all ≡ Some e.1 =
+    ap (λ v. cond v (Some e.1) (lookup (same_key e.0) es)) (same_self e.0) in
     let own : 0 < weight_of e.0 (tally all) =
     omega (arith, found all e.0 e.1 old.distinct has, number_positive all e.0 e.1 old.positive has) in
     true≢false (sym (subst IsSome (none (stand.0 e.0) e.0) (in_a_bucket exact stand.0 all b e.0 old own)))
@@ -352,13 +389,17 @@ hit exact k es fs b f x n w p old has distinct u keys =
 -- a key moves up from the bucket of n to that of its counter
 pub moved_up : (exact : Bool) (f : Bytes → ℕ) (es : List Entry) (b d : Buckets) (n v : ℕ) (x : Bytes) (i : ℕ)
     → IsStanding exact f es b → (f x ≡ n) × (0 < n) × (position (same_key x) (keys_of es) ≡ Some i) → n < v
-    → weight_of x (tally es) ≡ v → Moves b d n v x i → AreOrdered d → IsStanding false (λ q. cond (same_key x q) v (f q)) es d
+    → weight_of x (tally es) ≡ v → Moves b d n v x i → AreOrdered d
+    → IsStanding false (λ q. cond (same_key x q) v (f q)) es d
 moved_up exact f es b d n v x i old at less counter moves ordered = record {
   distinct = old.distinct;
   positive = old.positive;
   below = λ q. elim (same_key x q) as (λ t. same_key x q ≡ t
       → (cond t v (f q) ≤ weight_of q (tally es)) × (0 < weight_of q (tally es) → 0 < cond t v (f q))) [
-        | true ↦ λ same. (omega (arith, counter, ap (λ z. weight_of z (tally es)) (same_exact x q same)), λ h. omega (arith, less))
+        | true ↦ λ same. (
+          omega (arith, counter, ap (λ z. weight_of z (tally es)) (same_exact x q same)),
+          λ h. omega (arith, less),
+        )
         | false ↦ λ other. old.below q
       ] refl;
   right = λ never. absurd (true≢false (sym never));
@@ -398,12 +439,14 @@ moved_old k es fs b d x i n w p stand has place distinct u keys moves ordered =
     }
 
 -- what a test gives in place of both keeps their order
-cond_below : (v : Bool) (w m n : ℕ) → (m ≤ n) × (0 < n → 0 < m) → (cond v w m ≤ cond v w n) × (0 < cond v w n → 0 < cond v w m)
+cond_below : (v : Bool) (w m n : ℕ) → (m ≤ n) × (0 < n → 0 < m)
+    → (cond v w m ≤ cond v w n) × (0 < cond v w n → 0 < cond v w m)
 cond_below true w m n h = (omega arith, λ p. p)
 cond_below false w m n h = h
 
 -- a newcomer x, which is a copy of z, with a counter free
-pub entered : (exact : Bool) (k : ℕ) (es fs : List Entry) (b d : Buckets) (x z : Bytes) (w : ℕ) → 0 < w → Stand exact es b
+pub entered : (exact : Bool) (k : ℕ) (es fs : List Entry) (b d : Buckets) (x z : Bytes) (w : ℕ) → 0 < w
+    → Stand exact es b
     → lookup (same_key z) es ≡ None → x ≡ z → length es ≤ k → Distinct fs → Renumbers es fs x (Some w)
     → fs ≡ es ++ (x, w) ∷ [] → Changes b d w x (Some (length es)) → AreOrdered d → IsTakenIn exact k es fs d (z, w)
 entered exact k es fs b d x z w p stand missed copy free distinct u entries put ordered =
@@ -427,7 +470,8 @@ entered exact k es fs b d x z w p stand missed copy free distinct u entries put 
           below = λ q. rw (new q) (cond_below (same_key x q) w (f q) (weight_of q (tally es)) (old.below q));
           right = λ t q. ap (cond (same_key x q) w) (old.right t q) ∙ sym (new q);
           agree = subst (λ (ls : List Bytes). Agree g ls d) (sym keys)
-              (agree_put f (λ q. position (same_key q) ks) (λ q. position (same_key q) (ks ++ x ∷ [])) b d x (length es) w p
+              (agree_put f (λ q. position (same_key q) ks) (λ q. position (same_key q) (ks ++ x ∷ [])) b d x (length es)
+              w p
               (omega (arith, at, (old.below x).0)) (last_place x es none)
               (λ q other. places_before_last (same_key q) ks x (same_sym q x ∙ other)) old.agree put);
           ordered = ordered;
@@ -435,7 +479,8 @@ entered exact k es fs b d x z w p stand missed copy free distinct u entries put 
       );
     })
 
--- what a newcomer x, put last with the number v and then moved to the place i of y, which is taken out, does to an index
+-- what a newcomer x, put last with the number v and then moved to the place i of y, which is taken out, does to an
+-- index
 pub record IsSwapped (es fs gs : List Entry) (x : Bytes) (i v : ℕ) (o : Option Entry) : Type 0 where
   pub distinct_put : Distinct fs
   pub put : Renumbers es fs x (Some v)
@@ -467,7 +512,8 @@ swapped_in es fs gs x y i v o place s =
     )
 
 -- a newcomer that takes over the first of the least counters, and its place
-pub replaced : (exact : Bool) (k : ℕ) (es fs gs : List Entry) (b d a : Buckets) (x y : Bytes) (i n w : ℕ) (o : Option Entry)
+pub replaced : (exact : Bool) (k : ℕ) (es fs gs : List Entry) (b d a : Buckets) (x y : Bytes) (i n w : ℕ)
+    (o : Option Entry)
     → 0 < w → Stand exact es b → lookup (same_key x) es ≡ None → k < length es → IsSettled es b n i y
     → IsSwapped es fs gs x i (n + w) o → Changes b d (n + w) x (Some i) → (IsFirst d n y i → Changes d a n y None)
     → AreOrdered a → IsTakenIn exact k es gs a (x, w)
@@ -485,7 +531,8 @@ replaced exact k es fs gs b d a x y i n w o p stand none full settled s put drop
     let differ = apart (same_key y x) refl (omega (arith, settled.counter, own.1)) at in
     let some : 0 < n + w = omega (arith, p) in
     let positive = positive_set es fs x (Some (n + w)) some old.positive s.put in
-    let new : (q : Bytes) → weight_of q (tally gs) ≡ cond (same_key y q) 0 (cond (same_key x q) (n + w) (weight_of q t)) =
+    let new : (q : Bytes) → weight_of q (tally gs) ≡ cond (same_key y q) 0
+    (cond (same_key x q) (n + w) (weight_of q t)) =
     λ q. weight_set fs gs y None s.distinct_put s.distinct swap.2 q
     ∙ ap (cond (same_key y q) 0) (weight_set es fs x (Some (n + w)) old.distinct s.distinct_put s.put q) in
     let over : tally gs ≡ taken_over t (x, w) =
@@ -514,7 +561,8 @@ replaced exact k es fs gs b d a x y i n w o p stand none full settled s put drop
       );
     }
   where
-    apart : (v : Bool) → same_key y x ≡ v → 0 < weight_of y (tally es) → weight_of x (tally es) ≡ 0 → same_key y x ≡ false
+    apart : (v : Bool) → same_key y x ≡ v → 0 < weight_of y (tally es) → weight_of x (tally es) ≡ 0
+        → same_key y x ≡ false
     apart true q h g = absurd (omega (arith, h, ap (λ k. weight_of k (tally es)) (same_exact y x q), g))
     apart false q h g = q
 
@@ -522,13 +570,15 @@ replaced exact k es fs gs b d a x y i n w o p stand none full settled s put drop
         → same_key y (get_or (keys_of es) i y) ≡ true
         → position (same_key q) (set (keys_of es) i x) ≡ cond v (Some i) (position (same_key q) (keys_of es))
     places q true same other within here =
-        subst (λ z. position (same_key z) (set (keys_of es) i x) ≡ Some i) (same_exact x q same) (same_place x es i none within)
+        subst (λ z. position (same_key z) (set (keys_of es) i x) ≡ Some i) (same_exact x q same)
+        (same_place x es i none within)
     places q false new other within here =
         places_of_others (same_key q) (keys_of es) i x y (same_sym q x ∙ new)
         (ap (same_key q) (sym (same_exact y (get_or (keys_of es) i y) here)) ∙ same_sym q y ∙ other)
 
 -- an item taken in leaves both parts of a monitor
-pub linked_more : (exact : Bool) (k n : ℕ) (es fs : List Entry) (b d : Buckets) (e : Entry) → IsLinked exact k n es b → 0 < e.1
+pub linked_more : (exact : Bool) (k n : ℕ) (es fs : List Entry) (b d : Buckets) (e : Entry) → IsLinked exact k n es b
+    → 0 < e.1
     → n + e.1 < 2 ^ 63 → IsTakenIn exact k es fs d e → IsLinked exact k (n + e.1) fs d
 linked_more exact k n es fs b d e linked p bound taken = record {
   monitor = subst (IsMonitor k (n + e.1)) (sym taken.step_is) (monitor_step k n (tally es) e linked.monitor p bound);
@@ -566,7 +616,8 @@ first_settled es b n i stand first =
     let at = held stand.0 (keys_of es) b n first.0 i stand.1.agree first.1.there in
     (first.0, record { first = first.1; counter = sym (stand.1.right refl first.0) ∙ at.0 })
 
-pub first_is_least : (k : ℕ) (es : List Entry) (b : Buckets) (n i : ℕ) → Stand true es b → k < length es → HasFirst b n i
+pub first_is_least : (k : ℕ) (es : List Entry) (b : Buckets) (n i : ℕ) → Stand true es b → k < length es
+    → HasFirst b n i
     → n ≡ least_of (tally es) k
 first_is_least k es b n i stand full first =
     let old = stand.1 in
@@ -592,14 +643,17 @@ counter-le-total es x n d f = omega (arith, found es x n d f, weight_of-le-total
 
 -- ---- what an index does
 -- the key that a look-up found is the key that was asked for
-pub stored_key : (es : List Entry) (x : Bytes) (i : ℕ) (y : Bytes) (n : ℕ) → position (same_key x) (keys_of es) ≡ Some i → slice_get es i ≡ Some (y, n) → y ≡ x
+pub stored_key : (es : List Entry) (x : Bytes) (i : ℕ) (y : Bytes) (n : ℕ) → position (same_key x) (keys_of es) ≡ Some i
+    → slice_get es i ≡ Some (y, n) → y ≡ x
 stored_key es x i y n at is =
     let p = position-Some (same_key x) (keys_of es) i x at in
     let l : i < length es = slice_get_within es i (y, n) is in
-    let here : get_or (keys_of es) i x ≡ y = get_or-map (λ (e : Entry). e.0) es i (y, n) x l ∙ ap (λ (e : Entry). e.0) (get_or_from_slice_get es i (y, n) (y, n) is) in
+    let here : get_or (keys_of es) i x ≡ y = get_or-map (λ (e : Entry). e.0) es i (y, n) x l
+    ∙ ap (λ (e : Entry). e.0) (get_or_from_slice_get es i (y, n) (y, n) is) in
     sym here ∙ sym (same_exact x (get_or (keys_of es) i x) p.1)
 
 -- an entry that was put last and popped leaves the others
-pub popped : (es all left : List Entry) (e : Entry) (o : Option Entry) → all ≡ es ++ e ∷ [] → all ≡ left ++ option_to_list o → (0 < length all → IsSome o) → left ≡ es
+pub popped : (es all left : List Entry) (e : Entry) (o : Option Entry) → all ≡ es ++ e ∷ []
+    → all ≡ left ++ option_to_list o → (0 < length all → IsSome o) → left ≡ es
 popped es all left e None is pop some = absurd (true≢false (sym (some (omega (arith, ap length is, length_push es e)))))
 popped es all left e (Some f) is pop some = sym (same_from_push es left e f (sym is ∙ pop)).0

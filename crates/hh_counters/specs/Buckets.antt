@@ -42,7 +42,8 @@ HasNoOther s x = (q : Bytes) → same_key x q ≡ false → place_in s q ≡ Non
 
 -- the key x got this place in the bucket of m, or has none, and nothing else changed
 abbrev pub Changes : Buckets → Buckets → ℕ → Bytes → Option ℕ → Type 0
-Changes old new m x i = (n : ℕ) (q : Bytes) → place_at new n q ≡ (if is_eq (nat_cmp m n) && same_key x q then i else place_at old n q)
+Changes old new m x i =
+    (n : ℕ) (q : Bytes) → place_at new n q ≡ (if is_eq (nat_cmp m n) && same_key x q then i else place_at old n q)
 
 -- the key x, whose place is i, went from the bucket of m to that of n
 abbrev pub Moves : Buckets → Buckets → ℕ → ℕ → Bytes → ℕ → Type 0
@@ -76,7 +77,8 @@ RaisesFirst old new v x i = (n : ℕ) → IsFirst old n x i → n < v → Moves 
 
 -- the bucket of n has exactly the keys of which f is n, each with its place among the keys ks
 abbrev pub Agree : (Bytes → ℕ) → List Bytes → Buckets → Type 0
-Agree f ks b = (n : ℕ) (q : Bytes) → place_at b n q ≡ (if nat_lt 0 n && (f q == n) then position (same_key q) ks else None)
+Agree f ks b =
+    (n : ℕ) (q : Bytes) → place_at b n q ≡ (if nat_lt 0 n && (f q == n) then position (same_key q) ks else None)
 
 -- the entries of an index, in any order, and buckets of the same keys: each stands in that of the number f of it,
 -- which is its counter or, unless they stand exactly, a lower one

@@ -5,7 +5,8 @@ use Rattle.hh_counters.proofs.gathered_saving.settle.Goals as goal
 
 pub unreachable-requires : goal.unreachable-requires
 unreachable-requires c =
-    none_first false c.args.index.now.entries c.loop-from.buckets c.loop-from.invariant c.requires.some c.in_default.ensures
+    none_first false c.args.index.now.entries c.loop-from.buckets c.loop-from.invariant c.requires.some
+    c.in_default.ensures
 
 pub returns-then-counter-from-clause-settled : goal.returns-then-counter-from-clause-settled
 returns-then-counter-from-clause-settled c =
@@ -18,13 +19,17 @@ returns-then-counter-from-clause-settled c =
 pub loop-from-smaller : goal.loop-from-smaller
 loop-from-smaller c =
     let at = c.in-Some-get_index in
-    (moved_on c.args.index.now.entries c.loop-from.buckets c.raise_first.new.buckets c.in-Some.from c.in-Some.place at.key.now
-    at.counter.now c.loop-from.invariant c.in-Some.ensures (sym at.ensures.entry) at.ensures.value c.if-counter-from.false
+    (moved_on c.args.index.now.entries c.loop-from.buckets c.raise_first.new.buckets c.in-Some.from c.in-Some.place
+    at.key.now
+    at.counter.now c.loop-from.invariant c.in-Some.ensures (sym at.ensures.entry) at.ensures.value
+    c.if-counter-from.false
     c.in_ok-raise_first.ensures.raised c.raise_first.ensures.ordered).1
 
 pub loop-from-preserved : goal.loop-from-preserved
 loop-from-preserved c =
     let at = c.in-Some-get_index in
-    (moved_on c.args.index.now.entries c.loop-from.buckets c.raise_first.new.buckets c.in-Some.from c.in-Some.place at.key.now
-    at.counter.now c.loop-from.invariant c.in-Some.ensures (sym at.ensures.entry) at.ensures.value c.if-counter-from.false
+    (moved_on c.args.index.now.entries c.loop-from.buckets c.raise_first.new.buckets c.in-Some.from c.in-Some.place
+    at.key.now
+    at.counter.now c.loop-from.invariant c.in-Some.ensures (sym at.ensures.entry) at.ensures.value
+    c.if-counter-from.false
     c.in_ok-raise_first.ensures.raised c.raise_first.ensures.ordered).0

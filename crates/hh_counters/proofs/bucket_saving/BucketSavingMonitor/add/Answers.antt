@@ -4,4 +4,5 @@ use Rattle.hh_counters.proofs.bucket_saving.BucketSavingMonitor.add.Goals as goa
 
 pub invariant_of-self : goal.invariant_of-self
 invariant_of-self c =
-    linked_more _ _ _ _ _ _ _ (c.args.key.now, c.args.weight) c.self.invariant c.requires (omega arith) c.in-Ok.ensures.taken
+    linked_more _ _ _ _ _ _ _ (c.args.key.now, c.args.weight) c.self.invariant c.requires (omega arith)
+    c.in-Ok.ensures.taken

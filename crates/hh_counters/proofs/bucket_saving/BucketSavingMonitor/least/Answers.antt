@@ -10,8 +10,10 @@ returns-in-Some c =
     let inside = c.self.inside in
     let first = c.in-Some.ensures in
     rw (← c.self.view_is)
-    (first_is_least inside.k inside.index.entries inside.buckets c.in-Some.counter _ c.self.invariant.stand (omega arith) first)
+    (first_is_least inside.k inside.index.entries inside.buckets c.in-Some.counter _ c.self.invariant.stand
+    (omega arith) first)
 
 pub returns-in-None : goal.returns-in-None
 returns-in-None c =
-    absurd (none_first true c.self.inside.index.entries c.self.inside.buckets c.self.invariant.stand (omega arith) c.in-None.ensures)
+    absurd (none_first true c.self.inside.index.entries c.self.inside.buckets c.self.invariant.stand (omega arith)
+    c.in-None.ensures)

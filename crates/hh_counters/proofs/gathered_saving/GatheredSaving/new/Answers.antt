@@ -5,7 +5,8 @@ use Rattle.hh_counters.proofs.gathered_saving.GatheredSaving.new.Goals as goal
 
 pub invariant_of-result : goal.invariant_of-result
 invariant_of-result c =
-    rw c.in-Ok.ensures.empty (nothing_linked false c.args.k c.new.result (omega arith) (omega arith) c.new.ensures.empty)
+    rw c.in-Ok.ensures.empty (nothing_linked false c.args.k c.new.result (omega arith) (omega arith)
+    c.new.ensures.empty)
 
 pub returns-in-Ok-clause-empty : goal.returns-in-Ok-clause-empty
 unfolding tally

@@ -6,4 +6,5 @@ use Rattle.hh_counters.proofs.gathered_saving.GatheredSavingMonitor.get.Goals as
 pub returns : goal.returns
 returns c =
     let finds = weight_of-view c.args.key.now c.self.inside.index.entries c.self.invariant.stand.1.distinct in
-    rw (← c.self.view_is) (c.unwrap_or.ensures ∙ ap (λ o. unwrap_or o 0) (c.copied.ensures ∙ c.get.ensures.value) ∙ sym finds)
+    rw (← c.self.view_is) (c.unwrap_or.ensures ∙ ap (λ o. unwrap_or o 0) (c.copied.ensures ∙ c.get.ensures.value)
+    ∙ sym finds)

@@ -9,4 +9,5 @@ returns-then-len-self c = rw (← c.self.view_is) (least_free _ _ _ _ _ c.self.i
 pub returns : goal.returns
 returns c =
     let long = length-linked _ _ _ _ _ c.self.invariant in
-    rw (← c.self.view_is) (c.least_in.ensures ∙ sym (least_of_full _ c.self.inside.k (omega (arith, long, c.len.ensures.len, c.if-len-self.false))))
+    rw (← c.self.view_is) (c.least_in.ensures ∙ sym
+    (least_of_full _ c.self.inside.k (omega (arith, long, c.len.ensures.len, c.if-len-self.false))))
