@@ -85,9 +85,9 @@ impl TakeItems for GatheredSaving {
         Monitor::total(self)
     }
 
-    fn take(&mut self, alloc: Global, key: &[u8], weight: u64) -> Result<(), AllocError> {
+    fn take(&mut self, _alloc: Global, key: &[u8], weight: u64) -> Result<(), AllocError> {
         summaries_follow_items();
-        match self.add(&Key::of_bytes(alloc, key)?, weight) {
+        match self.add_bytes(key, weight) {
             Ok(()) => Ok(()),
             Err(AddFault::TotalTooLarge) => unreachable!(),
             Err(AddFault::Memory) => Err(AllocError),

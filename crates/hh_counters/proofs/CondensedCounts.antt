@@ -20,41 +20,56 @@ use Rattle.hh_counters.proofs.Reports.{In, candidates, zip-weights_at, candidate
 use Rattle.hh_counters.proofs.Condensing.{other_key, weight_of-kept, all-filter, all-both, free_is_first}
 
 -- ---- keys with no counter
-weight_of-dropped : (c : Counters) (x : Bytes) (xs : List Entry) → weight_of x c ≡ 0 → weight_of x (filter (has_counter c) xs) ≡ 0
+weight_of-dropped : (c : Counters) (x : Bytes) (xs : List Entry) → weight_of x c ≡ 0
+    → weight_of x (filter (has_counter c) xs) ≡ 0
 weight_of-dropped c x [] none = refl
-weight_of-dropped c x (e ∷ xs) none = elim (has_counter c e) as (λ b. has_counter c e ≡ b → weight_of x (cond b (e ∷ filter (has_counter c) xs) (filter (has_counter c) xs)) ≡ 0) [
-  | true ↦ λ h. let some : 0 < weight_of e.0 c = grind (arith, nat_tests, h) in omega (arith, weight_of-cons x e (filter (has_counter c) xs), by some (same_key x e.0) refl, weight_of-dropped c x xs none)
-  | false ↦ λ h. weight_of-dropped c x xs none
-] refl
+weight_of-dropped c x (e ∷ xs) none =
+    elim (has_counter c e) as (λ b. has_counter c e ≡ b
+    → weight_of x (cond b (e ∷ filter (has_counter c) xs) (filter (has_counter c) xs)) ≡ 0) [
+      | true ↦ λ h. let some : 0 < weight_of e.0 c = grind (arith, nat_tests, h) in
+          omega (
+            arith,
+            weight_of-cons x e (filter (has_counter c) xs),
+            by some (same_key x e.0) refl,
+            weight_of-dropped c x xs none,
+          )
+      | false ↦ λ h. weight_of-dropped c x xs none
+    ] refl
   where
     by : 0 < weight_of e.0 c → (b : Bool) → same_key x e.0 ≡ b → at_key x e ≡ 0
     by some true s = absurd (omega (arith, some, none, ap (λ y. weight_of y c) (same_exact x e.0 s)))
     by some false s = other_key x e s
 
 -- a count is none of a key with no counter
-weight_of-uncounted : (c : Counters) (x : Bytes) (xs : List Entry) → AllByRecursion (λ (e : Entry). 0 < e.1) c → weight_of x c ≡ 0 → weight_of x (candidates c xs) ≡ 0
+weight_of-uncounted : (c : Counters) (x : Bytes) (xs : List Entry) → AllByRecursion (λ (e : Entry). 0 < e.1) c
+    → weight_of x c ≡ 0 → weight_of x (candidates c xs) ≡ 0
 weight_of-uncounted [] x xs h none = refl
-weight_of-uncounted (e ∷ c) x xs h none = elim (same_key x e.0) as (λ b. same_key x e.0 ≡ b → weight_of x (candidates (e ∷ c) xs) ≡ 0) [
-  | true ↦ λ s. let here : at_key x e ≡ e.1 = ap (λ b. cond b e.1 0) s in absurd (omega (arith, none, weight_of-cons x e c, here, h.0))
-  | false ↦ λ s. omega (
-    arith,
-    none,
-    weight_of-cons x e c,
-    weight_of-cons x (e.0, weight_of e.0 xs) (candidates c xs),
-    other_key x (e.0, weight_of e.0 xs) s,
-    weight_of-uncounted c x xs h.1 (omega (arith, none, weight_of-cons x e c)),
-  )
-] refl
+weight_of-uncounted (e ∷ c) x xs h none =
+    elim (same_key x e.0) as (λ b. same_key x e.0 ≡ b → weight_of x (candidates (e ∷ c) xs) ≡ 0) [
+      | true ↦ λ s. let here : at_key x e ≡ e.1 =
+          ap (λ b. cond b e.1 0) s in absurd (omega (arith, none, weight_of-cons x e c, here, h.0))
+      | false ↦ λ s. omega (
+        arith,
+        none,
+        weight_of-cons x e c,
+        weight_of-cons x (e.0, weight_of e.0 xs) (candidates c xs),
+        other_key x (e.0, weight_of e.0 xs) s,
+        weight_of-uncounted c x xs h.1 (omega (arith, none, weight_of-cons x e c)),
+      )
+    ] refl
 
 -- entries of 0 weigh nothing
 weight_of-positive : (x : Bytes) (es : List Entry) → weight_of x (filter (exceeds 0) es) ≡ weight_of x es
 weight_of-positive x [] = refl
-weight_of-positive x (e ∷ es) = elim (nat_lt 0 e.1) as (λ b. nat_lt 0 e.1 ≡ b → weight_of x (cond b (e ∷ filter (exceeds 0) es) (filter (exceeds 0) es)) ≡ weight_of x (e ∷ es)) [
-  | true ↦ λ h. omega (arith, weight_of-cons x e (filter (exceeds 0) es), weight_of-cons x e es, weight_of-positive x es)
-  | false ↦ λ h.
-      let none : e.1 ≡ 0 = grind (arith, nat_tests, h) in
-      omega (arith, weight_of-cons x e es, nothing (same_key x e.0) e.1 none, weight_of-positive x es)
-] refl
+weight_of-positive x (e ∷ es) =
+    elim (nat_lt 0 e.1) as (λ b. nat_lt 0 e.1 ≡ b → weight_of x
+    (cond b (e ∷ filter (exceeds 0) es) (filter (exceeds 0) es)) ≡ weight_of x (e ∷ es)) [
+      | true ↦ λ h. omega
+          (arith, weight_of-cons x e (filter (exceeds 0) es), weight_of-cons x e es, weight_of-positive x es)
+      | false ↦ λ h.
+          let none : e.1 ≡ 0 = grind (arith, nat_tests, h) in
+          omega (arith, weight_of-cons x e es, nothing (same_key x e.0) e.1 none, weight_of-positive x es)
+    ] refl
   where
     nothing : (b : Bool) (n : ℕ) → n ≡ 0 → cond b n 0 ≡ 0
     nothing true n h = h
@@ -62,20 +77,26 @@ weight_of-positive x (e ∷ es) = elim (nat_lt 0 e.1) as (λ b. nat_lt 0 e.1 ≡
 
 positive_kept : (es : List Entry) → AllByRecursion (λ (e : Entry). 0 < e.1) (filter (exceeds 0) es)
 positive_kept [] = tt
-positive_kept (e ∷ es) = elim (nat_lt 0 e.1) as (λ b. nat_lt 0 e.1 ≡ b → AllByRecursion (λ (e : Entry). 0 < e.1) (cond b (e ∷ filter (exceeds 0) es) (filter (exceeds 0) es))) [
-  | true ↦ λ h. (grind (arith, nat_tests, h), positive_kept es)
-  | false ↦ λ h. positive_kept es
-] refl
+positive_kept (e ∷ es) =
+    elim (nat_lt 0 e.1) as (λ b. nat_lt 0 e.1 ≡ b → AllByRecursion (λ (e : Entry). 0 < e.1)
+    (cond b (e ∷ filter (exceeds 0) es) (filter (exceeds 0) es))) [
+      | true ↦ λ h. (grind (arith, nat_tests, h), positive_kept es)
+      | false ↦ λ h. positive_kept es
+    ] refl
 
 -- ---- the counts
-same_weights : (c : Counters) (xs : List Entry) → IsCounters c → (x : Bytes) → weight_of x (tally (filter (has_counter c) xs)) ≡ weight_of x (filter (exceeds 0) (candidates c xs))
+same_weights : (c : Counters) (xs : List Entry) → IsCounters c → (x : Bytes)
+    → weight_of x (tally (filter (has_counter c) xs)) ≡ weight_of x (filter (exceeds 0) (candidates c xs))
 same_weights c xs h x =
     weight_of-tally x (filter (has_counter c) xs)
-    ∙ (elim (nat_lt 0 (weight_of x c)) as (λ b. nat_lt 0 (weight_of x c) ≡ b → weight_of x (filter (has_counter c) xs) ≡ weight_of x (candidates c xs)) [
+    ∙ (elim (nat_lt 0 (weight_of x c)) as (λ b. nat_lt 0 (weight_of x c) ≡ b
+    → weight_of x (filter (has_counter c) xs) ≡ weight_of x (candidates c xs)) [
       | true ↦ λ t.
           let some : 0 < weight_of x c = grind (arith, nat_tests, t) in
-          let rises : IsStrictlySortedBy key_cmp (keys_of (candidates c xs)) = subst (IsStrictlySortedBy key_cmp) (sym (keys_of-candidates c xs)) h.rising in
-          let there : In (x, weight_of x xs) (candidates c xs) = candidates_in c xs (x, weight_of x c) (in_from_number x c h.rising some) in
+          let rises : IsStrictlySortedBy key_cmp (keys_of (candidates c xs)) =
+          subst (IsStrictlySortedBy key_cmp) (sym (keys_of-candidates c xs)) h.rising in
+          let there : In (x, weight_of x xs) (candidates c xs) =
+          candidates_in c xs (x, weight_of x c) (in_from_number x c h.rising some) in
           weight_of-kept c x xs some ∙ sym (number_from_in (x, weight_of x xs) (candidates c xs) rises there)
       | false ↦ λ t.
           let none : weight_of x c ≡ 0 = grind (arith, nat_tests, t) in
@@ -83,38 +104,52 @@ same_weights c xs h x =
     ] refl)
     ∙ sym (weight_of-positive x (candidates c xs))
 
-kept_is_counted : (c : Counters) (xs : List Entry) → IsCounters c → AllByRecursion (λ (e : Entry). 0 < e.1) xs → tally (filter (has_counter c) xs) ≡ filter (exceeds 0) (candidates c xs)
+kept_is_counted : (c : Counters) (xs : List Entry) → IsCounters c → AllByRecursion (λ (e : Entry). 0 < e.1) xs
+    → tally (filter (has_counter c) xs) ≡ filter (exceeds 0) (candidates c xs)
 kept_is_counted c xs h p =
     same_counters _ _
     (counters-tally (filter (has_counter c) xs) (all-filter (λ (e : Entry). 0 < e.1) (has_counter c) xs p))
-    (record { rising = rising-filter (exceeds 0) (candidates c xs) (subst (IsStrictlySortedBy key_cmp) (sym (keys_of-candidates c xs)) h.rising); positive = positive_kept (candidates c xs) })
+    (record {
+      rising = rising-filter (exceeds 0) (candidates c xs) (subst (IsStrictlySortedBy key_cmp)
+          (sym (keys_of-candidates c xs)) h.rising);
+      positive = positive_kept (candidates c xs);
+    })
     (same_weights c xs h)
 
-pub condensed_counts : (c : Counters) (xs : List Entry) → IsCounters c → All (λ e. 0 < e.1) xs → let counts = filter (exceeds 0) (zip (keys_of c) (weights_at (keys_of c) xs)) in
-    (total_of counts ≤ total_of xs) × (condensed c xs ≡ counts ++ entry_of (free_name c) (total_of xs - total_of counts))
+pub condensed_counts : (c : Counters) (xs : List Entry) → IsCounters c → All (λ e. 0 < e.1) xs → let counts =
+    filter (exceeds 0) (zip (keys_of c) (weights_at (keys_of c) xs)) in
+    (total_of counts ≤ total_of xs) × (condensed c xs ≡ counts ++ entry_of (free_name c)
+    (total_of xs - total_of counts))
 unfolding condensed
 condensed_counts c xs h p =
-    let kept = kept_is_counted c xs h (recursion_from_All (λ (e : Entry). 0 < e.1) xs p) ∙ ap (filter (exceeds 0)) (sym (zip-weights_at c xs)) in
+    let kept = kept_is_counted c xs h (recursion_from_All (λ (e : Entry). 0 < e.1) xs p)
+    ∙ ap (filter (exceeds 0)) (sym (zip-weights_at c xs)) in
     let counts : List Entry = filter (exceeds 0) (zip (keys_of c) (weights_at (keys_of c) xs)) in
     let both = sum_by-filter_both (has_counter c) (lacks_counter c) (λ e. refl) (λ (e : Entry). e.1) xs in
-    let held : total_of (filter (has_counter c) xs) ≡ total_of counts = sym (total_of-tally (filter (has_counter c) xs)) ∙ ap total_of kept in
+    let held : total_of (filter (has_counter c) xs) ≡ total_of counts =
+    sym (total_of-tally (filter (has_counter c) xs)) ∙ ap total_of kept in
     let rest : other_weight c xs ≡ total_of xs - total_of counts = omega (arith, both, held) in
     (omega (arith, both, held), ap₂ (λ (es : List Entry) n. es ++ entry_of (free_name c) n) kept rest)
 
 -- ---- the keys
-all_keys-add_at : (P : Bytes → Type 0) (c : Counters) (e : Entry) → AllByRecursion (λ (d : Entry). P d.0) c → P e.0 → AllByRecursion (λ (d : Entry). P d.0) (add_at c e)
+all_keys-add_at : (P : Bytes → Type 0) (c : Counters) (e : Entry) → AllByRecursion (λ (d : Entry). P d.0) c → P e.0
+    → AllByRecursion (λ (d : Entry). P d.0) (add_at c e)
 all_keys-add_at P [] e h p = (p, tt)
-all_keys-add_at P (d ∷ c) e h p = elim (key_cmp e.0 d.0) as (λ r. AllByRecursion (λ (d : Entry). P d.0) (match_ordering r (e ∷ d ∷ c) ((d.0, d.1 + e.1) ∷ c) (d ∷ add_at c e))) [
-  | Less ↦ (p, h)
-  | Equal ↦ h
-  | Greater ↦ (h.0, all_keys-add_at P c e h.1 p)
-]
+all_keys-add_at P (d ∷ c) e h p =
+    elim (key_cmp e.0 d.0) as (λ r. AllByRecursion (λ (d : Entry). P d.0)
+    (match_ordering r (e ∷ d ∷ c) ((d.0, d.1 + e.1) ∷ c) (d ∷ add_at c e))) [
+      | Less ↦ (p, h)
+      | Equal ↦ h
+      | Greater ↦ (h.0, all_keys-add_at P c e h.1 p)
+    ]
 
-all_keys-from : (P : Bytes → Type 0) (c : Counters) (xs : List Entry) → AllByRecursion (λ (d : Entry). P d.0) c → AllByRecursion (λ (d : Entry). P d.0) xs → AllByRecursion (λ (d : Entry). P d.0) (fold add_at c xs)
+all_keys-from : (P : Bytes → Type 0) (c : Counters) (xs : List Entry) → AllByRecursion (λ (d : Entry). P d.0) c
+    → AllByRecursion (λ (d : Entry). P d.0) xs → AllByRecursion (λ (d : Entry). P d.0) (fold add_at c xs)
 all_keys-from P c [] h p = h
 all_keys-from P c (e ∷ xs) h p = all_keys-from P (add_at c e) xs (all_keys-add_at P c e h p.0) p.1
 
-all_keys-tally : (P : Bytes → Type 0) (xs : List Entry) → AllByRecursion (λ (d : Entry). P d.0) xs → AllByRecursion (λ (d : Entry). P d.0) (tally xs)
+all_keys-tally : (P : Bytes → Type 0) (xs : List Entry) → AllByRecursion (λ (d : Entry). P d.0) xs
+    → AllByRecursion (λ (d : Entry). P d.0) (tally xs)
 unfolding tally
 all_keys-tally P xs p = all_keys-from P [] xs tt p
 
@@ -135,7 +170,19 @@ name_is_key i small =
     record {
       some = omega arith;
       few = omega (arith, digits, size);
-      bytes = each_below (other_name i) (omega arith, (omega arith, (omega arith, (omega arith, (omega arith, (omega arith, below_256 ds (all_below_base_digits_of 10 i (omega arith))))))));
+      bytes = each_below (other_name i) (
+        omega arith,
+        (
+          omega arith,
+          (
+            omega arith,
+            (
+              omega arith,
+              (omega arith, (omega arith, below_256 ds (all_below_base_digits_of 10 i (omega arith)))),
+            ),
+          ),
+        ),
+      );
     }
 
 key-entry_of : (y : Bytes) (n : ℕ) → IsKey y → AllByRecursion (λ (e : Entry). IsKey e.0) (entry_of y n)
@@ -144,7 +191,8 @@ key-entry_of y n key = elim (nat_lt 0 n) as (λ b. AllByRecursion (λ (e : Entry
   | false ↦ tt
 ]
 
-pub keys-condensed : (c : Counters) (xs : List Entry) → length c ≤ max_k → AllByRecursion (λ e. IsKey e.0) xs → AllByRecursion (λ e. IsKey e.0) (condensed c xs)
+pub keys-condensed : (c : Counters) (xs : List Entry) → length c ≤ max_k → AllByRecursion (λ e. IsKey e.0) xs
+    → AllByRecursion (λ e. IsKey e.0) (condensed c xs)
 unfolding condensed
 keys-condensed c xs few keys =
     let g = free_is_first c in

@@ -1,4 +1,5 @@
--- Condensed entries have the total and the weights of the keys with counters, and under a name that is no key of them what is left.
+-- Condensed entries have the total and the weights of the keys with counters, and under a name that is no key of them
+-- what is left.
 use Rattle.std.proofs.Common.{◌≡◌, ℕ, zero, suc, ◌+◌, ◌-◌, ◌*◌, ◌<◌, ◌≤◌, ◌⊎◌, inl, inr, ⊎_elim, Bool, true, false, cond, List, [], ◌∷◌, ◌++◌, length, drop, map, Some, refl, sym, ap, ◌∙◌, subst, true≢false, arith}
 use Rattle.std.specs.Prelude.{filter, nat_lt, All, IsSome, IsPermutation, ◌||◌}
 use Rattle.std.specs.List.{AllByRecursion, IsDistinct, list_any, flat_map}
@@ -28,7 +29,8 @@ unspelled (d ∷ ds) = let first : 48 + d - 48 ≡ d = omega arith in λ i. firs
 same_from_name : (i j : ℕ) → other_name i ≡ other_name j → i ≡ j
 same_from_name i j e =
     let spelled : map (λ d. 48 + d) (digits_of 10 i) ≡ map (λ d. 48 + d) (digits_of 10 j) = ap (drop 6) e in
-    same_from_digits_of 10 i j (omega arith) (sym (unspelled (digits_of 10 i)) ∙ ap (map (λ d. d - 48)) spelled ∙ unspelled (digits_of 10 j))
+    same_from_digits_of 10 i j (omega arith) (sym (unspelled (digits_of 10 i)) ∙ ap (map (λ d. d - 48)) spelled
+    ∙ unspelled (digits_of 10 j))
 
 names_differ : (i j : ℕ) → i < j → same_key (other_name i) (other_name j) ≡ false
 names_differ i j l = by (same_key (other_name i) (other_name j)) refl
@@ -63,19 +65,24 @@ other_key x e h = ap (λ b. cond b e.1 0) h
 
 has_entry : (x : Bytes) (c : Counters) → 0 < weight_of x c → IsSome (lookup (same_key x) c)
 has_entry x [] l = absurd (omega (arith, l))
-has_entry x (e ∷ c) l = elim (same_key x e.0) as (λ b. same_key x e.0 ≡ b → IsSome (cond b (Some e.1) (lookup (same_key x) c))) [
-  | true ↦ λ s. refl
-  | false ↦ λ s. has_entry x c (omega (arith, l, weight_of-cons x e c, other_key x e s))
-] refl
+has_entry x (e ∷ c) l =
+    elim (same_key x e.0) as (λ b. same_key x e.0 ≡ b → IsSome (cond b (Some e.1) (lookup (same_key x) c))) [
+      | true ↦ λ s. refl
+      | false ↦ λ s. has_entry x c (omega (arith, l, weight_of-cons x e c, other_key x e s))
+    ] refl
 
-has_entries : (c : Counters) (ks : List Bytes) → AllByRecursion (λ y. 0 < weight_of y c) ks → (x : Bytes) → list_any (same_key x) ks ≡ true → IsSome (lookup (same_key x) c)
+has_entries : (c : Counters) (ks : List Bytes) → AllByRecursion (λ y. 0 < weight_of y c) ks → (x : Bytes)
+    → list_any (same_key x) ks ≡ true → IsSome (lookup (same_key x) c)
 has_entries c [] h x i = absurd (true≢false (sym i))
-has_entries c (k ∷ ks) h x i = elim (same_key x k) as (λ b. same_key x k ≡ b → b || list_any (same_key x) ks ≡ true → IsSome (lookup (same_key x) c)) [
-  | true ↦ λ s j. has_entry x c (subst (λ y. 0 < weight_of y c) (sym (same_exact x k s)) h.0)
-  | false ↦ λ s j. has_entries c ks h.1 x j
-] refl i
+has_entries c (k ∷ ks) h x i =
+    elim (same_key x k) as (λ b. same_key x k ≡ b → b || list_any (same_key x) ks ≡ true
+    → IsSome (lookup (same_key x) c)) [
+      | true ↦ λ s j. has_entry x c (subst (λ y. 0 < weight_of y c) (sym (same_exact x k s)) h.0)
+      | false ↦ λ s j. has_entries c ks h.1 x j
+    ] refl i
 
-some_names : (c : Counters) (n m : ℕ) → ((j : ℕ) → j < n + m → 0 < weight_of (other_name j) c) → AllByRecursion (λ y. 0 < weight_of y c) (names n m)
+some_names : (c : Counters) (n m : ℕ) → ((j : ℕ) → j < n + m → 0 < weight_of (other_name j) c)
+    → AllByRecursion (λ y. 0 < weight_of y c) (names n m)
 unfolding names
 some_names c n zero h = tt
 some_names c n (suc m) h = (h n (omega arith), some_names c (n + 1) m (λ j l. h j (omega (arith, l))))
@@ -86,7 +93,8 @@ crowded c h =
     omega (
       arith,
       length-names 0 m,
-      length-le_from_keys (eq_by_cmp_equiv key_total) (names 0 m) c (distinct-names 0 m) (has_entries c (names 0 m) (some_names c 0 m (λ j l. h j (omega (arith, l))))),
+      length-le_from_keys (eq_by_cmp_equiv key_total) (names 0 m) c (distinct-names 0 m)
+          (has_entries c (names 0 m) (some_names c 0 m (λ j l. h j (omega (arith, l))))),
     )
 
 -- ---- the first name with no counter
@@ -100,24 +108,42 @@ record Ends (c : Counters) (n m : ℕ) (y : Bytes) : Type 0 where
   pub stops : (weight_of (other_name at) c ≡ 0) ⊎ (at ≡ n + m)
 
 ends : (c : Counters) (n m : ℕ) → Ends c n m (free_from c n m)
-ends c n zero = record { at = n; from = omega arith; most = omega arith; named = refl; before = λ j a b. absurd (omega (arith, a, b)); stops = inr (omega arith) }
-ends c n (suc m) = elim (nat_lt 0 (weight_of (other_name n) c)) as (λ b. nat_lt 0 (weight_of (other_name n) c) ≡ b → Ends c n (suc m) (cond b (free_from c (n + 1) m) (other_name n))) [
-  | true ↦ λ e.
-      let more = ends c (n + 1) m in
-      let here : 0 < weight_of (other_name n) c = grind (arith, nat_tests, e) in
-      record {
-        at = more.at;
-        from = omega (arith, more.from);
-        most = omega (arith, more.most);
-        named = more.named;
-        before = λ j a b. ⊎_elim
-            (λ (l : n < j). more.before j (omega (arith, l)) b)
-            (λ (l : j ≤ n). let same : n ≡ j = omega (arith, a, l) in subst (λ i. 0 < weight_of (other_name i) c) same here)
-            (cases_lt n j);
-        stops = ⊎_elim (λ (z : weight_of (other_name more.at) c ≡ 0). inl z) (λ (z : more.at ≡ n + 1 + m). inr (omega (arith, z))) more.stops;
+ends c n zero = record {
+  at = n;
+  from = omega arith;
+  most = omega arith;
+  named = refl;
+  before = λ j a b. absurd (omega (arith, a, b));
+  stops = inr (omega arith);
+}
+ends c n (suc m) =
+    elim (nat_lt 0 (weight_of (other_name n) c)) as (λ b. nat_lt 0 (weight_of (other_name n) c) ≡ b
+    → Ends c n (suc m) (cond b (free_from c (n + 1) m) (other_name n))) [
+      | true ↦ λ e.
+          let more = ends c (n + 1) m in
+          let here : 0 < weight_of (other_name n) c = grind (arith, nat_tests, e) in
+          record {
+            at = more.at;
+            from = omega (arith, more.from);
+            most = omega (arith, more.most);
+            named = more.named;
+            before = λ j a b. ⊎_elim
+                (λ (l : n < j). more.before j (omega (arith, l)) b)
+                (λ (l : j ≤ n). let same : n ≡ j = omega (arith, a, l) in
+                subst (λ i. 0 < weight_of (other_name i) c) same here)
+                (cases_lt n j);
+            stops = ⊎_elim (λ (z : weight_of (other_name more.at) c ≡ 0). inl z)
+                (λ (z : more.at ≡ n + 1 + m). inr (omega (arith, z))) more.stops;
+          }
+      | false ↦ λ e. record {
+        at = n;
+        from = omega arith;
+        most = omega arith;
+        named = refl;
+        before = λ j a b. absurd (omega (arith, a, b));
+        stops = inl (grind (arith, nat_tests, e));
       }
-  | false ↦ λ e. record { at = n; from = omega arith; most = omega arith; named = refl; before = λ j a b. absurd (omega (arith, a, b)); stops = inl (grind (arith, nat_tests, e)) }
-] refl
+    ] refl
 
 pub free_is_first : (c : Counters) → IsFirstFree c (free_name c)
 unfolding free_name
@@ -125,7 +151,8 @@ free_is_first c =
     let found = ends c 0 (length c) in
     let none : weight_of (other_name found.at) c ≡ 0 = ⊎_elim
     (λ (z : weight_of (other_name found.at) c ≡ 0). z)
-    (λ (z : found.at ≡ 0 + length c). by found.at found.before (omega (arith, z)) (nat_lt 0 (weight_of (other_name found.at) c)) refl)
+    (λ (z : found.at ≡ 0 + length c). by found.at found.before (omega (arith, z))
+    (nat_lt 0 (weight_of (other_name found.at) c)) refl)
     found.stops in
     record {
       number = found.at;
@@ -135,20 +162,24 @@ free_is_first c =
       few = omega (arith, found.most);
     }
   where
-    by : (i : ℕ) → ((j : ℕ) → 0 ≤ j → j < i → 0 < weight_of (other_name j) c) → i ≡ length c → (b : Bool) → nat_lt 0 (weight_of (other_name i) c) ≡ b → weight_of (other_name i) c ≡ 0
+    by : (i : ℕ) → ((j : ℕ) → 0 ≤ j → j < i → 0 < weight_of (other_name j) c) → i ≡ length c → (b : Bool)
+        → nat_lt 0 (weight_of (other_name i) c) ≡ b → weight_of (other_name i) c ≡ 0
     by i before last true e =
         let here : 0 < weight_of (other_name i) c = grind (arith, nat_tests, e) in
         absurd (crowded c (λ j l. ⊎_elim
         (λ (m : j < i). before j (omega arith) m)
-        (λ (m : i ≤ j). let same : i ≡ j = omega (arith, m, l, last) in subst (λ n. 0 < weight_of (other_name n) c) same here)
+        (λ (m : i ≤ j). let same : i ≡ j = omega (arith, m, l, last) in
+        subst (λ n. 0 < weight_of (other_name n) c) same here)
         (cases_lt j i)))
     by i before last false e = grind (arith, nat_tests, e)
 
 pub one_first_free : (c : Counters) (y : Bytes) → IsFirstFree c y → y ≡ free_name c
 one_first_free c y h =
     let g = free_is_first c in
-    let not_before : h.number < g.number → ⊥ = λ l. omega (arith, g.first h.number l, ap (λ z. weight_of z c) h.named, h.free) in
-    let not_after : g.number < h.number → ⊥ = λ l. omega (arith, h.first g.number l, ap (λ z. weight_of z c) g.named, g.free) in
+    let not_before : h.number < g.number → ⊥ =
+    λ l. omega (arith, g.first h.number l, ap (λ z. weight_of z c) h.named, h.free) in
+    let not_after : g.number < h.number → ⊥ =
+    λ l. omega (arith, h.first g.number l, ap (λ z. weight_of z c) g.named, g.free) in
     h.named ∙ ap other_name (same_number h.number g.number not_before not_after) ∙ sym g.named
   where
     same_number : (i j : ℕ) → (i < j → ⊥) → (j < i → ⊥) → i ≡ j
@@ -162,14 +193,18 @@ lacking c x e some none = by (same_key x e.0) refl
     by true s = absurd (omega (arith, some, none, ap (λ y. weight_of y c) (same_exact x e.0 s)))
     by false s = other_key x e s
 
-pub weight_of-kept : (c : Counters) (x : Bytes) (xs : List Entry) → 0 < weight_of x c → weight_of x (filter (has_counter c) xs) ≡ weight_of x xs
+pub weight_of-kept : (c : Counters) (x : Bytes) (xs : List Entry) → 0 < weight_of x c
+    → weight_of x (filter (has_counter c) xs) ≡ weight_of x xs
 weight_of-kept c x [] some = refl
-weight_of-kept c x (e ∷ xs) some = elim (has_counter c e) as (λ b. has_counter c e ≡ b → weight_of x (cond b (e ∷ filter (has_counter c) xs) (filter (has_counter c) xs)) ≡ weight_of x (e ∷ xs)) [
-  | true ↦ λ h. omega (arith, weight_of-cons x e (filter (has_counter c) xs), weight_of-cons x e xs, weight_of-kept c x xs some)
-  | false ↦ λ h.
-      let none : weight_of e.0 c ≡ 0 = grind (arith, nat_tests, h) in
-      omega (arith, weight_of-cons x e xs, lacking c x e some none, weight_of-kept c x xs some)
-] refl
+weight_of-kept c x (e ∷ xs) some =
+    elim (has_counter c e) as (λ b. has_counter c e ≡ b
+    → weight_of x (cond b (e ∷ filter (has_counter c) xs) (filter (has_counter c) xs)) ≡ weight_of x (e ∷ xs)) [
+      | true ↦ λ h. omega
+          (arith, weight_of-cons x e (filter (has_counter c) xs), weight_of-cons x e xs, weight_of-kept c x xs some)
+      | false ↦ λ h.
+          let none : weight_of e.0 c ≡ 0 = grind (arith, nat_tests, h) in
+          omega (arith, weight_of-cons x e xs, lacking c x e some none, weight_of-kept c x xs some)
+    ] refl
 
 total_of-entry_of : (y : Bytes) (n : ℕ) → total_of (entry_of y n) ≡ n
 total_of-entry_of y n = elim (nat_lt 0 n) as (λ b. nat_lt 0 n ≡ b → total_of (cond b ((y, n) ∷ []) []) ≡ n) [
@@ -177,26 +212,30 @@ total_of-entry_of y n = elim (nat_lt 0 n) as (λ b. nat_lt 0 n ≡ b → total_o
   | false ↦ λ h. let none : n ≡ 0 = grind (arith, nat_tests, h) in sym none
 ] refl
 
-weight_of-entry_of : (c : Counters) (x y : Bytes) (n : ℕ) → 0 < weight_of x c → weight_of y c ≡ 0 → weight_of x (entry_of y n) ≡ 0
+weight_of-entry_of : (c : Counters) (x y : Bytes) (n : ℕ) → 0 < weight_of x c → weight_of y c ≡ 0
+    → weight_of x (entry_of y n) ≡ 0
 weight_of-entry_of c x y n some none = elim (nat_lt 0 n) as (λ b. weight_of x (cond b ((y, n) ∷ []) []) ≡ 0) [
   | true ↦ omega (arith, weight_of-cons x (y, n) [], lacking c x (y, n) some none)
   | false ↦ refl
 ]
 
 positive-entry_of : (y : Bytes) (n : ℕ) → AllByRecursion (λ (e : Entry). 0 < e.1) (entry_of y n)
-positive-entry_of y n = elim (nat_lt 0 n) as (λ b. nat_lt 0 n ≡ b → AllByRecursion (λ (e : Entry). 0 < e.1) (cond b ((y, n) ∷ []) [])) [
-  | true ↦ λ h. (grind (arith, nat_tests, h), tt)
-  | false ↦ λ h. tt
-] refl
+positive-entry_of y n =
+    elim (nat_lt 0 n) as (λ b. nat_lt 0 n ≡ b → AllByRecursion (λ (e : Entry). 0 < e.1) (cond b ((y, n) ∷ []) [])) [
+      | true ↦ λ h. (grind (arith, nat_tests, h), tt)
+      | false ↦ λ h. tt
+    ] refl
 
-pub all-filter : (P : Entry → Type 0) (p : Entry → Bool) (xs : List Entry) → AllByRecursion P xs → AllByRecursion P (filter p xs)
+pub all-filter : (P : Entry → Type 0) (p : Entry → Bool) (xs : List Entry) → AllByRecursion P xs
+    → AllByRecursion P (filter p xs)
 all-filter P p [] h = h
 all-filter P p (e ∷ xs) h = elim (p e) as (λ b. AllByRecursion P (cond b (e ∷ filter p xs) (filter p xs))) [
   | true ↦ (h.0, all-filter P p xs h.1)
   | false ↦ all-filter P p xs h.1
 ]
 
-pub all-both : (P : Entry → Type 0) (xs ys : List Entry) → AllByRecursion P xs → AllByRecursion P ys → AllByRecursion P (xs ++ ys)
+pub all-both : (P : Entry → Type 0) (xs ys : List Entry) → AllByRecursion P xs → AllByRecursion P ys
+    → AllByRecursion P (xs ++ ys)
 all-both P [] ys h g = g
 all-both P (e ∷ xs) ys h g = (h.0, all-both P xs ys h.1 g)
 
@@ -210,7 +249,8 @@ total_of-condensed c xs = omega (
   sum_by-filter_both (has_counter c) (lacks_counter c) (λ e. refl) (λ (e : Entry). e.1) xs,
 )
 
-pub weight_of-condensed : (c : Counters) (xs : List Entry) (x : Bytes) → 0 < weight_of x c → weight_of x (condensed c xs) ≡ weight_of x xs
+pub weight_of-condensed : (c : Counters) (xs : List Entry) (x : Bytes) → 0 < weight_of x c
+    → weight_of x (condensed c xs) ≡ weight_of x xs
 unfolding condensed
 weight_of-condensed c xs x some = omega (
   arith,
@@ -229,7 +269,8 @@ positive-condensed c xs h =
     (positive-entry_of (free_name c) (other_weight c xs)))
 
 -- ---- the parts together
-total_of-parts : (c : Counters) (parts : List (List Entry)) → total_of (flat_map (condensed c) parts) ≡ total_of (whole_of parts)
+total_of-parts : (c : Counters) (parts : List (List Entry))
+    → total_of (flat_map (condensed c) parts) ≡ total_of (whole_of parts)
 total_of-parts c [] = refl
 total_of-parts c (xs ∷ parts) = omega (
   arith,
@@ -239,7 +280,8 @@ total_of-parts c (xs ∷ parts) = omega (
   total_of-parts c parts,
 )
 
-weight_of-parts : (c : Counters) (parts : List (List Entry)) (x : Bytes) → 0 < weight_of x c → weight_of x (flat_map (condensed c) parts) ≡ weight_of x (whole_of parts)
+weight_of-parts : (c : Counters) (parts : List (List Entry)) (x : Bytes) → 0 < weight_of x c
+    → weight_of x (flat_map (condensed c) parts) ≡ weight_of x (whole_of parts)
 weight_of-parts c [] x some = refl
 weight_of-parts c (xs ∷ parts) x some = omega (
   arith,
@@ -250,7 +292,8 @@ weight_of-parts c (xs ∷ parts) x some = omega (
 )
 
 -- ---- the report of the keys with counters
-found_within : (c : Counters) (xs ys : List Entry) (p q : ℕ) → total_of xs ≡ total_of ys → ((x : Bytes) → 0 < weight_of x c → weight_of x xs ≡ weight_of x ys)
+found_within : (c : Counters) (xs ys : List Entry) (p q : ℕ) → total_of xs ≡ total_of ys
+    → ((x : Bytes) → 0 < weight_of x c → weight_of x xs ≡ weight_of x ys)
     → (e : Entry) → In e (filter (has_counter c) (heavy xs p q)) → In e (filter (has_counter c) (heavy ys p q))
 found_within c xs ys p q total same e i =
     let f = in_filter (has_counter c) e (heavy xs p q) i in
@@ -259,7 +302,8 @@ found_within c xs ys p q total same e i =
     let more : p * total_of ys < q * e.1 = subst (λ t. p * t < q * e.1) total g.1 in
     filter_in (has_counter c) e (heavy ys p q) (heavy_in ys p q e.0 e.1 (g.0 ∙ same e.0 some) more) f.1
 
-pub found_by_weights : (c : Counters) (xs ys : List Entry) (p q : ℕ) → total_of xs ≡ total_of ys → ((x : Bytes) → 0 < weight_of x c → weight_of x xs ≡ weight_of x ys)
+pub found_by_weights : (c : Counters) (xs ys : List Entry) (p q : ℕ) → total_of xs ≡ total_of ys
+    → ((x : Bytes) → 0 < weight_of x c → weight_of x xs ≡ weight_of x ys)
     → filter (has_counter c) (heavy xs p q) ≡ filter (has_counter c) (heavy ys p q)
 found_by_weights c xs ys p q total same =
     same_ranked _ _
@@ -268,16 +312,21 @@ found_by_weights c xs ys p q total same =
     (found_within c xs ys p q total same)
     (found_within c ys xs p q (sym total) (λ x some. sym (same x some)))
 
-pub condensed_parts : (c : Counters) (parts : List (List Entry)) (ys : List Entry) → IsPermutation (flat_map (condensed c) parts) ys
-    → (total_of ys ≡ total_of (whole_of parts)) × ((p q : ℕ) → filter (has_counter c) (heavy ys p q) ≡ filter (has_counter c) (heavy (whole_of parts) p q))
+pub condensed_parts : (c : Counters) (parts : List (List Entry)) (ys : List Entry)
+    → IsPermutation (flat_map (condensed c) parts) ys
+    → (total_of ys ≡ total_of (whole_of parts)) × ((p q : ℕ)
+    → filter (has_counter c) (heavy ys p q) ≡ filter (has_counter c) (heavy (whole_of parts) p q))
 condensed_parts c parts ys perm =
     let all = flat_map (condensed c) parts in
-    let total : total_of ys ≡ total_of (whole_of parts) = sum_by-IsPermutation (λ (e : Entry). e.1) all ys perm ∙ total_of-parts c parts in (
+    let total : total_of ys ≡ total_of (whole_of parts) =
+    sum_by-IsPermutation (λ (e : Entry). e.1) all ys perm ∙ total_of-parts c parts in (
       total,
-      λ p q. found_by_weights c ys (whole_of parts) p q total (λ x some. sum_by-IsPermutation (at_key x) all ys perm ∙ weight_of-parts c parts x some),
+      λ p q. found_by_weights c ys (whole_of parts) p q total (λ x some. sum_by-IsPermutation (at_key x) all ys perm
+          ∙ weight_of-parts c parts x some),
     )
 
-pub condensed_report : (c : Counters) (parts : List (List Entry)) (xs ys : List Entry) (k p q : ℕ) → IsPermutation (whole_of parts) xs → IsPermutation (flat_map (condensed c) parts) ys
+pub condensed_report : (c : Counters) (parts : List (List Entry)) (xs ys : List Entry) (k p q : ℕ)
+    → IsPermutation (whole_of parts) xs → IsPermutation (flat_map (condensed c) parts) ys
     → IsHonest c (total_of xs) xs k → q ≤ p * (k + 1)
     → filter (has_counter c) (heavy ys p q) ≡ heavy xs p q
 condensed_report c parts xs ys k p q whole perm honest le =
@@ -285,4 +334,5 @@ condensed_report c parts xs ys k p q whole perm honest le =
     ∙ found_by_weights c (whole_of parts) xs p q
     (sym (sum_by-IsPermutation (λ (e : Entry). e.1) (whole_of parts) xs whole))
     (λ x some. sym (sum_by-IsPermutation (at_key x) (whole_of parts) xs whole))
-    ∙ filter_all (has_counter c) (heavy xs p q) (λ e i. grind (arith, nat_tests, heavy_has_counter c xs k p q honest le e (contains_from_in e _ i)))
+    ∙ filter_all (has_counter c) (heavy xs p q) (λ e i. grind
+    (arith, nat_tests, heavy_has_counter c xs k p q honest le e (contains_from_in e _ i)))

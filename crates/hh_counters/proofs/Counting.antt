@@ -23,10 +23,12 @@ pub counted_from_zero : (ks : List Bytes) (xs : List Entry) → counted ks xs (r
 counted_from_zero [] xs = refl
 counted_from_zero (x ∷ ks) xs = ap₂ (λ n (ns : List ℕ). n ∷ ns) (omega arith) (counted_from_zero ks xs)
 
-pub counted-append : (ks : List Bytes) (xs ys : List Entry) (ns : List ℕ) → counted ks (xs ++ ys) ns ≡ counted ks ys (counted ks xs ns)
+pub counted-append : (ks : List Bytes) (xs ys : List Entry) (ns : List ℕ)
+    → counted ks (xs ++ ys) ns ≡ counted ks ys (counted ks xs ns)
 counted-append [] xs ys ns = refl
 counted-append (x ∷ ks) xs ys [] = refl
-counted-append (x ∷ ks) xs ys (n ∷ ns) = ap₂ (λ n (ns : List ℕ). n ∷ ns) (omega (arith, weight_of-append x xs ys)) (counted-append ks xs ys ns)
+counted-append (x ∷ ks) xs ys (n ∷ ns) =
+    ap₂ (λ n (ns : List ℕ). n ∷ ns) (omega (arith, weight_of-append x xs ys)) (counted-append ks xs ys ns)
 
 -- nothing counted changes nothing
 pub counted_none : (ks : List Bytes) (ns : List ℕ) → length ns ≡ length ks → counted ks [] ns ≡ ns
@@ -41,14 +43,22 @@ found_at ks x i e =
     slice_get-get_or ks i x p.0 ∙ ap Some (sym (same_exact x (get_or ks i x) p.1))
 
 -- rising keys have a key at one place
-one_place : (ks : List Bytes) (x : Bytes) (i j : ℕ) → IsStrictlySortedBy key_cmp ks → slice_get ks i ≡ Some x → slice_get ks j ≡ Some x → i < j → ⊥
+one_place : (ks : List Bytes) (x : Bytes) (i j : ℕ) → IsStrictlySortedBy key_cmp ks → slice_get ks i ≡ Some x
+    → slice_get ks j ≡ Some x → i < j → ⊥
 one_place ks x i j h e f l =
-    let less : key_cmp (get_or ks i x) (get_or ks j x) ≡ Less = Less-from_sorted key_cmp ks i j x h l (slice_get_within ks j x f) in
+    let less : key_cmp (get_or ks i x) (get_or ks j x) ≡ Less =
+    Less-from_sorted key_cmp ks i j x h l (slice_get_within ks j x f) in
     cc (less, ap₂ key_cmp (get_or_from_slice_get ks i x x e) (get_or_from_slice_get ks j x x f), key_self x)
 
 -- what a look-up by hash says of rising keys
-pub place_is : (ks : List Bytes) (x : Bytes) (r : Option ℕ) → IsStrictlySortedBy key_cmp ks → r ≡ position (same_key x) ks → is_some r ≡ list_any (same_key x) ks → (i : ℕ) → (r ≡ Some i) ↔ (slice_get ks i ≡ Some x)
-place_is ks x None h e found i = (λ p. absurd (cc p), λ p. absurd (true≢false (sym (list_any-from_Contains (eq_by_cmp_equiv key_total) x ks (i, slice_get_within ks i x p, get_or_from_slice_get ks i x x p)) ∙ sym found)))
+pub place_is : (ks : List Bytes) (x : Bytes) (r : Option ℕ) → IsStrictlySortedBy key_cmp ks
+    → r ≡ position (same_key x) ks → is_some r ≡ list_any (same_key x) ks → (i : ℕ)
+    → (r ≡ Some i) ↔ (slice_get ks i ≡ Some x)
+place_is ks x None h e found i = (
+  λ p. absurd (cc p),
+  λ p. absurd (true≢false (sym (list_any-from_Contains (eq_by_cmp_equiv key_total) x ks
+      (i, slice_get_within ks i x p, get_or_from_slice_get ks i x x p)) ∙ sym found)),
+)
 place_is ks x (Some j) h e found i =
     let at_j = found_at ks x j (sym e) in (
       λ p. found_at ks x i (sym e ∙ p),
@@ -58,8 +68,12 @@ place_is ks x (Some j) h e found i =
     same_number : (i j : ℕ) → (i < j → ⊥) → (j < i → ⊥) → j ≡ i
     same_number i j a b = grind (arith, a, b)
 
-pub place_found : (ks : List Bytes) (x : Bytes) (r : Option ℕ) → r ≡ position (same_key x) ks → is_some r ≡ list_any (same_key x) ks → IsSome r ↔ Contains ks x
-place_found ks x None e found = (λ p. absurd (true≢false (sym p)), λ p. absurd (true≢false (sym (list_any-from_Contains (eq_by_cmp_equiv key_total) x ks p) ∙ sym found)))
+pub place_found : (ks : List Bytes) (x : Bytes) (r : Option ℕ) → r ≡ position (same_key x) ks
+    → is_some r ≡ list_any (same_key x) ks → IsSome r ↔ Contains ks x
+place_found ks x None e found = (
+  λ p. absurd (true≢false (sym p)),
+  λ p. absurd (true≢false (sym (list_any-from_Contains (eq_by_cmp_equiv key_total) x ks p) ∙ sym found)),
+)
 place_found ks x (Some j) e found =
     let at_j = found_at ks x j (sym e) in
     (λ p. (j, slice_get_within ks j x at_j, get_or_from_slice_get ks j x x at_j), λ p. refl)
@@ -72,16 +86,20 @@ unequal : (x : Bytes) (e : Entry) → same_key x e.0 ≡ false → at_key x e �
 unequal x e h = ap (λ b. cond b e.1 0) h
 
 -- an item whose key is none of them
-counted_miss : (ks : List Bytes) (ns : List ℕ) (e : Entry) → length ns ≡ length ks → AllByRecursion (λ y. same_key y e.0 ≡ false) ks → counted ks (e ∷ []) ns ≡ ns
+counted_miss : (ks : List Bytes) (ns : List ℕ) (e : Entry) → length ns ≡ length ks
+    → AllByRecursion (λ y. same_key y e.0 ≡ false) ks → counted ks (e ∷ []) ns ≡ ns
 counted_miss [] ns e l h = refl
 counted_miss (k ∷ ks) [] e l h = refl
-counted_miss (k ∷ ks) (n ∷ ns) e l h = ap₂ (λ n (ns : List ℕ). n ∷ ns) (omega (arith, weight_of-one k e, unequal k e h.0)) (counted_miss ks ns e (omega arith) h.1)
+counted_miss (k ∷ ks) (n ∷ ns) e l h = ap₂ (λ n (ns : List ℕ). n ∷ ns)
+    (omega (arith, weight_of-one k e, unequal k e h.0)) (counted_miss ks ns e (omega arith) h.1)
 
-above_differ : (x : Bytes) (ks : List Bytes) → AllByRecursion (λ y. key_cmp x y ≡ Less) ks → AllByRecursion (λ y. same_key y x ≡ false) ks
+above_differ : (x : Bytes) (ks : List Bytes) → AllByRecursion (λ y. key_cmp x y ≡ Less) ks
+    → AllByRecursion (λ y. same_key y x ≡ false) ks
 above_differ x [] h = tt
 above_differ x (k ∷ ks) h = (ap is_eq (flipped x k Less h.0), above_differ x ks h.1)
 
-none_of_them : (ks : List Bytes) (x : Bytes) → ((i : ℕ) → slice_get ks i ≡ Some x → ⊥) → AllByRecursion (λ y. same_key y x ≡ false) ks
+none_of_them : (ks : List Bytes) (x : Bytes) → ((i : ℕ) → slice_get ks i ≡ Some x → ⊥)
+    → AllByRecursion (λ y. same_key y x ≡ false) ks
 none_of_them [] x h = tt
 none_of_them (k ∷ ks) x h = (by (same_key k x) refl, none_of_them ks x (λ i p. h (suc i) p))
   where
@@ -90,58 +108,73 @@ none_of_them (k ∷ ks) x h = (by (same_key k x) refl, none_of_them ks x (λ i p
     by false e = e
 
 -- an item whose key is the one at this place
-counted_hit : (ks : List Bytes) (ns : List ℕ) (p : ℕ) (e : Entry) → length ns ≡ length ks → IsStrictlySortedBy key_cmp ks → slice_get ks p ≡ Some e.0 → slice_set ns p (get_or ns p 0 + e.1) ≡ counted ks (e ∷ []) ns
+counted_hit : (ks : List Bytes) (ns : List ℕ) (p : ℕ) (e : Entry) → length ns ≡ length ks
+    → IsStrictlySortedBy key_cmp ks → slice_get ks p ≡ Some e.0
+    → slice_set ns p (get_or ns p 0 + e.1) ≡ counted ks (e ∷ []) ns
 unfolding IsStrictlySortedBy
 counted_hit [] ns p e l h at = absurd (omega (arith, slice_get_within [] p e.0 at))
 counted_hit (k ∷ ks) [] p e l h at = absurd (omega (arith, l))
 counted_hit (k ∷ ks) (n ∷ ns) zero e l h at =
     let same : k ≡ e.0 = get_or_from_slice_get (k ∷ ks) 0 e.0 k at in
-    let weight : weight_of k (e ∷ []) ≡ e.1 = weight_of-one k e ∙ ap (λ y. cond (same_key y e.0) e.1 0) same ∙ ap (λ r. cond (is_eq r) e.1 0) (key_self e.0) in
+    let weight : weight_of k (e ∷ []) ≡ e.1 = weight_of-one k e ∙ ap (λ y. cond (same_key y e.0) e.1 0) same
+    ∙ ap (λ r. cond (is_eq r) e.1 0) (key_self e.0) in
     let above = subst (λ y. AllByRecursion (λ z. key_cmp y z ≡ Less) ks) same h.0 in
-    ap₂ (λ n (ns : List ℕ). n ∷ ns) (omega (arith, weight)) (sym (counted_miss ks ns e (omega arith) (above_differ e.0 ks above)))
+    ap₂ (λ n (ns : List ℕ). n ∷ ns) (omega (arith, weight))
+    (sym (counted_miss ks ns e (omega arith) (above_differ e.0 ks above)))
 counted_hit (k ∷ ks) (n ∷ ns) (suc p) e l h at =
     let less : key_cmp k e.0 ≡ Less = below k e.0 ks p h.0 at in
-    ap₂ (λ n (ns : List ℕ). n ∷ ns) (omega (arith, weight_of-one k e, at_other k e Less less refl)) (counted_hit ks ns p e (omega arith) h.1 at)
+    ap₂ (λ n (ns : List ℕ). n ∷ ns) (omega (arith, weight_of-one k e, at_other k e Less less refl))
+    (counted_hit ks ns p e (omega arith) h.1 at)
   where
-    below : (k x : Bytes) (ks : List Bytes) (p : ℕ) → AllByRecursion (λ y. key_cmp k y ≡ Less) ks → slice_get ks p ≡ Some x → key_cmp k x ≡ Less
+    below : (k x : Bytes) (ks : List Bytes) (p : ℕ) → AllByRecursion (λ y. key_cmp k y ≡ Less) ks
+        → slice_get ks p ≡ Some x → key_cmp k x ≡ Less
     below k x [] p h at = absurd (omega (arith, slice_get_within [] p x at))
     below k x (y ∷ ks) zero h at = ap (key_cmp k) (sym (get_or_from_slice_get (y ∷ ks) 0 x y at)) ∙ h.0
     below k x (y ∷ ks) (suc p) h at = below k x ks p h.1 at
 
 -- one turn of the count, at a candidate and elsewhere
-pub count_turn : (ks : List Bytes) (xs : List Entry) (ns now new : List ℕ) (i : ℕ) (e : Entry) → i < length xs → e ≡ get_or xs i e → now ≡ counted ks (take i xs) ns → new ≡ counted ks (e ∷ []) now → new ≡ counted ks (take (i + 1) xs) ns
+pub count_turn : (ks : List Bytes) (xs : List Entry) (ns now new : List ℕ) (i : ℕ) (e : Entry) → i < length xs
+    → e ≡ get_or xs i e → now ≡ counted ks (take i xs) ns → new ≡ counted ks (e ∷ []) now
+    → new ≡ counted ks (take (i + 1) xs) ns
 count_turn ks xs ns now new i e l is before after =
     after ∙ ap (counted ks (e ∷ [])) before ∙ sym (counted-append ks (take i xs) (e ∷ []) ns)
     ∙ ap (λ (ys : List Entry). counted ks ys ns) (ap (λ y. take i xs ++ y ∷ []) is ∙ sym (take_more xs i e l))
 
-pub count_hit : (ks : List Bytes) (now : List ℕ) (p : ℕ) (x : Bytes) (w : ℕ) → IsStrictlySortedBy key_cmp ks → length now ≡ length ks → slice_get ks p ≡ Some x → slice_set now p (get_or now p 0 + w) ≡ counted ks ((x, w) ∷ []) now
+pub count_hit : (ks : List Bytes) (now : List ℕ) (p : ℕ) (x : Bytes) (w : ℕ) → IsStrictlySortedBy key_cmp ks
+    → length now ≡ length ks → slice_get ks p ≡ Some x
+    → slice_set now p (get_or now p 0 + w) ≡ counted ks ((x, w) ∷ []) now
 count_hit ks now p x w h l at = counted_hit ks now p (x, w) l h at
 
-pub count_miss : (ks : List Bytes) (now : List ℕ) (x : Bytes) (w : ℕ) → length now ≡ length ks → ((i : ℕ) → slice_get ks i ≡ Some x → ⊥) → now ≡ counted ks ((x, w) ∷ []) now
+pub count_miss : (ks : List Bytes) (now : List ℕ) (x : Bytes) (w : ℕ) → length now ≡ length ks
+    → ((i : ℕ) → slice_get ks i ≡ Some x → ⊥) → now ≡ counted ks ((x, w) ∷ []) now
 count_miss ks now x w l h = sym (counted_miss ks now (x, w) l (none_of_them ks x h))
 
 -- ---- no number grows too large
 pub weight_of-le-total_of : (x : Bytes) (xs : List Entry) → weight_of x xs ≤ total_of xs
 weight_of-le-total_of x [] = omega arith
-weight_of-le-total_of x (e ∷ xs) = omega (arith, weight_of-cons x e xs, total_of-cons e xs, at_most (same_key x e.0) e.1, weight_of-le-total_of x xs)
+weight_of-le-total_of x (e ∷ xs) =
+    omega (arith, weight_of-cons x e xs, total_of-cons e xs, at_most (same_key x e.0) e.1, weight_of-le-total_of x xs)
   where
     at_most : (b : Bool) (n : ℕ) → cond b n 0 ≤ n
     at_most true n = omega arith
     at_most false n = omega arith
 
-pub counted-le : (ks : List Bytes) (xs : List Entry) (ns : List ℕ) (p : ℕ) → length ns ≡ length ks → get_or (counted ks xs ns) p 0 ≤ get_or ns p 0 + total_of xs
+pub counted-le : (ks : List Bytes) (xs : List Entry) (ns : List ℕ) (p : ℕ) → length ns ≡ length ks
+    → get_or (counted ks xs ns) p 0 ≤ get_or ns p 0 + total_of xs
 counted-le [] xs ns p l = omega arith
 counted-le (k ∷ ks) xs [] p l = absurd (omega (arith, l))
 counted-le (k ∷ ks) xs (n ∷ ns) zero l = omega (arith, weight_of-le-total_of k xs)
 counted-le (k ∷ ks) xs (n ∷ ns) (suc p) l = counted-le ks xs ns p (omega arith)
 
-length-counted : (ks : List Bytes) (xs : List Entry) (ns : List ℕ) → length ns ≡ length ks → length (counted ks xs ns) ≡ length ks
+length-counted : (ks : List Bytes) (xs : List Entry) (ns : List ℕ) → length ns ≡ length ks
+    → length (counted ks xs ns) ≡ length ks
 length-counted [] xs ns l = l
 length-counted (k ∷ ks) xs [] l = l
 length-counted (k ∷ ks) xs (n ∷ ns) l = ap suc (length-counted ks xs ns (omega (arith, l)))
 
 -- numbers that are at most m are at most m and the total of what is counted
-pub counts_stay_within : (ks : List Bytes) (xs : List Entry) (ns : List ℕ) (m : ℕ) → length ns ≡ length ks → All (λ n. n ≤ m) ns → (length (counted ks xs ns) ≡ length ks) × All (λ n. n ≤ m + total_of xs) (counted ks xs ns)
+pub counts_stay_within : (ks : List Bytes) (xs : List Entry) (ns : List ℕ) (m : ℕ) → length ns ≡ length ks
+    → All (λ n. n ≤ m) ns → (length (counted ks xs ns) ≡ length ks) × All (λ n. n ≤ m + total_of xs) (counted ks xs ns)
 counts_stay_within ks xs ns m l h = (length-counted ks xs ns l, bound)
   where
     bound : All (λ n. n ≤ m + total_of xs) (counted ks xs ns)
@@ -150,24 +183,29 @@ counts_stay_within ks xs ns m l h = (length-counted ks xs ns l, bound)
         omega (arith, get_or_default (counted ks xs ns) i d 0 lt, counted-le ks xs ns i l, within)
 
 -- ---- the keys of a summary
-pub insert_next : (ks : List Bytes) (i : ℕ) (x : Bytes) → IsStrictlySortedBy key_cmp ks → i < length ks → x ≡ get_or ks i x → insert_key same_key (take i ks) x ≡ take (i + 1) ks
+pub insert_next : (ks : List Bytes) (i : ℕ) (x : Bytes) → IsStrictlySortedBy key_cmp ks → i < length ks
+    → x ≡ get_or ks i x → insert_key same_key (take i ks) x ≡ take (i + 1) ks
 insert_next ks i x h l is =
-    let none : list_any (same_key x) (take i ks) ≡ false = list_any_none (same_key x) (take i ks) (λ j d m. differ j d m) in
-    ap (λ b. cond b (take i ks) (take i ks ++ x ∷ [])) none ∙ ap (λ y. take i ks ++ y ∷ []) is ∙ sym (take_more ks i x l)
+    let none : list_any (same_key x) (take i ks) ≡ false =
+    list_any_none (same_key x) (take i ks) (λ j d m. differ j d m) in
+    ap (λ b. cond b (take i ks) (take i ks ++ x ∷ [])) none ∙ ap (λ y. take i ks ++ y ∷ []) is
+    ∙ sym (take_more ks i x l)
   where
     differ : (j : ℕ) (d : Bytes) → j < length (take i ks) → same_key x (get_or (take i ks) j d) ≡ false
     differ j d m =
         let below : j < i = omega (arith, m, length-take i ks) in
         let less : key_cmp (get_or ks j d) (get_or ks i d) ≡ Less = Less-from_sorted key_cmp ks j i d h below l in
         let here : get_or ks i d ≡ x = get_or_default ks i d x l ∙ sym is in
-        ap (same_key x) (get_or-take i ks j d below) ∙ ap is_eq (flipped (get_or ks j d) x Less (ap (key_cmp (get_or ks j d)) (sym here) ∙ less))
+        ap (same_key x) (get_or-take i ks j d below) ∙ ap is_eq
+        (flipped (get_or ks j d) x Less (ap (key_cmp (get_or ks j d)) (sym here) ∙ less))
 
 none_apart : (a b : Bool) → (a || b) ≡ false → (a ≡ false) × (b ≡ false)
 none_apart true b h = absurd (true≢false h)
 none_apart false b h = (refl, h)
 
 -- a key that is no key of counters is none of those that pass a test
-absent-filter : (may : Entry → Bool) (x : Bytes) (c : Counters) → list_any (same_key x) (keys_of c) ≡ false → list_any (same_key x) (keys_of (filter may c)) ≡ false
+absent-filter : (may : Entry → Bool) (x : Bytes) (c : Counters) → list_any (same_key x) (keys_of c) ≡ false
+    → list_any (same_key x) (keys_of (filter may c)) ≡ false
 absent-filter may x [] h = h
 absent-filter may x (e ∷ c) h =
     let apart = none_apart (same_key x e.0) (list_any (same_key x) (keys_of c)) h in
@@ -177,29 +215,44 @@ absent-filter may x (e ∷ c) h =
     ]
 
 -- a key of rising counters is none of those before it
-absent_before : (c : Counters) (i : ℕ) (e : Entry) → IsStrictlySortedBy key_cmp (keys_of c) → i < length c → get_or c i e ≡ e → list_any (same_key e.0) (keys_of (take i c)) ≡ false
+absent_before : (c : Counters) (i : ℕ) (e : Entry) → IsStrictlySortedBy key_cmp (keys_of c) → i < length c
+    → get_or c i e ≡ e → list_any (same_key e.0) (keys_of (take i c)) ≡ false
 absent_before c i e rising l at = list_any_none (same_key e.0) (keys_of (take i c)) (λ j d m. differ j d m)
   where
-    differ : (j : ℕ) (d : Bytes) → j < length (keys_of (take i c)) → same_key e.0 (get_or (keys_of (take i c)) j d) ≡ false
+    differ : (j : ℕ) (d : Bytes) → j < length (keys_of (take i c))
+        → same_key e.0 (get_or (keys_of (take i c)) j d) ≡ false
     differ j d m =
         let below : j < i = omega (arith, m, length-keys_of (take i c), length-take i c) in
         let long : j < length (take i c) = omega (arith, m, length-keys_of (take i c)) in
-        let there : get_or (keys_of (take i c)) j d ≡ get_or (keys_of c) j d = get_or-map (λ (f : Entry). f.0) (take i c) j e d long ∙ ap (λ (f : Entry). f.0) (get_or-take i c j e below) ∙ sym (get_or-map (λ (f : Entry). f.0) c j e d (omega arith)) in
-        let here : get_or (keys_of c) i d ≡ e.0 = get_or-map (λ (f : Entry). f.0) c i e d l ∙ ap (λ (f : Entry). f.0) at in
-        let less : key_cmp (get_or (keys_of c) j d) (get_or (keys_of c) i d) ≡ Less = Less-from_sorted key_cmp (keys_of c) j i d rising below (omega (arith, l, length-keys_of c)) in
-        ap (same_key e.0) there ∙ ap is_eq (flipped (get_or (keys_of c) j d) e.0 Less (ap (key_cmp (get_or (keys_of c) j d)) (sym here) ∙ less))
+        let there : get_or (keys_of (take i c)) j d ≡ get_or (keys_of c) j d = get_or-map (λ (f : Entry). f.0)
+        (take i c) j e d long ∙ ap (λ (f : Entry). f.0) (get_or-take i c j e below)
+        ∙ sym (get_or-map (λ (f : Entry). f.0) c j e d (omega arith)) in
+        let here : get_or (keys_of c) i d ≡ e.0 =
+        get_or-map (λ (f : Entry). f.0) c i e d l ∙ ap (λ (f : Entry). f.0) at in
+        let less : key_cmp (get_or (keys_of c) j d) (get_or (keys_of c) i d) ≡ Less =
+        Less-from_sorted key_cmp (keys_of c) j i d rising below (omega (arith, l, length-keys_of c)) in
+        ap (same_key e.0) there ∙ ap is_eq (flipped (get_or (keys_of c) j d) e.0 Less
+        (ap (key_cmp (get_or (keys_of c) j d)) (sym here) ∙ less))
 
 -- a key of rising counters that passes a test comes behind those before it that pass
-pub insert_passing : (may : Entry → Bool) (c : Counters) (i : ℕ) (e : Entry) → IsStrictlySortedBy key_cmp (keys_of c) → i < length c → get_or c i e ≡ e → may e ≡ true
+pub insert_passing : (may : Entry → Bool) (c : Counters) (i : ℕ) (e : Entry) → IsStrictlySortedBy key_cmp (keys_of c)
+    → i < length c → get_or c i e ≡ e → may e ≡ true
     → insert_key same_key (keys_of (filter may (take i c))) e.0 ≡ keys_of (filter may (take (i + 1) c))
 insert_passing may c i e rising l at pass =
     let before = keys_of (filter may (take i c)) in
-    let more : filter may (take (i + 1) c) ≡ filter may (take i c) ++ e ∷ [] = filter_more may c i e l ∙ ap (λ (d : Entry). filter may (take i c) ++ cond (may d) (d ∷ []) []) at ∙ ap (λ b. filter may (take i c) ++ cond b (e ∷ []) []) pass in
-    let none : list_any (same_key e.0) before ≡ false = absent-filter may e.0 (take i c) (absent_before c i e rising l at) in
-    ap (λ b. cond b before (before ++ e.0 ∷ [])) none ∙ sym (ap keys_of more ∙ map-append (λ (d : Entry). d.0) (filter may (take i c)) (e ∷ []))
+    let more : filter may (take (i + 1) c) ≡ filter may (take i c) ++ e ∷ [] = filter_more may c i e l
+    ∙ ap (λ (d : Entry). filter may (take i c) ++ cond (may d) (d ∷ []) []) at
+    ∙ ap (λ b. filter may (take i c) ++ cond b (e ∷ []) []) pass in
+    let none : list_any (same_key e.0) before ≡ false =
+    absent-filter may e.0 (take i c) (absent_before c i e rising l at) in
+    ap (λ b. cond b before (before ++ e.0 ∷ [])) none
+    ∙ sym (ap keys_of more ∙ map-append (λ (d : Entry). d.0) (filter may (take i c)) (e ∷ []))
 
 -- one that does not pass changes nothing
-pub passing_stays : (may : Entry → Bool) (c : Counters) (i : ℕ) (e : Entry) → i < length c → get_or c i e ≡ e → may e ≡ false → keys_of (filter may (take i c)) ≡ keys_of (filter may (take (i + 1) c))
+pub passing_stays : (may : Entry → Bool) (c : Counters) (i : ℕ) (e : Entry) → i < length c → get_or c i e ≡ e
+    → may e ≡ false → keys_of (filter may (take i c)) ≡ keys_of (filter may (take (i + 1) c))
 passing_stays may c i e l at pass =
-    let more : filter may (take (i + 1) c) ≡ filter may (take i c) = filter_more may c i e l ∙ ap (λ (d : Entry). filter may (take i c) ++ cond (may d) (d ∷ []) []) at ∙ ap (λ b. filter may (take i c) ++ cond b (e ∷ []) []) pass ∙ append-nil (filter may (take i c)) in
+    let more : filter may (take (i + 1) c) ≡ filter may (take i c) = filter_more may c i e l
+    ∙ ap (λ (d : Entry). filter may (take i c) ++ cond (may d) (d ∷ []) []) at
+    ∙ ap (λ b. filter may (take i c) ++ cond b (e ∷ []) []) pass ∙ append-nil (filter may (take i c)) in
     ap keys_of (sym more)

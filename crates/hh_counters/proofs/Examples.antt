@@ -112,7 +112,8 @@ name_10 : other_name 10 ≡ codes "others10"
 name_10 = refl
 
 -- b and d have no counter
-condensed_records : condensed ((a, 4) ∷ (c, 1) ∷ []) ((d, 7) ∷ four_records) ≡ (a, 6) ∷ (c, 2) ∷ (codes "others", 10) ∷ []
+condensed_records : condensed ((a, 4) ∷ (c, 1) ∷ []) ((d, 7) ∷ four_records)
+    ≡ (a, 6) ∷ (c, 2) ∷ (codes "others", 10) ∷ []
 unfolding condensed tally free_name
 condensed_records = refl
 
@@ -122,6 +123,7 @@ unfolding condensed tally free_name
 condensed_few = refl
 
 -- both names are keys
-condensed_taken : condensed ((codes "others", 4) ∷ (codes "others1", 1) ∷ []) ((codes "others2", 2) ∷ (codes "others", 5) ∷ []) ≡ (codes "others", 5) ∷ (codes "others2", 2) ∷ []
+condensed_taken : condensed ((codes "others", 4) ∷ (codes "others1", 1) ∷ [])
+    ((codes "others2", 2) ∷ (codes "others", 5) ∷ []) ≡ (codes "others", 5) ∷ (codes "others2", 2) ∷ []
 unfolding condensed tally free_name
 condensed_taken = refl

@@ -25,17 +25,19 @@ least_passing-le p d (n ∷ ns) = elim (p n) as (λ b. cond b (min n (least_pass
 ]
 
 pub min_is : (m n : ℕ) → (min m n ≡ m) ⊎ (min m n ≡ n)
-min_is m n = ⊎_elim (λ (h : (leb m n ≡ true) × (m ≤ n)). inl (omega arith)) (λ (h : (leb m n ≡ false) × (n < m)). inr (omega arith)) (leb_tells m n)
+min_is m n = ⊎_elim (λ (h : (leb m n ≡ true) × (m ≤ n)). inl (omega arith))
+    (λ (h : (leb m n ≡ false) × (n < m)). inr (omega arith)) (leb_tells m n)
 
 least_passing_passes : (p : ℕ → Bool) (d : ℕ) (ns : List ℕ) → p d ≡ true → p (least_passing p d ns) ≡ true
 least_passing_passes p d [] h = h
-least_passing_passes p d (n ∷ ns) h = elim (p n) as (λ b. p n ≡ b → p (cond b (min n (least_passing p d ns)) (least_passing p d ns)) ≡ true) [
-  | true ↦ λ e. ⊎_elim
-      (λ (m : min n (least_passing p d ns) ≡ n). ap p m ∙ e)
-      (λ (m : min n (least_passing p d ns) ≡ least_passing p d ns). ap p m ∙ least_passing_passes p d ns h)
-      (min_is n (least_passing p d ns))
-  | false ↦ λ e. least_passing_passes p d ns h
-] refl
+least_passing_passes p d (n ∷ ns) h =
+    elim (p n) as (λ b. p n ≡ b → p (cond b (min n (least_passing p d ns)) (least_passing p d ns)) ≡ true) [
+      | true ↦ λ e. ⊎_elim
+          (λ (m : min n (least_passing p d ns) ≡ n). ap p m ∙ e)
+          (λ (m : min n (least_passing p d ns) ≡ least_passing p d ns). ap p m ∙ least_passing_passes p d ns h)
+          (min_is n (least_passing p d ns))
+      | false ↦ λ e. least_passing_passes p d ns h
+    ] refl
 
 -- the largest of 0 and those of ns that are at most s
 floor : ℕ → List ℕ → ℕ
@@ -53,7 +55,8 @@ unfolding floor
 over-floor s [] n h l = refl
 over-floor s (e ∷ c) n h l = grind (arith, nat_tests, over-cons e c n, over-cons e c s, over-floor s c n)
 
-least_passing-le-floor : (p : ℕ → Bool) (d s : ℕ) (ns : List ℕ) → p (floor s ns) ≡ true → (least_passing p d ns ≤ floor s ns) ⊎ (floor s ns ≡ 0)
+least_passing-le-floor : (p : ℕ → Bool) (d s : ℕ) (ns : List ℕ) → p (floor s ns) ≡ true
+    → (least_passing p d ns ≤ floor s ns) ⊎ (floor s ns ≡ 0)
 unfolding floor
 least_passing-le-floor p d s [] h = inr refl
 least_passing-le-floor p d s (n ∷ ns) h = grind (arith, nat_tests, least_passing-le-floor p d s ns)
@@ -77,7 +80,8 @@ is_level c k =
           let passes_at : p (floor s vs) ≡ true = grind (arith, nat_tests, same, h) in
           ⊎_elim
           (λ (l : least_passing p (total_of c) vs ≤ floor s vs). grind (arith, nat_tests, l, floor-le s vs))
-          (λ (l : floor s vs ≡ 0). let zero_passes : p 0 ≡ true = sym (ap p l) ∙ passes_at in grind (arith, nat_tests, zero_passes))
+          (λ (l : floor s vs ≡ 0). let zero_passes : p 0 ≡ true = sym (ap p l) ∙ passes_at in
+          grind (arith, nat_tests, zero_passes))
           (least_passing-le-floor p (total_of c) s vs passes_at);
     }
 
@@ -94,46 +98,82 @@ unfolding lower
 length-lower t [] = refl
 length-lower t (e ∷ c) = grind (arith, nat_tests, over-cons e c t, length-lower t c)
 
-pub lower-cons : (t : ℕ) (e : Entry) (c : Counters) → lower t (e ∷ c) ≡ cond (nat_lt t e.1) ((e.0, e.1 - t) ∷ lower t c) (lower t c)
+pub lower-cons : (t : ℕ) (e : Entry) (c : Counters)
+    → lower t (e ∷ c) ≡ cond (nat_lt t e.1) ((e.0, e.1 - t) ∷ lower t c) (lower t c)
 unfolding lower
-lower-cons t e c = elim (nat_lt t e.1) as (λ b. map (less_by t) (cond b (e ∷ filter (exceeds t) c) (filter (exceeds t) c)) ≡ cond b ((e.0, e.1 - t) ∷ lower t c) (lower t c)) [
-  | true ↦ refl
-  | false ↦ refl
-]
+lower-cons t e c =
+    elim (nat_lt t e.1) as (λ b. map (less_by t) (cond b (e ∷ filter (exceeds t) c) (filter (exceeds t) c))
+    ≡ cond b ((e.0, e.1 - t) ∷ lower t c) (lower t c)) [
+      | true ↦ refl
+      | false ↦ refl
+    ]
 
 -- a claim on what is left of e and c, where e exceeds t and where it does not
-pub by_lower : (P : Counters → Type 0) (t : ℕ) (e : Entry) (c : Counters) → (t < e.1 → P ((e.0, e.1 - t) ∷ lower t c)) → (e.1 ≤ t → P (lower t c)) → P (lower t (e ∷ c))
-by_lower P t e c more less = rw (lower-cons t e c) (elim (nat_lt t e.1) as (λ b. nat_lt t e.1 ≡ b → P (cond b ((e.0, e.1 - t) ∷ lower t c) (lower t c))) [
-  | true ↦ λ p. more (grind (arith, nat_tests, p))
-  | false ↦ λ p. less (grind (arith, nat_tests, p))
-] refl)
+pub by_lower : (P : Counters → Type 0) (t : ℕ) (e : Entry) (c : Counters) → (t < e.1 → P ((e.0, e.1 - t) ∷ lower t c))
+    → (e.1 ≤ t → P (lower t c)) → P (lower t (e ∷ c))
+by_lower P t e c more less =
+    rw (lower-cons t e c) (elim (nat_lt t e.1) as (λ b. nat_lt t e.1 ≡ b
+    → P (cond b ((e.0, e.1 - t) ∷ lower t c) (lower t c))) [
+      | true ↦ λ p. more (grind (arith, nat_tests, p))
+      | false ↦ λ p. less (grind (arith, nat_tests, p))
+    ] refl)
 
-above_lower : (z : Bytes) (t : ℕ) (c : Counters) → AllByRecursion (λ y. key_cmp z y ≡ Less) (keys_of c) → AllByRecursion (λ y. key_cmp z y ≡ Less) (keys_of (lower t c))
-above_lower z t [] h = subst (λ (d : Counters). AllByRecursion (λ y. key_cmp z y ≡ Less) (keys_of d)) (sym (lower-nil t)) tt
-above_lower z t (e ∷ c) h = by_lower (λ d. AllByRecursion (λ y. key_cmp z y ≡ Less) (keys_of d)) t e c (λ l. (h.0, above_lower z t c h.1)) (λ l. above_lower z t c h.1)
+above_lower : (z : Bytes) (t : ℕ) (c : Counters) → AllByRecursion (λ y. key_cmp z y ≡ Less) (keys_of c)
+    → AllByRecursion (λ y. key_cmp z y ≡ Less) (keys_of (lower t c))
+above_lower z t [] h =
+    subst (λ (d : Counters). AllByRecursion (λ y. key_cmp z y ≡ Less) (keys_of d)) (sym (lower-nil t)) tt
+above_lower z t (e ∷ c) h = by_lower (λ d. AllByRecursion (λ y. key_cmp z y ≡ Less) (keys_of d)) t e c
+    (λ l. (h.0, above_lower z t c h.1)) (λ l. above_lower z t c h.1)
 
-pub rising-lower : (t : ℕ) (c : Counters) → IsStrictlySortedBy key_cmp (keys_of c) → IsStrictlySortedBy key_cmp (keys_of (lower t c))
+pub rising-lower : (t : ℕ) (c : Counters) → IsStrictlySortedBy key_cmp (keys_of c)
+    → IsStrictlySortedBy key_cmp (keys_of (lower t c))
 unfolding IsStrictlySortedBy
 rising-lower t [] h = subst (λ (d : Counters). IsStrictlySortedBy key_cmp (keys_of d)) (sym (lower-nil t)) tt
-rising-lower t (e ∷ c) h = by_lower (λ d. IsStrictlySortedBy key_cmp (keys_of d)) t e c (λ l. (above_lower e.0 t c h.0, rising-lower t c h.1)) (λ l. rising-lower t c h.1)
+rising-lower t (e ∷ c) h = by_lower (λ d. IsStrictlySortedBy key_cmp (keys_of d)) t e c
+    (λ l. (above_lower e.0 t c h.0, rising-lower t c h.1)) (λ l. rising-lower t c h.1)
 
 pub positive-lower : (t : ℕ) (c : Counters) → AllByRecursion (λ (e : Entry). 0 < e.1) (lower t c)
 positive-lower t [] = subst (AllByRecursion (λ (e : Entry). 0 < e.1)) (sym (lower-nil t)) tt
-positive-lower t (e ∷ c) = by_lower (AllByRecursion (λ (e : Entry). 0 < e.1)) t e c (λ l. (omega arith, positive-lower t c)) (λ l. positive-lower t c)
+positive-lower t (e ∷ c) = by_lower (AllByRecursion (λ (e : Entry). 0 < e.1)) t e c
+    (λ l. (omega arith, positive-lower t c)) (λ l. positive-lower t c)
 
 pub counters-lower : (t : ℕ) (c : Counters) → IsStrictlySortedBy key_cmp (keys_of c) → IsCounters (lower t c)
 counters-lower t c h = record { rising = rising-lower t c h; positive = positive-lower t c }
 
 -- as weights: each key's number less t
-pub weight_of-lower : (t : ℕ) (x : Bytes) (c : Counters) → IsStrictlySortedBy key_cmp (keys_of c) → weight_of x (lower t c) ≡ weight_of x c - t
+pub weight_of-lower : (t : ℕ) (x : Bytes) (c : Counters) → IsStrictlySortedBy key_cmp (keys_of c)
+    → weight_of x (lower t c) ≡ weight_of x c - t
 unfolding IsStrictlySortedBy
 weight_of-lower t x [] h = ap (weight_of x) (lower-nil t) ∙ omega arith
 weight_of-lower t x (e ∷ c) h =
     by_lower (λ d. weight_of x d ≡ weight_of x (e ∷ c) - t) t e c
-    (λ l. elim (key_cmp x e.0) as (λ r. key_cmp x e.0 ≡ r → weight_of x ((e.0, e.1 - t) ∷ lower t c) ≡ weight_of x (e ∷ c) - t) [
-      | Less ↦ λ p. omega (arith, weight_of-cons x (e.0, e.1 - t) (lower t c), weight_of-cons x e c, at_other x (e.0, e.1 - t) Less p refl, at_other x e Less p refl, weight_of-lower t x c h.1)
-      | Equal ↦ λ p. omega (arith, weight_of-cons x (e.0, e.1 - t) (lower t c), weight_of-cons x e c, at_equal x (e.0, e.1 - t) p, at_equal x e p, weight_of-lower t x c h.1, alone x e c h.0 p)
-      | Greater ↦ λ p. omega (arith, weight_of-cons x (e.0, e.1 - t) (lower t c), weight_of-cons x e c, at_other x (e.0, e.1 - t) Greater p refl, at_other x e Greater p refl, weight_of-lower t x c h.1)
+    (λ l. elim (key_cmp x e.0) as (λ r. key_cmp x e.0 ≡ r
+    → weight_of x ((e.0, e.1 - t) ∷ lower t c) ≡ weight_of x (e ∷ c) - t) [
+      | Less ↦ λ p. omega (
+        arith,
+        weight_of-cons x (e.0, e.1 - t) (lower t c),
+        weight_of-cons x e c,
+        at_other x (e.0, e.1 - t) Less p refl,
+        at_other x e Less p refl,
+        weight_of-lower t x c h.1,
+      )
+      | Equal ↦ λ p. omega (
+        arith,
+        weight_of-cons x (e.0, e.1 - t) (lower t c),
+        weight_of-cons x e c,
+        at_equal x (e.0, e.1 - t) p,
+        at_equal x e p,
+        weight_of-lower t x c h.1,
+        alone x e c h.0 p,
+      )
+      | Greater ↦ λ p. omega (
+        arith,
+        weight_of-cons x (e.0, e.1 - t) (lower t c),
+        weight_of-cons x e c,
+        at_other x (e.0, e.1 - t) Greater p refl,
+        at_other x e Greater p refl,
+        weight_of-lower t x c h.1,
+      )
     ] refl)
     (λ l. elim (key_cmp x e.0) as (λ r. key_cmp x e.0 ≡ r → weight_of x (lower t c) ≡ weight_of x (e ∷ c) - t) [
       | Less ↦ λ p. omega (arith, weight_of-cons x e c, at_other x e Less p refl, weight_of-lower t x c h.1)
@@ -144,7 +184,8 @@ weight_of-lower t x (e ∷ c) h =
     at_equal : (x : Bytes) (e : Entry) → key_cmp x e.0 ≡ Equal → at_key x e ≡ e.1
     at_equal x e p = ap (λ r. cond (is_eq r) e.1 0) p
 
-    alone : (x : Bytes) (e : Entry) (c : Counters) → AllByRecursion (λ y. key_cmp e.0 y ≡ Less) (keys_of c) → key_cmp x e.0 ≡ Equal → weight_of x c ≡ 0
+    alone : (x : Bytes) (e : Entry) (c : Counters) → AllByRecursion (λ y. key_cmp e.0 y ≡ Less) (keys_of c)
+        → key_cmp x e.0 ≡ Equal → weight_of x c ≡ 0
     alone x e c h p = ap (λ k. weight_of k c) (key_exact x e.0 p) ∙ weight_above e.0 c h
 
 -- at least t is taken from each of the counters that are at least t
@@ -154,13 +195,15 @@ total_of-lower u (e ∷ c) =
     let add = total_of-cons e c in
     let one = over-cons e c u in
     let rest = total_of-lower u c in
-    let product : (u + 1) * over (e ∷ c) u ≡ (u + 1) * cond (nat_lt u e.1) 1 0 + (u + 1) * over c u = ap (λ n. (u + 1) * n) one ∙ mul-add (u + 1) _ _ in
+    let product : (u + 1) * over (e ∷ c) u ≡ (u + 1) * cond (nat_lt u e.1) 1 0 + (u + 1) * over c u =
+    ap (λ n. (u + 1) * n) one ∙ mul-add (u + 1) _ _ in
     by_lower (λ d. total_of d + (u + 1) * over (e ∷ c) u ≤ total_of (e ∷ c)) (u + 1) e c
     (λ l. let front = total_of-cons (e.0, e.1 - (u + 1)) (lower (u + 1) c) in
     let whole : cond (nat_lt u e.1) 1 0 ≡ 1 = grind (arith, nat_tests, l) in
     let times : (u + 1) * cond (nat_lt u e.1) 1 0 ≡ u + 1 = ap (λ n. (u + 1) * n) whole ∙ mul-one (u + 1) in
     omega arith)
-    (λ l. let times : (u + 1) * cond (nat_lt u e.1) 1 0 ≤ e.1 = elim (nat_lt u e.1) as (λ b. nat_lt u e.1 ≡ b → (u + 1) * cond b 1 0 ≤ e.1) [
+    (λ l. let times : (u + 1) * cond (nat_lt u e.1) 1 0 ≤ e.1 =
+    elim (nat_lt u e.1) as (λ b. nat_lt u e.1 ≡ b → (u + 1) * cond b 1 0 ≤ e.1) [
       | true ↦ λ p. grind (arith, nat_tests, p, mul-one (u + 1))
       | false ↦ λ p. omega (arith, mul-zero (u + 1))
     ] refl in
@@ -172,16 +215,13 @@ total_of-lower-le t (e ∷ c) = by_lower (λ d. total_of d ≤ total_of (e ∷ c
     (λ l. omega (arith, total_of-cons (e.0, e.1 - t) (lower t c), total_of-cons e c, total_of-lower-le t c))
     (λ l. omega (arith, total_of-cons e c, total_of-lower-le t c))
 
-pub lower_is : (t : ℕ) (c : Counters) → lower t c ≡ map (less_by t) (filter (exceeds t) c)
-unfolding lower
-lower_is t c = refl
-
 -- ---- the level where few counters, or one too many, are there
 over-le-length : (c : Counters) (t : ℕ) → over c t ≤ length c
 over-le-length c t = count_by-le-length (exceeds t) c
 
 pub level_few : (c : Counters) (k : ℕ) → length c ≤ k → level c k ≡ 0
-level_few c k h = one_level c k _ 0 (is_level c k) (record { at_most = omega (arith, over-le-length c 0); least = λ s g. omega arith })
+level_few c k h = one_level c k _ 0 (is_level c k)
+    (record { at_most = omega (arith, over-le-length c 0); least = λ s g. omega arith })
 
 pub over_all : (c : Counters) (t m : ℕ) → AllByRecursion (λ (e : Entry). m ≤ e.1) c → t < m → over c t ≡ length c
 over_all [] t m a h = refl
@@ -191,30 +231,53 @@ over_all (e ∷ c) t m a h = grind (arith, nat_tests, over-cons e c t, a.0, h, o
 pub level_above : (c : Counters) (k m : ℕ) → AllByRecursion (λ (e : Entry). m ≤ e.1) c → k < length c → m ≤ level c k
 level_above c k m a h = ⊎_elim
     (λ (f : (leb m (level c k) ≡ true) × (m ≤ level c k)). f.1)
-    (λ (f : (leb m (level c k) ≡ false) × (level c k < m)). absurd (omega (arith, over_all c (level c k) m a f.1, (is_level c k).at_most)))
+    (λ (f : (leb m (level c k) ≡ false) × (level c k < m)). absurd
+    (omega (arith, over_all c (level c k) m a f.1, (is_level c k).at_most)))
     (leb_tells m (level c k))
 
 -- ---- the level by selection
 over-values : (c : Counters) (t : ℕ) → over c t ≡ count_by (nat_lt t) (values_of c)
 over-values [] t = refl
-over-values (e ∷ c) t = omega (arith, over-cons e c t, sum_by-cons (λ n. cond (nat_lt t n) 1 0) e.1 (values_of c), over-values c t)
+over-values (e ∷ c) t =
+    omega (arith, over-cons e c t, sum_by-cons (λ n. cond (nat_lt t n) 1 0) e.1 (values_of c), over-values c t)
 
 -- how many of the split numbers exceed t
-over_split : (c : Counters) (t x : ℕ) (front back : List ℕ) → IsPermutation (values_of c) (front ++ x ∷ back) → over c t ≡ count_by (nat_lt t) front + (cond (nat_lt t x) 1 0 + count_by (nat_lt t) back)
+over_split : (c : Counters) (t x : ℕ) (front back : List ℕ) → IsPermutation (values_of c) (front ++ x ∷ back)
+    → over c t ≡ count_by (nat_lt t) front + (cond (nat_lt t x) 1 0 + count_by (nat_lt t) back)
 over_split c t x front back p =
     let one : ℕ → ℕ = λ n. cond (nat_lt t n) 1 0 in
-    omega (arith, over-values c t, sum_by-IsPermutation one (values_of c) (front ++ x ∷ back) p, sum_by-append one front (x ∷ back), sum_by-cons one x back)
+    omega (
+      arith,
+      over-values c t,
+      sum_by-IsPermutation one (values_of c) (front ++ x ∷ back) p,
+      sum_by-append one front (x ∷ back),
+      sum_by-cons one x back,
+    )
 
 none_exceed : (t : ℕ) (ns : List ℕ) → ((k d : ℕ) → k < length ns → get_or ns k d ≤ t) → count_by (nat_lt t) ns ≡ 0
 none_exceed t [] h = refl
-none_exceed t (n ∷ ns) h = grind (arith, nat_tests, sum_by-cons (λ n. cond (nat_lt t n) 1 0) n ns, h 0 0 (omega arith), none_exceed t ns (λ k d l. h (suc k) d (omega arith)))
+none_exceed t (n ∷ ns) h = grind (
+  arith,
+  nat_tests,
+  sum_by-cons (λ n. cond (nat_lt t n) 1 0) n ns,
+  h 0 0 (omega arith),
+  none_exceed t ns (λ k d l. h (suc k) d (omega arith)),
+)
 
-all_exceed : (t : ℕ) (ns : List ℕ) → ((k d : ℕ) → k < length ns → t < get_or ns k d) → count_by (nat_lt t) ns ≡ length ns
+all_exceed : (t : ℕ) (ns : List ℕ) → ((k d : ℕ) → k < length ns → t < get_or ns k d)
+    → count_by (nat_lt t) ns ≡ length ns
 all_exceed t [] h = refl
-all_exceed t (n ∷ ns) h = grind (arith, nat_tests, sum_by-cons (λ n. cond (nat_lt t n) 1 0) n ns, h 0 0 (omega arith), all_exceed t ns (λ k d l. h (suc k) d (omega arith)))
+all_exceed t (n ∷ ns) h = grind (
+  arith,
+  nat_tests,
+  sum_by-cons (λ n. cond (nat_lt t n) 1 0) n ns,
+  h 0 0 (omega arith),
+  all_exceed t ns (λ k d l. h (suc k) d (omega arith)),
+)
 
 -- the number with k numbers behind it, none of them less, and none before it greater
-pub level_from_split : (c : Counters) (k x : ℕ) (front back : List ℕ) → IsPermutation (values_of c) (front ++ x ∷ back) → length back ≡ k → IsSplitAround nat_cmp front x back → x ≡ level c k
+pub level_from_split : (c : Counters) (k x : ℕ) (front back : List ℕ) → IsPermutation (values_of c) (front ++ x ∷ back)
+    → length back ≡ k → IsSplitAround nat_cmp front x back → x ≡ level c k
 level_from_split c k x front back p len split = one_level c k x _ (record {
   at_most =
       let before = none_exceed x front (λ j d l. ge_from_not_lt x (get_or front j d) (split.0 j d l)) in
@@ -223,14 +286,16 @@ level_from_split c k x front back p len split = one_level c k x _ (record {
   least = λ s few. ⊎_elim
       (λ (f : (leb x s ≡ true) × (x ≤ s)). f.1)
       (λ (f : (leb x s ≡ false) × (s < x)).
-      let behind = all_exceed s back (λ j d l. omega (arith, ge_from_not_lt (get_or back j d) x (split.1 j d l), f.1)) in
+      let behind =
+      all_exceed s back (λ j d l. omega (arith, ge_from_not_lt (get_or back j d) x (split.1 j d l), f.1)) in
       let here : ◌≡◌ {A = ℕ} (cond (nat_lt s x) 1 0) 1 = grind (arith, nat_tests, f.1) in
       absurd (omega (arith, over_split c s x front back p, behind, here, len, few)))
       (leb_tells x s);
 }) (is_level c k)
 
 -- ---- the least counter
-pub min_all : (n : ℕ) (c : Counters) → (fold (λ n (d : Entry). min n d.1) n c ≤ n) × AllByRecursion (λ (e : Entry). fold (λ n (d : Entry). min n d.1) n c ≤ e.1) c
+pub min_all : (n : ℕ) (c : Counters) → (fold (λ n (d : Entry). min n d.1) n c ≤ n)
+    × AllByRecursion (λ (e : Entry). fold (λ n (d : Entry). min n d.1) n c ≤ e.1) c
 min_all n [] = (omega arith, tt)
 min_all n (e ∷ c) = let rest = min_all (min n e.1) c in (omega (arith, rest.0), (omega (arith, rest.0), rest.1))
 
@@ -238,9 +303,11 @@ pub least_counter-all : (c : Counters) → AllByRecursion (λ (e : Entry). least
 least_counter-all [] = tt
 least_counter-all (e ∷ c) = min_all e.1 c
 
-over_min : (n : ℕ) (c : Counters) → cond (nat_lt (fold (λ n (d : Entry). min n d.1) n c) n) 1 0 + over c (fold (λ n (d : Entry). min n d.1) n c) ≤ length c
+over_min : (n : ℕ) (c : Counters) → cond (nat_lt (fold (λ n (d : Entry). min n d.1) n c) n) 1 0 + over c
+    (fold (λ n (d : Entry). min n d.1) n c) ≤ length c
 over_min n [] = grind (arith, nat_tests)
-over_min n (e ∷ c) = grind (arith, nat_tests, over_min (min n e.1) c, over-cons e c (fold (λ n (d : Entry). min n d.1) (min n e.1) c))
+over_min n (e ∷ c) =
+    grind (arith, nat_tests, over_min (min n e.1) c, over-cons e c (fold (λ n (d : Entry). min n d.1) (min n e.1) c))
 
 over_least : (c : Counters) → 0 < length c → over c (least_counter c) < length c
 over_least [] h = h

@@ -15,33 +15,42 @@ use Rattle.hh_stream.specs.Weights.{Bytes, Entry, same_key}
 use Rattle.hh_counters.proofs.Weights.{same_self}
 
 -- a key that a look-up misses is none of the keys
-none_at : (q : Bytes) (es : List Entry) (k : ℕ) (d : Bytes) → lookup (same_key q) es ≡ None → k < length es → same_key q (get_or (keys_of es) k d) ≡ false
+none_at : (q : Bytes) (es : List Entry) (k : ℕ) (d : Bytes) → lookup (same_key q) es ≡ None → k < length es
+    → same_key q (get_or (keys_of es) k d) ≡ false
 none_at q [] k d none l = absurd (omega arith)
-none_at q (e ∷ es) k d none l = elim (same_key q e.0) as (λ v. same_key q e.0 ≡ v → cond v (Some e.1) (lookup (same_key q) es) ≡ None → same_key q (get_or (keys_of (e ∷ es)) k d) ≡ false) [
-  | true ↦ λ same n. absurd (none-some e.1 (sym n))
-  | false ↦ λ other n. at k l other (λ j m. none_at q es j d n m)
-] refl none
+none_at q (e ∷ es) k d none l =
+    elim (same_key q e.0) as (λ v. same_key q e.0 ≡ v → cond v (Some e.1) (lookup (same_key q) es) ≡ None
+    → same_key q (get_or (keys_of (e ∷ es)) k d) ≡ false) [
+      | true ↦ λ same n. absurd (none-some e.1 (sym n))
+      | false ↦ λ other n. at k l other (λ j m. none_at q es j d n m)
+    ] refl none
   where
-    at : (k : ℕ) → k < length (e ∷ es) → same_key q e.0 ≡ false → ((j : ℕ) → j < length es → same_key q (get_or (keys_of es) j d) ≡ false) → same_key q (get_or (keys_of (e ∷ es)) k d) ≡ false
+    at : (k : ℕ) → k < length (e ∷ es) → same_key q e.0 ≡ false → ((j : ℕ) → j < length es
+        → same_key q (get_or (keys_of es) j d) ≡ false) → same_key q (get_or (keys_of (e ∷ es)) k d) ≡ false
     at zero l other rest = other
     at (suc k) l other rest = rest k (omega arith)
 
 -- and one that a look-up finds stands somewhere
-pub stands : (q : Bytes) (es : List Entry) → IsSome (lookup (same_key q) es) → IsSome (position (same_key q) (keys_of es))
-stands q es some = elim (position (same_key q) (keys_of es)) as (λ r. position (same_key q) (keys_of es) ≡ r → IsSome r) [
-  | None ↦ λ is. absurd (true≢false (sym (subst IsSome (Missing-position (same_key q) es is).value some)))
-  | Some i ↦ λ is. refl
-] refl
+pub stands : (q : Bytes) (es : List Entry) → IsSome (lookup (same_key q) es)
+    → IsSome (position (same_key q) (keys_of es))
+stands q es some =
+    elim (position (same_key q) (keys_of es)) as (λ r. position (same_key q) (keys_of es) ≡ r → IsSome r) [
+      | None ↦ λ is. absurd (true≢false (sym (subst IsSome (Missing-position (same_key q) es is).value some)))
+      | Some i ↦ λ is. refl
+    ] refl
 
 -- the first place that passes a test is its position
-position_is : (p : Bytes → Bool) (ks : List Bytes) (i : ℕ) (d : Bytes) → i < length ks → ((k : ℕ) → k < i → p (get_or ks k d) ≡ false) → p (get_or ks i d) ≡ true → position p ks ≡ Some i
+position_is : (p : Bytes → Bool) (ks : List Bytes) (i : ℕ) (d : Bytes) → i < length ks
+    → ((k : ℕ) → k < i → p (get_or ks k d) ≡ false) → p (get_or ks i d) ≡ true → position p ks ≡ Some i
 position_is p ks i d l before here =
     let within : nat_lt i (length ks) ≡ true = grind (arith, nat_tests, l) in
-    ap (λ n. cond (nat_lt n (length ks)) (Some n) None) (position_or_len_is p ks i d (omega (arith, l)) before (λ m. here)) ∙ ap (λ b. cond b (Some i) None) within
+    ap (λ n. cond (nat_lt n (length ks)) (Some n) None)
+    (position_or_len_is p ks i d (omega (arith, l)) before (λ m. here)) ∙ ap (λ b. cond b (Some i) None) within
 
 -- ---- a key put last
 -- it stands last
-pub last_place : (x : Bytes) (es : List Entry) → lookup (same_key x) es ≡ None → position (same_key x) (keys_of es ++ x ∷ []) ≡ Some (length es)
+pub last_place : (x : Bytes) (es : List Entry) → lookup (same_key x) es ≡ None
+    → position (same_key x) (keys_of es ++ x ∷ []) ≡ Some (length es)
 last_place x es none =
     let ks = keys_of es in
     let n = length-keys_of es in
@@ -50,7 +59,8 @@ last_place x es none =
     (ap (same_key x) (get_or_push ks x x (length es) n) ∙ same_self x)
 
 -- and the others stand where they stood
-pub places_before_last : (p : Bytes → Bool) (ks : List Bytes) (x : Bytes) → p x ≡ false → position p (ks ++ x ∷ []) ≡ position p ks
+pub places_before_last : (p : Bytes → Bool) (ks : List Bytes) (x : Bytes) → p x ≡ false
+    → position p (ks ++ x ∷ []) ≡ position p ks
 places_before_last p ks x other =
     let le = prefix_len-le-length (λ y. not (p y)) ks in
     let long = length_push ks x in
@@ -59,7 +69,8 @@ places_before_last p ks x other =
 
 -- ---- a key put in the place of another
 -- it stands there
-pub same_place : (x : Bytes) (es : List Entry) (i : ℕ) → lookup (same_key x) es ≡ None → i < length es → position (same_key x) (set (keys_of es) i x) ≡ Some i
+pub same_place : (x : Bytes) (es : List Entry) (i : ℕ) → lookup (same_key x) es ≡ None → i < length es
+    → position (same_key x) (set (keys_of es) i x) ≡ Some i
 same_place x es i none l =
     let ks = keys_of es in
     let n = length-keys_of es in
@@ -71,15 +82,18 @@ same_place x es i none l =
     differ k m e = omega (arith, m, e)
 
 -- and the others, but for the one that stood there, where they stood
-pub places_of_others : (p : Bytes → Bool) (ks : List Bytes) (i : ℕ) (x d : Bytes) → p x ≡ false → p (get_or ks i d) ≡ false → position p (set ks i x) ≡ position p ks
-places_of_others p ks i x d new old = ap₂ (λ n m. cond (nat_lt n m) (Some n) None) (position_or_len-set p ks i x d (new ∙ sym old)) (length-set ks i x)
+pub places_of_others : (p : Bytes → Bool) (ks : List Bytes) (i : ℕ) (x d : Bytes) → p x ≡ false
+    → p (get_or ks i d) ≡ false → position p (set ks i x) ≡ position p ks
+places_of_others p ks i x d new old =
+    ap₂ (λ n m. cond (nat_lt n m) (Some n) None) (position_or_len-set p ks i x d (new ∙ sym old)) (length-set ks i x)
 
 -- the last entry goes to the place of the one that is taken out
 pub last_swapped : (es : List Entry) (e d : Entry) (i : ℕ) → i < length es → swap_remove (es ++ e ∷ []) i d ≡ set es i e
 last_swapped es e d i l =
     let long = length_push es e in
     let end : length (es ++ e ∷ []) - 1 ≡ length es = omega (arith, long) in
-    ap₂ (λ (n : ℕ) (last : Entry). take n (set (es ++ e ∷ []) i last)) end (ap (λ n. get_or (es ++ e ∷ []) n d) end ∙ get_or_push es e d (length es) refl)
+    ap₂ (λ (n : ℕ) (last : Entry). take n (set (es ++ e ∷ []) i last)) end (ap (λ n. get_or (es ++ e ∷ []) n d) end
+    ∙ get_or_push es e d (length es) refl)
     ∙ ap (take (length es)) (set-append_left es (e ∷ []) i e l)
     ∙ ap (λ n. take n (set es i e ++ e ∷ [])) (sym (length-set es i e))
     ∙ take-append_seam (set es i e) (e ∷ [])

@@ -1,6 +1,6 @@
 -- What a step of Space-Saving does to the weights, the length and the total.
 use Rattle.std.proofs.Common.{◌≡◌, ℕ, ◌+◌, ◌-◌, ◌<◌, ◌≤◌, Bool, true, false, cond, not, [], ◌∷◌, length, Less, Equal, Greater, is_eq, refl, sym, ap, ◌∙◌, subst, arith}
-use Rattle.std.specs.Prelude.{nat_le}
+use Rattle.std.specs.Prelude.{fold, min, nat_le}
 use Rattle.std.specs.List.{AllByRecursion}
 use Rattle.std.specs.List.Sorted.{IsStrictlySortedBy}
 use Rattle.std.specs.Map.{keys_of}
@@ -19,23 +19,31 @@ pub counters-add_at : (s : Counters) (e : Entry) → IsCounters s → 0 < e.1 �
 counters-add_at s e h p = record { rising = rising-add_at s e h.rising; positive = positive-add_at s e h.positive p }
 
 -- a key that has a counter takes no more room
-pub length-add_at_old : (c : Counters) (e : Entry) → IsStrictlySortedBy key_cmp (keys_of c) → 0 < weight_of e.0 c → length (add_at c e) ≡ length c
+pub length-add_at_old : (c : Counters) (e : Entry) → IsStrictlySortedBy key_cmp (keys_of c) → 0 < weight_of e.0 c
+    → length (add_at c e) ≡ length c
 unfolding IsStrictlySortedBy
 length-add_at_old [] e h l = absurd (omega arith)
-length-add_at_old (d ∷ c) e h l = elim (key_cmp e.0 d.0) as (λ r. key_cmp e.0 d.0 ≡ r → length (match_ordering r (e ∷ d ∷ c) ((d.0, d.1 + e.1) ∷ c) (d ∷ add_at c e)) ≡ length (d ∷ c)) [
-  | Less ↦ λ p. absurd (omega (arith, l, weight_above e.0 (d ∷ c) (p, above_first e.0 d.0 (keys_of c) p h.0)))
-  | Equal ↦ λ p. omega arith
-  | Greater ↦ λ p. omega (arith, length-add_at_old c e h.1 (omega (arith, l, weight_of-cons e.0 d c, at_other e.0 d Greater p refl)))
-] refl
+length-add_at_old (d ∷ c) e h l =
+    elim (key_cmp e.0 d.0) as (λ r. key_cmp e.0 d.0 ≡ r
+    → length (match_ordering r (e ∷ d ∷ c) ((d.0, d.1 + e.1) ∷ c) (d ∷ add_at c e)) ≡ length (d ∷ c)) [
+      | Less ↦ λ p. absurd (omega (arith, l, weight_above e.0 (d ∷ c) (p, above_first e.0 d.0 (keys_of c) p h.0)))
+      | Equal ↦ λ p. omega arith
+      | Greater ↦ λ p. omega
+          (arith, length-add_at_old c e h.1 (omega (arith, l, weight_of-cons e.0 d c, at_other e.0 d Greater p refl)))
+    ] refl
 
 -- and one that has none takes one place
-pub length-add_at_new : (c : Counters) (e : Entry) → AllByRecursion (λ (d : Entry). 0 < d.1) c → weight_of e.0 c ≡ 0 → length (add_at c e) ≡ length c + 1
+pub length-add_at_new : (c : Counters) (e : Entry) → AllByRecursion (λ (d : Entry). 0 < d.1) c → weight_of e.0 c ≡ 0
+    → length (add_at c e) ≡ length c + 1
 length-add_at_new [] e h z = omega arith
-length-add_at_new (d ∷ c) e h z = elim (key_cmp e.0 d.0) as (λ r. key_cmp e.0 d.0 ≡ r → length (match_ordering r (e ∷ d ∷ c) ((d.0, d.1 + e.1) ∷ c) (d ∷ add_at c e)) ≡ length (d ∷ c) + 1) [
-  | Less ↦ λ p. omega arith
-  | Equal ↦ λ p. let here : at_key e.0 d ≡ d.1 = ap (λ r. cond (is_eq r) d.1 0) p in absurd (omega (arith, weight_of-cons e.0 d c, here, h.0, z))
-  | Greater ↦ λ p. omega (arith, length-add_at_new c e h.1 (omega (arith, weight_of-cons e.0 d c, z)))
-] refl
+length-add_at_new (d ∷ c) e h z =
+    elim (key_cmp e.0 d.0) as (λ r. key_cmp e.0 d.0 ≡ r
+    → length (match_ordering r (e ∷ d ∷ c) ((d.0, d.1 + e.1) ∷ c) (d ∷ add_at c e)) ≡ length (d ∷ c) + 1) [
+      | Less ↦ λ p. omega arith
+      | Equal ↦ λ p. let here : at_key e.0 d ≡ d.1 =
+          ap (λ r. cond (is_eq r) d.1 0) p in absurd (omega (arith, weight_of-cons e.0 d c, here, h.0, z))
+      | Greater ↦ λ p. omega (arith, length-add_at_new c e h.1 (omega (arith, weight_of-cons e.0 d c, z)))
+    ] refl
 
 -- ---- a key taken out
 pub weight_of-without : (q y : Bytes) (s : Counters) → weight_of q (without s y) ≡ cond (same_key q y) 0 (weight_of q s)
@@ -44,44 +52,74 @@ weight_of-without q y [] = none (same_key q y)
     none : (b : Bool) → ◌≡◌ {A = ℕ} 0 (cond b 0 0)
     none true = refl
     none false = refl
-weight_of-without q y (e ∷ s) = elim (same_key y e.0) as (λ b. same_key y e.0 ≡ b → weight_of q (cond (not b) (e ∷ without s y) (without s y)) ≡ cond (same_key q y) 0 (weight_of q (e ∷ s))) [
-  | true ↦ λ p. weight_of-without q y s ∙ (elim (same_key q y) as (λ b. same_key q y ≡ b → cond b 0 (weight_of q s) ≡ cond b 0 (weight_of q (e ∷ s))) [
-    | true ↦ λ r. refl
-    | false ↦ λ r. let other : at_key q e ≡ 0 = ap (λ b. cond b e.1 0) (ap (same_key q) (sym (same_exact y e.0 p)) ∙ r) in omega (arith, weight_of-cons q e s, other)
-  ] refl)
-  | false ↦ λ p. weight_of-cons q e (without s y) ∙ ap (λ n. at_key q e + n) (weight_of-without q y s) ∙ (elim (same_key q y) as (λ b. same_key q y ≡ b → at_key q e + cond b 0 (weight_of q s) ≡ cond b 0 (weight_of q (e ∷ s))) [
-    | true ↦ λ r. let other : at_key q e ≡ 0 = ap (λ b. cond b e.1 0) (ap (λ z. same_key z e.0) (same_exact q y r) ∙ p) in omega (arith, other)
-    | false ↦ λ r. omega (arith, weight_of-cons q e s)
-  ] refl)
-] refl
+weight_of-without q y (e ∷ s) =
+    elim (same_key y e.0) as (λ b. same_key y e.0 ≡ b
+    → weight_of q (cond (not b) (e ∷ without s y) (without s y)) ≡ cond (same_key q y) 0 (weight_of q (e ∷ s))) [
+      | true ↦ λ p. weight_of-without q y s ∙ (elim (same_key q y) as (λ b. same_key q y ≡ b
+          → cond b 0 (weight_of q s) ≡ cond b 0 (weight_of q (e ∷ s))) [
+            | true ↦ λ r. refl
+            | false ↦ λ r. let other : at_key q e ≡ 0 =
+                ap (λ b. cond b e.1 0) (ap (same_key q) (sym (same_exact y e.0 p))
+                ∙ r) in omega (arith, weight_of-cons q e s, other)
+          ] refl)
+      | false ↦ λ p. weight_of-cons q e (without s y) ∙ ap (λ n. at_key q e + n) (weight_of-without q y s)
+          ∙ (elim (same_key q y) as (λ b. same_key q y ≡ b
+          → at_key q e + cond b 0 (weight_of q s) ≡ cond b 0 (weight_of q (e ∷ s))) [
+            | true ↦ λ r. let other : at_key q e ≡ 0 =
+                ap (λ b. cond b e.1 0) (ap (λ z. same_key z e.0) (same_exact q y r) ∙ p) in omega (arith, other)
+            | false ↦ λ r. omega (arith, weight_of-cons q e s)
+          ] refl)
+    ] refl
 
 pub counters-without : (s : Counters) (y : Bytes) → IsCounters s → IsCounters (without s y)
-counters-without s y h = record { rising = rising-filter (λ e. not (same_key y e.0)) s h.rising; positive = positive-filter (λ e. not (same_key y e.0)) s h.positive }
+counters-without s y h = record {
+  rising = rising-filter (λ e. not (same_key y e.0)) s h.rising;
+  positive = positive-filter (λ e. not (same_key y e.0)) s h.positive;
+}
 
 -- where all keys are above y, nothing goes
 pub without_above : (s : Counters) (y : Bytes) → AllByRecursion (λ z. key_cmp y z ≡ Less) (keys_of s) → without s y ≡ s
 without_above [] y h = refl
-without_above (e ∷ s) y h = ap (λ r. cond (not (is_eq r)) (e ∷ without s y) (without s y)) h.0 ∙ ap (λ (c : Counters). e ∷ c) (without_above s y h.1)
+without_above (e ∷ s) y h = ap (λ r. cond (not (is_eq r)) (e ∷ without s y) (without s y)) h.0
+    ∙ ap (λ (c : Counters). e ∷ c) (without_above s y h.1)
 
 -- the length and the total, less those of the key
-pub without_less : (s : Counters) (y : Bytes) → IsCounters s → 0 < weight_of y s → (length (without s y) + 1 ≡ length s) × (total_of (without s y) + weight_of y s ≡ total_of s)
+pub without_less : (s : Counters) (y : Bytes) → IsCounters s → 0 < weight_of y s
+    → (length (without s y) + 1 ≡ length s) × (total_of (without s y) + weight_of y s ≡ total_of s)
 unfolding IsStrictlySortedBy
 without_less [] y h l = absurd (omega arith)
-without_less (e ∷ s) y h l = elim (key_cmp y e.0) as (λ r. key_cmp y e.0 ≡ r → (length (cond (not (is_eq r)) (e ∷ without s y) (without s y)) + 1 ≡ length (e ∷ s)) × (total_of (cond (not (is_eq r)) (e ∷ without s y) (without s y)) + weight_of y (e ∷ s) ≡ total_of (e ∷ s))) [
-  | Less ↦ λ p. absurd (omega (arith, l, weight_above y (e ∷ s) (p, above_first y e.0 (keys_of s) p h.rising.0)))
-  | Equal ↦ λ p.
-      let above = subst (λ k. AllByRecursion (λ z. key_cmp k z ≡ Less) (keys_of s)) (sym (key_exact y e.0 p)) h.rising.0 in
-      let rest = without_above s y above in
-      let here : at_key y e ≡ e.1 = ap (λ r. cond (is_eq r) e.1 0) p in
-      (omega (arith, ap length rest), omega (arith, ap total_of rest, total_of-cons e s, weight_of-cons y e s, here, weight_above y s above))
-  | Greater ↦ λ p.
-      let tail = without_less s y (record { rising = h.rising.1; positive = h.positive.1 }) (omega (arith, l, weight_of-cons y e s, at_other y e Greater p refl)) in
-      (omega (arith, tail.0), omega (arith, tail.1, total_of-cons e s, total_of-cons e (without s y), weight_of-cons y e s, at_other y e Greater p refl))
-] refl
+without_less (e ∷ s) y h l =
+    elim (key_cmp y e.0) as (λ r. key_cmp y e.0 ≡ r
+    → (length (cond (not (is_eq r)) (e ∷ without s y) (without s y)) + 1 ≡ length (e ∷ s))
+    × (total_of (cond (not (is_eq r)) (e ∷ without s y) (without s y)) + weight_of y (e ∷ s) ≡ total_of (e ∷ s))) [
+      | Less ↦ λ p. absurd (omega (arith, l, weight_above y (e ∷ s) (p, above_first y e.0 (keys_of s) p h.rising.0)))
+      | Equal ↦ λ p.
+          let above =
+          subst (λ k. AllByRecursion (λ z. key_cmp k z ≡ Less) (keys_of s)) (sym (key_exact y e.0 p)) h.rising.0 in
+          let rest = without_above s y above in
+          let here : at_key y e ≡ e.1 = ap (λ r. cond (is_eq r) e.1 0) p in (
+            omega (arith, ap length rest),
+            omega (arith, ap total_of rest, total_of-cons e s, weight_of-cons y e s, here, weight_above y s above),
+          )
+      | Greater ↦ λ p.
+          let tail = without_less s y (record { rising = h.rising.1; positive = h.positive.1 })
+          (omega (arith, l, weight_of-cons y e s, at_other y e Greater p refl)) in (
+            omega (arith, tail.0),
+            omega (
+              arith,
+              tail.1,
+              total_of-cons e s,
+              total_of-cons e (without s y),
+              weight_of-cons y e s,
+              at_other y e Greater p refl,
+            ),
+          )
+    ] refl
 
 -- ---- bounds by keys and by entries
 -- each key's counter is at least m
-pub at_least_all : (s : Counters) (m : ℕ) → IsCounters s → ((q : Bytes) → 0 < weight_of q s → m ≤ weight_of q s) → AllByRecursion (λ (e : Entry). m ≤ e.1) s
+pub at_least_all : (s : Counters) (m : ℕ) → IsCounters s → ((q : Bytes) → 0 < weight_of q s → m ≤ weight_of q s)
+    → AllByRecursion (λ (e : Entry). m ≤ e.1) s
 unfolding IsStrictlySortedBy
 at_least_all [] m h b = tt
 at_least_all (e ∷ s) m h b =
@@ -90,27 +128,55 @@ at_least_all (e ∷ s) m h b =
       at_least_all s m (record { rising = h.rising.1; positive = h.positive.1 }) (λ q l.
           elim (key_cmp q e.0) as (λ r. key_cmp q e.0 ≡ r → m ≤ weight_of q s) [
             | Less ↦ λ p. absurd (omega (arith, l, weight_above q s (above_first q e.0 (keys_of s) p h.rising.0)))
-            | Equal ↦ λ p. absurd (omega (arith, l, weight_above q s (subst (λ k. AllByRecursion (λ z. key_cmp k z ≡ Less) (keys_of s)) (sym (key_exact q e.0 p)) h.rising.0)))
-            | Greater ↦ λ p. let skip = at_other q e Greater p refl in omega (arith, b q (omega (arith, weight_of-cons q e s, skip, l)), weight_of-cons q e s, skip)
+            | Equal ↦ λ p. absurd
+                (omega (
+                  arith,
+                  l,
+                  weight_above q s (subst (λ k. AllByRecursion (λ z. key_cmp k z ≡ Less) (keys_of s))
+                      (sym (key_exact q e.0 p)) h.rising.0),
+                ))
+            | Greater ↦ λ p. let skip = at_other q e Greater p refl in
+                omega (arith, b q (omega (arith, weight_of-cons q e s, skip, l)), weight_of-cons q e s, skip)
           ] refl),
     )
 
-pub at_least_each : (s : Counters) (m : ℕ) (q : Bytes) → AllByRecursion (λ (e : Entry). m ≤ e.1) s → 0 < weight_of q s → m ≤ weight_of q s
+pub at_least_each : (s : Counters) (m : ℕ) (q : Bytes) → AllByRecursion (λ (e : Entry). m ≤ e.1) s → 0 < weight_of q s
+    → m ≤ weight_of q s
 at_least_each [] m q a l = absurd (omega arith)
 at_least_each (e ∷ s) m q a l = elim (same_key q e.0) as (λ b. same_key q e.0 ≡ b → m ≤ weight_of q (e ∷ s)) [
   | true ↦ λ p. let here : at_key q e ≡ e.1 = ap (λ b. cond b e.1 0) p in omega (arith, weight_of-cons q e s, here, a.0)
-  | false ↦ λ p. let other : at_key q e ≡ 0 = ap (λ b. cond b e.1 0) p in omega (arith, weight_of-cons q e s, other, at_least_each s m q a.1 (omega (arith, weight_of-cons q e s, other, l)))
+  | false ↦ λ p. let other : at_key q e ≡ 0 = ap (λ b. cond b e.1 0) p in
+      omega (
+        arith,
+        weight_of-cons q e s,
+        other,
+        at_least_each s m q a.1
+            (omega (arith, weight_of-cons q e s, other, l)),
+      )
 ] refl
 
 -- a counter is at least the least
 pub least_counter-le : (s : Counters) (q : Bytes) → 0 < weight_of q s → least_counter s ≤ weight_of q s
 least_counter-le s q l = at_least_each s (least_counter s) q (least_counter-all s) l
 
+-- what is not above any counter is not above the least
+pub least_counter-ge : (m : ℕ) (s : Counters) → 0 < length s → AllByRecursion (λ (e : Entry). m ≤ e.1) s
+    → m ≤ least_counter s
+least_counter-ge m [] l a = absurd (omega arith)
+least_counter-ge m (e ∷ s) l a = from e.1 s a.0 a.1
+  where
+    from : (n : ℕ) (s : Counters) → m ≤ n → AllByRecursion (λ (e : Entry). m ≤ e.1) s
+        → m ≤ fold (λ n (d : Entry). min n d.1) n s
+    from n [] h a = h
+    from n (e ∷ s) h a = from (min n e.1) s (omega (arith, h, a.0)) a.1
+
 pub least_of_free : (s : Counters) (k : ℕ) → length s ≤ k → least_of s k ≡ 0
-least_of_free s k h = let yes : nat_le (length s) k ≡ true = grind (arith, nat_tests, h) in ap (λ b. cond b 0 (least_counter s)) yes
+least_of_free s k h =
+    let yes : nat_le (length s) k ≡ true = grind (arith, nat_tests, h) in ap (λ b. cond b 0 (least_counter s)) yes
 
 pub least_of_full : (s : Counters) (k : ℕ) → k < length s → least_of s k ≡ least_counter s
-least_of_full s k h = let no : nat_le (length s) k ≡ false = grind (arith, nat_tests, h) in ap (λ b. cond b 0 (least_counter s)) no
+least_of_full s k h =
+    let no : nat_le (length s) k ≡ false = grind (arith, nat_tests, h) in ap (λ b. cond b 0 (least_counter s)) no
 
 pub least_of-le : (s : Counters) (k : ℕ) (q : Bytes) → 0 < weight_of q s → least_of s k ≤ weight_of q s
 least_of-le s k q l = elim (nat_le (length s) k) as (λ b. cond b 0 (least_counter s) ≤ weight_of q s) [
@@ -131,26 +197,42 @@ pub record IsStepped (s : Counters) (e : Entry) (k : ℕ) (t : Counters) : Type 
   pub total : total_of t ≡ total_of s + e.1
   pub same : plus (translate s k) (e ∷ []) ≡ lower (least_of s k) t
 
-weight_of-translated : (s : Counters) (e : Entry) (k : ℕ) (q : Bytes) → IsCounters s → weight_of q (plus (translate s k) (e ∷ [])) ≡ (weight_of q s - least_of s k) + at_key q e
-weight_of-translated s e k q h = omega (arith, weight_of-plus q (translate s k) (e ∷ []), weight_of-lower (least_of s k) q s h.rising, weight_of-cons q e [])
+weight_of-translated : (s : Counters) (e : Entry) (k : ℕ) (q : Bytes) → IsCounters s
+    → weight_of q (plus (translate s k) (e ∷ [])) ≡ (weight_of q s - least_of s k) + at_key q e
+weight_of-translated s e k q h = omega (
+  arith,
+  weight_of-plus q (translate s k) (e ∷ []),
+  weight_of-lower (least_of s k) q s h.rising,
+  weight_of-cons q e [],
+)
 
 one_counter : (e : Entry) → 0 < e.1 → IsCounters (e ∷ [])
 unfolding IsStrictlySortedBy
 one_counter e p = record { rising = (tt, tt); positive = (p, tt) }
 
 -- it is enough to know the weights after it
-same_weights : (s : Counters) (e : Entry) (k : ℕ) (t : Counters) → IsCounters s → 0 < e.1 → IsCounters t → ((q : Bytes) → (weight_of q s - least_of s k) + at_key q e ≡ weight_of q t - least_of s k) → plus (translate s k) (e ∷ []) ≡ lower (least_of s k) t
+same_weights : (s : Counters) (e : Entry) (k : ℕ) (t : Counters) → IsCounters s → 0 < e.1 → IsCounters t
+    → ((q : Bytes) → (weight_of q s - least_of s k) + at_key q e ≡ weight_of q t - least_of s k)
+    → plus (translate s k) (e ∷ []) ≡ lower (least_of s k) t
 same_weights s e k t h p g w =
-    same_counters _ _ (counters-plus (translate s k) (e ∷ []) (counters-lower (least_of s k) s h.rising) (one_counter e p)) (counters-lower (least_of s k) t g.rising)
+    same_counters _ _ (counters-plus (translate s k) (e ∷ []) (counters-lower (least_of s k) s h.rising)
+    (one_counter e p)) (counters-lower (least_of s k) t g.rising)
     (λ q. weight_of-translated s e k q h ∙ w q ∙ sym (weight_of-lower (least_of s k) q t g.rising))
 
 -- the least does not fall where no counter falls below it
-least_rises : (s t : Counters) (k : ℕ) → IsKept t k → length s ≤ length t → ((q : Bytes) → 0 < weight_of q t → least_of s k ≤ weight_of q t) → least_of s k ≤ least_of t k
-least_rises s t k kept longer b = elim (nat_le (length s) k) as (λ c. nat_le (length s) k ≡ c → least_of s k ≤ least_of t k) [
-  | true ↦ λ p. omega (arith, least_of_free s k (grind (arith, nat_tests, p)))
-  | false ↦ λ p. let full : k < length s = grind (arith, nat_tests, p) in
-      omega (arith, level_above t k (least_of s k) (at_least_all t (least_of s k) kept.counters b) (omega (arith, full, longer)), level-least t k kept.few)
-] refl
+least_rises : (s t : Counters) (k : ℕ) → IsKept t k → length s ≤ length t
+    → ((q : Bytes) → 0 < weight_of q t → least_of s k ≤ weight_of q t) → least_of s k ≤ least_of t k
+least_rises s t k kept longer b =
+    elim (nat_le (length s) k) as (λ c. nat_le (length s) k ≡ c → least_of s k ≤ least_of t k) [
+      | true ↦ λ p. omega (arith, least_of_free s k (grind (arith, nat_tests, p)))
+      | false ↦ λ p. let full : k < length s = grind (arith, nat_tests, p) in
+          omega (
+            arith,
+            level_above t k (least_of s k) (at_least_all t (least_of s k) kept.counters b)
+                (omega (arith, full, longer)),
+            level-least t k kept.few,
+          )
+    ] refl
 
 at_same : (q : Bytes) (e : Entry) → same_key q e.0 ≡ true → at_key q e ≡ e.1
 at_same q e p = ap (λ b. cond b e.1 0) p
@@ -159,7 +241,8 @@ at_differ : (q : Bytes) (e : Entry) → same_key q e.0 ≡ false → at_key q e 
 at_differ q e p = ap (λ b. cond b e.1 0) p
 
 -- a claim for each key, at e's and at any other
-pub by_key : (q : Bytes) (e : Entry) (P : Type 0) → (q ≡ e.0 → at_key q e ≡ e.1 → P) → (same_key q e.0 ≡ false → at_key q e ≡ 0 → P) → P
+pub by_key : (q : Bytes) (e : Entry) (P : Type 0) → (q ≡ e.0 → at_key q e ≡ e.1 → P)
+    → (same_key q e.0 ≡ false → at_key q e ≡ 0 → P) → P
 by_key q e P at_it elsewhere = elim (same_key q e.0) as (λ b. same_key q e.0 ≡ b → P) [
   | true ↦ λ p. at_it (same_exact q e.0 p) (at_same q e p)
   | false ↦ λ p. elsewhere p (at_differ q e p)
@@ -173,20 +256,34 @@ absent_without s q y z = weight_of-without q y s ∙ either (same_key q y) (weig
     either true m h = refl
     either false m h = h
 
-pub replaced_new : (s : Counters) (e : Entry) (y : Bytes) (n : ℕ) (t : Counters) → weight_of e.0 s ≡ 0 → t ≡ add_at (without s y) (e.0, n) → (q : Bytes) → q ≡ e.0 → weight_of q t ≡ n
+pub replaced_new : (s : Counters) (e : Entry) (y : Bytes) (n : ℕ) (t : Counters) → weight_of e.0 s ≡ 0
+    → t ≡ add_at (without s y) (e.0, n) → (q : Bytes) → q ≡ e.0 → weight_of q t ≡ n
 replaced_new s e y n t new is q same =
     let gone : weight_of q (without s y) ≡ 0 = absent_without s q y (ap (λ x. weight_of x s) same ∙ new) in
     let here : at_key q (e.0, n) ≡ n = at_same q (e.0, n) (ap (λ x. same_key x e.0) same ∙ same_self e.0) in
     omega (arith, ap (weight_of q) is, weight_of-add_at q (without s y) (e.0, n), gone, here)
 
-pub replaced_elsewhere : (s : Counters) (e : Entry) (y : Bytes) (n : ℕ) (t : Counters) → t ≡ add_at (without s y) (e.0, n) → (q : Bytes) → same_key q e.0 ≡ false → weight_of q t ≡ cond (same_key q y) 0 (weight_of q s)
-replaced_elsewhere s e y n t is q other = omega (arith, ap (weight_of q) is, weight_of-add_at q (without s y) (e.0, n), weight_of-without q y s, at_differ q (e.0, n) other)
+pub replaced_elsewhere : (s : Counters) (e : Entry) (y : Bytes) (n : ℕ) (t : Counters)
+    → t ≡ add_at (without s y) (e.0, n) → (q : Bytes) → same_key q e.0 ≡ false
+    → weight_of q t ≡ cond (same_key q y) 0 (weight_of q s)
+replaced_elsewhere s e y n t is q other = omega (
+  arith,
+  ap (weight_of q) is,
+  weight_of-add_at q (without s y) (e.0, n),
+  weight_of-without q y s,
+  at_differ q (e.0, n) other,
+)
 
-pub stepped : (s : Counters) (e : Entry) (k : ℕ) (t : Counters) → 0 < e.1 → IsKept s k → IsStep s e k t → IsStepped s e k t
+pub stepped : (s : Counters) (e : Entry) (k : ℕ) (t : Counters) → 0 < e.1 → IsKept s k → IsStep s e k t
+    → IsStepped s e k t
 stepped s e k t p h (raised has is) =
-    let weights : (q : Bytes) → weight_of q t ≡ weight_of q s + at_key q e = λ q. ap (weight_of q) is ∙ weight_of-add_at q s e in
+    let weights : (q : Bytes) → weight_of q t ≡ weight_of q s + at_key q e =
+    λ q. ap (weight_of q) is ∙ weight_of-add_at q s e in
     let long : length t ≡ length s = ap length is ∙ length-add_at_old s e h.counters.rising has in
-    let kept : IsKept t k = record { counters = subst IsCounters (sym is) (counters-add_at s e h.counters p); few = omega (arith, long, h.few) } in
+    let kept : IsKept t k = record {
+      counters = subst IsCounters (sym is) (counters-add_at s e h.counters p);
+      few = omega (arith, long, h.few);
+    } in
     let low = least_of-le s k e.0 has in
     record {
       kept = kept;
@@ -199,9 +296,11 @@ stepped s e k t p h (raised has is) =
           (λ other at. omega (arith, weights q, at)));
     }
 stepped s e k t p h (entered new free is) =
-    let weights : (q : Bytes) → weight_of q t ≡ weight_of q s + at_key q e = λ q. ap (weight_of q) is ∙ weight_of-add_at q s e in
+    let weights : (q : Bytes) → weight_of q t ≡ weight_of q s + at_key q e =
+    λ q. ap (weight_of q) is ∙ weight_of-add_at q s e in
     let long : length t ≡ length s + 1 = ap length is ∙ length-add_at_new s e h.counters.positive new in
-    let kept : IsKept t k = record { counters = subst IsCounters (sym is) (counters-add_at s e h.counters p); few = omega (arith, long, free) } in
+    let kept : IsKept t k = record
+    { counters = subst IsCounters (sym is) (counters-add_at s e h.counters p); few = omega (arith, long, free) } in
     let none = least_of_free s k free in
     record {
       kept = kept;
@@ -215,8 +314,12 @@ stepped s e k t p h (replaced new full y y_least is) =
     let left_counters = counters-without s y h.counters in
     let fewer = without_less s y h.counters y_least.has in
     let gone : weight_of e.0 left ≡ 0 = absent_without s e.0 y new in
-    let long : length t ≡ length s = omega (arith, ap length is, length-add_at_new left f left_counters.positive gone, fewer.0) in
-    let kept : IsKept t k = record { counters = subst IsCounters (sym is) (counters-add_at left f left_counters (omega (arith, p))); few = omega (arith, long, h.few) } in
+    let long : length t ≡ length s =
+    omega (arith, ap length is, length-add_at_new left f left_counters.positive gone, fewer.0) in
+    let kept : IsKept t k = record {
+      counters = subst IsCounters (sym is) (counters-add_at left f left_counters (omega (arith, p)));
+      few = omega (arith, long, h.few);
+    } in
     let least : least_of s k ≡ weight_of y s = least_of_full s k full ∙ sym y_least.least in
     let at_new = replaced_new s e y (weight_of y s + e.1) t new is in
     let elsewhere = replaced_elsewhere s e y (weight_of y s + e.1) t is in
@@ -233,7 +336,8 @@ stepped s e k t p h (replaced new full y y_least is) =
       same = same_weights s e k t h.counters p kept.counters (λ q. by_key q e _
           (λ same at. omega (arith, at_new q same, at, ap (λ x. weight_of x s) same, new, least))
           (λ other at. let was = elsewhere q other in
-          elim (same_key q y) as (λ b. same_key q y ≡ b → weight_of q t ≡ cond b 0 (weight_of q s) → (weight_of q s - least_of s k) + at_key q e ≡ weight_of q t - least_of s k) [
+          elim (same_key q y) as (λ b. same_key q y ≡ b → weight_of q t ≡ cond b 0 (weight_of q s)
+          → (weight_of q s - least_of s k) + at_key q e ≡ weight_of q t - least_of s k) [
             | true ↦ λ r z. omega (arith, z, at, ap (λ x. weight_of x s) (same_exact q y r), least)
             | false ↦ λ r z. omega (arith, z, at)
           ] refl was));

@@ -20,8 +20,10 @@ counters-join c d k = counters-lower (level (plus c d) k) (plus c d) (rising-tal
 pub length-join : (c d : Counters) (k : ℕ) → length (join c d k) ≤ k
 length-join c d k = omega (arith, length-lower (level (plus c d) k) (plus c d), (is_level (plus c d) k).at_most)
 
-pub weight_of-join : (x : Bytes) (c d : Counters) (k : ℕ) → weight_of x (join c d k) ≡ weight_of x c + weight_of x d - level (plus c d) k
-weight_of-join x c d k = omega (arith, weight_of-lower (level (plus c d) k) x (plus c d) (rising-tally (c ++ d)), weight_of-plus x c d)
+pub weight_of-join : (x : Bytes) (c d : Counters) (k : ℕ)
+    → weight_of x (join c d k) ≡ weight_of x c + weight_of x d - level (plus c d) k
+weight_of-join x c d k =
+    omega (arith, weight_of-lower (level (plus c d) k) x (plus c d) (rising-tally (c ++ d)), weight_of-plus x c d)
 
 -- the level is taken from at least k + 1 counters
 total_of-cut : (c : Counters) (k t : ℕ) → IsLevel c k t → total_of (lower t c) + (k + 1) * t ≤ total_of c
@@ -30,13 +32,16 @@ total_of-cut c k (suc u) h =
     rw (sym (add-one u)) (let many : k + 1 ≤ over c u = grind (arith, h.least u) in
     omega (arith, total_of-lower u c, mul-le-mul_left (u + 1) many, mul_comm (u + 1) (k + 1)))
 
-pub total_of-join : (c d : Counters) (k : ℕ) → total_of (join c d k) + (k + 1) * level (plus c d) k ≤ total_of c + total_of d
+pub total_of-join : (c d : Counters) (k : ℕ) → total_of (join c d k) + (k + 1) * level (plus c d) k
+    ≤ total_of c + total_of d
 total_of-join c d k = omega (arith, total_of-cut (plus c d) k _ (is_level (plus c d) k), total_of-plus c d)
 
 -- ---- joins are honest: `few` of the two is not needed
 joins : (c d : Counters) (m l : ℕ) (xs ys : List Entry) (k : ℕ) → m ≡ total_of xs → l ≡ total_of ys
-    → ((x : Bytes) → weight_of x c ≤ weight_of x xs) → ((x : Bytes) → (k + 1) * weight_of x xs + total_of c ≤ m + (k + 1) * weight_of x c)
-    → ((x : Bytes) → weight_of x d ≤ weight_of x ys) → ((x : Bytes) → (k + 1) * weight_of x ys + total_of d ≤ l + (k + 1) * weight_of x d)
+    → ((x : Bytes) → weight_of x c ≤ weight_of x xs)
+    → ((x : Bytes) → (k + 1) * weight_of x xs + total_of c ≤ m + (k + 1) * weight_of x c)
+    → ((x : Bytes) → weight_of x d ≤ weight_of x ys)
+    → ((x : Bytes) → (k + 1) * weight_of x ys + total_of d ≤ l + (k + 1) * weight_of x d)
     → IsHonest (join c d k) (m + l) (xs ++ ys) k
 joins c d m l xs ys k counts countl belowc nearc belowd neard = record {
   counters = counters-join c d k;
@@ -46,29 +51,51 @@ joins c d m l xs ys k counts countl belowc nearc belowd neard = record {
   near = λ x.
       let t = level (plus c d) k in
       let kept : weight_of x c + weight_of x d ≤ weight_of x (join c d k) + t = omega (arith, weight_of-join x c d k) in
-      let times : (k + 1) * (weight_of x c + weight_of x d) ≤ (k + 1) * (weight_of x (join c d k) + t) = mul-le-mul_left (k + 1) kept in
-      let left : (k + 1) * weight_of x (xs ++ ys) ≡ (k + 1) * weight_of x xs + (k + 1) * weight_of x ys = ap (λ n. (k + 1) * n) (weight_of-append x xs ys) ∙ mul-add (k + 1) _ _ in
-      omega (arith, left, times, mul-add (k + 1) (weight_of x c) (weight_of x d), mul-add (k + 1) (weight_of x (join c d k)) t, nearc x, neard x, total_of-join c d k);
+      let times : (k + 1) * (weight_of x c + weight_of x d) ≤ (k + 1) * (weight_of x (join c d k) + t) =
+      mul-le-mul_left (k + 1) kept in
+      let left : (k + 1) * weight_of x (xs ++ ys) ≡ (k + 1) * weight_of x xs + (k + 1) * weight_of x ys =
+      ap (λ n. (k + 1) * n) (weight_of-append x xs ys) ∙ mul-add (k + 1) _ _ in
+      omega (
+        arith,
+        left,
+        times,
+        mul-add (k + 1) (weight_of x c) (weight_of x d),
+        mul-add (k + 1) (weight_of x (join c d k)) t,
+        nearc x,
+        neard x,
+        total_of-join c d k,
+      );
 }
 
-pub join_is_honest : (c d : Counters) (m l : ℕ) (xs ys : List Entry) (k : ℕ) → IsHonest c m xs k → IsHonest d l ys k → IsHonest (join c d k) (m + l) (xs ++ ys) k
+pub join_is_honest : (c d : Counters) (m l : ℕ) (xs ys : List Entry) (k : ℕ) → IsHonest c m xs k → IsHonest d l ys k
+    → IsHonest (join c d k) (m + l) (xs ++ ys) k
 join_is_honest c d m l xs ys k h g = joins c d m l xs ys k h.counted g.counted h.below h.near g.below g.near
 
 -- ---- the counters of a stream
-one_more : (c : Counters) (ys : List Entry) (k : ℕ) (e : Entry) → IsHonest c (total_of ys) ys k → IsHonest (join c (e ∷ []) k) (total_of (ys ++ e ∷ [])) (ys ++ e ∷ []) k
+one_more : (c : Counters) (ys : List Entry) (k : ℕ) (e : Entry) → IsHonest c (total_of ys) ys k
+    → IsHonest (join c (e ∷ []) k) (total_of (ys ++ e ∷ [])) (ys ++ e ∷ []) k
 one_more c ys k e h =
     subst (λ m. IsHonest (join c (e ∷ []) k) m (ys ++ e ∷ []) k) (sym (total_of-append ys (e ∷ [])))
-    (joins c (e ∷ []) (total_of ys) (total_of (e ∷ [])) ys (e ∷ []) k refl refl h.below h.near (λ x. omega arith) (λ x. omega arith))
+    (joins c (e ∷ []) (total_of ys) (total_of (e ∷ [])) ys (e ∷ []) k refl refl h.below h.near (λ x. omega arith)
+    (λ x. omega arith))
 
-honest-misra_gries_from : (c : Counters) (ys xs : List Entry) (k : ℕ) → IsHonest c (total_of ys) ys k → IsHonest (fold (λ c e. join c (e ∷ []) k) c xs) (total_of (ys ++ xs)) (ys ++ xs) k
+honest-misra_gries_from : (c : Counters) (ys xs : List Entry) (k : ℕ) → IsHonest c (total_of ys) ys k
+    → IsHonest (fold (λ c e. join c (e ∷ []) k) c xs) (total_of (ys ++ xs)) (ys ++ xs) k
 honest-misra_gries_from c ys [] k h = subst (λ (zs : List Entry). IsHonest c (total_of zs) zs k) (sym (append-nil ys)) h
 honest-misra_gries_from c ys (e ∷ xs) k h =
-    subst (λ (zs : List Entry). IsHonest (fold (λ c e. join c (e ∷ []) k) (join c (e ∷ []) k) xs) (total_of zs) zs k) (append_assoc ys (e ∷ []) xs)
+    subst (λ (zs : List Entry). IsHonest (fold (λ c e. join c (e ∷ []) k) (join c (e ∷ []) k) xs) (total_of zs) zs k)
+    (append_assoc ys (e ∷ []) xs)
     (honest-misra_gries_from (join c (e ∷ []) k) (ys ++ e ∷ []) xs k (one_more c ys k e h))
 
 nothing : (k : ℕ) → IsHonest [] 0 [] k
 unfolding IsStrictlySortedBy
-nothing k = record { counters = record { rising = tt; positive = tt }; counted = refl; few = omega arith; below = λ x. omega arith; near = λ x. omega arith }
+nothing k = record {
+  counters = record { rising = tt; positive = tt };
+  counted = refl;
+  few = omega arith;
+  below = λ x. omega arith;
+  near = λ x. omega arith;
+}
 
 pub honest-misra_gries : (xs : List Entry) (k : ℕ) → IsHonest (misra_gries xs k) (total_of xs) xs k
 unfolding misra_gries
@@ -77,9 +104,17 @@ honest-misra_gries xs k = honest-misra_gries_from [] [] xs k (nothing k)
 -- ---- what a summary keeps
 pub fits_nothing : (k : ℕ) → 1 ≤ k → k ≤ 65535 → Fits k 0 []
 unfolding IsStrictlySortedBy
-fits_nothing k a b = record { some = a; bounded_k = b; bounded_total = omega arith; few = omega arith; entries = record { rising = tt; positive = tt }; within = omega arith }
+fits_nothing k a b = record {
+  some = a;
+  bounded_k = b;
+  bounded_total = omega arith;
+  few = omega arith;
+  entries = record { rising = tt; positive = tt };
+  within = omega arith;
+}
 
-pub fits_join : (c d : Counters) (m l k : ℕ) → Fits k m c → total_of d ≤ l → m + l < 2 ^ 63 → Fits k (m + l) (join c d k)
+pub fits_join : (c d : Counters) (m l k : ℕ) → Fits k m c → total_of d ≤ l → m + l < 2 ^ 63
+    → Fits k (m + l) (join c d k)
 fits_join c d m l k h w b = record {
   some = h.some;
   bounded_k = h.bounded_k;
@@ -92,10 +127,14 @@ fits_join c d m l k h w b = record {
 -- ---- one item more
 pub sketch_push : (k : ℕ) (xs : List Entry) (e : Entry) → sketch_of k (xs ++ e ∷ []) ≡ added (sketch_of k xs) e
 unfolding misra_gries
-sketch_push k xs e = let more : total_of (xs ++ e ∷ []) ≡ total_of xs + e.1 = omega (arith, total_of-append xs (e ∷ [])) in λ i. record { k = k; total = more i; counters = fold_push (λ c e. join c (e ∷ []) k) [] xs e i }
+sketch_push k xs e = let more : total_of (xs ++ e ∷ [])
+    ≡ total_of xs + e.1 = omega (arith, total_of-append xs (e ∷ [])) in
+    λ i. record { k = k; total = more i; counters = fold_push (λ c e. join c (e ∷ []) k) [] xs e i }
 
-pub sketch_more : (k : ℕ) (xs : List Entry) (i : ℕ) (e : Entry) → i < length xs → e ≡ get_or xs i e → sketch_of k (take (i + 1) xs) ≡ added (sketch_of k (take i xs)) e
-sketch_more k xs i e l is = ap (sketch_of k) (take_more xs i e l) ∙ sketch_push k (take i xs) (get_or xs i e) ∙ ap (added (sketch_of k (take i xs))) (sym is)
+pub sketch_more : (k : ℕ) (xs : List Entry) (i : ℕ) (e : Entry) → i < length xs → e ≡ get_or xs i e
+    → sketch_of k (take (i + 1) xs) ≡ added (sketch_of k (take i xs)) e
+sketch_more k xs i e l is = ap (sketch_of k) (take_more xs i e l) ∙ sketch_push k (take i xs) (get_or xs i e)
+    ∙ ap (added (sketch_of k (take i xs))) (sym is)
 
 -- nothing, and the empty stream
 pub sketch_nothing : (k : ℕ) → sketch_of k [] ≡ record { k = k; total = 0; counters = [] }
@@ -114,10 +153,21 @@ no_weight : (n : ℕ) (xs : List Entry) → longest xs < n → weight_of (replic
 unfolding longest
 no_weight n [] l = refl
 no_weight n (e ∷ xs) l =
-    elim (key_cmp (replicate n 0) e.0) as (λ r. key_cmp (replicate n 0) e.0 ≡ r → weight_of (replicate n 0) (e ∷ xs) ≡ 0) [
-      | Less ↦ λ p. omega (arith, weight_of-cons (replicate n 0) e xs, at_other (replicate n 0) e Less p refl, no_weight n xs (omega arith))
+    elim (key_cmp (replicate n 0) e.0) as (λ r. key_cmp (replicate n 0) e.0 ≡ r
+    → weight_of (replicate n 0) (e ∷ xs) ≡ 0) [
+      | Less ↦ λ p. omega (
+        arith,
+        weight_of-cons (replicate n 0) e xs,
+        at_other (replicate n 0) e Less p refl,
+        no_weight n xs (omega arith),
+      )
       | Equal ↦ λ p. absurd (absent_key n e.0 (omega arith) p)
-      | Greater ↦ λ p. omega (arith, weight_of-cons (replicate n 0) e xs, at_other (replicate n 0) e Greater p refl, no_weight n xs (omega arith))
+      | Greater ↦ λ p. omega (
+        arith,
+        weight_of-cons (replicate n 0) e xs,
+        at_other (replicate n 0) e Greater p refl,
+        no_weight n xs (omega arith),
+      )
     ] refl
 
 -- at a key that does not come, `near` says that the counters are within the total
@@ -129,13 +179,17 @@ honest_within c m xs k h =
     let zero : (k + 1) * weight_of x c ≡ 0 = ap (λ n. (k + 1) * n) none_c ∙ mul-zero (k + 1) in
     omega (arith, zero, h.near x)
 
-pub honest_near : (c : Counters) (m : ℕ) (xs : List Entry) (k : ℕ) → IsHonest c m xs k → (x : Bytes) → (k + 1) * (weight_of x xs - weight_of x c) ≤ m - total_of c
+pub honest_near : (c : Counters) (m : ℕ) (xs : List Entry) (k : ℕ) → IsHonest c m xs k → (x : Bytes)
+    → (k + 1) * (weight_of x xs - weight_of x c) ≤ m - total_of c
 honest_near c m xs k h x =
-    let parts : (k + 1) * weight_of x xs ≡ (k + 1) * weight_of x c + (k + 1) * (weight_of x xs - weight_of x c) = ap (λ n. (k + 1) * n) {x = weight_of x xs} {y = weight_of x c + (weight_of x xs - weight_of x c)} (omega (arith, h.below x)) ∙ mul-add (k + 1) _ _ in
+    let parts : (k + 1) * weight_of x xs ≡ (k + 1) * weight_of x c + (k + 1) * (weight_of x xs - weight_of x c) = ap
+    (λ n. (k + 1) * n) {x = weight_of x xs} {y = weight_of x c + (weight_of x xs - weight_of x c)}
+    (omega (arith, h.below x)) ∙ mul-add (k + 1) _ _ in
     omega (arith, parts, h.near x, honest_within c m xs k h)
 
 -- only the weights matter, not the order of the items
-pub honest_same : (c : Counters) (m : ℕ) (xs ys : List Entry) (k : ℕ) → IsPermutation xs ys → IsHonest c m xs k → IsHonest c m ys k
+pub honest_same : (c : Counters) (m : ℕ) (xs ys : List Entry) (k : ℕ) → IsPermutation xs ys → IsHonest c m xs k
+    → IsHonest c m ys k
 honest_same c m xs ys k p h =
     let same : (x : Bytes) → weight_of x ys ≡ weight_of x xs = λ x. sum_by-IsPermutation (at_key x) xs ys p in
     record {
@@ -161,32 +215,44 @@ lower_none (e ∷ c) h =
     sub-zero n = omega arith
 
 -- an item's counter is joined by adding it, less the level
-pub join_one : (c : Counters) (e : Entry) (k : ℕ) → IsCounters c → join c (e ∷ []) k ≡ lower (level (add_at c e) k) (add_at c e)
+pub join_one : (c : Counters) (e : Entry) (k : ℕ) → IsCounters c
+    → join c (e ∷ []) k ≡ lower (level (add_at c e) k) (add_at c e)
 join_one c e k h = ap (λ (d : Counters). lower (level d k) d) (plus_is_fold c (e ∷ []) h)
 
 -- where there is room, the level is 0
-pub join_room : (c : Counters) (e : Entry) (k : ℕ) → IsCounters c → 0 < e.1 → length (add_at c e) ≤ k → join c (e ∷ []) k ≡ add_at c e
+pub join_room : (c : Counters) (e : Entry) (k : ℕ) → IsCounters c → 0 < e.1 → length (add_at c e) ≤ k
+    → join c (e ∷ []) k ≡ add_at c e
 join_room c e k h p few =
     join_one c e k h ∙ ap (λ t. lower t (add_at c e)) (level_few (add_at c e) k few)
     ∙ lower_none (add_at c e) (positive-add_at c e h.positive p)
 
 pub length-add_at : (c : Counters) (e : Entry) → length (add_at c e) ≤ length c + 1
 length-add_at [] e = omega arith
-length-add_at (d ∷ c) e = elim (key_cmp e.0 d.0) as (λ r. length (match_ordering r (e ∷ d ∷ c) ((d.0, d.1 + e.1) ∷ c) (d ∷ add_at c e)) ≤ length (d ∷ c) + 1) [
-  | Less ↦ omega arith
-  | Equal ↦ omega arith
-  | Greater ↦ omega (arith, length-add_at c e)
-]
+length-add_at (d ∷ c) e =
+    elim (key_cmp e.0 d.0) as (λ r. length (match_ordering r (e ∷ d ∷ c) ((d.0, d.1 + e.1) ∷ c) (d ∷ add_at c e))
+    ≤ length (d ∷ c) + 1) [
+      | Less ↦ omega arith
+      | Equal ↦ omega arith
+      | Greater ↦ omega (arith, length-add_at c e)
+    ]
 
 -- ---- a newcomer at its place
 over-insert : (c : Counters) (i : ℕ) (e : Entry) (t : ℕ) → i ≤ length c → over (insert c i e) t ≡ over (e ∷ c) t
 over-insert c zero e t l = refl
 over-insert [] (suc i) e t l = absurd (omega arith)
 over-insert (f ∷ c) (suc i) e t l =
-    omega (arith, over-cons f (insert c i e) t, over-insert c i e t (omega arith), over-cons e (f ∷ c) t, over-cons f c t, over-cons e c t)
+    omega (
+      arith,
+      over-cons f (insert c i e) t,
+      over-insert c i e t (omega arith),
+      over-cons e (f ∷ c) t,
+      over-cons f c t,
+      over-cons e c t,
+    )
 
 -- what is not above the level goes, so it need not have come
-pub lower-insert : (t : ℕ) (c : Counters) (i : ℕ) (e : Entry) → i ≤ length c → e.1 ≤ t → lower t (insert c i e) ≡ lower t c
+pub lower-insert : (t : ℕ) (c : Counters) (i : ℕ) (e : Entry) → i ≤ length c → e.1 ≤ t
+    → lower t (insert c i e) ≡ lower t c
 lower-insert t c zero e l h = by_lower (λ d. d ≡ lower t c) t e c (λ m. absurd (omega arith)) (λ m. refl)
 lower-insert t [] (suc i) e l h = absurd (omega arith)
 lower-insert t (f ∷ c) (suc i) e l h =
@@ -195,7 +261,8 @@ lower-insert t (f ∷ c) (suc i) e l h =
     ∙ sym (lower-cons t f c)
 
 -- where a newcomer makes k + 1 counters, the least of all is taken from each
-pub join_full : (c : Counters) (i : ℕ) (e : Entry) (k : ℕ) → IsCounters c → i ≤ length c → length c ≡ k → insert c i e ≡ add_at c e → join c (e ∷ []) k ≡ lower (least_counter (e ∷ c)) (insert c i e)
+pub join_full : (c : Counters) (i : ℕ) (e : Entry) (k : ℕ) → IsCounters c → i ≤ length c → length c ≡ k
+    → insert c i e ≡ add_at c e → join c (e ∷ []) k ≡ lower (least_counter (e ∷ c)) (insert c i e)
 join_full c i e k h l full is =
     let top = is_level (e ∷ c) k in
     let same : IsLevel (insert c i e) k (level (e ∷ c) k) = record {
@@ -204,4 +271,5 @@ join_full c i e k h l full is =
     } in
     join_one c e k h
     ∙ ap (λ d. lower (level d k) d) (sym is)
-    ∙ ap (λ t. lower t (insert c i e)) (one_level (insert c i e) k _ _ (is_level (insert c i e) k) same ∙ level_one_more (e ∷ c) k (omega arith))
+    ∙ ap (λ t. lower t (insert c i e)) (one_level (insert c i e) k _ _ (is_level (insert c i e) k) same
+    ∙ level_one_more (e ∷ c) k (omega arith))

@@ -55,9 +55,12 @@ at_both false m n = refl
 pub weight_of-add_at : (x : Bytes) (c : Counters) (e : Entry) → weight_of x (add_at c e) ≡ weight_of x c + at_key x e
 weight_of-add_at x [] e = refl
 weight_of-add_at x (d ∷ c) e =
-    elim (key_cmp e.0 d.0) as (λ r. key_cmp e.0 d.0 ≡ r → weight_of x (match_ordering r (e ∷ d ∷ c) ((d.0, d.1 + e.1) ∷ c) (d ∷ add_at c e)) ≡ weight_of x (d ∷ c) + at_key x e) [
+    elim (key_cmp e.0 d.0) as (λ r. key_cmp e.0 d.0 ≡ r
+    → weight_of x (match_ordering r (e ∷ d ∷ c) ((d.0, d.1 + e.1) ∷ c) (d ∷ add_at c e))
+    ≡ weight_of x (d ∷ c) + at_key x e) [
       | Less ↦ λ p. omega (arith, weight_of-cons x e (d ∷ c))
-      | Equal ↦ λ p. let same : at_key x e ≡ cond (same_key x d.0) e.1 0 = ap (λ y. cond (same_key x y) e.1 0) (key_exact e.0 d.0 p) in
+      | Equal ↦ λ p. let same : at_key x e ≡ cond (same_key x d.0) e.1 0 =
+          ap (λ y. cond (same_key x y) e.1 0) (key_exact e.0 d.0 p) in
           omega (arith, weight_of-cons x (d.0, d.1 + e.1) c, weight_of-cons x d c, at_both (same_key x d.0) d.1 e.1)
       | Greater ↦ λ p. omega (arith, weight_of-cons x d (add_at c e), weight_of-cons x d c, weight_of-add_at x c e)
     ] refl
@@ -65,44 +68,53 @@ weight_of-add_at x (d ∷ c) e =
 pub total_of-add_at : (c : Counters) (e : Entry) → total_of (add_at c e) ≡ total_of c + e.1
 total_of-add_at [] e = refl
 total_of-add_at (d ∷ c) e =
-    elim (key_cmp e.0 d.0) as (λ r. total_of (match_ordering r (e ∷ d ∷ c) ((d.0, d.1 + e.1) ∷ c) (d ∷ add_at c e)) ≡ total_of (d ∷ c) + e.1) [
+    elim (key_cmp e.0 d.0) as (λ r. total_of (match_ordering r (e ∷ d ∷ c) ((d.0, d.1 + e.1) ∷ c) (d ∷ add_at c e))
+    ≡ total_of (d ∷ c) + e.1) [
       | Less ↦ omega (arith, total_of-cons e (d ∷ c))
       | Equal ↦ omega (arith, total_of-cons (d.0, d.1 + e.1) c, total_of-cons d c)
       | Greater ↦ omega (arith, total_of-cons d (add_at c e), total_of-cons d c, total_of-add_at c e)
     ]
 
 -- a key below all of them and below e
-above_add_at : (z : Bytes) (c : Counters) (e : Entry) → key_cmp z e.0 ≡ Less → AllByRecursion (λ y. key_cmp z y ≡ Less) (keys_of c) → AllByRecursion (λ y. key_cmp z y ≡ Less) (keys_of (add_at c e))
+above_add_at : (z : Bytes) (c : Counters) (e : Entry) → key_cmp z e.0 ≡ Less
+    → AllByRecursion (λ y. key_cmp z y ≡ Less) (keys_of c)
+    → AllByRecursion (λ y. key_cmp z y ≡ Less) (keys_of (add_at c e))
 above_add_at z [] e p h = (p, h)
 above_add_at z (d ∷ c) e p h =
-    elim (key_cmp e.0 d.0) as (λ r. AllByRecursion (λ y. key_cmp z y ≡ Less) (keys_of (match_ordering r (e ∷ d ∷ c) ((d.0, d.1 + e.1) ∷ c) (d ∷ add_at c e)))) [
+    elim (key_cmp e.0 d.0) as (λ r. AllByRecursion (λ y. key_cmp z y ≡ Less)
+    (keys_of (match_ordering r (e ∷ d ∷ c) ((d.0, d.1 + e.1) ∷ c) (d ∷ add_at c e)))) [
       | Less ↦ (p, h)
       | Equal ↦ h
       | Greater ↦ (h.0, above_add_at z c e p h.1)
     ]
 
 -- what is below the first is below all
-pub above_first : (z y : Bytes) (ks : List Bytes) → key_cmp z y ≡ Less → AllByRecursion (λ k. key_cmp y k ≡ Less) ks → AllByRecursion (λ k. key_cmp z k ≡ Less) ks
+pub above_first : (z y : Bytes) (ks : List Bytes) → key_cmp z y ≡ Less → AllByRecursion (λ k. key_cmp y k ≡ Less) ks
+    → AllByRecursion (λ k. key_cmp z k ≡ Less) ks
 above_first z y [] p h = h
 above_first z y (k ∷ ks) p h = (key_total.trans z y k p h.0, above_first z y ks p h.1)
 
 pub turned : (x y : Bytes) → key_cmp x y ≡ Greater → key_cmp y x ≡ Less
 turned x y p = key_total.antisymm y x ∙ ap ordering_reverse p
 
-pub rising-add_at : (c : Counters) (e : Entry) → IsStrictlySortedBy key_cmp (keys_of c) → IsStrictlySortedBy key_cmp (keys_of (add_at c e))
+pub rising-add_at : (c : Counters) (e : Entry) → IsStrictlySortedBy key_cmp (keys_of c)
+    → IsStrictlySortedBy key_cmp (keys_of (add_at c e))
 unfolding IsStrictlySortedBy
 rising-add_at [] e h = (tt, tt)
 rising-add_at (d ∷ c) e h =
-    elim (key_cmp e.0 d.0) as (λ r. key_cmp e.0 d.0 ≡ r → IsStrictlySortedBy key_cmp (keys_of (match_ordering r (e ∷ d ∷ c) ((d.0, d.1 + e.1) ∷ c) (d ∷ add_at c e)))) [
+    elim (key_cmp e.0 d.0) as (λ r. key_cmp e.0 d.0 ≡ r
+    → IsStrictlySortedBy key_cmp (keys_of (match_ordering r (e ∷ d ∷ c) ((d.0, d.1 + e.1) ∷ c) (d ∷ add_at c e)))) [
       | Less ↦ λ p. ((p, above_first e.0 d.0 (keys_of c) p h.0), h)
       | Equal ↦ λ p. h
       | Greater ↦ λ p. (above_add_at d.0 c e (turned e.0 d.0 p) h.0, rising-add_at c e h.1)
     ] refl
 
 -- ---- a list counted up
-weight_of-tally_from : (x : Bytes) (c : Counters) (xs : List Entry) → weight_of x (fold add_at c xs) ≡ weight_of x c + weight_of x xs
+weight_of-tally_from : (x : Bytes) (c : Counters) (xs : List Entry)
+    → weight_of x (fold add_at c xs) ≡ weight_of x c + weight_of x xs
 weight_of-tally_from x c [] = sym (add-zero (weight_of x c))
-weight_of-tally_from x c (e ∷ xs) = omega (arith, weight_of-tally_from x (add_at c e) xs, weight_of-add_at x c e, weight_of-cons x e xs)
+weight_of-tally_from x c (e ∷ xs) =
+    omega (arith, weight_of-tally_from x (add_at c e) xs, weight_of-add_at x c e, weight_of-cons x e xs)
 
 pub weight_of-tally : (x : Bytes) (xs : List Entry) → weight_of x (tally xs) ≡ weight_of x xs
 unfolding tally
@@ -110,13 +122,15 @@ weight_of-tally x xs = omega (arith, weight_of-tally_from x [] xs)
 
 total_of-tally_from : (c : Counters) (xs : List Entry) → total_of (fold add_at c xs) ≡ total_of c + total_of xs
 total_of-tally_from c [] = sym (add-zero (total_of c))
-total_of-tally_from c (e ∷ xs) = omega (arith, total_of-tally_from (add_at c e) xs, total_of-add_at c e, total_of-cons e xs)
+total_of-tally_from c (e ∷ xs) =
+    omega (arith, total_of-tally_from (add_at c e) xs, total_of-add_at c e, total_of-cons e xs)
 
 pub total_of-tally : (xs : List Entry) → total_of (tally xs) ≡ total_of xs
 unfolding tally
 total_of-tally xs = omega (arith, total_of-tally_from [] xs)
 
-rising-tally_from : (c : Counters) (xs : List Entry) → IsStrictlySortedBy key_cmp (keys_of c) → IsStrictlySortedBy key_cmp (keys_of (fold add_at c xs))
+rising-tally_from : (c : Counters) (xs : List Entry) → IsStrictlySortedBy key_cmp (keys_of c)
+    → IsStrictlySortedBy key_cmp (keys_of (fold add_at c xs))
 rising-tally_from c [] h = h
 rising-tally_from c (e ∷ xs) h = rising-tally_from (add_at c e) xs (rising-add_at c e h)
 
@@ -124,16 +138,19 @@ pub rising-tally : (xs : List Entry) → IsStrictlySortedBy key_cmp (keys_of (ta
 unfolding tally IsStrictlySortedBy
 rising-tally xs = rising-tally_from [] xs tt
 
-pub positive-add_at : (c : Counters) (e : Entry) → AllByRecursion (λ d. 0 < d.1) c → 0 < e.1 → AllByRecursion (λ d. 0 < d.1) (add_at c e)
+pub positive-add_at : (c : Counters) (e : Entry) → AllByRecursion (λ d. 0 < d.1) c → 0 < e.1
+    → AllByRecursion (λ d. 0 < d.1) (add_at c e)
 positive-add_at [] e h p = (p, tt)
 positive-add_at (d ∷ c) e h p =
-    elim (key_cmp e.0 d.0) as (λ r. AllByRecursion (λ d. 0 < d.1) (match_ordering r (e ∷ d ∷ c) ((d.0, d.1 + e.1) ∷ c) (d ∷ add_at c e))) [
+    elim (key_cmp e.0 d.0) as (λ r. AllByRecursion (λ d. 0 < d.1)
+    (match_ordering r (e ∷ d ∷ c) ((d.0, d.1 + e.1) ∷ c) (d ∷ add_at c e))) [
       | Less ↦ (p, h)
       | Equal ↦ (omega arith, h.1)
       | Greater ↦ (h.0, positive-add_at c e h.1 p)
     ]
 
-positive-tally_from : (c : Counters) (xs : List Entry) → AllByRecursion (λ d. 0 < d.1) c → AllByRecursion (λ d. 0 < d.1) xs → AllByRecursion (λ d. 0 < d.1) (fold add_at c xs)
+positive-tally_from : (c : Counters) (xs : List Entry) → AllByRecursion (λ d. 0 < d.1) c
+    → AllByRecursion (λ d. 0 < d.1) xs → AllByRecursion (λ d. 0 < d.1) (fold add_at c xs)
 positive-tally_from c [] h p = h
 positive-tally_from c (e ∷ xs) h p = positive-tally_from (add_at c e) xs (positive-add_at c e h p.0) p.1
 
@@ -145,7 +162,8 @@ positive-tally xs p = positive-tally_from [] xs tt p
 pub counters-tally : (xs : List Entry) → AllByRecursion (λ d. 0 < d.1) xs → IsCounters (tally xs)
 counters-tally xs p = record { rising = rising-tally xs; positive = positive-tally xs p }
 
-all-append : (P : Entry → Type 0) (c d : List Entry) → AllByRecursion P c → AllByRecursion P d → AllByRecursion P (c ++ d)
+all-append : (P : Entry → Type 0) (c d : List Entry) → AllByRecursion P c → AllByRecursion P d
+    → AllByRecursion P (c ++ d)
 all-append P [] d h g = g
 all-append P (e ∷ c) d h g = (h.0, all-append P c d h.1 g)
 
@@ -170,16 +188,21 @@ weight_above x [] h = refl
 weight_above x (e ∷ c) h = omega (arith, weight_of-cons x e c, at_other x e Less h.0 refl, weight_above x c h.1)
 
 -- the first entry's key has that entry's number
-pub weight_first : (e : Entry) (c : Counters) → AllByRecursion (λ y. key_cmp e.0 y ≡ Less) (keys_of c) → weight_of e.0 (e ∷ c) ≡ e.1
+pub weight_first : (e : Entry) (c : Counters) → AllByRecursion (λ y. key_cmp e.0 y ≡ Less) (keys_of c)
+    → weight_of e.0 (e ∷ c) ≡ e.1
 weight_first e c h = omega (arith, weight_of-cons e.0 e c, at_same e.0 e.1, weight_above e.0 c h)
 
 -- the first key of a map stands in no map that begins above it
-not_below : (d e : Entry) (c f : Counters) → IsStrictlySortedBy key_cmp (keys_of (d ∷ c)) → 0 < d.1 → IsStrictlySortedBy key_cmp (keys_of (e ∷ f)) → key_cmp d.0 e.0 ≡ Less → weight_of d.0 (d ∷ c) ≡ weight_of d.0 (e ∷ f) → ⊥
+not_below : (d e : Entry) (c f : Counters) → IsStrictlySortedBy key_cmp (keys_of (d ∷ c)) → 0 < d.1
+    → IsStrictlySortedBy key_cmp (keys_of (e ∷ f)) → key_cmp d.0 e.0 ≡ Less
+    → weight_of d.0 (d ∷ c) ≡ weight_of d.0 (e ∷ f) → ⊥
 unfolding IsStrictlySortedBy
 not_below d e c f h n g p same =
     omega (arith, same, n, weight_first d c h.0, weight_above d.0 (e ∷ f) (p, above_first d.0 e.0 (keys_of f) p g.0))
 
-same_counters_at : (c d : Counters) → IsStrictlySortedBy key_cmp (keys_of c) → AllByRecursion (λ e. 0 < e.1) c → IsStrictlySortedBy key_cmp (keys_of d) → AllByRecursion (λ e. 0 < e.1) d → ((x : Bytes) → weight_of x c ≡ weight_of x d) → c ≡ d
+same_counters_at : (c d : Counters) → IsStrictlySortedBy key_cmp (keys_of c) → AllByRecursion (λ e. 0 < e.1) c
+    → IsStrictlySortedBy key_cmp (keys_of d) → AllByRecursion (λ e. 0 < e.1) d
+    → ((x : Bytes) → weight_of x c ≡ weight_of x d) → c ≡ d
 unfolding IsStrictlySortedBy
 same_counters_at [] [] h m g n same = refl
 same_counters_at [] (e ∷ d) h m g n same = absurd (omega (arith, same e.0, n.0, weight_first e d g.0))
@@ -189,14 +212,17 @@ same_counters_at (e ∷ c) (f ∷ d) h m g n same =
       | Less ↦ λ p. absurd (not_below e f c d h m.0 g p (same e.0))
       | Equal ↦ λ p.
           let keys = key_exact e.0 f.0 p in
-          let numbers : e.1 ≡ f.1 = sym (weight_first e c h.0) ∙ same e.0 ∙ ap (λ k. weight_of k (f ∷ d)) keys ∙ weight_first f d g.0 in
+          let numbers : e.1 ≡ f.1 =
+          sym (weight_first e c h.0) ∙ same e.0 ∙ ap (λ k. weight_of k (f ∷ d)) keys ∙ weight_first f d g.0 in
           let first : e ≡ f = λ i. (keys i, numbers i) in
-          let rest : c ≡ d = same_counters_at c d h.1 m.1 g.1 n.1 (λ x. omega (arith, same x, weight_of-cons x e c, weight_of-cons x f d, ap (at_key x) first)) in
+          let rest : c ≡ d = same_counters_at c d h.1 m.1 g.1 n.1
+          (λ x. omega (arith, same x, weight_of-cons x e c, weight_of-cons x f d, ap (at_key x) first)) in
           λ i. first i ∷ rest i
       | Greater ↦ λ p. absurd (not_below f e d c g n.0 h (turned e.0 f.0 p) (sym (same f.0)))
     ] refl
 
-pub same_counters : (c d : Counters) → IsCounters c → IsCounters d → ((x : Bytes) → weight_of x c ≡ weight_of x d) → c ≡ d
+pub same_counters : (c d : Counters) → IsCounters c → IsCounters d → ((x : Bytes) → weight_of x c ≡ weight_of x d)
+    → c ≡ d
 same_counters c d h g same = same_counters_at c d h.rising h.positive g.rising g.positive same
 
 -- ---- adding entries to counters

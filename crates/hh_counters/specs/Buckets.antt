@@ -1,5 +1,5 @@
 -- Keys in buckets by their counters: a map from a counter to a bucket, in which each key has its place in the index.
-use Rattle.std.specs.Prelude.{◌≡◌, ℕ, ◌+◌, ◌<◌, ◌≤◌, false, ◌&&◌, ◌==◌, if◌then◌else◌, nat_lt, List, position, Option, Some, None, IsSome, IfSome}
+use Rattle.std.specs.Prelude.{◌≡◌, ℕ, ◌<◌, ◌≤◌, Bool, true, false, ◌&&◌, ◌==◌, if◌then◌else◌, nat_lt, List, position, Option, Some, None, IsSome, IfSome}
 use Rattle.std.specs.Ordering.{nat_cmp, is_eq, is_gt}
 use Rattle.std.specs.declared.cmp.Ordering.TheVariants.{Less}
 use Rattle.std.specs.Option.{option_and_then}
@@ -42,7 +42,8 @@ HasNoOther s x = (q : Bytes) → same_key x q ≡ false → place_in s q ≡ Non
 
 -- the key x got this place in the bucket of m, or has none, and nothing else changed
 abbrev pub Changes : Buckets → Buckets → ℕ → Bytes → Option ℕ → Type 0
-Changes old new m x i = (n : ℕ) (q : Bytes) → place_at new n q ≡ (if is_eq (nat_cmp m n) && same_key x q then i else place_at old n q)
+Changes old new m x i =
+    (n : ℕ) (q : Bytes) → place_at new n q ≡ (if is_eq (nat_cmp m n) && same_key x q then i else place_at old n q)
 
 -- the key x, whose place is i, went from the bucket of m to that of n
 abbrev pub Moves : Buckets → Buckets → ℕ → ℕ → Bytes → ℕ → Type 0
@@ -76,39 +77,32 @@ RaisesFirst old new v x i = (n : ℕ) → IsFirst old n x i → n < v → Moves 
 
 -- the bucket of n has exactly the keys of which f is n, each with its place among the keys ks
 abbrev pub Agree : (Bytes → ℕ) → List Bytes → Buckets → Type 0
-Agree f ks b = (n : ℕ) (q : Bytes) → place_at b n q ≡ (if nat_lt 0 n && (f q == n) then position (same_key q) ks else None)
+Agree f ks b =
+    (n : ℕ) (q : Bytes) → place_at b n q ≡ (if nat_lt 0 n && (f q == n) then position (same_key q) ks else None)
 
--- the entries of an index, in any order, and buckets of the same keys: each stands in that of the number f of it, its counter or a lower one
-pub record IsStanding (f : Bytes → ℕ) (es : List Entry) (b : Buckets) : Type 0 where
+-- the entries of an index, in any order, and buckets of the same keys: each stands in that of the number f of it,
+-- which is its counter or, unless they stand exactly, a lower one
+pub record IsStanding (exact : Bool) (f : Bytes → ℕ) (es : List Entry) (b : Buckets) : Type 0 where
   pub distinct : IsDistinct same_key (keys_of es)
   pub positive : (q : Bytes) → IfSome (lookup (same_key q) es) (λ m. 0 < m)
   pub below : (q : Bytes) → (f q ≤ weight_of q (tally es)) × (0 < weight_of q (tally es) → 0 < f q)
+  pub right : exact ≡ true → (q : Bytes) → f q ≡ weight_of q (tally es)
   pub agree : Agree f (keys_of es) b
   pub ordered : AreOrdered b
 
--- an index and buckets of the same monitored keys, each in that of its counter
-pub record IsLinked (k n : ℕ) (es : List Entry) (b : Buckets) : Type 0 where
+-- each key stands in the bucket of its counter or, unless they stand exactly, in one of a lower number
+abbrev pub Stand : Bool → List Entry → Buckets → Type 0
+Stand exact es b = (f : Bytes → ℕ) × IsStanding exact f es b
+
+-- an index and buckets of the same monitored keys, exactly in those of their counters or in such that they had
+pub record IsLinked (exact : Bool) (k n : ℕ) (es : List Entry) (b : Buckets) : Type 0 where
   pub monitor : IsMonitor k n (tally es)
-  pub stands : IsStanding (λ q. weight_of q (tally es)) es b
+  pub stand : Stand exact es b
 
 -- what an item leaves of both parts
-pub record IsAdded (k n : ℕ) (es fs : List Entry) (b : Buckets) (e : Entry) : Type 0 where
-  pub linked : IsLinked k (n + e.1) fs b
+pub record IsTakenIn (exact : Bool) (k : ℕ) (es fs : List Entry) (b : Buckets) (e : Entry) : Type 0 where
   pub step_is : tally fs ≡ step (tally es) e k
-
--- each key stands in the bucket of its counter or in one of a lower number
-abbrev pub Stand : List Entry → Buckets → Type 0
-Stand es b = (f : Bytes → ℕ) × IsStanding f es b
-
--- an index and buckets of the same monitored keys, which may stand in buckets of counters that they had
-pub record IsGathered (k n : ℕ) (es : List Entry) (b : Buckets) : Type 0 where
-  pub monitor : IsMonitor k n (tally es)
-  pub stand : Stand es b
-
--- what an item leaves of both parts
-pub record IsTakenIn (k : ℕ) (es fs : List Entry) (b : Buckets) (e : Entry) : Type 0 where
-  pub step_is : tally fs ≡ step (tally es) e k
-  pub stand : Stand fs b
+  pub stand : Stand exact fs b
 
 -- n and i are the counter and the place of the first key of the first bucket, which stands in the bucket of its counter
 pub record IsSettled (es : List Entry) (b : Buckets) (n i : ℕ) (x : Bytes) : Type 0 where

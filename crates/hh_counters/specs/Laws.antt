@@ -16,17 +16,20 @@ MisraGriesIsHonest = (xs : List Entry) (k : ℕ) → IsHonest (misra_gries xs k)
 -- two honest summaries, joined, are honest for both lists together
 abbrev pub JoinOfHonestIsHonest : Type 0
 JoinOfHonestIsHonest =
-    (c d : Counters) (m l : ℕ) (xs ys : List Entry) (k : ℕ) → IsHonest c m xs k → IsHonest d l ys k → IsHonest (join c d k) (m + l) (xs ++ ys) k
+    (c d : Counters) (m l : ℕ) (xs ys : List Entry) (k : ℕ) → IsHonest c m xs k → IsHonest d l ys k
+    → IsHonest (join c d k) (m + l) (xs ++ ys) k
 
 -- each key above p/q of the total has a counter
 abbrev pub HeavyKeysHaveCounters : Type 0
 HeavyKeysHaveCounters =
-    (c : Counters) (xs : List Entry) (k p q : ℕ) → IsHonest c (total_of xs) xs k → q ≤ p * (k + 1) → (e : Entry) → Contains (heavy xs p q) e → 0 < weight_of e.0 c
+    (c : Counters) (xs : List Entry) (k p q : ℕ) → IsHonest c (total_of xs) xs k → q ≤ p * (k + 1) → (e : Entry)
+    → Contains (heavy xs p q) e → 0 < weight_of e.0 c
 
 -- a counter is at most its key's weight, and at most the slack below it
 abbrev pub CountersBoundWeights : Type 0
 CountersBoundWeights =
-    (c : Counters) (xs : List Entry) (k : ℕ) → IsHonest c (total_of xs) xs k → (x : Bytes) → (weight_of x c ≤ weight_of x xs) × (weight_of x xs ≤ weight_of x c + slack c (total_of xs) k)
+    (c : Counters) (xs : List Entry) (k : ℕ) → IsHonest c (total_of xs) xs k → (x : Bytes)
+    → (weight_of x c ≤ weight_of x xs) × (weight_of x xs ≤ weight_of x c + slack c (total_of xs) k)
 
 -- the computed level is the least such number, and no other number is
 abbrev pub LevelIsLeast : Type 0
@@ -35,13 +38,15 @@ LevelIsLeast = (c : Counters) (k t : ℕ) → IsLevel c k (level c k) × (IsLeve
 -- the sum is the finite map with both numbers at each key, and no other is
 abbrev pub SumIsByKey : Type 0
 SumIsByKey =
-    (c d : Counters) → IsCounters c → IsCounters d → IsCounters (plus c d) × ((x : Bytes) → weight_of x (plus c d) ≡ weight_of x c + weight_of x d)
+    (c d : Counters) → IsCounters c → IsCounters d → IsCounters (plus c d) × ((x : Bytes)
+    → weight_of x (plus c d) ≡ weight_of x c + weight_of x d)
     × ((s : Counters) → IsCounters s → ((x : Bytes) → weight_of x s ≡ weight_of x c + weight_of x d) → s ≡ plus c d)
 
 -- what a join leaves is a finite map with each number less the level
 abbrev pub JoinTakesTheLevel : Type 0
 JoinTakesTheLevel =
-    (c d : Counters) (k : ℕ) → IsCounters (join c d k) × ((x : Bytes) → weight_of x (join c d k) ≡ weight_of x c + weight_of x d - level (plus c d) k)
+    (c d : Counters) (k : ℕ) → IsCounters (join c d k)
+    × ((x : Bytes) → weight_of x (join c d k) ≡ weight_of x c + weight_of x d - level (plus c d) k)
 
 -- the report is exact and in order
 abbrev pub ReportIsExact : Type 0
@@ -55,7 +60,8 @@ HonestIsNear =
 
 -- only the weights matter, not the order of the items
 abbrev pub HonestInAnyOrder : Type 0
-HonestInAnyOrder = (c : Counters) (m : ℕ) (xs ys : List Entry) (k : ℕ) → IsPermutation xs ys → IsHonest c m xs k → IsHonest c m ys k
+HonestInAnyOrder =
+    (c : Counters) (m : ℕ) (xs ys : List Entry) (k : ℕ) → IsPermutation xs ys → IsHonest c m xs k → IsHonest c m ys k
 
 -- two lists that say what a report must are one
 abbrev pub ReportIsUnique : Type 0
@@ -65,14 +71,17 @@ ReportIsUnique = (xs : List Entry) (p q : ℕ) (es : List Entry) → IsReport xs
 abbrev pub CandidatesSuffice : Type 0
 CandidatesSuffice =
     (c : Counters) (xs : List Entry) (k p q : ℕ)
-    → (IsCounters c → selected p q (total_of xs) (zip (keys_of c) (weights_at (keys_of c) xs)) ≡ filter (has_counter c) (heavy xs p q))
-    × (IsHonest c (total_of xs) xs k → q ≤ p * (k + 1) → selected p q (total_of xs) (zip (keys_of c) (weights_at (keys_of c) xs)) ≡ heavy xs p q)
+    → (IsCounters c → selected p q (total_of xs) (zip (keys_of c) (weights_at (keys_of c) xs))
+    ≡ filter (has_counter c) (heavy xs p q))
+    × (IsHonest c (total_of xs) xs k → q ≤ p * (k + 1)
+    → selected p q (total_of xs) (zip (keys_of c) (weights_at (keys_of c) xs)) ≡ heavy xs p q)
 
 -- of an honest summary the contenders for a share are candidates enough
 abbrev pub ContendersSuffice : Type 0
 ContendersSuffice =
     (s : Sketch) (xs : List Entry) (p q : ℕ) → IsHonest s.counters s.total xs s.k → q ≤ p * (s.k + 1)
-    → selected p q (total_of xs) (zip (keys_of (contenders p q s)) (weights_at (keys_of (contenders p q s)) xs)) ≡ heavy xs p q
+    → selected p q (total_of xs) (zip (keys_of (contenders p q s)) (weights_at (keys_of (contenders p q s)) xs))
+    ≡ heavy xs p q
 
 -- where no weight is above its key's bound, the keys whose bound is more than a share are candidates enough
 abbrev pub ThinnedSuffice : Type 0
@@ -85,7 +94,8 @@ ThinnedSuffice =
 abbrev pub CountsAddUp : Type 0
 CountsAddUp =
     (ks : List Bytes) (xs ys : List Entry) (ns : List ℕ)
-    → (counted ks xs (replicate (length ks) 0) ≡ weights_at ks xs) × (counted ks (xs ++ ys) ns ≡ counted ks ys (counted ks xs ns))
+    → (counted ks xs (replicate (length ks) 0) ≡ weights_at ks xs)
+    × (counted ks (xs ++ ys) ns ≡ counted ks ys (counted ks xs ns))
 
 -- there is a number for each key still, and none grows by more than the items' total
 abbrev pub CountsStayWithin : Type 0
@@ -95,9 +105,11 @@ CountsStayWithin =
 
 -- the counters of a run add up to the items' total
 abbrev pub RunSumsToTotal : Type 0
-RunSumsToTotal = (xs : List Entry) (k : ℕ) (s : Counters) → All (λ e. 0 < e.1) xs → IsRun xs k s → total_of s ≡ total_of xs
+RunSumsToTotal =
+    (xs : List Entry) (k : ℕ) (s : Counters) → All (λ e. 0 < e.1) xs → IsRun xs k s → total_of s ≡ total_of xs
 
--- a monitored key's counter is at least its weight, and above it by at most the least counter; no other key weighs more than that
+-- a monitored key's counter is at least its weight, and above it by at most the least counter; no other key weighs more
+-- than that
 abbrev pub RunBoundsWeights : Type 0
 RunBoundsWeights =
     (xs : List Entry) (k : ℕ) (s : Counters) → All (λ e. 0 < e.1) xs → IsRun xs k s → (x : Bytes)
@@ -106,7 +118,8 @@ RunBoundsWeights =
 
 -- a run, translated, is Misra-Gries, whichever least keys were dropped
 abbrev pub TranslationIsMisraGries : Type 0
-TranslationIsMisraGries = (xs : List Entry) (k : ℕ) (s : Counters) → All (λ e. 0 < e.1) xs → IsRun xs k s → translate s k ≡ misra_gries xs k
+TranslationIsMisraGries =
+    (xs : List Entry) (k : ℕ) (s : Counters) → All (λ e. 0 < e.1) xs → IsRun xs k s → translate s k ≡ misra_gries xs k
 
 -- the product's steps make a run
 abbrev pub StepsAreARun : Type 0
@@ -116,13 +129,15 @@ StepsAreARun = (xs : List Entry) (k : ℕ) → All (λ e. 0 < e.1) xs → IsRun 
 abbrev pub SummariesFollowItems : Type 0
 SummariesFollowItems =
     (k : ℕ) (xs : List Entry) (e : Entry)
-    → (sketch_of k [] ≡ record { k = k; total = 0; counters = [] }) × (sketch_of k (xs ++ e ∷ []) ≡ added (sketch_of k xs) e)
+    → (sketch_of k [] ≡ record { k = k; total = 0; counters = [] })
+    × (sketch_of k (xs ++ e ∷ []) ≡ added (sketch_of k xs) e)
 
 -- so it is with a monitor, whose translation at the end is the summary of all
 abbrev pub MonitorsFollowItems : Type 0
 MonitorsFollowItems =
     (k : ℕ) (xs : List Entry) (e : Entry)
-    → (monitor_of k [] ≡ record { k = k; total = 0; counters = [] }) × (monitor_of k (xs ++ e ∷ []) ≡ monitored (monitor_of k xs) e)
+    → (monitor_of k [] ≡ record { k = k; total = 0; counters = [] })
+    × (monitor_of k (xs ++ e ∷ []) ≡ monitored (monitor_of k xs) e)
     × (All (λ e. 0 < e.1) xs → translated (monitor_of k xs) ≡ sketch_of k xs)
 
 -- the name of the entry for other keys is the first that has no counter, and no other name is

@@ -1,4 +1,5 @@
--- Space-Saving (Metwally, Agrawal and El Abbadi 2005, here with weights): k + 1 counters, the least of which goes to a newcomer.
+-- Space-Saving (Metwally, Agrawal and El Abbadi 2005, here with weights): k + 1 counters, the least of which goes to a
+-- newcomer.
 use Rattle.std.specs.Prelude.{◌≡◌, ℕ, ◌+◌, ◌^◌, ◌<◌, ◌≤◌, not, ◌||◌, ◌==◌, if◌then◌else◌, nat_lt, nat_le, List, [], ◌∷◌, length, slice_index_or, filter, fold}
 use Rattle.hh_stream.specs.Weights.{Bytes, Entry, same_key, weight_of, total_of}
 use Rattle.hh_counters.specs.Counters.{max_k, Counters, IsCounters, add_at, lower, least_counter, Sketch}
@@ -27,7 +28,8 @@ pub data IsStep (s : Counters) (e : Entry) (k : ℕ) (t : Counters) : Type 0 whe
   -- a counter is free
   entered : weight_of e.0 s ≡ 0 → length s ≤ k → t ≡ add_at s e → IsStep s e k t
   -- some key with the least counter, any of several, is dropped, and e's key takes its counter over
-  replaced : weight_of e.0 s ≡ 0 → k < length s → (y : Bytes) → HasLeast s y → t ≡ add_at (without s y) (e.0, weight_of y s + e.1) → IsStep s e k t
+  replaced : weight_of e.0 s ≡ 0 → k < length s → (y : Bytes) → HasLeast s y
+      → t ≡ add_at (without s y) (e.0, weight_of y s + e.1) → IsStep s e k t
 
 -- steps by the items lead from s to t
 abbrev pub IsRunFrom : Counters → List Entry → ℕ → Counters → Type 0

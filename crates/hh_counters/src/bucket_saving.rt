@@ -1,12 +1,12 @@
 //! Space-Saving in buckets.
 
-ghost use Rattle.std.specs.Prelude.{◌≡◌, ◌≢◌, ◌+◌, ◌-◌, ◌^◌, ◌<◌, ◌≤◌, ◌↔◌, ◌⊎◌, [], ◌∷◌, ◌++◌, IsSome, IfOk, IsErrOf, OnOk, OnErr, IfErr, None, Some, length, slice_get};
+ghost use Rattle.std.specs.Prelude.{◌≡◌, Bool, true, ℕ, ◌≢◌, ◌+◌, ◌-◌, ◌^◌, ◌<◌, ◌≤◌, ◌↔◌, ◌⊎◌, [], ◌∷◌, ◌++◌, IsSome, IfOk, IsErrOf, OnOk, OnErr, IfErr, None, Some, length, slice_get};
 ghost use Rattle.std.specs.Map.{keys_of, lookup};
 ghost use Rattle.std.specs.List.{IsDistinct};
 ghost use Rattle.indexmap.specs.IndexMap.{get as index_get, index_of, keys, IsUnique, Updates};
-ghost use Rattle.hh_stream.specs.Weights.{Bytes, key_cmp, same_key};
+ghost use Rattle.hh_stream.specs.Weights.{Bytes, key_cmp, same_key, total_of};
 ghost use Rattle.hh_counters.specs.Counters.{max_k, Sketch, IsCounters, tally, lower};
-ghost use Rattle.hh_counters.specs.Buckets.{AreOrdered, Changes, Moves, HasSame, IsLinked, IsAdded};
+ghost use Rattle.hh_counters.specs.Buckets.{AreOrdered, Changes, Moves, HasSame, HasSettled, Stand, IsTakenIn};
 
 use crate::buckets::{Bucket, drop_first, first, put, take};
 use crate::monitor::Monitor;
@@ -36,13 +36,14 @@ pub struct BucketSaving {
 
 impl Model for BucketSaving {
     ghost use Rattle.hh_counters.specs.Counters.{Sketch, tally};
+    ghost use Rattle.std.specs.Prelude.{true};
     ghost use Rattle.hh_counters.specs.Buckets.{IsLinked};
 
     ghost Value = { Sketch };
 
     ghost view = { λ s. record { k = s.k; total = s.total; counters = tally s.index.entries } };
 
-    ghost invariant = { λ s. IsLinked s.k s.total s.index.entries s.buckets };
+    ghost invariant = { λ s. IsLinked true s.k s.total s.index.entries s.buckets };
 }
 
 /// Why there is no new Space-Saving: the first of these that holds.
@@ -109,10 +110,7 @@ impl Monitor for BucketSaving {
     }
 
     fn get(&self, key: &Key) -> u64 {
-        match self.index.get(key) {
-            Some(counter) => *counter,
-            None => 0,
-        }
+        self.index.get(key).copied().unwrap_or(0)
     }
 
     fn add(&mut self, key: &Key, weight: u64) -> Result<(), AddFault> {
@@ -122,7 +120,6 @@ impl Monitor for BucketSaving {
         match add_item(
             self.alloc,
             self.k,
-            self.total,
             &mut self.index,
             &mut self.buckets,
             key,
@@ -179,39 +176,65 @@ fn entries_above(
     Ok(entries)
 }
 
-// Adds the item to both parts, or leaves both as they were.
+// Adds the item to both parts, or leaves the counters as they were.
 fn add_item(
     alloc: Global,
     k: u64,
-    total: u64,
     index: &mut IndexMap<Key, u64>,
     buckets: &mut BTreeMap<u64, Bucket>,
     key: &Key,
     weight: u64,
 ) -> Result<(), AllocError>
     requires positive { 0 < weight }
-    requires bounded { total + weight < 2 ^ 63 }
-    requires linked { IsLinked k total index.old.entries buckets.old }
-    ensures added { OnOk result
-        (IsAdded k total index.old.entries index.new.entries buckets.new (key.now, weight)) }
+    requires bounded { total_of (tally index.old.entries) + weight < 2 ^ 63 }
+    requires stand { Stand true index.old.entries buckets.old }
+    ensures taken { OnOk result
+        (IsTakenIn true k index.old.entries index.new.entries buckets.new (key.now, weight)) }
     ensures unchanged { OnErr result (index.new.entries ≡ index.old.entries) }
-    ensures same { OnErr result (HasSame buckets.old buckets.new) }
-    ensures ordered { AreOrdered buckets.new }
+    ensures stand { OnErr result (Stand true index.new.entries buckets.new) }
 {
     if let Some((place, _, counter)) = index.get_full(key) {
         let from = *counter;
         raise(alloc, index, buckets, key, place, from, from + weight)?;
         return Ok(());
     }
+    let newcomer = key.copy()?;
     let last = index.len();
     if last as u64 <= k {
-        enter(alloc, index, buckets, key, last, weight)?;
+        enter(alloc, index, buckets, newcomer, last, weight)?;
         return Ok(());
     }
-    let Some((least, place)) = first(buckets) else {
+    let Some(least) = first(buckets) else {
         unreachable!("a full index has a first bucket");
     };
-    enter(alloc, index, buckets, key, place, least + weight)?;
+    replace_first(alloc, index, buckets, newcomer, least, weight)?;
+    Ok(())
+}
+
+/// Puts a newcomer at the place of the first key of the first bucket, whose counter and place are
+/// `first`, or leaves both parts as they were.
+pub fn replace_first(
+    alloc: Global,
+    index: &mut IndexMap<Key, u64>,
+    buckets: &mut BTreeMap<u64, Bucket>,
+    newcomer: Key,
+    first: (u64, usize),
+    weight: u64,
+) -> Result<(), AllocError>
+    requires positive { 0 < weight }
+    requires bounded { total_of (tally index.old.entries) + weight < 2 ^ 63 }
+    requires new { index_get same_key index.old newcomer ≡ None }
+    requires settled { HasSettled index.old.entries buckets.old first.0 first.1 }
+    requires ordered { AreOrdered buckets.old }
+    ensures taken { OnOk result ((exact : Bool) (k : ℕ) → Stand exact index.old.entries buckets.old
+        → k < length index.old.entries
+        → IsTakenIn exact k index.old.entries index.new.entries buckets.new (newcomer, weight)) }
+    ensures unchanged { OnErr result (index.new.entries ≡ index.old.entries) }
+    ensures same { OnErr result (HasSame buckets.old buckets.new) }
+    ensures ordered { AreOrdered buckets.new }
+{
+    let (least, place) = first;
+    enter(alloc, index, buckets, newcomer, place, least + weight)?;
     drop_first(buckets);
     // the newcomer, which stands last, goes to the place that it has in its bucket
     index.swap_remove_index(place);
@@ -242,12 +265,12 @@ fn raise(
 {
     put(alloc, buckets, to, key.copy()?, place)?;
     take(buckets, from, key);
-    set_counter(index, key, place, to);
+    set_counter(index, key.bytes(), place, to);
     Ok(())
 }
 
 /// Makes this the counter of the key, which stands at the place.
-pub fn set_counter(index: &mut IndexMap<Key, u64>, key: &Key, place: usize, to: u64)
+pub fn set_counter(index: &mut IndexMap<Key, u64>, key: &[u8], place: usize, to: u64)
     requires place { index_of same_key index.old key.now ≡ Some place }
     ensures set { Updates same_key index.old index.new key.now (Some to) }
     ensures keys { keys index.new ≡ keys index.old }
@@ -263,24 +286,23 @@ pub fn enter(
     alloc: Global,
     index: &mut IndexMap<Key, u64>,
     buckets: &mut BTreeMap<u64, Bucket>,
-    key: &Key,
+    key: Key,
     place: usize,
     counter: u64,
 ) -> Result<(), AllocError>
-    requires new { index_get same_key index.old key.now ≡ None }
+    requires new { index_get same_key index.old key ≡ None }
     requires ordered { AreOrdered buckets.old }
-    ensures entered { OnOk result (Updates same_key index.old index.new key.now (Some counter)) }
-    ensures last { OnOk result (index.new.entries ≡ index.old.entries ++ (key.now, counter) ∷ []) }
-    ensures put { OnOk result (Changes buckets.old buckets.new counter key.now (Some place)) }
+    ensures entered { OnOk result (Updates same_key index.old index.new key (Some counter)) }
+    ensures last { OnOk result (index.new.entries ≡ index.old.entries ++ (key, counter) ∷ []) }
+    ensures put { OnOk result (Changes buckets.old buckets.new counter key (Some place)) }
     ensures unchanged { OnErr result (index.new.entries ≡ index.old.entries) }
     ensures same { OnErr result (HasSame buckets.old buckets.new) }
     ensures ordered { AreOrdered buckets.new }
     ensures distinct { IsUnique same_key index.old → IsUnique same_key index.new }
 {
-    let inner = key.copy()?;
-    let outer = key.copy()?;
-    index.insert(inner, counter)?;
-    if let Err(refused) = put(alloc, buckets, counter, outer, place) {
+    let copy = key.copy()?;
+    index.insert(key, counter)?;
+    if let Err(refused) = put(alloc, buckets, counter, copy, place) {
         index.pop();
         return Err(refused);
     }

@@ -3,48 +3,17 @@
 ghost use Rattle.std.specs.Prelude.{◌≡◌, ℕ, ◌+◌, ◌*◌, ◌<◌, ◌≤◌, ◌^◌, ◌↔◌, ◌==◌, [], ◌∷◌, All, Contains, IsSome, IfSome, IsOk, IfOk, Some, length, slice_get, nat_lt, zip};
 ghost use Rattle.std.specs.List.Sorted.{IsStrictlySortedBy};
 ghost use Rattle.std.specs.Map.{keys_of};
-ghost use Rattle.std.proofs.Common.{ap};
-ghost use Rattle.std.specs.FinMap.{nat_cmp-IsAntisymmetric, slice_cmp-IsAntisymmetric};
-ghost use Rattle.std.specs.Cmp.{eq_by_cmp_equiv, Equal-is};
-ghost use Rattle.std.specs.Cmp.Lexicographic.{bytes_decides, nat_list_cmp_total};
-ghost use Rattle.hh_stream.specs.Weights.{key_cmp, same_key, total_of};
+ghost use Rattle.hh_stream.specs.Weights.{key_cmp, total_of};
 ghost use Rattle.hh_counters.specs.Counters.{max_k};
 ghost use Rattle.hh_counters.specs.Report.{IsShare, contenders, counted, selected, thinned};
 
 use crate::report::{Heavy, is_share, selected_rows};
+use crate::sought::Sought;
 use crate::summary::Summary;
 use hh_stream::{Item, Key};
-use indexmap::{Equivalent, IndexSet};
+use indexmap::IndexSet;
 use std::alloc::{AllocError, Global};
-use std::hash::{Hash, Hasher};
 use std::marker::Model;
-
-/// The bytes of a key that is looked up.
-#[derive(Clone, Copy, PartialEq, Eq)]
-struct Sought<'a>(&'a [u8]);
-
-impl Hash for Sought<'_> {
-    ghost hash_input = { λ sought. sought.0.now ∷ [] };
-
-    ghost respects_eq = { λ x y e. ap (λ key. key ∷ []) ((bytes_decides x.0.now y.0.now).0 e) };
-
-    fn hash<H: Hasher>(&self, state: &mut H) {
-        state.write(self.0);
-    }
-}
-
-impl Equivalent<Key> for Sought<'_> {
-    ghost equivalent = { λ sought. same_key sought.0.now };
-
-    ghost respects_hash = { λ sought key e. ap (λ key. key ∷ [])
-        (slice_cmp-IsAntisymmetric nat_cmp-IsAntisymmetric sought.0.now key ((Equal-is _).0 e)) };
-
-    ghost respects_eq = { λ sought. (eq_by_cmp_equiv nat_list_cmp_total).congr sought.0.now };
-
-    fn equivalent(&self, key: &Key) -> bool {
-        self.0 == key.bytes()
-    }
-}
 
 /// The keys of a summary, each at its place by rising key.
 ///

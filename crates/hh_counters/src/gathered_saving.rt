@@ -1,16 +1,19 @@
 //! Space-Saving in buckets that are put right only before a key is dropped.
 
-ghost use Rattle.std.specs.Prelude.{◌≡◌, ◌+◌, ◌^◌, ◌<◌, ◌≤◌, ◌↔◌, ◌⊎◌, [], IfSome, IsOk, IfOk, IsErrOf, OnOk, OnErr, length};
+ghost use Rattle.std.specs.Prelude.{◌≡◌, false, ◌+◌, ◌^◌, ◌<◌, ◌≤◌, ◌↔◌, ◌⊎◌, [], IfSome, IsOk, IfOk, IsErrOf, OnOk, OnErr, length};
 ghost use Rattle.std.specs.Map.{keys_of, lookup};
 ghost use Rattle.std.specs.List.{IsDistinct};
-ghost use Rattle.hh_stream.specs.Weights.{Bytes, max_total, same_key, weight_of};
+ghost use Rattle.hh_stream.specs.Weights.{Bytes, max_key_len, max_total, same_key, total_of, weight_of};
 ghost use Rattle.hh_counters.specs.Counters.{max_k, tally, least_counter};
 ghost use Rattle.hh_counters.specs.SpaceSaving.{monitored};
-ghost use Rattle.hh_counters.specs.Buckets.{IsGathered, IsTakenIn, Stand, HasSettled};
+ghost use Rattle.hh_counters.specs.Buckets.{IsTakenIn, Stand, HasSettled};
 
-use crate::bucket_saving::{FIRST_ROOM, NewFault, enter, set_counter, translated_entries};
-use crate::buckets::{Bucket, drop_first, first, raise_first};
+use crate::bucket_saving::{
+    FIRST_ROOM, NewFault, enter, replace_first, set_counter, translated_entries,
+};
+use crate::buckets::{Bucket, first, raise_first};
 use crate::monitor::Monitor;
+use crate::sought::Sought;
 use crate::summary::{AddFault, MAX_K, Summary};
 use hh_stream::{Key, MAX_TOTAL};
 use indexmap::IndexMap;
@@ -44,13 +47,14 @@ pub struct GatheredSaving {
 
 impl Model for GatheredSaving {
     ghost use Rattle.hh_counters.specs.Counters.{Sketch, tally};
-    ghost use Rattle.hh_counters.specs.Buckets.{IsGathered};
+    ghost use Rattle.std.specs.Prelude.{false};
+    ghost use Rattle.hh_counters.specs.Buckets.{IsLinked};
 
     ghost Value = { Sketch };
 
     ghost view = { λ s. record { k = s.k; total = s.total; counters = tally s.index.entries } };
 
-    ghost invariant = { λ s. IsGathered s.k s.total s.index.entries s.buckets };
+    ghost invariant = { λ s. IsLinked false s.k s.total s.index.entries s.buckets };
 }
 
 impl GatheredSaving {
@@ -73,6 +77,38 @@ impl GatheredSaving {
                 buckets: BTreeMap::new(alloc),
             }),
             Err(_) => Err(NewFault::Memory),
+        }
+    }
+
+    /// [`add`](Monitor::add) of the key with these bytes, 1 to 4,096 of them.
+    pub fn add_bytes(&mut self, key: &[u8], weight: u64) -> Result<(), AddFault>
+        requires key { (0 < length key.now) × (length key.now ≤ max_key_len) }
+        requires positive { 0 < weight }
+        ensures added { OnOk result (self.new ≡ monitored self.old (key.now, weight)) }
+        ensures unchanged { OnErr result (self.new ≡ self.old) }
+        ensures too_large { IsErrOf result AddFault.TotalTooLarge
+            ↔ (max_total < self.old.total + weight) }
+
+        // a monitored key takes no memory
+        ensures known { 0 < weight_of key.now self.old.counters
+            → self.old.total + weight ≤ max_total → IsOk result }
+    {
+        if weight > MAX_TOTAL - self.total {
+            return Err(AddFault::TotalTooLarge);
+        }
+        match add_item(
+            self.alloc,
+            self.k,
+            &mut self.index,
+            &mut self.buckets,
+            key,
+            weight,
+        ) {
+            Ok(()) => {
+                self.total += weight;
+                Ok(())
+            }
+            Err(_) => Err(AddFault::Memory),
         }
     }
 }
@@ -100,10 +136,7 @@ impl Monitor for GatheredSaving {
     }
 
     fn get(&self, key: &Key) -> u64 {
-        match self.index.get(key) {
-            Some(counter) => *counter,
-            None => 0,
-        }
+        self.index.get(key).copied().unwrap_or(0)
     }
 
     fn add(&mut self, key: &Key, weight: u64) -> Result<(), AddFault>
@@ -117,24 +150,7 @@ impl Monitor for GatheredSaving {
         ensures known { 0 < weight_of key.now self.old.counters
             → self.old.total + weight ≤ max_total → IsOk result }
     {
-        if weight > MAX_TOTAL - self.total {
-            return Err(AddFault::TotalTooLarge);
-        }
-        match add_item(
-            self.alloc,
-            self.k,
-            self.total,
-            &mut self.index,
-            &mut self.buckets,
-            key,
-            weight,
-        ) {
-            Ok(()) => {
-                self.total += weight;
-                Ok(())
-            }
-            Err(_) => Err(AddFault::Memory),
-        }
+        self.add_bytes(key.bytes(), weight)
     }
 
     fn into_summary(self) -> Result<Summary, GatheredSaving> {
@@ -165,39 +181,38 @@ fn least_in(index: &IndexMap<Key, u64>) -> u64
 }
 
 // Adds the item to both parts, or leaves the counters as they were.
+#[tactic(auto, using(crate::proofs::Linked::absent))]
 fn add_item(
     alloc: Global,
     k: u64,
-    total: u64,
     index: &mut IndexMap<Key, u64>,
     buckets: &mut BTreeMap<u64, Bucket>,
-    key: &Key,
+    key: &[u8],
     weight: u64,
 ) -> Result<(), AllocError>
+    requires key { (0 < length key.now) × (length key.now ≤ max_key_len) }
     requires positive { 0 < weight }
-    requires bounded { total + weight < 2 ^ 63 }
-    requires gathered { IsGathered k total index.old.entries buckets.old }
+    requires bounded { total_of (tally index.old.entries) + weight < 2 ^ 63 }
+    requires stand { Stand false index.old.entries buckets.old }
     ensures taken { OnOk result
-        (IsTakenIn k index.old.entries index.new.entries buckets.new (key.now, weight)) }
+        (IsTakenIn false k index.old.entries index.new.entries buckets.new (key.now, weight)) }
     ensures unchanged { OnErr result (index.new.entries ≡ index.old.entries) }
-    ensures stand { OnErr result (Stand index.new.entries buckets.new) }
+    ensures stand { OnErr result (Stand false index.new.entries buckets.new) }
     ensures known { 0 < weight_of key.now (tally index.old.entries) → IsOk result }
 {
-    if let Some((place, _, counter)) = index.get_full(key) {
+    if let Some((place, _, counter)) = index.get_full(Sought(key)) {
         let raised = *counter + weight;
         set_counter(index, key, place, raised);
         return Ok(());
     }
+    let newcomer = Key::of_bytes(alloc, key)?;
     let last = index.len();
     if last as u64 <= k {
-        enter(alloc, index, buckets, key, last, weight)?;
+        enter(alloc, index, buckets, newcomer, last, weight)?;
         return Ok(());
     }
-    let (least, place) = settle(alloc, index, buckets)?;
-    enter(alloc, index, buckets, key, place, least + weight)?;
-    drop_first(buckets);
-    // the newcomer, which stands last, goes to the place that it has in its bucket
-    index.swap_remove_index(place);
+    let least = settle(alloc, index, buckets)?;
+    replace_first(alloc, index, buckets, newcomer, least, weight)?;
     Ok(())
 }
 
@@ -209,8 +224,8 @@ fn settle(
     buckets: &mut BTreeMap<u64, Bucket>,
 ) -> Result<(u64, usize), AllocError>
     requires some { 0 < length index.now.entries }
-    requires stand { Stand index.now.entries buckets.old }
-    ensures stand { Stand index.now.entries buckets.new }
+    requires stand { Stand false index.now.entries buckets.old }
+    ensures stand { Stand false index.now.entries buckets.new }
     ensures settled { IfOk result (λ p. HasSettled index.now.entries buckets.new p.0 p.1) }
 {
     loop {

@@ -10,6 +10,7 @@ mod gathered_saving;
 pub mod laws;
 mod monitor;
 mod report;
+mod sought;
 mod space_saving;
 mod summary;
 #[cfg(test)]

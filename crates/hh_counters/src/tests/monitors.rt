@@ -91,6 +91,21 @@ fn each_form_counts_small_streams(rt: HostRuntime) -> Result<(), Fail> {
 }
 
 #[test]
+fn gathered_buckets_count_keys_by_their_bytes(rt: HostRuntime) -> Result<(), Fail> {
+    let long = "a key of more than 24 bytes";
+    let items = [("a", 5), (long, 3), ("a", 1), (long, 4), ("b", 2)];
+    let stream = stream_of(rt.alloc(), &items)?;
+    let mut monitor = GatheredSaving::new(rt.alloc(), 1)?;
+    for item in stream.items() {
+        monitor.add_bytes(item.key().bytes(), item.weight())?;
+    }
+    let text = counters(rt.alloc(), &monitor)?;
+    assert_eq!(rt; text.as_str(), "b 8 of 15, least 7");
+    assert_eq!(rt; monitor.get(&key_of(rt.alloc(), long)?), 7);
+    Ok(())
+}
+
+#[test]
 fn plain_form_has_k_from_1_to_65535(rt: HostRuntime) {
     for (k, refused) in [(0, true), (1, false), (65_535, false), (65_536, true)] {
         let monitor = SpaceSaving::new(rt.alloc(), k);

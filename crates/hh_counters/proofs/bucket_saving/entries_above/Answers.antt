@@ -17,7 +17,8 @@ loop-i-preserved c =
     let i = c.loop-i.i in
     let t = c.args.least in
     let l : i < length es = omega (arith, c.loop-i-test.true, c.len-i-end.ensures.len) in
-    let at : (e : Entry) → Some e ≡ slice_get es i → e ≡ get_or es i e = λ e is. sym (get_or_from_slice_get es i e e (sym is)) in
+    let at : (e : Entry) → Some e ≡ slice_get es i → e ≡ get_or es i e =
+    λ e is. sym (get_or_from_slice_get es i e e (sym is)) in
     elim c.match-get_index.branch [
       | in-Some+then-counter-least+in_ok-copy+in_ok-push w ↦
           let e : Entry = (w.in-Some.key.now, w.in-Some.counter.now) in
@@ -26,6 +27,7 @@ loop-i-preserved c =
           ∙ sym (lower_above t es i e l (at e w.in-Some.ensures.entry) w.if-counter-least.true)
       | in-Some+else-counter-least w ↦
           let e : Entry = (w.in-Some.key.now, w.in-Some.counter.now) in
-          ap (λ v. v.items) w.entries-is ∙ c.loop-i.invariant ∙ sym (lower_below t es i e l (at e w.in-Some.ensures.entry) w.if-counter-least.false)
+          ap (λ v. v.items) w.entries-is ∙ c.loop-i.invariant
+          ∙ sym (lower_below t es i e l (at e w.in-Some.ensures.entry) w.if-counter-least.false)
       | in_default w ↦ absurd (true≢false (sym (w.in_default.ensures.found.1 l)))
     ]

@@ -13,11 +13,14 @@ returns-clause-set c =
     let index = c.args.index.now in
     let pair = c.pair_mut-counter in
     subst (λ (k : Bytes). Updates same_key index (with_value_at index c.args.place c.args.to) k (Some c.args.to))
-    (stored_key index.entries c.args.key.now c.args.place pair.result.0.now pair.result.1.now c.requires.place pair.ensures.value)
-    (updates-with_value_at index c.args.place c.args.to (eq_by_cmp_equiv key_total) pair.ensures.unique _ _ pair.ensures.value)
+    (stored_key index.entries c.args.key.now c.args.place pair.result.0.now pair.result.1.now c.requires.place
+    pair.ensures.value)
+    (updates-with_value_at index c.args.place c.args.to (eq_by_cmp_equiv key_total) pair.ensures.unique _ _
+    pair.ensures.value)
 
 pub returns-clause-distinct : goal.returns-clause-distinct
-returns-clause-distinct c = λ unique. subst (IsDistinct same_key) (sym (keys-with_value_at c.args.index.now c.args.place c.args.to)) unique
+returns-clause-distinct c =
+    λ unique. subst (IsDistinct same_key) (sym (keys-with_value_at c.args.index.now c.args.place c.args.to)) unique
 
 pub returns-clause-keys : goal.returns-clause-keys
 returns-clause-keys c = keys-with_value_at c.args.index.now c.args.place c.args.to

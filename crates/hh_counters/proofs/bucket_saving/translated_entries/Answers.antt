@@ -11,6 +11,8 @@ pub returns : goal.returns
 returns c =
     let es = c.args.index.now.entries in
     let ys = c.sort_unstable_by.new.self.items in
-    let sorted = c.sort_unstable_by.ensures.sorted (λ x y. is_lt (key_cmp x.0 y.0)) (ranks_by key_total (λ (e : Entry). e.0)) (always_returns_same _ _ _ (λ a r f k. search rules)) in
+    let sorted = c.sort_unstable_by.ensures.sorted (λ x y. is_lt (key_cmp x.0 y.0))
+    (ranks_by key_total (λ (e : Entry). e.0)) (always_returns_same _ _ _ (λ a r f k. search rules)) in
     translated_sorted c.args.least es ys c.requires.distinct
-    (subst (λ (l : List Entry). IsPermutation l ys) c.in_ok-entries.ensures c.sort_unstable_by.ensures.permutation) sorted c.requires.positive.rising
+    (subst (λ (l : List Entry). IsPermutation l ys) c.in_ok-entries.ensures c.sort_unstable_by.ensures.permutation)
+    sorted c.requires.positive.rising

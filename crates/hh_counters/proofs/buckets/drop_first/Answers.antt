@@ -7,11 +7,13 @@ returns-then-not-remove_least-clause-dropped c =
     let b = c.args.buckets.now in
     let bucket = c.get_mut.result.now in
     let is = sym c.in-Some.ensures.value.1 ∙ c.get_mut.ensures.value in
-    drops_first b _ _ bucket.key bucket.place (own_first b _ bucket is c.in-Some.ensures.least (c.requires _ bucket is)) (search rules)
+    drops_first b _ _ bucket.key bucket.place (own_first b _ bucket is c.in-Some.ensures.least (c.requires _ bucket is))
+    (search rules)
 
 pub returns-else-not-remove_least-clause-dropped : goal.returns-else-not-remove_least-clause-dropped
 returns-else-not-remove_least-clause-dropped c =
     let b = c.args.buckets.now in
     let bucket = c.get_mut.result.now in
     let is = sym c.in-Some.ensures.value.1 ∙ c.get_mut.ensures.value in
-    drops_first b _ _ bucket.key bucket.place (own_first b _ bucket is c.in-Some.ensures.least (c.requires _ bucket is)) (search rules)
+    drops_first b _ _ bucket.key bucket.place (own_first b _ bucket is c.in-Some.ensures.least (c.requires _ bucket is))
+    (search rules)

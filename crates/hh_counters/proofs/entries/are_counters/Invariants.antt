@@ -7,5 +7,6 @@ abbrev pub invariant-loop-i : goal.invariant-loop-i
 invariant-loop-i l =
     record {
       positive : (k : ℕ) (d : Entry) → k < l.i → 0 < (slice_index_or l.entries k d).1;
-      rising : (k : ℕ) (d : Entry) → k + 1 < l.i → key_cmp (slice_index_or l.entries k d).0 (slice_index_or l.entries (k + 1) d).0 ≡ Less;
+      rising : (k : ℕ) (d : Entry) → k + 1 < l.i → key_cmp (slice_index_or l.entries k d).0
+          (slice_index_or l.entries (k + 1) d).0 ≡ Less;
     }

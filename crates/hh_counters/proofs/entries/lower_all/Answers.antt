@@ -6,7 +6,9 @@ use Rattle.hh_counters.proofs.Level.{lower-nil, lower-cons}
 use Rattle.hh_counters.proofs.entries.lower_all.Goals as goal
 
 -- a closure that keeps each entry above t, less t, leaves what lowering by t leaves
-module _ {F : Type 0} (R : F → Entry → Bool → F → Entry → Type 0) (f : F) (t : ℕ) (h : (e : Entry) (b : Bool) (g : F) (d : Entry) → R f e b g d → (b ≡ exceeds t e) × (g ≡ f) × (d ≡ less_by t e)) where
+module _ {F : Type 0} (R : F → Entry → Bool → F → Entry
+    → Type 0) (f : F) (t : ℕ) (h : (e : Entry) (b : Bool) (g : F) (d : Entry) → R f e b g d
+    → (b ≡ exceeds t e) × (g ≡ f) × (d ≡ less_by t e)) where
   lowered_in_turn : (c : Counters) (g : F) (d : Counters) → g ≡ f → RetainsInTurn R g c d → d ≡ lower t c
   lowered_in_turn [] g d is r = r ∙ sym (lower-nil t)
   lowered_in_turn (e ∷ c) g d is r =
@@ -19,4 +21,5 @@ module _ {F : Type 0} (R : F → Entry → Bool → F → Entry → Type 0) (f :
       ∙ sym (lower-cons t e c)
 
 pub returns : goal.returns
-returns c = lowered_in_turn _ _ c.args.t (λ e b g d k. search rules) c.args.entries.now.items _ _ refl c.retain_mut.ensures.filtered
+returns c = lowered_in_turn _ _ c.args.t (λ e b g d k. search rules) c.args.entries.now.items _ _ refl
+    c.retain_mut.ensures.filtered

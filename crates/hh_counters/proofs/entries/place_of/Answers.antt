@@ -8,4 +8,5 @@ use Rattle.hh_counters.proofs.entries.place_of.Goals as goal
 pub returns : goal.returns
 returns c =
     let facts = c.binary_search_by.ensures in
-    searched c.args.entries.now c.args.key.now _ c.requires facts.bound (facts.position (λ (e : Entry). key_cmp e.0 c.args.key.now) (always_returns_same _ _ _ (λ a r g called. search rules)))
+    searched c.args.entries.now c.args.key.now _ c.requires facts.bound (facts.position
+    (λ (e : Entry). key_cmp e.0 c.args.key.now) (always_returns_same _ _ _ (λ a r g called. search rules)))

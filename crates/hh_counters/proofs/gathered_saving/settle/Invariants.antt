@@ -1,9 +1,10 @@
+use Rattle.std.proofs.Common.{false}
 use Rattle.hh_counters.specs.Buckets.{Stand}
 use Rattle.hh_counters.proofs.Gathering.{lag}
 use Rattle.hh_counters.proofs.gathered_saving.settle.Given as goal
 
 abbrev pub invariant-loop-from : goal.invariant-loop-from
-invariant-loop-from l = Stand l.index.entries l.buckets
+invariant-loop-from l = Stand false l.index.entries l.buckets
 
 abbrev pub decreases-loop-from : goal.decreases-loop-from
 decreases-loop-from l = lag l.index.entries l.buckets

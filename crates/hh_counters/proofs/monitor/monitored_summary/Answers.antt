@@ -24,4 +24,6 @@ loop-item-preserved g c =
 pub returns-in-Ok-into_summary : goal.returns-in-Ok-into_summary
 returns-in-Ok-into_summary g c =
     c.in-Ok-into_summary.ensures.translated
-    ∙ monitored_all (g.M.Monitor.seen c.args.monitor).k c.args.items.now c.loop-item.item-index (g.M.Monitor.seen c.loop-item.monitor) c.loop-item.auto.item-index-end c.loop-item-test.false c.loop-item.invariant.0 c.loop-item.invariant.1
+    ∙ monitored_all (g.M.Monitor.seen c.args.monitor).k c.args.items.now c.loop-item.item-index
+    (g.M.Monitor.seen c.loop-item.monitor) c.loop-item.auto.item-index-end c.loop-item-test.false
+    c.loop-item.invariant.0 c.loop-item.invariant.1

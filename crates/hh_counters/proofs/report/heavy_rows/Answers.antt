@@ -8,8 +8,10 @@ use Rattle.hh_counters.proofs.Reports.{select_more, nothing_heavy}
 use Rattle.hh_counters.proofs.report.heavy_rows.Goals as goal
 use Rattle.hh_counters.proofs.report.heavy_rows.Goals.{then-is_share+in_ok-copy+in_ok-push, else-is_share}
 
-push_yes : (old kept new : List Entry) (b : Bool) (y z : Entry) → old ≡ kept → new ≡ old ++ y ∷ [] → y ≡ z → b ≡ true → new ≡ kept ++ cond b (z ∷ []) []
-push_yes old kept new b y z e f g h = f ∙ ap₂ (λ (o : List Entry) (y : Entry). o ++ y ∷ []) e g ∙ ap (λ b. kept ++ cond b (z ∷ []) []) (sym h)
+push_yes : (old kept new : List Entry) (b : Bool) (y z : Entry) → old ≡ kept → new ≡ old ++ y ∷ [] → y ≡ z → b ≡ true
+    → new ≡ kept ++ cond b (z ∷ []) []
+push_yes old kept new b y z e f g h =
+    f ∙ ap₂ (λ (o : List Entry) (y : Entry). o ++ y ∷ []) e g ∙ ap (λ b. kept ++ cond b (z ∷ []) []) (sym h)
 
 push_no : (kept new : List Entry) (b : Bool) (z : Entry) → new ≡ kept → b ≡ false → new ≡ kept ++ cond b (z ∷ []) []
 push_no kept new b z e h = e ∙ sym (append-nil kept) ∙ ap (λ b. kept ++ cond b (z ∷ []) []) (sym h)
@@ -23,21 +25,29 @@ loop-i-preserved c =
     elim c.if-is_share.branch [
       | then-is_share+in_ok-copy+in_ok-push w ↦
           let k : Bytes = w.index-keys-i.result in
-          push_yes _ _ _ _ (w.in_ok-copy.field-0, number) (k, number) c.loop-i.invariant (ap (λ v. v.items) w.rows-is ∙ w.in_ok-push.ensures.items) (λ j. (w.in_ok-copy.ensures.equal j, number)) (sym c.is_share.ensures ∙ w.if-is_share.true)
+          push_yes _ _ _ _ (w.in_ok-copy.field-0, number) (k, number) c.loop-i.invariant (ap (λ v. v.items) w.rows-is
+          ∙ w.in_ok-push.ensures.items) (λ j. (w.in_ok-copy.ensures.equal j, number)) (sym c.is_share.ensures
+          ∙ w.if-is_share.true)
           ∙ sym (select_more c.args.p c.args.q c.args.total ks ns i k c.requires c.loop-i-test.true w.index-keys-i.is)
       | else-is_share w ↦
           let k : Bytes = slice_index_or ks i [] in
-          push_no _ _ _ (k, number) (ap (λ v. v.items) w.rows-is ∙ c.loop-i.invariant) (sym c.is_share.ensures ∙ w.if-is_share.false)
-          ∙ sym (select_more c.args.p c.args.q c.args.total ks ns i k c.requires c.loop-i-test.true (get_or_default ks i [] k c.loop-i-test.true))
+          push_no _ _ _ (k, number) (ap (λ v. v.items) w.rows-is ∙ c.loop-i.invariant) (sym c.is_share.ensures
+          ∙ w.if-is_share.false)
+          ∙ sym (select_more c.args.p c.args.q c.args.total ks ns i k c.requires c.loop-i-test.true
+          (get_or_default ks i [] k c.loop-i-test.true))
     ]
 
 pub returns-clause-rows : goal.returns-clause-rows
-returns-clause-rows c = c.loop-i.invariant ∙ ap (filter (is_heavy c.args.p c.args.q c.args.total)) (take_all c.loop-i.i (zip c.args.keys.now c.args.numbers.now) (omega (arith, length-zip c.args.keys.now c.args.numbers.now, c.loop-i-test.false)))
+returns-clause-rows c = c.loop-i.invariant ∙ ap (filter (is_heavy c.args.p c.args.q c.args.total))
+    (take_all c.loop-i.i (zip c.args.keys.now c.args.numbers.now)
+    (omega (arith, length-zip c.args.keys.now c.args.numbers.now, c.loop-i-test.false)))
 
 pub returns-in_err-copy-clause-none : goal.returns-in_err-copy-clause-none
 returns-in_err-copy-clause-none c = λ none.
-    absurd (nothing_heavy c.args.p c.args.q c.args.total c.args.keys.now c.args.numbers.now c.loop-i.i c.requires c.loop-i-test.true none (sym c.is_share.ensures ∙ c.if-is_share.true))
+    absurd (nothing_heavy c.args.p c.args.q c.args.total c.args.keys.now c.args.numbers.now c.loop-i.i c.requires
+    c.loop-i-test.true none (sym c.is_share.ensures ∙ c.if-is_share.true))
 
 pub returns-in_err-push-clause-none : goal.returns-in_err-push-clause-none
 returns-in_err-push-clause-none c = λ none.
-    absurd (nothing_heavy c.args.p c.args.q c.args.total c.args.keys.now c.args.numbers.now c.loop-i.i c.requires c.loop-i-test.true none (sym c.is_share.ensures ∙ c.if-is_share.true))
+    absurd (nothing_heavy c.args.p c.args.q c.args.total c.args.keys.now c.args.numbers.now c.loop-i.i c.requires
+    c.loop-i-test.true none (sym c.is_share.ensures ∙ c.if-is_share.true))

@@ -14,9 +14,12 @@ returns-clause-rows c =
     let numbers = c.args.numbers.now in
     let heavy : Entry → Bool = is_heavy c.args.p c.args.q c.args.total in
     let rows = c.sort_unstable_by.new.self.items in
-    let sorted = c.sort_unstable_by.ensures.sorted (λ x y. is_lt (rank_cmp x y)) (ranks_by rank_total (λ (e : Entry). e)) (always_returns_same _ _ _ (λ a r f k. search rules)) in
-    ranked_from_sort (filter heavy (zip keys numbers)) rows (rising-zip heavy keys numbers c.requires.lengths c.requires.rising)
-    (subst (λ (l : List Entry). IsPermutation l rows) c.in_ok-rows.ensures.rows c.sort_unstable_by.ensures.permutation) sorted
+    let sorted = c.sort_unstable_by.ensures.sorted (λ x y. is_lt (rank_cmp x y))
+    (ranks_by rank_total (λ (e : Entry). e)) (always_returns_same _ _ _ (λ a r f k. search rules)) in
+    ranked_from_sort (filter heavy (zip keys numbers)) rows
+    (rising-zip heavy keys numbers c.requires.lengths c.requires.rising)
+    (subst (λ (l : List Entry). IsPermutation l rows) c.in_ok-rows.ensures.rows c.sort_unstable_by.ensures.permutation)
+    sorted
 
 pub returns-in_err-rows-clause-none : goal.returns-in_err-rows-clause-none
 returns-in_err-rows-clause-none c = λ none. absurd (false≢true (c.in_err-rows.ensures.none (by_rank_nothing _ none)))

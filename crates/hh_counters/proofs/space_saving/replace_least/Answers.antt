@@ -12,26 +12,39 @@ pub remove-requires : goal.remove-requires
 remove-requires c =
     let s = c.args.entries.now.items in
     let place = c.least_place-place.result in
-    let near : c.if-lt.shifted ≤ place + 1 = elim c.if-lt.branch [ then-lt w ↦ omega (arith, w.shifted-is) | else-lt w ↦ omega (arith, w.shifted-is) ] in
-    let inside : place < length s = omega (arith, c.least_place-place.ensures.in_range, ap length c.deref.ensures.value) in
-    let added = c.in_ok-add_entry.ensures.ok ∙ ap (λ (key : Bytes). add_at s (key, c.index.result.now.1 + c.args.weight)) c.bytes.ensures.bytes in
-    omega (arith, ap length added, shifted_within s (c.args.key.now, c.args.weight) place c.if-lt.shifted (c.index.result.now.1 + c.args.weight) c.requires.counters c.requires.absent inside near)
+    let near : c.if-lt.shifted ≤ place + 1 =
+    elim c.if-lt.branch [ then-lt w ↦ omega (arith, w.shifted-is) | else-lt w ↦ omega (arith, w.shifted-is) ] in
+    let inside : place < length s =
+    omega (arith, c.least_place-place.ensures.in_range, ap length c.deref.ensures.value) in
+    let added = c.in_ok-add_entry.ensures.ok
+    ∙ ap (λ (key : Bytes). add_at s (key, c.index.result.now.1 + c.args.weight)) c.bytes.ensures.bytes in
+    omega (
+      arith,
+      ap length added,
+      shifted_within s (c.args.key.now, c.args.weight) place c.if-lt.shifted
+          (c.index.result.now.1 + c.args.weight) c.requires.counters c.requires.absent inside near,
+    )
 
 pub returns-clause-replaced : goal.returns-clause-replaced
 returns-clause-replaced c =
     let s = c.args.entries.now.items in
     let item : Entry = (c.args.key.now, c.args.weight) in
     let place = c.least_place-place.result in
-    let least : IsFirstLeast s place = subst (λ (d : Counters). IsFirstLeast d place) c.deref.ensures.value c.least_place-place.ensures in
+    let least : IsFirstLeast s place =
+    subst (λ (d : Counters). IsFirstLeast d place) c.deref.ensures.value c.least_place-place.ensures in
     let d : Entry = c.index.result.now in
     let number : d.1 ≡ (get_or s place d).1 = ap (λ (e : Entry). e.1) c.index.ensures in
-    let key : (c.index-2.result.now).0 ≡ (get_or s place d).0 = ap (λ (e : Entry). e.0) (c.index-2.ensures ∙ get_or_default s place c.index-2.result.now d least.in_range) in
-    let test : c.lt.result ≡ is_lt (key_cmp (get_or s place d).0 item.0) = c.lt.ensures ∙ ap (λ y. is_lt (key_cmp y item.0)) key in
+    let key : (c.index-2.result.now).0 ≡ (get_or s place d).0 =
+    ap (λ (e : Entry). e.0) (c.index-2.ensures ∙ get_or_default s place c.index-2.result.now d least.in_range) in
+    let test : c.lt.result ≡ is_lt (key_cmp (get_or s place d).0 item.0) =
+    c.lt.ensures ∙ ap (λ y. is_lt (key_cmp y item.0)) key in
     let shifted : c.if-lt.shifted ≡ cond (is_lt (key_cmp (get_or s place d).0 item.0)) place (place + 1) =
     elim c.if-lt.branch [
       | then-lt w ↦ w.shifted-is ∙ ap (λ b. cond b place (place + 1)) (sym w.if-lt.true ∙ test)
       | else-lt w ↦ w.shifted-is ∙ ap (λ b. cond b place (place + 1)) (sym w.if-lt.false ∙ test)
     ] in
     c.remove.ensures.items
-    ∙ ap (λ (e : Counters). remove e c.if-lt.shifted) (c.in_ok-add_entry.ensures.ok ∙ ap (λ (key : Bytes). add_at s (key, d.1 + item.1)) c.bytes.ensures.bytes ∙ ap (λ n. add_at s (item.0, n + item.1)) number)
+    ∙ ap (λ (e : Counters). remove e c.if-lt.shifted) (c.in_ok-add_entry.ensures.ok
+    ∙ ap (λ (key : Bytes). add_at s (key, d.1 + item.1)) c.bytes.ensures.bytes
+    ∙ ap (λ n. add_at s (item.0, n + item.1)) number)
     ∙ replaced_at s item place c.if-lt.shifted d c.requires.counters c.requires.absent c.requires.positive least shifted

@@ -1,12 +1,11 @@
-use Rattle.std.proofs.Common.{arith}
+use Rattle.std.proofs.Common.{true, arith}
 use Rattle.hh_counters.specs.Counters.{tally}
-use Rattle.hh_counters.proofs.Linked.{nothing_linked, empty_has_none}
+use Rattle.hh_counters.proofs.Linked.{nothing_linked}
 use Rattle.hh_counters.proofs.bucket_saving.BucketSaving.new.Goals as goal
 
 pub invariant_of-result : goal.invariant_of-result
 invariant_of-result c =
-    let none = empty_has_none c.new.result c.new.ensures.empty in
-    rw c.in-Ok.ensures.empty (nothing_linked c.args.k c.new.result (omega arith) (omega arith) none.0 none.1)
+    rw c.in-Ok.ensures.empty (nothing_linked true c.args.k c.new.result (omega arith) (omega arith) c.new.ensures.empty)
 
 pub returns-in-Ok-clause-empty : goal.returns-in-Ok-clause-empty
 unfolding tally

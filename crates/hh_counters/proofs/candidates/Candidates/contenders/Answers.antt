@@ -22,15 +22,18 @@ loop-i-preserved c =
     let may = can_be_heavy c.args.p c.args.q s in
     let e : Entry = (c.entry-counter.result.0.now, c.entry-counter.result.1) in
     let at : get_or s.counters i e ≡ e = sym c.entry-counter.ensures in
-    let test : may e ≡ c.can_be_heavy.result = sym (rw (c.k.ensures.k, c.total.ensures.total, c.sum-sum.ensures.sum) at c.can_be_heavy.ensures) in
+    let test : may e ≡ c.can_be_heavy.result =
+    sym (rw (c.k.ensures.k, c.total.ensures.total, c.sum-sum.ensures.sum) at c.can_be_heavy.ensures) in
     elim c.if-can_be_heavy.branch [
       | then-can_be_heavy+in_ok-copy+in_ok-insert w ↦
           ap (λ keys. keys.keys) w.keys-is
           ∙ w.in_ok-insert.ensures.keys
           ∙ ap₂ (insert_key same_key) c.loop-i.invariant w.in_ok-copy.ensures.equal
-          ∙ insert_passing may s.counters i e c.len-i-end.ensures.counters.rising (omega arith) at (test ∙ w.if-can_be_heavy.true)
+          ∙ insert_passing may s.counters i e c.len-i-end.ensures.counters.rising (omega arith) at (test
+          ∙ w.if-can_be_heavy.true)
       | else-can_be_heavy w ↦
-          ap (λ keys. keys.keys) w.keys-is ∙ c.loop-i.invariant ∙ passing_stays may s.counters i e (omega arith) at (test ∙ w.if-can_be_heavy.false)
+          ap (λ keys. keys.keys) w.keys-is ∙ c.loop-i.invariant
+          ∙ passing_stays may s.counters i e (omega arith) at (test ∙ w.if-can_be_heavy.false)
     ]
 
 -- src/candidates.rt:72:9
@@ -38,8 +41,10 @@ pub invariant_of-result : goal.invariant_of-result
 invariant_of-result c =
     let s = c.args.summary.now in
     let all = take_all c.loop-i.i s.counters (omega (arith, c.loop-i-test.false, c.len-i-end.ensures.len)) in
-    let keys : c.loop-i.keys.keys ≡ keys_of (contenders c.args.p c.args.q s) = c.loop-i.invariant ∙ ap (λ d. keys_of (filter (can_be_heavy c.args.p c.args.q s) d)) all in
-    subst (IsStrictlySortedBy key_cmp) (sym keys) (rising-filter (can_be_heavy c.args.p c.args.q s) s.counters c.len-i-end.ensures.counters.rising)
+    let keys : c.loop-i.keys.keys ≡ keys_of (contenders c.args.p c.args.q s) =
+    c.loop-i.invariant ∙ ap (λ d. keys_of (filter (can_be_heavy c.args.p c.args.q s) d)) all in
+    subst (IsStrictlySortedBy key_cmp) (sym keys) (rising-filter (can_be_heavy c.args.p c.args.q s) s.counters
+    c.len-i-end.ensures.counters.rising)
 
 -- src/candidates.rt:54:5
 pub returns-clause-few : goal.returns-clause-few
@@ -47,4 +52,11 @@ returns-clause-few c =
     let s = c.args.summary.now in
     let may = can_be_heavy c.args.p c.args.q s in
     let kept = filter may (take c.loop-i.i s.counters) in
-    omega (arith, ap length c.loop-i.invariant, length-keys_of kept, length-filter may (take c.loop-i.i s.counters), count_by-le-length may (take c.loop-i.i s.counters), length-take c.loop-i.i s.counters)
+    omega (
+      arith,
+      ap length c.loop-i.invariant,
+      length-keys_of kept,
+      length-filter may (take c.loop-i.i s.counters),
+      count_by-le-length may (take c.loop-i.i s.counters),
+      length-take c.loop-i.i s.counters,
+    )

@@ -8,7 +8,8 @@ pub returns-in-Some : goal.returns-in-Some
 returns-in-Some c =
     let ks = c.args.self.now in
     let rising : IsStrictlySortedBy key_cmp ks = subst (IsStrictlySortedBy key_cmp) c.self.view_is c.self.invariant in
-    count_hit ks c.args.numbers.now c.in-Some.place c.args.key.now c.args.weight rising c.requires.lengths ((c.in-Some.ensures.at c.in-Some.place).0 refl)
+    count_hit ks c.args.numbers.now c.in-Some.place c.args.key.now c.args.weight rising c.requires.lengths
+    ((c.in-Some.ensures.at c.in-Some.place).0 refl)
 
 pub returns-in_default : goal.returns-in_default
 returns-in_default c =

@@ -17,7 +17,16 @@ count-requires-clause-bounded c = λ p d lt.
     let more = sum_by_more_le (λ (e : Entry). e.1) c.args.items.now i item c.loop-item-test.true in
     let now = counted-le c.args.self.now (take i c.args.items.now) ns p c.requires.lengths in
     let room = c.requires.bounded p 0 (omega (arith, lt, c.loop-item.auto.numbers)) in
-    omega (arith, get_or_default c.loop-item.numbers p d 0 lt, ap (λ ns. get_or ns p 0) c.loop-item.invariant, now, more, room, ap (λ (e : Entry). e.1) c.item-item.is, c.weight.ensures.weight)
+    omega (
+      arith,
+      get_or_default c.loop-item.numbers p d 0 lt,
+      ap (λ ns. get_or ns p 0) c.loop-item.invariant,
+      now,
+      more,
+      room,
+      ap (λ (e : Entry). e.1) c.item-item.is,
+      c.weight.ensures.weight,
+    )
 
 pub loop-item-preserved : goal.loop-item-preserved
 loop-item-preserved c =
@@ -26,5 +35,6 @@ loop-item-preserved c =
     let item : Entry = c.item-item.result in
     let taken : Entry = (c.key.result.now, c.weight.result) in
     let same : taken ≡ item = λ j. (c.key.ensures j, c.weight.ensures.weight j) in
-    count_turn ks c.args.items.now c.args.numbers.now c.loop-item.numbers c.count.new.numbers i item c.loop-item-test.true c.item-item.is c.loop-item.invariant
+    count_turn ks c.args.items.now c.args.numbers.now c.loop-item.numbers c.count.new.numbers i item
+    c.loop-item-test.true c.item-item.is c.loop-item.invariant
     (c.count.ensures ∙ ap (λ (e : Entry). counted ks (e ∷ []) c.loop-item.numbers) same)

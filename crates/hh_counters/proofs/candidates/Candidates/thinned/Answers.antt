@@ -25,36 +25,55 @@ loop-i-preserved c =
     let number : ℕ = slice_index_or ns i 0 in
     let low = c.loop-i-test.true in
     let within : i < length zs = omega (arith, length-zip ks ns, low, c.requires.lengths) in
-    let rising : IsStrictlySortedBy key_cmp (keys_of zs) = subst (IsStrictlySortedBy key_cmp) (c.self.view_is ∙ sym (keys_of-zip ks ns c.requires.lengths)) c.self.invariant in
-    let at : (k : Bytes) → k ≡ get_or ks i k → get_or zs i (k, number) ≡ (k, number) = λ k is. get_or-zip ks ns i (k, number) (omega (arith, low, c.requires.lengths)) low ∙ (λ j. (sym is j, get_or_default ns i number 0 low j)) in
+    let rising : IsStrictlySortedBy key_cmp (keys_of zs) = subst (IsStrictlySortedBy key_cmp) (c.self.view_is
+    ∙ sym (keys_of-zip ks ns c.requires.lengths)) c.self.invariant in
+    let at : (k : Bytes) → k ≡ get_or ks i k → get_or zs i (k, number) ≡ (k, number) = λ k is. get_or-zip ks ns i
+    (k, number) (omega (arith, low, c.requires.lengths)) low
+    ∙ (λ j. (sym is j, get_or_default ns i number 0 low j)) in
     elim c.if-is_share.branch [
       | then-is_share+in_ok-copy+in_ok-insert w ↦
           let k : Bytes = w.index-as_slice-i.result in
           ap (λ keys. keys.keys) w.keys-is
           ∙ w.in_ok-insert.ensures.keys
           ∙ ap₂ (insert_key same_key) c.loop-i.invariant w.in_ok-copy.ensures.equal
-          ∙ insert_passing may zs i (k, number) rising within (at k (w.index-as_slice-i.is ∙ ap (λ (l : List Bytes). get_or l i k) (w.as_slice.ensures.keys ∙ c.self.view_is))) (sym c.is_share.ensures ∙ w.if-is_share.true)
+          ∙ insert_passing may zs i (k, number) rising within
+          (at k (w.index-as_slice-i.is ∙ ap (λ (l : List Bytes). get_or l i k) (w.as_slice.ensures.keys
+          ∙ c.self.view_is))) (sym c.is_share.ensures ∙ w.if-is_share.true)
       | else-is_share w ↦
           let k : Bytes = slice_index_or ks i [] in
-          ap (λ keys. keys.keys) w.keys-is ∙ c.loop-i.invariant ∙ passing_stays may zs i (k, number) within (at k (get_or_default ks i [] k (omega (arith, low, c.requires.lengths)))) (sym c.is_share.ensures ∙ w.if-is_share.false)
+          ap (λ keys. keys.keys) w.keys-is ∙ c.loop-i.invariant
+          ∙ passing_stays may zs i (k, number) within
+          (at k (get_or_default ks i [] k (omega (arith, low, c.requires.lengths)))) (sym c.is_share.ensures
+          ∙ w.if-is_share.false)
     ]
 
 pub invariant_of-result : goal.invariant_of-result
 invariant_of-result c =
     let zs = zip c.args.self.now c.args.numbers.now in
     let may = is_heavy c.args.p c.args.q c.args.total in
-    let all = take_all c.loop-i.i zs (omega (arith, length-zip c.args.self.now c.args.numbers.now, c.loop-i-test.false)) in
+    let all =
+    take_all c.loop-i.i zs (omega (arith, length-zip c.args.self.now c.args.numbers.now, c.loop-i-test.false)) in
     subst (IsStrictlySortedBy key_cmp) (sym (c.loop-i.invariant ∙ ap (λ (d : List Entry). keys_of (filter may d)) all))
-    (rising-zip may c.args.self.now c.args.numbers.now c.requires.lengths (subst (IsStrictlySortedBy key_cmp) c.self.view_is c.self.invariant))
+    (rising-zip may c.args.self.now c.args.numbers.now c.requires.lengths
+    (subst (IsStrictlySortedBy key_cmp) c.self.view_is c.self.invariant))
 
 pub returns-clause-keys : goal.returns-clause-keys
 returns-clause-keys c =
     let zs = zip c.args.self.now c.args.numbers.now in
-    c.loop-i.invariant ∙ ap (λ (d : List Entry). keys_of (filter (is_heavy c.args.p c.args.q c.args.total) d)) (take_all c.loop-i.i zs (omega (arith, length-zip c.args.self.now c.args.numbers.now, c.loop-i-test.false)))
+    c.loop-i.invariant ∙ ap (λ (d : List Entry). keys_of (filter (is_heavy c.args.p c.args.q c.args.total) d))
+    (take_all c.loop-i.i zs (omega (arith, length-zip c.args.self.now c.args.numbers.now, c.loop-i-test.false)))
 
 pub returns-clause-few : goal.returns-clause-few
 returns-clause-few c =
     let zs = zip c.args.self.now c.args.numbers.now in
     let may = is_heavy c.args.p c.args.q c.args.total in
-    let all = take_all c.loop-i.i zs (omega (arith, length-zip c.args.self.now c.args.numbers.now, c.loop-i-test.false)) in
-    omega (arith, ap length (c.loop-i.invariant ∙ ap (λ (d : List Entry). keys_of (filter may d)) all), length-keys_of (filter may zs), length-filter may zs, count_by-le-length may zs, length-zip c.args.self.now c.args.numbers.now)
+    let all =
+    take_all c.loop-i.i zs (omega (arith, length-zip c.args.self.now c.args.numbers.now, c.loop-i-test.false)) in
+    omega (
+      arith,
+      ap length (c.loop-i.invariant ∙ ap (λ (d : List Entry). keys_of (filter may d)) all),
+      length-keys_of (filter may zs),
+      length-filter may zs,
+      count_by-le-length may zs,
+      length-zip c.args.self.now c.args.numbers.now,
+    )

@@ -1,13 +1,12 @@
-use Rattle.std.proofs.Common.{arith}
+use Rattle.std.proofs.Common.{false, arith}
 use Rattle.hh_counters.specs.Counters.{tally}
-use Rattle.hh_counters.proofs.Linked.{empty_has_none}
-use Rattle.hh_counters.proofs.Gathering.{nothing_gathered}
+use Rattle.hh_counters.proofs.Linked.{nothing_linked}
 use Rattle.hh_counters.proofs.gathered_saving.GatheredSaving.new.Goals as goal
 
 pub invariant_of-result : goal.invariant_of-result
 invariant_of-result c =
-    let none = empty_has_none c.new.result c.new.ensures.empty in
-    rw c.in-Ok.ensures.empty (nothing_gathered c.args.k c.new.result (omega arith) (omega arith) none.0 none.1)
+    rw c.in-Ok.ensures.empty (nothing_linked false c.args.k c.new.result (omega arith) (omega arith)
+    c.new.ensures.empty)
 
 pub returns-in-Ok-clause-empty : goal.returns-in-Ok-clause-empty
 unfolding tally

@@ -1,9 +1,10 @@
-use Rattle.std.proofs.Common.{sym}
-use Rattle.hh_counters.proofs.Linked.{found, absent}
+use Rattle.std.proofs.Common.{sym, ap, ◌∙◌}
+use Rattle.std.specs.Prelude.{unwrap_or}
+use Rattle.hh_counters.proofs.Linked.{weight_of-view}
 use Rattle.hh_counters.proofs.gathered_saving.GatheredSavingMonitor.get.Goals as goal
 
-pub returns-in-Some : goal.returns-in-Some
-returns-in-Some c = rw (← c.self.view_is) (sym (found c.self.inside.index.entries c.args.key.now c.in-Some.counter.now c.self.invariant.stand.1.distinct (sym c.in-Some.ensures.value)))
-
-pub returns-in-None : goal.returns-in-None
-returns-in-None c = rw (← c.self.view_is) (sym (absent c.self.inside.index.entries c.args.key.now c.self.invariant.stand.1.distinct (sym c.in-None.ensures.value)))
+pub returns : goal.returns
+returns c =
+    let finds = weight_of-view c.args.key.now c.self.inside.index.entries c.self.invariant.stand.1.distinct in
+    rw (← c.self.view_is) (c.unwrap_or.ensures ∙ ap (λ o. unwrap_or o 0) (c.copied.ensures ∙ c.get.ensures.value)
+    ∙ sym finds)

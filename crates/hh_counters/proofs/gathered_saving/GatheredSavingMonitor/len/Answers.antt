@@ -1,13 +1,11 @@
-use Rattle.std.proofs.Common.{sym, ◌∙◌, arith}
-use Rattle.hh_counters.proofs.Linked.{length-view}
+use Rattle.std.proofs.Common.{◌∙◌, arith}
+use Rattle.hh_counters.proofs.Linked.{length-linked}
 use Rattle.hh_counters.proofs.gathered_saving.GatheredSavingMonitor.len.Goals as goal
 
 pub returns-clause-len : goal.returns-clause-len
-returns-clause-len c =
-    let old = c.self.invariant.stand.1 in
-    rw (← c.self.view_is) (c.len.ensures.len ∙ sym (length-view c.self.inside.index.entries old.distinct old.positive))
+returns-clause-len c = rw (← c.self.view_is) (c.len.ensures.len ∙ length-linked _ _ _ _ _ c.self.invariant)
 
 pub returns-clause-few : goal.returns-clause-few
 returns-clause-few c =
-    let old = c.self.invariant.stand.1 in
-    rw (← c.self.view_is) (omega (arith, c.len.ensures.len, length-view c.self.inside.index.entries old.distinct old.positive, c.self.invariant.monitor.few))
+    let linked = c.self.invariant in
+    rw (← c.self.view_is) (omega (arith, c.len.ensures.len, length-linked _ _ _ _ _ linked, linked.monitor.few))

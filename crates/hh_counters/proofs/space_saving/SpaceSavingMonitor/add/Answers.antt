@@ -7,4 +7,5 @@ pub invariant_of-self : goal.invariant_of-self
 invariant_of-self c =
     let inside = c.self.inside in
     subst (IsMonitor inside.k (inside.total + c.args.weight)) (sym c.in-Ok.ensures.step)
-    (monitor_step inside.k inside.total inside.entries.items (c.args.key.now, c.args.weight) c.self.invariant c.requires (omega arith))
+    (monitor_step inside.k inside.total inside.entries.items (c.args.key.now, c.args.weight) c.self.invariant c.requires
+    (omega arith))

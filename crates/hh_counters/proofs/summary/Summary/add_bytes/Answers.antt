@@ -9,4 +9,5 @@ invariant_of-self c =
     let inside = c.self.inside in
     let item : Entry = (c.args.key.now, c.args.weight) in
     subst (Fits inside.k (inside.total + c.args.weight)) (sym c.in-Ok.ensures.joined)
-    (fits_join inside.entries.items (item ∷ []) inside.total c.args.weight inside.k c.self.invariant (omega arith) (omega arith))
+    (fits_join inside.entries.items (item ∷ []) inside.total c.args.weight inside.k c.self.invariant (omega arith)
+    (omega arith))

@@ -7,6 +7,8 @@ pub invariant_of-self : goal.invariant_of-self
 invariant_of-self c =
     let inside = c.self.inside in
     let other = c.other.inside in
-    let is = c.in-Ok.ensures ∙ ap₂ (λ (d e : Counters). join d e inside.k) c.deref.ensures.value c.deref-2.ensures.value in
+    let is =
+    c.in-Ok.ensures ∙ ap₂ (λ (d e : Counters). join d e inside.k) c.deref.ensures.value c.deref-2.ensures.value in
     subst (Fits inside.k (inside.total + other.total)) (sym is)
-    (fits_join inside.entries.items other.entries.items inside.total other.total inside.k c.self.invariant c.other.invariant.within (omega arith))
+    (fits_join inside.entries.items other.entries.items inside.total other.total inside.k c.self.invariant
+    c.other.invariant.within (omega arith))
