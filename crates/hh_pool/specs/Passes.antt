@@ -9,6 +9,7 @@ use Rattle.hh_shared.specs.Tally.{times, added}
 use Rattle.hh_shared.specs.Seats.{Holding}
 use Rattle.hh_pool.specs.Settings.{Settings}
 
+-- the items of piece i
 abbrev pub piece_of : List (List Entry) → ℕ → List Entry
 piece_of pieces i = slice_index_or pieces i []
 
@@ -49,6 +50,7 @@ pub record IsFirstPass (pieces : List (List Entry)) (settings : Settings) (seat 
   pub rising : IsStrictlyIncreasing seat.claims
   pub work : AreFirstPasses pieces settings seat kept
 
+-- the same of the second pass
 pub record IsSecondPass (pieces : List (List Entry)) (keys : List Bytes) (seat : Holding) : Type 0 where
   pub rising : IsStrictlyIncreasing seat.claims
   pub work : AreSecondPasses pieces keys seat

@@ -17,6 +17,7 @@ abbrev pub nesting : MergeTree → ℕ
 nesting (Piece i) = 0
 nesting (Merge l r) = 1 + max (nesting l) (nesting r)
 
+-- each number has at most four digits
 abbrev pub has_short_numbers : MergeTree → Bool
 has_short_numbers (Piece i) = nat_lt i 10000
 has_short_numbers (Merge l r) = has_short_numbers l && has_short_numbers r
@@ -48,12 +49,13 @@ abbrev pub AreMarked : List Bool → ℕ → List ℕ → Type 0
 AreMarked marks p xs =
     (length marks ≡ p) × ((i : ℕ) → i < p → slice_index_or marks i false ≡ nat_lt 0 (times i xs))
 
--- what a refusal of a text tells, and of a tree's numbers
+-- what a refusal of a text tells
 abbrev pub SyntaxRefused : List ℕ → PlanFault → Type 0
 SyntaxRefused text (fault.Syntax n) = IsSyntaxFault text n
 SyntaxRefused text fault.Memory = ⊤
 SyntaxRefused text _ = ⊥
 
+-- what a refusal of a tree's numbers tells
 abbrev pub NumbersRefused : ℕ → List ℕ → PlanFault → Type 0
 NumbersRefused p xs (fault.Syntax n) = ⊥
 NumbersRefused p xs (fault.UnknownPiece i) =
@@ -88,6 +90,7 @@ pub record Reading : Type 0 where
   pub now : Now
   pub outer : List Open
 
+-- an ASCII digit
 abbrev pub is_digit : ℕ → Bool
 is_digit c = nat_le 48 c && nat_le c 57
 
@@ -116,10 +119,12 @@ step s c = step_now s.now s.outer c
         else after_tree (Piece n) os c
     step_now (Done t) os c = after_tree t os c
 
+-- the reading after more bytes
 abbrev pub steps : Reading → List ℕ → Option Reading
 steps s [] = Some s
 steps s (c ∷ cs) = option_and_then (λ s. steps s cs) (step s c)
 
+-- nothing has been read
 abbrev pub first_reading : Reading
 first_reading = record { now = Start; outer = [] }
 

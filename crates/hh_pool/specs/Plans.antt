@@ -15,15 +15,17 @@ abbrev pub shape : Tree → MergeTree
 shape (Leaf i) = Piece i
 shape (Node' p l q r) = Merge (shape l) (shape r)
 
--- an open parenthesis and the place that is read, in the terms of the definitions
+-- an open parenthesis, in the terms of the definitions
 abbrev pub open_of : Open → text.Open
 open_of Left = text.Left
 open_of (Right l) = text.Right (shape l)
 
+-- and what is at the place that is read
 abbrev pub now_of : Now → text.Now
 now_of Start = text.Start
 now_of (Number n) = text.Number n
 now_of (Done t) = text.Done (shape t)
 
+-- a reading, the innermost parenthesis first
 abbrev pub reading_of : Reading → text.Reading
 reading_of s = record { now = now_of s.now; outer = map open_of s.outer.items }

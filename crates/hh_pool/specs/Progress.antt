@@ -41,23 +41,27 @@ pub record IsFirstAloneUpTo (pieces : List (List Entry)) (settings : Settings) (
   pub summaries : sketches ≡ map (sketch_of settings.k) (take n pieces)
   pub table : grid ≡ table_of settings.family settings.width (whole_of (take n pieces))
 
--- the pieces that the first pass goes over, and what a worker and the calling thread have done of them
+-- the pieces that the first pass goes over
 abbrev pub first_pieces : {G : Type 0} → FirstPass G → List (List Entry)
 first_pieces pass = pieces_of pass.cutting.now pass.stream.now
 
+-- a worker has tried the first n pieces
 abbrev pub HasTriedFirst : {G : Type 0} → FirstPass G → ℕ → Holding → Made → Type 0
 HasTriedFirst pass n seat made =
     IsFirstPassUpTo (first_pieces pass) pass.options.now n seat made.summaries.items made.table
 
+-- the calling thread has done the first n pieces
 abbrev pub HasDoneFirst : {G : Type 0} → FirstPass G → ℕ → List Sketch → Grid → Type 0
 HasDoneFirst pass n sketches grid = IsFirstAloneUpTo (first_pieces pass) pass.options.now n sketches grid
 
--- the same of the second pass
+-- the pieces that the second pass goes over
 abbrev pub second_pieces : {G : Type 0} → SecondPass G → List (List Entry)
 second_pieces pass = pieces_of pass.cutting.now pass.stream.now
 
+-- a worker has tried the first n pieces
 abbrev pub HasTriedSecond : {G : Type 0} → SecondPass G → ℕ → Holding → List ℕ → Type 0
 HasTriedSecond pass n seat numbers = IsSecondPassUpTo (second_pieces pass) pass.candidates.now n seat numbers
 
+-- the calling thread has done the first n pieces
 abbrev pub HasDoneSecond : {G : Type 0} → SecondPass G → ℕ → List ℕ → Type 0
 HasDoneSecond pass n weights = weights ≡ weights_at pass.candidates.now (whole_of (take n (second_pieces pass)))

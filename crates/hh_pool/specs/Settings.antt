@@ -17,9 +17,11 @@ pub record Settings : Type 0 where
 abbrev pub max_workers : ℕ
 max_workers = 64
 
+-- the k of a summary in range
 abbrev pub IsK : ℕ → Type 0
 IsK k = (1 ≤ k) × (k ≤ max_k)
 
+-- a number of workers in range
 abbrev pub IsWorkers : ℕ → Type 0
 IsWorkers workers = (1 ≤ workers) × (workers ≤ max_workers)
 

@@ -14,16 +14,18 @@ pub data MergeTree : Type 0 where
   Piece : (number : ℕ) → MergeTree
   Merge : (left right : MergeTree) → MergeTree
 
--- a tree as a code, and back
+-- a tree as a code
 abbrev pub code_of : MergeTree → Gv
 code_of (Piece i) = gnum i
 code_of (Merge l r) = gcons (code_of l) (code_of r)
 
+-- the tree of a code
 abbrev pub tree_of_code : Gv → MergeTree
 tree_of_code gnil = Piece 0
 tree_of_code (gnum i) = Piece i
 tree_of_code (gcons l r) = Merge (tree_of_code l) (tree_of_code r)
 
+-- a tree's code is that tree's alone
 pub tree_of_code-code_of : (t : MergeTree) → tree_of_code (code_of t) ≡ t
 tree_of_code-code_of (Piece i) = refl
 tree_of_code-code_of (Merge l r) = λ i. Merge (tree_of_code-code_of l i) (tree_of_code-code_of r i)
@@ -72,6 +74,7 @@ merge_both (Err e) r = Err e
 merge_both (Ok s) (Err e) = Err e
 merge_both (Ok s) (Ok t) = merge_result s t
 
+-- the summary where there is none
 abbrev pub no_sketch : Sketch
 no_sketch = record { k = 0; total = 0; counters = [] }
 

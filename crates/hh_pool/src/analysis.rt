@@ -242,8 +242,5 @@ pub fn analyse<R: Threads + Wait + Sync, G: Gate + Sync>(
     if plan.count() != cutting.count() {
         return Err(RunError::PlanMismatch);
     }
-    match run_passes(rt, alloc, stream, cutting, plan, options, gate) {
-        Ok(outcome) => Ok(outcome),
-        Err(AllocError) => Err(RunError::Memory),
-    }
+    run_passes(rt, alloc, stream, cutting, plan, options, gate).map_err(|_| RunError::Memory)
 }

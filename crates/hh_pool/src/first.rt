@@ -145,9 +145,7 @@ impl<'a, G: Gate> FirstPass<'a, G> {
         add_items(&mut made.table, items);
         Ok(())
     }
-}
 
-impl<'a, G: Gate> FirstPass<'a, G> {
     /// The same by the calling thread, without sums: the summaries of the pieces, in order, and the
     /// table of the stream.
     pub(crate) fn alone(&self) -> Result<(Vec<Summary>, Table), AllocError>

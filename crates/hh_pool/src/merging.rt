@@ -27,16 +27,13 @@ fn take_summary(alloc: Global, summary: &mut Summary) -> Summary
 }
 
 /// One summary merged with another.
-fn merge_two(left: Summary, right: &Summary) -> Result<Summary, MergeFault>
+fn merge_two(mut left: Summary, right: &Summary) -> Result<Summary, MergeFault>
     ensures merged { IfOk result (λ s. merge_result left right.now ≡ Ok s) }
     ensures refused { IfErr result (λ e.
         e ≢ MergeFault.Memory → merge_result left right.now ≡ Err e) }
 {
-    let mut merged = left;
-    match merged.merge(right) {
-        Ok(()) => Ok(merged),
-        Err(fault) => Err(fault),
-    }
+    left.merge(right)?;
+    Ok(left)
 }
 
 /// Merges the summaries of a tree's pieces, which it takes from their places.
@@ -52,14 +49,9 @@ fn merge_tree(alloc: Global, tree: &Tree, summaries: &mut [Summary]) -> Result<S
     match tree {
         Tree::Leaf(i) => Ok(take_summary(alloc, &mut summaries[*i])),
         Tree::Node(left, right) => {
-            let merged = match merge_tree(alloc, left, summaries) {
-                Ok(merged) => merged,
-                Err(fault) => return Err(fault),
-            };
-            match merge_tree(alloc, right, summaries) {
-                Ok(other) => merge_two(merged, &other),
-                Err(fault) => Err(fault),
-            }
+            let merged = merge_tree(alloc, left, summaries)?;
+            let other = merge_tree(alloc, right, summaries)?;
+            merge_two(merged, &other)
         }
     }
 }

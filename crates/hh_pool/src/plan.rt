@@ -114,13 +114,10 @@ impl Plan {
         ensures pieces { IfOk result (λ plan. length (leaves plan) ≡ pieces) }
         ensures refused { IfErr result (λ fault. PlanRefused text.now pieces fault) }
     {
-        match read_merge_tree(alloc, text, pieces) {
-            Ok(tree) => Ok(Plan {
-                tree,
-                count: pieces,
-            }),
-            Err(fault) => Err(fault),
-        }
+        Ok(Plan {
+            tree: read_merge_tree(alloc, text, pieces)?,
+            count: pieces,
+        })
     }
 
     /// The number of pieces.

@@ -2,6 +2,7 @@
 
 ghost use Rattle.std.specs.Prelude.{◌≡◌, ◌<◌, ◌++◌, ℕ, false, true, length, map, slice_index_or};
 ghost use Rattle.std.specs.Prelude.{IfOk, IfErr, IfSome, IfNone, OnOk, Some, None, option_map};
+ghost use Rattle.hh_pool.specs.declared.reading.PlanFault.TheVariants.{Memory};
 ghost use Rattle.hh_pool.specs.Plans.{now_of, open_of, reading_of, shape};
 ghost use Rattle.hh_shared.specs.Tally.{IsDistinctBelow};
 ghost use Rattle.hh_pool.specs.PlanTexts.{AreMarked, NumbersRefused, PlanRefused, SyntaxRefused};
@@ -34,6 +35,14 @@ pub enum PlanFault {
     Memory,
 }
 
+impl From<AllocError> for PlanFault {
+    ghost from_gives = { λ _ e. e ≡ Memory };
+
+    fn from(_e: AllocError) -> PlanFault {
+        PlanFault::Memory
+    }
+}
+
 /// An open parenthesis: its left tree is being read, or its right one after this left one.
 #[derive(Drop)]
 enum Open {
@@ -63,13 +72,12 @@ const MAX_OPEN: usize = 1023;
 fn after_tree(
     alloc: Global,
     tree: Tree,
-    outer: VecDeque<Open>,
+    mut outer: VecDeque<Open>,
     byte: u8,
 ) -> Result<Option<Reading>, AllocError>
     ensures { IfOk result (λ next.
         option_map reading_of next ≡ after_tree (shape tree) (map open_of outer.items) byte) }
 {
-    let mut outer = outer;
     match outer.pop_front() {
         Some(Open::Left) if byte == b' ' => {
             outer.push_front(Open::Right(tree))?;
@@ -86,11 +94,10 @@ fn after_tree(
 }
 
 /// A tree begins with a digit or an opening parenthesis.
-fn at_start(outer: VecDeque<Open>, byte: u8) -> Result<Option<Reading>, AllocError>
+fn at_start(mut outer: VecDeque<Open>, byte: u8) -> Result<Option<Reading>, AllocError>
     ensures { IfOk result (λ next.
         option_map reading_of next ≡ at_start (map open_of outer.items) byte) }
 {
-    let mut outer = outer;
     if byte.is_ascii_digit() {
         let now = Now::Number(usize::from(byte - b'0'));
         return Ok(Some(Reading { now, outer }));
@@ -149,11 +156,10 @@ fn tree_of(alloc: Global, text: &[u8]) -> Result<Tree, PlanFault>
         outer: VecDeque::new(alloc),
     };
     for (i, byte) in text.iter().enumerate() {
-        reading = match step(alloc, reading, *byte) {
-            Ok(Some(next)) => next,
-            Ok(None) => return Err(PlanFault::Syntax(i)),
-            Err(_) => return Err(PlanFault::Memory),
+        let Some(next) = step(alloc, reading, *byte)? else {
+            return Err(PlanFault::Syntax(i));
         };
+        reading = next;
     }
     match ended_tree(reading) {
         Some(tree) => Ok(tree),
@@ -180,9 +186,7 @@ fn marks_of(alloc: Global, numbers: &[usize], pieces: usize) -> Result<Vec<bool>
     ensures own { OnOk result (IsDistinctBelow pieces numbers.now) }
     ensures refused { IfErr result (λ fault. NumbersRefused pieces numbers.now fault) }
 {
-    let Ok(mut marks) = vec![in alloc; false; pieces] else {
-        return Err(PlanFault::Memory);
-    };
+    let mut marks = vec![in alloc; false; pieces]?;
     for number in numbers {
         if *number >= pieces {
             return Err(PlanFault::UnknownPiece(*number));
@@ -218,13 +222,8 @@ fn check_numbers(alloc: Global, tree: &Tree, pieces: usize) -> Result<(), PlanFa
         (λ fault. NumbersRefused pieces (leaves (shape tree.now)) fault) }
 {
     let mut numbers = Vec::new(alloc);
-    let Ok(()) = add_numbers(tree, &mut numbers) else {
-        return Err(PlanFault::Memory);
-    };
-    let marks = match marks_of(alloc, &numbers, pieces) {
-        Ok(marks) => marks,
-        Err(fault) => return Err(fault),
-    };
+    add_numbers(tree, &mut numbers)?;
+    let marks = marks_of(alloc, &numbers, pieces)?;
     match least_unmarked(&marks) {
         None => Ok(()),
         Some(i) => Err(PlanFault::MissingPiece(i)),
@@ -238,8 +237,6 @@ pub(crate) fn read_merge_tree(alloc: Global, text: &[u8], pieces: usize) -> Resu
     ensures refused { IfErr result (λ fault. PlanRefused text.now pieces fault) }
 {
     let tree = tree_of(alloc, text)?;
-    match check_numbers(alloc, &tree, pieces) {
-        Ok(()) => Ok(tree),
-        Err(fault) => Err(fault),
-    }
+    check_numbers(alloc, &tree, pieces)?;
+    Ok(tree)
 }

@@ -82,9 +82,7 @@ impl<'a, G: Gate> SecondPass<'a, G> {
             self.candidates.count_piece(items, numbers);
         }
     }
-}
 
-impl<'a, G: Gate> SecondPass<'a, G> {
     /// The same by the calling thread, without sums: the candidates' weights in the stream.
     /// `workers` is what the gate hears.
     pub(crate) fn alone(&self, workers: u64) -> Result<Vec<u64>, AllocError>

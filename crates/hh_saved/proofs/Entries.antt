@@ -1,5 +1,5 @@
 -- Entries and summaries: what is read is spelled so, and what is spelled so is read.
-use Rattle.std.proofs.Common.{◌≡◌, ℕ, zero, suc, ◌-◌, ◌^◌, ◌<◌, ◌≤◌, Bool, true, cond, ltb, leb, List, [], ◌∷◌, ◌++◌, length, Ok, Err, Ordering, Less, Equal, Greater, refl, sym, ap, subst, ◌∙◌, append_assoc, arith}
+use Rattle.std.proofs.Common.{◌≡◌, ℕ, zero, suc, ◌-◌, ◌^◌, ◌<◌, ◌≤◌, Bool, true, ltb, leb, List, [], ◌∷◌, ◌++◌, length, Ok, Ordering, Less, Equal, Greater, refl, sym, ap, subst, ◌∙◌, append_assoc, arith}
 use Rattle.std.specs.Prelude.{◌&&◌}
 use Rattle.std.specs.List.{flat_map, AllByRecursion}
 use Rattle.std.specs.List.Sorted.{IsStrictlySortedBy}
@@ -16,9 +16,10 @@ use Rattle.hh_saved.specs.declared.format.Version.{Version}
 use Rattle.hh_saved.specs.declared.format.Version.TheVariants.{One, Two}
 use Rattle.hh_saved.specs.declared.fault.SavedFault.TheVariants as faults
 use Rattle.hh_saved.specs.Spelling.{IsSavedKey, entry_bytes, len_width, max_len, sketch_bytes}
-use Rattle.hh_saved.specs.Reading.{◌>>=◌, number_where, bytes_at, total_at, len_at, key_at, entry_at, entries_at, sketch_at}
+use Rattle.hh_saved.specs.Reading.{total_at, key_at, entry_at, entries_at, sketch_at}
 use Rattle.hh_saved.proofs.Fields.{IsBytes, bind_ok, passed, ok_is, Takes, Takes-then, both, and_true, wide16, wide64, len_limit, wide_len, where_takes, where_again, bytes_take, bytes_again}
 
+-- what is_lt tells
 is_less : (o : Ordering) → is_lt o ≡ true → o ≡ Less
 is_less Less e = refl
 is_less Equal e = absurd cc
@@ -35,32 +36,53 @@ few_bytes Two = (omega arith, omega arith)
 abbrev is_len : Version → ℕ → Bool
 is_len version n = leb 1 n && leb n (max_len version)
 
-key_takes : (version : Version) (before bytes : List ℕ) (x : Bytes × List ℕ) → IsBytes bytes → key_at version before bytes ≡ Ok x
-    → Takes bytes (to_be_bytes (len_width version) (length x.0) ++ x.0) x.1 × IsSavedKey version x.0 × (key_cmp before x.0 ≡ Less)
+-- a key that is read is spelled so, and stands above the one before
+key_takes : (version : Version) (before bytes : List ℕ) (x : Bytes × List ℕ) → IsBytes bytes
+    → key_at version before bytes ≡ Ok x
+    → Takes bytes (to_be_bytes (len_width version) (length x.0) ++ x.0) x.1 × IsSavedKey version x.0
+    × (key_cmp before x.0 ≡ Less)
 unfolding key_at
 key_takes version before bytes x fits e =
     let w = len_width version in
-    let a = bind_ok (len_at version bytes) (λ len. bytes_at len.0 len.1 >>= λ key. cond (is_lt (key_cmp before key.0)) (Ok key) (Err faults.KeyOrder)) x e in
-    let b = bind_ok (bytes_at a.0.0 a.0.1) (λ key. cond (is_lt (key_cmp before key.0)) (Ok key) (Err faults.KeyOrder)) x a.2 in
-    let g = passed (is_lt (key_cmp before b.0.0)) faults.KeyOrder b.0 x b.2 in
-    let first = where_takes w (len_limit version) (wide_len version) (is_len version) faults.BadKey bytes a.0 fits a.1 in
-    let second = bytes_take a.0.0 a.0.1 b.0 first.0.rest_fits b.1 in
+    let a = bind_ok _ _ x e in
+    let b = bind_ok _ _ x a.2 in
+    let g = passed _ _ _ x b.2 in
+    let first = where_takes _ _ (wide_len version) _ _ _ _ fits a.1 in
+    let second = bytes_take _ _ _ first.0.rest_fits b.1 in
     let tests = both (leb 1 a.0.0) (leb a.0.0 (max_len version)) first.2 in
     let some : 1 ≤ a.0.0 = grind (arith, nat_tests, tests.0) in
     let few : a.0.0 ≤ max_len version = grind (arith, nat_tests, tests.1) in
-    let spelled = subst (λ (n : ℕ). Takes bytes (to_be_bytes w n ++ b.0.0) b.0.1) (sym second.1) (Takes-then bytes (to_be_bytes w a.0.0) a.0.1 b.0.0 b.0.1 first.0 second.0) in
+    let spelled =
+    subst (λ (n : ℕ). Takes bytes (to_be_bytes w n ++ b.0.0) b.0.1) (sym second.1)
+    (Takes-then _ _ _ _ _ first.0 second.0) in
     let key : IsSavedKey version b.0.0 = record {
-      key = record { some = omega (arith, second.1); few = omega (arith, second.1, few, (few_bytes version).0); bytes = λ i lt. second.2 i };
+      key =
+          record {
+            some = omega (arith, second.1);
+            few = omega (arith, second.1, few, (few_bytes version).0);
+            bytes =
+                λ i lt. second.2 i;
+          };
       few = omega (arith, second.1, few);
     } in
-    subst (λ (y : Bytes × List ℕ). Takes bytes (to_be_bytes w (length y.0) ++ y.0) y.1 × IsSavedKey version y.0 × (key_cmp before y.0 ≡ Less)) g.1 (spelled, key, is_less (key_cmp before b.0.0) g.0)
+    subst (λ (y : Bytes × List ℕ). Takes bytes (to_be_bytes w (length y.0) ++ y.0) y.1 × IsSavedKey version y.0
+    × (key_cmp before y.0 ≡ Less)) g.1 (spelled, key, is_less (key_cmp before b.0.0) g.0)
 
-key_again : (version : Version) (before key rest : List ℕ) → IsSavedKey version key → key_cmp before key ≡ Less → key_at version before (to_be_bytes (len_width version) (length key) ++ (key ++ rest)) ≡ Ok (key, rest)
+-- and a key that is spelled so is read
+key_again : (version : Version) (before key rest : List ℕ) → IsSavedKey version key → key_cmp before key ≡ Less
+    → key_at version before (to_be_bytes (len_width version) (length key) ++ (key ++ rest)) ≡ Ok (key, rest)
 unfolding key_at
 key_again version before key rest is above =
-    let pass : is_len version (length key) ≡ true = and_true (leb 1 (length key)) (leb (length key) (max_len version)) (grind (arith, nat_tests, is.key.some)) (grind (arith, nat_tests, is.few)) in
+    let pass : is_len version (length key) ≡ true =
+    and_true (leb 1 (length key)) (leb (length key) (max_len version)) (grind (arith, nat_tests, is.key.some))
+    (grind (arith, nat_tests, is.few)) in
     let small : length key < len_limit version = omega (arith, is.few, (few_bytes version).1) in
-    rw (where_again (len_width version) (len_limit version) (wide_len version) (is_len version) faults.BadKey (length key) (key ++ rest) small pass, bytes_again (length key) key rest refl, above) refl
+    rw (
+      where_again (len_width version) (len_limit version) (wide_len version) (is_len version) faults.BadKey (length key)
+          (key ++ rest) small pass,
+      bytes_again (length key) key rest refl,
+      above,
+    ) refl
 
 -- ---- entries
 
@@ -72,92 +94,131 @@ pub record IsEntry (version : Version) (before : Bytes) (left : ℕ) (e : Entry)
   pub small : e.1 < 2 ^ 64
   pub within : e.1 ≤ left
 
-entry_takes : (version : Version) (before : Bytes) (left : ℕ) (bytes : List ℕ) (x : Entry × List ℕ) → IsBytes bytes → entry_at version before left bytes ≡ Ok x
+-- an entry that is read is spelled so
+entry_takes : (version : Version) (before : Bytes) (left : ℕ) (bytes : List ℕ) (x : Entry × List ℕ) → IsBytes bytes
+    → entry_at version before left bytes ≡ Ok x
     → Takes bytes (entry_bytes version x.0) x.1 × IsEntry version before left x.0
 unfolding entry_at
 entry_takes version before left bytes x fits e =
     let w = len_width version in
-    let a = bind_ok (key_at version before bytes) (λ key. number_where w64 (λ n. ltb 0 n) faults.BadCounter key.1 >>= λ counter. cond (leb counter.0 left) (Ok ((key.0, counter.0), counter.1)) (Err faults.SumTooLarge)) x e in
+    let a = bind_ok _ _ x e in
     let key = a.0 in
-    let b = bind_ok (number_where w64 (λ n. ltb 0 n) faults.BadCounter key.1) (λ counter. cond (leb counter.0 left) (Ok ((key.0, counter.0), counter.1)) (Err faults.SumTooLarge)) x a.2 in
+    let b = bind_ok _ _ x a.2 in
     let counter = b.0 in
-    let g = passed (leb counter.0 left) faults.SumTooLarge ((key.0, counter.0), counter.1) x b.2 in
-    let first = key_takes version before bytes key fits a.1 in
-    let second = where_takes w64 (2 ^ 64) wide64 (λ n. ltb 0 n) faults.BadCounter key.1 counter first.0.rest_fits b.1 in
-    let both = Takes-then bytes (to_be_bytes w (length key.0) ++ key.0) key.1 (to_be_bytes w64 counter.0) counter.1 first.0 second.0 in
-    let spelled = subst (λ (t : List ℕ). Takes bytes t counter.1) (append_assoc (to_be_bytes w (length key.0)) key.0 (to_be_bytes w64 counter.0)) both in
+    let g = passed _ _ _ x b.2 in
+    let first = key_takes _ _ _ _ fits a.1 in
+    let second = where_takes _ _ wide64 _ _ _ _ first.0.rest_fits b.1 in
+    let both = Takes-then _ _ _ _ _ first.0 second.0 in
+    let spelled =
+    subst (λ (t : List ℕ). Takes bytes t counter.1)
+    (append_assoc (to_be_bytes w (length key.0)) key.0 (to_be_bytes w64 counter.0)) both in
     let some : 0 < counter.0 = grind (arith, nat_tests, second.2) in
     let within : counter.0 ≤ left = grind (arith, nat_tests, g.0) in
     subst (λ (y : Entry × List ℕ). Takes bytes (entry_bytes version y.0) y.1 × IsEntry version before left y.0) g.1
     (spelled, record { key = first.1; above = first.2; some = some; small = second.1; within = within })
 
-entry_again : (version : Version) (before : Bytes) (left : ℕ) (e : Entry) (rest : List ℕ) → IsEntry version before left e → entry_at version before left (entry_bytes version e ++ rest) ≡ Ok (e, rest)
+-- and an entry that is spelled so is read
+entry_again : (version : Version) (before : Bytes) (left : ℕ) (e : Entry) (rest : List ℕ)
+    → IsEntry version before left e → entry_at version before left (entry_bytes version e ++ rest) ≡ Ok (e, rest)
 unfolding entry_at
 entry_again version before left e rest is =
     let w = len_width version in
-    let regrouped : entry_bytes version e ++ rest ≡ to_be_bytes w (length e.0) ++ (e.0 ++ (to_be_bytes w64 e.1 ++ rest)) =
-    append_assoc (to_be_bytes w (length e.0)) (e.0 ++ to_be_bytes w64 e.1) rest ∙ ap (λ (t : List ℕ). to_be_bytes w (length e.0) ++ t) (append_assoc e.0 (to_be_bytes w64 e.1) rest) in
+    let regrouped : entry_bytes version e ++ rest ≡ to_be_bytes w (length e.0)
+    ++ (e.0 ++ (to_be_bytes w64 e.1 ++ rest)) =
+    append_assoc (to_be_bytes w (length e.0)) (e.0 ++ to_be_bytes w64 e.1) rest
+    ∙ ap (λ (t : List ℕ). to_be_bytes w (length e.0) ++ t) (append_assoc e.0 (to_be_bytes w64 e.1) rest) in
     let some : ltb 0 e.1 ≡ true = grind (arith, nat_tests, is.some) in
     let within : leb e.1 left ≡ true = grind (arith, nat_tests, is.within) in
     ap (entry_at version before left) regrouped
-    ∙ rw (key_again version before e.0 (to_be_bytes w64 e.1 ++ rest) is.key is.above, where_again w64 (2 ^ 64) wide64 (λ n. ltb 0 n) faults.BadCounter e.1 rest is.small some, within) refl
+    ∙ rw (
+      key_again version before e.0 (to_be_bytes w64 e.1 ++ rest) is.key is.above,
+      where_again w64 (2 ^ 64) wide64
+          (λ n. ltb 0 n) faults.BadCounter e.1 rest is.small some,
+      within,
+    ) refl
 
 -- entries that may follow one another
 abbrev pub AreEntries : Version → Bytes → ℕ → List Entry → Type 0
 AreEntries version before left [] = Unit {0}
 AreEntries version before left (e ∷ es) = IsEntry version before left e × AreEntries version e.0 (left - e.1) es
 
-pub entries_take : (version : Version) (n : ℕ) (before : Bytes) (left : ℕ) (bytes : List ℕ) (x : List Entry × List ℕ) → IsBytes bytes → entries_at version n before left bytes ≡ Ok x
+-- entries that are read are spelled so
+pub entries_take : (version : Version) (n : ℕ) (before : Bytes) (left : ℕ) (bytes : List ℕ) (x : List Entry × List ℕ)
+    → IsBytes bytes → entries_at version n before left bytes ≡ Ok x
     → Takes bytes (flat_map (entry_bytes version) x.0) x.1 × (length x.0 ≡ n) × AreEntries version before left x.0
 unfolding entries_at
 entries_take version zero before left bytes x fits e =
-    subst (λ (y : List Entry × List ℕ). Takes bytes (flat_map (entry_bytes version) y.0) y.1 × (length y.0 ≡ 0) × AreEntries version before left y.0) (ok_is ([], bytes) x e) (record { parts = refl; rest_fits = fits }, refl, tt)
+    subst (λ (y : List Entry × List ℕ). Takes bytes (flat_map (entry_bytes version) y.0) y.1 × (length y.0 ≡ 0)
+    × AreEntries version before left y.0) (ok_is ([], bytes) x e) (record { parts = refl; rest_fits = fits }, refl, tt)
 entries_take version (suc n) before left bytes x fits e =
-    let a = bind_ok (entry_at version before left bytes) (λ first. entries_at version n first.0.0 (left - first.0.1) first.1 >>= λ others. Ok (first.0 ∷ others.0, others.1)) x e in
+    let a = bind_ok _ _ x e in
     let first = a.0 in
-    let b = bind_ok (entries_at version n first.0.0 (left - first.0.1) first.1) (λ others. Ok (first.0 ∷ others.0, others.1)) x a.2 in
-    let one = entry_takes version before left bytes first fits a.1 in
-    let more = entries_take version n first.0.0 (left - first.0.1) first.1 b.0 one.0.rest_fits b.1 in
-    let both = Takes-then bytes (entry_bytes version first.0) first.1 (flat_map (entry_bytes version) b.0.0) b.0.1 one.0 more.0 in
+    let b = bind_ok _ _ x a.2 in
+    let one = entry_takes _ _ _ _ _ fits a.1 in
+    let more = entries_take _ n _ _ _ _ one.0.rest_fits b.1 in
+    let both = Takes-then _ _ _ _ _ one.0 more.0 in
     let made : List Entry × List ℕ = (first.0 ∷ b.0.0, b.0.1) in
-    subst (λ (y : List Entry × List ℕ). Takes bytes (flat_map (entry_bytes version) y.0) y.1 × (length y.0 ≡ suc n) × AreEntries version before left y.0) (ok_is made x b.2)
+    subst (λ (y : List Entry × List ℕ). Takes bytes (flat_map (entry_bytes version) y.0) y.1 × (length y.0 ≡ suc n)
+    × AreEntries version before left y.0) (ok_is made x b.2)
     (rw flat_map-cons both, ap suc more.1, (one.1, more.2))
 
-pub entries_again : (version : Version) (es : List Entry) (before : Bytes) (left : ℕ) (rest : List ℕ) → AreEntries version before left es → entries_at version (length es) before left (flat_map (entry_bytes version) es ++ rest) ≡ Ok (es, rest)
+-- and entries that are spelled so are read
+pub entries_again : (version : Version) (es : List Entry) (before : Bytes) (left : ℕ) (rest : List ℕ)
+    → AreEntries version before left es
+    → entries_at version (length es) before left (flat_map (entry_bytes version) es ++ rest) ≡ Ok (es, rest)
 unfolding entries_at
 entries_again version [] before left rest are = refl
 entries_again version (e ∷ es) before left rest are =
-    let regrouped : flat_map (entry_bytes version) (e ∷ es) ++ rest ≡ entry_bytes version e ++ (flat_map (entry_bytes version) es ++ rest) =
-    ap (λ (t : List ℕ). t ++ rest) (flat_map-cons (entry_bytes version) e es) ∙ append_assoc (entry_bytes version e) (flat_map (entry_bytes version) es) rest in
+    let regrouped : flat_map (entry_bytes version) (e ∷ es) ++ rest ≡ entry_bytes version e
+    ++ (flat_map (entry_bytes version) es ++ rest) =
+    ap (λ (t : List ℕ). t ++ rest) (flat_map-cons (entry_bytes version) e es)
+    ∙ append_assoc (entry_bytes version e) (flat_map (entry_bytes version) es) rest in
     ap (entries_at version (suc (length es)) before left) regrouped
-    ∙ rw (entry_again version before left e (flat_map (entry_bytes version) es ++ rest) are.0, entries_again version es e.0 (left - e.1) rest are.1) refl
+    ∙ rw (
+      entry_again version before left e (flat_map (entry_bytes version) es ++ rest) are.0,
+      entries_again version es e.0
+          (left - e.1) rest are.1,
+    ) refl
 
 -- ---- entries and counters
 
-above_all : (a b : Bytes) (ks : List Bytes) → key_cmp a b ≡ Less → AllByRecursion (λ y. key_cmp b y ≡ Less) ks → AllByRecursion (λ y. key_cmp a y ≡ Less) ks
+-- a key below another is below all that stand above it
+above_all : (a b : Bytes) (ks : List Bytes) → key_cmp a b ≡ Less → AllByRecursion (λ y. key_cmp b y ≡ Less) ks
+    → AllByRecursion (λ y. key_cmp a y ≡ Less) ks
 above_all a b [] lt all = tt
 above_all a b (k ∷ ks) lt all = (nat_list_cmp_total.trans a b k lt all.0, above_all a b ks lt all.1)
 
-rising : (version : Version) (es : List Entry) (before : Bytes) (left : ℕ) → AreEntries version before left es → AllByRecursion (λ y. key_cmp before y ≡ Less) (keys_of es) × IsStrictlySortedBy key_cmp (keys_of es)
+-- the keys of such entries rise
+rising : (version : Version) (es : List Entry) (before : Bytes) (left : ℕ) → AreEntries version before left es
+    → AllByRecursion (λ y. key_cmp before y ≡ Less) (keys_of es) × IsStrictlySortedBy key_cmp (keys_of es)
 unfolding IsStrictlySortedBy
 rising version [] before left are = (tt, tt)
 rising version (e ∷ es) before left are =
     let rest = rising version es e.0 (left - e.1) are.1 in
     ((are.0.above, above_all before e.0 (keys_of es) are.0.above rest.0), (rest.0, rest.1))
 
-positive : (version : Version) (es : List Entry) (before : Bytes) (left : ℕ) → AreEntries version before left es → AllByRecursion (λ e. 0 < e.1) es
+-- their counters are positive
+positive : (version : Version) (es : List Entry) (before : Bytes) (left : ℕ) → AreEntries version before left es
+    → AllByRecursion (λ e. 0 < e.1) es
 positive version [] before left are = tt
 positive version (e ∷ es) before left are = (are.0.some, positive version es e.0 (left - e.1) are.1)
 
-pub keys : (version : Version) (es : List Entry) (before : Bytes) (left : ℕ) → AreEntries version before left es → AllByRecursion (λ e. IsSavedKey version e.0) es
+-- their keys are keys that the version can spell
+pub keys : (version : Version) (es : List Entry) (before : Bytes) (left : ℕ) → AreEntries version before left es
+    → AllByRecursion (λ e. IsSavedKey version e.0) es
 keys version [] before left are = tt
 keys version (e ∷ es) before left are = (are.0.key, keys version es e.0 (left - e.1) are.1)
 
-within : (version : Version) (es : List Entry) (before : Bytes) (left : ℕ) → AreEntries version before left es → total_of es ≤ left
+-- and they add up to at most what was left
+within : (version : Version) (es : List Entry) (before : Bytes) (left : ℕ) → AreEntries version before left es
+    → total_of es ≤ left
 within version [] before left are = omega arith
-within version (e ∷ es) before left are = omega (arith, are.0.within, within version es e.0 (left - e.1) are.1, sum_by-cons (λ d. d.1) e es)
+within version (e ∷ es) before left are =
+    omega (arith, are.0.within, within version es e.0 (left - e.1) are.1, sum_by-cons (λ d. d.1) e es)
 
-pub entries_fit : (version : Version) (k total : ℕ) (es : List Entry) → 1 ≤ k → k ≤ 65535 → total < 2 ^ 63 → length es ≤ k → AreEntries version [] total es → Fits k total es
+-- such entries are the counters of a summary
+pub entries_fit : (version : Version) (k total : ℕ) (es : List Entry) → 1 ≤ k → k ≤ 65535 → total < 2 ^ 63
+    → length es ≤ k → AreEntries version [] total es → Fits k total es
 entries_fit version k total es some bounded small few are = record {
   some = some;
   bounded_k = bounded;
@@ -167,16 +228,22 @@ entries_fit version k total es some bounded small few are = record {
   within = within version es [] total are;
 }
 
+-- a key stands above no bytes
 below_key : (version : Version) (y : Bytes) → IsSavedKey version y → key_cmp [] y ≡ Less
 below_key version [] is = absurd (omega (arith, is.key.some))
 below_key version (b ∷ bs) is = refl
 
-below_keys : (version : Version) (es : List Entry) → AllByRecursion (λ e. IsSavedKey version e.0) es → AllByRecursion (λ y. key_cmp [] y ≡ Less) (keys_of es)
+-- and so do all keys
+below_keys : (version : Version) (es : List Entry) → AllByRecursion (λ e. IsSavedKey version e.0) es
+    → AllByRecursion (λ y. key_cmp [] y ≡ Less) (keys_of es)
 below_keys version [] are = tt
 below_keys version (e ∷ es) are = (below_key version e.0 are.0, below_keys version es are.1)
 
-entries_from : (version : Version) (es : List Entry) (before : Bytes) (left : ℕ) → AllByRecursion (λ y. key_cmp before y ≡ Less) (keys_of es) → IsStrictlySortedBy key_cmp (keys_of es)
-    → AllByRecursion (λ e. 0 < e.1) es → AllByRecursion (λ e. IsSavedKey version e.0) es → total_of es ≤ left → left < 2 ^ 64 → AreEntries version before left es
+-- rising keys with positive counters may follow one another
+entries_from : (version : Version) (es : List Entry) (before : Bytes) (left : ℕ)
+    → AllByRecursion (λ y. key_cmp before y ≡ Less) (keys_of es) → IsStrictlySortedBy key_cmp (keys_of es)
+    → AllByRecursion (λ e. 0 < e.1) es → AllByRecursion (λ e. IsSavedKey version e.0) es → total_of es ≤ left
+    → left < 2 ^ 64 → AreEntries version before left es
 unfolding IsStrictlySortedBy
 entries_from version [] before left above sorted some are most small = tt
 entries_from version (e ∷ es) before left above sorted some are most small =
@@ -185,48 +252,66 @@ entries_from version (e ∷ es) before left above sorted some are most small =
       entries_from version es e.0 (left - e.1) sorted.0 sorted.1 some.1 are.1 (omega arith) (omega arith),
     )
 
-pub entries_of_fits : (version : Version) (k total : ℕ) (es : List Entry) → Fits k total es → AllByRecursion (λ e. IsSavedKey version e.0) es → AreEntries version [] total es
-entries_of_fits version k total es fits are = entries_from version es [] total (below_keys version es are) fits.entries.rising fits.entries.positive are fits.within (omega (arith, fits.bounded_total))
+-- the counters of a summary are such entries
+pub entries_of_fits : (version : Version) (k total : ℕ) (es : List Entry) → Fits k total es
+    → AllByRecursion (λ e. IsSavedKey version e.0) es → AreEntries version [] total es
+entries_of_fits version k total es fits are =
+    entries_from version es [] total (below_keys version es are) fits.entries.rising fits.entries.positive are
+    fits.within (omega (arith, fits.bounded_total))
 
 -- ---- summaries
 
-pub total_takes : (bytes : List ℕ) (x : ℕ × List ℕ) → IsBytes bytes → total_at bytes ≡ Ok x → Takes bytes (to_be_bytes w64 x.0) x.1 × (x.0 < 2 ^ 63)
+-- a total that is read is spelled so
+pub total_takes : (bytes : List ℕ) (x : ℕ × List ℕ) → IsBytes bytes → total_at bytes ≡ Ok x
+    → Takes bytes (to_be_bytes w64 x.0) x.1 × (x.0 < 2 ^ 63)
 total_takes bytes x fits e =
-    let t = where_takes w64 (2 ^ 64) wide64 (λ n. ltb n (2 ^ 63)) faults.TotalTooLarge bytes x fits e in
+    let t = where_takes _ _ wide64 _ _ _ _ fits e in
     (t.0, grind (arith, nat_tests, t.2))
 
+-- and a total that is spelled so is read
 pub total_again : (n : ℕ) (rest : List ℕ) → n < 2 ^ 63 → total_at (to_be_bytes w64 n ++ rest) ≡ Ok (n, rest)
 total_again n rest small =
     let pass : ltb n (2 ^ 63) ≡ true = grind (arith, nat_tests) in
     where_again w64 (2 ^ 64) wide64 (λ n. ltb n (2 ^ 63)) faults.TotalTooLarge n rest (omega arith) pass
 
-pub sketch_takes : (version : Version) (bytes : List ℕ) (x : Sketch × List ℕ) → IsBytes bytes → sketch_at version bytes ≡ Ok x
-    → Takes bytes (sketch_bytes version x.0) x.1 × Fits x.0.k x.0.total x.0.counters × AllByRecursion (λ e. IsSavedKey version e.0) x.0.counters
+-- a summary that is read is spelled so
+pub sketch_takes : (version : Version) (bytes : List ℕ) (x : Sketch × List ℕ) → IsBytes bytes
+    → sketch_at version bytes ≡ Ok x
+    → Takes bytes (sketch_bytes version x.0) x.1 × Fits x.0.k x.0.total x.0.counters
+    × AllByRecursion (λ e. IsSavedKey version e.0) x.0.counters
 unfolding sketch_at
 sketch_takes version bytes x fits e =
-    let a = bind_ok (number_where w16 (λ n. ltb 0 n) faults.BadK bytes)
-    (λ k. total_at k.1 >>= λ total. number_where w16 (λ n. leb n k.0) faults.BadCount total.1 >>= λ count. entries_at version count.0 [] total.0 count.1 >>= λ entries. Ok (record { k = k.0; total = total.0; counters = entries.0 }, entries.1)) x e in
+    let a = bind_ok _ _ x e in
     let k = a.0 in
-    let b = bind_ok (total_at k.1) (λ total. number_where w16 (λ n. leb n k.0) faults.BadCount total.1 >>= λ count. entries_at version count.0 [] total.0 count.1 >>= λ entries. Ok (record { k = k.0; total = total.0; counters = entries.0 }, entries.1)) x a.2 in
+    let b = bind_ok _ _ x a.2 in
     let total = b.0 in
-    let d = bind_ok (number_where w16 (λ n. leb n k.0) faults.BadCount total.1) (λ count. entries_at version count.0 [] total.0 count.1 >>= λ entries. Ok (record { k = k.0; total = total.0; counters = entries.0 }, entries.1)) x b.2 in
+    let d = bind_ok _ _ x b.2 in
     let count = d.0 in
-    let f = bind_ok (entries_at version count.0 [] total.0 count.1) (λ entries. Ok (record { k = k.0; total = total.0; counters = entries.0 }, entries.1)) x d.2 in
+    let f = bind_ok _ _ x d.2 in
     let entries = f.0 in
-    let t0 = where_takes w16 (2 ^ 16) wide16 (λ n. ltb 0 n) faults.BadK bytes k fits a.1 in
-    let t1 = total_takes k.1 total t0.0.rest_fits b.1 in
-    let t2 = where_takes w16 (2 ^ 16) wide16 (λ n. leb n k.0) faults.BadCount total.1 count t1.0.rest_fits d.1 in
-    let t3 = entries_take version count.0 [] total.0 count.1 entries t2.0.rest_fits f.1 in
+    let t0 = where_takes _ _ wide16 _ _ _ _ fits a.1 in
+    let t1 = total_takes _ _ t0.0.rest_fits b.1 in
+    let t2 = where_takes _ _ wide16 _ _ _ _ t1.0.rest_fits d.1 in
+    let t3 = entries_take _ _ _ _ _ _ t2.0.rest_fits f.1 in
     let some : 1 ≤ k.0 = grind (arith, nat_tests, t0.2) in
     let few : count.0 ≤ k.0 = grind (arith, nat_tests, t2.2) in
-    let e23 = subst (λ (n : ℕ). Takes total.1 (to_be_bytes w16 n ++ flat_map (entry_bytes version) entries.0) entries.1) (sym t3.1) (Takes-then total.1 (to_be_bytes w16 count.0) count.1 (flat_map (entry_bytes version) entries.0) entries.1 t2.0 t3.0) in
-    let e13 = Takes-then k.1 (to_be_bytes w64 total.0) total.1 (to_be_bytes w16 (length entries.0) ++ flat_map (entry_bytes version) entries.0) entries.1 t1.0 e23 in
-    let e03 = Takes-then bytes (to_be_bytes w16 k.0) k.1 (to_be_bytes w64 total.0 ++ (to_be_bytes w16 (length entries.0) ++ flat_map (entry_bytes version) entries.0)) entries.1 t0.0 e13 in
+    let e23 =
+    subst (λ (n : ℕ). Takes total.1 (to_be_bytes w16 n ++ flat_map (entry_bytes version) entries.0) entries.1)
+    (sym t3.1) (Takes-then _ _ _ _ _ t2.0 t3.0) in
+    let e13 = Takes-then _ _ _ _ _ t1.0 e23 in
+    let e03 = Takes-then _ _ _ _ _ t0.0 e13 in
     let made : Sketch × List ℕ = (record { k = k.0; total = total.0; counters = entries.0 }, entries.1) in
-    subst (λ (y : Sketch × List ℕ). Takes bytes (sketch_bytes version y.0) y.1 × Fits y.0.k y.0.total y.0.counters × AllByRecursion (λ e. IsSavedKey version e.0) y.0.counters) (ok_is made x f.2)
-    (e03, entries_fit version k.0 total.0 entries.0 some (omega (arith, t0.1)) t1.1 (omega (arith, t3.1, few)) t3.2, keys version entries.0 [] total.0 t3.2)
+    subst (λ (y : Sketch × List ℕ). Takes bytes (sketch_bytes version y.0) y.1 × Fits y.0.k y.0.total y.0.counters
+    × AllByRecursion (λ e. IsSavedKey version e.0) y.0.counters) (ok_is made x f.2) (
+      e03,
+      entries_fit version k.0 total.0 entries.0 some (omega (arith, t0.1)) t1.1 (omega (arith, t3.1, few)) t3.2,
+      keys version entries.0 [] total.0 t3.2,
+    )
 
-pub sketch_again : (version : Version) (s : Sketch) (rest : List ℕ) → Fits s.k s.total s.counters → AllByRecursion (λ e. IsSavedKey version e.0) s.counters → sketch_at version (sketch_bytes version s ++ rest) ≡ Ok (s, rest)
+-- and a summary that is spelled so is read
+pub sketch_again : (version : Version) (s : Sketch) (rest : List ℕ) → Fits s.k s.total s.counters
+    → AllByRecursion (λ e. IsSavedKey version e.0) s.counters
+    → sketch_at version (sketch_bytes version s ++ rest) ≡ Ok (s, rest)
 unfolding sketch_at
 sketch_again version s rest fits are =
     let entries = flat_map (entry_bytes version) s.counters in
@@ -234,13 +319,16 @@ sketch_again version s rest fits are =
     let total = to_be_bytes w64 s.total in
     let regrouped : sketch_bytes version s ++ rest ≡ to_be_bytes w16 s.k ++ (total ++ (count ++ (entries ++ rest))) =
     append_assoc (to_be_bytes w16 s.k) (total ++ (count ++ entries)) rest
-    ∙ ap (λ (t : List ℕ). to_be_bytes w16 s.k ++ t) (append_assoc total (count ++ entries) rest ∙ ap (λ (t : List ℕ). total ++ t) (append_assoc count entries rest)) in
+    ∙ ap (λ (t : List ℕ). to_be_bytes w16 s.k ++ t)
+    (append_assoc total (count ++ entries) rest ∙ ap (λ (t : List ℕ). total ++ t) (append_assoc count entries rest)) in
     let some : ltb 0 s.k ≡ true = grind (arith, nat_tests, fits.some) in
     let few : leb (length s.counters) s.k ≡ true = grind (arith, nat_tests, fits.few) in
     ap (sketch_at version) regrouped
     ∙ rw (
-      where_again w16 (2 ^ 16) wide16 (λ n. ltb 0 n) faults.BadK s.k (total ++ (count ++ (entries ++ rest))) (omega (arith, fits.bounded_k)) some,
+      where_again w16 (2 ^ 16) wide16 (λ n. ltb 0 n) faults.BadK s.k (total ++ (count ++ (entries ++ rest)))
+          (omega (arith, fits.bounded_k)) some,
       total_again s.total (count ++ (entries ++ rest)) fits.bounded_total,
-      where_again w16 (2 ^ 16) wide16 (λ n. leb n s.k) faults.BadCount (length s.counters) (entries ++ rest) (omega (arith, fits.few, fits.bounded_k)) few,
+      where_again w16 (2 ^ 16) wide16 (λ n. leb n s.k) faults.BadCount (length s.counters) (entries ++ rest)
+          (omega (arith, fits.few, fits.bounded_k)) few,
       entries_again version s.counters [] s.total rest (entries_of_fits version s.k s.total s.counters fits are),
     ) refl

@@ -8,16 +8,18 @@ use Rattle.std.proofs.lemmas.Nat.{be_bytes_2, be_bytes_4, be_bytes_8, from_be_by
 use Rattle.hh_saved.specs.declared.format.Version.{Version}
 use Rattle.hh_saved.specs.declared.format.Version.TheVariants.{One, Two}
 use Rattle.hh_saved.specs.declared.fault.SavedFault.{SavedFault}
-use Rattle.hh_saved.specs.declared.fault.SavedFault.TheVariants.{Truncated}
 use Rattle.hh_saved.specs.Spelling.{len_width}
 use Rattle.hh_saved.specs.Reading.{◌>>=◌, number_at, number_where, bytes_at}
 
+-- each number is a byte's
 abbrev pub IsBytes : List ℕ → Type 0
 IsBytes bytes = (i : ℕ) → get_or bytes i 0 < 256
 
+-- so are those behind the first ones
 pub IsBytes-drop : (n : ℕ) (bytes : List ℕ) → IsBytes bytes → IsBytes (drop n bytes)
 IsBytes-drop n bytes h i = rw get_or-drop (h (n + i))
 
+-- and the first ones
 pub IsBytes-take : (n : ℕ) (bytes : List ℕ) → IsBytes bytes → IsBytes (take n bytes)
 IsBytes-take n bytes h i =
     elim (cases_lt i n) [
@@ -28,7 +30,8 @@ IsBytes-take n bytes h i =
 -- ---- steps
 
 -- the value of a step that did not fail
-pub bind_ok : {A B : Type 0} (r : Result A SavedFault) (f : A → Result B SavedFault) (y : B) → (r >>= f) ≡ Ok y → (x : A) × (r ≡ Ok x) × (f x ≡ Ok y)
+pub bind_ok : {A B : Type 0} (r : Result A SavedFault) (f : A → Result B SavedFault) (y : B) → (r >>= f) ≡ Ok y
+    → (x : A) × (r ≡ Ok x) × (f x ≡ Ok y)
 bind_ok (Ok x) f y e = (x, refl, e)
 bind_ok (Err d) f y e = absurd cc
 
@@ -38,21 +41,25 @@ passed true d x y e = (refl, cc)
 passed false d x y e = absurd cc
 
 -- a test for a refusal that did not come
-pub not_refused : {A : Type 0} (b : Bool) (d : SavedFault) (x y : A) → cond b (Err d) (Ok x) ≡ Ok y → (b ≡ false) × (x ≡ y)
+pub not_refused : {A : Type 0} (b : Bool) (d : SavedFault) (x y : A) → cond b (Err d) (Ok x) ≡ Ok y
+    → (b ≡ false) × (x ≡ y)
 not_refused true d x y e = absurd cc
 not_refused false d x y e = (refl, cc)
 
+-- a result at the faults' type
 abbrev done : {A : Type 0} → A → Result A SavedFault
 done x = Ok x
 
+-- what was read is one value
 pub ok_is : {A : Type 0} (x y : A) → done x ≡ done y → x ≡ y
 ok_is x y e = cc
 
--- two tests that passed, and that pass
+-- two tests that passed
 pub both : (a b : Bool) → (a && b) ≡ true → (a ≡ true) × (b ≡ true)
 both true b e = (refl, e)
 both false b e = absurd cc
 
+-- two tests that pass
 pub and_true : (a b : Bool) → a ≡ true → b ≡ true → (a && b) ≡ true
 and_true a b p q = rw (p, q) refl
 
@@ -61,25 +68,32 @@ pub record Takes (bytes text rest : List ℕ) : Type 0 where
   pub parts : bytes ≡ text ++ rest
   pub rest_fits : IsBytes rest
 
+-- one text read after another
 pub Takes-then : (a x b y c : List ℕ) → Takes a x b → Takes b y c → Takes a (x ++ y) c
-Takes-then a x b y c p q = record { parts = p.parts ∙ ap (λ (t : List ℕ). x ++ t) q.parts ∙ sym (append_assoc x y c); rest_fits = q.rest_fits }
+Takes-then a x b y c p q =
+    record { parts = p.parts ∙ ap (λ (t : List ℕ). x ++ t) q.parts ∙ sym (append_assoc x y c); rest_fits = q.rest_fits }
 
 -- ---- numbers
 
+-- a number below the limit has so many bytes, and these tell it
 pub record IsWide (w : Width) (limit : ℕ) : Type 0 where
   pub len : (n : ℕ) → length (to_be_bytes w n) ≡ byte_len w
-  pub back : (bytes : List ℕ) → length bytes ≡ byte_len w → IsBytes bytes → to_be_bytes w (from_be_bytes w bytes) ≡ bytes
+  pub back : (bytes : List ℕ) → length bytes ≡ byte_len w → IsBytes bytes
+      → to_be_bytes w (from_be_bytes w bytes) ≡ bytes
   pub again : (n : ℕ) → n < limit → from_be_bytes w (to_be_bytes w n) ≡ n
   pub below : (bytes : List ℕ) → IsBytes bytes → from_be_bytes w bytes < limit
 
+-- a byte's number
 one_byte : (n : ℕ) → n < 256 → n % 256 ≡ n
 one_byte n lt = omega arith
 
+-- one byte is spelled by its number
 one_byte_back : (bytes : List ℕ) → length bytes ≡ 1 → IsBytes bytes → to_be_bytes w8 (from_be_bytes w8 bytes) ≡ bytes
 one_byte_back [] len fits = absurd cc
 one_byte_back (b ∷ []) len fits = ap (λ (n : ℕ). n ∷ []) (one_byte b (fits 0))
 one_byte_back (b ∷ c ∷ bytes) len fits = absurd (omega arith)
 
+-- numbers of 1, 2, 4 and 8 bytes
 pub wide8 : IsWide w8 (2 ^ 8)
 wide8 = record {
   len = λ n. refl;
@@ -117,46 +131,77 @@ abbrev pub len_limit : Version → ℕ
 len_limit One = 2 ^ 8
 len_limit Two = 2 ^ 16
 
+-- the length of a key
 pub wide_len : (version : Version) → IsWide (len_width version) (len_limit version)
 wide_len One = wide8
 wide_len Two = wide16
 
-pub number_takes : (w : Width) (limit : ℕ) (wide : IsWide w limit) (bytes : List ℕ) (x : ℕ × List ℕ) → IsBytes bytes → number_at w bytes ≡ Ok x → Takes bytes (to_be_bytes w x.0) x.1 × (x.0 < limit)
+-- a number that is read is spelled so
+pub number_takes : (w : Width) (limit : ℕ) (wide : IsWide w limit) (bytes : List ℕ) (x : ℕ × List ℕ) → IsBytes bytes
+    → number_at w bytes ≡ Ok x → Takes bytes (to_be_bytes w x.0) x.1 × (x.0 < limit)
 number_takes w limit wide bytes x fits e =
     let front = take (byte_len w) bytes in
-    let g = not_refused (ltb (length bytes) (byte_len w)) Truncated (from_be_bytes w front, drop (byte_len w) bytes) x e in
+    let g = not_refused _ _ _ x e in
     let long : byte_len w ≤ length bytes = ltb-false _ _ g.0 in
     let front_fits = IsBytes-take (byte_len w) bytes fits in
-    let is : to_be_bytes w (from_be_bytes w front) ≡ front = wide.back front (omega (arith, length-take (byte_len w) bytes)) front_fits in
-    subst (λ (y : ℕ × List ℕ). Takes bytes (to_be_bytes w y.0) y.1 × (y.0 < limit)) g.1
-    (record { parts = rw is (sym (take-append-drop (byte_len w) bytes)); rest_fits = IsBytes-drop (byte_len w) bytes fits }, wide.below front front_fits)
+    let is : to_be_bytes w (from_be_bytes w front) ≡ front =
+    wide.back front (omega (arith, length-take (byte_len w) bytes)) front_fits in
+    subst (λ (y : ℕ × List ℕ). Takes bytes (to_be_bytes w y.0) y.1 × (y.0 < limit)) g.1 (
+      record {
+        parts = rw is (sym (take-append-drop (byte_len w) bytes));
+        rest_fits =
+            IsBytes-drop (byte_len w) bytes fits;
+      },
+      wide.below front front_fits,
+    )
 
-pub number_again : (w : Width) (limit : ℕ) (wide : IsWide w limit) (n : ℕ) (rest : List ℕ) → n < limit → number_at w (to_be_bytes w n ++ rest) ≡ Ok (n, rest)
+-- and a number that is spelled so is read
+pub number_again : (w : Width) (limit : ℕ) (wide : IsWide w limit) (n : ℕ) (rest : List ℕ) → n < limit
+    → number_at w (to_be_bytes w n ++ rest) ≡ Ok (n, rest)
 number_again w limit wide n rest lt =
     let len = wide.len n in
-    let long : ltb (length (to_be_bytes w n ++ rest)) (byte_len w) ≡ false = le-ltb _ _ (omega (arith, length-append (to_be_bytes w n) rest)) in
-    rw (long, take_at (to_be_bytes w n) rest (byte_len w) len, drop_at (to_be_bytes w n) rest (byte_len w) len, wide.again n lt) refl
+    let long : ltb (length (to_be_bytes w n ++ rest)) (byte_len w) ≡ false =
+    le-ltb _ _ (omega (arith, length-append (to_be_bytes w n) rest)) in
+    rw (
+      long,
+      take_at (to_be_bytes w n) rest (byte_len w) len,
+      drop_at (to_be_bytes w n) rest (byte_len w) len,
+      wide.again
+          n lt,
+    ) refl
 
-pub where_takes : (w : Width) (limit : ℕ) (wide : IsWide w limit) (test : ℕ → Bool) (fault : SavedFault) (bytes : List ℕ) (x : ℕ × List ℕ) → IsBytes bytes → number_where w test fault bytes ≡ Ok x
+-- a number that is read and passes a test
+pub where_takes : (w : Width) (limit : ℕ) (wide : IsWide w limit) (test : ℕ → Bool) (fault : SavedFault)
+    (bytes : List ℕ) (x : ℕ × List ℕ) → IsBytes bytes → number_where w test fault bytes ≡ Ok x
     → Takes bytes (to_be_bytes w x.0) x.1 × (x.0 < limit) × (test x.0 ≡ true)
 where_takes w limit wide test fault bytes x fits e =
-    let b = bind_ok (number_at w bytes) (λ n. cond (test n.0) (Ok n) (Err fault)) x e in
-    let g = passed (test b.0.0) fault b.0 x b.2 in
-    let t = number_takes w limit wide bytes b.0 fits b.1 in
-    subst (λ (y : ℕ × List ℕ). Takes bytes (to_be_bytes w y.0) y.1 × (y.0 < limit) × (test y.0 ≡ true)) g.1 (t.0, t.1, g.0)
+    let b = bind_ok _ _ x e in
+    let g = passed _ _ _ x b.2 in
+    let t = number_takes _ _ wide _ _ fits b.1 in
+    subst (λ (y : ℕ × List ℕ). Takes bytes (to_be_bytes w y.0) y.1 × (y.0 < limit) × (test y.0 ≡ true)) g.1
+    (t.0, t.1, g.0)
 
-pub where_again : (w : Width) (limit : ℕ) (wide : IsWide w limit) (test : ℕ → Bool) (fault : SavedFault) (n : ℕ) (rest : List ℕ) → n < limit → test n ≡ true → number_where w test fault (to_be_bytes w n ++ rest) ≡ Ok (n, rest)
+-- a number that is spelled so and passes is read
+pub where_again : (w : Width) (limit : ℕ) (wide : IsWide w limit) (test : ℕ → Bool) (fault : SavedFault) (n : ℕ)
+    (rest : List ℕ) → n < limit → test n ≡ true → number_where w test fault (to_be_bytes w n ++ rest) ≡ Ok (n, rest)
 where_again w limit wide test fault n rest lt pass = rw (number_again w limit wide n rest lt, pass) refl
 
 -- ---- bytes
 
-pub bytes_take : (len : ℕ) (bytes : List ℕ) (x : List ℕ × List ℕ) → IsBytes bytes → bytes_at len bytes ≡ Ok x → Takes bytes x.0 x.1 × (length x.0 ≡ len) × IsBytes x.0
+-- so many bytes that are read
+pub bytes_take : (len : ℕ) (bytes : List ℕ) (x : List ℕ × List ℕ) → IsBytes bytes → bytes_at len bytes ≡ Ok x
+    → Takes bytes x.0 x.1 × (length x.0 ≡ len) × IsBytes x.0
 bytes_take len bytes x fits e =
-    let g = not_refused (ltb (length bytes) len) Truncated (take len bytes, drop len bytes) x e in
+    let g = not_refused _ _ _ x e in
     let long : len ≤ length bytes = ltb-false _ _ g.0 in
-    subst (λ (y : List ℕ × List ℕ). Takes bytes y.0 y.1 × (length y.0 ≡ len) × IsBytes y.0) g.1
-    (record { parts = sym (take-append-drop len bytes); rest_fits = IsBytes-drop len bytes fits }, omega (arith, length-take len bytes), IsBytes-take len bytes fits)
+    subst (λ (y : List ℕ × List ℕ). Takes bytes y.0 y.1 × (length y.0 ≡ len) × IsBytes y.0) g.1 (
+      record { parts = sym (take-append-drop len bytes); rest_fits = IsBytes-drop len bytes fits },
+      omega
+          (arith, length-take len bytes),
+      IsBytes-take len bytes fits,
+    )
 
+-- so many bytes are read
 pub bytes_again : (len : ℕ) (text rest : List ℕ) → length text ≡ len → bytes_at len (text ++ rest) ≡ Ok (text, rest)
 bytes_again len text rest is =
     let long : ltb (length (text ++ rest)) len ≡ false = le-ltb _ _ (omega (arith, length-append text rest)) in

@@ -1,5 +1,5 @@
 -- Rows of cells and tables: what is read is spelled so, and what is spelled so is read.
-use Rattle.std.proofs.Common.{◌≡◌, ℕ, zero, suc, ◌+◌, ◌*◌, ◌^◌, ◌<◌, ◌≤◌, Bool, true, cond, leb, eqb, eq-eqb, List, [], ◌∷◌, ◌++◌, length, take, drop, Result, Ok, Err, refl, sym, ap, subst, ◌∙◌, append_assoc, arith}
+use Rattle.std.proofs.Common.{◌≡◌, ℕ, zero, suc, ◌+◌, ◌*◌, ◌^◌, ◌<◌, ◌≤◌, Bool, true, leb, eqb, eq-eqb, List, [], ◌∷◌, ◌++◌, length, take, drop, Ok, refl, sym, ap, subst, ◌∙◌, append_assoc, arith}
 use Rattle.std.specs.Prelude.{sum, ◌&&◌}
 use Rattle.std.specs.List.{flat_map, AllByRecursion}
 use Rattle.std.specs.Int.{w8, w32, w64, from_be_bytes, to_be_bytes}
@@ -10,21 +10,24 @@ use Rattle.std.proofs.lemmas.List.Sums.{sum_by-cons}
 use Rattle.std.proofs.lemmas.Grind.{flat_map-append}
 use Rattle.hh_countmin.specs.Family.{Coefficients, IsFamily}
 use Rattle.hh_countmin.specs.Table.{Grid, Fits, row_at as row_cells}
-use Rattle.hh_saved.specs.declared.fault.SavedFault.{SavedFault}
 use Rattle.hh_saved.specs.declared.fault.SavedFault.TheVariants as faults
 use Rattle.hh_saved.specs.Spelling.{pair_bytes, cells_bytes, grid_bytes}
-use Rattle.hh_saved.specs.Reading.{◌>>=◌, number_where, bytes_at, total_at, family_at, cells_in, row_at, rows_at, grid_at}
+use Rattle.hh_saved.specs.Reading.{cells_in, row_at, rows_at, grid_at}
 use Rattle.hh_saved.proofs.Fields.{IsBytes, bind_ok, passed, ok_is, both, and_true, Takes, Takes-then, wide8, wide32, wide64, where_takes, where_again, bytes_take, bytes_again}
 use Rattle.hh_saved.proofs.Blocks.{IsCode, length-blocks_in, flat_map-blocks_in, length-flat_map, blocks_in-flat_map}
 use Rattle.hh_saved.proofs.Entries.{total_takes, total_again}
 use Rattle.hh_saved.proofs.Families.{family_bytes, family_takes, family_again}
 
+-- a cell is a 64-bit number
 abbrev IsSmall : ℕ → Type 0
 IsSmall n = n < 2 ^ 64
 
-cell_code : IsCode (from_be_bytes w64) (to_be_bytes w64) 8 IsSmall
-cell_code = record { len = λ n. refl; back = λ block len fits. wide64.back block len fits; again = λ n lt. wide64.again n lt }
+-- 8 bytes are a cell, and it is these bytes
+pub cell_code : IsCode (from_be_bytes w64) (to_be_bytes w64) 8 IsSmall
+cell_code =
+    record { len = λ n. refl; back = λ block len fits. wide64.back block len fits; again = λ n lt. wide64.again n lt }
 
+-- where the sum is a 64-bit number, so is each cell
 small_cells : (cells : List ℕ) → sum cells < 2 ^ 64 → AllByRecursion IsSmall cells
 small_cells [] lt = tt
 small_cells (c ∷ cells) lt =
@@ -33,53 +36,70 @@ small_cells (c ∷ cells) lt =
 
 -- ---- rows
 
+-- a row that is read is spelled so, and adds up to the total
 row_takes : (width total : ℕ) (bytes : List ℕ) (x : List ℕ × List ℕ) → IsBytes bytes → row_at width total bytes ≡ Ok x
     → Takes bytes (cells_bytes x.0) x.1 × (length x.0 ≡ width) × (sum x.0 ≡ total)
 unfolding row_at
 row_takes width total bytes x fits e =
-    let a = bind_ok (bytes_at (8 * width) bytes) (λ field. cond (eqb (sum (cells_in width field.0)) total) (Ok (cells_in width field.0, field.1)) (Err faults.RowSum)) x e in
+    let a = bind_ok _ _ x e in
     let field = a.0 in
     let cells = cells_in width field.0 in
-    let g = passed (eqb (sum cells) total) faults.RowSum (cells, field.1) x a.2 in
-    let t = bytes_take (8 * width) bytes field fits a.1 in
-    let whole : cells_bytes cells ≡ field.0 = flat_map-blocks_in (from_be_bytes w64) (to_be_bytes w64) 8 IsSmall cell_code width field.0 t.1 t.2 in
-    subst (λ (y : List ℕ × List ℕ). Takes bytes (cells_bytes y.0) y.1 × (length y.0 ≡ width) × (sum y.0 ≡ total)) g.1
-    (subst (λ (text : List ℕ). Takes bytes text field.1) (sym whole) t.0, length-blocks_in (from_be_bytes w64) 8 width field.0, eqb-true _ _ g.0)
+    let g = passed _ _ _ x a.2 in
+    let t = bytes_take _ _ _ fits a.1 in
+    let whole : cells_bytes cells ≡ field.0 = flat_map-blocks_in _ _ _ _ cell_code width field.0 t.1 t.2 in
+    subst (λ (y : List ℕ × List ℕ). Takes bytes (cells_bytes y.0) y.1 × (length y.0 ≡ width) × (sum y.0 ≡ total)) g.1 (
+      subst (λ (text : List ℕ). Takes bytes text field.1) (sym whole) t.0,
+      length-blocks_in (from_be_bytes w64) 8 width
+          field.0,
+      eqb-true _ _ g.0,
+    )
 
-row_again : (width total : ℕ) (cells rest : List ℕ) → length cells ≡ width → sum cells ≡ total → total < 2 ^ 64 → row_at width total (cells_bytes cells ++ rest) ≡ Ok (cells, rest)
+-- and a row that is spelled so is read
+row_again : (width total : ℕ) (cells rest : List ℕ) → length cells ≡ width → sum cells ≡ total → total < 2 ^ 64
+    → row_at width total (cells_bytes cells ++ rest) ≡ Ok (cells, rest)
 unfolding row_at
 row_again width total cells rest len sums small =
     let field = cells_bytes cells in
-    let field_len : length field ≡ 8 * width = omega (arith, length-flat_map (from_be_bytes w64) (to_be_bytes w64) 8 IsSmall cell_code cells) in
+    let field_len : length field ≡ 8 * width = omega (arith, length-flat_map _ _ _ _ cell_code cells) in
     let same : cells_in width field ≡ cells =
-    ap (λ (n : ℕ). cells_in n field) (sym len) ∙ blocks_in-flat_map (from_be_bytes w64) (to_be_bytes w64) 8 IsSmall cell_code cells (small_cells cells (omega (arith, sums))) in
+    ap (λ (n : ℕ). cells_in n field) (sym len)
+    ∙ blocks_in-flat_map _ _ _ _ cell_code cells (small_cells cells (omega (arith, sums))) in
     let pass : eqb (sum cells) total ≡ true = eq-eqb (sum cells) total sums in
     rw (bytes_again (8 * width) field rest field_len, same, pass) refl
 
 -- so many rows of cells, each of which adds up to the total
 abbrev pub AreRows : ℕ → ℕ → ℕ → List ℕ → Type 0
 AreRows zero width total cells = cells ≡ []
-AreRows (suc n) width total cells = (length (take width cells) ≡ width) × (sum (take width cells) ≡ total) × AreRows n width total (drop width cells)
+AreRows (suc n) width total cells =
+    (length (take width cells) ≡ width) × (sum (take width cells) ≡ total) × AreRows n width total (drop width cells)
 
-pub rows_take : (n width total : ℕ) (bytes : List ℕ) (x : List ℕ × List ℕ) → IsBytes bytes → rows_at n width total bytes ≡ Ok x
+-- rows that are read are spelled so
+pub rows_take : (n width total : ℕ) (bytes : List ℕ) (x : List ℕ × List ℕ) → IsBytes bytes
+    → rows_at n width total bytes ≡ Ok x
     → Takes bytes (cells_bytes x.0) x.1 × AreRows n width total x.0
 unfolding rows_at
 rows_take zero width total bytes x fits e =
-    subst (λ (y : List ℕ × List ℕ). Takes bytes (cells_bytes y.0) y.1 × (y.0 ≡ [])) (ok_is ([], bytes) x e) (record { parts = refl; rest_fits = fits }, refl)
+    subst (λ (y : List ℕ × List ℕ). Takes bytes (cells_bytes y.0) y.1 × (y.0 ≡ [])) (ok_is ([], bytes) x e)
+    (record { parts = refl; rest_fits = fits }, refl)
 rows_take (suc n) width total bytes x fits e =
-    let a = bind_ok (row_at width total bytes) (λ first. rows_at n width total first.1 >>= λ others. Ok (first.0 ++ others.0, others.1)) x e in
+    let a = bind_ok _ _ x e in
     let first = a.0 in
-    let b = bind_ok (rows_at n width total first.1) (λ others. Ok (first.0 ++ others.0, others.1)) x a.2 in
+    let b = bind_ok _ _ x a.2 in
     let others = b.0 in
-    let one = row_takes width total bytes first fits a.1 in
-    let more = rows_take n width total first.1 others one.0.rest_fits b.1 in
-    let both = Takes-then bytes (cells_bytes first.0) first.1 (cells_bytes others.0) others.1 one.0 more.0 in
+    let one = row_takes _ _ _ _ fits a.1 in
+    let more = rows_take n _ _ _ _ one.0.rest_fits b.1 in
+    let both = Takes-then _ _ _ _ _ one.0 more.0 in
     let front : take width (first.0 ++ others.0) ≡ first.0 = take_at first.0 others.0 width one.1 in
     let back : drop width (first.0 ++ others.0) ≡ others.0 = drop_at first.0 others.0 width one.1 in
-    subst (λ (y : List ℕ × List ℕ). Takes bytes (cells_bytes y.0) y.1 × AreRows (suc n) width total y.0) (ok_is (first.0 ++ others.0, others.1) x b.2)
-    (rw flat_map-append both, (ap length front ∙ one.1, ap sum front ∙ one.2, subst (AreRows n width total) (sym back) more.1))
+    subst (λ (y : List ℕ × List ℕ). Takes bytes (cells_bytes y.0) y.1 × AreRows (suc n) width total y.0)
+    (ok_is (first.0 ++ others.0, others.1) x b.2) (
+      rw flat_map-append both,
+      (ap length front ∙ one.1, ap sum front ∙ one.2, subst (AreRows n width total) (sym back) more.1),
+    )
 
-rows_again : (n width total : ℕ) (cells rest : List ℕ) → AreRows n width total cells → total < 2 ^ 64 → rows_at n width total (cells_bytes cells ++ rest) ≡ Ok (cells, rest)
+-- and rows that are spelled so are read
+rows_again : (n width total : ℕ) (cells rest : List ℕ) → AreRows n width total cells → total < 2 ^ 64
+    → rows_at n width total (cells_bytes cells ++ rest) ≡ Ok (cells, rest)
 unfolding rows_at
 rows_again zero width total cells rest are small = rw are refl
 rows_again (suc n) width total cells rest are small =
@@ -87,29 +107,45 @@ rows_again (suc n) width total cells rest are small =
     let back = drop width cells in
     let whole : front ++ back ≡ cells = take-append-drop width cells in
     let regrouped : cells_bytes cells ++ rest ≡ cells_bytes front ++ (cells_bytes back ++ rest) =
-    ap (λ (t : List ℕ). cells_bytes t ++ rest) (sym whole) ∙ ap (λ (t : List ℕ). t ++ rest) (flat_map-append (to_be_bytes w64) front back) ∙ append_assoc (cells_bytes front) (cells_bytes back) rest in
+    ap (λ (t : List ℕ). cells_bytes t ++ rest) (sym whole)
+    ∙ ap (λ (t : List ℕ). t ++ rest) (flat_map-append (to_be_bytes w64) front back)
+    ∙ append_assoc (cells_bytes front) (cells_bytes back) rest in
     ap (rows_at (suc n) width total) regrouped
-    ∙ rw (row_again width total front (cells_bytes back ++ rest) are.0 are.1 small, rows_again n width total back rest are.2 small) (ap (λ (t : List ℕ). Ok (t, rest)) whole)
+    ∙ rw (
+      row_again width total front (cells_bytes back ++ rest) are.0 are.1 small,
+      rows_again n width total back rest are.2
+          small,
+    ) (ap (λ (t : List ℕ). Ok (t, rest)) whole)
 
 -- ---- rows and the cells of a table
 
+-- so many rows have so many cells
 rows_len : (n width total : ℕ) (cells : List ℕ) → AreRows n width total cells → length cells ≡ n * width
 rows_len zero width total cells are = omega (arith, ap length are)
-rows_len (suc n) width total cells are = omega (arith, are.0, length-take width cells, length-drop width cells, rows_len n width total (drop width cells) are.2)
+rows_len (suc n) width total cells are =
+    omega
+    (arith, are.0, length-take width cells, length-drop width cells, rows_len n width total (drop width cells) are.2)
 
+-- the next row's cells lie behind the first row's
 row_cells-suc : (width r : ℕ) (cells : List ℕ) → row_cells width cells (suc r) ≡ row_cells width (drop width cells) r
 row_cells-suc width r cells =
     let place : suc r * width ≡ width + r * width = omega arith in
-    ap (λ (k : ℕ). take width (drop k cells)) place ∙ ap (λ (t : List ℕ). take width t) (sym (drop-drop (r * width) width cells))
+    ap (λ (k : ℕ). take width (drop k cells)) place
+    ∙ ap (λ (t : List ℕ). take width t) (sym (drop-drop (r * width) width cells))
 
-rows_sum : (n width total : ℕ) (cells : List ℕ) → AreRows n width total cells → (r : ℕ) → r < n → sum (row_cells width cells r) ≡ total
+-- each row adds up to the total
+rows_sum : (n width total : ℕ) (cells : List ℕ) → AreRows n width total cells → (r : ℕ) → r < n
+    → sum (row_cells width cells r) ≡ total
 rows_sum zero width total cells are r lt = absurd (omega arith)
 rows_sum (suc n) width total cells are zero lt =
     let none : 0 * width ≡ 0 = omega arith in
     rw none are.1
-rows_sum (suc n) width total cells are (suc r) lt = ap sum (row_cells-suc width r cells) ∙ rows_sum n width total (drop width cells) are.2 r (omega arith)
+rows_sum (suc n) width total cells are (suc r) lt =
+    ap sum (row_cells-suc width r cells) ∙ rows_sum n width total (drop width cells) are.2 r (omega arith)
 
-pub cells_fit : (family : Coefficients) (width total : ℕ) (cells : List ℕ) → 1 ≤ width → width ≤ 65536 → total < 2 ^ 63 → AreRows (length family.rows) width total cells → Fits family width total cells
+-- such rows are the cells of a table
+pub cells_fit : (family : Coefficients) (width total : ℕ) (cells : List ℕ) → 1 ≤ width → width ≤ 65536 → total < 2 ^ 63
+    → AreRows (length family.rows) width total cells → Fits family width total cells
 cells_fit family width total cells some few small are = record {
   width_in_range = (some, few);
   total_in_range = small;
@@ -117,78 +153,81 @@ cells_fit family width total cells some few small are = record {
   rows_sum = rows_sum (length family.rows) width total cells are;
 }
 
-rows_from : (n width total : ℕ) (cells : List ℕ) → length cells ≡ n * width → ((r : ℕ) → r < n → sum (row_cells width cells r) ≡ total) → AreRows n width total cells
+-- and the cells of a table are such rows
+rows_from : (n width total : ℕ) (cells : List ℕ) → length cells ≡ n * width
+    → ((r : ℕ) → r < n → sum (row_cells width cells r) ≡ total) → AreRows n width total cells
 rows_from zero width total cells len sums = nil_from_length cells (omega (arith, len))
 rows_from (suc n) width total cells len sums =
     let none : 0 * width ≡ 0 = omega arith in
     let here : sum (take width cells) ≡ total = rw none at (sums 0 (omega arith)) in (
       omega (arith, length-take width cells),
       here,
-      rows_from n width total (drop width cells) (omega (arith, length-drop width cells)) (λ r lt. sym (ap sum (row_cells-suc width r cells)) ∙ sums (suc r) (omega arith)),
+      rows_from n width total (drop width cells) (omega (arith, length-drop width cells))
+          (λ r lt. sym (ap sum (row_cells-suc width r cells)) ∙ sums (suc r) (omega arith)),
     )
 
 -- ---- tables
 
+-- a width in range
 abbrev is_width : ℕ → Bool
 is_width n = leb 1 n && leb n 65536
 
+-- a depth in range
 abbrev is_depth : ℕ → Bool
 is_depth n = leb 1 n && leb n 16
 
--- what is read after the total, the family, the depth and the width
-abbrev after_total : ℕ → ℕ → Coefficients → ℕ × List ℕ → Result (Grid × List ℕ) SavedFault
-after_total width depth family total =
-    rows_at depth width total.0 total.1 >>= λ cells. Ok (record { family = family; width = width; total = total.0; cells = cells.0 }, cells.1)
-
-abbrev after_family : ℕ → ℕ → Coefficients × List ℕ → Result (Grid × List ℕ) SavedFault
-after_family width depth family = total_at family.1 >>= λ total. after_total width depth family.0 total
-
-abbrev after_depth : ℕ → ℕ × List ℕ → Result (Grid × List ℕ) SavedFault
-after_depth width depth = family_at depth.0 depth.1 >>= λ family. after_family width depth.0 family
-
-abbrev after_width : ℕ × List ℕ → Result (Grid × List ℕ) SavedFault
-after_width width = number_where w8 is_depth faults.BadDepth width.1 >>= λ depth. after_depth width.0 depth
-
--- the bytes of a table behind its family, and behind its depth
+-- the bytes of a table behind its family
 abbrev tail_bytes : ℕ → List ℕ → List ℕ
 tail_bytes total cells = to_be_bytes w64 total ++ cells_bytes cells
 
+-- a table that is read is spelled so
 pub grid_takes : (bytes : List ℕ) (x : Grid × List ℕ) → IsBytes bytes → grid_at bytes ≡ Ok x
     → Takes bytes (grid_bytes x.0) x.1 × IsFamily x.0.family × Fits x.0.family x.0.width x.0.total x.0.cells
 unfolding grid_at
 grid_takes bytes x fits e =
-    let a = bind_ok (number_where w32 is_width faults.BadWidth bytes) after_width x e in
+    let a = bind_ok _ _ x e in
     let width = a.0 in
-    let b = bind_ok (number_where w8 is_depth faults.BadDepth width.1) (after_depth width.0) x a.2 in
+    let b = bind_ok _ _ x a.2 in
     let depth = b.0 in
-    let c = bind_ok (family_at depth.0 depth.1) (after_family width.0 depth.0) x b.2 in
+    let c = bind_ok _ _ x b.2 in
     let family = c.0 in
-    let d = bind_ok (total_at family.1) (after_total width.0 depth.0 family.0) x c.2 in
+    let d = bind_ok _ _ x c.2 in
     let total = d.0 in
-    let f = bind_ok (rows_at depth.0 width.0 total.0 total.1) (λ cells. Ok (record { family = family.0; width = width.0; total = total.0; cells = cells.0 }, cells.1)) x d.2 in
+    let f = bind_ok _ _ x d.2 in
     let cells = f.0 in
-    let t0 = where_takes w32 (2 ^ 32) wide32 is_width faults.BadWidth bytes width fits a.1 in
-    let t1 = where_takes w8 (2 ^ 8) wide8 is_depth faults.BadDepth width.1 depth t0.0.rest_fits b.1 in
-    let t2 = family_takes depth.0 depth.1 family t1.0.rest_fits c.1 in
-    let t3 = total_takes family.1 total t2.0.rest_fits d.1 in
-    let t4 = rows_take depth.0 width.0 total.0 total.1 cells t3.0.rest_fits f.1 in
+    let t0 = where_takes _ _ wide32 _ _ _ _ fits a.1 in
+    let t1 = where_takes _ _ wide8 _ _ _ _ t0.0.rest_fits b.1 in
+    let t2 = family_takes _ _ _ t1.0.rest_fits c.1 in
+    let t3 = total_takes _ _ t2.0.rest_fits d.1 in
+    let t4 = rows_take _ _ _ _ _ t3.0.rest_fits f.1 in
     let wide = both (leb 1 width.0) (leb width.0 65536) t0.2 in
     let deep = both (leb 1 depth.0) (leb depth.0 16) t1.2 in
-    let is_wide : (1 ≤ width.0) × (width.0 ≤ 65536) = (grind (arith, nat_tests, wide.0), grind (arith, nat_tests, wide.1)) in
-    let is_deep : (1 ≤ depth.0) × (depth.0 ≤ 16) = (grind (arith, nat_tests, deep.0), grind (arith, nat_tests, deep.1)) in
+    let is_wide : (1 ≤ width.0) × (width.0 ≤ 65536) =
+    (grind (arith, nat_tests, wide.0), grind (arith, nat_tests, wide.1)) in
+    let is_deep : (1 ≤ depth.0) × (depth.0 ≤ 16) =
+    (grind (arith, nat_tests, deep.0), grind (arith, nat_tests, deep.1)) in
     let tail = tail_bytes total.0 cells.0 in
     let rows = flat_map pair_bytes family.0.rows in
-    let e34 = Takes-then family.1 (to_be_bytes w64 total.0) total.1 (cells_bytes cells.0) cells.1 t3.0 t4.0 in
-    let e24 = subst (λ (text : List ℕ). Takes depth.1 text cells.1) (append_assoc (to_be_bytes w64 family.0.z) rows tail) (Takes-then depth.1 (family_bytes family.0) family.1 tail cells.1 t2.0 e34) in
-    let e14 = subst (λ (n : ℕ). Takes width.1 (to_be_bytes w8 n ++ (to_be_bytes w64 family.0.z ++ (rows ++ tail))) cells.1) (sym t2.2) (Takes-then width.1 (to_be_bytes w8 depth.0) depth.1 (to_be_bytes w64 family.0.z ++ (rows ++ tail)) cells.1 t1.0 e24) in
-    let e04 = Takes-then bytes (to_be_bytes w32 width.0) width.1 (to_be_bytes w8 (length family.0.rows) ++ (to_be_bytes w64 family.0.z ++ (rows ++ tail))) cells.1 t0.0 e14 in
-    let is_family : IsFamily family.0 = record { depth = (omega (arith, t2.2), omega (arith, t2.2)); in_range = t2.1 } in
+    let e34 = Takes-then _ _ _ _ _ t3.0 t4.0 in
+    let e24 =
+    subst (λ (text : List ℕ). Takes depth.1 text cells.1) (append_assoc (to_be_bytes w64 family.0.z) rows tail)
+    (Takes-then _ _ _ _ _ t2.0 e34) in
+    let e14 =
+    subst (λ (n : ℕ). Takes width.1 (to_be_bytes w8 n ++ (to_be_bytes w64 family.0.z ++ (rows ++ tail))) cells.1)
+    (sym t2.2) (Takes-then _ _ _ _ _ t1.0 e24) in
+    let e04 = Takes-then _ _ _ _ _ t0.0 e14 in
+    let is_family : IsFamily family.0 =
+    record { depth = (omega (arith, t2.2), omega (arith, t2.2)); in_range = t2.1 } in
     let are = subst (λ (n : ℕ). AreRows n width.0 total.0 cells.0) (sym t2.2) t4.1 in
-    let made : Grid × List ℕ = (record { family = family.0; width = width.0; total = total.0; cells = cells.0 }, cells.1) in
-    subst (λ (y : Grid × List ℕ). Takes bytes (grid_bytes y.0) y.1 × IsFamily y.0.family × Fits y.0.family y.0.width y.0.total y.0.cells) (ok_is made x f.2)
+    let made : Grid × List ℕ =
+    (record { family = family.0; width = width.0; total = total.0; cells = cells.0 }, cells.1) in
+    subst (λ (y : Grid × List ℕ). Takes bytes (grid_bytes y.0) y.1 × IsFamily y.0.family
+    × Fits y.0.family y.0.width y.0.total y.0.cells) (ok_is made x f.2)
     (e04, is_family, cells_fit family.0 width.0 total.0 cells.0 is_wide.0 is_wide.1 t3.1 are)
 
-pub grid_again : (t : Grid) (rest : List ℕ) → IsFamily t.family → Fits t.family t.width t.total t.cells → grid_at (grid_bytes t ++ rest) ≡ Ok (t, rest)
+-- and a table that is spelled so is read
+pub grid_again : (t : Grid) (rest : List ℕ) → IsFamily t.family → Fits t.family t.width t.total t.cells
+    → grid_at (grid_bytes t ++ rest) ≡ Ok (t, rest)
 unfolding grid_at
 grid_again t rest family fits =
     let depth = length t.family.rows in
@@ -196,19 +235,29 @@ grid_again t rest family fits =
     let rows = flat_map pair_bytes t.family.rows in
     let total = to_be_bytes w64 t.total in
     let cells = cells_bytes t.cells in
-    let regrouped : grid_bytes t ++ rest ≡ to_be_bytes w32 t.width ++ (to_be_bytes w8 depth ++ (family_bytes t.family ++ (total ++ (cells ++ rest)))) =
+    let regrouped : grid_bytes t ++ rest ≡ to_be_bytes w32 t.width
+    ++ (to_be_bytes w8 depth ++ (family_bytes t.family ++ (total ++ (cells ++ rest)))) =
     append_assoc (to_be_bytes w32 t.width) (to_be_bytes w8 depth ++ (z ++ (rows ++ (total ++ cells)))) rest
-    ∙ ap (λ (x : List ℕ). to_be_bytes w32 t.width ++ x) (append_assoc (to_be_bytes w8 depth) (z ++ (rows ++ (total ++ cells))) rest
+    ∙ ap (λ (x : List ℕ). to_be_bytes w32 t.width ++ x)
+    (append_assoc (to_be_bytes w8 depth) (z ++ (rows ++ (total ++ cells))) rest
     ∙ ap (λ (x : List ℕ). to_be_bytes w8 depth ++ x) (append_assoc z (rows ++ (total ++ cells)) rest
-    ∙ ap (λ (x : List ℕ). z ++ x) (append_assoc rows (total ++ cells) rest ∙ ap (λ (x : List ℕ). rows ++ x) (append_assoc total cells rest))
+    ∙ ap (λ (x : List ℕ). z ++ x) (append_assoc rows (total ++ cells) rest
+    ∙ ap (λ (x : List ℕ). rows ++ x) (append_assoc total cells rest))
     ∙ sym (append_assoc z rows (total ++ (cells ++ rest))))) in
-    let wide : is_width t.width ≡ true = and_true (leb 1 t.width) (leb t.width 65536) (grind (arith, nat_tests, fits.width_in_range)) (grind (arith, nat_tests, fits.width_in_range)) in
-    let deep : is_depth depth ≡ true = and_true (leb 1 depth) (leb depth 16) (grind (arith, nat_tests, family.depth)) (grind (arith, nat_tests, family.depth)) in
+    let wide : is_width t.width ≡ true =
+    and_true (leb 1 t.width) (leb t.width 65536) (grind (arith, nat_tests, fits.width_in_range))
+    (grind (arith, nat_tests, fits.width_in_range)) in
+    let deep : is_depth depth ≡ true =
+    and_true (leb 1 depth) (leb depth 16) (grind (arith, nat_tests, family.depth))
+    (grind (arith, nat_tests, family.depth)) in
     let are = rows_from depth t.width t.total t.cells fits.all_cells fits.rows_sum in
     ap grid_at regrouped
     ∙ rw (
-      where_again w32 (2 ^ 32) wide32 is_width faults.BadWidth t.width (to_be_bytes w8 depth ++ (family_bytes t.family ++ (total ++ (cells ++ rest)))) (omega (arith, fits.width_in_range)) wide,
-      where_again w8 (2 ^ 8) wide8 is_depth faults.BadDepth depth (family_bytes t.family ++ (total ++ (cells ++ rest))) (omega (arith, family.depth)) deep,
+      where_again w32 (2 ^ 32) wide32 is_width faults.BadWidth t.width
+          (to_be_bytes w8 depth ++ (family_bytes t.family ++ (total ++ (cells ++ rest))))
+          (omega (arith, fits.width_in_range)) wide,
+      where_again w8 (2 ^ 8) wide8 is_depth faults.BadDepth depth (family_bytes t.family ++ (total ++ (cells ++ rest)))
+          (omega (arith, family.depth)) deep,
       family_again t.family (total ++ (cells ++ rest)) family.in_range,
       total_again t.total (cells ++ rest) fits.total_in_range,
       rows_again depth t.width t.total t.cells rest are (omega (arith, fits.total_in_range)),

@@ -13,10 +13,14 @@ use Rattle.hh_saved.specs.declared.format.Version.TheVariants.{Two}
 use Rattle.hh_saved.specs.declared.saved.Saved.TheVariants.{Counters, Cells}
 use Rattle.hh_saved.specs.Spelling.{IsSavedKey, Spells, cells_bytes, entry_bytes, len_width, magic_of, grid_bytes, pair_bytes, sketch_bytes}
 use Rattle.hh_saved.specs.Sizes.{most_summary_bytes, table_bytes}
+use Rattle.hh_saved.proofs.Blocks.{length-flat_map}
+use Rattle.hh_saved.proofs.Families.{pair_code}
 use Rattle.hh_saved.proofs.Fields.{wide64, wide_len}
+use Rattle.hh_saved.proofs.Grids.{cell_code}
 
 -- an entry is its key's length, the key and its counter
-pub entry-length : (version : Version) (e : Entry) → length (entry_bytes version e) ≡ byte_len (len_width version) + (length e.0 + 8)
+pub entry-length : (version : Version) (e : Entry)
+    → length (entry_bytes version e) ≡ byte_len (len_width version) + (length e.0 + 8)
 entry-length version e =
     let counter = to_be_bytes w64 e.1 in
     let whole = length-append (to_be_bytes (len_width version) (length e.0)) (e.0 ++ counter) in
@@ -25,7 +29,8 @@ entry-length version e =
     omega (arith, whole, key, eight, (wide_len version).len (length e.0))
 
 -- in version 2 entries have the bytes of their keys, and 10 more each
-entries-length : (m : ℕ) (es : List Entry) → AllByRecursion (λ e. length e.0 ≤ m) es → length (flat_map (entry_bytes Two) es) ≤ length es * (m + 10)
+entries-length : (m : ℕ) (es : List Entry) → AllByRecursion (λ e. length e.0 ≤ m) es
+    → length (flat_map (entry_bytes Two) es) ≤ length es * (m + 10)
 entries-length m [] few = omega arith
 entries-length m (e ∷ es) few =
     let others = flat_map (entry_bytes Two) es in
@@ -34,24 +39,6 @@ entries-length m (e ∷ es) few =
     let one : length (entry_bytes Two e) ≡ 2 + (length e.0 + 8) = entry-length Two e in
     let short : length e.0 ≤ m = few.0 in
     omega (arith, parts, one, short, entries-length m es few.1, suc-mul (length es) (m + 10))
-
-pairs-length : (rows : List (ℕ × ℕ)) → length (flat_map pair_bytes rows) ≡ 16 * length rows
-pairs-length [] = refl
-pairs-length (row ∷ rows) =
-    let others = flat_map pair_bytes rows in
-    let parts : length (flat_map pair_bytes (row ∷ rows)) ≡ length (pair_bytes row) + length others =
-    ap length (flat_map-cons pair_bytes row rows) ∙ length-append (pair_bytes row) others in
-    let one : length (pair_bytes row) ≡ 16 = refl in
-    omega (arith, parts, one, pairs-length rows)
-
-cells-length : (cells : List ℕ) → length (cells_bytes cells) ≡ 8 * length cells
-cells-length [] = refl
-cells-length (cell ∷ cells) =
-    let others = cells_bytes cells in
-    let parts : length (cells_bytes (cell ∷ cells)) ≡ length (to_be_bytes w64 cell) + length others =
-    ap length (flat_map-cons (to_be_bytes w64) cell cells) ∙ length-append (to_be_bytes w64 cell) others in
-    let one : length (to_be_bytes w64 cell) ≡ 8 = refl in
-    omega (arith, parts, one, cells-length cells)
 
 -- what stands before the entries has 17 bytes
 sketch-length : (s : Sketch) → length (sketch_bytes Two s) ≡ 12 + length (flat_map (entry_bytes Two) s.counters)
@@ -73,25 +60,40 @@ sketch-length s =
     )
 
 -- magic and kind
-content-length : (magic kind : ℕ) (content : List ℕ) → length (to_be_bytes w32 magic ++ (to_be_bytes w8 kind ++ content)) ≡ 5 + length content
+content-length : (magic kind : ℕ) (content : List ℕ)
+    → length (to_be_bytes w32 magic ++ (to_be_bytes w8 kind ++ content)) ≡ 5 + length content
 content-length magic kind content =
     let first : length (to_be_bytes w32 magic) ≡ 4 = refl in
     let second : length (to_be_bytes w8 kind) ≡ 1 = refl in
-    omega (arith, first, second, length-append (to_be_bytes w32 magic) (to_be_bytes w8 kind ++ content), length-append (to_be_bytes w8 kind) content)
+    omega (
+      arith,
+      first,
+      second,
+      length-append (to_be_bytes w32 magic) (to_be_bytes w8 kind ++ content),
+      length-append (to_be_bytes w8 kind) content,
+    )
 
-pub bounded : (bytes : List ℕ) (s : Sketch) (m : ℕ) → Spells Two bytes (Counters s) → AllByRecursion (λ e. length e.0 ≤ m) s.counters → length bytes ≤ most_summary_bytes s.k m
+-- a summary's bytes, by its longest key
+pub bounded : (bytes : List ℕ) (s : Sketch) (m : ℕ) → Spells Two bytes (Counters s)
+    → AllByRecursion (λ e. length e.0 ≤ m) s.counters → length bytes ≤ most_summary_bytes s.k m
 bounded bytes s m is few =
-    let whole : length bytes ≡ 5 + length (sketch_bytes Two s) = ap length is.spelled ∙ content-length (magic_of Two) 1 (sketch_bytes Two s) in
+    let whole : length bytes ≡ 5 + length (sketch_bytes Two s) =
+    ap length is.spelled ∙ content-length (magic_of Two) 1 (sketch_bytes Two s) in
     let most : length s.counters * (m + 10) ≤ s.k * (m + 10) = mul-le-mul_right (m + 10) is.saved.0.few in
     omega (arith, whole, sketch-length s, entries-length m s.counters few, most)
 
-short_keys : (es : List Entry) → AllByRecursion (λ e. IsSavedKey Two e.0) es → AllByRecursion (λ e. length e.0 ≤ max_key_len) es
+-- keys are bounded
+short_keys : (es : List Entry) → AllByRecursion (λ e. IsSavedKey Two e.0) es
+    → AllByRecursion (λ e. length e.0 ≤ max_key_len) es
 short_keys [] are = tt
 short_keys (e ∷ es) are = (are.0.few, short_keys es are.1)
 
-pub bounded_by_k : (bytes : List ℕ) (s : Sketch) → Spells Two bytes (Counters s) → length bytes ≤ most_summary_bytes s.k max_key_len
+-- a summary's bytes, by k alone
+pub bounded_by_k : (bytes : List ℕ) (s : Sketch) → Spells Two bytes (Counters s)
+    → length bytes ≤ most_summary_bytes s.k max_key_len
 bounded_by_k bytes s is = bounded bytes s max_key_len is (short_keys s.counters is.saved.1)
 
+-- what a table's fields have
 grid-length : (t : Grid) → length (grid_bytes t) ≡ 21 + 16 * length t.family.rows + 8 * length t.cells
 grid-length t =
     let cells = cells_bytes t.cells in
@@ -110,8 +112,8 @@ grid-length t =
       one,
       eight,
       also,
-      pairs-length t.family.rows,
-      cells-length t.cells,
+      length-flat_map _ _ _ _ pair_code t.family.rows,
+      length-flat_map _ _ _ _ cell_code t.cells,
       length-append width (depth ++ (z ++ (rows ++ (total ++ cells)))),
       length-append depth (z ++ (rows ++ (total ++ cells))),
       length-append z (rows ++ (total ++ cells)),
@@ -119,8 +121,11 @@ grid-length t =
       length-append total cells,
     )
 
-pub one_size : (version : Version) (bytes : List ℕ) (t : Grid) → Spells version bytes (Cells t) → length bytes ≡ table_bytes t.width (length t.family.rows)
+-- a table's bytes, by its rows and their width
+pub one_size : (version : Version) (bytes : List ℕ) (t : Grid) → Spells version bytes (Cells t)
+    → length bytes ≡ table_bytes t.width (length t.family.rows)
 one_size version bytes t is =
-    let whole : length bytes ≡ 5 + length (grid_bytes t) = ap length is.spelled ∙ content-length (magic_of version) 2 (grid_bytes t) in
+    let whole : length bytes ≡ 5 + length (grid_bytes t) =
+    ap length is.spelled ∙ content-length (magic_of version) 2 (grid_bytes t) in
     let cells : length t.cells ≡ length t.family.rows * t.width = is.saved.1.all_cells in
     omega (arith, whole, grid-length t, cells)

@@ -44,7 +44,8 @@ StopsAt result (Err e) = result ≡ Err e
 -- a number, and the bytes after it
 abbrev pub number_at : Width → List ℕ → Result (ℕ × List ℕ) SavedFault
 number_at w bytes =
-    if nat_lt (length bytes) (byte_len w) then Err faults.Truncated else Ok (from_be_bytes w (take (byte_len w) bytes), drop (byte_len w) bytes)
+    if nat_lt (length bytes) (byte_len w) then Err faults.Truncated else Ok
+    (from_be_bytes w (take (byte_len w) bytes), drop (byte_len w) bytes)
 
 -- a number that passes a test, and the bytes after it
 abbrev pub number_where : Width → (ℕ → Bool) → SavedFault → List ℕ → Result (ℕ × List ℕ) SavedFault
@@ -56,11 +57,13 @@ number_where w test fault bytes = do
 abbrev pub bytes_at : ℕ → List ℕ → Result (List ℕ × List ℕ) SavedFault
 bytes_at len bytes = if nat_lt (length bytes) len then Err faults.Truncated else Ok (take len bytes, drop len bytes)
 
+-- a total is below 2^63
 abbrev pub total_at : List ℕ → Result (ℕ × List ℕ) SavedFault
 total_at bytes = number_where w64 (λ n. nat_lt n (2 ^ 63)) faults.TotalTooLarge bytes
 
 -- what was read before, and what is still read
-abbrev pub with_front : {X : Type 0} → List X → Result (List X × List ℕ) SavedFault → Result (List X × List ℕ) SavedFault
+abbrev pub with_front : {X : Type 0} → List X → Result (List X × List ℕ) SavedFault
+    → Result (List X × List ℕ) SavedFault
 with_front front read = read >>= λ x. Ok (front ++ x.0, x.1)
 
 -- ---- a counter summary
@@ -71,7 +74,8 @@ last_key_of es = (slice_index_or es (length es - 1) ([], 0)).0
 
 -- the length of a key
 abbrev pub len_at : Version → List ℕ → Result (ℕ × List ℕ) SavedFault
-len_at version bytes = number_where (len_width version) (λ n. nat_le 1 n && nat_le n (max_len version)) faults.BadKey bytes
+len_at version bytes =
+    number_where (len_width version) (λ n. nat_le 1 n && nat_le n (max_len version)) faults.BadKey bytes
 
 -- a key above the one before it; every key is above no bytes
 unfoldable pub key_at : Version → Bytes → List ℕ → Result (Bytes × List ℕ) SavedFault
@@ -87,6 +91,7 @@ entry_at version before left bytes = do
   counter ← number_where w64 (λ n. nat_lt 0 n) faults.BadCounter key.1
   if nat_le counter.0 left then Ok ((key.0, counter.0), counter.1) else Err faults.SumTooLarge
 
+-- so many entries, each with a key above the one before it and within what is left of the total
 unfoldable pub entries_at : Version → ℕ → Bytes → ℕ → List ℕ → Result (List Entry × List ℕ) SavedFault
 entries_at version zero before left bytes = Ok ([], bytes)
 entries_at version (suc n) before left bytes = do
@@ -94,6 +99,7 @@ entries_at version (suc n) before left bytes = do
   others ← entries_at version n first.0.0 (left - first.0.1) first.1
   Ok (first.0 ∷ others.0, others.1)
 
+-- k, the total, how many counters there are, and the entries
 unfoldable pub sketch_at : Version → List ℕ → Result (Sketch × List ℕ) SavedFault
 sketch_at version bytes = do
   k ← number_where w16 (λ n. nat_lt 0 n) faults.BadK bytes
@@ -109,32 +115,40 @@ abbrev pub blocks_in : {X : Type 0} → (List ℕ → X) → ℕ → ℕ → Lis
 blocks_in decode size zero bytes = []
 blocks_in decode size (suc n) bytes = decode (take size bytes) ∷ blocks_in decode size n (drop size bytes)
 
+-- the two coefficients that 16 bytes are
 abbrev pub pair_of : List ℕ → ℕ × ℕ
 pair_of block = (from_be_bytes w64 (take 8 block), from_be_bytes w64 (drop 8 block))
 
 -- the coefficients that the bytes of a family hold
 abbrev pub family_in : ℕ → List ℕ → Coefficients
-family_in depth bytes = record { z = from_be_bytes w64 (take 8 bytes); rows = blocks_in pair_of 16 depth (drop 8 bytes) }
+family_in depth bytes =
+    record { z = from_be_bytes w64 (take 8 bytes); rows = blocks_in pair_of 16 depth (drop 8 bytes) }
 
+-- the coefficients of a row are in range
 abbrev pub is_row : ℕ × ℕ → Bool
 is_row row = nat_le 1 row.0 && nat_lt row.0 modulus && nat_lt row.1 modulus
 
+-- the coefficients of a family are in range
 abbrev pub in_range : Coefficients → Bool
 in_range family = nat_le 1 family.z && nat_lt family.z modulus && list_all is_row family.rows
 
+-- a family whose coefficients are in range
 unfoldable pub family_at : ℕ → List ℕ → Result (Coefficients × List ℕ) SavedFault
 family_at depth bytes = do
   field ← bytes_at (8 + 16 * depth) bytes
   if in_range (family_in depth field.0) then Ok (family_in depth field.0, field.1) else Err faults.BadCoefficient
 
+-- the cells that the bytes of a row hold
 abbrev pub cells_in : ℕ → List ℕ → List ℕ
 cells_in width bytes = blocks_in (from_be_bytes w64) 8 width bytes
 
+-- a row of cells that add up to the total
 unfoldable pub row_at : ℕ → ℕ → List ℕ → Result (List ℕ × List ℕ) SavedFault
 row_at width total bytes = do
   field ← bytes_at (8 * width) bytes
   if sum (cells_in width field.0) == total then Ok (cells_in width field.0, field.1) else Err faults.RowSum
 
+-- so many rows, one after the other
 unfoldable pub rows_at : ℕ → ℕ → ℕ → List ℕ → Result (List ℕ × List ℕ) SavedFault
 rows_at zero width total bytes = Ok ([], bytes)
 rows_at (suc n) width total bytes = do
@@ -142,6 +156,7 @@ rows_at (suc n) width total bytes = do
   others ← rows_at n width total first.1
   Ok (first.0 ++ others.0, others.1)
 
+-- width, depth, the family, the total and the rows
 unfoldable pub grid_at : List ℕ → Result (Grid × List ℕ) SavedFault
 grid_at bytes = do
   width ← number_where w32 (λ n. nat_le 1 n && nat_le n max_width) faults.BadWidth bytes
@@ -160,12 +175,14 @@ version_of n =
     else if n == magic_of Two then Ok Two
     else Err faults.BadMagic
 
+-- the version, by its magic
 unfoldable pub version_at : List ℕ → Result (Version × List ℕ) SavedFault
 version_at bytes = do
   first ← number_at w32 bytes
   version ← version_of first.0
   Ok (version, first.1)
 
+-- the value of this kind
 unfoldable pub body_at : Version → ℕ → List ℕ → Result (Saved × List ℕ) SavedFault
 body_at version kind bytes =
     if kind == 1 then (do
@@ -176,6 +193,7 @@ body_at version kind bytes =
       Ok (Cells grid.0, grid.1))
     else Err faults.BadKind)
 
+-- a version, a kind and what follows it
 unfoldable pub value_at : List ℕ → Result (Saved × List ℕ) SavedFault
 value_at bytes = do
   version ← version_at bytes
@@ -201,6 +219,7 @@ entries_head_at version (suc n) left bytes = do
   first ← entry_at version [] left bytes
   Ok first.1
 
+-- the head of a summary, with its first entry
 unfoldable pub sketch_head_at : Version → List ℕ → Result (List ℕ) SavedFault
 sketch_head_at version bytes = do
   k ← number_where w16 (λ n. nat_lt 0 n) faults.BadK bytes
@@ -216,12 +235,14 @@ grid_head_at bytes = do
   family ← bytes_at (8 + 16 * depth.0) depth.1
   Ok family.1
 
+-- the head of a value of this kind
 unfoldable pub body_head_at : Version → ℕ → List ℕ → Result (List ℕ) SavedFault
 body_head_at version kind bytes =
     if kind == 1 then sketch_head_at version bytes
     else (if kind == 2 then grid_head_at bytes
     else Err faults.BadKind)
 
+-- the head of a file
 unfoldable pub head_at : List ℕ → Result (List ℕ) SavedFault
 head_at bytes = do
   version ← version_at bytes

@@ -39,6 +39,7 @@ pub record IsSavedKey (version : Version) (x : Bytes) : Type 0 where
 abbrev pub entry_bytes : Version → Entry → List ℕ
 entry_bytes version e = to_be_bytes (len_width version) (length e.0) ++ (e.0 ++ to_be_bytes w64 e.1)
 
+-- k, the total, the number of counters, and the entries
 abbrev pub sketch_bytes : Version → Sketch → List ℕ
 sketch_bytes version s =
     to_be_bytes w16 s.k
@@ -48,24 +49,29 @@ sketch_bytes version s =
 abbrev pub pair_bytes : ℕ × ℕ → List ℕ
 pair_bytes row = to_be_bytes w64 row.0 ++ to_be_bytes w64 row.1
 
+-- the cells, one after the other
 abbrev pub cells_bytes : List ℕ → List ℕ
 cells_bytes cells = flat_map (to_be_bytes w64) cells
 
+-- width, depth, z, the rows' coefficients, the total, and the cells
 abbrev pub grid_bytes : Grid → List ℕ
 grid_bytes t =
     to_be_bytes w32 t.width
     ++ (to_be_bytes w8 (length t.family.rows)
-    ++ (to_be_bytes w64 t.family.z ++ (flat_map pair_bytes t.family.rows ++ (to_be_bytes w64 t.total ++ cells_bytes t.cells))))
+    ++ (to_be_bytes w64 t.family.z
+    ++ (flat_map pair_bytes t.family.rows ++ (to_be_bytes w64 t.total ++ cells_bytes t.cells))))
 
--- the number of the kind, and what follows it
+-- the number of the kind
 abbrev pub kind_of : Saved → ℕ
 kind_of (Counters s) = 1
 kind_of (Cells t) = 2
 
+-- what follows the kind
 abbrev pub content_bytes : Version → Saved → List ℕ
 content_bytes version (Counters s) = sketch_bytes version s
 content_bytes version (Cells t) = grid_bytes t
 
+-- magic, kind and what follows
 abbrev pub spelling_of : Version → Saved → List ℕ
 spelling_of version v = to_be_bytes w32 (magic_of version) ++ (to_be_bytes w8 (kind_of v) ++ content_bytes version v)
 

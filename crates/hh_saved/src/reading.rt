@@ -14,7 +14,7 @@ use crate::format::{CELLS, COUNTERS, Version};
 use crate::saved::Saved;
 use hh_counters::Summary;
 use hh_countmin::{Family, MAX_DEPTH, MAX_WIDTH, PartsFault, Table, sums_to};
-use hh_stream::{Key, KeyFault, MAX_TOTAL};
+use hh_stream::{Key, MAX_TOTAL};
 use std::alloc::{AllocError, Global};
 
 /// The summary or table that the bytes spell in some version, all of the bytes. Where they spell
@@ -112,30 +112,21 @@ fn bytes_of(len: usize, bytes: &[u8]) -> Result<(&[u8], &[u8]), SavedFault>
 fn u8_of(bytes: &[u8]) -> Result<(u8, &[u8]), SavedFault>
     ensures { Reads (λ x. (x.0, x.1.now)) result (number_at w8 bytes.now) }
 {
-    if bytes.is_empty() {
-        return Err(SavedFault::Truncated);
-    }
-    let (front, rest) = bytes.split_at(1);
+    let (front, rest) = bytes_of(1, bytes)?;
     Ok((front[0], rest))
 }
 
 fn u16_of(bytes: &[u8]) -> Result<(u16, &[u8]), SavedFault>
     ensures { Reads (λ x. (x.0, x.1.now)) result (number_at w16 bytes.now) }
 {
-    if bytes.len() < 2 {
-        return Err(SavedFault::Truncated);
-    }
-    let (front, rest) = bytes.split_at(2);
+    let (front, rest) = bytes_of(2, bytes)?;
     Ok((u16::from_be_bytes([front[0], front[1]]), rest))
 }
 
 fn u32_of(bytes: &[u8]) -> Result<(u32, &[u8]), SavedFault>
     ensures { Reads (λ x. (x.0, x.1.now)) result (number_at w32 bytes.now) }
 {
-    if bytes.len() < 4 {
-        return Err(SavedFault::Truncated);
-    }
-    let (front, rest) = bytes.split_at(4);
+    let (front, rest) = bytes_of(4, bytes)?;
     let number = u32::from_be_bytes([front[0], front[1], front[2], front[3]]);
     Ok((number, rest))
 }
@@ -143,10 +134,7 @@ fn u32_of(bytes: &[u8]) -> Result<(u32, &[u8]), SavedFault>
 fn u64_of(bytes: &[u8]) -> Result<(u64, &[u8]), SavedFault>
     ensures { Reads (λ x. (x.0, x.1.now)) result (number_at w64 bytes.now) }
 {
-    if bytes.len() < 8 {
-        return Err(SavedFault::Truncated);
-    }
-    let (front, rest) = bytes.split_at(8);
+    let (front, rest) = bytes_of(8, bytes)?;
     Ok((number_of(front), rest))
 }
 
@@ -254,11 +242,8 @@ fn entry_of<'a>(
     ensures early { StopsAt result (entry_at version before.now left bytes.now) }
 {
     let ((key, counter), rest) = fields_of(version, before, left, bytes)?;
-    match Key::new(alloc, key) {
-        Ok(key) => Ok(((key, counter), rest)),
-        Err(KeyFault::Memory) => Err(SavedFault::Memory),
-        Err(KeyFault::Empty | KeyFault::TooLong) => unreachable!(),
-    }
+    let key = Key::of_bytes(alloc, key)?;
+    Ok(((key, counter), rest))
 }
 
 // The key of the last entry, or no bytes.

@@ -15,26 +15,30 @@ use Rattle.hh_shared.specs.declared.rule.Lists.{Lists}
 use Rattle.hh_shared.specs.Rule.{lists, newcomer, Fits, IsTallied, Claims, Adds, Looks, taken_in, spent}
 use Rattle.hh_shared.proofs.Tallies.{sum_by-replace, at-le-sum_by, two-le-sum_by, sum_by-only, times-append, times-here, times-push, times-push_other, added-append, added-push, added-push_other}
 
--- what all seats claimed of a number, and what they added to a cell
+-- how often all seats claimed a number
 abbrev all_claimed : ℕ → List Lists → ℕ
 all_claimed j seats = sum_by (λ (seat : Lists). times j seat.claims) seats
 
+-- what all seats added to a cell
 abbrev all_added : ℕ → List Lists → ℕ
 all_added cell seats = sum_by (λ (seat : Lists). added cell seat.adds) seats
 
--- where one seat is replaced, they change by what that seat claimed or added
+-- where one seat is replaced, the claims change by what that seat claimed
 claimed-replace : (j : ℕ) (seats : List Lists) (id : ℕ) (before after : Lists) → get_elem? seats id ≡ some before
     → all_claimed j (set seats id after) + times j before.claims ≡ all_claimed j seats + times j after.claims
 claimed-replace j seats id before after at = sum_by-replace (λ (u : Lists). times j u.claims) seats id before after at
 
+-- and the cell's sum by what it added
 added-replace : (cell : ℕ) (seats : List Lists) (id : ℕ) (before after : Lists) → get_elem? seats id ≡ some before
     → all_added cell (set seats id after) + added cell before.adds ≡ all_added cell seats + added cell after.adds
 added-replace cell seats id before after at =
     sum_by-replace (λ (u : Lists). added cell u.adds) seats id before after at
 
+-- each seat has the property
 abbrev Each : (Lists → Type 0) → List Lists → Type 0
 Each P seats = (id : ℕ) (seat : Lists) → get_elem? seats id ≡ some seat → P seat
 
+-- it stays so where a seat is replaced by one that has it
 each-set : (P : Lists → Type 0) (seats : List Lists) (id : ℕ) (after : Lists) → P after → Each P seats
     → Each P (set seats id after)
 each-set P seats id after mine others other seat at = ⊎_elim
@@ -42,11 +46,13 @@ each-set P seats id after mine others other seat at = ⊎_elim
     (λ (it : (other ≢ id) × (get_elem? seats other ≡ some seat)). others other seat it.1)
     (at_set seats id other after seat at)
 
+-- and where such a seat is added
 each-push : (P : Lists → Type 0) (seats : List Lists) (new : Lists) → P new → Each P seats → Each P (seats ++ new ∷ [])
 each-push P seats new mine others id seat at =
     ⊎_elim (λ (it : get_elem? seats id ≡ some seat). others id seat it) (λ (it : new ≡ seat). subst P it mine)
     (at_snoc seats new seat id at)
 
+-- a seat that replaces another stands in its place
 set_there : (seats : List Lists) (id : ℕ) (before after : Lists) → get_elem? seats id ≡ some before
     → get_elem? (set seats id after) id ≡ some after
 set_there [] id before after at = absurd (some-ne-none before (sym at))
@@ -63,6 +69,7 @@ fits_after n ws xs seat stays f = record {
   idle = f.idle;
 }
 
+-- a new seat keeps the rule
 fits_new : (n : ℕ) (ws : List ℕ) (counts : ℕ × ℕ) → Fits n ws (newcomer counts)
 fits_new n ws counts = record {
   claims_below = λ j h. absurd (omega arith);
@@ -215,6 +222,7 @@ split_keeps_rule n m ws seats counts k = record {
       k.summed cell l ∙ ap (λ x. x % 2 ^ 64) (sym same);
 }
 
+-- where empty lists come with empty lists, so do they joined
 empty-both : {A B : Type 0} (xs ys : List A) (zs ws : List B) → (xs ≡ [] → zs ≡ []) → (ys ≡ [] → ws ≡ [])
     → xs ++ ys ≡ [] → zs ++ ws ≡ []
 empty-both [] ys zs ws f g e = let p = f refl in let q = g e in cc
@@ -261,6 +269,7 @@ join_keeps_rule n m ws seats id other one two k at apart there =
           k.summed cell l ∙ ap (λ x. x % 2 ^ 64) (sym same);
     }
 
+-- a list is empty or has a number
 none-or-some : (xs : List ℕ) → (xs ≡ []) ⊎ ((j : ℕ) × (0 < times j xs))
 none-or-some [] = inl refl
 none-or-some (x ∷ xs) = inr (x, omega (arith, times-here x xs))

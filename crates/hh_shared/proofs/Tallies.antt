@@ -41,6 +41,7 @@ module _ {A : Type 0} where
   two-le-sum_by f (x ∷ xs) (suc i) (suc k) v u n e d =
       omega (arith, two-le-sum_by f xs i k v u (λ q. n (ap suc q)) e d, sum_by-cons f x xs)
 
+  -- where no element adds anything, the sum is 0
   sum_by-none : (f : A → ℕ) (xs : List A) → ((k : ℕ) (u : A) → get_elem? xs k ≡ some u → f u ≡ 0) → sum_by f xs ≡ 0
   sum_by-none f [] none = refl
   sum_by-none f (x ∷ xs) none =
@@ -56,7 +57,7 @@ module _ {A : Type 0} where
       let rest = sum_by-only f xs i v e (λ k u n. others (suc k) u (λ q. n (omega arith))) in
       omega (arith, others 0 x (λ q. omega arith) refl, rest, sum_by-cons f x xs)
 
--- the counts of a number in two lists add up, and so do the additions to a cell
+-- the counts of a number in two lists add up
 pub times-append : (i : ℕ) (xs ys : List ℕ) → times i (xs ++ ys) ≡ times i xs + times i ys
 times-append i xs ys = sum_by-append (λ j. cond (j == i) 1 0) xs ys
 
@@ -64,6 +65,7 @@ times-append i xs ys = sum_by-append (λ j. cond (j == i) 1 0) xs ys
 pub added-append : (cell : ℕ) (xs ys : List (ℕ × ℕ)) → added cell (xs ++ ys) ≡ added cell xs + added cell ys
 added-append cell xs ys = sum_by-append (λ (a : ℕ × ℕ). cond (a.0 == cell) a.1 0) xs ys
 
+-- how often a number stands in a longer list
 times-cons : (i x : ℕ) (xs : List ℕ) → times i (x ∷ xs) ≡ cond (x == i) 1 0 + times i xs
 times-cons i x xs = sum_by-cons (λ j. cond (j == i) 1 0) x xs
 
@@ -101,10 +103,12 @@ abbrev weighed : (ℕ → ℕ) → List ℕ → ℕ → ℕ
 weighed f xs zero = 0
 weighed f xs (suc n) = weighed f xs n + times n xs * f n
 
+-- no numbers weigh nothing
 weighed-nil : (f : ℕ → ℕ) (n : ℕ) → weighed f [] n ≡ 0
 weighed-nil f zero = refl
 weighed-nil f (suc n) = omega (arith, weighed-nil f n)
 
+-- a number that isn't below n adds nothing
 weighed-above : (f : ℕ → ℕ) (x : ℕ) (xs : List ℕ) (n : ℕ) → n ≤ x → weighed f (x ∷ xs) n ≡ weighed f xs n
 weighed-above f x xs zero le = refl
 weighed-above f x xs (suc n) le =
@@ -112,6 +116,7 @@ weighed-above f x xs (suc n) le =
     let other : x ≢ n = omega (arith, le) in
     rw (rest, times-elsewhere n x xs other) refl
 
+-- and one below n adds its f
 weighed-below : (f : ℕ → ℕ) (x : ℕ) (xs : List ℕ) (n : ℕ) → x < n → weighed f (x ∷ xs) n ≡ f x + weighed f xs n
 weighed-below f x xs zero lt = absurd (omega (arith, lt))
 weighed-below f x xs (suc n) lt = by (weighed-below f x xs n) (eqb_tells x n)
@@ -174,6 +179,7 @@ module _ {X : Type 0} (g : X → ℕ) (d : X) (ss : List X) (xs : List ℕ) wher
       ∙ weighed-once (length ss) (omega arith) (λ i lt. omega (arith, h.once i, all.has i lt))
       ∙ ap (λ l. sum_by g l) (take-length ss)
 
+-- as many ones add up to the length
 sum_by-ones : (xs : List ℕ) → sum_by (λ _. 1) xs ≡ length xs
 sum_by-ones [] = refl
 sum_by-ones (x ∷ xs) = omega (arith, sum_by-cons (λ (_ : ℕ). 1) x xs, sum_by-ones xs)

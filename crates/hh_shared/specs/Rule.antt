@@ -8,6 +8,7 @@ use Rattle.hh_shared.specs.Tally.{times, added, IsDistinctBelow}
 use Rattle.hh_shared.specs.Seats.{Holding}
 use Rattle.hh_shared.specs.declared.rule.Lists.{Lists}
 
+-- a seat's lists from their parts
 abbrev pub lists : ℕ × ℕ → List ℕ → List ℕ → List (ℕ × ℕ) → Lists
 lists counts claims met adds = record { counts = counts; claims = claims; met = met; adds = adds }
 

@@ -2,10 +2,11 @@
 use Rattle.std.specs.Prelude.{◌≡◌, ℕ, ◌+◌, ◌<◌, ◌≤◌, List, [], ◌++◌}
 use Rattle.atomic_table.specs.Seated.{TableId}
 
--- the most claims and the most cells
+-- the most claims
 abbrev pub max_claims : ℕ
 max_claims = 1024
 
+-- the most cells
 abbrev pub max_cells : ℕ
 max_cells = 1048576
 

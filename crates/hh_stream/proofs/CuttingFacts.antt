@@ -18,7 +18,8 @@ pieces-at (n ∷ ns) xs (suc i) d lt =
     rw (sum_by-cons (λ x. x) n (take i ns), ← drop-drop (sum (take i ns)) n xs) (pieces-at ns (drop n xs) i d below)
 
 -- the same by the place and the length of the piece
-pub piece-at : {A : Type 0} (ns : List ℕ) (xs : List A) (i start n : ℕ) → i < length ns → start ≡ sum (take i ns) → n ≡ get_or ns i n
+pub piece-at : {A : Type 0} (ns : List ℕ) (xs : List A) (i start n : ℕ) → i < length ns → start ≡ sum (take i ns)
+    → n ≡ get_or ns i n
     → take (start + n - start) (drop start xs) ≡ get_or (pieces_of ns xs) i []
 piece-at ns xs i start n lt e f =
     let size : start + n - start ≡ n = omega arith in
@@ -49,11 +50,13 @@ pieces-lengths (n ∷ ns) xs e =
     λ i. first i ∷ pieces-lengths ns (drop n xs) rest i
 
 -- so many even lengths, from the a-th on, take what goes up and one for each that stands below r
-sum-even-from : (q r a k : ℕ) → sum (map (λ i. q + (if nat_lt i r then 1 else 0)) (range_with_len a k)) + min r a ≡ k * q + min r (a + k)
+sum-even-from : (q r a k : ℕ) → sum (map (λ i. q + (if nat_lt i r then 1 else 0)) (range_with_len a k)) + min r a
+    ≡ k * q + min r (a + k)
 sum-even-from q r a zero = grind arith
 sum-even-from q r a (suc k) =
     let more = sum-even-from q r (a + 1) k in
-    rw (sum_by-cons (λ x. x) (q + (if nat_lt a r then 1 else 0)) (map (λ i. q + (if nat_lt i r then 1 else 0)) (range_with_len (a + 1) k)))
+    rw (sum_by-cons (λ x. x) (q + (if nat_lt a r then 1 else 0))
+    (map (λ i. q + (if nat_lt i r then 1 else 0)) (range_with_len (a + 1) k)))
     (grind (arith, nat_tests, more))
 
 -- even pieces have all items

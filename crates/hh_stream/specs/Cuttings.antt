@@ -25,5 +25,6 @@ whole_of pieces = flat_map (λ piece. piece) pieces
 abbrev pub even_length : ℕ → ℕ → ℕ → ℕ
 even_length n p i = n / p + (if nat_lt i (n % p) then 1 else 0)
 
+-- the lengths of p even pieces of n items
 abbrev pub even_lengths : ℕ → ℕ → List ℕ
 even_lengths n p = map (even_length n p) (range_with_len 0 p)

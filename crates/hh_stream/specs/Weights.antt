@@ -8,13 +8,15 @@ use Rattle.std.specs.Cmp.Lexicographic.{slice_cmp}
 abbrev pub Bytes : Type 0
 Bytes = List ℕ
 
--- the most bytes of a key, those of a key that takes no memory, and the largest total weight
+-- the most bytes of a key
 abbrev pub max_key_len : ℕ
 max_key_len = 4096
 
+-- the most bytes of a key that takes no memory
 abbrev pub inline_len : ℕ
 inline_len = 24
 
+-- the largest total weight
 abbrev pub max_total : ℕ
 max_total = 9223372036854775807
 
@@ -40,7 +42,8 @@ Entry = Bytes × ℕ
 abbrev pub at_key : Bytes → Entry → ℕ
 at_key x e = cond (same_key x e.0) e.1 0
 
--- the sum of the weights at the key x. Of counters, in which no key comes twice, it is x's counter, and 0 where there is none
+-- the sum of the weights at the key x. Of counters, in which no key comes twice, it is x's counter, and 0 where there
+-- is none
 abbrev pub weight_of : Bytes → List Entry → ℕ
 weight_of x xs = sum_by (at_key x) xs
 

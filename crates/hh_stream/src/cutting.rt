@@ -1,6 +1,7 @@
 //! Cuttings of a stream into consecutive pieces.
 
 ghost use Rattle.std.specs.Prelude.{◌≡◌, ◌≢◌, ◌<◌, ◌≤◌, ◌^◌, ◌⊎◌, ◌↔◌, [], length, sum, slice_index_or, IsTrue, OnOk, OnErr, IfOk, IsErrOf};
+ghost use Rattle.hh_stream.specs.declared.cutting.CuttingFault.TheVariants.{Memory};
 ghost use Rattle.hh_stream.specs.Weights.{max_total, total_of};
 ghost use Rattle.hh_stream.specs.Cuttings.{max_pieces, even_lengths, pieces_of, whole_of};
 
@@ -47,6 +48,14 @@ pub enum CuttingFault {
     /// The allocator had no memory.
     #[error("out of memory")]
     Memory,
+}
+
+impl From<AllocError> for CuttingFault {
+    ghost from_gives = { λ _ e. e ≡ Memory };
+
+    fn from(_e: AllocError) -> CuttingFault {
+        CuttingFault::Memory
+    }
 }
 
 /// Whether so many pieces are not too few or too many.
@@ -112,10 +121,8 @@ impl Cutting {
         ensures right_sum { ¬ IsErrOf result CuttingFault.WrongSum }
     {
         check_count(pieces)?;
-        match even_lengths(alloc, len, pieces) {
-            Ok(lengths) => Ok(Cutting { lengths, len }),
-            Err(_) => Err(CuttingFault::Memory),
-        }
+        let lengths = even_lengths(alloc, len, pieces)?;
+        Ok(Cutting { lengths, len })
     }
 
     /// `len` items in pieces of these lengths.
@@ -133,10 +140,8 @@ impl Cutting {
         if !adds_up(lengths, len) {
             return Err(CuttingFault::WrongSum);
         }
-        match lengths.to_vec(alloc) {
-            Ok(lengths) => Ok(Cutting { lengths, len }),
-            Err(_) => Err(CuttingFault::Memory),
-        }
+        let lengths = lengths.to_vec(alloc)?;
+        Ok(Cutting { lengths, len })
     }
 
     /// The number of pieces.

@@ -89,10 +89,7 @@ impl Key {
         if bytes.len() > MAX_KEY_LEN {
             return Err(KeyFault::TooLong);
         }
-        match Key::of_bytes(alloc, bytes) {
-            Ok(key) => Ok(key),
-            Err(AllocError) => Err(KeyFault::Memory),
-        }
+        Key::of_bytes(alloc, bytes).map_err(|_| KeyFault::Memory)
     }
 
     /// [`new`](Key::new) of 1 to [`MAX_KEY_LEN`] bytes, where only memory can be refused.

@@ -1,5 +1,6 @@
 use Rattle.std.proofs.Common.{◌≡◌, ◌+◌, refl, arith}
 use Rattle.std.proofs.lemmas.List.{get_or_default}
+use Rattle.std.proofs.lemmas.Result.{err_from_is_err_and}
 use Rattle.hh_pool.specs.Plans.{shape}
 use Rattle.hh_pool.specs.Trees.{merge_result, no_sketch, tree_result}
 use Rattle.hh_pool.proofs.MergeFacts.{left-places, merges, node-refusal, node-result, piece-place, right-places}
@@ -35,27 +36,30 @@ returns-in-Leaf-clause-merged t c =
     let here = get_or_default c.args.summaries.now c.in-Leaf.i c.index-summaries-i.result no_sketch below in
     rw (c.in-Leaf.is, c.take_summary.ensures, here) refl
 
-pub returns-in-Ok-merge_tree-clause-merged : goal.returns-in-Ok-merge_tree-clause-merged
-returns-in-Ok-merge_tree-clause-merged t c =
+pub returns-in_ok-other-in-Node-clause-merged : goal.returns-in_ok-other-in-Node-clause-merged
+returns-in_ok-other-in-Node-clause-merged t c =
     let node : tree_result (shape c.args.tree.now) c.args.summaries.now
-    ≡ merge_result c.in-Ok.merged c.in-Ok-merge_tree.other =
+    ≡ merge_result c.in_ok-merged-in-Node.merged c.in_ok-other-in-Node.other =
     rw c.in-Node.is (node-result (shape c.in-Node.left.value) (shape c.in-Node.right.value) _ _
-    c.merge_tree.new.summaries _ _ (rw c.in-Node.is at c.requires.places) (rw c.deref.ensures at c.in-Ok.ensures.others)
-    (rw c.deref.ensures at c.in-Ok.ensures.merged) (rw c.deref-in-Node.ensures at c.in-Ok-merge_tree.ensures.merged)) in
+    c.merge_tree.new.summaries _ _ (rw c.in-Node.is at c.requires.places) (rw c.deref.ensures at c.in_ok-merged-in-Node.ensures.others)
+    (rw c.deref.ensures at c.in_ok-merged-in-Node.ensures.merged) (rw c.deref-in-Node.ensures at c.in_ok-other-in-Node.ensures.merged)) in
     rw node c.merge_two.ensures.merged
 
-pub returns-in-Ok-merge_tree-clause-refused : goal.returns-in-Ok-merge_tree-clause-refused
-returns-in-Ok-merge_tree-clause-refused t c =
+pub returns-in_ok-other-in-Node-clause-refused : goal.returns-in_ok-other-in-Node-clause-refused
+returns-in_ok-other-in-Node-clause-refused t c =
     let node : tree_result (shape c.args.tree.now) c.args.summaries.now
-    ≡ merge_result c.in-Ok.merged c.in-Ok-merge_tree.other =
+    ≡ merge_result c.in_ok-merged-in-Node.merged c.in_ok-other-in-Node.other =
     rw c.in-Node.is (node-result (shape c.in-Node.left.value) (shape c.in-Node.right.value) _ _
-    c.merge_tree.new.summaries _ _ (rw c.in-Node.is at c.requires.places) (rw c.deref.ensures at c.in-Ok.ensures.others)
-    (rw c.deref.ensures at c.in-Ok.ensures.merged) (rw c.deref-in-Node.ensures at c.in-Ok-merge_tree.ensures.merged)) in
+    c.merge_tree.new.summaries _ _ (rw c.in-Node.is at c.requires.places) (rw c.deref.ensures at c.in_ok-merged-in-Node.ensures.others)
+    (rw c.deref.ensures at c.in_ok-merged-in-Node.ensures.merged) (rw c.deref-in-Node.ensures at c.in_ok-other-in-Node.ensures.merged)) in
     rw node c.merge_two.ensures.refused
 
-pub returns-in-Err-merge_tree-clause-refused : goal.returns-in-Err-merge_tree-clause-refused
-returns-in-Err-merge_tree-clause-refused t c = λ other.
-    rw c.in-Node.is (node-refusal (shape c.in-Node.left.value) (shape c.in-Node.right.value) _ _
-    c.merge_tree.new.summaries _ _ (rw c.in-Node.is at c.requires.places) (rw c.deref.ensures at c.in-Ok.ensures.others)
-    (rw c.deref.ensures at c.in-Ok.ensures.merged)
-    (rw c.deref-in-Node.ensures at (c.in-Err-merge_tree.ensures.refused other)))
+pub returns-in_err-other-in-Node-clause-refused : goal.returns-in_err-other-in-Node-clause-refused
+returns-in_err-other-in-Node-clause-refused t c =
+    let handed = c.from_residual-in_err-other-in-Node in
+    let is = err_from_is_err_and handed.result handed.ensures.1 in
+    let places = rw c.in-Node.is at c.requires.places in
+    rw (is.1, is.2, c.in-Node.is) (λ other. node-refusal (shape c.in-Node.left.value) (shape c.in-Node.right.value) _ _
+    c.merge_tree.new.summaries _ _ places (rw c.deref.ensures at c.in_ok-merged-in-Node.ensures.others)
+    (rw c.deref.ensures at c.in_ok-merged-in-Node.ensures.merged)
+    (rw c.deref-in-Node.ensures at (c.in_err-other-in-Node.ensures.refused other)))

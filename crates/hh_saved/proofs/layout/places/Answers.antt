@@ -13,7 +13,8 @@ unreachable-requires c =
     let (version, spells) = c.requires in
     let named = version_named version c.args.bytes.now c.args.summary.now spells in
     let unnamed : version_at c.args.bytes.now ≡ Err c.in_default.field-0 = c.in_default.ensures in
-    let both : ◌≡◌ {A = Result (Version × List ℕ) SavedFault} (Ok (version, named.0)) (Err c.in_default.field-0) = sym named.1 ∙ unnamed in
+    let both : ◌≡◌ {A = Result (Version × List ℕ) SavedFault} (Ok (version, named.0)) (Err c.in_default.field-0) =
+    sym named.1 ∙ unnamed in
     absurd cc
 
 pub places_in-requires : goal.places_in-requires
@@ -21,4 +22,5 @@ places_in-requires c =
     let (version, spells) = c.requires in
     let named = version_named version c.args.bytes.now c.args.summary.now spells in
     let same = ok_is (version, named.0) (c.in-Ok.version, c.in-Ok.field-0-1.now) (sym named.1 ∙ c.in-Ok.ensures) in
-    subst (λ (x : Version). Spells x c.args.bytes.now (Counters c.args.summary.now)) (ap (λ (x : Version × List ℕ). x.0) same) spells
+    subst (λ (x : Version). Spells x c.args.bytes.now (Counters c.args.summary.now))
+    (ap (λ (x : Version × List ℕ). x.0) same) spells

@@ -12,11 +12,11 @@ loop-i-preserved c =
     let counters = c.args.summary.now.counters in
     let i = c.loop-i.i in
     let e : Entry = (c.entry-counter.result.0.now, c.entry-counter.result.1) in
-    let lt : i < length counters = omega (arith, c.loop-i-test.true, c.len-i-end.ensures.len) in
-    let here = next_entry c.args.version c.args.bytes.now counters c.loop-i.start i e lt c.entry-counter.ensures c.loop-i.invariant.0 in
-    let rest = flat_map (entry_bytes c.args.version) (drop (i + 1) counters) in
     let file = c.args.bytes.now in
     let start = c.loop-i.start in
+    let lt : i < length counters = omega (arith, c.loop-i-test.true, c.len-i-end.ensures.len) in
+    let here = next_entry _ file _ start _ _ lt c.entry-counter.ensures c.loop-i.invariant.0 in
+    let rest = flat_map (entry_bytes c.args.version) (drop (i + 1) counters) in
     let width = c.len_width-width.result in
     let place : Place = record { start = start + width; len = length c.bytes-len.result.now; counter = e.1 } in
     let next : drop (start + width + (length c.bytes-len.result.now + 8)) file ≡ rest =
@@ -24,4 +24,4 @@ loop-i-preserved c =
     let key : take (length c.bytes-len.result.now) (drop (start + width) file) ≡ e.0 =
     rw (c.len_width-width.ensures, c.bytes-len.ensures.bytes) (key_lies c.args.version file rest start e here) in
     let lies : entry_in file place ≡ e = ap (λ (x : Bytes). let y : Entry = (x, e.1) in y) key in
-    (next, place_listed file counters c.loop-i.places.items c.push.new.self.items i e place lt c.entry-counter.ensures c.in_ok-push.ensures.items lies c.loop-i.invariant.1)
+    (next, place_listed _ _ _ _ _ _ _ lt c.entry-counter.ensures c.in_ok-push.ensures.items lies c.loop-i.invariant.1)

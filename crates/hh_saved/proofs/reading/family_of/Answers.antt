@@ -1,4 +1,4 @@
-use Rattle.std.proofs.Common.{◌≡◌, ℕ, List, Err, true, false, length, ap, ap₂, ◌∙◌, ⊎_elim, arith}
+use Rattle.std.proofs.Common.{◌≡◌, ℕ, List, Err, length, ap, ap₂, ◌∙◌, ⊎_elim, arith}
 use Rattle.std.specs.Int.{w64, from_be_bytes}
 use Rattle.hh_countmin.specs.Family.{Coefficients}
 use Rattle.hh_saved.specs.Reading.{blocks_in, pair_of, family_in}
@@ -13,7 +13,8 @@ returns-in-Ok-clause-family c =
     let z = c.number_of.ensures ∙ ap (from_be_bytes w64) c.split_at.ensures.front in
     let rows = c.deref.ensures.value ∙ c.in_ok-rows.ensures ∙ ap (blocks_in pair_of 16 depth) c.split_at.ensures.back in
     let is = c.in-Ok.ensures.parts ∙ ap₂ (λ (n : ℕ) (xs : List (ℕ × ℕ)). record { z = n; rows = xs }) z rows in
-    family_at-is depth c.args.bytes.now c.in_ok-field.field.now c.in_ok-field.rest.now family true c.in_ok-field.ensures is ((in_range-Decides family).1 c.in-Ok.ensures.in_range.in_range)
+    family_at-is depth _ _ _ _ _ c.in_ok-field.ensures is
+    ((in_range-Decides family).1 c.in-Ok.ensures.in_range.in_range)
 
 pub returns-in-Err-BadCoefficient-clause-family : goal.returns-in-Err-BadCoefficient-clause-family
 returns-in-Err-BadCoefficient-clause-family c =
@@ -21,12 +22,15 @@ returns-in-Err-BadCoefficient-clause-family c =
     let family : Coefficients = record { z = c.number_of.result; rows = c.deref.result.now } in
     let z = c.number_of.ensures ∙ ap (from_be_bytes w64) c.split_at.ensures.front in
     let rows = c.deref.ensures.value ∙ c.in_ok-rows.ensures ∙ ap (blocks_in pair_of 16 depth) c.split_at.ensures.back in
-    let is : family ≡ family_in depth c.in_ok-field.field.now = ap₂ (λ (n : ℕ) (xs : List (ℕ × ℕ)). record { z = n; rows = xs }) z rows in
+    let is : family ≡ family_in depth c.in_ok-field.field.now =
+    ap₂ (λ (n : ℕ) (xs : List (ℕ × ℕ)). record { z = n; rows = xs }) z rows in
     let refused = (c.in-Err-BadCoefficient.ensures.bad_coefficient.0 (ap Err c.in-Err-BadCoefficient.field-0-is)).1 in
-    family_at-is depth c.args.bytes.now c.in_ok-field.field.now c.in_ok-field.rest.now family false c.in_ok-field.ensures is (in_range-refused family refused)
+    family_at-is depth _ _ _ _ _ c.in_ok-field.ensures is (in_range-refused family refused)
 
 pub unreachable-requires : goal.unreachable-requires
 unreachable-requires c =
     let rows = c.deref.ensures.value ∙ c.in_ok-rows.ensures in
-    let len : length c.deref.result.now ≡ c.args.depth = ap length rows ∙ length-blocks_in pair_of 16 c.args.depth c.split_at.result.1.now in
-    ⊎_elim (λ none. omega (arith, len, none)) (λ many. omega (arith, len, many)) (c.in-Err-BadDepth.ensures.bad_depth.0 (ap Err c.in-Err-BadDepth.field-0-is))
+    let len : length c.deref.result.now ≡ c.args.depth =
+    ap length rows ∙ length-blocks_in pair_of 16 c.args.depth c.split_at.result.1.now in
+    ⊎_elim (λ none. omega (arith, len, none)) (λ many. omega (arith, len, many))
+    (c.in-Err-BadDepth.ensures.bad_depth.0 (ap Err c.in-Err-BadDepth.field-0-is))

@@ -4,7 +4,10 @@ use Rattle.hh_saved.proofs.Values.{is_found, saved_again}
 use Rattle.hh_saved.proofs.reading.read.Goals as goal
 
 pub returns-clause-found : goal.returns-clause-found
-returns-clause-found c = is_found c.args.bytes.now c.all_of.result (λ i. omega (arith, c.type_inv.bytes i)) c.all_of.ensures.all
+returns-clause-found c =
+    is_found c.args.bytes.now c.all_of.result (λ i. omega (arith, c.type_inv.bytes i)) c.all_of.ensures.all
 
 pub returns-clause-only : goal.returns-clause-only
-returns-clause-only c = λ version v is. subst (λ r. Gives (λ v. v) c.all_of.result r) (saved_again version c.args.bytes.now v is) c.all_of.ensures.all
+returns-clause-only c =
+    λ version v is. subst (λ r. Gives (λ v. v) c.all_of.result r) (saved_again version c.args.bytes.now v is)
+    c.all_of.ensures.all

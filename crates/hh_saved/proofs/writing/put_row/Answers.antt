@@ -9,4 +9,5 @@ returns c =
     let start = c.args.out.now.items in
     let a = c.put_u64.new.out.items in
     let b = c.put_u64-2.new.out.items in
-    (Appends-then (appended start a (to_be_bytes w64) row.0 row.0 c.in_ok-put_u64.ensures refl) (appended a b (to_be_bytes w64) row.1 row.1 c.in_ok-put_u64-2.ensures refl)).is
+    (Appends-then (appended start a (to_be_bytes w64) row.0 row.0 c.in_ok-put_u64.ensures refl)
+    (appended a b (to_be_bytes w64) row.1 row.1 c.in_ok-put_u64-2.ensures refl)).is

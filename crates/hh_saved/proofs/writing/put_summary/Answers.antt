@@ -16,6 +16,8 @@ returns-clause-spelled c =
     let e = c.put_entries.new.out.items in
     let k = appended start a (to_be_bytes w16) c.k.result s.k c.in_ok-put_u16.ensures c.k.ensures.k in
     let total = appended a b (to_be_bytes w64) c.total.result s.total c.in_ok-put_u64.ensures c.total.ensures.total in
-    let count = appended b d (to_be_bytes w16) c.len.result (length s.counters) c.in_ok-put_u16-2.ensures c.len.ensures.len in
-    let entries = appended d e (flat_map (entry_bytes Two)) s.counters s.counters c.in_ok-put_entries.ensures.spelled refl in
+    let count =
+    appended b d (to_be_bytes w16) c.len.result (length s.counters) c.in_ok-put_u16-2.ensures c.len.ensures.len in
+    let entries =
+    appended d e (flat_map (entry_bytes Two)) s.counters s.counters c.in_ok-put_entries.ensures.spelled refl in
     (Appends-then k (Appends-then total (Appends-then count entries))).is

@@ -17,10 +17,17 @@ returns-clause-spelled c =
     let e = c.put_rows.new.out.items in
     let f = c.put_u64-2.new.out.items in
     let g = c.put_cells.new.out.items in
-    let width = appended start a (to_be_bytes w32) c.width.result t.width c.in_ok-put_u32.ensures c.width.ensures.width in
-    let depth = appended a b (to_be_bytes w8) c.depth.result (length t.family.rows) c.in_ok-put_u8.ensures (c.depth.ensures.depth ∙ ap (λ (f : Coefficients). length f.rows) family) in
-    let z = appended b d (to_be_bytes w64) c.z.result t.family.z c.in_ok-put_u64.ensures (c.z.ensures ∙ ap (λ (f : Coefficients). f.z) family) in
-    let rows = appended d e (λ (f : Coefficients). flat_map pair_bytes f.rows) c.family-family.result.now t.family c.in_ok-put_rows.ensures family in
+    let width =
+    appended start a (to_be_bytes w32) c.width.result t.width c.in_ok-put_u32.ensures c.width.ensures.width in
+    let depth =
+    appended a b (to_be_bytes w8) c.depth.result (length t.family.rows) c.in_ok-put_u8.ensures
+    (c.depth.ensures.depth ∙ ap (λ (f : Coefficients). length f.rows) family) in
+    let z =
+    appended b d (to_be_bytes w64) c.z.result t.family.z c.in_ok-put_u64.ensures
+    (c.z.ensures ∙ ap (λ (f : Coefficients). f.z) family) in
+    let rows =
+    appended d e (λ (f : Coefficients). flat_map pair_bytes f.rows) c.family-family.result.now t.family
+    c.in_ok-put_rows.ensures family in
     let total = appended e f (to_be_bytes w64) c.total.result t.total c.in_ok-put_u64-2.ensures c.total.ensures.total in
     let cells = appended f g cells_bytes c.cells.result.now t.cells c.in_ok-put_cells.ensures c.cells.ensures in
     (Appends-then width (Appends-then depth (Appends-then z (Appends-then rows (Appends-then total cells))))).is

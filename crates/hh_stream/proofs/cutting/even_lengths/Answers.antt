@@ -6,4 +6,5 @@ use Rattle.hh_stream.proofs.cutting.even_lengths.Goals as goal
 
 pub loop-i-preserved : goal.loop-i-preserved
 loop-i-preserved c =
-    rw (map-range_with_len_more (even_length c.args.len c.args.pieces) 0 c.loop-i.i c.loop-i.i (zero-add c.loop-i.i)) (grind (arith, common_steps))
+    rw (map-range_with_len_more (even_length c.args.len c.args.pieces) 0 c.loop-i.i c.loop-i.i (zero-add c.loop-i.i))
+    (grind (arith, common_steps))

@@ -9,10 +9,13 @@ invariant_of-result c =
     let count = length-map-range_with_len (even_length c.args.len c.args.pieces) 0 c.args.pieces in
     let within = c.in_ok-check_count.ensures.within in
     let all = sum-even c.args.len c.args.pieces within.0 in
-    rw c.in-Ok.ensures (record { some = rw count within.0; few = rw count within.1; fits = rw all c.ranges.len.fits }, sym all)
+    rw c.in_ok-lengths.ensures
+    (record { some = rw count within.0; few = rw count within.1; fits = rw all c.ranges.len.fits }, sym all)
 
-pub returns-in-Ok-clause-adds_up : goal.returns-in-Ok-clause-adds_up
-returns-in-Ok-clause-adds_up c = rw c.in-Ok.ensures (sum-even c.args.len c.args.pieces c.in_ok-check_count.ensures.within.0)
+pub returns-clause-adds_up : goal.returns-clause-adds_up
+returns-clause-adds_up c =
+    rw c.in_ok-lengths.ensures (sum-even c.args.len c.args.pieces c.in_ok-check_count.ensures.within.0)
 
-pub returns-in-Ok-clause-pieces : goal.returns-in-Ok-clause-pieces
-returns-in-Ok-clause-pieces c = rw c.in-Ok.ensures (length-map-range_with_len (even_length c.args.len c.args.pieces) 0 c.args.pieces)
+pub returns-clause-pieces : goal.returns-clause-pieces
+returns-clause-pieces c =
+    rw c.in_ok-lengths.ensures (length-map-range_with_len (even_length c.args.len c.args.pieces) 0 c.args.pieces)

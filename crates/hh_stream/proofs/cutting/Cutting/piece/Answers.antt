@@ -5,11 +5,14 @@ use Rattle.hh_stream.proofs.cutting.Cutting.piece.Goals as goal
 pub returns-clause-piece : goal.returns-clause-piece
 returns-clause-piece c =
     rw (c.items.ensures.items, ← c.self.view_is)
-    (piece-at c.self.inside.lengths.items c.args.stream.now c.args.i c.sum_of-start.result c.index-length.result.now (rw (← c.self.view_is) at c.requires.within) (rw c.deref.ensures.value at c.sum_of-start.ensures) c.index-length.ensures)
+    (piece-at _ _ _ _ _ (rw (← c.self.view_is) at c.requires.within)
+    (rw c.deref.ensures.value at c.sum_of-start.ensures) c.index-length.ensures)
 
 pub returns-clause-whole : goal.returns-clause-whole
 returns-clause-whole c = pieces-whole c.args.self.now c.args.stream.now c.requires.same_len
 
 pub returns-clause-bounded : goal.returns-clause-bounded
 returns-clause-bounded c =
-    rw c.items.ensures.items (omega (arith, c.items.ensures.bounded, total-part c.args.stream.now (c.sum_of-start.result + c.index-length.result.now - c.sum_of-start.result) c.sum_of-start.result))
+    let start = c.sum_of-start.result in
+    let part = total-part c.args.stream.now (start + c.index-length.result.now - start) start in
+    rw c.items.ensures.items (omega (arith, c.items.ensures.bounded, part))
