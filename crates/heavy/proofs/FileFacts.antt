@@ -67,6 +67,11 @@ module _ (n : ℕ) (s t : Grid) (one : Decides (same_family s.family t.family) (
 
 -- ---- many files
 
+-- what is defined to be refused is refused
+pub refuses : {X : Type 0} (defined : Result X ToolError) (e : ToolError) → defined ≡ Err e → Refuses defined e
+refuses defined tool.Memory h = tt
+refuses defined e h = h
+
 -- a refusal of a part is one of the whole
 pub refuses_along : {X Y : Type 0} (e : ToolError) (part : Result X ToolError) (whole : Result Y ToolError) → (part ≡ Err e → whole ≡ Err e) → Refuses part e → Refuses whole e
 refuses_along tool.Memory part whole so refused = tt
