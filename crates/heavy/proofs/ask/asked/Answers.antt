@@ -8,9 +8,11 @@ use Rattle.heavy.proofs.ask.asked.Goals as goal
 
 pub loop-i-preserved : goal.loop-i-preserved
 loop-i-preserved c =
-    let is = c.deref.ensures.value ∙ ap vec_items c.index-words-i.is in
-    (c.loop-i.invariant.0, keys_go_on vec_items c.args.words.now c.loop-i.i c.index-words-i.result _ is c.loop-i-test.true
-    _ c.loop-i.invariant.1 c.in_ok-check_key.ensures)
+    let is = c.deref.ensures.value ∙ ap vec_items c.index-words-i.is in (
+      c.loop-i.invariant.0,
+      keys_go_on vec_items c.args.words.now c.loop-i.i c.index-words-i.result _ is c.loop-i-test.true _
+          c.loop-i.invariant.1 c.in_ok-check_key.ensures,
+    )
 
 pub returns-in_err-check_key-clause-refused : goal.returns-in_err-check_key-clause-refused
 returns-in_err-check_key-clause-refused c =
@@ -24,6 +26,3 @@ returns-in_err-check_key-clause-refused c =
 pub returns-clause-keys : goal.returns-clause-keys
 returns-clause-keys c =
     keys_end vec_items c.args.words.now c.loop-i.i (c.loop-i.i + 1) _ c.loop-i-test.false c.loop-i.invariant.1
-
-pub returns-clause-value : goal.returns-clause-value
-returns-clause-value c = c.loop-i.invariant.0
