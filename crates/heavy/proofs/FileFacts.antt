@@ -17,6 +17,7 @@ use Rattle.heavy.specs.Files.{Refuses, file_of, of_total, merge_saved, merged_fr
 
 -- ---- two values
 
+-- what came is no refusal
 pub ok-no_err : {X E : Type 0} {x : X} {e : E} → ◌≡◌ {A = Result X E} (Ok x) (Err e) → ⊥
 ok-no_err h = absurd cc
 
@@ -37,29 +38,38 @@ of_total-too_large total v large = elim (leb_tells total max_total) [
 ]
 
 module _ (n : ℕ) (s t : Grid) (one : Decides (same_family s.family t.family) (s.family ≡ t.family)) where
-  pub cells-other_family : s.family ≢ t.family → merge_saved n (Cells s) (Cells t) ≡ Err (tool.CannotMerge n cause.DifferentFamily)
+  -- tables of different families are not merged
+  pub cells-other_family : s.family ≢ t.family
+      → merge_saved n (Cells s) (Cells t) ≡ Err (tool.CannotMerge n cause.DifferentFamily)
   cells-other_family differ = elim (decided (same_family s.family t.family) one) [
     | inl (e, same) ↦ absurd (differ same)
     | inr (e, _) ↦ rw e refl
   ]
 
-  pub cells-other_width : s.family ≡ t.family → s.width ≢ t.width → merge_saved n (Cells s) (Cells t) ≡ Err (tool.CannotMerge n cause.DifferentWidth)
+  -- nor are tables of different widths
+  pub cells-other_width : s.family ≡ t.family → s.width ≢ t.width
+      → merge_saved n (Cells s) (Cells t) ≡ Err (tool.CannotMerge n cause.DifferentWidth)
   cells-other_width same differ = elim (eqb_tells s.width t.width) [
     | inl (e, width) ↦ absurd (differ width)
     | inr (e, _) ↦ rw (one.1 same, e) refl
   ]
 
-  pub cells-too_large : s.family ≡ t.family → s.width ≡ t.width → max_total < s.total + t.total → merge_saved n (Cells s) (Cells t) ≡ Err (tool.CannotMerge n cause.TotalTooLarge)
+  -- nor those whose total would be too large
+  pub cells-too_large : s.family ≡ t.family → s.width ≡ t.width → max_total < s.total + t.total
+      → merge_saved n (Cells s) (Cells t) ≡ Err (tool.CannotMerge n cause.TotalTooLarge)
   cells-too_large same width large = elim (eqb_tells s.width t.width) [
     | inl (e, _) ↦ rw (one.1 same, e, of_total-too_large (s.total + t.total) (Cells (merged_cells s t)) large) refl
     | inr (e, differ) ↦ absurd (differ width)
   ]
 
-  pub cells-merged : (s.family ≢ t.family → ⊥) → ((s.family ≡ t.family) × (s.width ≢ t.width) → ⊥) → ((s.family ≡ t.family) × (s.width ≡ t.width) × (max_total < s.total + t.total) → ⊥)
+  -- all others are merged
+  pub cells-merged : (s.family ≢ t.family → ⊥) → ((s.family ≡ t.family) × (s.width ≢ t.width) → ⊥)
+      → ((s.family ≡ t.family) × (s.width ≡ t.width) × (max_total < s.total + t.total) → ⊥)
       → merge_saved n (Cells s) (Cells t) ≡ Ok (Cells (merged_cells s t))
   cells-merged same_families same_widths fits = elim (decided (same_family s.family t.family) one) [
     | inl (f, same) ↦ elim (eqb_tells s.width t.width) [
-      | inl (e, width) ↦ rw (f, e, of_total-fits (s.total + t.total) (Cells (merged_cells s t)) (λ lt. fits (same, width, lt))) refl
+      | inl (e, width) ↦
+          rw (f, e, of_total-fits (s.total + t.total) (Cells (merged_cells s t)) (λ lt. fits (same, width, lt))) refl
       | inr (e, differ) ↦ absurd (same_widths (same, differ))
     ]
     | inr (f, differ) ↦ absurd (same_families differ)
@@ -67,8 +77,14 @@ module _ (n : ℕ) (s t : Grid) (one : Decides (same_family s.family t.family) (
 
 -- ---- many files
 
+-- what is defined to be refused is refused
+pub refuses : {X : Type 0} (defined : Result X ToolError) (e : ToolError) → defined ≡ Err e → Refuses defined e
+refuses defined tool.Memory h = tt
+refuses defined e h = h
+
 -- a refusal of a part is one of the whole
-pub refuses_along : {X Y : Type 0} (e : ToolError) (part : Result X ToolError) (whole : Result Y ToolError) → (part ≡ Err e → whole ≡ Err e) → Refuses part e → Refuses whole e
+pub refuses_along : {X Y : Type 0} (e : ToolError) (part : Result X ToolError) (whole : Result Y ToolError)
+    → (part ≡ Err e → whole ≡ Err e) → Refuses part e → Refuses whole e
 refuses_along tool.Memory part whole so refused = tt
 refuses_along e part whole so refused = so refused
 

@@ -19,8 +19,10 @@ counter-le-sum : (x : Bytes) (c : List Entry) → weight_of x c ≤ total_of c
 counter-le-sum x c = sum_by-le-sum_by (at_key x) (λ (e : Entry). e.1) c (λ e. at_most (same_key x e.0) e.1)
 
 -- a counter and the slack are together at most the total
-pub bounds-fit : (k n : ℕ) (c : List Entry) (x : Bytes) → total_of c ≤ n → n ≤ max_total → weight_of x c + slack c n k < 2 ^ 64
-bounds-fit k n c x within bounded = omega (arith, within, bounded, counter-le-sum x c, div-le_self (n - total_of c) (k + 1))
+pub bounds-fit : (k n : ℕ) (c : List Entry) (x : Bytes) → total_of c ≤ n → n ≤ max_total
+    → weight_of x c + slack c n k < 2 ^ 64
+bounds-fit k n c x within bounded =
+    omega (arith, within, bounded, counter-le-sum x c, div-le_self (n - total_of c) (k + 1))
 
 -- the length of a word that is a key
 abbrev pub IsKeyLength : Bytes → Type 0
@@ -35,13 +37,16 @@ key_fault-none n x none = elim (eqb_tells (length x) 0) [
   ]
 ]
 
-keys_pass : (n : ℕ) (xs : List Bytes) → bad_key n xs ≡ None → (i : ℕ) (d : Bytes) → i < length xs → IsKeyLength (get_or xs i d)
+keys_pass : (n : ℕ) (xs : List Bytes) → bad_key n xs ≡ None → (i : ℕ) (d : Bytes) → i < length xs
+    → IsKeyLength (get_or xs i d)
 unfolding bad_key
 keys_pass n [] none i d lt = absurd (omega (arith, lt))
 keys_pass n (x ∷ xs) none i d lt = by (key_fault n x) refl none i lt (λ rest j. keys_pass (n + 1) xs rest j d)
   where
-    by : (o : Option ToolError) → key_fault n x ≡ o → or_else o (bad_key (n + 1) xs) ≡ None → (i : ℕ) → i < length (x ∷ xs)
-        → (bad_key (n + 1) xs ≡ None → (j : ℕ) → j < length xs → IsKeyLength (get_or xs j d)) → IsKeyLength (get_or (x ∷ xs) i d)
+    by : (o : Option ToolError) → key_fault n x ≡ o → or_else o (bad_key (n + 1) xs) ≡ None → (i : ℕ)
+        → i < length (x ∷ xs)
+        → (bad_key (n + 1) xs ≡ None → (j : ℕ) → j < length xs → IsKeyLength (get_or xs j d))
+        → IsKeyLength (get_or (x ∷ xs) i d)
     by (Some e) is none i lt rest = absurd (cc none)
     by None is none zero lt rest = key_fault-none n x is
     by None is none (suc i) lt rest = rest none i (omega (arith, lt))

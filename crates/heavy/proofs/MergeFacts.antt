@@ -23,7 +23,8 @@ use Rattle.heavy.specs.Laws.{HeldTreesReport, HoldsTree, MergesHoldTrees, PartsH
 use Rattle.heavy.proofs.FileFacts.{ok-no_err}
 
 -- two saved summaries merge to what a node of a tree makes of them, or are refused
-both_merge : (n : ℕ) (s t : Sketch) → ((merge_saved n (Counters s) (Counters t) ≡ Ok (Counters (merged s t))) × (merge_result s t ≡ Ok (merged s t)))
+both_merge : (n : ℕ) (s t : Sketch)
+    → ((merge_saved n (Counters s) (Counters t) ≡ Ok (Counters (merged s t))) × (merge_result s t ≡ Ok (merged s t)))
     ⊎ ((e : ToolError) × (merge_saved n (Counters s) (Counters t) ≡ Err e))
 both_merge n s t = elim (eqb_tells s.k t.k) [
   | inl (same, _) ↦ elim (leb_tells (s.total + t.total) max_total) [
@@ -34,27 +35,36 @@ both_merge n s t = elim (eqb_tells s.k t.k) [
 ]
 
 -- what is written is read again
-read_again : SpellingsAreRead → (version : Version) (file : List ℕ) (saved : Saved) → Spells version file saved → saved_of file ≡ Ok saved
+read_again : SpellingsAreRead → (version : Version) (file : List ℕ) (saved : Saved) → Spells version file saved
+    → saved_of file ≡ Ok saved
 read_again law version file saved spells = rw spells.spelled (law version saved spells.saved)
 
+-- a file that spells the summary of a part holds the tree of that piece
 pub parts_hold_pieces : SpellingsAreRead → PartsHoldPieces
-parts_hold_pieces law k i parts version file low spells =
-    (sketch_of k (slice_index_or parts i []), ap Ok (get_or-map (sketch_of k) parts i [] no_sketch low), read_again law version file (Counters (sketch_of k (slice_index_or parts i []))) spells)
+parts_hold_pieces law k i parts version file low spells = (
+  sketch_of k (slice_index_or parts i []),
+  ap Ok (get_or-map (sketch_of k) parts i [] no_sketch low),
+  read_again law version file (Counters (sketch_of k (slice_index_or parts i []))) spells,
+)
 
 -- the files that are left, merged into the summary that the tree t makes
-rest_merge : (ss : List Sketch) (n : ℕ) (t : MergeTree) (u : Sketch) (fs : List (MergeTree × List ℕ)) (saved : Saved) → tree_result t ss ≡ Ok u → AllByRecursion (HoldsTree ss) fs
-    → merged_from n (Counters u) (map (λ g. g.1) fs) ≡ Ok saved → (s : Sketch) × (tree_result (fold Merge t (map (λ g. g.0) fs)) ss ≡ Ok s) × (saved ≡ Counters s)
+rest_merge : (ss : List Sketch) (n : ℕ) (t : MergeTree) (u : Sketch) (fs : List (MergeTree × List ℕ)) (saved : Saved)
+    → tree_result t ss ≡ Ok u → AllByRecursion (HoldsTree ss) fs
+    → merged_from n (Counters u) (map (λ g. g.1) fs) ≡ Ok saved
+    → (s : Sketch) × (tree_result (fold Merge t (map (λ g. g.0) fs)) ss ≡ Ok s) × (saved ≡ Counters s)
 unfolding merged_from
 rest_merge ss n t u [] saved is holds all = (u, is, sym (cc all))
 rest_merge ss n t u (f ∷ fs) saved is ((v, made, read), holds) all = elim (both_merge n u v) [
   | inl (both, node) ↦
-      let step : merged_from n (Counters u) (map (λ g. g.1) (f ∷ fs)) ≡ merged_from (n + 1) (Counters (merged u v)) (map (λ g. g.1) fs) = rw (read, both) refl in
+      let step : merged_from n (Counters u) (map (λ g. g.1) (f ∷ fs))
+      ≡ merged_from (n + 1) (Counters (merged u v)) (map (λ g. g.1) fs) = rw (read, both) refl in
       rest_merge ss (n + 1) (Merge t f.0) (merged u v) fs saved (rw (is, made) node) holds (sym step ∙ all)
   | inr (e, refused) ↦
       let step : merged_from n (Counters u) (map (λ g. g.1) (f ∷ fs)) ≡ Err e = rw (read, refused) refl in
       absurd (ok-no_err (sym all ∙ step))
 ]
 
+-- files that hold trees, merged, hold the tree that merges those
 pub merges_hold_trees : SpellingsAreRead → MergesHoldTrees
 merges_hold_trees law ss f fs saved version file ((u, made, read), holds) all spells =
     let step : merged_files (map (λ g. g.1) (f ∷ fs)) ≡ merged_from 2 (Counters u) (map (λ g. g.1) fs) = rw read refl in

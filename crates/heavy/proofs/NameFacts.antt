@@ -13,6 +13,7 @@ use Rattle.hh_counters.specs.Laws.{FreeNameIsFirst}
 pub numbered_name : (n : ℕ) → 0 < n → n < 2 ^ 64 → codes "others" ++ decimal n ≡ other_name n
 numbered_name n some fits = ap (λ ds. codes "others" ++ ds) (decimal-digits_of n some fits)
 
+-- the first name has no number
 pub plain_name : (n : ℕ) → n ≤ 0 → codes "others" ≡ other_name n
 plain_name n none = let zero : 0 ≡ n = omega (arith, none) in ap other_name zero
 
@@ -27,7 +28,8 @@ never_all law c n many taken =
     omega (arith, taken g.number (omega (arith, g.few, many)), g.free, ap (λ y. weight_of y c) g.named)
 
 -- the first name without a counter is the free one
-pub first_is_free : FreeNameIsFirst → (c : Counters) (n : ℕ) → AreTaken c n → weight_of (other_name n) c ≡ 0 → other_name n ≡ free_name c
+pub first_is_free : FreeNameIsFirst → (c : Counters) (n : ℕ) → AreTaken c n → weight_of (other_name n) c ≡ 0
+    → other_name n ≡ free_name c
 first_is_free law c n taken free = elim (cases_lt (length c) n) [
   | inl many ↦ absurd (never_all law c n many taken)
   | inr few ↦ (law c).1 (other_name n) (record { number = n; named = refl; free = free; first = taken; few = few })
@@ -42,6 +44,7 @@ one_more c n taken here = λ j lt. by j lt
       | inl past ↦ absurd (omega (arith, past, lt))
       | inr upto ↦ elim (cases_lt j n) [
         | inl before ↦ taken j before
-        | inr from ↦ let same : n ≡ j = omega (arith, upto, from) in subst (λ i. 0 < weight_of (other_name i) c) same here
+        | inr from ↦ let same : n ≡ j = omega (arith, upto, from) in
+            subst (λ i. 0 < weight_of (other_name i) c) same here
       ]
     ]

@@ -43,7 +43,8 @@ is-option_fault false false false false true f x h = same-fault tool.BadThreshol
 is-option_fault false false false false false true x h = same-fault tool.BadPieces x tt h
 is-option_fault false false false false false false x h = absurd cc
 
-refused-as : (o : ReportOptions) (left known : Option (List ℕ)) (x : ToolError) → IsOptionFault x → bad_option o ≡ Some x → ReportRefused o left known known x
+refused-as : (o : ReportOptions) (left known : Option (List ℕ)) (x : ToolError) → IsOptionFault x
+    → bad_option o ≡ Some x → ReportRefused o left known known x
 refused-as o left known tool.BadDepth is h = (h, keeps-same known)
 refused-as o left known tool.BadK is h = (h, keeps-same known)
 refused-as o left known tool.BadWorkers is h = (h, keeps-same known)
@@ -53,5 +54,6 @@ refused-as o left known tool.BadPieces is h = (h, keeps-same known)
 refused-as o left known _ is h = absurd is
 
 -- a failed test of the options is the refusal that it tells, with nothing written
-pub options_refused : (o : ReportOptions) (left known : Option (List ℕ)) (x : ToolError) → bad_option o ≡ Some x → ReportRefused o left known known x
+pub options_refused : (o : ReportOptions) (left known : Option (List ℕ)) (x : ToolError) → bad_option o ≡ Some x
+    → ReportRefused o left known known x
 options_refused o left known x h = refused-as o left known x (is-option_fault _ _ _ _ _ _ x h) h

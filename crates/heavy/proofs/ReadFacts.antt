@@ -4,7 +4,7 @@ use Rattle.std.specs.Prelude.{⊤, IfSome, option_map, ◌==◌, if◌then◌els
 use Rattle.std.proofs.lemmas.Bool.{false≢true}
 use Rattle.std.proofs.lemmas.List.{append-nil}
 use Rattle.std.proofs.Common.{length-append}
-use Rattle.csv.specs.Machine.{next_record, ends_at_end, is_end, step, after_end, in_field, start_field, start_record, fields_after, field_after, Read, carriage_return}
+use Rattle.csv.specs.Machine.{next_record, ends_at_end, is_end, step, after_end, in_field, start_field, start_record, Read, carriage_return}
 use Rattle.csv.specs.Reading.{Reached, ReadRecord, default_config, records, records_from, source_of, strip_bom}
 use Rattle.csv.specs.declared.parser.Config.{Config}
 use Rattle.csv.specs.declared.parser.Terminator.{Terminator}
@@ -52,14 +52,16 @@ quiet-other s a e h = absurd (false≢true (sym e ∙ h))
 
 in-field-quiet : (cfg : Config) (c : ℕ) → Quiet (in_field cfg c)
 in-field-quiet cfg c =
-    if-quiet _ _ _ (quiet-other st.StartField act.EndField refl) (if-quiet _ _ _ (after-quiet cfg.terminator c) (quiet-other st.InField act.Copy refl))
+    if-quiet _ _ _ (quiet-other st.StartField act.EndField refl)
+    (if-quiet _ _ _ (after-quiet cfg.terminator c) (quiet-other st.InField act.Copy refl))
 
 start-field-quiet : (cfg : Config) (c : ℕ) → Quiet (start_field cfg c)
 start-field-quiet cfg c = if-quiet _ _ _ (quiet-other st.InQuoted act.Skip refl) (in-field-quiet cfg c)
 
 start-record-quiet : (cfg : Config) (c : ℕ) → Quiet (start_record cfg c)
 start-record-quiet cfg c =
-    if-quiet _ _ _ (quiet-other st.StartRecord act.Skip refl) (if-quiet _ _ _ (quiet-other st.InComment act.Skip refl) (start-field-quiet cfg c))
+    if-quiet _ _ _ (quiet-other st.StartRecord act.Skip refl)
+    (if-quiet _ _ _ (quiet-other st.InComment act.Skip refl) (start-field-quiet cfg c))
 
 -- a byte that ends a record leaves such a state
 step-quiet : (cfg : Config) (s : State) (c : ℕ) → Quiet (step cfg s c)
@@ -67,10 +69,12 @@ step-quiet cfg st.StartRecord c = start-record-quiet cfg c
 step-quiet cfg st.StartField c = start-field-quiet cfg c
 step-quiet cfg st.InField c = in-field-quiet cfg c
 step-quiet cfg st.InQuoted c =
-    if-quiet _ _ _ (quiet-other st.AfterQuote act.Skip refl) (if-quiet _ _ _ (quiet-other st.InEscape act.Skip refl) (quiet-other st.InQuoted act.Copy refl))
+    if-quiet _ _ _ (quiet-other st.AfterQuote act.Skip refl)
+    (if-quiet _ _ _ (quiet-other st.InEscape act.Skip refl) (quiet-other st.InQuoted act.Copy refl))
 step-quiet cfg st.InEscape c = quiet-other st.InQuoted act.Copy refl
 step-quiet cfg st.AfterQuote c = if-quiet _ _ _ (quiet-other st.InQuoted act.Copy refl) (in-field-quiet cfg c)
-step-quiet cfg st.InComment c = if-quiet _ _ _ (quiet-other st.StartRecord act.Skip refl) (quiet-other st.InComment act.Skip refl)
+step-quiet cfg st.InComment c =
+    if-quiet _ _ _ (quiet-other st.StartRecord act.Skip refl) (quiet-other st.InComment act.Skip refl)
 step-quiet cfg st.AfterCr c = if-quiet _ _ _ (quiet-other st.StartRecord act.Skip refl) (start-record-quiet cfg c)
 
 read-or : Read → Option Read → Read
@@ -81,34 +85,35 @@ some-eq : (x y : Read) → ◌≡◌ {A = Option Read} (Some x) (Some y) → x �
 unfolding read-or
 some-eq x y e = ap (read-or x) e
 
--- after a record such a state stands, and no more bytes than before
+-- after a record such a state stands, and no more bytes than before, or fewer where none had begun
+abbrev IsAfter : Bool → ℕ → Read → Type 0
+IsAfter begun long q = (ends_at_end q.1 ≡ false) × (length q.2 ≤ long) × (begun ≡ false → length q.2 < long)
+
 record-quiet : (cfg : Config) (s : State) (f : Fields) (p xs : List ℕ) (q : Read) → next_record cfg s f p xs ≡ Some q
-    → (ends_at_end q.1 ≡ false) × (length q.2 ≤ length xs) × (ends_at_end s ≡ false → length q.2 < length xs)
+    → IsAfter (ends_at_end s) (length xs) q
 unfolding next_record Quiet
 record-quiet cfg s f p [] q e = by (ends_at_end s) e
   where
-    by : (b : Bool) → (if b then Some (f ++ (p ∷ []), st.StartRecord, []) else None) ≡ Some q
-        → (ends_at_end q.1 ≡ false) × (length q.2 ≤ length {A = ℕ} []) × (b ≡ false → length q.2 < length {A = ℕ} [])
+    by : (b : Bool) → (if b then Some (f ++ (p ∷ []), st.StartRecord, []) else None) ≡ Some q → IsAfter b 0 q
     by true e = let h = some-eq _ _ e in rw (← h) (refl, omega arith, λ t. absurd (false≢true (sym t)))
     by false e = cc e
 record-quiet cfg s f p (c ∷ rest) q e =
-    by (is_end (step cfg s c).1) refl e (record-quiet cfg (step cfg s c).0 (fields_after (step cfg s c).1 f p) (field_after (step cfg s c).1 c p) rest q)
+    by (is_end (step cfg s c).1) refl _ _ e (record-quiet cfg (step cfg s c).0 _ _ rest q)
   where
-    by : (b : Bool) → is_end (step cfg s c).1 ≡ b
-        → (if b then Some (fields_after (step cfg s c).1 f p, (step cfg s c).0, rest)
-        else next_record cfg (step cfg s c).0 (fields_after (step cfg s c).1 f p) (field_after (step cfg s c).1 c p) rest) ≡ Some q
-        → (next_record cfg (step cfg s c).0 (fields_after (step cfg s c).1 f p) (field_after (step cfg s c).1 c p) rest ≡ Some q
-        → (ends_at_end q.1 ≡ false) × (length q.2 ≤ length rest) × (ends_at_end (step cfg s c).0 ≡ false → length q.2 < length rest))
-        → (ends_at_end q.1 ≡ false) × (length q.2 ≤ length (c ∷ rest)) × (ends_at_end s ≡ false → length q.2 < length (c ∷ rest))
-    by true is e more =
+    by : (b : Bool) → is_end (step cfg s c).1 ≡ b → (g : Fields) (next : Option Read)
+        → (if b then Some (g, (step cfg s c).0, rest) else next) ≡ Some q
+        → (next ≡ Some q → IsAfter (ends_at_end (step cfg s c).0) (length rest) q)
+        → IsAfter (ends_at_end s) (length (c ∷ rest)) q
+    by true is g next e more =
         let h = some-eq _ _ e in
         rw (← h) (step-quiet cfg s c is, omega arith, λ t. omega arith)
-    by false is e more =
+    by false is g next e more =
         let h = more e in
         (h.0, omega (arith, h.1), λ t. omega (arith, h.1))
 
 -- each record takes a byte at least
-reached-length : (cfg : Config) (s s2 : State) (xs ys : List ℕ) (rows : List Fields) → ends_at_end s ≡ false → Reached cfg s xs rows s2 ys → length rows + length ys ≤ length xs
+reached-length : (cfg : Config) (s s2 : State) (xs ys : List ℕ) (rows : List Fields) → ends_at_end s ≡ false
+    → Reached cfg s xs rows s2 ys → length rows + length ys ≤ length xs
 unfolding Reached
 reached-length cfg s s2 xs ys [] q h = let e = ap length h.1 in omega (arith, e)
 reached-length cfg s s2 xs ys (r ∷ rs) q h =
@@ -124,18 +129,21 @@ unfolding Reached records_from
 reached-records cfg s s2 xs ys [] m n e h =
     let same : m ≡ n = omega (arith, e) in
     rw (same, h.0, h.1) refl
-reached-records cfg s s2 xs ys (r ∷ rs) zero n e h = let bad : 0 ≡ suc (length rs) + n = e in absurd (omega (arith, bad))
+reached-records cfg s s2 xs ys (r ∷ rs) zero n e h =
+    let bad : 0 ≡ suc (length rs) + n = e in absurd (omega (arith, bad))
 reached-records cfg s s2 xs ys (r ∷ rs) (suc m) n e h =
     let less : m ≡ length rs + n = omega (arith, e) in
     rw (h.1, h.2) (ap (λ (t : List Fields). h.0.0 ∷ t) (reached-records cfg h.0.1 s2 h.0.2 ys rs m n less h.3))
 
-no-records : (cfg : Config) (s : State) (ys : List ℕ) (n : ℕ) → next_record cfg s [] [] ys ≡ None → records_from cfg n s ys ≡ []
+no-records : (cfg : Config) (s : State) (ys : List ℕ) (n : ℕ) → next_record cfg s [] [] ys ≡ None
+    → records_from cfg n s ys ≡ []
 unfolding records_from
 no-records cfg s ys zero e = refl
 no-records cfg s ys (suc n) e = rw e refl
 
 -- all records of a text, by those that were reached
-records-reached : (s2 : State) (xs ys : List ℕ) (rows : List Fields) → Reached default_config st.StartRecord xs rows s2 ys
+records-reached : (s2 : State) (xs ys : List ℕ) (rows : List Fields)
+    → Reached default_config st.StartRecord xs rows s2 ys
     → (n : ℕ) × (records default_config xs ≡ rows ++ records_from default_config n s2 ys)
 records-reached s2 xs ys rows h =
     let room = reached-length default_config st.StartRecord s2 xs ys rows refl h in
@@ -151,42 +159,51 @@ unfolding reading-or
 ok-eq x y e = ap (reading-or x) e
 
 -- the items of some records, and then those of the others
-items-more : (n : ℕ) (xs ys : List Entry) (rows rest : List Fields) → items_from n xs rows ≡ Ok ys → items_from n xs (rows ++ rest) ≡ items_from (n + length rows) ys rest
+items-more : (n : ℕ) (xs ys : List Entry) (rows rest : List Fields) → items_from n xs rows ≡ Ok ys
+    → items_from n xs (rows ++ rest) ≡ items_from (n + length rows) ys rest
 unfolding items_from
 items-more n xs ys [] rest e =
     let same : xs ≡ ys = ok-eq xs ys e in
     let none : n + length {A = Fields} [] ≡ n = omega arith in
     rw (none, same) refl
-items-more n xs ys (r ∷ rows) rest e = by (judged (total_of xs) r) e (λ p. items-more (n + 1) (xs ++ p ∷ []) ys rows rest)
+items-more n xs ys (r ∷ rows) rest e =
+    by (judged (total_of xs) r) e (λ p. items-more (n + 1) (xs ++ p ∷ []) ys rows rest)
   where
     by : (o : Result Entry BadRecordCause) → reading_next o n (λ p. items_from (n + 1) (xs ++ p ∷ []) rows) ≡ Ok ys
-        → ((p : Entry) → items_from (n + 1) (xs ++ p ∷ []) rows ≡ Ok ys → items_from (n + 1) (xs ++ p ∷ []) (rows ++ rest) ≡ items_from (n + 1 + length rows) ys rest)
-        → reading_next o n (λ p. items_from (n + 1) (xs ++ p ∷ []) (rows ++ rest)) ≡ items_from (n + suc (length rows)) ys rest
+        → ((p : Entry) → items_from (n + 1) (xs ++ p ∷ []) rows ≡ Ok ys
+        → items_from (n + 1) (xs ++ p ∷ []) (rows ++ rest) ≡ items_from (n + 1 + length rows) ys rest)
+        → reading_next o n (λ p. items_from (n + 1) (xs ++ p ∷ []) (rows ++ rest))
+        ≡ items_from (n + suc (length rows)) ys rest
     by (Ok p) e more =
         let same : n + suc (length rows) ≡ n + 1 + length rows = omega arith in
         rw same (more p e)
     by (Err x) e more = cc e
 
 -- before the first record
-pub read-start : (known now : Option (List ℕ)) (s : State) (xs : List Entry) → now ≡ option_map strip_bom known → s ≡ st.StartRecord → xs ≡ [] → ReadSoFar known now s xs 0
+pub read-start : (known now : Option (List ℕ)) (s : State) (xs : List Entry) → now ≡ option_map strip_bom known
+    → s ≡ st.StartRecord → xs ≡ [] → ReadSoFar known now s xs 0
 unfolding Reached items_from
 read-start None now s xs e f g = tt
 read-start (Some text) now s xs e f g = (strip_bom text, e, [], (sym f, refl), rw g refl, refl)
 
 -- one more record
-pub read-more : {R : Type 0} (rem : R → Option (List ℕ)) (a b : Reader R) (f : Fields) (known : Option (List ℕ)) (xs : List Entry) (n : ℕ) (p : Entry)
-    → a.config ≡ default_config → ReadSoFar known (source_of rem a) a.state xs n → ReadRecord rem a b true f → judged (total_of xs) f ≡ Ok p
+pub read-more : {R : Type 0} (rem : R → Option (List ℕ)) (a b : Reader R) (f : Fields) (known : Option (List ℕ))
+    (xs : List Entry) (n : ℕ) (p : Entry)
+    → a.config ≡ default_config → ReadSoFar known (source_of rem a) a.state xs n → ReadRecord rem a b true f
+    → judged (total_of xs) f ≡ Ok p
     → ReadSoFar known (source_of rem b) b.state (xs ++ p ∷ []) (n + 1)
 unfolding items_from
 read-more rem a b f None xs n p config h r j = tt
 read-more rem a b f (Some text) xs n p config h r j =
     let (y, source, rows, reached, items, count) = h in
-    let (z, at, more) = rows-more rem a b f default_config st.StartRecord (strip_bom text) y rows config source reached r in
+    let (z, at, more) =
+    rows-more rem a b f default_config st.StartRecord (strip_bom text) y rows config source reached r in
     let size = length-append rows (f ∷ []) in
     (z, at, rows ++ f ∷ [], more, rw (items-more 1 [] xs rows (f ∷ []) items, j) refl, omega (arith, size, count))
 
 -- no more records
-pub read-end : {R : Type 0} (rem : R → Option (List ℕ)) (a b : Reader R) (f : Fields) (known : Option (List ℕ)) (xs : List Entry) (n : ℕ)
+pub read-end : {R : Type 0} (rem : R → Option (List ℕ)) (a b : Reader R) (f : Fields) (known : Option (List ℕ))
+    (xs : List Entry) (n : ℕ)
     → a.config ≡ default_config → ReadSoFar known (source_of rem a) a.state xs n → ReadRecord rem a b false f
     → IfSome known (λ text. stream_of text ≡ Ok xs)
 read-end rem a b f None xs n config h r = tt
@@ -197,21 +214,27 @@ read-end rem a b f (Some text) xs n config h r =
     rw (all, no-records default_config a.state y m none, append-nil rows) items
 
 -- a record that fails
-pub read-bad : {R : Type 0} (rem : R → Option (List ℕ)) (a b : Reader R) (f : Fields) (known : Option (List ℕ)) (xs : List Entry) (n : ℕ) (x : BadRecordCause)
-    → a.config ≡ default_config → ReadSoFar known (source_of rem a) a.state xs n → ReadRecord rem a b true f → judged (total_of xs) f ≡ Err x
+pub read-bad : {R : Type 0} (rem : R → Option (List ℕ)) (a b : Reader R) (f : Fields) (known : Option (List ℕ))
+    (xs : List Entry) (n : ℕ) (x : BadRecordCause)
+    → a.config ≡ default_config → ReadSoFar known (source_of rem a) a.state xs n → ReadRecord rem a b true f
+    → judged (total_of xs) f ≡ Err x
     → IfSome known (λ text. stream_of text ≡ Err (n + 1, x))
 unfolding items_from
 read-bad rem a b f None xs n x config h r j = tt
 read-bad rem a b f (Some text) xs n x config h r j =
     let (y, source, rows, reached, items, count) = h in
-    let (z, at, more) = rows-more rem a b f default_config st.StartRecord (strip_bom text) y rows config source reached r in
+    let (z, at, more) =
+    rows-more rem a b f default_config st.StartRecord (strip_bom text) y rows config source reached r in
     let (m, all) = records-reached b.state (strip_bom text) z (rows ++ f ∷ []) more in
     let rest = records_from default_config m b.state z in
     let number : 1 + length rows ≡ n + 1 = omega (arith, count) in
     rw (all, append_assoc rows (f ∷ []) rest, items-more 1 [] xs rows (f ∷ rest) items, j, number) refl
 
-pub read-refused : {R : Type 0} (rem : R → Option (List ℕ)) (a b : Reader R) (f : Fields) (known : Option (List ℕ)) (xs : List Entry) (n : ℕ) (x : RecordFault)
-    → a.config ≡ default_config → ReadSoFar known (source_of rem a) a.state xs n → ReadRecord rem a b true f → RecordRefused (total_of xs) f x
+-- a record that was not taken
+pub read-refused : {R : Type 0} (rem : R → Option (List ℕ)) (a b : Reader R) (f : Fields) (known : Option (List ℕ))
+    (xs : List Entry) (n : ℕ) (x : RecordFault)
+    → a.config ≡ default_config → ReadSoFar known (source_of rem a) a.state xs n → ReadRecord rem a b true f
+    → RecordRefused (total_of xs) f x
     → ReadRefused known (numbered (n + 1) x)
 read-refused rem a b f known xs n (fault.Bad c) config h r j = read-bad rem a b f known xs n c config h r j
 read-refused rem a b f known xs n fault.Memory config h r j = tt

@@ -9,8 +9,10 @@ use Rattle.std.specs.Result.{result_unwrap_or}
 use Rattle.heavy.specs.Sinks.{take_fails}
 
 -- the first w bytes, and then the first n of the others
-pub takes-more : (a b c : Option (List ℕ)) (bytes : List ℕ) (w n : ℕ) → Appends a b (take w bytes) → Appends b c (take n (drop w bytes)) → Appends a c (take (w + n) bytes)
-takes-more a b c bytes w n f g = rw (take-add w n bytes) (Appends-trans a b c (take w bytes) (take n (drop w bytes)) f g)
+pub takes-more : (a b c : Option (List ℕ)) (bytes : List ℕ) (w n : ℕ) → Appends a b (take w bytes)
+    → Appends b c (take n (drop w bytes)) → Appends a c (take (w + n) bytes)
+takes-more a b c bytes w n f g =
+    rw (take-add w n bytes) (Appends-trans a b c (take w bytes) (take n (drop w bytes)) f g)
 
 -- one call of `take` on what is left, which took something
 pub take-step : {E : Type 0} (a b c : Option (List ℕ)) (bytes rest : List ℕ) (w n : ℕ) (r : Result ℕ E) (f0 f1 : Bool)

@@ -40,13 +40,16 @@ plain_digits [] h = refl
 plain_digits (d ∷ ds) h = rw (plain_digit d h.0) (plain_digits ds h.1)
 
 is_digit-digit : (d : ℕ) → d < 10 → is_digit (48 + d) ≡ true
-is_digit-digit d l = let low : nat_le 48 (48 + d) ≡ true = grind (arith, nat_tests) in let high : nat_le (48 + d) 57 ≡ true = grind (arith, nat_tests, l) in rw (low, high) refl
+is_digit-digit d l =
+    let low : nat_le 48 (48 + d) ≡ true = grind (arith, nat_tests) in
+    let high : nat_le (48 + d) 57 ≡ true = grind (arith, nat_tests, l) in rw (low, high) refl
 
 all_digits : (ds : List ℕ) → AllBelowBase 10 ds → list_all is_digit (map (λ d. 48 + d) ds) ≡ true
 all_digits [] h = refl
 all_digits (d ∷ ds) h = rw (is_digit-digit d h.0) (all_digits ds h.1)
 
-value_after : (a : ℕ) (ds : List ℕ) → fold (λ a d. a * 10 + (d - 48)) a (map (λ d. 48 + d) ds) ≡ number_from_digits_after 10 a ds
+value_after : (a : ℕ) (ds : List ℕ)
+    → fold (λ a d. a * 10 + (d - 48)) a (map (λ d. 48 + d) ds) ≡ number_from_digits_after 10 a ds
 value_after a [] = refl
 value_after a (d ∷ ds) =
     let step : a * 10 + (48 + d - 48) ≡ a * 10 + d = omega arith in
@@ -63,8 +66,10 @@ written n some fits =
     let ds = digits_of 10 n in
     let below = all_below_base_digits_of 10 n (omega arith) in
     let text = decimal-digits_of n some (omega (arith, fits)) in
-    let none : (length (decimal n) == 0) ≡ false = ne_eqb (length (decimal n)) 0 (λ e. omega (arith, e, decimal_nonempty n (omega (arith, fits)))) in
-    let long : length (decimal n) ≤ 20 = rw (text, length-map ds (λ d. 48 + d)) (length-digits_of-le 10 20 n (omega arith) (omega (arith, fits))) in
+    let none : (length (decimal n) == 0) ≡ false =
+    ne_eqb (length (decimal n)) 0 (λ e. omega (arith, e, decimal_nonempty n (omega (arith, fits)))) in
+    let long : length (decimal n) ≤ 20 =
+    rw (text, length-map ds (λ d. 48 + d)) (length-digits_of-le 10 20 n (omega arith) (omega (arith, fits))) in
     let few : nat_le (length (decimal n)) 20 ≡ true = grind (arith, nat_tests, long) in
     let digits : list_all is_digit (decimal n) ≡ true = rw text (all_digits ds below) in
     record {
@@ -81,15 +86,20 @@ fields_of e = e.0 ∷ decimal e.1 ∷ []
 record Reads (es : List Entry) (t : List ℕ) : Type 0 where
   pub long : length es ≤ length t
   pub gives : (m n : ℕ) → m ≡ length es + n → (tail : List ℕ)
-      → records_from default_config m st.StartRecord (t ++ tail) ≡ map fields_of es ++ records_from default_config n st.StartRecord tail
+      → records_from default_config m st.StartRecord (t ++ tail)
+      ≡ map fields_of es ++ records_from default_config n st.StartRecord tail
 
 reads_none : Reads [] []
 reads_none = record {
   long = omega arith;
-  gives = λ m n is tail. let same : m ≡ n = omega (arith, is) in ap (λ k. records_from default_config k st.StartRecord tail) same;
+  gives = λ m n is tail. let same : m ≡ n = omega (arith, is) in
+      ap (λ k. records_from default_config k st.StartRecord tail) same;
 }
 
-reads_one : (e : Entry) (t : List ℕ) → 1 ≤ length t → ((tail : List ℕ) → next_record default_config st.StartRecord [] [] (t ++ tail) ≡ Some (fields_of e, st.StartRecord, tail)) → Reads (e ∷ []) t
+reads_one : (e : Entry) (t : List ℕ) → 1 ≤ length t
+    → ((tail : List ℕ)
+    → next_record default_config st.StartRecord [] [] (t ++ tail) ≡ Some (fields_of e, st.StartRecord, tail))
+    → Reads (e ∷ []) t
 unfolding records_from
 reads_one e t some next = record {
   long = some;
@@ -104,7 +114,8 @@ reads_both es fs t u h g = record {
       ∙ h.gives m (length fs + n) (omega (arith, is, length-append es fs)) (u ++ tail)
       ∙ ap (λ (rs : List Fields). map fields_of es ++ rs) (g.gives (length fs + n) n refl tail)
       ∙ sym (append_assoc (map fields_of es) (map fields_of fs) (records_from default_config n st.StartRecord tail))
-      ∙ ap (λ (rs : List Fields). rs ++ records_from default_config n st.StartRecord tail) (sym (map-append fields_of es fs));
+      ∙ ap (λ (rs : List Fields). rs ++ records_from default_config n st.StartRecord tail)
+      (sym (map-append fields_of es fs));
 }
 
 -- what stands behind the key of a row
@@ -124,10 +135,12 @@ reads_row : (e : Entry) → Reads (e ∷ []) (row_of e)
 reads_row e =
     let k = field_text default_writer e.0 in
     let begins = row_begins e [] in
-    let long : 1 ≤ length (row_of e) = omega (arith, ap length (append-nil (row_of e)), ap length begins, length-append k (44 ∷ row_rest e [])) in
+    let long : 1 ≤ length (row_of e) =
+    omega (arith, ap length (append-nil (row_of e)), ap length begins, length-append k (44 ∷ row_rest e [])) in
     reads_one e (row_of e) long (λ tail. read-write-many e.0 (decimal e.1) [] tail)
 
-quoted_begins : (e : Entry) (tail : List ℕ) → quoted_row_of e ++ tail ≡ 34 ∷ (escaped default_writer e.0 ++ (34 ∷ 44 ∷ (decimal e.1 ++ (10 ∷ tail))))
+quoted_begins : (e : Entry) (tail : List ℕ)
+    → quoted_row_of e ++ tail ≡ 34 ∷ (escaped default_writer e.0 ++ (34 ∷ 44 ∷ (decimal e.1 ++ (10 ∷ tail))))
 quoted_begins e tail =
     let k = escaped default_writer e.0 in
     let d = decimal e.1 in
@@ -139,7 +152,8 @@ reads_quoted : (e : Entry) → IsWritten e.1 → Reads (e ∷ []) (quoted_row_of
 unfolding next_record fields_text
 reads_quoted e w = reads_one e (quoted_row_of e) (omega arith) (λ tail.
     let d = decimal e.1 in
-    let weight : fields_text default_writer (d ∷ []) ++ (10 ∷ tail) ≡ 44 ∷ (d ++ (10 ∷ tail)) = rw w.plain (ap (λ (u : List ℕ). 44 ∷ (u ++ (10 ∷ tail))) (append-nil d)) in
+    let weight : fields_text default_writer (d ∷ []) ++ (10 ∷ tail) ≡ 44 ∷ (d ++ (10 ∷ tail)) =
+    rw w.plain (ap (λ (u : List ℕ). 44 ∷ (u ++ (10 ∷ tail))) (append-nil d)) in
     ap (next_record default_config st.StartRecord [] []) (quoted_begins e tail)
     ∙ quoted-run [] [] e.0 (44 ∷ (d ++ (10 ∷ tail)))
     ∙ after-quote-same [] e.0 44 (d ++ (10 ∷ tail)) refl
@@ -164,9 +178,12 @@ reads_condensed : (es : List Entry) → AllByRecursion IsReadable es → Reads e
 reads_condensed [] h = reads_none
 reads_condensed (e ∷ es) h = reads_both (e ∷ []) es (first_row_of e) (rows_of es) (reads_first e h.0.2) (reads_rows es)
 
-reads_parts : (parts : List (List Entry)) → AllByRecursion (AllByRecursion IsReadable) parts → Reads (whole_of parts) (flat_map condensed_text parts)
+reads_parts : (parts : List (List Entry)) → AllByRecursion (AllByRecursion IsReadable) parts
+    → Reads (whole_of parts) (flat_map condensed_text parts)
 reads_parts [] h = reads_none
-reads_parts (es ∷ parts) h = reads_both es (whole_of parts) (condensed_text es) (flat_map condensed_text parts) (reads_condensed es h.0) (reads_parts parts h.1)
+reads_parts (es ∷ parts) h =
+    reads_both es (whole_of parts) (condensed_text es) (flat_map condensed_text parts) (reads_condensed es h.0)
+    (reads_parts parts h.1)
 
 -- ---- no byte order mark is taken off
 strip_other : (a : ℕ) (t : List ℕ) → (a == 0xEF) ≡ false → strip_bom (a ∷ t) ≡ a ∷ t
@@ -191,7 +208,8 @@ strip_key (a ∷ []) t h = second a t (a == 0xEF) refl
     second a (c ∷ t) true e = rw e refl
 strip_key (a ∷ b ∷ []) t h = third a b t (a == 0xEF) (b == 0xBB) refl refl
   where
-    third : (a b : ℕ) (t : List ℕ) (f g : Bool) → (a == 0xEF) ≡ f → (b == 0xBB) ≡ g → strip_bom (a ∷ b ∷ 44 ∷ t) ≡ a ∷ b ∷ 44 ∷ t
+    third : (a b : ℕ) (t : List ℕ) (f g : Bool) → (a == 0xEF) ≡ f → (b == 0xBB) ≡ g
+        → strip_bom (a ∷ b ∷ 44 ∷ t) ≡ a ∷ b ∷ 44 ∷ t
     third a b t false g e i = strip_other a (b ∷ 44 ∷ t) e
     third a b t true false e i = rw (e, i) refl
     third a b t true true e i = rw (e, i) refl
@@ -202,15 +220,19 @@ strip_row e tail h =
     let begins = row_begins e tail in
     ap strip_bom begins ∙ by (list_any (needs_byte default_writer) e.0) refl ∙ sym begins
   where
-    by : (b : Bool) → list_any (needs_byte default_writer) e.0 ≡ b → strip_bom (field_text default_writer e.0 ++ (44 ∷ row_rest e tail)) ≡ field_text default_writer e.0 ++ (44 ∷ row_rest e tail)
+    by : (b : Bool) → list_any (needs_byte default_writer) e.0 ≡ b
+        → strip_bom (field_text default_writer e.0 ++ (44 ∷ row_rest e tail))
+        ≡ field_text default_writer e.0 ++ (44 ∷ row_rest e tail)
     by true needs = rw needs (strip_other 34 ((escaped default_writer e.0 ++ (34 ∷ [])) ++ (44 ∷ row_rest e tail)) refl)
     by false plain = rw plain (strip_key e.0 (row_rest e tail) h)
 
 strip_first : (e : Entry) (tail : List ℕ) → strip_bom (first_row_of e ++ tail) ≡ first_row_of e ++ tail
-strip_first e tail = elim (begins_with_mark e.0) as (λ b. begins_with_mark e.0 ≡ b → strip_bom ((if b then quoted_row_of e else row_of e) ++ tail) ≡ (if b then quoted_row_of e else row_of e) ++ tail) [
-  | true ↦ λ h. let begins = quoted_begins e tail in ap strip_bom begins ∙ strip_other 34 _ refl ∙ sym begins
-  | false ↦ strip_row e tail
-] refl
+strip_first e tail = elim (begins_with_mark e.0) as (λ b. begins_with_mark e.0 ≡ b
+    → strip_bom ((if b then quoted_row_of e else row_of e) ++ tail)
+    ≡ (if b then quoted_row_of e else row_of e) ++ tail) [
+      | true ↦ λ h. let begins = quoted_begins e tail in ap strip_bom begins ∙ strip_other 34 _ refl ∙ sym begins
+      | false ↦ strip_row e tail
+    ] refl
 
 strip_parts : (parts : List (List Entry)) → strip_bom (flat_map condensed_text parts) ≡ flat_map condensed_text parts
 unfolding strip_bom
@@ -221,7 +243,8 @@ strip_parts ((e ∷ es) ∷ parts) =
     ap strip_bom begins ∙ strip_first e (rows_of es ++ flat_map condensed_text parts) ∙ sym begins
 
 -- ---- records, taken as items
-judged_item : (t : ℕ) (e : Entry) → IsKey e.0 → 0 < e.1 → IsWritten e.1 → t + e.1 ≤ max_total → judged t (fields_of e) ≡ Ok e
+judged_item : (t : ℕ) (e : Entry) → IsKey e.0 → 0 < e.1 → IsWritten e.1 → t + e.1 ≤ max_total
+    → judged t (fields_of e) ≡ Ok e
 judged_item t e key some w fits =
     let size : (length e.0 == 0) ≡ false = ne_eqb (length e.0) 0 (λ z. omega (arith, z, key.some)) in
     let few : nat_le (length e.0) max_key_len ≡ true = grind (arith, nat_tests, key.few) in
@@ -229,7 +252,8 @@ judged_item t e key some w fits =
     let room : nat_le (t + e.1) max_total ≡ true = grind (arith, nat_tests, fits) in
     rw (size, few, w.weight, w.value, weight, room) refl
 
-items_read : (n : ℕ) (xs es : List Entry) → AllByRecursion IsReadable es → total_of xs + total_of es ≤ max_total → items_from n xs (map fields_of es) ≡ Ok (xs ++ es)
+items_read : (n : ℕ) (xs es : List Entry) → AllByRecursion IsReadable es → total_of xs + total_of es ≤ max_total
+    → items_from n xs (map fields_of es) ≡ Ok (xs ++ es)
 unfolding items_from
 items_read n xs [] h l = ap Ok (sym (append-nil xs))
 items_read n xs (e ∷ es) h l =
@@ -242,13 +266,16 @@ items_read n xs (e ∷ es) h l =
     ∙ ap Ok (append_assoc xs (e ∷ []) es)
 
 -- ---- all parts together
-readable : (es : List Entry) → AllByRecursion (λ (e : Entry). IsKey e.0) es → AllByRecursion (λ (e : Entry). 0 < e.1) es → total_of es ≤ max_total → AllByRecursion IsReadable es
+readable : (es : List Entry) → AllByRecursion (λ (e : Entry). IsKey e.0) es → AllByRecursion (λ (e : Entry). 0 < e.1) es
+    → total_of es ≤ max_total → AllByRecursion IsReadable es
 readable [] keys weights l = tt
 readable (e ∷ es) keys weights l =
     let cons = sum_by-cons (λ (e : Entry). e.1) e es in
-    ((keys.0, weights.0, written e.1 weights.0 (omega (arith, l, cons))), readable es keys.1 weights.1 (omega (arith, l, cons)))
+    let one = written e.1 weights.0 (omega (arith, l, cons)) in
+    ((keys.0, weights.0, one), readable es keys.1 weights.1 (omega (arith, l, cons)))
 
-readable_parts : (parts : List (List Entry)) → AllByRecursion AreItems parts → total_of (whole_of parts) ≤ max_total → AllByRecursion (AllByRecursion IsReadable) parts
+readable_parts : (parts : List (List Entry)) → AllByRecursion AreItems parts → total_of (whole_of parts) ≤ max_total
+    → AllByRecursion (AllByRecursion IsReadable) parts
 readable_parts [] h l = tt
 readable_parts (es ∷ parts) h l =
     let both = sum_by-append (λ (e : Entry). e.1) es (whole_of parts) in (
@@ -256,11 +283,13 @@ readable_parts (es ∷ parts) h l =
       readable_parts parts h.1 (omega (arith, l, both)),
     )
 
-readable_both : (es fs : List Entry) → AllByRecursion IsReadable es → AllByRecursion IsReadable fs → AllByRecursion IsReadable (es ++ fs)
+readable_both : (es fs : List Entry) → AllByRecursion IsReadable es → AllByRecursion IsReadable fs
+    → AllByRecursion IsReadable (es ++ fs)
 readable_both [] fs h g = g
 readable_both (e ∷ es) fs h g = (h.0, readable_both es fs h.1 g)
 
-readable_whole : (parts : List (List Entry)) → AllByRecursion (AllByRecursion IsReadable) parts → AllByRecursion IsReadable (whole_of parts)
+readable_whole : (parts : List (List Entry)) → AllByRecursion (AllByRecursion IsReadable) parts
+    → AllByRecursion IsReadable (whole_of parts)
 readable_whole [] h = tt
 readable_whole (es ∷ parts) h = readable_both es (whole_of parts) h.0 (readable_whole parts h.1)
 
@@ -270,7 +299,8 @@ at_end zero = refl
 at_end (suc n) = refl
 
 -- the rows of all parts are read as their entries
-rows_are_read : (parts : List (List Entry)) → AllByRecursion AreItems parts → total_of (whole_of parts) ≤ max_total → stream_of (flat_map condensed_text parts) ≡ Ok (whole_of parts)
+rows_are_read : (parts : List (List Entry)) → AllByRecursion AreItems parts → total_of (whole_of parts) ≤ max_total
+    → stream_of (flat_map condensed_text parts) ≡ Ok (whole_of parts)
 rows_are_read parts h l =
     let t = flat_map condensed_text parts in
     let es = whole_of parts in
@@ -287,11 +317,13 @@ rows_are_read parts h l =
     ∙ items_read 1 [] es (readable_whole parts all) (omega (arith, l))
 
 module _ (keeps : CondensedKeepsWeights) (items : CondensedAreItems) (c : Counters) where
-  condensed_items : (parts : List (List Entry)) → length c ≤ max_k → AllByRecursion AreItems parts → AllByRecursion AreItems (map (condensed c) parts)
+  condensed_items : (parts : List (List Entry)) → length c ≤ max_k → AllByRecursion AreItems parts
+      → AllByRecursion AreItems (map (condensed c) parts)
   condensed_items [] few h = tt
   condensed_items (xs ∷ parts) few h = (((items c xs).1 few h.0.0, (items c xs).0 h.0.1), condensed_items parts few h.1)
 
-  condensed_total : (parts : List (List Entry)) → total_of (whole_of (map (condensed c) parts)) ≡ total_of (whole_of parts)
+  condensed_total : (parts : List (List Entry))
+      → total_of (whole_of (map (condensed c) parts)) ≡ total_of (whole_of parts)
   condensed_total [] = refl
   condensed_total (xs ∷ parts) = omega (
     arith,

@@ -116,17 +116,23 @@ abbrev pub unless : {X : Type 0} → Option ToolError → X → Result X ToolErr
 unless None x = Ok x
 unless (Some e) x = Err e
 
--- the rows of all keys, or the first refusal: of the file, and then of the keys
+-- the value of the file, or the first refusal: of the file, and then of the keys
+abbrev pub asked : List ℕ → List Bytes → Result Saved ToolError
+asked file keys = do
+  v ← file_of 1 file
+  unless (bad_key 1 keys) v
+
+-- the rows of all keys, or the first refusal
 abbrev pub answers : List ℕ → List Bytes → Result (List ℕ) ToolError
 answers file keys = do
-  v ← file_of 1 file
-  unless (bad_key 1 keys) (answer_rows v keys)
+  v ← asked file keys
+  Ok (answer_rows v keys)
 
--- the two numbers of each key, or the first refusal: of the file, and then of the keys
+-- the two numbers of each key, or the first refusal
 abbrev pub answers_of : List ℕ → List Bytes → Result (List (ℕ × ℕ)) ToolError
 answers_of file keys = do
-  v ← file_of 1 file
-  unless (bad_key 1 keys) (map (answer_of v) keys)
+  v ← asked file keys
+  Ok (map (answer_of v) keys)
 
 -- the two numbers of one key, or the first refusal: of the file, and then of the key
 abbrev pub answer : List ℕ → Bytes → Result (ℕ × ℕ) ToolError

@@ -5,7 +5,7 @@ ghost use Rattle.std.specs.List.{flat_map};
 ghost use Rattle.std.specs.Io.KnownBytes.{Appends};
 ghost use Rattle.csv.specs.Writing.{text_written};
 ghost use Rattle.hh_stream.specs.Weights.{max_key_len};
-ghost use Rattle.heavy.specs.Files.{Refuses, answer, answer_of, answer_row, answers, answers_of, bad_key, key_fault};
+ghost use Rattle.heavy.specs.Files.{Refuses, answer, answer_of, answer_row, answers, answers_of, asked, bad_key, file_of, key_fault};
 ghost use Rattle.heavy.specs.Rows.{IsBetweenRows};
 
 use crate::error::{KeyCause, ToolError};
@@ -32,16 +32,17 @@ fn check_key(number: u64, word: &[u8]) -> Result<(), ToolError>
     Err(ToolError::BadKey { number, cause })
 }
 
-/// Tests the words, which are numbered from 1.
-fn check_keys(words: &[Vec<u8>]) -> Result<(), ToolError>
-    ensures { MatchResult result
-        (λ _. bad_key 1 (map vec_items words.now) ≡ None)
-        (λ fault. bad_key 1 (map vec_items words.now) ≡ Some fault) }
+/// The value of a file, where the file and then the words, numbered from 1, pass their tests.
+fn asked(alloc: Global, file: &[u8], words: &[Vec<u8>]) -> Result<Saved, ToolError>
+    ensures value { IfOk result (λ saved. file_of 1 file.now ≡ Ok saved) }
+    ensures keys { OnOk result (bad_key 1 (map vec_items words.now) ≡ None) }
+    ensures refused { IfErr result (Refuses (asked file.now (map vec_items words.now))) }
 {
+    let saved = file_of(alloc, 1, file)?;
     for i in 0..words.len() {
         check_key(i as u64 + 1, &words[i])?;
     }
-    Ok(())
+    Ok(saved)
 }
 
 /// The least and the most that a key's weight can be.
@@ -103,8 +104,7 @@ pub fn ask_bytes(alloc: Global, file: &[u8], keys: &[Vec<u8>]) -> Result<Vec<u8>
     ensures refused { IfErr result (λ fault.
         Refuses (answers file.now (map vec_items keys.now)) fault) }
 {
-    let saved = file_of(alloc, 1, file)?;
-    check_keys(keys)?;
+    let saved = asked(alloc, file, keys)?;
     Ok(answers_text(alloc, &saved, keys)?)
 }
 
@@ -134,8 +134,7 @@ pub fn ask_keys(alloc: Global, file: &[u8], keys: &[Vec<u8>]) -> Result<Vec<(u64
     ensures refused { IfErr result (λ fault.
         Refuses (answers_of file.now (map vec_items keys.now)) fault) }
 {
-    let saved = file_of(alloc, 1, file)?;
-    check_keys(keys)?;
+    let saved = asked(alloc, file, keys)?;
     Ok(answers_of(alloc, &saved, keys)?)
 }
 

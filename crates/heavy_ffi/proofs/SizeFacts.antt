@@ -7,12 +7,14 @@ use Rattle.heavy.specs.Saving.{bad_table}
 use Rattle.heavy.specs.declared.error.ToolError.{ToolError}
 
 -- what holds of an answer that came, by two clauses
-pub came : {X : Type 0} (r : Result X ToolError) {P Q : X → Type 0} → IfOk r P → IsOkAnd r Q → (x : X) × P x × Q x × (r ≡ Ok x)
+pub came : {X : Type 0} (r : Result X ToolError) {P Q : X → Type 0} → IfOk r P → IsOkAnd r Q
+    → (x : X) × P x × Q x × (r ≡ Ok x)
 came (Ok x) p q = (x, p, q, refl)
 came (Err e) p q = absurd q
 
 -- no test failed before an answer that came
-pub passed : {X : Type 0} (o : Option ToolError) (r : Result X ToolError) (x : X) → IfSome o (λ fault. r ≡ Err fault) → r ≡ Ok x → o ≡ None
+pub passed : {X : Type 0} (o : Option ToolError) (r : Result X ToolError) (x : X) → IfSome o (λ fault. r ≡ Err fault)
+    → r ≡ Ok x → o ≡ None
 passed None r x h e = refl
 passed (Some fault) r x h e = absurd cc
 

@@ -128,10 +128,8 @@ fn merge_parts(alloc: Global, files: &[u8], lengths: &[usize]) -> Result<Vec<u8>
         IsMergeOf (pieces_of lengths.now files.now) bytes.items) }
     ensures refused { IfErr result (Refuses (merged_files (pieces_of lengths.now files.now))) }
 {
-    match files_of(alloc, files, lengths) {
-        Ok(files) => merge_bytes(alloc, &files),
-        Err(_) => Err(ToolError::Memory),
-    }
+    let files = files_of(alloc, files, lengths)?;
+    merge_bytes(alloc, &files)
 }
 
 /// Gives the merge of saved files, which lie one after the other and have these lengths, with the
@@ -262,14 +260,9 @@ fn bounds_of(
     ensures refused { IfErr result
         (Refuses (answers_of file.now (pieces_of lengths.now keys.now))) }
 {
-    let Ok(keys) = files_of(alloc, keys, lengths) else {
-        return Err(ToolError::Memory);
-    };
+    let keys = files_of(alloc, keys, lengths)?;
     let pairs = ask_keys(alloc, file, &keys)?;
-    match all_bounds(alloc, &pairs) {
-        Ok(all) => Ok(all),
-        Err(_) => Err(ToolError::Memory),
-    }
+    Ok(all_bounds(alloc, &pairs)?)
 }
 
 /// Gives for each of many keys what `heavy_ask` gives, in their order. They lie one after the other

@@ -6,4 +6,5 @@ use Rattle.heavy.proofs.ask.answers_text.Goals as goal
 pub of_bytes-requires : goal.of_bytes-requires
 of_bytes-requires c =
     let word = c.deref.ensures.value ∙ ap vec_items c.word-item.is in
-    subst IsKeyLength (sym word) (word_passes vec_items c.args.words.now c.loop-word.word-index c.word-item.result c.loop-word-test.true c.requires)
+    subst IsKeyLength (sym word)
+    (word_passes vec_items c.args.words.now _ c.word-item.result c.loop-word-test.true c.requires)

@@ -7,4 +7,5 @@ use Rattle.heavy.proofs.ask.answers_text.Given as goal
 
 abbrev pub invariant-loop-word : goal.invariant-loop-word
 invariant-loop-word l = IsBetweenRows l.writer
-    × (text_written (λ text. Some text.items) l.writer ≡ Some (flat_map (λ word. answer_row l.saved word.items) (take l.word-index l.words)))
+    × (text_written (λ text. Some text.items) l.writer
+    ≡ Some (flat_map (λ word. answer_row l.saved word.items) (take l.word-index l.words)))

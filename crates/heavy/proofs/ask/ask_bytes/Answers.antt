@@ -9,4 +9,4 @@ returns-clause-rows c =
     let saved = c.in_ok-saved.saved in
     let rows : c.in_ok-answers_text.field-0.items ≡ answer_rows saved (map vec_items c.args.keys.now) =
     c.in_ok-answers_text.ensures ∙ sym (flat_map-map (answer_row saved) vec_items c.args.keys.now) in
-    rw (rows, c.in_ok-saved.ensures.value, c.in_ok-check_keys.ensures) refl
+    rw (rows, c.in_ok-saved.ensures.value, c.in_ok-saved.ensures.keys) refl

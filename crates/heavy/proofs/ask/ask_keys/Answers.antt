@@ -9,4 +9,4 @@ returns-clause-bounds c =
     let saved = c.in_ok-saved.saved in
     let pairs : c.in_ok-answers_of.field-0.items ≡ map (answer_of saved) (map vec_items c.args.keys.now) =
     c.in_ok-answers_of.ensures ∙ sym (map-map (answer_of saved) vec_items c.args.keys.now) in
-    rw (pairs, c.in_ok-saved.ensures.value, c.in_ok-check_keys.ensures) refl
+    rw (pairs, c.in_ok-saved.ensures.value, c.in_ok-saved.ensures.keys) refl

@@ -10,7 +10,13 @@ returns c =
     let name : c.as_slice.result.now ≡ other_name c.args.number =
     c.as_slice.ensures.value ∙ elim c.if-number-gt0.branch [
       | then-number-gt0+in_ok-extend_from_slice w ↦
-          rw (w.name-is, w.in_ok-extend_from_slice.ensures.items, c.in_ok-name.ensures.items, w.as_bytes.ensures.value, w.format.ensures.text)
+          rw (
+            w.name-is,
+            w.in_ok-extend_from_slice.ensures.items,
+            c.in_ok-name.ensures.items,
+            w.as_bytes.ensures.value,
+            w.format.ensures.text,
+          )
           (numbered_name c.args.number w.if-number-gt0.true c.ranges.number.fits)
       | else-number-gt0 w ↦ rw (w.name-is, c.in_ok-name.ensures.items) (plain_name c.args.number w.if-number-gt0.false)
     ] in

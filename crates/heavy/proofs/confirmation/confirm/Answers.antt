@@ -9,4 +9,5 @@ returns-clause-rows c =
     let xs = c.args.stream.now in
     let keys = keys_of c.args.summary.now.counters in
     c.in_ok-heavy_rows.ensures xs
-    (c.add_stream.ensures ∙ ap (λ (n : Count). counted_on n xs) c.in_ok-counts.ensures.none ∙ count-more c.counts_add_up.ensures keys [] xs)
+    (c.add_stream.ensures ∙ ap (λ (n : Count). counted_on n xs) c.in_ok-counts.ensures.none
+    ∙ count-more c.counts_add_up.ensures keys [] xs)

@@ -10,10 +10,13 @@ returns-clause-parts c = λ s parts ys perm.
     (both.0, both.1 1 (s.k + 1))
 
 pub returns-clause-honest : goal.returns-clause-honest
-returns-clause-honest c = λ s parts xs ys honest whole perm. c.condensed_parts_suffice.ensures.report s.counters parts xs ys s.k 1 (s.k + 1) whole perm honest (omega arith)
+returns-clause-honest c =
+    λ s parts xs ys honest whole perm. c.condensed_parts_suffice.ensures.report s.counters parts xs ys s.k 1 (s.k + 1)
+    whole perm honest (omega arith)
 
 pub returns-clause-trees : goal.returns-clause-trees
 returns-clause-trees c = λ t s parts xs ys whole tree is perm. (
-  (c.condensed_parts_suffice.ensures.parts s.counters parts ys perm).0 ∙ sym (sum_by-IsPermutation (λ (e : Entry). e.1) (whole_of parts) xs whole),
+  (c.condensed_parts_suffice.ensures.parts s.counters parts ys perm).0
+      ∙ sym (sum_by-IsPermutation (λ (e : Entry). e.1) (whole_of parts) xs whole),
   c.parts_report_by_any_tree.ensures t parts s.counters xs ys s.k tree is whole perm,
 )

@@ -8,13 +8,15 @@ returns-in-Ok c =
     let one = c.equal_families_are_one.ensures c.args.table.now.family c.args.other.now.family in
     rw e.merged
     (cells-merged c.args.number c.args.table.now c.args.other.now one
-    (λ h. ok-no_err (e.different_family.1 h)) (λ h. ok-no_err (e.different_width.1 h)) (λ h. ok-no_err (e.too_large.1 h)))
+    (λ h. ok-no_err (e.different_family.1 h)) (λ h. ok-no_err (e.different_width.1 h))
+    (λ h. ok-no_err (e.too_large.1 h)))
 
 pub returns-in-Err-DifferentFamily : goal.returns-in-Err-DifferentFamily
 returns-in-Err-DifferentFamily c =
     let one = c.equal_families_are_one.ensures c.args.table.now.family c.args.other.now.family in
     let arm = c.in-Err-DifferentFamily in
-    cells-other_family c.args.number c.args.table.now c.args.other.now one (arm.ensures.different_family.0 (ap Err arm.field-0-is))
+    cells-other_family c.args.number c.args.table.now c.args.other.now one
+    (arm.ensures.different_family.0 (ap Err arm.field-0-is))
 
 pub returns-in-Err-DifferentWidth : goal.returns-in-Err-DifferentWidth
 returns-in-Err-DifferentWidth c =

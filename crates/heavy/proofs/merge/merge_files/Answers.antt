@@ -19,10 +19,12 @@ returns-in_err-next-clause-refused c =
 
 pub returns-in_err-merge_saved-clause-refused : goal.returns-in_err-merge_saved-clause-refused
 returns-in_err-merge_saved-clause-refused c =
-    let p = err_from_is_err_and c.from_residual-in_err-merge_saved.result c.from_residual-in_err-merge_saved.ensures.1 in
+    let p =
+    err_from_is_err_and c.from_residual-in_err-merge_saved.result c.from_residual-in_err-merge_saved.ensures.1 in
     let is = c.deref-in-loop-i.ensures.value ∙ ap vec_items c.index-files-i.is in
     rw (p.1, p.2) (merge_stops vec_items c.args.files.now c.loop-i.i c.index-files-i.result _ is c.loop-i-test.true
-    c.loop-i.merged _ c.loop-i.invariant c.in_err-merge_saved.field-0.0 c.in_ok-next.ensures.value c.in_err-merge_saved.ensures.refused)
+    c.loop-i.merged _ c.loop-i.invariant c.in_err-merge_saved.field-0.0 c.in_ok-next.ensures.value
+    c.in_err-merge_saved.ensures.refused)
 
 pub returns-clause-merged : goal.returns-clause-merged
 returns-clause-merged c =

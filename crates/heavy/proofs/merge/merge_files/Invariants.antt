@@ -5,4 +5,5 @@ use Rattle.heavy.proofs.merge.merge_files.Given as goal
 
 -- what is still to merge gives all
 abbrev pub invariant-loop-i : goal.invariant-loop-i
-invariant-loop-i l = merged_from (l.i + 1) l.merged (drop l.i (map vec_items l.files)) ≡ merged_files (map vec_items l.files)
+invariant-loop-i l =
+    merged_from (l.i + 1) l.merged (drop l.i (map vec_items l.files)) ≡ merged_files (map vec_items l.files)

@@ -42,7 +42,8 @@ loop-taker-preserved g c =
         xs ++ item ∷ [],
         sum_by_push (λ (d : Entry). d.1) xs item ∙ ap (λ n. n + item.1) total ∙ sym more,
         on c.args.taker xs made,
-        read-more g.R.Read.remaining c.loop-taker.records c.read_byte_record.new.self _ _ xs _ item inv.3 so_far r (rw (← total) at good),
+        read-more g.R.Read.remaining c.loop-taker.records c.read_byte_record.new.self _ _ xs _ item inv.3 so_far r
+            (rw (← total) at good),
       ),
     )
 
@@ -51,4 +52,6 @@ returns-in-Err-take_record-clause-refused g c =
     let inv = c.loop-taker.invariant in
     let (xs, total, made, so_far) = inv.6 in
     let r = rw c.in-Ok-true.field-0-test at (c.in-Ok-true.ensures.reads inv.0 inv.1) in
-    rw c.numbered.ensures (read-refused g.R.Read.remaining c.loop-taker.records c.read_byte_record.new.self _ _ xs _ _ inv.3 so_far r (rw (← total) at c.in-Err-take_record.ensures.refused))
+    rw c.numbered.ensures
+    (read-refused g.R.Read.remaining c.loop-taker.records c.read_byte_record.new.self _ _ xs _ _ inv.3 so_far r
+    (rw (← total) at c.in-Err-take_record.ensures.refused))

@@ -10,7 +10,8 @@ invariant-loop-taker g l = (reader_trim l.records ≡ trim.None) × Ready l.reco
     × (reader_config l.records ≡ default_config)
     × (l.number ≤ g.T.TakeItems.weight_taken l.taker) × (g.T.TakeItems.weight_taken l.taker ≤ max_total)
     × ((xs : List Entry) × (total_of xs ≡ g.T.TakeItems.weight_taken l.taker) × g.T.TakeItems.made l.fn.taker xs l.taker
-    × ReadSoFar (g.R.Read.remaining l.fn.reader) (source_of g.R.Read.remaining l.records) (reader_state l.records) xs l.number)
+    × ReadSoFar (g.R.Read.remaining l.fn.reader) (source_of g.R.Read.remaining l.records) (reader_state l.records) xs
+    l.number)
 
 abbrev pub decreases-loop-taker : goal.decreases-loop-taker
 decreases-loop-taker g l = max_total - g.T.TakeItems.weight_taken l.taker

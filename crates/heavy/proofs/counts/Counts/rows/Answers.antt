@@ -35,4 +35,6 @@ returns c =
     let ks = c.self.inside.candidates in
     let ns = c.self.inside.weights.items in
     rw (← c.self.view_is) (c.loop-place.invariant
-    ∙ ap (filter (exceeds 0)) (take_all c.loop-place.place (zip ks ns) (omega (arith, length-zip ks ns, c.loop-place-test.false, c.len-place-end.ensures.len))))
+    ∙ ap (filter (exceeds 0))
+    (take_all c.loop-place.place (zip ks ns)
+    (omega (arith, length-zip ks ns, c.loop-place-test.false, c.len-place-end.ensures.len))))

@@ -4,4 +4,5 @@ use Rattle.hh_counters.specs.Counters.{exceeds}
 use Rattle.heavy.proofs.counts.Counts.rows.Given as goal
 
 abbrev pub invariant-loop-place : goal.invariant-loop-place
-invariant-loop-place l = l.rows.items ≡ filter (exceeds 0) (take l.place (zip l.self-inside.candidates l.self-inside.weights.items))
+invariant-loop-place l =
+    l.rows.items ≡ filter (exceeds 0) (take l.place (zip l.self-inside.candidates l.self-inside.weights.items))
