@@ -125,6 +125,7 @@ pub record IsLeastOf (es : List Entry) (i n : ℕ) : Type 0 where
   pub reached : 0 < i → (x : Bytes) × (lookup (same_key x) es ≡ Some n)
   pub below : (j : ℕ) (d : Entry) → j < i → n ≤ (get_or es j d).1
 
+-- the least number of all entries is the least counter
 pub least_of_all : (es : List Entry) (i n : ℕ) → Distinct es → PositiveAt es → i ≡ length es → IsLeastOf es i n
     → n ≡ least_counter (tally es)
 unfolding tally

@@ -26,6 +26,7 @@ use Rattle.hh_counters.proofs.Positions.{stands, last_place, places_before_last,
 use Rattle.hh_counters.proofs.TakingOver.{without-add_at, monitor_step, monitor_nothing}
 
 -- ---- the view of an index: its tally
+-- no two entries have one key
 abbrev pub Distinct : List Entry → Type 0
 Distinct es = IsDistinct same_key (keys_of es)
 
@@ -33,6 +34,7 @@ Distinct es = IsDistinct same_key (keys_of es)
 abbrev pub PositiveAt : List Entry → Type 0
 PositiveAt es = (q : Bytes) → IfSome (lookup (same_key q) es) (λ m. 0 < m)
 
+-- a key like one that no entry has weighs nothing
 pub none_alike : (q x : Bytes) (es : List Entry) → same_key q x ≡ true
     → AllByRecursion (λ y. same_key x y ≡ false) (keys_of es) → weight_of q es ≡ 0
 none_alike q x [] s h = refl
@@ -41,7 +43,7 @@ none_alike q x (e ∷ es) s h =
     omega (arith, weight_of-cons q e es, other, none_alike q x es s h.1)
 
 -- with distinct keys a weight is what a look-up finds
-pub weight_of-lookup : (q : Bytes) (es : List Entry) → Distinct es
+weight_of-lookup : (q : Bytes) (es : List Entry) → Distinct es
     → weight_of q es ≡ unwrap_or (lookup (same_key q) es) 0
 unfolding IsDistinct
 weight_of-lookup q [] h = refl
@@ -54,6 +56,7 @@ weight_of-lookup q (e ∷ es) h =
           ap (λ b. cond b e.1 0) s in omega (arith, weight_of-cons q e es, other, weight_of-lookup q es h.1)
     ] refl
 
+-- a key's weight in the view of an index is what a look-up finds
 pub weight_of-view : (q : Bytes) (es : List Entry) → Distinct es
     → weight_of q (tally es) ≡ unwrap_or (lookup (same_key q) es) 0
 weight_of-view q es h = weight_of-tally q es ∙ weight_of-lookup q es h
@@ -79,6 +82,7 @@ positive_entries (e ∷ es) h p =
     absent q x (e ∷ es) s h = ap (λ b. cond b (Some e.1) (lookup (same_key q) es))
         (ap (λ z. same_key z e.0) (same_exact q x s) ∙ h.0) ∙ absent q x es s h.1
 
+-- the view of an index is counters
 pub counters-view : (es : List Entry) → Distinct es → PositiveAt es → IsCounters (tally es)
 counters-view es h p = record { rising = rising-tally es; positive = positive-tally es (positive_entries es h p) }
 
@@ -106,16 +110,19 @@ none_yet : (es : List Entry) → AllByRecursion (λ (e : Entry). weight_of e.0 [
 none_yet [] = tt
 none_yet (e ∷ es) = (refl, none_yet es)
 
+-- of as many keys as the index has
 pub length-view : (es : List Entry) → Distinct es → PositiveAt es → length (tally es) ≡ length es
 unfolding tally IsStrictlySortedBy
 length-view es h p =
     omega (arith, length_from [] es (record { rising = tt; positive = tt }) h (positive_entries es h p) (none_yet es))
 
 -- ---- what a look-up finds
+-- a look-up that finds a number finds the weight
 pub found : (es : List Entry) (x : Bytes) (n : ℕ) → Distinct es → lookup (same_key x) es ≡ Some n
     → weight_of x (tally es) ≡ n
 found es x n d f = weight_of-view x es d ∙ ap (λ o. unwrap_or o 0) f
 
+-- a key that a look-up misses weighs nothing
 pub absent : (es : List Entry) (x : Bytes) → Distinct es → lookup (same_key x) es ≡ None → weight_of x (tally es) ≡ 0
 absent es x d f = weight_of-view x es d ∙ ap (λ o. unwrap_or o 0) f
 
@@ -204,7 +211,7 @@ and_false true = refl
 and_false false = refl
 
 -- a key goes from the bucket of n to that of v
-pub agree_moved : (f : Bytes → ℕ) (ks : List Bytes) (b d : Buckets) (x : Bytes) (i n v : ℕ) → 0 < n → n < v → f x ≡ n
+agree_moved : (f : Bytes → ℕ) (ks : List Bytes) (b d : Buckets) (x : Bytes) (i n v : ℕ) → 0 < n → n < v → f x ≡ n
     → position (same_key x) ks ≡ Some i → Agree f ks b → Moves b d n v x i
     → Agree (λ q. cond (same_key x q) v (f q)) ks d
 agree_moved f ks b d x i n v p h at there a m =
@@ -306,7 +313,7 @@ first_with_first (e ∷ s) n z p h at =
     ] refl
 
 -- the first key of the first bucket, where that is the one of its counter, has the least counter and is the key to drop
-pub drop_is : (exact : Bool) (f : Bytes → ℕ) (es : List Entry) (b : Buckets) (n : ℕ) (y : Bytes) (i : ℕ)
+drop_is : (exact : Bool) (f : Bytes → ℕ) (es : List Entry) (b : Buckets) (n : ℕ) (y : Bytes) (i : ℕ)
     → IsStanding exact f es b → 0 < length es → IsSettled es b n i y
     → (least_counter (tally es) ≡ n) × (key_to_drop (tally es) ≡ y)
 drop_is exact f es b n y i old some settled =
@@ -342,6 +349,7 @@ none_first exact (e ∷ es) b stand some none =
     true≢false (sym (subst IsSome (none (stand.0 e.0) e.0) (in_a_bucket exact stand.0 all b e.0 old own)))
 
 -- ---- the ways through an addition
+-- where the key has a counter or one is free, a step adds the item
 pub step_room : (s : Counters) (e : Entry) (k : ℕ) → (0 < weight_of e.0 s) ⊎ (length s ≤ k) → step s e k ≡ add_at s e
 step_room s e k (inl has) =
     let test : nat_lt 0 (weight_of e.0 s) ≡ true = grind (arith, nat_tests, has) in
@@ -491,7 +499,7 @@ pub record IsSwapped (es fs gs : List Entry) (x : Bytes) (i v : ℕ) (o : Option
   pub taken : (e : Entry) → o ≡ Some e → Renumbers fs gs e.0 None
 
 -- what it leaves of an index in which y stood at i
-pub swapped_in : (es fs gs : List Entry) (x y : Bytes) (i v : ℕ) (o : Option Entry)
+swapped_in : (es fs gs : List Entry) (x y : Bytes) (i v : ℕ) (o : Option Entry)
     → position (same_key y) (keys_of es) ≡ Some i → IsSwapped es fs gs x i v o
     → (i < length es) × (keys_of gs ≡ set (keys_of es) i x) × Renumbers fs gs y None
 swapped_in es fs gs x y i v o place s =
@@ -616,6 +624,7 @@ first_settled es b n i stand first =
     let at = held stand.0 (keys_of es) b n first.0 i stand.1.agree first.1.there in
     (first.0, record { first = first.1; counter = sym (stand.1.right refl first.0) ∙ at.0 })
 
+-- the number of the first bucket is the least counter, where none is free
 pub first_is_least : (k : ℕ) (es : List Entry) (b : Buckets) (n i : ℕ) → Stand true es b → k < length es
     → HasFirst b n i
     → n ≡ least_of (tally es) k

@@ -38,12 +38,14 @@ lower_more t es i e l is =
     ∙ ap (λ (d : Counters). lower t (take i es) ++ d) (lower-cons t e []
     ∙ ap (λ (d : Counters). cond (nat_lt t e.1) ((e.0, e.1 - t) ∷ d) d) (lower-nil t))
 
+-- one more entry above the number that is taken away stays, less it
 pub lower_above : (t : ℕ) (es : List Entry) (i : ℕ) (e : Entry) → i < length es → e ≡ get_or es i e → t < e.1
     → lower t (take (i + 1) es) ≡ lower t (take i es) ++ (e.0, e.1 - t) ∷ []
 lower_above t es i e l is above =
     let test : nat_lt t e.1 ≡ true = grind (arith, nat_tests, above) in
     lower_more t es i e l is ∙ ap (λ b. lower t (take i es) ++ cond b ((e.0, e.1 - t) ∷ []) []) test
 
+-- one more that is not above it goes
 pub lower_below : (t : ℕ) (es : List Entry) (i : ℕ) (e : Entry) → i < length es → e ≡ get_or es i e → e.1 ≤ t
     → lower t (take (i + 1) es) ≡ lower t (take i es)
 lower_below t es i e l is below =
@@ -123,6 +125,7 @@ rising_from_sort es ys h perm sorted =
     ap₂ key_cmp first second ∙ ranked_next (key_cmp a b) (key_cmp b a) (key_total.antisymm b a)
     (sorted k d (omega arith) long) (λ e. cc (ap is_eq e, ap₂ same_key first second, differ)))
 
+-- what is left of an index, sorted by key, is what is left of its view
 pub translated_sorted : (t : ℕ) (es ys : List Entry) → Distinct es → IsPermutation (lower t es) ys
     → IsSortedBy (λ x y. is_lt (key_cmp x.0 y.0)) ys → IsStrictlySortedBy key_cmp (keys_of (tally es))
     → ys ≡ lower t (tally es)
