@@ -10,14 +10,17 @@ use Rattle.std.specs.Option.{option_to_list, option_and_then}
 use Rattle.std.proofs.lemmas.Bool.Decides.{nat_tests}
 use Rattle.std.proofs.lemmas.List.{get_or-map, get_or_append_left, length_push, map-append, map-set, same_from_push}
 use Rattle.std.proofs.lemmas.List.Quantifiers.{position-Some}
-use Rattle.std.proofs.lemmas.Map.Entries.{length-keys_of}
+use Rattle.std.proofs.lemmas.List.Elements.{recursion_from_All}
+use Rattle.std.proofs.lemmas.Map.Entries.{length-keys_of, length-values_of}
+use Rattle.std.proofs.lemmas.Map.Views.{All-values_from_lookup}
+use Rattle.std.specs.Cmp.{eq_by_cmp_equiv}
 use Rattle.std.proofs.lemmas.Option.{none-some, slice_get_within, slice_get-get_or, get_or_from_slice_get}
 use Rattle.hh_stream.specs.Weights.{Bytes, Entry, key_cmp, same_key, at_key, weight_of, total_of}
 use Rattle.hh_counters.specs.Counters.{Counters, IsCounters, add_at, tally, least_counter}
 use Rattle.hh_counters.specs.SpaceSaving.{least_of, without, first_with, key_to_drop, taken_over, step, IsMonitor}
 use Rattle.hh_counters.specs.Buckets.{Buckets, place_in, place_at, AreOrdered, Changes, Moves, HasNone, IsFirst, HasFirst, Agree, IsStanding, Stand, IsLinked, IsTakenIn, IsSettled, HasSettled}
 use Rattle.hh_counters.specs.declared.buckets.Bucket.{Bucket}
-use Rattle.hh_counters.proofs.Weights.{same_exact, same_sym, same_self, flipped, turned, weight_of-cons, weight_of-add_at, weight_of-tally, rising-tally, positive-tally, weight_above, weight_first, above_first, same_counters}
+use Rattle.hh_counters.proofs.Weights.{key_total, same_exact, same_sym, same_self, flipped, turned, weight_of-cons, weight_of-add_at, weight_of-tally, rising-tally, positive-tally, weight_above, weight_first, above_first, same_counters}
 use Rattle.hh_counters.proofs.Stepping.{least_of_free, least_of_full, at_least_all, least_counter-le, least_counter-ge, counters-add_at, counters-without, weight_of-without, length-add_at_new, by_key}
 use Rattle.hh_counters.proofs.Runs.{Positive}
 use Rattle.hh_counters.proofs.Counting.{weight_of-le-total_of}
@@ -62,25 +65,11 @@ pub weight_of-view : (q : Bytes) (es : List Entry) → Distinct es
 weight_of-view q es h = weight_of-tally q es ∙ weight_of-lookup q es h
 
 positive_entries : (es : List Entry) → Distinct es → PositiveAt es → Positive es
-unfolding IsDistinct
-positive_entries [] h p = tt
-positive_entries (e ∷ es) h p =
-    let here : lookup (same_key e.0) (e ∷ es) ≡ Some e.1 =
-    ap (λ b. cond b (Some e.1) (lookup (same_key e.0) es)) (same_self e.0) in (
-      subst (λ o. IfSome o (λ m. 0 < m)) here (p e.0),
-      positive_entries es h.1 (λ q. elim (same_key q e.0) as (λ b. same_key q e.0 ≡ b
-          → IfSome (cond b (Some e.1) (lookup (same_key q) es)) (λ m. 0 < m)
-          → IfSome (lookup (same_key q) es) (λ m. 0 < m)) [
-            | true ↦ λ s f. subst (λ o. IfSome o (λ m. 0 < m)) (sym (absent q e.0 es s h.0)) tt
-            | false ↦ λ s f. f
-          ] refl (p q)),
-    )
-  where
-    absent : (q x : Bytes) (es : List Entry) → same_key q x ≡ true
-        → AllByRecursion (λ y. same_key x y ≡ false) (keys_of es) → lookup (same_key q) es ≡ None
-    absent q x [] s h = refl
-    absent q x (e ∷ es) s h = ap (λ b. cond b (Some e.1) (lookup (same_key q) es))
-        (ap (λ z. same_key z e.0) (same_exact q x s) ∙ h.0) ∙ absent q x es s h.1
+positive_entries es h p =
+    let all = All-values_from_lookup (eq_by_cmp_equiv key_total) (λ m. 0 < m) es h p in
+    let within = length-values_of es in
+    recursion_from_All (λ (e : Entry). 0 < e.1) es (λ j d l.
+    subst (λ m. 0 < m) (get_or-map (λ (e : Entry). e.1) es j d d.1 l) (all j d.1 (omega (arith, l, within))))
 
 -- the view of an index is counters
 pub counters-view : (es : List Entry) → Distinct es → PositiveAt es → IsCounters (tally es)
