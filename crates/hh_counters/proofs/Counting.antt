@@ -14,10 +14,11 @@ use Rattle.std.proofs.lemmas.List.Quantifiers.{position-Some}
 use Rattle.std.proofs.lemmas.Map.Keys.{Less-from_sorted}
 use Rattle.std.proofs.lemmas.Map.Views.{list_any-from_Contains}
 use Rattle.indexmap.specs.IndexSet.{insert_key}
+use Rattle.std.proofs.lemmas.List.Sums.{sum_by-le-sum_by}
 use Rattle.hh_stream.specs.Weights.{Bytes, Entry, key_cmp, same_key, at_key, weight_of, total_of}
 use Rattle.hh_counters.specs.Counters.{Counters}
 use Rattle.hh_counters.specs.Report.{weights_at, counted}
-use Rattle.hh_counters.proofs.Weights.{same_exact, key_total, key_self, flipped, weight_of-append, weight_of-cons, total_of-cons, at_other}
+use Rattle.hh_counters.proofs.Weights.{same_exact, key_total, key_self, flipped, weight_of-append, weight_of-cons, at_other}
 
 -- counted from 0, each key has its weight
 pub counted_from_zero : (ks : List Bytes) (xs : List Entry) → counted ks xs (replicate (length ks) 0) ≡ weights_at ks xs
@@ -157,9 +158,7 @@ count_miss ks now x w l h = sym (counted_miss ks now (x, w) l (none_of_them ks x
 -- ---- no number grows too large
 -- no key weighs more than all items
 pub weight_of-le-total_of : (x : Bytes) (xs : List Entry) → weight_of x xs ≤ total_of xs
-weight_of-le-total_of x [] = omega arith
-weight_of-le-total_of x (e ∷ xs) =
-    omega (arith, weight_of-cons x e xs, total_of-cons e xs, at_most (same_key x e.0) e.1, weight_of-le-total_of x xs)
+weight_of-le-total_of x xs = sum_by-le-sum_by (at_key x) (λ (e : Entry). e.1) xs (λ e. at_most (same_key x e.0) e.1)
   where
     at_most : (b : Bool) (n : ℕ) → cond b n 0 ≤ n
     at_most true n = omega arith
