@@ -116,6 +116,7 @@ kept_is_counted c xs h p =
     })
     (same_weights c xs h)
 
+-- counting the keys of counters over items, and what that leaves of the total, gives the condensed items
 pub condensed_counts : (c : Counters) (xs : List Entry) → IsCounters c → All (λ e. 0 < e.1) xs → let counts =
     filter (exceeds 0) (zip (keys_of c) (weights_at (keys_of c) xs)) in
     (total_of counts ≤ total_of xs) × (condensed c xs ≡ counts ++ entry_of (free_name c)
@@ -191,6 +192,7 @@ key-entry_of y n key = elim (nat_lt 0 n) as (λ b. AllByRecursion (λ (e : Entry
   | false ↦ tt
 ]
 
+-- the keys of condensed items are keys
 pub keys-condensed : (c : Counters) (xs : List Entry) → length c ≤ max_k → AllByRecursion (λ e. IsKey e.0) xs
     → AllByRecursion (λ e. IsKey e.0) (condensed c xs)
 unfolding condensed

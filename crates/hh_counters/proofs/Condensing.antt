@@ -60,6 +60,7 @@ distinct-names n zero = tt
 distinct-names n (suc m) = (later_differ n (n + 1) m (omega arith), distinct-names (n + 1) m)
 
 -- ---- not all of length c + 1 names have a counter
+-- at another key an entry weighs nothing
 pub other_key : (x : Bytes) (e : Entry) → same_key x e.0 ≡ false → at_key x e ≡ 0
 other_key x e h = ap (λ b. cond b e.1 0) h
 
@@ -145,6 +146,7 @@ ends c n (suc m) =
       }
     ] refl
 
+-- the free name is the first of its row that has no counter
 pub free_is_first : (c : Counters) → IsFirstFree c (free_name c)
 unfolding free_name
 free_is_first c =
@@ -173,6 +175,7 @@ free_is_first c =
         (cases_lt j i)))
     by i before last false e = grind (arith, nat_tests, e)
 
+-- and no other name is
 pub one_first_free : (c : Counters) (y : Bytes) → IsFirstFree c y → y ≡ free_name c
 one_first_free c y h =
     let g = free_is_first c in
@@ -193,6 +196,7 @@ lacking c x e some none = by (same_key x e.0) refl
     by true s = absurd (omega (arith, some, none, ap (λ y. weight_of y c) (same_exact x e.0 s)))
     by false s = other_key x e s
 
+-- the items whose keys have counters keep such a key's weight
 pub weight_of-kept : (c : Counters) (x : Bytes) (xs : List Entry) → 0 < weight_of x c
     → weight_of x (filter (has_counter c) xs) ≡ weight_of x xs
 weight_of-kept c x [] some = refl
@@ -226,6 +230,7 @@ positive-entry_of y n =
       | false ↦ λ h. tt
     ] refl
 
+-- what all have, those have that pass a test
 pub all-filter : (P : Entry → Type 0) (p : Entry → Bool) (xs : List Entry) → AllByRecursion P xs
     → AllByRecursion P (filter p xs)
 all-filter P p [] h = h
@@ -234,11 +239,13 @@ all-filter P p (e ∷ xs) h = elim (p e) as (λ b. AllByRecursion P (cond b (e �
   | false ↦ all-filter P p xs h.1
 ]
 
+-- what all of two lists have, all of both together have
 pub all-both : (P : Entry → Type 0) (xs ys : List Entry) → AllByRecursion P xs → AllByRecursion P ys
     → AllByRecursion P (xs ++ ys)
 all-both P [] ys h g = g
 all-both P (e ∷ xs) ys h g = (h.0, all-both P xs ys h.1 g)
 
+-- condensed items have the total of the items
 pub total_of-condensed : (c : Counters) (xs : List Entry) → total_of (condensed c xs) ≡ total_of xs
 unfolding condensed
 total_of-condensed c xs = omega (
@@ -249,6 +256,7 @@ total_of-condensed c xs = omega (
   sum_by-filter_both (has_counter c) (lacks_counter c) (λ e. refl) (λ (e : Entry). e.1) xs,
 )
 
+-- and the weight of each key with a counter
 pub weight_of-condensed : (c : Counters) (xs : List Entry) (x : Bytes) → 0 < weight_of x c
     → weight_of x (condensed c xs) ≡ weight_of x xs
 unfolding condensed
@@ -260,6 +268,7 @@ weight_of-condensed c xs x some = omega (
   weight_of-entry_of c x (free_name c) (other_weight c xs) some (free_is_first c).free,
 )
 
+-- their weights are positive where those of the items are
 pub positive-condensed : (c : Counters) (xs : List Entry) → All (λ e. 0 < e.1) xs → All (λ e. 0 < e.1) (condensed c xs)
 unfolding condensed
 positive-condensed c xs h =
@@ -302,6 +311,7 @@ found_within c xs ys p q total same e i =
     let more : p * total_of ys < q * e.1 = subst (λ t. p * t < q * e.1) total g.1 in
     filter_in (has_counter c) e (heavy ys p q) (heavy_in ys p q e.0 e.1 (g.0 ∙ same e.0 some) more) f.1
 
+-- the total and the weights of keys with counters decide which of them are heavy
 pub found_by_weights : (c : Counters) (xs ys : List Entry) (p q : ℕ) → total_of xs ≡ total_of ys
     → ((x : Bytes) → 0 < weight_of x c → weight_of x xs ≡ weight_of x ys)
     → filter (has_counter c) (heavy xs p q) ≡ filter (has_counter c) (heavy ys p q)
@@ -312,6 +322,7 @@ found_by_weights c xs ys p q total same =
     (found_within c xs ys p q total same)
     (found_within c ys xs p q (sym total) (λ x some. sym (same x some)))
 
+-- parts that are condensed one by one and joined in any order keep total and heavy keys with counters
 pub condensed_parts : (c : Counters) (parts : List (List Entry)) (ys : List Entry)
     → IsPermutation (flat_map (condensed c) parts) ys
     → (total_of ys ≡ total_of (whole_of parts)) × ((p q : ℕ)
@@ -325,6 +336,7 @@ condensed_parts c parts ys perm =
           ∙ weight_of-parts c parts x some),
     )
 
+-- where the counters are honest for the whole, that is its report
 pub condensed_report : (c : Counters) (parts : List (List Entry)) (xs ys : List Entry) (k p q : ℕ)
     → IsPermutation (whole_of parts) xs → IsPermutation (flat_map (condensed c) parts) ys
     → IsHonest c (total_of xs) xs k → q ≤ p * (k + 1)

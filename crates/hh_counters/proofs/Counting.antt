@@ -14,15 +14,18 @@ use Rattle.std.proofs.lemmas.List.Quantifiers.{position-Some}
 use Rattle.std.proofs.lemmas.Map.Keys.{Less-from_sorted}
 use Rattle.std.proofs.lemmas.Map.Views.{list_any-from_Contains}
 use Rattle.indexmap.specs.IndexSet.{insert_key}
+use Rattle.std.proofs.lemmas.List.Sums.{sum_by-le-sum_by}
 use Rattle.hh_stream.specs.Weights.{Bytes, Entry, key_cmp, same_key, at_key, weight_of, total_of}
 use Rattle.hh_counters.specs.Counters.{Counters}
 use Rattle.hh_counters.specs.Report.{weights_at, counted}
-use Rattle.hh_counters.proofs.Weights.{same_exact, key_total, key_self, flipped, weight_of-append, weight_of-cons, total_of-cons, at_other}
+use Rattle.hh_counters.proofs.Weights.{same_exact, key_total, key_self, flipped, weight_of-append, weight_of-cons, at_other}
 
+-- counted from 0, each key has its weight
 pub counted_from_zero : (ks : List Bytes) (xs : List Entry) → counted ks xs (replicate (length ks) 0) ≡ weights_at ks xs
 counted_from_zero [] xs = refl
 counted_from_zero (x ∷ ks) xs = ap₂ (λ n (ns : List ℕ). n ∷ ns) (omega arith) (counted_from_zero ks xs)
 
+-- counting one list and then another is counting both together
 pub counted-append : (ks : List Bytes) (xs ys : List Entry) (ns : List ℕ)
     → counted ks (xs ++ ys) ns ≡ counted ks ys (counted ks xs ns)
 counted-append [] xs ys ns = refl
@@ -68,6 +71,7 @@ place_is ks x (Some j) h e found i =
     same_number : (i j : ℕ) → (i < j → ⊥) → (j < i → ⊥) → j ≡ i
     same_number i j a b = grind (arith, a, b)
 
+-- a look-up by hash finds a key where it is one of them
 pub place_found : (ks : List Bytes) (x : Bytes) (r : Option ℕ) → r ≡ position (same_key x) ks
     → is_some r ≡ list_any (same_key x) ks → IsSome r ↔ Contains ks x
 place_found ks x None e found = (
@@ -140,25 +144,27 @@ count_turn ks xs ns now new i e l is before after =
     after ∙ ap (counted ks (e ∷ [])) before ∙ sym (counted-append ks (take i xs) (e ∷ []) ns)
     ∙ ap (λ (ys : List Entry). counted ks ys ns) (ap (λ y. take i xs ++ y ∷ []) is ∙ sym (take_more xs i e l))
 
+-- an item of the key at this place
 pub count_hit : (ks : List Bytes) (now : List ℕ) (p : ℕ) (x : Bytes) (w : ℕ) → IsStrictlySortedBy key_cmp ks
     → length now ≡ length ks → slice_get ks p ≡ Some x
     → slice_set now p (get_or now p 0 + w) ≡ counted ks ((x, w) ∷ []) now
 count_hit ks now p x w h l at = counted_hit ks now p (x, w) l h at
 
+-- an item of none of the keys
 pub count_miss : (ks : List Bytes) (now : List ℕ) (x : Bytes) (w : ℕ) → length now ≡ length ks
     → ((i : ℕ) → slice_get ks i ≡ Some x → ⊥) → now ≡ counted ks ((x, w) ∷ []) now
 count_miss ks now x w l h = sym (counted_miss ks now (x, w) l (none_of_them ks x h))
 
 -- ---- no number grows too large
+-- no key weighs more than all items
 pub weight_of-le-total_of : (x : Bytes) (xs : List Entry) → weight_of x xs ≤ total_of xs
-weight_of-le-total_of x [] = omega arith
-weight_of-le-total_of x (e ∷ xs) =
-    omega (arith, weight_of-cons x e xs, total_of-cons e xs, at_most (same_key x e.0) e.1, weight_of-le-total_of x xs)
+weight_of-le-total_of x xs = sum_by-le-sum_by (at_key x) (λ (e : Entry). e.1) xs (λ e. at_most (same_key x e.0) e.1)
   where
     at_most : (b : Bool) (n : ℕ) → cond b n 0 ≤ n
     at_most true n = omega arith
     at_most false n = omega arith
 
+-- no number grows by more than the total of the items
 pub counted-le : (ks : List Bytes) (xs : List Entry) (ns : List ℕ) (p : ℕ) → length ns ≡ length ks
     → get_or (counted ks xs ns) p 0 ≤ get_or ns p 0 + total_of xs
 counted-le [] xs ns p l = omega arith
@@ -183,6 +189,7 @@ counts_stay_within ks xs ns m l h = (length-counted ks xs ns l, bound)
         omega (arith, get_or_default (counted ks xs ns) i d 0 lt, counted-le ks xs ns i l, within)
 
 -- ---- the keys of a summary
+-- the next of rising keys is new to those before it
 pub insert_next : (ks : List Bytes) (i : ℕ) (x : Bytes) → IsStrictlySortedBy key_cmp ks → i < length ks
     → x ≡ get_or ks i x → insert_key same_key (take i ks) x ≡ take (i + 1) ks
 insert_next ks i x h l is =

@@ -6,7 +6,7 @@ use Rattle.std.specs.Map.{keys_of, lookup}
 use Rattle.std.proofs.lemmas.Bool.Decides.{nat_tests}
 use Rattle.std.proofs.lemmas.List.Elements.{recursion_from_All}
 use Rattle.std.proofs.lemmas.List.Quantifiers.{position-Some}
-use Rattle.std.proofs.lemmas.List.Sums.{sum_by-cons}
+use Rattle.std.proofs.lemmas.List.Sums.{sum_by-cons, sum_by-le-sum_by}
 use Rattle.hh_stream.specs.Weights.{Bytes, Entry, same_key, weight_of}
 use Rattle.hh_counters.specs.Counters.{tally, least_counter}
 use Rattle.hh_counters.specs.Buckets.{Buckets, place_at, AreOrdered, IsFirst, HasFirst, RaisesFirst, Agree, IsStanding, Stand}
@@ -53,14 +53,11 @@ gap_at exact f es b q old some =
 abbrev pub lag : List Entry → Buckets → ℕ
 lag es b = sum_by (λ q. gap b q (weight_of q (tally es))) (keys_of es)
 
-sum_le : (f g : Bytes → ℕ) (ks : List Bytes) → ((q : Bytes) → g q ≤ f q) → sum_by g ks ≤ sum_by f ks
-sum_le f g [] le = omega arith
-sum_le f g (k ∷ ks) le = omega (arith, le k, sum_le f g ks le, sum_by-cons g k ks, sum_by-cons f k ks)
-
+-- a sum is less where no term is more and one is less
 sum_less : (f g : Bytes → ℕ) (ks : List Bytes) (i : ℕ) (d : Bytes) → ((q : Bytes) → g q ≤ f q) → i < length ks
     → g (get_or ks i d) < f (get_or ks i d) → sum_by g ks < sum_by f ks
 sum_less f g [] i d le l less = absurd (omega (arith, l))
-sum_less f g (k ∷ ks) zero d le l less = omega (arith, less, sum_le f g ks le, sum_by-cons g k ks, sum_by-cons f k ks)
+sum_less f g (k ∷ ks) zero d le l less = omega (arith, less, sum_by-le-sum_by g f ks le, sum_by-cons g k ks, sum_by-cons f k ks)
 sum_less f g (k ∷ ks) (suc i) d le l less =
     omega (arith, le k, sum_less f g ks i d le (omega (arith, l)) less, sum_by-cons g k ks, sum_by-cons f k ks)
 
@@ -125,6 +122,7 @@ pub record IsLeastOf (es : List Entry) (i n : ℕ) : Type 0 where
   pub reached : 0 < i → (x : Bytes) × (lookup (same_key x) es ≡ Some n)
   pub below : (j : ℕ) (d : Entry) → j < i → n ≤ (get_or es j d).1
 
+-- the least number of all entries is the least counter
 pub least_of_all : (es : List Entry) (i n : ℕ) → Distinct es → PositiveAt es → i ≡ length es → IsLeastOf es i n
     → n ≡ least_counter (tally es)
 unfolding tally

@@ -124,7 +124,7 @@ both_first y z g h = key_exact y z (level (key_cmp y z) (key_cmp z y) (flipped y
     level Greater t e g h = absurd (true≢false g)
 
 -- there is one first key
-pub first_unique : (b : Buckets) (m n : ℕ) (x y : Bytes) (i j : ℕ) → IsFirst b m x i → IsFirst b n y j
+first_unique : (b : Buckets) (m n : ℕ) (x y : Bytes) (i j : ℕ) → IsFirst b m x i → IsFirst b n y j
     → (m ≡ n) × (x ≡ y)
 first_unique b m n x y i j f g =
     let same : m ≡ n =

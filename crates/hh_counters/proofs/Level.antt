@@ -13,6 +13,7 @@ use Rattle.hh_stream.specs.Weights.{Bytes, Entry, key_cmp, at_key, weight_of, to
 use Rattle.hh_counters.specs.Counters.{Counters, IsCounters, exceeds, over, IsLevel, less_by, least_passing, level, lower, least_counter}
 use Rattle.hh_counters.proofs.Weights.{weight_of-cons, total_of-cons, weight_above, at_other, key_exact}
 
+-- how many counters exceed a number, with one more
 pub over-cons : (e : Entry) (c : Counters) (t : ℕ) → over (e ∷ c) t ≡ cond (nat_lt t e.1) 1 0 + over c t
 over-cons e c t = sum_by-cons (λ d. cond (exceeds t d) 1 0) e c
 
@@ -24,6 +25,7 @@ least_passing-le p d (n ∷ ns) = elim (p n) as (λ b. cond b (min n (least_pass
   | false ↦ least_passing-le p d ns
 ]
 
+-- the lesser of two numbers is one of them
 pub min_is : (m n : ℕ) → (min m n ≡ m) ⊎ (min m n ≡ n)
 min_is m n = ⊎_elim (λ (h : (leb m n ≡ true) × (m ≤ n)). inl (omega arith))
     (λ (h : (leb m n ≡ false) × (n < m)). inr (omega arith)) (leb_tells m n)
@@ -62,10 +64,11 @@ least_passing-le-floor p d s [] h = inr refl
 least_passing-le-floor p d s (n ∷ ns) h = grind (arith, nat_tests, least_passing-le-floor p d s ns)
 
 -- each counter is at most the total, so none exceeds it
-pub over-none : (c : Counters) (t : ℕ) → total_of c ≤ t → over c t ≡ 0
+over-none : (c : Counters) (t : ℕ) → total_of c ≤ t → over c t ≡ 0
 over-none [] t h = refl
 over-none (e ∷ c) t h = grind (arith, nat_tests, over-cons e c t, total_of-cons e c, over-none c t)
 
+-- the level is the least number that at most k counters exceed
 pub is_level : (c : Counters) (k : ℕ) → IsLevel c k (level c k)
 unfolding level
 is_level c k =
@@ -85,19 +88,23 @@ is_level c k =
           (least_passing-le-floor p (total_of c) s vs passes_at);
     }
 
+-- there is one level
 pub one_level : (c : Counters) (k s t : ℕ) → IsLevel c k s → IsLevel c k t → s ≡ t
 one_level c k s t h g = omega (arith, h.least t g.at_most, g.least s h.at_most)
 
 -- ---- what lowering by t leaves
+-- no counters stay none
 pub lower-nil : (t : ℕ) → lower t [] ≡ []
 unfolding lower
 lower-nil t = refl
 
+-- as many counters stay as exceed what is taken from them
 pub length-lower : (t : ℕ) (c : Counters) → length (lower t c) ≡ over c t
 unfolding lower
 length-lower t [] = refl
 length-lower t (e ∷ c) = grind (arith, nat_tests, over-cons e c t, length-lower t c)
 
+-- a counter stays, less what is taken, where it exceeds that
 pub lower-cons : (t : ℕ) (e : Entry) (c : Counters)
     → lower t (e ∷ c) ≡ cond (nat_lt t e.1) ((e.0, e.1 - t) ∷ lower t c) (lower t c)
 unfolding lower
@@ -125,18 +132,20 @@ above_lower z t [] h =
 above_lower z t (e ∷ c) h = by_lower (λ d. AllByRecursion (λ y. key_cmp z y ≡ Less) (keys_of d)) t e c
     (λ l. (h.0, above_lower z t c h.1)) (λ l. above_lower z t c h.1)
 
-pub rising-lower : (t : ℕ) (c : Counters) → IsStrictlySortedBy key_cmp (keys_of c)
+rising-lower : (t : ℕ) (c : Counters) → IsStrictlySortedBy key_cmp (keys_of c)
     → IsStrictlySortedBy key_cmp (keys_of (lower t c))
 unfolding IsStrictlySortedBy
 rising-lower t [] h = subst (λ (d : Counters). IsStrictlySortedBy key_cmp (keys_of d)) (sym (lower-nil t)) tt
 rising-lower t (e ∷ c) h = by_lower (λ d. IsStrictlySortedBy key_cmp (keys_of d)) t e c
     (λ l. (above_lower e.0 t c h.0, rising-lower t c h.1)) (λ l. rising-lower t c h.1)
 
+-- what stays is positive
 pub positive-lower : (t : ℕ) (c : Counters) → AllByRecursion (λ (e : Entry). 0 < e.1) (lower t c)
 positive-lower t [] = subst (AllByRecursion (λ (e : Entry). 0 < e.1)) (sym (lower-nil t)) tt
 positive-lower t (e ∷ c) = by_lower (AllByRecursion (λ (e : Entry). 0 < e.1)) t e c
     (λ l. (omega arith, positive-lower t c)) (λ l. positive-lower t c)
 
+-- lowered counters are counters
 pub counters-lower : (t : ℕ) (c : Counters) → IsStrictlySortedBy key_cmp (keys_of c) → IsCounters (lower t c)
 counters-lower t c h = record { rising = rising-lower t c h; positive = positive-lower t c }
 
@@ -209,6 +218,7 @@ total_of-lower u (e ∷ c) =
     ] refl in
     omega arith)
 
+-- lowering adds nothing to the total
 pub total_of-lower-le : (t : ℕ) (c : Counters) → total_of (lower t c) ≤ total_of c
 total_of-lower-le t [] = omega (arith, ap total_of (lower-nil t))
 total_of-lower-le t (e ∷ c) = by_lower (λ d. total_of d ≤ total_of (e ∷ c)) t e c
@@ -219,10 +229,12 @@ total_of-lower-le t (e ∷ c) = by_lower (λ d. total_of d ≤ total_of (e ∷ c
 over-le-length : (c : Counters) (t : ℕ) → over c t ≤ length c
 over-le-length c t = count_by-le-length (exceeds t) c
 
+-- where there are at most k counters, the level is 0
 pub level_few : (c : Counters) (k : ℕ) → length c ≤ k → level c k ≡ 0
 level_few c k h = one_level c k _ 0 (is_level c k)
     (record { at_most = omega (arith, over-le-length c 0); least = λ s g. omega arith })
 
+-- all counters exceed what is below each
 pub over_all : (c : Counters) (t m : ℕ) → AllByRecursion (λ (e : Entry). m ≤ e.1) c → t < m → over c t ≡ length c
 over_all [] t m a h = refl
 over_all (e ∷ c) t m a h = grind (arith, nat_tests, over-cons e c t, a.0, h, over_all c t m a.1 h)
@@ -294,11 +306,13 @@ level_from_split c k x front back p len split = one_level c k x _ (record {
 }) (is_level c k)
 
 -- ---- the least counter
+-- the least of numbers is not above any
 pub min_all : (n : ℕ) (c : Counters) → (fold (λ n (d : Entry). min n d.1) n c ≤ n)
     × AllByRecursion (λ (e : Entry). fold (λ n (d : Entry). min n d.1) n c ≤ e.1) c
 min_all n [] = (omega arith, tt)
 min_all n (e ∷ c) = let rest = min_all (min n e.1) c in (omega (arith, rest.0), (omega (arith, rest.0), rest.1))
 
+-- no counter is below the least
 pub least_counter-all : (c : Counters) → AllByRecursion (λ (e : Entry). least_counter c ≤ e.1) c
 least_counter-all [] = tt
 least_counter-all (e ∷ c) = min_all e.1 c

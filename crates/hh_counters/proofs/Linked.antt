@@ -10,14 +10,17 @@ use Rattle.std.specs.Option.{option_to_list, option_and_then}
 use Rattle.std.proofs.lemmas.Bool.Decides.{nat_tests}
 use Rattle.std.proofs.lemmas.List.{get_or-map, get_or_append_left, length_push, map-append, map-set, same_from_push}
 use Rattle.std.proofs.lemmas.List.Quantifiers.{position-Some}
-use Rattle.std.proofs.lemmas.Map.Entries.{length-keys_of}
+use Rattle.std.proofs.lemmas.List.Elements.{recursion_from_All}
+use Rattle.std.proofs.lemmas.Map.Entries.{length-keys_of, length-values_of}
+use Rattle.std.proofs.lemmas.Map.Views.{All-values_from_lookup}
+use Rattle.std.specs.Cmp.{eq_by_cmp_equiv}
 use Rattle.std.proofs.lemmas.Option.{none-some, slice_get_within, slice_get-get_or, get_or_from_slice_get}
 use Rattle.hh_stream.specs.Weights.{Bytes, Entry, key_cmp, same_key, at_key, weight_of, total_of}
 use Rattle.hh_counters.specs.Counters.{Counters, IsCounters, add_at, tally, least_counter}
 use Rattle.hh_counters.specs.SpaceSaving.{least_of, without, first_with, key_to_drop, taken_over, step, IsMonitor}
 use Rattle.hh_counters.specs.Buckets.{Buckets, place_in, place_at, AreOrdered, Changes, Moves, HasNone, IsFirst, HasFirst, Agree, IsStanding, Stand, IsLinked, IsTakenIn, IsSettled, HasSettled}
 use Rattle.hh_counters.specs.declared.buckets.Bucket.{Bucket}
-use Rattle.hh_counters.proofs.Weights.{same_exact, same_sym, same_self, flipped, turned, weight_of-cons, weight_of-add_at, weight_of-tally, rising-tally, positive-tally, weight_above, weight_first, above_first, same_counters}
+use Rattle.hh_counters.proofs.Weights.{key_total, same_exact, same_sym, same_self, flipped, turned, weight_of-cons, weight_of-add_at, weight_of-tally, rising-tally, positive-tally, weight_above, weight_first, above_first, same_counters}
 use Rattle.hh_counters.proofs.Stepping.{least_of_free, least_of_full, at_least_all, least_counter-le, least_counter-ge, counters-add_at, counters-without, weight_of-without, length-add_at_new, by_key}
 use Rattle.hh_counters.proofs.Runs.{Positive}
 use Rattle.hh_counters.proofs.Counting.{weight_of-le-total_of}
@@ -26,6 +29,7 @@ use Rattle.hh_counters.proofs.Positions.{stands, last_place, places_before_last,
 use Rattle.hh_counters.proofs.TakingOver.{without-add_at, monitor_step, monitor_nothing}
 
 -- ---- the view of an index: its tally
+-- no two entries have one key
 abbrev pub Distinct : List Entry → Type 0
 Distinct es = IsDistinct same_key (keys_of es)
 
@@ -33,6 +37,7 @@ Distinct es = IsDistinct same_key (keys_of es)
 abbrev pub PositiveAt : List Entry → Type 0
 PositiveAt es = (q : Bytes) → IfSome (lookup (same_key q) es) (λ m. 0 < m)
 
+-- a key like one that no entry has weighs nothing
 pub none_alike : (q x : Bytes) (es : List Entry) → same_key q x ≡ true
     → AllByRecursion (λ y. same_key x y ≡ false) (keys_of es) → weight_of q es ≡ 0
 none_alike q x [] s h = refl
@@ -41,7 +46,7 @@ none_alike q x (e ∷ es) s h =
     omega (arith, weight_of-cons q e es, other, none_alike q x es s h.1)
 
 -- with distinct keys a weight is what a look-up finds
-pub weight_of-lookup : (q : Bytes) (es : List Entry) → Distinct es
+weight_of-lookup : (q : Bytes) (es : List Entry) → Distinct es
     → weight_of q es ≡ unwrap_or (lookup (same_key q) es) 0
 unfolding IsDistinct
 weight_of-lookup q [] h = refl
@@ -54,31 +59,19 @@ weight_of-lookup q (e ∷ es) h =
           ap (λ b. cond b e.1 0) s in omega (arith, weight_of-cons q e es, other, weight_of-lookup q es h.1)
     ] refl
 
+-- a key's weight in the view of an index is what a look-up finds
 pub weight_of-view : (q : Bytes) (es : List Entry) → Distinct es
     → weight_of q (tally es) ≡ unwrap_or (lookup (same_key q) es) 0
 weight_of-view q es h = weight_of-tally q es ∙ weight_of-lookup q es h
 
 positive_entries : (es : List Entry) → Distinct es → PositiveAt es → Positive es
-unfolding IsDistinct
-positive_entries [] h p = tt
-positive_entries (e ∷ es) h p =
-    let here : lookup (same_key e.0) (e ∷ es) ≡ Some e.1 =
-    ap (λ b. cond b (Some e.1) (lookup (same_key e.0) es)) (same_self e.0) in (
-      subst (λ o. IfSome o (λ m. 0 < m)) here (p e.0),
-      positive_entries es h.1 (λ q. elim (same_key q e.0) as (λ b. same_key q e.0 ≡ b
-          → IfSome (cond b (Some e.1) (lookup (same_key q) es)) (λ m. 0 < m)
-          → IfSome (lookup (same_key q) es) (λ m. 0 < m)) [
-            | true ↦ λ s f. subst (λ o. IfSome o (λ m. 0 < m)) (sym (absent q e.0 es s h.0)) tt
-            | false ↦ λ s f. f
-          ] refl (p q)),
-    )
-  where
-    absent : (q x : Bytes) (es : List Entry) → same_key q x ≡ true
-        → AllByRecursion (λ y. same_key x y ≡ false) (keys_of es) → lookup (same_key q) es ≡ None
-    absent q x [] s h = refl
-    absent q x (e ∷ es) s h = ap (λ b. cond b (Some e.1) (lookup (same_key q) es))
-        (ap (λ z. same_key z e.0) (same_exact q x s) ∙ h.0) ∙ absent q x es s h.1
+positive_entries es h p =
+    let all = All-values_from_lookup (eq_by_cmp_equiv key_total) (λ m. 0 < m) es h p in
+    let within = length-values_of es in
+    recursion_from_All (λ (e : Entry). 0 < e.1) es (λ j d l.
+    subst (λ m. 0 < m) (get_or-map (λ (e : Entry). e.1) es j d d.1 l) (all j d.1 (omega (arith, l, within))))
 
+-- the view of an index is counters
 pub counters-view : (es : List Entry) → Distinct es → PositiveAt es → IsCounters (tally es)
 counters-view es h p = record { rising = rising-tally es; positive = positive-tally es (positive_entries es h p) }
 
@@ -106,16 +99,19 @@ none_yet : (es : List Entry) → AllByRecursion (λ (e : Entry). weight_of e.0 [
 none_yet [] = tt
 none_yet (e ∷ es) = (refl, none_yet es)
 
+-- of as many keys as the index has
 pub length-view : (es : List Entry) → Distinct es → PositiveAt es → length (tally es) ≡ length es
 unfolding tally IsStrictlySortedBy
 length-view es h p =
     omega (arith, length_from [] es (record { rising = tt; positive = tt }) h (positive_entries es h p) (none_yet es))
 
 -- ---- what a look-up finds
+-- a look-up that finds a number finds the weight
 pub found : (es : List Entry) (x : Bytes) (n : ℕ) → Distinct es → lookup (same_key x) es ≡ Some n
     → weight_of x (tally es) ≡ n
 found es x n d f = weight_of-view x es d ∙ ap (λ o. unwrap_or o 0) f
 
+-- a key that a look-up misses weighs nothing
 pub absent : (es : List Entry) (x : Bytes) → Distinct es → lookup (same_key x) es ≡ None → weight_of x (tally es) ≡ 0
 absent es x d f = weight_of-view x es d ∙ ap (λ o. unwrap_or o 0) f
 
@@ -204,7 +200,7 @@ and_false true = refl
 and_false false = refl
 
 -- a key goes from the bucket of n to that of v
-pub agree_moved : (f : Bytes → ℕ) (ks : List Bytes) (b d : Buckets) (x : Bytes) (i n v : ℕ) → 0 < n → n < v → f x ≡ n
+agree_moved : (f : Bytes → ℕ) (ks : List Bytes) (b d : Buckets) (x : Bytes) (i n v : ℕ) → 0 < n → n < v → f x ≡ n
     → position (same_key x) ks ≡ Some i → Agree f ks b → Moves b d n v x i
     → Agree (λ q. cond (same_key x q) v (f q)) ks d
 agree_moved f ks b d x i n v p h at there a m =
@@ -306,7 +302,7 @@ first_with_first (e ∷ s) n z p h at =
     ] refl
 
 -- the first key of the first bucket, where that is the one of its counter, has the least counter and is the key to drop
-pub drop_is : (exact : Bool) (f : Bytes → ℕ) (es : List Entry) (b : Buckets) (n : ℕ) (y : Bytes) (i : ℕ)
+drop_is : (exact : Bool) (f : Bytes → ℕ) (es : List Entry) (b : Buckets) (n : ℕ) (y : Bytes) (i : ℕ)
     → IsStanding exact f es b → 0 < length es → IsSettled es b n i y
     → (least_counter (tally es) ≡ n) × (key_to_drop (tally es) ≡ y)
 drop_is exact f es b n y i old some settled =
@@ -342,6 +338,7 @@ none_first exact (e ∷ es) b stand some none =
     true≢false (sym (subst IsSome (none (stand.0 e.0) e.0) (in_a_bucket exact stand.0 all b e.0 old own)))
 
 -- ---- the ways through an addition
+-- where the key has a counter or one is free, a step adds the item
 pub step_room : (s : Counters) (e : Entry) (k : ℕ) → (0 < weight_of e.0 s) ⊎ (length s ≤ k) → step s e k ≡ add_at s e
 step_room s e k (inl has) =
     let test : nat_lt 0 (weight_of e.0 s) ≡ true = grind (arith, nat_tests, has) in
@@ -491,7 +488,7 @@ pub record IsSwapped (es fs gs : List Entry) (x : Bytes) (i v : ℕ) (o : Option
   pub taken : (e : Entry) → o ≡ Some e → Renumbers fs gs e.0 None
 
 -- what it leaves of an index in which y stood at i
-pub swapped_in : (es fs gs : List Entry) (x y : Bytes) (i v : ℕ) (o : Option Entry)
+swapped_in : (es fs gs : List Entry) (x y : Bytes) (i v : ℕ) (o : Option Entry)
     → position (same_key y) (keys_of es) ≡ Some i → IsSwapped es fs gs x i v o
     → (i < length es) × (keys_of gs ≡ set (keys_of es) i x) × Renumbers fs gs y None
 swapped_in es fs gs x y i v o place s =
@@ -616,6 +613,7 @@ first_settled es b n i stand first =
     let at = held stand.0 (keys_of es) b n first.0 i stand.1.agree first.1.there in
     (first.0, record { first = first.1; counter = sym (stand.1.right refl first.0) ∙ at.0 })
 
+-- the number of the first bucket is the least counter, where none is free
 pub first_is_least : (k : ℕ) (es : List Entry) (b : Buckets) (n i : ℕ) → Stand true es b → k < length es
     → HasFirst b n i
     → n ≡ least_of (tally es) k

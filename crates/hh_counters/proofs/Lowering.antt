@@ -7,6 +7,7 @@ use Rattle.hh_counters.specs.Counters.{Counters, over, level, lower, cut, least_
 use Rattle.hh_counters.specs.SpaceSaving.{least_of}
 use Rattle.hh_counters.proofs.Level.{over-cons, lower-nil, lower-cons, is_level, level_few, level_one_more}
 
+-- of lowered counters as many exceed t as did m + t before
 pub over-lower : (c : Counters) (m t : ℕ) → over (lower m c) t ≡ over c (m + t)
 over-lower [] m t = ap (λ (d : Counters). over d t) (lower-nil m)
 over-lower (e ∷ c) m t =
@@ -18,6 +19,7 @@ over-lower (e ∷ c) m t =
       | false ↦ λ p. grind (arith, nat_tests, p, over-cons e c (m + t), over-lower c m t)
     ] refl)
 
+-- lowering twice is lowering by both
 pub lower-lower : (c : Counters) (m t : ℕ) → lower t (lower m c) ≡ lower (m + t) c
 lower-lower [] m t = ap (lower t) (lower-nil m) ∙ lower-nil t ∙ sym (lower-nil (m + t))
 lower-lower (e ∷ c) m t =

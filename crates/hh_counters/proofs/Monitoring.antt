@@ -10,6 +10,7 @@ use Rattle.hh_counters.specs.Counters.{Sketch, sketch_of}
 use Rattle.hh_counters.specs.SpaceSaving.{monitor_of, monitored, space_saving, step, translated}
 use Rattle.hh_counters.proofs.Runs.{steps_are_a_run, run_is_misra_gries}
 
+-- one more item is one more step
 pub monitor_push : (k : ℕ) (xs : List Entry) (e : Entry) → monitor_of k (xs ++ e ∷ []) ≡ monitored (monitor_of k xs) e
 monitor_push k xs e =
     let total : total_of (xs ++ e ∷ []) ≡ total_of xs + e.1 = sum_by_push (λ (d : Entry). d.1) xs e in

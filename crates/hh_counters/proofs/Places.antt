@@ -43,12 +43,14 @@ searched c key (Err i) h l s =
     record { found = tt; absent = (l, parts.0, λ k d a b. turned _ key (parts.1 k d a b)) }
 
 -- ---- what stands at a place
+-- a key below the first of rising keys is below each
 pub above_at : (z : Bytes) (c : Counters) (i : ℕ) (d : Entry) → AllByRecursion (λ y. key_cmp z y ≡ Less) (keys_of c)
     → i < length c → key_cmp z (slice_index_or c i d).0 ≡ Less
 above_at z [] i d h l = absurd (omega arith)
 above_at z (e ∷ c) zero d h l = h.0
 above_at z (e ∷ c) (suc i) d h l = above_at z c i d h.1 (omega arith)
 
+-- the number at the place of a key is its weight
 pub weight_at : (c : Counters) (i : ℕ) (d : Entry) (key : Bytes) → IsStrictlySortedBy key_cmp (keys_of c) → i < length c
     → (slice_index_or c i d).0 ≡ key → (slice_index_or c i d).1 ≡ weight_of key c
 unfolding IsStrictlySortedBy
@@ -108,6 +110,7 @@ insert_is_add_at (f ∷ c) (suc i) e l b a =
     ∙ ap (λ r. match_ordering r (e ∷ f ∷ c) ((f.0, f.1 + e.1) ∷ c) (f ∷ add_at c e))
     (sym (flipped f.0 e.0 Less (b 0 f (omega arith) (omega arith))))
 
+-- raising the number at a key's place adds the item
 pub set_is_add_at : (c : Counters) (i : ℕ) (d : Entry) (e : Entry) → IsStrictlySortedBy key_cmp (keys_of c)
     → i < length c → (slice_index_or c i d).0 ≡ e.0
     → slice_set c i ((slice_index_or c i d).0, (slice_index_or c i d).1 + e.1) ≡ add_at c e
@@ -121,6 +124,7 @@ set_is_add_at (f ∷ c) (suc i) d e h l s =
     ∙ ap (λ r. match_ordering r (e ∷ f ∷ c) ((f.0, f.1 + e.1) ∷ c) (f ∷ add_at c e)) (sym (flipped f.0 e.0 Less below))
 
 -- ---- counters by places
+-- what is positive at each place, and rises from each to the next, is counters
 pub counters_from_places : (c : Counters) → ((k : ℕ) (d : Entry) → k < length c → 0 < (slice_index_or c k d).1)
     → ((k : ℕ) (d : Entry) → k + 1 < length c → key_cmp (slice_index_or c k d).0 (slice_index_or c (k + 1) d).0 ≡ Less)
     → IsCounters c
@@ -134,9 +138,11 @@ counters_from_places c p r = record {
   positive = recursion_from_All (λ (e : Entry). 0 < e.1) c p;
 }
 
+-- the number at each place is positive
 pub positive_at : (c : Counters) → IsCounters c → (k : ℕ) (d : Entry) → k < length c → 0 < (slice_index_or c k d).1
 positive_at c h = All-from_recursion (λ (e : Entry). 0 < e.1) c h.positive
 
+-- the keys rise from place to place
 pub less_at : (c : Counters) → IsCounters c → (k j : ℕ) (d e : Entry) → k < j → j < length c
     → key_cmp (slice_index_or c k d).0 (slice_index_or c j e).0 ≡ Less
 less_at c h k j d e a l =

@@ -1,15 +1,16 @@
 -- Where keys stand in an index when one is put last, or in the place of another.
-use Rattle.std.proofs.Common.{◌≡◌, ◌≢◌, ℕ, zero, suc, ◌-◌, ◌<◌, Bool, true, false, cond, List, [], ◌∷◌, ◌++◌, length, take, get_or, set, Some, None, refl, sym, ap, ap₂, ◌∙◌, not, subst, true≢false, arith}
+use Rattle.std.proofs.Common.{◌≡◌, ◌≢◌, ℕ, ◌-◌, ◌<◌, Bool, true, false, cond, List, [], ◌∷◌, ◌++◌, length, take, get_or, set, Some, None, refl, sym, ap, ap₂, ◌∙◌, not, subst, true≢false, arith}
 use Rattle.std.specs.Prelude.{nat_lt, IsSome, position}
 use Rattle.std.specs.List.{swap_remove}
 use Rattle.std.specs.Map.{keys_of, lookup}
 use Rattle.std.proofs.Math.Seq.{take-append_seam}
 use Rattle.std.proofs.lemmas.Bool.Decides.{nat_tests}
-use Rattle.std.proofs.lemmas.List.{length_push, length-set, set-append_left, get_or_push, get_or_append_left, get_or-set_same, get_or-set_other}
+use Rattle.std.proofs.lemmas.List.{get_or-map, length_push, length-set, set-append_left, get_or_push, get_or_append_left, get_or-set_same, get_or-set_other}
 use Rattle.std.proofs.lemmas.List.Folds.{position_or_len-set, position_or_len_push}
 use Rattle.std.proofs.lemmas.List.Sums.{position_or_len_is, prefix_len-le-length}
+use Rattle.std.proofs.lemmas.List.Elements.{All-from_recursion}
+use Rattle.std.proofs.lemmas.Map.{none_passes_from_lookup}
 use Rattle.std.proofs.lemmas.Map.Entries.{length-keys_of}
-use Rattle.std.proofs.lemmas.Option.{none-some}
 use Rattle.indexmap.proofs.MapLemmas.{Missing-position}
 use Rattle.hh_stream.specs.Weights.{Bytes, Entry, same_key}
 use Rattle.hh_counters.proofs.Weights.{same_self}
@@ -17,18 +18,10 @@ use Rattle.hh_counters.proofs.Weights.{same_self}
 -- a key that a look-up misses is none of the keys
 none_at : (q : Bytes) (es : List Entry) (k : ℕ) (d : Bytes) → lookup (same_key q) es ≡ None → k < length es
     → same_key q (get_or (keys_of es) k d) ≡ false
-none_at q [] k d none l = absurd (omega arith)
-none_at q (e ∷ es) k d none l =
-    elim (same_key q e.0) as (λ v. same_key q e.0 ≡ v → cond v (Some e.1) (lookup (same_key q) es) ≡ None
-    → same_key q (get_or (keys_of (e ∷ es)) k d) ≡ false) [
-      | true ↦ λ same n. absurd (none-some e.1 (sym n))
-      | false ↦ λ other n. at k l other (λ j m. none_at q es j d n m)
-    ] refl none
-  where
-    at : (k : ℕ) → k < length (e ∷ es) → same_key q e.0 ≡ false → ((j : ℕ) → j < length es
-        → same_key q (get_or (keys_of es) j d) ≡ false) → same_key q (get_or (keys_of (e ∷ es)) k d) ≡ false
-    at zero l other rest = other
-    at (suc k) l other rest = rest k (omega arith)
+none_at q es k d none l =
+    let each =
+    All-from_recursion (λ (e : Entry). same_key q e.0 ≡ false) es (none_passes_from_lookup (same_key q) es none) in
+    ap (same_key q) (get_or-map (λ (e : Entry). e.0) es k (d, 0) d l) ∙ each k (d, 0) l
 
 -- and one that a look-up finds stands somewhere
 pub stands : (q : Bytes) (es : List Entry) → IsSome (lookup (same_key q) es)

@@ -23,20 +23,24 @@ use Rattle.hh_counters.specs.Report.{rank_cmp, ranked_in, by_rank, is_heavy, sel
 use Rattle.hh_counters.proofs.Weights.{key_total, weight_of-cons, rising-tally, weight_of-tally, weight_first, at_other, key_exact, flipped}
 
 -- ---- members
+-- an entry of the list
 abbrev pub In : Entry → List Entry → Type 0
 In x [] = ⊥
 In x (y ∷ ys) = (y ≡ x) ⊎ In x ys
 
+-- what a list contains is in it
 pub in_from_contains : (x : Entry) (xs : List Entry) → Contains xs x → In x xs
 in_from_contains x [] h = absurd (omega (arith, h.1))
 in_from_contains x (y ∷ ys) (zero, l, is) = inl is
 in_from_contains x (y ∷ ys) (suc k, l, is) = inr (in_from_contains x ys (k, omega arith, is))
 
+-- and the other way round
 pub contains_from_in : (x : Entry) (xs : List Entry) → In x xs → Contains xs x
 contains_from_in x [] h = absurd h
 contains_from_in x (y ∷ ys) (inl is) = (0, omega arith, is)
 contains_from_in x (y ∷ ys) (inr h) = let rest = contains_from_in x ys h in (suc rest.0, omega (arith, rest.1), rest.2)
 
+-- what passes a test in a list is in it and passes
 pub in_filter : (p : Entry → Bool) (x : Entry) (xs : List Entry) → In x (filter p xs) → In x xs × (p x ≡ true)
 in_filter p x [] h = absurd h
 in_filter p x (y ∷ ys) h =
@@ -46,6 +50,7 @@ in_filter p x (y ∷ ys) h =
       | false ↦ λ e i. let r = in_filter p x ys i in (inr r.0, r.1)
     ] refl h
 
+-- and the other way round
 pub filter_in : (p : Entry → Bool) (x : Entry) (xs : List Entry) → In x xs → p x ≡ true → In x (filter p xs)
 filter_in p x [] i h = i
 filter_in p x (y ∷ ys) i h = elim (p y) as (λ b. p y ≡ b → In x (cond b (y ∷ filter p ys) (filter p ys))) [
@@ -53,6 +58,7 @@ filter_in p x (y ∷ ys) i h = elim (p y) as (λ b. p y ≡ b → In x (cond b (
   | false ↦ λ e. ⊎_elim (λ (is : y ≡ x). absurd (cc (ap p is))) (λ (i : In x ys). filter_in p x ys i h) i
 ] refl
 
+-- what all entries have, one of them has
 pub all_in : (P : Entry → Type 0) (x : Entry) (xs : List Entry) → AllByRecursion P xs → In x xs → P x
 all_in P x [] h i = absurd i
 all_in P x (y ∷ ys) h (inl is) = subst P is h.0
@@ -99,6 +105,7 @@ in_from_number x (y ∷ c) h l =
         inr (subst (λ n. In (x, n) c) same (tail (omega (arith, same, l))))
 
 -- ---- the order of the report
+-- the order of the report is total
 pub rank_total : IsTotalOrder rank_cmp
 rank_total =
     then_total (back_total (on_total (λ (e : Entry). e.1) nat_cmp_total)) (on_total (λ (e : Entry). e.0) key_total)
@@ -166,7 +173,7 @@ nothing_below : (es : List Entry) → Below [] es
 nothing_below [] = tt
 nothing_below (e ∷ es) = tt
 
-pub sorted-by_rank : (es : List Entry) → IsStrictlySortedBy key_cmp (keys_of es)
+sorted-by_rank : (es : List Entry) → IsStrictlySortedBy key_cmp (keys_of es)
     → IsStrictlySortedBy rank_cmp (by_rank es)
 unfolding by_rank IsStrictlySortedBy
 sorted-by_rank es h = sorted_from [] es tt h (nothing_below es)
@@ -204,11 +211,11 @@ from_in x ds (e ∷ es) (inl h) = from_in x (ranked_in ds e) es (inl (ranked_in-
 from_in x ds (e ∷ es) (inr (inl is)) = from_in x (ranked_in ds e) es (inl (ranked_in-in x ds e (inl is)))
 from_in x ds (e ∷ es) (inr (inr i)) = from_in x (ranked_in ds e) es (inr i)
 
-pub in-by_rank : (x : Entry) (es : List Entry) → In x (by_rank es) → In x es
+in-by_rank : (x : Entry) (es : List Entry) → In x (by_rank es) → In x es
 unfolding by_rank
 in-by_rank x es h = ⊎_elim (λ (i : ⊥). absurd i) (λ (i : In x es). i) (in_from x [] es h)
 
-pub by_rank-in : (x : Entry) (es : List Entry) → In x es → In x (by_rank es)
+by_rank-in : (x : Entry) (es : List Entry) → In x es → In x (by_rank es)
 unfolding by_rank
 by_rank-in x es h = from_in x [] es (inr h)
 
@@ -222,6 +229,7 @@ above-filter p z (e ∷ c) h =
       | false ↦ above-filter p z c h.1
     ]
 
+-- the keys of counters that pass a test rise
 pub rising-filter : (p : Entry → Bool) (c : Counters) → IsStrictlySortedBy key_cmp (keys_of c)
     → IsStrictlySortedBy key_cmp (keys_of (filter p c))
 unfolding IsStrictlySortedBy
@@ -232,6 +240,7 @@ rising-filter p (e ∷ c) h =
       | false ↦ rising-filter p c h.1
     ]
 
+-- and their numbers are positive
 pub positive-filter : (p : Entry → Bool) (s : Counters) → AllByRecursion (λ (d : Entry). 0 < d.1) s
     → AllByRecursion (λ (d : Entry). 0 < d.1) (filter p s)
 positive-filter p [] h = h
@@ -242,12 +251,14 @@ positive-filter p (e ∷ s) h =
     ]
 
 -- ---- the report
+-- a heavy entry has the key's weight, which is above the share
 pub in_heavy : (xs : List Entry) (p q : ℕ) (x : Bytes) (w : ℕ) → In (x, w) (heavy xs p q)
     → (w ≡ weight_of x xs) × (p * total_of xs < q * w)
 in_heavy xs p q x w h =
     let i = in_filter (is_heavy p q (total_of xs)) (x, w) (tally xs) (in-by_rank (x, w) _ h) in
     (sym (number_from_in (x, w) (tally xs) (rising-tally xs) i.0) ∙ weight_of-tally x xs, grind (arith, nat_tests, i.1))
 
+-- and each key above the share is one, with its weight
 pub heavy_in : (xs : List Entry) (p q : ℕ) (x : Bytes) (w : ℕ) → w ≡ weight_of x xs → p * total_of xs < q * w
     → In (x, w) (heavy xs p q)
 heavy_in xs p q x w e l =
@@ -261,6 +272,7 @@ heavy_in xs p q x w e l =
     (in_from_number x (tally xs) (rising-tally xs) (omega (arith, same, some))) in
     by_rank-in (x, w) _ (filter_in (is_heavy p q (total_of xs)) (x, w) (tally xs) there (grind (arith, nat_tests, l)))
 
+-- the heavy entries are the report
 pub heavy_is_report : (xs : List Entry) (p q : ℕ) → IsReport xs p q (heavy xs p q)
 heavy_is_report xs p q = record {
   ranked = sorted-by_rank _ (rising-filter (is_heavy p q (total_of xs)) (tally xs) (rising-tally xs));
@@ -278,6 +290,7 @@ near_zero k p q n w t h g l =
     let c : p * ((k + 1) * w) ≤ p * n = mul-le-mul_left p (omega arith) in
     omega (arith, a, b, c, mul_comm n p, l)
 
+-- of honest counters each heavy key has one
 pub heavy_has_counter : (c : Counters) (xs : List Entry) (k p q : ℕ) → IsHonest c (total_of xs) xs k → q ≤ p * (k + 1)
     → (e : Entry) → Contains (heavy xs p q) e → 0 < weight_of e.0 c
 heavy_has_counter c xs k p q h le e i =
@@ -293,6 +306,7 @@ heavy_has_counter c xs k p q h le e i =
           (omega (arith, at.1, mul_comm (total_of xs) p)))
     ] refl
 
+-- an honest counter is at most the slack below its key's weight
 pub within_slack : (c : Counters) (xs : List Entry) (k : ℕ) → IsHonest c (total_of xs) xs k → (x : Bytes)
     → weight_of x xs ≤ weight_of x c + slack c (total_of xs) k
 within_slack c xs k h x =
@@ -313,6 +327,7 @@ not_before_itself x p = cc (tied_itself rank_total x)
 not_both : (x y : Entry) → rank_cmp x y ≡ Less → rank_cmp y x ≡ Less → ⊥
 not_both x y p q = cc (rank_total.antisymm x y, ap ordering_reverse q)
 
+-- two lists in the order of the report with the same entries are one
 pub same_ranked : (c d : List Entry) → IsStrictlySortedBy rank_cmp c → IsStrictlySortedBy rank_cmp d
     → ((x : Entry) → In x c → In x d) → ((x : Entry) → In x d → In x c) → c ≡ d
 unfolding IsStrictlySortedBy
@@ -350,11 +365,13 @@ one_report xs p q es h =
     (λ x i. in_from_contains x _ ((h.exact x.0 x.1).1 ((own.exact x.0 x.1).0 (contains_from_in x _ i))))
 
 -- ---- what a sort leaves
+-- of two neighbours in a sorted list that are not equal the first is before
 pub ranked_next : (r s : Ordering) → s ≡ ordering_reverse r → is_lt s ≡ false → (r ≡ Equal → ⊥) → r ≡ Less
 ranked_next Less s e l n = refl
 ranked_next Equal s e l n = absurd (n refl)
 ranked_next Greater s e l n = absurd (cc)
 
+-- counters sorted in the order of the report are its list
 pub ranked_from_sort : (es ys : List Entry) → IsStrictlySortedBy key_cmp (keys_of es) → IsPermutation es ys
     → IsSortedBy (λ x y. is_lt (rank_cmp x y)) ys → ys ≡ by_rank es
 ranked_from_sort es ys h perm sorted =
@@ -377,6 +394,7 @@ ranked_from_sort es ys h perm sorted =
     (λ x i. in_from_contains x ys (Contains-permutation es ys x perm (contains_from_in x es (in-by_rank x es i))))
 
 -- ---- candidates, one by one
+-- one more candidate is selected where its number is above the share
 pub select_more : (p q n : ℕ) (ks : List Bytes) (ns : List ℕ) (i : ℕ) (k : Bytes) → length ns ≡ length ks
     → i < length ks → k ≡ get_or ks i k
     → filter (is_heavy p q n) (take (i + 1) (zip ks ns)) ≡ filter (is_heavy p q n) (take i (zip ks ns)) ++ cond
@@ -401,6 +419,7 @@ nothing_passes p (e ∷ es) zero d none lt pass = let kept : e ∷ filter p es �
 nothing_passes p (e ∷ es) (suc i) d none lt pass =
     nothing_passes p es i d (rest_fails (p e) e (filter p es) none) (omega arith) pass
 
+-- where none is selected, no number is above the share
 pub nothing_heavy : (p q n : ℕ) (ks : List Bytes) (ns : List ℕ) (i : ℕ) → length ns ≡ length ks → i < length ks
     → filter (is_heavy p q n) (zip ks ns) ≡ [] → nat_lt (p * n) (q * get_or ns i 0) ≡ true → ⊥
 nothing_heavy p q n ks ns i e l none heavy =
@@ -413,6 +432,7 @@ pub by_rank_nothing : (es : List Entry) → by_rank es ≡ [] → es ≡ []
 by_rank_nothing [] none = refl
 by_rank_nothing (e ∷ es) none = absurd (subst (In e) none (by_rank-in e (e ∷ es) (inl refl)))
 
+-- the keys that are selected rise
 pub rising-zip : (p : Entry → Bool) (ks : List Bytes) (ns : List ℕ) → length ns ≡ length ks
     → IsStrictlySortedBy key_cmp ks → IsStrictlySortedBy key_cmp (keys_of (filter p (zip ks ns)))
 rising-zip p ks ns e h = rising-filter p (zip ks ns) (subst (IsStrictlySortedBy key_cmp) (sym (keys_of-zip ks ns e)) h)
@@ -422,6 +442,7 @@ rising-zip p ks ns e h = rising-filter p (zip ks ns) (subst (IsStrictlySortedBy 
 abbrev pub candidates : Counters → List Entry → List Entry
 candidates c xs = map (λ e. (e.0, weight_of e.0 xs)) c
 
+-- the keys of counters with their weights are its candidates
 pub zip-weights_at : (c : Counters) (xs : List Entry) → zip (keys_of c) (weights_at (keys_of c) xs) ≡ candidates c xs
 zip-weights_at [] xs = refl
 zip-weights_at (e ∷ c) xs = ap (λ (ds : List Entry). (e.0, weight_of e.0 xs) ∷ ds) (zip-weights_at c xs)
@@ -438,6 +459,7 @@ in_key [] k i = absurd i
 in_key (e ∷ c) k (inl is) = (e, inl refl, ap (λ (y : Entry). y.0) is)
 in_key (e ∷ c) k (inr i) = let r = in_key c k i in (r.0, inr r.1, r.2)
 
+-- a key with a counter is a candidate, with its weight
 pub candidates_in : (c : Counters) (xs : List Entry) (e : Entry) → In e c → In (e.0, weight_of e.0 xs) (candidates c xs)
 candidates_in [] xs e i = absurd i
 candidates_in (f ∷ c) xs e (inl is) = inl (ap (λ (y : Entry). (y.0, weight_of y.0 xs)) is)
@@ -446,10 +468,12 @@ candidates_in (f ∷ c) xs e (inr i) = inr (candidates_in c xs e i)
 positive_in : (c : Counters) (e : Entry) → IsCounters c → In e c → 0 < weight_of e.0 c
 positive_in c e h i = omega (arith, number_from_in e c h.rising i, all_in (λ (e : Entry). 0 < e.1) e c h.positive i)
 
+-- the candidates have the keys of the counters
 pub keys_of-candidates : (c : Counters) (xs : List Entry) → keys_of (candidates c xs) ≡ keys_of c
 keys_of-candidates [] xs = refl
 keys_of-candidates (e ∷ c) xs = ap (λ (ks : List Bytes). e.0 ∷ ks) (keys_of-candidates c xs)
 
+-- what passes a test in the order of the report stays in it
 pub ranked-filter : (p : Entry → Bool) (es : List Entry) → IsStrictlySortedBy rank_cmp es
     → IsStrictlySortedBy rank_cmp (filter p es)
 ranked-filter p es h = IsStrictlySortedBy-filter rank_cmp p es h
@@ -481,11 +505,13 @@ selected_candidates c xs p q h =
     by_rank-in x (filter test (candidates c xs)) (filter_in test x (candidates c xs)
     (subst (λ (y : Entry). In y (candidates c xs)) same there) (grind (arith, nat_tests, g.1))))
 
+-- a test that all pass leaves all
 pub filter_all : (p : Entry → Bool) (es : List Entry) → ((x : Entry) → In x es → p x ≡ true) → filter p es ≡ es
 filter_all p [] h = refl
 filter_all p (e ∷ es) h = ap (λ b. cond b (e ∷ filter p es) (filter p es)) (h e (inl refl))
     ∙ ap (λ (ds : List Entry). e ∷ ds) (filter_all p es (λ x i. h x (inr i)))
 
+-- selected by their weights, the keys of counters are the heavy entries that have one
 pub report_with_counters : (c : Counters) (xs : List Entry) (p q : ℕ) → IsCounters c
     → selected p q (total_of xs) (zip (keys_of c) (weights_at (keys_of c) xs)) ≡ filter (has_counter c) (heavy xs p q)
 report_with_counters c xs p q h = ap (selected p q (total_of xs)) (zip-weights_at c xs) ∙ selected_candidates c xs p q h

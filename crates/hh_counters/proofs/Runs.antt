@@ -14,10 +14,11 @@ use Rattle.hh_counters.proofs.Level.{min_is, lower-nil}
 use Rattle.hh_counters.proofs.Lowering.{cut-lower, level-least}
 use Rattle.hh_counters.proofs.Stepping.{IsKept, stepped, by_key, replaced_new, replaced_elsewhere, least_of_free, least_of_full}
 
+-- each item has a weight
 abbrev pub Positive : List Entry → Type 0
 Positive xs = AllByRecursion (λ (e : Entry). 0 < e.1) xs
 
-pub none_kept : (k : ℕ) → IsKept [] k
+none_kept : (k : ℕ) → IsKept [] k
 unfolding IsStrictlySortedBy
 none_kept k = record { counters = record { rising = tt; positive = tt }; few = omega arith }
 
@@ -39,6 +40,7 @@ run_translates (e ∷ xs) k s t p h r =
     run_translates xs k r.0 t p.1 d.kept r.2 ∙ ap (λ (c : Counters). fold (λ c e. join c (e ∷ []) k) c xs)
     (sym (step_translates s e k r.0 p.0 h r.1))
 
+-- each run translates to the Misra-Gries counters of its items
 pub run_is_misra_gries : (xs : List Entry) (k : ℕ) (s : Counters) → All (λ (e : Entry). 0 < e.1) xs → IsRun xs k s
     → translate s k ≡ misra_gries xs k
 unfolding misra_gries
@@ -46,7 +48,7 @@ run_is_misra_gries xs k s p r =
     run_translates xs k [] s (recursion_from_All (λ (e : Entry). 0 < e.1) xs p) (none_kept k) r
     ∙ ap (λ (c : Counters). fold (λ c e. join c (e ∷ []) k) c xs) (lower-nil (least_of [] k))
 
-pub run_kept : (xs : List Entry) (k : ℕ) (s t : Counters) → Positive xs → IsKept s k → IsRunFrom s xs k t
+run_kept : (xs : List Entry) (k : ℕ) (s t : Counters) → Positive xs → IsKept s k → IsRunFrom s xs k t
     → IsKept t k × (total_of t ≡ total_of s + total_of xs)
 run_kept [] k s t p h r = (subst (λ (c : Counters). IsKept c k) r h, ap total_of (sym r) ∙ sym (add-zero (total_of s)))
 run_kept (e ∷ xs) k s t p h r =
@@ -54,6 +56,7 @@ run_kept (e ∷ xs) k s t p h r =
     let rest = run_kept xs k r.0 t p.1 d.kept r.2 in
     (rest.0, omega (arith, rest.1, d.total, total_of-cons e xs))
 
+-- the counters of a run add up to the total of its items
 pub run_total : (xs : List Entry) (k : ℕ) (s : Counters) → All (λ (e : Entry). 0 < e.1) xs → IsRun xs k s
     → total_of s ≡ total_of xs
 run_total xs k s p r =
@@ -153,6 +156,7 @@ run_counted (e ∷ xs) f k s t p h r b q =
     (counted f s e k r.0 p.0 h r.1 b) q in
     subst (λ n. IsClose n (weight_of q t) (least_of t k)) (omega (arith, weight_of-cons q e xs)) rest
 
+-- they lie above the weights by at most the least counter, and no other key weighs more than that
 pub run_bounds : (xs : List Entry) (k : ℕ) (s : Counters) → All (λ (e : Entry). 0 < e.1) xs → IsRun xs k s → (x : Bytes)
     → (0 < weight_of x s → (weight_of x xs ≤ weight_of x s) × (weight_of x s ≤ weight_of x xs + least_of s k))
     × (weight_of x s ≡ 0 → weight_of x xs ≤ least_of s k)
@@ -211,14 +215,14 @@ first_with_has n (e ∷ s) p h a =
           (λ other at. omega (arith, weight_of-cons z e s, at, got))
     ] refl
 
-pub drops_a_least : (s : Counters) → IsCounters s → 0 < length s → HasLeast s (key_to_drop s)
+drops_a_least : (s : Counters) → IsCounters s → 0 < length s → HasLeast s (key_to_drop s)
 drops_a_least s h l =
     let at = least_attained s l in
     let some = attained_positive s (least_counter s) h.positive at in
     let got = first_with_has (least_counter s) s some h.rising at in
     record { has = omega (arith, got, some); least = got }
 
-pub step_is_step : (s : Counters) (e : Entry) (k : ℕ) → IsCounters s → IsStep s e k (step s e k)
+step_is_step : (s : Counters) (e : Entry) (k : ℕ) → IsCounters s → IsStep s e k (step s e k)
 step_is_step s e k h = by (nat_lt 0 (weight_of e.0 s)) (nat_le (length s) k) refl refl
   where
     by : (a b : Bool) → nat_lt 0 (weight_of e.0 s) ≡ a → nat_le (length s) k ≡ b → IsStep s e k (step s e k)
@@ -240,6 +244,7 @@ steps_from (e ∷ xs) k s p h =
     let st = step_is_step s e k h.counters in
     (step s e k, st, steps_from xs k (step s e k) p.1 (stepped s e k (step s e k) p.0 h st).kept)
 
+-- the product's steps are a run
 pub steps_are_a_run : (xs : List Entry) (k : ℕ) → All (λ (e : Entry). 0 < e.1) xs → IsRun xs k (space_saving xs k)
 steps_are_a_run xs k p = steps_from xs k [] (recursion_from_All (λ (e : Entry). 0 < e.1) xs p) (none_kept k)
 

@@ -1,5 +1,5 @@
 -- The counters of an index, less the least, sorted by key.
-use Rattle.std.proofs.Common.{◌≡◌, inl, inr, ℕ, ◌+◌, ◌-◌, ◌<◌, ◌≤◌, true, false, cond, List, [], ◌∷◌, ◌++◌, length, get_or, take, is_eq, is_lt, refl, sym, ap, ap₂, ◌∙◌, subst, append-nil, arith}
+use Rattle.std.proofs.Common.{◌≡◌, ℕ, ◌+◌, ◌-◌, ◌<◌, ◌≤◌, true, false, cond, List, [], ◌∷◌, ◌++◌, length, get_or, take, is_eq, is_lt, refl, sym, ap, ap₂, ◌∙◌, subst, append-nil, arith}
 use Rattle.std.specs.Prelude.{nat_lt, IsPermutation, IsSortedBy}
 use Rattle.std.specs.List.{AllByRecursion, IsDistinct}
 use Rattle.std.specs.List.Sorted.{IsStrictlySortedBy}
@@ -7,7 +7,8 @@ use Rattle.std.specs.Map.{keys_of}
 use Rattle.std.specs.Cmp.{eq_by_cmp_equiv}
 use Rattle.std.proofs.lemmas.Bool.Decides.{nat_tests}
 use Rattle.std.proofs.lemmas.List.{get_or-map, take_more}
-use Rattle.std.proofs.lemmas.List.Sorted.{IsPermutation-map, IsPermutation-sym, Contains-permutation, sum_by-IsPermutation}
+use Rattle.std.proofs.lemmas.List.Sorted.{All-permutation, IsPermutation-map, sum_by-IsPermutation}
+use Rattle.std.proofs.lemmas.List.Elements.{All-from_recursion, recursion_from_All}
 use Rattle.std.proofs.lemmas.Map.Keys.{IsDistinct-IsPermutation, apart_from_distinct, sorted_from_all_adjacent}
 use Rattle.std.proofs.lemmas.Map.Entries.{length-keys_of}
 use Rattle.hh_stream.specs.Weights.{Bytes, Entry, key_cmp, same_key, at_key, weight_of}
@@ -15,7 +16,7 @@ use Rattle.hh_counters.specs.Counters.{Counters, tally, lower}
 use Rattle.hh_counters.proofs.Weights.{key_total, weight_of-cons, weight_of-tally, same_counters}
 use Rattle.hh_counters.proofs.Level.{lower-nil, lower-cons, by_lower, positive-lower, weight_of-lower, counters-lower}
 use Rattle.hh_counters.proofs.Linked.{Distinct, none_alike}
-use Rattle.hh_counters.proofs.Reports.{In, in_from_contains, contains_from_in, all_in, ranked_next}
+use Rattle.hh_counters.proofs.Reports.{ranked_next}
 
 -- ---- lowering, entry by entry
 lower-append : (t : ℕ) (c d : Counters) → lower t (c ++ d) ≡ lower t c ++ lower t d
@@ -38,12 +39,14 @@ lower_more t es i e l is =
     ∙ ap (λ (d : Counters). lower t (take i es) ++ d) (lower-cons t e []
     ∙ ap (λ (d : Counters). cond (nat_lt t e.1) ((e.0, e.1 - t) ∷ d) d) (lower-nil t))
 
+-- one more entry above the number that is taken away stays, less it
 pub lower_above : (t : ℕ) (es : List Entry) (i : ℕ) (e : Entry) → i < length es → e ≡ get_or es i e → t < e.1
     → lower t (take (i + 1) es) ≡ lower t (take i es) ++ (e.0, e.1 - t) ∷ []
 lower_above t es i e l is above =
     let test : nat_lt t e.1 ≡ true = grind (arith, nat_tests, above) in
     lower_more t es i e l is ∙ ap (λ b. lower t (take i es) ++ cond b ((e.0, e.1 - t) ∷ []) []) test
 
+-- one more that is not above it goes
 pub lower_below : (t : ℕ) (es : List Entry) (i : ℕ) (e : Entry) → i < length es → e ≡ get_or es i e → e.1 ≤ t
     → lower t (take (i + 1) es) ≡ lower t (take i es)
 lower_below t es i e l is below =
@@ -97,15 +100,7 @@ weight_of-lower-distinct t q (e ∷ es) h =
     ] refl
 
 -- ---- sorted by key
-all-permutation : (P : Entry → Type 0) (xs ys : List Entry) → IsPermutation xs ys → AllByRecursion P xs
-    → AllByRecursion P ys
-all-permutation P xs ys p h = from ys (λ x i. all_in P x xs h
-    (in_from_contains x xs (Contains-permutation ys xs x (IsPermutation-sym xs ys p) (contains_from_in x ys i))))
-  where
-    from : (zs : List Entry) → ((x : Entry) → In x zs → P x) → AllByRecursion P zs
-    from [] f = tt
-    from (z ∷ zs) f = (f z (inl refl), from zs (λ x i. f x (inr i)))
-
+-- entries whose keys are distinct rise where they are sorted
 rising_from_sort : (es ys : List Entry) → Distinct es → IsPermutation es ys
     → IsSortedBy (λ x y. is_lt (key_cmp x.0 y.0)) ys → IsStrictlySortedBy key_cmp (keys_of ys)
 rising_from_sort es ys h perm sorted =
@@ -123,14 +118,17 @@ rising_from_sort es ys h perm sorted =
     ap₂ key_cmp first second ∙ ranked_next (key_cmp a b) (key_cmp b a) (key_total.antisymm b a)
     (sorted k d (omega arith) long) (λ e. cc (ap is_eq e, ap₂ same_key first second, differ)))
 
+-- what is left of an index, sorted by key, is what is left of its view
 pub translated_sorted : (t : ℕ) (es ys : List Entry) → Distinct es → IsPermutation (lower t es) ys
     → IsSortedBy (λ x y. is_lt (key_cmp x.0 y.0)) ys → IsStrictlySortedBy key_cmp (keys_of (tally es))
     → ys ≡ lower t (tally es)
 translated_sorted t es ys h perm sorted rising =
+    let some : Entry → Type 0 = λ e. 0 < e.1 in
     same_counters _ _
     (record {
       rising = rising_from_sort (lower t es) ys (distinct-lower t es h) perm sorted;
-      positive = all-permutation (λ (e : Entry). 0 < e.1) (lower t es) ys perm (positive-lower t es);
+      positive = recursion_from_All some ys
+          (All-permutation some (lower t es) ys perm (All-from_recursion some (lower t es) (positive-lower t es)));
     })
     (counters-lower t (tally es) rising)
     (λ q. sum_by-IsPermutation (at_key q) (lower t es) ys perm ∙ weight_of-lower-distinct t q es h

@@ -15,11 +15,12 @@ use Rattle.hh_counters.proofs.Lowering.{level-least}
 use Rattle.hh_counters.proofs.Reports.{positive-filter, rising-filter}
 
 -- ---- an entry added
+-- counters with an item added are counters
 pub counters-add_at : (s : Counters) (e : Entry) → IsCounters s → 0 < e.1 → IsCounters (add_at s e)
 counters-add_at s e h p = record { rising = rising-add_at s e h.rising; positive = positive-add_at s e h.positive p }
 
 -- a key that has a counter takes no more room
-pub length-add_at_old : (c : Counters) (e : Entry) → IsStrictlySortedBy key_cmp (keys_of c) → 0 < weight_of e.0 c
+length-add_at_old : (c : Counters) (e : Entry) → IsStrictlySortedBy key_cmp (keys_of c) → 0 < weight_of e.0 c
     → length (add_at c e) ≡ length c
 unfolding IsStrictlySortedBy
 length-add_at_old [] e h l = absurd (omega arith)
@@ -46,6 +47,7 @@ length-add_at_new (d ∷ c) e h z =
     ] refl
 
 -- ---- a key taken out
+-- without a key it weighs nothing, and others weigh what they did
 pub weight_of-without : (q y : Bytes) (s : Counters) → weight_of q (without s y) ≡ cond (same_key q y) 0 (weight_of q s)
 weight_of-without q y [] = none (same_key q y)
   where
@@ -71,6 +73,7 @@ weight_of-without q y (e ∷ s) =
           ] refl)
     ] refl
 
+-- counters without a key are counters
 pub counters-without : (s : Counters) (y : Bytes) → IsCounters s → IsCounters (without s y)
 counters-without s y h = record {
   rising = rising-filter (λ e. not (same_key y e.0)) s h.rising;
@@ -84,7 +87,7 @@ without_above (e ∷ s) y h = ap (λ r. cond (not (is_eq r)) (e ∷ without s y)
     ∙ ap (λ (c : Counters). e ∷ c) (without_above s y h.1)
 
 -- the length and the total, less those of the key
-pub without_less : (s : Counters) (y : Bytes) → IsCounters s → 0 < weight_of y s
+without_less : (s : Counters) (y : Bytes) → IsCounters s → 0 < weight_of y s
     → (length (without s y) + 1 ≡ length s) × (total_of (without s y) + weight_of y s ≡ total_of s)
 unfolding IsStrictlySortedBy
 without_less [] y h l = absurd (omega arith)
@@ -140,6 +143,7 @@ at_least_all (e ∷ s) m h b =
           ] refl),
     )
 
+-- what is not above any counter is not above the weight of a key that has one
 pub at_least_each : (s : Counters) (m : ℕ) (q : Bytes) → AllByRecursion (λ (e : Entry). m ≤ e.1) s → 0 < weight_of q s
     → m ≤ weight_of q s
 at_least_each [] m q a l = absurd (omega arith)
@@ -170,15 +174,17 @@ least_counter-ge m (e ∷ s) l a = from e.1 s a.0 a.1
     from n [] h a = h
     from n (e ∷ s) h a = from (min n e.1) s (omega (arith, h, a.0)) a.1
 
+-- where a counter is free, the least is 0
 pub least_of_free : (s : Counters) (k : ℕ) → length s ≤ k → least_of s k ≡ 0
 least_of_free s k h =
     let yes : nat_le (length s) k ≡ true = grind (arith, nat_tests, h) in ap (λ b. cond b 0 (least_counter s)) yes
 
+-- else it is the least counter
 pub least_of_full : (s : Counters) (k : ℕ) → k < length s → least_of s k ≡ least_counter s
 least_of_full s k h =
     let no : nat_le (length s) k ≡ false = grind (arith, nat_tests, h) in ap (λ b. cond b 0 (least_counter s)) no
 
-pub least_of-le : (s : Counters) (k : ℕ) (q : Bytes) → 0 < weight_of q s → least_of s k ≤ weight_of q s
+least_of-le : (s : Counters) (k : ℕ) (q : Bytes) → 0 < weight_of q s → least_of s k ≤ weight_of q s
 least_of-le s k q l = elim (nat_le (length s) k) as (λ b. cond b 0 (least_counter s) ≤ weight_of q s) [
   | true ↦ omega arith
   | false ↦ least_counter-le s q l
@@ -256,6 +262,7 @@ absent_without s q y z = weight_of-without q y s ∙ either (same_key q y) (weig
     either true m h = refl
     either false m h = h
 
+-- a newcomer has the counter that it took over, with its weight
 pub replaced_new : (s : Counters) (e : Entry) (y : Bytes) (n : ℕ) (t : Counters) → weight_of e.0 s ≡ 0
     → t ≡ add_at (without s y) (e.0, n) → (q : Bytes) → q ≡ e.0 → weight_of q t ≡ n
 replaced_new s e y n t new is q same =
@@ -263,6 +270,7 @@ replaced_new s e y n t new is q same =
     let here : at_key q (e.0, n) ≡ n = at_same q (e.0, n) (ap (λ x. same_key x e.0) same ∙ same_self e.0) in
     omega (arith, ap (weight_of q) is, weight_of-add_at q (without s y) (e.0, n), gone, here)
 
+-- the dropped key weighs nothing, and others weigh what they did
 pub replaced_elsewhere : (s : Counters) (e : Entry) (y : Bytes) (n : ℕ) (t : Counters)
     → t ≡ add_at (without s y) (e.0, n) → (q : Bytes) → same_key q e.0 ≡ false
     → weight_of q t ≡ cond (same_key q y) 0 (weight_of q s)
@@ -274,6 +282,7 @@ replaced_elsewhere s e y n t is q other = omega (
   at_differ q (e.0, n) other,
 )
 
+-- what a step does to the number of counters, the least one, the total and the translation
 pub stepped : (s : Counters) (e : Entry) (k : ℕ) (t : Counters) → 0 < e.1 → IsKept s k → IsStep s e k t
     → IsStepped s e k t
 stepped s e k t p h (raised has is) =

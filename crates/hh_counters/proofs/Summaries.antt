@@ -14,12 +14,14 @@ use Rattle.hh_counters.proofs.Weights.{plus_is_fold, positive-add_at, key_exact,
 use Rattle.hh_counters.proofs.Level.{over-cons, is_level, one_level, level_one_more, level_few, lower-cons, by_lower, length-lower, weight_of-lower, total_of-lower, total_of-lower-le, counters-lower}
 
 -- ---- a join
+-- a join is counters
 pub counters-join : (c d : Counters) (k : ℕ) → IsCounters (join c d k)
 counters-join c d k = counters-lower (level (plus c d) k) (plus c d) (rising-tally (c ++ d))
 
-pub length-join : (c d : Counters) (k : ℕ) → length (join c d k) ≤ k
+length-join : (c d : Counters) (k : ℕ) → length (join c d k) ≤ k
 length-join c d k = omega (arith, length-lower (level (plus c d) k) (plus c d), (is_level (plus c d) k).at_most)
 
+-- a key has in it what it has in both together, less the level
 pub weight_of-join : (x : Bytes) (c d : Counters) (k : ℕ)
     → weight_of x (join c d k) ≡ weight_of x c + weight_of x d - level (plus c d) k
 weight_of-join x c d k =
@@ -32,7 +34,7 @@ total_of-cut c k (suc u) h =
     rw (sym (add-one u)) (let many : k + 1 ≤ over c u = grind (arith, h.least u) in
     omega (arith, total_of-lower u c, mul-le-mul_left (u + 1) many, mul_comm (u + 1) (k + 1)))
 
-pub total_of-join : (c d : Counters) (k : ℕ) → total_of (join c d k) + (k + 1) * level (plus c d) k
+total_of-join : (c d : Counters) (k : ℕ) → total_of (join c d k) + (k + 1) * level (plus c d) k
     ≤ total_of c + total_of d
 total_of-join c d k = omega (arith, total_of-cut (plus c d) k _ (is_level (plus c d) k), total_of-plus c d)
 
@@ -67,6 +69,7 @@ joins c d m l xs ys k counts countl belowc nearc belowd neard = record {
       );
 }
 
+-- honest counters of two lists, joined, are honest for both together
 pub join_is_honest : (c d : Counters) (m l : ℕ) (xs ys : List Entry) (k : ℕ) → IsHonest c m xs k → IsHonest d l ys k
     → IsHonest (join c d k) (m + l) (xs ++ ys) k
 join_is_honest c d m l xs ys k h g = joins c d m l xs ys k h.counted g.counted h.below h.near g.below g.near
@@ -97,11 +100,13 @@ nothing k = record {
   near = λ x. omega arith;
 }
 
+-- the Misra-Gries counters are honest
 pub honest-misra_gries : (xs : List Entry) (k : ℕ) → IsHonest (misra_gries xs k) (total_of xs) xs k
 unfolding misra_gries
 honest-misra_gries xs k = honest-misra_gries_from [] [] xs k (nothing k)
 
 -- ---- what a summary keeps
+-- no counters fit in a summary of no items
 pub fits_nothing : (k : ℕ) → 1 ≤ k → k ≤ 65535 → Fits k 0 []
 unfolding IsStrictlySortedBy
 fits_nothing k a b = record {
@@ -113,6 +118,7 @@ fits_nothing k a b = record {
   within = omega arith;
 }
 
+-- a join fits in a summary of both totals
 pub fits_join : (c d : Counters) (m l k : ℕ) → Fits k m c → total_of d ≤ l → m + l < 2 ^ 63
     → Fits k (m + l) (join c d k)
 fits_join c d m l k h w b = record {
@@ -125,12 +131,14 @@ fits_join c d m l k h w b = record {
 }
 
 -- ---- one item more
+-- one more item is one more join
 pub sketch_push : (k : ℕ) (xs : List Entry) (e : Entry) → sketch_of k (xs ++ e ∷ []) ≡ added (sketch_of k xs) e
 unfolding misra_gries
 sketch_push k xs e = let more : total_of (xs ++ e ∷ [])
     ≡ total_of xs + e.1 = omega (arith, total_of-append xs (e ∷ [])) in
     λ i. record { k = k; total = more i; counters = fold_push (λ c e. join c (e ∷ []) k) [] xs e i }
 
+-- as in a loop over the items
 pub sketch_more : (k : ℕ) (xs : List Entry) (i : ℕ) (e : Entry) → i < length xs → e ≡ get_or xs i e
     → sketch_of k (take (i + 1) xs) ≡ added (sketch_of k (take i xs)) e
 sketch_more k xs i e l is = ap (sketch_of k) (take_more xs i e l) ∙ sketch_push k (take i xs) (get_or xs i e)
@@ -179,6 +187,7 @@ honest_within c m xs k h =
     let zero : (k + 1) * weight_of x c ≡ 0 = ap (λ n. (k + 1) * n) none_c ∙ mul-zero (k + 1) in
     omega (arith, zero, h.near x)
 
+-- k + 1 times what a counter lacks of its weight is no more than what all lack of the total
 pub honest_near : (c : Counters) (m : ℕ) (xs : List Entry) (k : ℕ) → IsHonest c m xs k → (x : Bytes)
     → (k + 1) * (weight_of x xs - weight_of x c) ≤ m - total_of c
 honest_near c m xs k h x =
@@ -215,7 +224,7 @@ lower_none (e ∷ c) h =
     sub-zero n = omega arith
 
 -- an item's counter is joined by adding it, less the level
-pub join_one : (c : Counters) (e : Entry) (k : ℕ) → IsCounters c
+join_one : (c : Counters) (e : Entry) (k : ℕ) → IsCounters c
     → join c (e ∷ []) k ≡ lower (level (add_at c e) k) (add_at c e)
 join_one c e k h = ap (λ (d : Counters). lower (level d k) d) (plus_is_fold c (e ∷ []) h)
 
@@ -226,7 +235,7 @@ join_room c e k h p few =
     join_one c e k h ∙ ap (λ t. lower t (add_at c e)) (level_few (add_at c e) k few)
     ∙ lower_none (add_at c e) (positive-add_at c e h.positive p)
 
-pub length-add_at : (c : Counters) (e : Entry) → length (add_at c e) ≤ length c + 1
+length-add_at : (c : Counters) (e : Entry) → length (add_at c e) ≤ length c + 1
 length-add_at [] e = omega arith
 length-add_at (d ∷ c) e =
     elim (key_cmp e.0 d.0) as (λ r. length (match_ordering r (e ∷ d ∷ c) ((d.0, d.1 + e.1) ∷ c) (d ∷ add_at c e))

@@ -20,7 +20,7 @@ use Rattle.hh_counters.proofs.Runs.{step_kept}
 
 -- ---- the first of the least counters
 -- the number at the place of the least is the least
-pub least_number : (s : Counters) (i : ℕ) (d : Entry) → IsFirstLeast s i → (get_or s i d).1 ≡ least_counter s
+least_number : (s : Counters) (i : ℕ) (d : Entry) → IsFirstLeast s i → (get_or s i d).1 ≡ least_counter s
 least_number s i d h =
     let n = (get_or s i d).1 in
     let each : AllByRecursion (λ (e : Entry). n ≤ e.1) s = recursion_from_All (λ (e : Entry). n ≤ e.1) s
@@ -38,7 +38,7 @@ first_with_at (e ∷ s) n (suc i) d l is before =
     ap (λ b. cond b e.0 (first_with n s)) not_here ∙ first_with_at s n i d (omega arith) is
     (λ j m. before (suc j) (omega arith))
 
-pub least_key : (s : Counters) (i : ℕ) (d : Entry) → IsFirstLeast s i → key_to_drop s ≡ (get_or s i d).0
+least_key : (s : Counters) (i : ℕ) (d : Entry) → IsFirstLeast s i → key_to_drop s ≡ (get_or s i d).0
 least_key s i d h = let n = least_number s i d h in
     first_with_at s (least_counter s) i d h.in_range n (λ j l. omega (arith, h.first j d l, n))
 
@@ -91,6 +91,7 @@ remove_is_without (e ∷ s) (suc i) d h l =
     ap (λ (c : Counters). e ∷ c) (remove_is_without s i d h.1 (omega arith))
     ∙ sym (ap (λ b. cond (not b) (e ∷ without s y) (without s y)) other)
 
+-- an item may be added before another key is dropped, or after
 pub without-add_at : (s : Counters) (e : Entry) (y : Bytes) → IsCounters s → 0 < e.1 → same_key y e.0 ≡ false
     → without (add_at s e) y ≡ add_at (without s y) e
 without-add_at s e y h p other =
@@ -134,11 +135,13 @@ replaced_at s e i j d h z p least at =
     differ true q l = absurd (omega (arith, l, ap (λ y. weight_of y s) (same_exact (get_or s i d).0 e.0 q), z))
     differ false q l = q
 
+-- the place that is removed is one of those after the newcomer came in
 pub shifted_within : (s : Counters) (e : Entry) (i j : ℕ) (n : ℕ) → IsCounters s → weight_of e.0 s ≡ 0 → i < length s
     → j ≤ i + 1 → j < length (add_at s (e.0, n))
 shifted_within s e i j n h z l le = omega (arith, length-add_at_new s (e.0, n) h.positive z)
 
 -- ---- what the fields keep
+-- no counters are a monitor's
 pub monitor_nothing : (k : ℕ) → 1 ≤ k → k ≤ 65535 → IsMonitor k 0 []
 unfolding IsStrictlySortedBy
 monitor_nothing k a b = record {

@@ -38,8 +38,8 @@ LevelIsLeast = (c : Counters) (k t : ℕ) → IsLevel c k (level c k) × (IsLeve
 -- the sum is the finite map with both numbers at each key, and no other is
 abbrev pub SumIsByKey : Type 0
 SumIsByKey =
-    (c d : Counters) → IsCounters c → IsCounters d → IsCounters (plus c d) × ((x : Bytes)
-    → weight_of x (plus c d) ≡ weight_of x c + weight_of x d)
+    (c d : Counters) → IsCounters c → IsCounters d → IsCounters (plus c d)
+    × ((x : Bytes) → weight_of x (plus c d) ≡ weight_of x c + weight_of x d)
     × ((s : Counters) → IsCounters s → ((x : Bytes) → weight_of x s ≡ weight_of x c + weight_of x d) → s ≡ plus c d)
 
 -- what a join leaves is a finite map with each number less the level
@@ -71,8 +71,8 @@ ReportIsUnique = (xs : List Entry) (p q : ℕ) (es : List Entry) → IsReport xs
 abbrev pub CandidatesSuffice : Type 0
 CandidatesSuffice =
     (c : Counters) (xs : List Entry) (k p q : ℕ)
-    → (IsCounters c → selected p q (total_of xs) (zip (keys_of c) (weights_at (keys_of c) xs))
-    ≡ filter (has_counter c) (heavy xs p q))
+    → (IsCounters c
+    → selected p q (total_of xs) (zip (keys_of c) (weights_at (keys_of c) xs)) ≡ filter (has_counter c) (heavy xs p q))
     × (IsHonest c (total_of xs) xs k → q ≤ p * (k + 1)
     → selected p q (total_of xs) (zip (keys_of c) (weights_at (keys_of c) xs)) ≡ heavy xs p q)
 
@@ -108,8 +108,7 @@ abbrev pub RunSumsToTotal : Type 0
 RunSumsToTotal =
     (xs : List Entry) (k : ℕ) (s : Counters) → All (λ e. 0 < e.1) xs → IsRun xs k s → total_of s ≡ total_of xs
 
--- a monitored key's counter is at least its weight, and above it by at most the least counter; no other key weighs more
--- than that
+-- a monitored key's counter is at least its weight, and at most the least counter above it; no other key weighs more
 abbrev pub RunBoundsWeights : Type 0
 RunBoundsWeights =
     (xs : List Entry) (k : ℕ) (s : Counters) → All (λ e. 0 < e.1) xs → IsRun xs k s → (x : Bytes)

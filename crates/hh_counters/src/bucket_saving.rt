@@ -57,8 +57,8 @@ pub enum NewFault {
     Memory,
 }
 
-/// The most keys for which room is made at the start.
-pub const FIRST_ROOM: usize = 1024;
+// The most keys for which room is made at the start.
+const FIRST_ROOM: usize = 1024;
 
 impl BucketSaving {
     /// Space-Saving of no items, with room for the first keys.
@@ -66,21 +66,31 @@ impl BucketSaving {
         ensures empty { IfOk result (λ s. s ≡ record { k = k; total = 0; counters = [] }) }
         ensures bad_k { IsErrOf result NewFault.BadK ↔ ((k ≡ 0) ⊎ (max_k < k)) }
     {
-        if k == 0 || k > MAX_K {
-            return Err(NewFault::BadK);
-        }
-        // a newcomer enters before the key that it replaces goes
-        let most = k as usize + 2;
-        match IndexMap::with_capacity(alloc, most.min(FIRST_ROOM)) {
-            Ok(index) => Ok(BucketSaving {
-                alloc,
-                k,
-                total: 0,
-                index,
-                buckets: BTreeMap::new(alloc),
-            }),
-            Err(_) => Err(NewFault::Memory),
-        }
+        let index = first_index(alloc, k)?;
+        Ok(BucketSaving {
+            alloc,
+            k,
+            total: 0,
+            index,
+            buckets: BTreeMap::new(alloc),
+        })
+    }
+}
+
+/// An index of no keys, with room for the first ones of a monitor with k.
+pub fn first_index(alloc: Global, k: u64) -> Result<IndexMap<Key, u64>, NewFault>
+    ensures empty { IfOk result (λ index. index.entries ≡ []) }
+    ensures in_range { IfOk result (λ _. (1 ≤ k) × (k ≤ max_k)) }
+    ensures bad_k { IsErrOf result NewFault.BadK ↔ ((k ≡ 0) ⊎ (max_k < k)) }
+{
+    if k == 0 || k > MAX_K {
+        return Err(NewFault::BadK);
+    }
+    // a newcomer enters before the key that it replaces goes
+    let most = k as usize + 2;
+    match IndexMap::with_capacity(alloc, most.min(FIRST_ROOM)) {
+        Ok(index) => Ok(index),
+        Err(_) => Err(NewFault::Memory),
     }
 }
 

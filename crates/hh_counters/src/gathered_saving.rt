@@ -9,12 +9,12 @@ ghost use Rattle.hh_counters.specs.SpaceSaving.{monitored};
 ghost use Rattle.hh_counters.specs.Buckets.{IsTakenIn, Stand, HasSettled};
 
 use crate::bucket_saving::{
-    FIRST_ROOM, NewFault, enter, replace_first, set_counter, translated_entries,
+    NewFault, enter, first_index, replace_first, set_counter, translated_entries,
 };
 use crate::buckets::{Bucket, first, raise_first};
 use crate::monitor::Monitor;
 use crate::sought::Sought;
-use crate::summary::{AddFault, MAX_K, Summary};
+use crate::summary::{AddFault, Summary};
 use hh_stream::{Key, MAX_TOTAL};
 use indexmap::IndexMap;
 use std::alloc::{AllocError, Global};
@@ -63,21 +63,14 @@ impl GatheredSaving {
         ensures empty { IfOk result (λ s. s ≡ record { k = k; total = 0; counters = [] }) }
         ensures bad_k { IsErrOf result NewFault.BadK ↔ ((k ≡ 0) ⊎ (max_k < k)) }
     {
-        if k == 0 || k > MAX_K {
-            return Err(NewFault::BadK);
-        }
-        // a newcomer enters before the key that it replaces goes
-        let most = k as usize + 2;
-        match IndexMap::with_capacity(alloc, most.min(FIRST_ROOM)) {
-            Ok(index) => Ok(GatheredSaving {
-                alloc,
-                k,
-                total: 0,
-                index,
-                buckets: BTreeMap::new(alloc),
-            }),
-            Err(_) => Err(NewFault::Memory),
-        }
+        let index = first_index(alloc, k)?;
+        Ok(GatheredSaving {
+            alloc,
+            k,
+            total: 0,
+            index,
+            buckets: BTreeMap::new(alloc),
+        })
     }
 
     /// [`add`](Monitor::add) of the key with these bytes, 1 to 4,096 of them.
