@@ -60,8 +60,7 @@ key_takes version before bytes x fits e =
           record {
             some = omega (arith, second.1);
             few = omega (arith, second.1, few, (few_bytes version).0);
-            bytes =
-                λ i lt. second.2 i;
+            bytes = λ i lt. second.2 i;
           };
       few = omega (arith, second.1, few);
     } in
@@ -132,8 +131,7 @@ entry_again version before left e rest is =
     ap (entry_at version before left) regrouped
     ∙ rw (
       key_again version before e.0 (to_be_bytes w64 e.1 ++ rest) is.key is.above,
-      where_again w64 (2 ^ 64) wide64
-          (λ n. ltb 0 n) faults.BadCounter e.1 rest is.small some,
+      where_again _ _ wide64 (λ n. ltb 0 n) faults.BadCounter e.1 rest is.small some,
       within,
     ) refl
 
@@ -176,8 +174,7 @@ entries_again version (e ∷ es) before left rest are =
     ap (entries_at version (suc (length es)) before left) regrouped
     ∙ rw (
       entry_again version before left e (flat_map (entry_bytes version) es ++ rest) are.0,
-      entries_again version es e.0
-          (left - e.1) rest are.1,
+      entries_again version es e.0 (left - e.1) rest are.1,
     ) refl
 
 -- ---- entries and counters
@@ -272,7 +269,7 @@ total_takes bytes x fits e =
 pub total_again : (n : ℕ) (rest : List ℕ) → n < 2 ^ 63 → total_at (to_be_bytes w64 n ++ rest) ≡ Ok (n, rest)
 total_again n rest small =
     let pass : ltb n (2 ^ 63) ≡ true = grind (arith, nat_tests) in
-    where_again w64 (2 ^ 64) wide64 (λ n. ltb n (2 ^ 63)) faults.TotalTooLarge n rest (omega arith) pass
+    where_again _ _ wide64 (λ n. ltb n (2 ^ 63)) faults.TotalTooLarge n rest (omega arith) pass
 
 -- a summary that is read is spelled so
 pub sketch_takes : (version : Version) (bytes : List ℕ) (x : Sketch × List ℕ) → IsBytes bytes
@@ -325,10 +322,10 @@ sketch_again version s rest fits are =
     let few : leb (length s.counters) s.k ≡ true = grind (arith, nat_tests, fits.few) in
     ap (sketch_at version) regrouped
     ∙ rw (
-      where_again w16 (2 ^ 16) wide16 (λ n. ltb 0 n) faults.BadK s.k (total ++ (count ++ (entries ++ rest)))
+      where_again _ _ wide16 (λ n. ltb 0 n) faults.BadK s.k (total ++ (count ++ (entries ++ rest)))
           (omega (arith, fits.bounded_k)) some,
       total_again s.total (count ++ (entries ++ rest)) fits.bounded_total,
-      where_again w16 (2 ^ 16) wide16 (λ n. leb n s.k) faults.BadCount (length s.counters) (entries ++ rest)
+      where_again _ _ wide16 (λ n. leb n s.k) faults.BadCount (length s.counters) (entries ++ rest)
           (omega (arith, fits.few, fits.bounded_k)) few,
       entries_again version s.counters [] s.total rest (entries_of_fits version s.k s.total s.counters fits are),
     ) refl

@@ -93,7 +93,7 @@ one_byte_back [] len fits = absurd cc
 one_byte_back (b ∷ []) len fits = ap (λ (n : ℕ). n ∷ []) (one_byte b (fits 0))
 one_byte_back (b ∷ c ∷ bytes) len fits = absurd (omega arith)
 
--- numbers of 1, 2, 4 and 8 bytes
+-- numbers of 1 byte
 pub wide8 : IsWide w8 (2 ^ 8)
 wide8 = record {
   len = λ n. refl;
@@ -102,6 +102,7 @@ wide8 = record {
   below = λ bytes fits. omega (arith, fits 0);
 }
 
+-- of 2
 pub wide16 : IsWide w16 (2 ^ 16)
 wide16 = record {
   len = λ n. refl;
@@ -110,6 +111,7 @@ wide16 = record {
   below = λ bytes fits. omega (arith, fits 0, fits 1);
 }
 
+-- of 4
 pub wide32 : IsWide w32 (2 ^ 32)
 wide32 = record {
   len = λ n. refl;
@@ -118,6 +120,7 @@ wide32 = record {
   below = λ bytes fits. omega (arith, fits 0, fits 1, fits 2, fits 3);
 }
 
+-- of 8
 pub wide64 : IsWide w64 (2 ^ 64)
 wide64 = record {
   len = λ n. refl;
@@ -166,8 +169,7 @@ number_again w limit wide n rest lt =
       long,
       take_at (to_be_bytes w n) rest (byte_len w) len,
       drop_at (to_be_bytes w n) rest (byte_len w) len,
-      wide.again
-          n lt,
+      wide.again n lt,
     ) refl
 
 -- a number that is read and passes a test
@@ -184,7 +186,7 @@ where_takes w limit wide test fault bytes x fits e =
 -- a number that is spelled so and passes is read
 pub where_again : (w : Width) (limit : ℕ) (wide : IsWide w limit) (test : ℕ → Bool) (fault : SavedFault) (n : ℕ)
     (rest : List ℕ) → n < limit → test n ≡ true → number_where w test fault (to_be_bytes w n ++ rest) ≡ Ok (n, rest)
-where_again w limit wide test fault n rest lt pass = rw (number_again w limit wide n rest lt, pass) refl
+where_again w limit wide test fault n rest lt pass = rw (number_again _ _ wide n rest lt, pass) refl
 
 -- ---- bytes
 

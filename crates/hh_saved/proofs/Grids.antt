@@ -49,8 +49,7 @@ row_takes width total bytes x fits e =
     let whole : cells_bytes cells ≡ field.0 = flat_map-blocks_in _ _ _ _ cell_code width field.0 t.1 t.2 in
     subst (λ (y : List ℕ × List ℕ). Takes bytes (cells_bytes y.0) y.1 × (length y.0 ≡ width) × (sum y.0 ≡ total)) g.1 (
       subst (λ (text : List ℕ). Takes bytes text field.1) (sym whole) t.0,
-      length-blocks_in (from_be_bytes w64) 8 width
-          field.0,
+      length-blocks_in (from_be_bytes w64) 8 width field.0,
       eqb-true _ _ g.0,
     )
 
@@ -113,8 +112,7 @@ rows_again (suc n) width total cells rest are small =
     ap (rows_at (suc n) width total) regrouped
     ∙ rw (
       row_again width total front (cells_bytes back ++ rest) are.0 are.1 small,
-      rows_again n width total back rest are.2
-          small,
+      rows_again n width total back rest are.2 small,
     ) (ap (λ (t : List ℕ). Ok (t, rest)) whole)
 
 -- ---- rows and the cells of a table
@@ -253,10 +251,10 @@ grid_again t rest family fits =
     let are = rows_from depth t.width t.total t.cells fits.all_cells fits.rows_sum in
     ap grid_at regrouped
     ∙ rw (
-      where_again w32 (2 ^ 32) wide32 is_width faults.BadWidth t.width
+      where_again _ _ wide32 is_width faults.BadWidth t.width
           (to_be_bytes w8 depth ++ (family_bytes t.family ++ (total ++ (cells ++ rest))))
           (omega (arith, fits.width_in_range)) wide,
-      where_again w8 (2 ^ 8) wide8 is_depth faults.BadDepth depth (family_bytes t.family ++ (total ++ (cells ++ rest)))
+      where_again _ _ wide8 is_depth faults.BadDepth depth (family_bytes t.family ++ (total ++ (cells ++ rest)))
           (omega (arith, family.depth)) deep,
       family_again t.family (total ++ (cells ++ rest)) family.in_range,
       total_again t.total (cells ++ rest) fits.total_in_range,

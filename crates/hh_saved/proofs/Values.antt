@@ -59,7 +59,7 @@ version_again : (version : Version) (rest : List ℕ)
     → version_at (to_be_bytes w32 (magic_of version) ++ rest) ≡ Ok (version, rest)
 unfolding version_at
 version_again version rest =
-    rw (number_again w32 (2 ^ 32) wide32 (magic_of version) rest (names version).1, (names version).0) refl
+    rw (number_again _ _ wide32 (magic_of version) rest (names version).1, (names version).0) refl
 
 -- ---- values
 
@@ -140,7 +140,7 @@ unfolding value_at
 value_again version v rest is =
     rw (
       spelling_names version v rest,
-      number_again w8 (2 ^ 8) wide8 (kind_of v) (content_bytes version v ++ rest) (kind_small v),
+      number_again _ _ wide8 (kind_of v) (content_bytes version v ++ rest) (kind_small v),
       body_again version v rest is,
     ) refl
 
@@ -186,8 +186,7 @@ one_spelling p q v w rest first second e =
     ok_is (v, rest) (w, []) (sym (value_again p v rest first) ∙ ap value_at whole ∙ value_again q w [] second) in (
       ap (λ (x : Version × List ℕ). x.0) front,
       ap (λ (x : Saved × List ℕ). x.0) same,
-      ap (λ (x : Saved × List ℕ). x.1)
-          same,
+      ap (λ (x : Saved × List ℕ). x.1) same,
     )
 
 -- files that are read alike hold one value, and those of one version are one
