@@ -1,5 +1,5 @@
 -- A field that is read is the field that was written, and what was written is read again.
-use Rattle.std.proofs.Common.{◌≡◌, ℕ, ◌+◌, ◌^◌, ◌<◌, ◌≤◌, ◌%◌, Bool, true, false, cond, ltb, List, [], ◌∷◌, ◌++◌, length, get_or, take, drop, Result, Ok, Err, refl, sym, ap, subst, ◌∙◌, append_assoc, arith, inl, inr}
+use Rattle.std.proofs.Common.{◌≡◌, ℕ, ◌+◌, ◌^◌, ◌<◌, ◌≤◌, ◌%◌, Bool, true, false, cond, ltb, List, [], ◌∷◌, ◌++◌, length, get_or, take, drop, Result, Ok, Err, refl, sym, ap, ◌∙◌, append_assoc, arith, inl, inr}
 use Rattle.std.specs.Prelude.{◌&&◌}
 use Rattle.std.specs.Int.{Width, w8, w16, w32, w64, byte_len, from_be_bytes, to_be_bytes}
 use Rattle.std.proofs.lemmas.Bool.{cases_lt, ltb-false, le-ltb}
@@ -149,7 +149,7 @@ number_takes w limit wide bytes x fits e =
     let front_fits = IsBytes-take (byte_len w) bytes fits in
     let is : to_be_bytes w (from_be_bytes w front) ≡ front =
     wide.back front (omega (arith, length-take (byte_len w) bytes)) front_fits in
-    subst (λ (y : ℕ × List ℕ). Takes bytes (to_be_bytes w y.0) y.1 × (y.0 < limit)) g.1 (
+    rw (← g.1) (
       record {
         parts = rw is (sym (take-append-drop (byte_len w) bytes));
         rest_fits =
@@ -180,7 +180,7 @@ where_takes w limit wide test fault bytes x fits e =
     let b = bind_ok _ _ x e in
     let g = passed _ _ _ x b.2 in
     let t = number_takes _ _ wide _ _ fits b.1 in
-    subst (λ (y : ℕ × List ℕ). Takes bytes (to_be_bytes w y.0) y.1 × (y.0 < limit) × (test y.0 ≡ true)) g.1
+    rw (← g.1)
     (t.0, t.1, g.0)
 
 -- a number that is spelled so and passes is read
@@ -196,7 +196,7 @@ pub bytes_take : (len : ℕ) (bytes : List ℕ) (x : List ℕ × List ℕ) → I
 bytes_take len bytes x fits e =
     let g = not_refused _ _ _ x e in
     let long : len ≤ length bytes = ltb-false _ _ g.0 in
-    subst (λ (y : List ℕ × List ℕ). Takes bytes y.0 y.1 × (length y.0 ≡ len) × IsBytes y.0) g.1 (
+    rw (← g.1) (
       record { parts = sym (take-append-drop len bytes); rest_fits = IsBytes-drop len bytes fits },
       omega
           (arith, length-take len bytes),

@@ -46,8 +46,8 @@ version_takes bytes x fits e =
     let a = bind_ok _ _ x e in
     let b = bind_ok _ _ x a.2 in
     let t = number_takes _ _ wide32 _ _ fits a.1 in
-    let front = subst (λ (n : ℕ). Takes bytes (to_be_bytes w32 n) a.0.1) (named a.0.0 b.0 b.1) t.0 in
-    subst (λ (y : Version × List ℕ). Takes bytes (to_be_bytes w32 (magic_of y.0)) y.1) (ok_is (b.0, a.0.1) x b.2) front
+    let front = rw (named a.0.0 b.0 b.1) at t.0 in
+    rw (← ok_is (b.0, a.0.1) x b.2) front
 
 -- a magic names its version
 names : (version : Version) → (version_of (magic_of version) ≡ Ok version) × (magic_of version < 2 ^ 32)
@@ -112,7 +112,7 @@ value_takes bytes x fits e =
     let t0 = version_takes _ _ fits a.1 in
     let t1 = number_takes _ _ wide8 _ _ t0.rest_fits b.1 in
     let t2 = body_takes _ _ _ _ t1.0.rest_fits b.2 in
-    let second = subst (λ (n : ℕ). Takes rest (to_be_bytes w8 n) kind.1) t2.2 t1.0 in
+    let second = rw t2.2 at t1.0 in
     let tail = Takes-then _ _ _ _ _ second t2.0 in
     (version, Takes-then _ _ _ _ _ t0 tail, t2.1)
 
