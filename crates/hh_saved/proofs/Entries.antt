@@ -52,21 +52,17 @@ key_takes version before bytes x fits e =
     let tests = both (leb 1 a.0.0) (leb a.0.0 (max_len version)) first.2 in
     let some : 1 ≤ a.0.0 = grind (arith, nat_tests, tests.0) in
     let few : a.0.0 ≤ max_len version = grind (arith, nat_tests, tests.1) in
-    let spelled =
-    subst (λ (n : ℕ). Takes bytes (to_be_bytes w n ++ b.0.0) b.0.1) (sym second.1)
-    (Takes-then _ _ _ _ _ first.0 second.0) in
     let key : IsSavedKey version b.0.0 = record {
       key =
           record {
             some = omega (arith, second.1);
             few = omega (arith, second.1, few, (few_bytes version).0);
-            bytes =
-                λ i lt. second.2 i;
+            bytes = λ i lt. second.2 i;
           };
       few = omega (arith, second.1, few);
     } in
-    subst (λ (y : Bytes × List ℕ). Takes bytes (to_be_bytes w (length y.0) ++ y.0) y.1 × IsSavedKey version y.0
-    × (key_cmp before y.0 ≡ Less)) g.1 (spelled, key, is_less (key_cmp before b.0.0) g.0)
+    let spelled = Takes-then _ _ _ _ _ first.0 second.0 in
+    rw (← g.1) (rw second.1 spelled, key, is_less (key_cmp before b.0.0) g.0)
 
 -- and a key that is spelled so is read
 key_again : (version : Version) (before key rest : List ℕ) → IsSavedKey version key → key_cmp before key ≡ Less
@@ -109,12 +105,10 @@ entry_takes version before left bytes x fits e =
     let first = key_takes _ _ _ _ fits a.1 in
     let second = where_takes _ _ wide64 _ _ _ _ first.0.rest_fits b.1 in
     let both = Takes-then _ _ _ _ _ first.0 second.0 in
-    let spelled =
-    subst (λ (t : List ℕ). Takes bytes t counter.1)
-    (append_assoc (to_be_bytes w (length key.0)) key.0 (to_be_bytes w64 counter.0)) both in
+    let spelled = rw (append_assoc (to_be_bytes w (length key.0)) key.0 (to_be_bytes w64 counter.0)) at both in
     let some : 0 < counter.0 = grind (arith, nat_tests, second.2) in
     let within : counter.0 ≤ left = grind (arith, nat_tests, g.0) in
-    subst (λ (y : Entry × List ℕ). Takes bytes (entry_bytes version y.0) y.1 × IsEntry version before left y.0) g.1
+    rw (← g.1)
     (spelled, record { key = first.1; above = first.2; some = some; small = second.1; within = within })
 
 -- and an entry that is spelled so is read
@@ -132,8 +126,7 @@ entry_again version before left e rest is =
     ap (entry_at version before left) regrouped
     ∙ rw (
       key_again version before e.0 (to_be_bytes w64 e.1 ++ rest) is.key is.above,
-      where_again w64 (2 ^ 64) wide64
-          (λ n. ltb 0 n) faults.BadCounter e.1 rest is.small some,
+      where_again _ _ wide64 (λ n. ltb 0 n) faults.BadCounter e.1 rest is.small some,
       within,
     ) refl
 
@@ -148,8 +141,7 @@ pub entries_take : (version : Version) (n : ℕ) (before : Bytes) (left : ℕ) (
     → Takes bytes (flat_map (entry_bytes version) x.0) x.1 × (length x.0 ≡ n) × AreEntries version before left x.0
 unfolding entries_at
 entries_take version zero before left bytes x fits e =
-    subst (λ (y : List Entry × List ℕ). Takes bytes (flat_map (entry_bytes version) y.0) y.1 × (length y.0 ≡ 0)
-    × AreEntries version before left y.0) (ok_is ([], bytes) x e) (record { parts = refl; rest_fits = fits }, refl, tt)
+    rw (← ok_is ([], bytes) x e) (record { parts = refl; rest_fits = fits }, refl, tt)
 entries_take version (suc n) before left bytes x fits e =
     let a = bind_ok _ _ x e in
     let first = a.0 in
@@ -158,8 +150,7 @@ entries_take version (suc n) before left bytes x fits e =
     let more = entries_take _ n _ _ _ _ one.0.rest_fits b.1 in
     let both = Takes-then _ _ _ _ _ one.0 more.0 in
     let made : List Entry × List ℕ = (first.0 ∷ b.0.0, b.0.1) in
-    subst (λ (y : List Entry × List ℕ). Takes bytes (flat_map (entry_bytes version) y.0) y.1 × (length y.0 ≡ suc n)
-    × AreEntries version before left y.0) (ok_is made x b.2)
+    rw (← ok_is made x b.2)
     (rw flat_map-cons both, ap suc more.1, (one.1, more.2))
 
 -- and entries that are spelled so are read
@@ -176,8 +167,7 @@ entries_again version (e ∷ es) before left rest are =
     ap (entries_at version (suc (length es)) before left) regrouped
     ∙ rw (
       entry_again version before left e (flat_map (entry_bytes version) es ++ rest) are.0,
-      entries_again version es e.0
-          (left - e.1) rest are.1,
+      entries_again version es e.0 (left - e.1) rest are.1,
     ) refl
 
 -- ---- entries and counters
@@ -272,7 +262,7 @@ total_takes bytes x fits e =
 pub total_again : (n : ℕ) (rest : List ℕ) → n < 2 ^ 63 → total_at (to_be_bytes w64 n ++ rest) ≡ Ok (n, rest)
 total_again n rest small =
     let pass : ltb n (2 ^ 63) ≡ true = grind (arith, nat_tests) in
-    where_again w64 (2 ^ 64) wide64 (λ n. ltb n (2 ^ 63)) faults.TotalTooLarge n rest (omega arith) pass
+    where_again _ _ wide64 (λ n. ltb n (2 ^ 63)) faults.TotalTooLarge n rest (omega arith) pass
 
 -- a summary that is read is spelled so
 pub sketch_takes : (version : Version) (bytes : List ℕ) (x : Sketch × List ℕ) → IsBytes bytes
@@ -301,8 +291,7 @@ sketch_takes version bytes x fits e =
     let e13 = Takes-then _ _ _ _ _ t1.0 e23 in
     let e03 = Takes-then _ _ _ _ _ t0.0 e13 in
     let made : Sketch × List ℕ = (record { k = k.0; total = total.0; counters = entries.0 }, entries.1) in
-    subst (λ (y : Sketch × List ℕ). Takes bytes (sketch_bytes version y.0) y.1 × Fits y.0.k y.0.total y.0.counters
-    × AllByRecursion (λ e. IsSavedKey version e.0) y.0.counters) (ok_is made x f.2) (
+    rw (← ok_is made x f.2) (
       e03,
       entries_fit version k.0 total.0 entries.0 some (omega (arith, t0.1)) t1.1 (omega (arith, t3.1, few)) t3.2,
       keys version entries.0 [] total.0 t3.2,
@@ -325,10 +314,10 @@ sketch_again version s rest fits are =
     let few : leb (length s.counters) s.k ≡ true = grind (arith, nat_tests, fits.few) in
     ap (sketch_at version) regrouped
     ∙ rw (
-      where_again w16 (2 ^ 16) wide16 (λ n. ltb 0 n) faults.BadK s.k (total ++ (count ++ (entries ++ rest)))
+      where_again _ _ wide16 (λ n. ltb 0 n) faults.BadK s.k (total ++ (count ++ (entries ++ rest)))
           (omega (arith, fits.bounded_k)) some,
       total_again s.total (count ++ (entries ++ rest)) fits.bounded_total,
-      where_again w16 (2 ^ 16) wide16 (λ n. leb n s.k) faults.BadCount (length s.counters) (entries ++ rest)
+      where_again _ _ wide16 (λ n. leb n s.k) faults.BadCount (length s.counters) (entries ++ rest)
           (omega (arith, fits.few, fits.bounded_k)) few,
       entries_again version s.counters [] s.total rest (entries_of_fits version s.k s.total s.counters fits are),
     ) refl

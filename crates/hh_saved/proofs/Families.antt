@@ -1,8 +1,8 @@
 -- Hash families: what is read is spelled so, and what is spelled so is read.
-use Rattle.std.proofs.Common.{◌≡◌, ℕ, ◌+◌, ◌*◌, ◌≤◌, Bool, true, false, cond, leb, List, ◌++◌, length, take, drop, Result, Ok, Err, Decides, refl, sym, ap, ap₂, subst, ◌∙◌, arith}
+use Rattle.std.proofs.Common.{◌≡◌, ℕ, ◌+◌, ◌*◌, ◌≤◌, Bool, false, cond, leb, List, ◌++◌, length, take, drop, Result, Ok, Err, Decides, refl, sym, ap, ap₂, ◌∙◌, arith}
 use Rattle.std.specs.List.{flat_map, list_all}
 use Rattle.std.specs.Int.{w64, from_be_bytes, to_be_bytes}
-use Rattle.std.proofs.lemmas.Bool.Decides.{nat_tests, Decides-and, Decides-like, Decides-ltb, Decides-by_and}
+use Rattle.std.proofs.lemmas.Bool.Decides.{same_from_decides, nat_tests, Decides-and, Decides-like, Decides-ltb, Decides-by_and}
 use Rattle.std.proofs.lemmas.List.{take_at, drop_at, take-append-drop, length-take, length-drop, length-append}
 use Rattle.std.proofs.lemmas.List.Elements.{recursion_from_All}
 use Rattle.hh_countmin.specs.Family.{Coefficients, modulus, IsRow, AreCoefficients}
@@ -42,11 +42,8 @@ family_at-is depth bytes field rest family b read is test =
 
 -- a family that was refused is out of range
 pub in_range-refused : (family : Coefficients) → (AreCoefficients family.z family.rows → ⊥) → in_range family ≡ false
-in_range-refused family refused = decided (in_range family) family refl refused where
-  decided : (b : Bool) (family : Coefficients) → in_range family ≡ b → (AreCoefficients family.z family.rows → ⊥)
-      → in_range family ≡ false
-  decided false family e h = e
-  decided true family e h = absurd (h ((in_range-Decides family).0 e))
+in_range-refused family refused =
+    same_from_decides (in_range family) false (in_range-Decides family) (λ e. absurd cc, λ are. absurd (refused are))
 
 -- 16 bytes are a row's coefficients, and these are the bytes
 pub pair_code : IsCode pair_of pair_bytes 16 IsRow
@@ -88,9 +85,8 @@ family_takes depth bytes x fits e =
     (IsBytes-drop 8 field.0 t.2) in
     let whole : family_bytes family ≡ field.0 =
     ap₂ (λ (x y : List ℕ). x ++ y) front back ∙ take-append-drop 8 field.0 in
-    subst (λ (y : Coefficients × List ℕ). Takes bytes (family_bytes y.0) y.1 × AreCoefficients y.0.z y.0.rows
-    × (length y.0.rows ≡ depth)) g.1 (
-      subst (λ (text : List ℕ). Takes bytes text field.1) (sym whole) t.0,
+    rw (← g.1) (
+      rw whole t.0,
       (in_range-Decides family).0 g.0,
       length-blocks_in pair_of 16 depth (drop 8 field.0),
     )

@@ -1,5 +1,5 @@
 -- A field that is read is the field that was written, and what was written is read again.
-use Rattle.std.proofs.Common.{◌≡◌, ℕ, ◌+◌, ◌^◌, ◌<◌, ◌≤◌, ◌%◌, Bool, true, false, cond, ltb, List, [], ◌∷◌, ◌++◌, length, get_or, take, drop, Result, Ok, Err, refl, sym, ap, subst, ◌∙◌, append_assoc, arith, inl, inr}
+use Rattle.std.proofs.Common.{◌≡◌, ℕ, ◌+◌, ◌^◌, ◌<◌, ◌≤◌, ◌%◌, Bool, true, false, cond, ltb, List, [], ◌∷◌, ◌++◌, length, get_or, take, drop, Result, Ok, Err, refl, sym, ap, ◌∙◌, append_assoc, arith, inl, inr}
 use Rattle.std.specs.Prelude.{◌&&◌}
 use Rattle.std.specs.Int.{Width, w8, w16, w32, w64, byte_len, from_be_bytes, to_be_bytes}
 use Rattle.std.proofs.lemmas.Bool.{cases_lt, ltb-false, le-ltb}
@@ -93,7 +93,7 @@ one_byte_back [] len fits = absurd cc
 one_byte_back (b ∷ []) len fits = ap (λ (n : ℕ). n ∷ []) (one_byte b (fits 0))
 one_byte_back (b ∷ c ∷ bytes) len fits = absurd (omega arith)
 
--- numbers of 1, 2, 4 and 8 bytes
+-- numbers of 1 byte
 pub wide8 : IsWide w8 (2 ^ 8)
 wide8 = record {
   len = λ n. refl;
@@ -102,6 +102,7 @@ wide8 = record {
   below = λ bytes fits. omega (arith, fits 0);
 }
 
+-- of 2
 pub wide16 : IsWide w16 (2 ^ 16)
 wide16 = record {
   len = λ n. refl;
@@ -110,6 +111,7 @@ wide16 = record {
   below = λ bytes fits. omega (arith, fits 0, fits 1);
 }
 
+-- of 4
 pub wide32 : IsWide w32 (2 ^ 32)
 wide32 = record {
   len = λ n. refl;
@@ -118,6 +120,7 @@ wide32 = record {
   below = λ bytes fits. omega (arith, fits 0, fits 1, fits 2, fits 3);
 }
 
+-- of 8
 pub wide64 : IsWide w64 (2 ^ 64)
 wide64 = record {
   len = λ n. refl;
@@ -146,7 +149,7 @@ number_takes w limit wide bytes x fits e =
     let front_fits = IsBytes-take (byte_len w) bytes fits in
     let is : to_be_bytes w (from_be_bytes w front) ≡ front =
     wide.back front (omega (arith, length-take (byte_len w) bytes)) front_fits in
-    subst (λ (y : ℕ × List ℕ). Takes bytes (to_be_bytes w y.0) y.1 × (y.0 < limit)) g.1 (
+    rw (← g.1) (
       record {
         parts = rw is (sym (take-append-drop (byte_len w) bytes));
         rest_fits =
@@ -166,8 +169,7 @@ number_again w limit wide n rest lt =
       long,
       take_at (to_be_bytes w n) rest (byte_len w) len,
       drop_at (to_be_bytes w n) rest (byte_len w) len,
-      wide.again
-          n lt,
+      wide.again n lt,
     ) refl
 
 -- a number that is read and passes a test
@@ -178,13 +180,13 @@ where_takes w limit wide test fault bytes x fits e =
     let b = bind_ok _ _ x e in
     let g = passed _ _ _ x b.2 in
     let t = number_takes _ _ wide _ _ fits b.1 in
-    subst (λ (y : ℕ × List ℕ). Takes bytes (to_be_bytes w y.0) y.1 × (y.0 < limit) × (test y.0 ≡ true)) g.1
+    rw (← g.1)
     (t.0, t.1, g.0)
 
 -- a number that is spelled so and passes is read
 pub where_again : (w : Width) (limit : ℕ) (wide : IsWide w limit) (test : ℕ → Bool) (fault : SavedFault) (n : ℕ)
     (rest : List ℕ) → n < limit → test n ≡ true → number_where w test fault (to_be_bytes w n ++ rest) ≡ Ok (n, rest)
-where_again w limit wide test fault n rest lt pass = rw (number_again w limit wide n rest lt, pass) refl
+where_again w limit wide test fault n rest lt pass = rw (number_again _ _ wide n rest lt, pass) refl
 
 -- ---- bytes
 
@@ -194,7 +196,7 @@ pub bytes_take : (len : ℕ) (bytes : List ℕ) (x : List ℕ × List ℕ) → I
 bytes_take len bytes x fits e =
     let g = not_refused _ _ _ x e in
     let long : len ≤ length bytes = ltb-false _ _ g.0 in
-    subst (λ (y : List ℕ × List ℕ). Takes bytes y.0 y.1 × (length y.0 ≡ len) × IsBytes y.0) g.1 (
+    rw (← g.1) (
       record { parts = sym (take-append-drop len bytes); rest_fits = IsBytes-drop len bytes fits },
       omega
           (arith, length-take len bytes),

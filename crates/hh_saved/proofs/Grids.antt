@@ -47,10 +47,9 @@ row_takes width total bytes x fits e =
     let g = passed _ _ _ x a.2 in
     let t = bytes_take _ _ _ fits a.1 in
     let whole : cells_bytes cells ≡ field.0 = flat_map-blocks_in _ _ _ _ cell_code width field.0 t.1 t.2 in
-    subst (λ (y : List ℕ × List ℕ). Takes bytes (cells_bytes y.0) y.1 × (length y.0 ≡ width) × (sum y.0 ≡ total)) g.1 (
-      subst (λ (text : List ℕ). Takes bytes text field.1) (sym whole) t.0,
-      length-blocks_in (from_be_bytes w64) 8 width
-          field.0,
+    rw (← g.1) (
+      rw whole t.0,
+      length-blocks_in (from_be_bytes w64) 8 width field.0,
       eqb-true _ _ g.0,
     )
 
@@ -79,7 +78,7 @@ pub rows_take : (n width total : ℕ) (bytes : List ℕ) (x : List ℕ × List �
     → Takes bytes (cells_bytes x.0) x.1 × AreRows n width total x.0
 unfolding rows_at
 rows_take zero width total bytes x fits e =
-    subst (λ (y : List ℕ × List ℕ). Takes bytes (cells_bytes y.0) y.1 × (y.0 ≡ [])) (ok_is ([], bytes) x e)
+    rw (← ok_is ([], bytes) x e)
     (record { parts = refl; rest_fits = fits }, refl)
 rows_take (suc n) width total bytes x fits e =
     let a = bind_ok _ _ x e in
@@ -91,10 +90,9 @@ rows_take (suc n) width total bytes x fits e =
     let both = Takes-then _ _ _ _ _ one.0 more.0 in
     let front : take width (first.0 ++ others.0) ≡ first.0 = take_at first.0 others.0 width one.1 in
     let back : drop width (first.0 ++ others.0) ≡ others.0 = drop_at first.0 others.0 width one.1 in
-    subst (λ (y : List ℕ × List ℕ). Takes bytes (cells_bytes y.0) y.1 × AreRows (suc n) width total y.0)
-    (ok_is (first.0 ++ others.0, others.1) x b.2) (
+    rw (← ok_is (first.0 ++ others.0, others.1) x b.2) (
       rw flat_map-append both,
-      (ap length front ∙ one.1, ap sum front ∙ one.2, subst (AreRows n width total) (sym back) more.1),
+      (ap length front ∙ one.1, ap sum front ∙ one.2, rw back more.1),
     )
 
 -- and rows that are spelled so are read
@@ -113,8 +111,7 @@ rows_again (suc n) width total cells rest are small =
     ap (rows_at (suc n) width total) regrouped
     ∙ rw (
       row_again width total front (cells_bytes back ++ rest) are.0 are.1 small,
-      rows_again n width total back rest are.2
-          small,
+      rows_again n width total back rest are.2 small,
     ) (ap (λ (t : List ℕ). Ok (t, rest)) whole)
 
 -- ---- rows and the cells of a table
@@ -209,20 +206,17 @@ grid_takes bytes x fits e =
     let tail = tail_bytes total.0 cells.0 in
     let rows = flat_map pair_bytes family.0.rows in
     let e34 = Takes-then _ _ _ _ _ t3.0 t4.0 in
-    let e24 =
-    subst (λ (text : List ℕ). Takes depth.1 text cells.1) (append_assoc (to_be_bytes w64 family.0.z) rows tail)
-    (Takes-then _ _ _ _ _ t2.0 e34) in
+    let e24 = Takes-then _ _ _ _ _ t2.0 e34 in
     let e14 =
     subst (λ (n : ℕ). Takes width.1 (to_be_bytes w8 n ++ (to_be_bytes w64 family.0.z ++ (rows ++ tail))) cells.1)
-    (sym t2.2) (Takes-then _ _ _ _ _ t1.0 e24) in
+    (sym t2.2) (Takes-then _ _ _ _ _ t1.0 (rw (append_assoc (to_be_bytes w64 family.0.z) rows tail) at e24)) in
     let e04 = Takes-then _ _ _ _ _ t0.0 e14 in
     let is_family : IsFamily family.0 =
     record { depth = (omega (arith, t2.2), omega (arith, t2.2)); in_range = t2.1 } in
     let are = subst (λ (n : ℕ). AreRows n width.0 total.0 cells.0) (sym t2.2) t4.1 in
     let made : Grid × List ℕ =
     (record { family = family.0; width = width.0; total = total.0; cells = cells.0 }, cells.1) in
-    subst (λ (y : Grid × List ℕ). Takes bytes (grid_bytes y.0) y.1 × IsFamily y.0.family
-    × Fits y.0.family y.0.width y.0.total y.0.cells) (ok_is made x f.2)
+    rw (← ok_is made x f.2)
     (e04, is_family, cells_fit family.0 width.0 total.0 cells.0 is_wide.0 is_wide.1 t3.1 are)
 
 -- and a table that is spelled so is read
@@ -253,10 +247,10 @@ grid_again t rest family fits =
     let are = rows_from depth t.width t.total t.cells fits.all_cells fits.rows_sum in
     ap grid_at regrouped
     ∙ rw (
-      where_again w32 (2 ^ 32) wide32 is_width faults.BadWidth t.width
+      where_again _ _ wide32 is_width faults.BadWidth t.width
           (to_be_bytes w8 depth ++ (family_bytes t.family ++ (total ++ (cells ++ rest))))
           (omega (arith, fits.width_in_range)) wide,
-      where_again w8 (2 ^ 8) wide8 is_depth faults.BadDepth depth (family_bytes t.family ++ (total ++ (cells ++ rest)))
+      where_again _ _ wide8 is_depth faults.BadDepth depth (family_bytes t.family ++ (total ++ (cells ++ rest)))
           (omega (arith, family.depth)) deep,
       family_again t.family (total ++ (cells ++ rest)) family.in_range,
       total_again t.total (cells ++ rest) fits.total_in_range,

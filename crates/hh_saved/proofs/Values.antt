@@ -46,8 +46,8 @@ version_takes bytes x fits e =
     let a = bind_ok _ _ x e in
     let b = bind_ok _ _ x a.2 in
     let t = number_takes _ _ wide32 _ _ fits a.1 in
-    let front = subst (λ (n : ℕ). Takes bytes (to_be_bytes w32 n) a.0.1) (named a.0.0 b.0 b.1) t.0 in
-    subst (λ (y : Version × List ℕ). Takes bytes (to_be_bytes w32 (magic_of y.0)) y.1) (ok_is (b.0, a.0.1) x b.2) front
+    let front = rw (named a.0.0 b.0 b.1) at t.0 in
+    rw (← ok_is (b.0, a.0.1) x b.2) front
 
 -- a magic names its version
 names : (version : Version) → (version_of (magic_of version) ≡ Ok version) × (magic_of version < 2 ^ 32)
@@ -59,7 +59,7 @@ version_again : (version : Version) (rest : List ℕ)
     → version_at (to_be_bytes w32 (magic_of version) ++ rest) ≡ Ok (version, rest)
 unfolding version_at
 version_again version rest =
-    rw (number_again w32 (2 ^ 32) wide32 (magic_of version) rest (names version).1, (names version).0) refl
+    rw (number_again _ _ wide32 (magic_of version) rest (names version).1, (names version).0) refl
 
 -- ---- values
 
@@ -112,7 +112,7 @@ value_takes bytes x fits e =
     let t0 = version_takes _ _ fits a.1 in
     let t1 = number_takes _ _ wide8 _ _ t0.rest_fits b.1 in
     let t2 = body_takes _ _ _ _ t1.0.rest_fits b.2 in
-    let second = subst (λ (n : ℕ). Takes rest (to_be_bytes w8 n) kind.1) t2.2 t1.0 in
+    let second = rw t2.2 at t1.0 in
     let tail = Takes-then _ _ _ _ _ second t2.0 in
     (version, Takes-then _ _ _ _ _ t0 tail, t2.1)
 
@@ -140,7 +140,7 @@ unfolding value_at
 value_again version v rest is =
     rw (
       spelling_names version v rest,
-      number_again w8 (2 ^ 8) wide8 (kind_of v) (content_bytes version v ++ rest) (kind_small v),
+      number_again _ _ wide8 (kind_of v) (content_bytes version v ++ rest) (kind_small v),
       body_again version v rest is,
     ) refl
 
@@ -186,8 +186,7 @@ one_spelling p q v w rest first second e =
     ok_is (v, rest) (w, []) (sym (value_again p v rest first) ∙ ap value_at whole ∙ value_again q w [] second) in (
       ap (λ (x : Version × List ℕ). x.0) front,
       ap (λ (x : Saved × List ℕ). x.0) same,
-      ap (λ (x : Saved × List ℕ). x.1)
-          same,
+      ap (λ (x : Saved × List ℕ). x.1) same,
     )
 
 -- files that are read alike hold one value, and those of one version are one

@@ -1,5 +1,5 @@
 -- Each step keeps the rule.
-use Rattle.std.proofs.Common.{◌≡◌, ◌≢◌, ◌⊎◌, ℕ, zero, suc, ◌+◌, ◌-◌, ◌%◌, ◌^◌, ◌<◌, List, [], ◌∷◌, ◌++◌, get_or, set, refl, sym, ap, ◌∙◌, subst, arith, inl, inr, ⊎_elim, length-set, get_or-set_other, get_or-set_same}
+use Rattle.std.proofs.Common.{◌≡◌, ◌≢◌, ◌⊎◌, ℕ, zero, suc, ◌+◌, ◌-◌, ◌%◌, ◌^◌, ◌<◌, List, [], ◌∷◌, ◌++◌, get_or, set, refl, sym, ap, ◌∙◌, subst, arith, inl, inr, ⊎_elim, length, length-append, length-set, get_or-set_other, get_or-set_same}
 use Rattle.std.specs.Prelude.{bit_or, sum_by}
 use Rattle.std.proofs.Math.Nat.{mod-add-mod}
 use Rattle.std.proofs.lemmas.List.Sums.{sum_by_push}
@@ -89,10 +89,6 @@ distinct_at n m ws seats id seat k at = record {
   below = λ j h. (k.each id seat at).claims_below j h;
 }
 
-not-empty : (xs : List ℕ) (x : ℕ) → xs ++ x ∷ [] ≡ [] → ⊥
-not-empty [] x e = cc
-not-empty (y ∷ ys) x e = cc
-
 -- a free claim becomes a seat's
 claim_keeps_rule : (n m : ℕ) (ws : List ℕ) (seats : List Lists) (id j : ℕ) (seat : Lists) → IsTallied n m ws seats
     → get_elem? seats id ≡ some seat → j < n → get_or ws j 0 ≡ 0
@@ -121,7 +117,7 @@ claim_keeps_rule n m ws seats id j seat k at low free =
                 (λ ne. f.claims_below i (omega (arith, times-push_other j i seat.claims ne)));
             met_below = f.met_below;
             met_claimed = λ i h. stays i (f.met_below i h) (f.met_claimed i h);
-            idle = λ none. absurd (not-empty seat.claims j none);
+            idle = λ none. absurd (omega (arith, ap length none, length-append seat.claims (j ∷ [])));
           })
           (λ i u d. fits_after n ws (set ws j 1) u stays (k.each i u d));
       claimed = λ i l. dite (ℕ_discrete i j)

@@ -1,11 +1,10 @@
-use Rattle.std.proofs.Common.{◌∙◌, ℕ, length, sym, ap, subst, arith}
+use Rattle.std.proofs.Common.{◌∙◌, length, sym, ap, arith}
 use Rattle.std.specs.Prelude.{zip}
 use Rattle.std.proofs.lemmas.List.{length-map}
 use Rattle.hh_stream.specs.Cuttings.{pieces_of}
-use Rattle.hh_counters.specs.Counters.{Sketch, IsHonest, sketch_of}
+use Rattle.hh_counters.specs.Counters.{Sketch, sketch_of}
 use Rattle.hh_counters.specs.Report.{selected}
 use Rattle.hh_countmin.specs.Table.{table_of}
-use Rattle.hh_pool.specs.Trees.{IsMergeTree}
 use Rattle.hh_pool.proofs.Pieces.{length-pieces_of}
 use Rattle.hh_pool.proofs.ValueFacts.{IsMergeOf}
 use Rattle.hh_pool.proofs.Merged.{no_refusal, merged_is, heavy_is}
@@ -16,7 +15,7 @@ merge_by-requires g c =
     let pieces = pieces_of c.args.cutting.now c.args.stream.now in
     let count = ap length c.in_ok-summaries.ensures.summaries
     ∙ (length-map pieces (sketch_of c.args.options.now.k) ∙ length-pieces_of c.args.cutting.now c.args.stream.now) in
-    subst (IsMergeTree c.args.plan.now) (sym count) c.requires.plan
+    rw count c.requires.plan
 
 pub unreachable-requires : goal.unreachable-requires
 unreachable-requires g c =
@@ -58,8 +57,7 @@ returns-clause-heavy g c =
     let keys = c.in_ok-candidates.candidates in
     let merged = returns-clause-summary g c in
     let asked = c.threshold-p.ensures in
-    let honest = subst (λ (z : ℕ × ℕ). IsHonest c.in-Ok.summary.counters z.0 stream z.1)
-    (λ i. (sym merged.total i, sym merged.same_k i)) merged.honest in
+    let honest = rw (← merged.total, ← merged.same_k) at merged.honest in
     let filled = c.in_ok-summaries.ensures.table in
     let enough = c.in_ok-candidates.ensures.enough stream honest (rw (merged.same_k, asked.p, asked.q) asked.in_range.1)
     (filled ∙ (λ i. table_of (sym filled i).family (sym filled i).width stream)) in

@@ -38,20 +38,22 @@ returns-in-Leaf-clause-merged t c =
 
 pub returns-in_ok-other-in-Node-clause-merged : goal.returns-in_ok-other-in-Node-clause-merged
 returns-in_ok-other-in-Node-clause-merged t c =
-    let node : tree_result (shape c.args.tree.now) c.args.summaries.now
-    ≡ merge_result c.in_ok-merged-in-Node.merged c.in_ok-other-in-Node.other =
+    let left = c.in_ok-merged-in-Node in
+    let right = c.in_ok-other-in-Node in
+    let node : tree_result (shape c.args.tree.now) c.args.summaries.now ≡ merge_result left.merged right.other =
     rw c.in-Node.is (node-result (shape c.in-Node.left.value) (shape c.in-Node.right.value) _ _
-    c.merge_tree.new.summaries _ _ (rw c.in-Node.is at c.requires.places) (rw c.deref.ensures at c.in_ok-merged-in-Node.ensures.others)
-    (rw c.deref.ensures at c.in_ok-merged-in-Node.ensures.merged) (rw c.deref-in-Node.ensures at c.in_ok-other-in-Node.ensures.merged)) in
+    c.merge_tree.new.summaries _ _ (rw c.in-Node.is at c.requires.places) (rw c.deref.ensures at left.ensures.others)
+    (rw c.deref.ensures at left.ensures.merged) (rw c.deref-in-Node.ensures at right.ensures.merged)) in
     rw node c.merge_two.ensures.merged
 
 pub returns-in_ok-other-in-Node-clause-refused : goal.returns-in_ok-other-in-Node-clause-refused
 returns-in_ok-other-in-Node-clause-refused t c =
-    let node : tree_result (shape c.args.tree.now) c.args.summaries.now
-    ≡ merge_result c.in_ok-merged-in-Node.merged c.in_ok-other-in-Node.other =
+    let left = c.in_ok-merged-in-Node in
+    let right = c.in_ok-other-in-Node in
+    let node : tree_result (shape c.args.tree.now) c.args.summaries.now ≡ merge_result left.merged right.other =
     rw c.in-Node.is (node-result (shape c.in-Node.left.value) (shape c.in-Node.right.value) _ _
-    c.merge_tree.new.summaries _ _ (rw c.in-Node.is at c.requires.places) (rw c.deref.ensures at c.in_ok-merged-in-Node.ensures.others)
-    (rw c.deref.ensures at c.in_ok-merged-in-Node.ensures.merged) (rw c.deref-in-Node.ensures at c.in_ok-other-in-Node.ensures.merged)) in
+    c.merge_tree.new.summaries _ _ (rw c.in-Node.is at c.requires.places) (rw c.deref.ensures at left.ensures.others)
+    (rw c.deref.ensures at left.ensures.merged) (rw c.deref-in-Node.ensures at right.ensures.merged)) in
     rw node c.merge_two.ensures.refused
 
 pub returns-in_err-other-in-Node-clause-refused : goal.returns-in_err-other-in-Node-clause-refused

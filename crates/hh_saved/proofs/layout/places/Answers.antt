@@ -1,9 +1,7 @@
-use Rattle.std.proofs.Common.{◌≡◌, ℕ, ◌∙◌, List, Result, Ok, Err, sym, ap, subst}
+use Rattle.std.proofs.Common.{◌≡◌, ℕ, ◌∙◌, List, Result, Ok, Err, sym, ap}
 use Rattle.hh_saved.specs.declared.format.Version.{Version}
 use Rattle.hh_saved.specs.declared.fault.SavedFault.{SavedFault}
-use Rattle.hh_saved.specs.declared.saved.Saved.TheVariants.{Counters}
 use Rattle.hh_saved.specs.Reading.{version_at}
-use Rattle.hh_saved.specs.Spelling.{Spells}
 use Rattle.hh_saved.proofs.Fields.{ok_is}
 use Rattle.hh_saved.proofs.PlaceFacts.{version_named}
 use Rattle.hh_saved.proofs.layout.places.Goals as goal
@@ -22,5 +20,4 @@ places_in-requires c =
     let (version, spells) = c.requires in
     let named = version_named version c.args.bytes.now c.args.summary.now spells in
     let same = ok_is (version, named.0) (c.in-Ok.version, c.in-Ok.field-0-1.now) (sym named.1 ∙ c.in-Ok.ensures) in
-    subst (λ (x : Version). Spells x c.args.bytes.now (Counters c.args.summary.now))
-    (ap (λ (x : Version × List ℕ). x.0) same) spells
+    rw (ap (λ (x : Version × List ℕ). x.0) same) at spells

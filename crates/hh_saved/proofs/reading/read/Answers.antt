@@ -1,5 +1,4 @@
-use Rattle.std.proofs.Common.{subst, arith}
-use Rattle.hh_saved.specs.Reading.{Gives}
+use Rattle.std.proofs.Common.{arith}
 use Rattle.hh_saved.proofs.Values.{is_found, saved_again}
 use Rattle.hh_saved.proofs.reading.read.Goals as goal
 
@@ -9,5 +8,4 @@ returns-clause-found c =
 
 pub returns-clause-only : goal.returns-clause-only
 returns-clause-only c =
-    λ version v is. subst (λ r. Gives (λ v. v) c.all_of.result r) (saved_again version c.args.bytes.now v is)
-    c.all_of.ensures.all
+    λ version v is. rw (saved_again version c.args.bytes.now v is) at c.all_of.ensures.all

@@ -1,8 +1,8 @@
-use Rattle.std.proofs.Common.{ℕ, sym, subst, arith}
+use Rattle.std.proofs.Common.{arith}
 use Rattle.hh_saved.proofs.Fields.{IsBytes, wide8, wide32, number_takes}
 use Rattle.hh_saved.proofs.Entries.{total_takes}
 use Rattle.hh_saved.proofs.Families.{family_takes}
-use Rattle.hh_saved.proofs.Grids.{AreRows, rows_take, cells_fit}
+use Rattle.hh_saved.proofs.Grids.{rows_take, cells_fit}
 use Rattle.hh_saved.proofs.reading.table_of.Goals as goal
 
 pub from_cells-requires : goal.from_cells-requires
@@ -19,4 +19,4 @@ from_cells-requires c =
     let t3 = total_takes _ _ t2.0.rest_fits total.ensures in
     let t4 = rows_take _ _ _ _ _ t3.0.rest_fits cells.ensures in
     cells_fit family.family c.from-width.result total.total cells.cells.items (omega arith) (omega arith) t3.1
-    (subst (λ (n : ℕ). AreRows n c.from-width.result total.total cells.cells.items) (sym t2.2) t4.1)
+    (rw t2.2 t4.1)

@@ -1,9 +1,9 @@
-use Rattle.std.proofs.Common.{◌≤◌, ◌∙◌, List, length, map, sym, ap, subst, arith}
+use Rattle.std.proofs.Common.{◌≤◌, ◌∙◌, length, map, ap, arith}
 use Rattle.std.proofs.lemmas.List.{take_all}
 use Rattle.hh_stream.specs.Cuttings.{whole_of}
-use Rattle.hh_counters.specs.Counters.{Sketch, sketch_of}
+use Rattle.hh_counters.specs.Counters.{sketch_of}
 use Rattle.hh_countmin.specs.Table.{table_of}
-use Rattle.hh_pool.specs.Progress.{first_pieces, IsFirstAloneUpTo}
+use Rattle.hh_pool.specs.Progress.{first_pieces}
 use Rattle.hh_pool.proofs.Pieces.{length-pieces_of}
 use Rattle.hh_pool.proofs.Alone.{alone_begins}
 use Rattle.hh_pool.proofs.first.FirstPass.alone.Goals as goal
@@ -12,8 +12,7 @@ pub loop-piece-init : goal.loop-piece-init
 loop-piece-init g c =
     let pieces = first_pieces c.args.self.now in
     let options = c.args.self.now.options.now in
-    subst (λ (ss : List Sketch). IsFirstAloneUpTo pieces options 0 ss c.in_ok-table.table)
-    (sym c.new-summaries.ensures.items) (alone_begins pieces options _ c.in_ok-table.ensures)
+    rw c.new-summaries.ensures.items (alone_begins pieces options _ c.in_ok-table.ensures)
 
 pub returns-clause-summaries : goal.returns-clause-summaries
 returns-clause-summaries g c =

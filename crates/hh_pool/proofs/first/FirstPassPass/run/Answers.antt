@@ -1,8 +1,6 @@
-use Rattle.std.proofs.Common.{◌≡◌, ◌+◌, ◌∙◌, ℕ, List, length, get_or, sym, ap, subst, arith}
-use Rattle.hh_counters.specs.Counters.{Sketch}
-use Rattle.hh_shared.specs.Seats.{Holding}
+use Rattle.std.proofs.Common.{◌≡◌, ◌+◌, ◌∙◌, length, get_or, ap, arith}
 use Rattle.hh_shared.specs.Tally.{added}
-use Rattle.hh_pool.specs.Progress.{first_pieces, IsFirstPassUpTo}
+use Rattle.hh_pool.specs.Progress.{first_pieces}
 use Rattle.hh_pool.proofs.Pieces.{length-pieces_of}
 use Rattle.hh_pool.proofs.Tried.{first_begins, first_ends, claim-behind_cell}
 use Rattle.hh_pool.proofs.first.FirstPassPass.run.Goals as goal
@@ -14,8 +12,7 @@ loop-piece-init g c =
     let begins = first_begins pieces options c.args.sums.now _ c.in_ok-empty_table.ensures in
     record {
       sums = ap (λ h. h.sums) c.requires.seat;
-      so_far = subst (λ (z : Holding × List (ℕ × Sketch)). IsFirstPassUpTo pieces options 0 z.0 z.1
-          c.in_ok-empty_table.field-0) (λ i. (sym c.requires.seat i, sym c.new.ensures.items i)) begins;
+      so_far = rw (c.requires.seat, c.new.ensures.items) begins;
     }
 
 pub add_numbers-requires-clause-holds_a_claim : goal.add_numbers-requires-clause-holds_a_claim
@@ -31,8 +28,7 @@ returns-clause-done g c =
     let made = c.loop-piece.made in
     let tried : c.loop-piece.piece ≡ length pieces =
     omega (arith, length-pieces_of c.args.self.now.cutting.now c.args.self.now.stream.now) in
-    let all = subst (λ n. IsFirstPassUpTo pieces options n seat made.summaries.items made.table) tried
-    c.loop-piece.invariant.so_far in
+    let all = rw tried at c.loop-piece.invariant.so_far in
     first_ends c.cells_are_cell_sums.ensures pieces options seat _ _ made.table c.add_numbers.ensures.unchanged
     (λ cell. c.add_numbers.ensures.added cell ∙ ap (λ xs. added cell seat.adds + get_or xs cell 0) c.cells.ensures) all
 

@@ -1,8 +1,7 @@
-use Rattle.std.proofs.Common.{◌≡◌, ◌+◌, ◌∙◌, length, get_or, replicate, sym, ap, subst, arith}
+use Rattle.std.proofs.Common.{◌≡◌, ◌+◌, ◌∙◌, length, get_or, replicate, ap, arith}
 use Rattle.std.proofs.lemmas.Grind.{common_steps}
-use Rattle.hh_shared.specs.Seats.{Holding}
 use Rattle.hh_shared.specs.Tally.{added}
-use Rattle.hh_pool.specs.Progress.{second_pieces, IsSecondPassUpTo}
+use Rattle.hh_pool.specs.Progress.{second_pieces}
 use Rattle.hh_pool.proofs.Pieces.{length-pieces_of}
 use Rattle.hh_pool.proofs.Tried.{second_begins, second_ends, claim-behind_number}
 use Rattle.hh_pool.proofs.second.SecondPassPass.run.Goals as goal
@@ -14,8 +13,7 @@ loop-piece-init g c =
     let zeros : c.in_ok-numbers.numbers.items ≡ replicate (length keys) 0 = grind (arith, common_steps) in
     record {
       sums = ap (λ h. h.sums) c.requires.seat;
-      so_far = subst (λ (h : Holding). IsSecondPassUpTo pieces keys 0 h c.in_ok-numbers.numbers.items)
-          (sym c.requires.seat) (second_begins pieces keys c.args.sums.now _ zeros);
+      so_far = rw c.requires.seat (second_begins pieces keys c.args.sums.now _ zeros);
     }
 
 pub add_numbers-requires-clause-holds_a_claim : goal.add_numbers-requires-clause-holds_a_claim
@@ -31,7 +29,7 @@ returns-clause-done g c =
     let numbers = c.loop-piece.numbers.items in
     let tried : c.loop-piece.piece ≡ length pieces =
     omega (arith, length-pieces_of c.args.self.now.cutting.now c.args.self.now.stream.now) in
-    let all = subst (λ n. IsSecondPassUpTo pieces keys n seat numbers) tried c.loop-piece.invariant.so_far in
+    let all = rw tried at c.loop-piece.invariant.so_far in
     second_ends pieces keys seat _ numbers c.add_numbers.ensures.unchanged (λ cell. c.add_numbers.ensures.added cell
     ∙ ap (λ xs. added cell seat.adds + get_or xs cell 0) c.deref.ensures.value) all
 

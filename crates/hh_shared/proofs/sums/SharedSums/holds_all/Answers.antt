@@ -1,15 +1,8 @@
-use Rattle.std.proofs.Common.{◌≡◌, ℕ, List, nat_eq, sym, ap, ◌∙◌, subst, arith}
-use Rattle.std.specs.Prelude.{IsTrue}
-use Rattle.std.proofs.lemmas.Bool.Decides.{nat_tests}
+use Rattle.std.proofs.Common.{◌≡◌, ℕ, List, sym, ap, ◌∙◌, subst}
+use Rattle.std.proofs.lemmas.Bool.Decides.{Decides-eqb}
 use Rattle.hh_shared.specs.Tally.{IsDistinctBelow, HasAllBelow}
 use Rattle.hh_shared.proofs.Tallies.{distinct-all, all-length}
 use Rattle.hh_shared.proofs.sums.SharedSums.holds_all.Goals as goal
-
-same_of : (a b : ℕ) → IsTrue (nat_eq a b) → a ≡ b
-same_of a b t = grind (arith, nat_tests)
-
-true_of : (a b : ℕ) → a ≡ b → IsTrue (nat_eq a b)
-true_of a b e = grind (arith, nat_tests)
 
 pub returns : goal.returns
 returns c =
@@ -23,8 +16,8 @@ returns c =
     record {
       all = (
         (λ t. subst (λ (z : ℕ × List ℕ). HasAllBelow z.0 z.1) (λ i. (whole i, mine i))
-            (distinct-all _ _ distinct (sym counted ∙ (same_of _ _ t ∙ sym counts)))),
-        λ all. true_of _ _ (counted
+            (distinct-all _ _ distinct (sym counted ∙ ((Decides-eqb _ _).0 t ∙ sym counts)))),
+        λ all. (Decides-eqb _ _).1 (counted
             ∙ (all-length _ _ distinct (subst (λ (z : ℕ × List ℕ). HasAllBelow z.0 z.1) (λ i. (sym whole i, sym mine i))
             all) ∙ counts)),
       );
