@@ -186,55 +186,38 @@ unfolding Reached items_from
 read-start None now s xs e f g = tt
 read-start (Some text) now s xs e f g = (strip_bom text, e, [], (sym f, refl), rw g refl, refl)
 
--- one more record
-pub read-more : {R : Type 0} (rem : R → Option (List ℕ)) (a b : Reader R) (f : Fields) (known : Option (List ℕ))
-    (xs : List Entry) (n : ℕ) (p : Entry)
-    → a.config ≡ default_config → ReadSoFar known (source_of rem a) a.state xs n → ReadRecord rem a b true f
-    → judged (total_of xs) f ≡ Ok p
-    → ReadSoFar known (source_of rem b) b.state (xs ++ p ∷ []) (n + 1)
-unfolding items_from
-read-more rem a b f None xs n p config h r j = tt
-read-more rem a b f (Some text) xs n p config h r j =
-    let (y, source, rows, reached, items, count) = h in
-    let (z, at, more) =
-    rows-more rem a b f default_config st.StartRecord (strip_bom text) y rows config source reached r in
-    let size = length-append rows (f ∷ []) in
-    (z, at, rows ++ f ∷ [], more, rw (items-more 1 [] xs rows (f ∷ []) items, j) refl, omega (arith, size, count))
+-- after n records, whose items are xs, the reader a reads to b
+module _ {R : Type 0} (rem : R → Option (List ℕ)) (a b : Reader R) (f : Fields) (xs : List Entry) (n : ℕ)
+    (config : a.config ≡ default_config) where
+  -- one more record
+  pub read-more : (known : Option (List ℕ)) (p : Entry) → ReadSoFar known (source_of rem a) a.state xs n
+      → ReadRecord rem a b true f → judged (total_of xs) f ≡ Ok p
+      → ReadSoFar known (source_of rem b) b.state (xs ++ p ∷ []) (n + 1)
+  unfolding items_from
+  read-more None p h r j = tt
+  read-more (Some text) p (y, source, rows, reached, items, count) r j =
+      let (z, at, more) = rows-more rem a b f default_config _ (strip_bom text) y rows config source reached r in
+      let size = length-append rows (f ∷ []) in
+      (z, at, rows ++ f ∷ [], more, rw (items-more 1 [] xs rows (f ∷ []) items, j) refl, omega (arith, size, count))
 
--- no more records
-pub read-end : {R : Type 0} (rem : R → Option (List ℕ)) (a b : Reader R) (f : Fields) (known : Option (List ℕ))
-    (xs : List Entry) (n : ℕ)
-    → a.config ≡ default_config → ReadSoFar known (source_of rem a) a.state xs n → ReadRecord rem a b false f
-    → IfSome known (λ text. stream_of text ≡ Ok xs)
-read-end rem a b f None xs n config h r = tt
-read-end rem a b f (Some text) xs n config h r =
-    let (y, source, rows, reached, items, count) = h in
-    let none = rows-end rem a b f default_config y config source r in
-    let (m, all) = records-reached a.state (strip_bom text) y rows reached in
-    rw (all, no-records default_config a.state y m none, append-nil rows) items
+  -- no more records
+  pub read-end : (known : Option (List ℕ)) → ReadSoFar known (source_of rem a) a.state xs n
+      → ReadRecord rem a b false f → IfSome known (λ text. stream_of text ≡ Ok xs)
+  read-end None h r = tt
+  read-end (Some text) (y, source, rows, reached, items, count) r =
+      let none = rows-end rem a b f default_config y config source r in
+      let (m, all) = records-reached a.state (strip_bom text) y rows reached in
+      rw (all, no-records default_config a.state y m none, append-nil rows) items
 
--- a record that fails
-pub read-bad : {R : Type 0} (rem : R → Option (List ℕ)) (a b : Reader R) (f : Fields) (known : Option (List ℕ))
-    (xs : List Entry) (n : ℕ) (x : BadRecordCause)
-    → a.config ≡ default_config → ReadSoFar known (source_of rem a) a.state xs n → ReadRecord rem a b true f
-    → judged (total_of xs) f ≡ Err x
-    → IfSome known (λ text. stream_of text ≡ Err (n + 1, x))
-unfolding items_from
-read-bad rem a b f None xs n x config h r j = tt
-read-bad rem a b f (Some text) xs n x config h r j =
-    let (y, source, rows, reached, items, count) = h in
-    let (z, at, more) =
-    rows-more rem a b f default_config st.StartRecord (strip_bom text) y rows config source reached r in
-    let (m, all) = records-reached b.state (strip_bom text) z (rows ++ f ∷ []) more in
-    let rest = records_from default_config m b.state z in
-    let number : 1 + length rows ≡ n + 1 = omega (arith, count) in
-    rw (all, append_assoc rows (f ∷ []) rest, items-more 1 [] xs rows (f ∷ rest) items, j, number) refl
-
--- a record that was not taken
-pub read-refused : {R : Type 0} (rem : R → Option (List ℕ)) (a b : Reader R) (f : Fields) (known : Option (List ℕ))
-    (xs : List Entry) (n : ℕ) (x : RecordFault)
-    → a.config ≡ default_config → ReadSoFar known (source_of rem a) a.state xs n → ReadRecord rem a b true f
-    → RecordRefused (total_of xs) f x
-    → ReadRefused known (numbered (n + 1) x)
-read-refused rem a b f known xs n (fault.Bad c) config h r j = read-bad rem a b f known xs n c config h r j
-read-refused rem a b f known xs n fault.Memory config h r j = tt
+  -- a record that was not taken
+  pub read-refused : (known : Option (List ℕ)) (x : RecordFault) → ReadSoFar known (source_of rem a) a.state xs n
+      → ReadRecord rem a b true f → RecordRefused (total_of xs) f x → ReadRefused known (numbered (n + 1) x)
+  unfolding items_from
+  read-refused known fault.Memory h r j = tt
+  read-refused None (fault.Bad x) h r j = tt
+  read-refused (Some text) (fault.Bad x) (y, source, rows, reached, items, count) r j =
+      let (z, at, more) = rows-more rem a b f default_config _ (strip_bom text) y rows config source reached r in
+      let (m, all) = records-reached b.state (strip_bom text) z (rows ++ f ∷ []) more in
+      let rest = records_from default_config m b.state z in
+      let number : 1 + length rows ≡ n + 1 = omega (arith, count) in
+      rw (all, append_assoc rows (f ∷ []) rest, items-more 1 [] xs rows (f ∷ rest) items, j, number) refl

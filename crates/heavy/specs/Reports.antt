@@ -1,5 +1,5 @@
 -- What a report leaves in a sink, and what its refusals tell.
-use Rattle.std.specs.Prelude.{◌≡◌, ◌+◌, ◌-◌, not, ℕ, List, filter, Bool, true, false, Option, Some, None, is_none, Result, Ok, Err, if◌then◌else◌}
+use Rattle.std.specs.Prelude.{◌≡◌, ◌+◌, ◌-◌, not, ℕ, List, filter, Bool, true, false, Option, Some, None, is_none, Result, Ok, Err, ⊤, if◌then◌else◌}
 use Rattle.std.specs.Io.KnownBytes.{Appends, Keeps}
 use Rattle.hh_stream.specs.Weights.{Entry}
 use Rattle.hh_counters.specs.Report.{has_counter, heavy}
@@ -64,6 +64,16 @@ bad_option o =
     else if is_none (threshold_of o.k o.threshold) then Some tool.BadThreshold
     else if not (in_range o.pieces most_pieces) then Some tool.BadPieces
     else None
+
+-- a fault that options have, before their tree
+abbrev pub IsOptionFault : ToolError → Type 0
+IsOptionFault tool.BadDepth = ⊤
+IsOptionFault tool.BadK = ⊤
+IsOptionFault tool.BadWorkers = ⊤
+IsOptionFault tool.BadWidth = ⊤
+IsOptionFault tool.BadThreshold = ⊤
+IsOptionFault tool.BadPieces = ⊤
+IsOptionFault _ = ⊥
 
 -- the settings of an analysis for these options and the threshold p/q
 abbrev pub settings_of : ReportOptions → ℕ → ℕ → Settings

@@ -4,7 +4,7 @@ ghost use Rattle.std.specs.Prelude.{◌≡◌, false, true, length, IfOk, IfErr,
 ghost use Rattle.hh_pool.specs.Trees.{leaves};
 ghost use Rattle.hh_counters.specs.Report.{heavy};
 ghost use Rattle.heavy.specs.Limits.{in_range, most_pieces};
-ghost use Rattle.heavy.specs.Reports.{IsReported, Names, ReportRefused, TreeRefused, bad_option, failed_by, settings_of};
+ghost use Rattle.heavy.specs.Reports.{IsOptionFault, IsReported, Names, ReportRefused, TreeRefused, bad_option, failed_by, settings_of};
 ghost use Rattle.heavy.specs.Thresholds.{threshold_of};
 
 use crate::error::{ToolError, TreeFault};
@@ -65,6 +65,7 @@ fn check_options(options: &ReportOptions) -> Result<(u64, u64), ToolError>
     ensures tests { MatchResult result
         (λ _. bad_option options.now ≡ None)
         (λ fault. bad_option options.now ≡ Some fault) }
+    ensures kind { IfErr result IsOptionFault }
     ensures threshold { IfOk result (λ threshold.
         threshold_of options.now.k options.now.threshold ≡ Some threshold) }
 {

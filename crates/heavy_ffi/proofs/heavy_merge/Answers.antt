@@ -10,7 +10,7 @@ use Rattle.heavy_ffi.proofs.heavy_merge.Goals as goal
 pub returns-clause-enough : goal.returns-clause-enough
 returns-clause-enough c = λ s merged room small.
     let (bytes, made, size, _) =
-        came c.merge_parts-bytes.result c.merge_parts-bytes.ensures.merged (c.answer.ensures.small small) in
+    came c.merge_parts-bytes.result c.merge_parts-bytes.ensures.merged (c.answer.ensures.small small) in
     let both : ◌≡◌ {A = Result Saved ToolError} (Ok made.0) (Ok (Counters s)) = sym made.1 ∙ merged in
     let same : made.0 ≡ Counters s = cc in
     let spells = subst (λ (v : Saved). Spells version.Two bytes.items v) same made.2 in

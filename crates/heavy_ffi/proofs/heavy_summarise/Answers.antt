@@ -6,6 +6,6 @@ use Rattle.heavy_ffi.proofs.heavy_summarise.Goals as goal
 pub returns-clause-enough : goal.returns-clause-enough
 returns-clause-enough c = λ room small.
     let (bytes, saved, size, _) =
-        came c.summary_by-bytes.result c.summary_by-bytes.ensures.saved (c.answer.ensures.small small) in
+    came c.summary_by-bytes.result c.summary_by-bytes.ensures.saved (c.answer.ensures.small small) in
     let law = c.sizes_are_bounded.ensures.summaries_by_k bytes.items (sketch_of c.args.k saved.0) saved.2 in
     omega (arith, room, size.0, size.1, law)

@@ -11,13 +11,13 @@ pub returns-clause-exact : goal.returns-clause-exact
 returns-clause-exact c = λ done.
     let family = drawn_family c.args.seed c.args.depth in
     let (bytes, saved, size, is) =
-        came c.table_bytes-bytes.result c.table_bytes-bytes.ensures.saved (c.answer.ensures.size done) in
+    came c.table_bytes-bytes.result c.table_bytes-bytes.ensures.saved (c.answer.ensures.size done) in
     let law =
-        c.sizes_are_bounded.ensures.tables version.Two bytes.items (table_of family c.args.width saved.0) saved.2 in
+    c.sizes_are_bounded.ensures.tables version.Two bytes.items (table_of family c.args.width saved.0) saved.2 in
     let none =
-        passed (bad_table c.args.depth c.args.width) c.table_bytes-bytes.result bytes
-        c.table_bytes-bytes.ensures.bad_table is in
+    passed (bad_table c.args.depth c.args.width) c.table_bytes-bytes.result bytes
+    c.table_bytes-bytes.ensures.bad_table is in
     let depth : length family.rows ≡ c.args.depth =
-        (c.drawn_families_are_families.ensures c.args.seed c.args.depth
-        (depth_passed c.args.depth c.args.width none)).1 in
+    (c.drawn_families_are_families.ensures c.args.seed c.args.depth
+    (depth_passed c.args.depth c.args.width none)).1 in
     size ∙ law ∙ ap (table_bytes c.args.width) depth

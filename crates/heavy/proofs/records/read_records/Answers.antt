@@ -23,7 +23,7 @@ returns-in-Ok-false-clause-items g c =
     let inv = c.loop-taker.invariant in
     let (xs, total, made, so_far) = inv.6 in
     let r = rw c.in-Ok-false.field-0-test at (c.in-Ok-false.ensures.reads inv.0 inv.1) in
-    (xs, read-end g.R.Read.remaining c.loop-taker.records c.read_byte_record.new.self _ _ xs _ inv.3 so_far r, made)
+    (xs, read-end g.R.Read.remaining c.loop-taker.records c.read_byte_record.new.self _ xs _ inv.3 _ so_far r, made)
 
 pub loop-taker-preserved : goal.loop-taker-preserved
 loop-taker-preserved g c =
@@ -42,7 +42,7 @@ loop-taker-preserved g c =
         xs ++ item ∷ [],
         sum_by_push (λ (d : Entry). d.1) xs item ∙ ap (λ n. n + item.1) total ∙ sym more,
         on c.args.taker xs made,
-        read-more g.R.Read.remaining c.loop-taker.records c.read_byte_record.new.self _ _ xs _ item inv.3 so_far r
+        read-more g.R.Read.remaining c.loop-taker.records c.read_byte_record.new.self _ xs _ inv.3 _ item so_far r
             (rw (← total) at good),
       ),
     )
@@ -53,5 +53,5 @@ returns-in-Err-take_record-clause-refused g c =
     let (xs, total, made, so_far) = inv.6 in
     let r = rw c.in-Ok-true.field-0-test at (c.in-Ok-true.ensures.reads inv.0 inv.1) in
     rw c.numbered.ensures
-    (read-refused g.R.Read.remaining c.loop-taker.records c.read_byte_record.new.self _ _ xs _ _ inv.3 so_far r
+    (read-refused g.R.Read.remaining c.loop-taker.records c.read_byte_record.new.self _ xs _ inv.3 _ _ so_far r
     (rw (← total) at c.in-Err-take_record.ensures.refused))

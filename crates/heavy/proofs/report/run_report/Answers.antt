@@ -9,7 +9,7 @@ pub returns-in_err-p-clause-refused : goal.returns-in_err-p-clause-refused
 returns-in_err-p-clause-refused g c =
     let p = err_from_is_err_and c.from_residual.result c.from_residual.ensures.1 in
     rw (p.1, p.2) (options_refused c.args.options.now (g.R.Read.remaining c.args.reader)
-    (g.S.Sink.taken c.args.sink.now) c.in_err-p.field-0.0 c.in_err-p.ensures.tests)
+    (g.S.Sink.taken c.args.sink.now) c.in_err-p.field-0.0 c.in_err-p.ensures.kind c.in_err-p.ensures.tests)
 
 pub returns-in-Ok-write_report-clause-reported : goal.returns-in-Ok-write_report-clause-reported
 returns-in-Ok-write_report-clause-reported g c =
