@@ -57,7 +57,8 @@ lag es b = sum_by (λ q. gap b q (weight_of q (tally es))) (keys_of es)
 sum_less : (f g : Bytes → ℕ) (ks : List Bytes) (i : ℕ) (d : Bytes) → ((q : Bytes) → g q ≤ f q) → i < length ks
     → g (get_or ks i d) < f (get_or ks i d) → sum_by g ks < sum_by f ks
 sum_less f g [] i d le l less = absurd (omega (arith, l))
-sum_less f g (k ∷ ks) zero d le l less = omega (arith, less, sum_by-le-sum_by g f ks le, sum_by-cons g k ks, sum_by-cons f k ks)
+sum_less f g (k ∷ ks) zero d le l less =
+    omega (arith, less, sum_by-le-sum_by g f ks le, sum_by-cons g k ks, sum_by-cons f k ks)
 sum_less f g (k ∷ ks) (suc i) d le l less =
     omega (arith, le k, sum_less f g ks i d le (omega (arith, l)) less, sum_by-cons g k ks, sum_by-cons f k ks)
 

@@ -11,7 +11,8 @@ use Rattle.std.proofs.lemmas.Bool.Decides.{nat_tests}
 use Rattle.std.proofs.lemmas.List.{get_or-map, get_or_append_left, length_push, map-append, map-set, same_from_push}
 use Rattle.std.proofs.lemmas.List.Quantifiers.{position-Some}
 use Rattle.std.proofs.lemmas.List.Elements.{recursion_from_All}
-use Rattle.std.proofs.lemmas.Map.Entries.{length-keys_of, length-values_of}
+use Rattle.std.proofs.lemmas.Map.Entries.{length-keys_of, length-values_of, none_past_head}
+use Rattle.std.proofs.lemmas.Map.{lookup-none}
 use Rattle.std.proofs.lemmas.Map.Views.{All-values_from_lookup}
 use Rattle.std.specs.Cmp.{eq_by_cmp_equiv}
 use Rattle.std.proofs.lemmas.Option.{none-some, slice_get_within, slice_get-get_or, get_or_from_slice_get}
@@ -37,26 +38,20 @@ Distinct es = IsDistinct same_key (keys_of es)
 abbrev pub PositiveAt : List Entry → Type 0
 PositiveAt es = (q : Bytes) → IfSome (lookup (same_key q) es) (λ m. 0 < m)
 
--- a key like one that no entry has weighs nothing
-pub none_alike : (q x : Bytes) (es : List Entry) → same_key q x ≡ true
-    → AllByRecursion (λ y. same_key x y ≡ false) (keys_of es) → weight_of q es ≡ 0
-none_alike q x [] s h = refl
-none_alike q x (e ∷ es) s h =
-    let other : at_key q e ≡ 0 = ap (λ b. cond b e.1 0) (ap (λ z. same_key z e.0) (same_exact q x s) ∙ h.0) in
-    omega (arith, weight_of-cons q e es, other, none_alike q x es s h.1)
-
 -- with distinct keys a weight is what a look-up finds
-weight_of-lookup : (q : Bytes) (es : List Entry) → Distinct es
+pub weight_of-lookup : (q : Bytes) (es : List Entry) → Distinct es
     → weight_of q es ≡ unwrap_or (lookup (same_key q) es) 0
 unfolding IsDistinct
 weight_of-lookup q [] h = refl
 weight_of-lookup q (e ∷ es) h =
+    let rest = weight_of-lookup q es h.1 in
+    let whole = weight_of-cons q e es in
     elim (same_key q e.0) as (λ b. same_key q e.0 ≡ b
     → weight_of q (e ∷ es) ≡ unwrap_or (cond b (Some e.1) (lookup (same_key q) es)) 0) [
-      | true ↦ λ s. let here : at_key q e ≡ e.1 =
-          ap (λ b. cond b e.1 0) s in omega (arith, weight_of-cons q e es, here, none_alike q e.0 es s h.0)
-      | false ↦ λ s. let other : at_key q e ≡ 0 =
-          ap (λ b. cond b e.1 0) s in omega (arith, weight_of-cons q e es, other, weight_of-lookup q es h.1)
+      | true ↦ λ s.
+          let none = lookup-none (same_key q) es (none_past_head (eq_by_cmp_equiv key_total) q e es h s) in
+          omega (arith, whole, ap (λ b. cond b e.1 0) s, rest, ap (λ o. unwrap_or o 0) none)
+      | false ↦ λ s. omega (arith, whole, ap (λ b. cond b e.1 0) s, rest)
     ] refl
 
 -- a key's weight in the view of an index is what a look-up finds

@@ -1,21 +1,23 @@
 -- The counters of an index, less the least, sorted by key.
-use Rattle.std.proofs.Common.{◌≡◌, ℕ, ◌+◌, ◌-◌, ◌<◌, ◌≤◌, true, false, cond, List, [], ◌∷◌, ◌++◌, length, get_or, take, is_eq, is_lt, refl, sym, ap, ap₂, ◌∙◌, subst, append-nil, arith}
-use Rattle.std.specs.Prelude.{nat_lt, IsPermutation, IsSortedBy}
-use Rattle.std.specs.List.{AllByRecursion, IsDistinct}
+use Rattle.std.proofs.Common.{Option, Some, None, ◌≡◌, ℕ, ◌+◌, ◌-◌, ◌<◌, ◌≤◌, true, false, cond, List, [], ◌∷◌, ◌++◌, length, get_or, take, is_eq, is_lt, refl, sym, ap, ap₂, ◌∙◌, subst, append-nil, arith}
+use Rattle.std.specs.Prelude.{filter, unwrap_or, nat_lt, IsPermutation, IsSortedBy}
+use Rattle.std.specs.List.{IsDistinct}
 use Rattle.std.specs.List.Sorted.{IsStrictlySortedBy}
-use Rattle.std.specs.Map.{keys_of}
+use Rattle.std.specs.Map.{keys_of, lookup}
+use Rattle.std.specs.Option.{option_map}
+use Rattle.std.proofs.lemmas.Map.Made.{IsDistinct-keys_filter, keys_of-map_values, lookup-map_values}
 use Rattle.std.specs.Cmp.{eq_by_cmp_equiv}
 use Rattle.std.proofs.lemmas.Bool.Decides.{nat_tests}
 use Rattle.std.proofs.lemmas.List.{get_or-map, take_more}
 use Rattle.std.proofs.lemmas.List.Sorted.{All-permutation, IsPermutation-map, sum_by-IsPermutation}
 use Rattle.std.proofs.lemmas.List.Elements.{All-from_recursion, recursion_from_All}
 use Rattle.std.proofs.lemmas.Map.Keys.{IsDistinct-IsPermutation, apart_from_distinct, sorted_from_all_adjacent}
-use Rattle.std.proofs.lemmas.Map.Entries.{length-keys_of}
+use Rattle.std.proofs.lemmas.Map.Entries.{length-keys_of, lookup-filter-values, option_filter}
 use Rattle.hh_stream.specs.Weights.{Bytes, Entry, key_cmp, same_key, at_key, weight_of}
-use Rattle.hh_counters.specs.Counters.{Counters, tally, lower}
-use Rattle.hh_counters.proofs.Weights.{key_total, weight_of-cons, weight_of-tally, same_counters}
-use Rattle.hh_counters.proofs.Level.{lower-nil, lower-cons, by_lower, positive-lower, weight_of-lower, counters-lower}
-use Rattle.hh_counters.proofs.Linked.{Distinct, none_alike}
+use Rattle.hh_counters.specs.Counters.{Counters, exceeds, tally, lower}
+use Rattle.hh_counters.proofs.Weights.{key_total, weight_of-tally, same_counters}
+use Rattle.hh_counters.proofs.Level.{lower-nil, lower-cons, positive-lower, weight_of-lower, counters-lower}
+use Rattle.hh_counters.proofs.Linked.{Distinct, weight_of-lookup}
 use Rattle.hh_counters.proofs.Reports.{ranked_next}
 
 -- ---- lowering, entry by entry
@@ -54,50 +56,32 @@ lower_below t es i e l is below =
     lower_more t es i e l is ∙ ap (λ b. lower t (take i es) ++ cond b ((e.0, e.1 - t) ∷ []) []) test
     ∙ append-nil (lower t (take i es))
 
-differ-lower : (x : Bytes) (t : ℕ) (es : List Entry) → AllByRecursion (λ y. same_key x y ≡ false) (keys_of es)
-    → AllByRecursion (λ y. same_key x y ≡ false) (keys_of (lower t es))
-differ-lower x t [] h =
-    subst (λ (d : Counters). AllByRecursion (λ y. same_key x y ≡ false) (keys_of d)) (sym (lower-nil t)) tt
-differ-lower x t (e ∷ es) h = by_lower (λ d. AllByRecursion (λ y. same_key x y ≡ false) (keys_of d)) t e es
-    (λ l. (h.0, differ-lower x t es h.1)) (λ l. differ-lower x t es h.1)
-
+-- its keys stay apart
 distinct-lower : (t : ℕ) (es : List Entry) → Distinct es → Distinct (lower t es)
-unfolding IsDistinct
-distinct-lower t [] h = subst Distinct (sym (lower-nil t)) tt
-distinct-lower t (e ∷ es) h =
-    by_lower Distinct t e es (λ l. (differ-lower e.0 t es h.0, distinct-lower t es h.1)) (λ l. distinct-lower t es h.1)
+unfolding lower
+distinct-lower t es h =
+    subst (IsDistinct same_key) (sym (keys_of-map_values (λ n. n - t) (filter (exceeds t) es)))
+    (IsDistinct-keys_filter same_key (exceeds t) es h)
 
 -- each key's number less t, in whatever order the keys stand
 weight_of-lower-distinct : (t : ℕ) (q : Bytes) (es : List Entry) → Distinct es
     → weight_of q (lower t es) ≡ weight_of q es - t
-unfolding IsDistinct
-weight_of-lower-distinct t q [] h = ap (weight_of q) (lower-nil t) ∙ omega arith
-weight_of-lower-distinct t q (e ∷ es) h =
-    elim (same_key q e.0) as (λ b. same_key q e.0 ≡ b → weight_of q (lower t (e ∷ es)) ≡ weight_of q (e ∷ es) - t) [
-      | true ↦ λ s.
-          let rest = none_alike q e.0 es s h.0 in
-          let low = none_alike q e.0 (lower t es) s (differ-lower e.0 t es h.0) in
-          let here : at_key q e ≡ e.1 = ap (λ b. cond b e.1 0) s in
-          let less : at_key q (e.0, e.1 - t) ≡ e.1 - t = ap (λ b. cond b (e.1 - t) 0) s in
-          by_lower (λ d. weight_of q d ≡ weight_of q (e ∷ es) - t) t e es
-          (λ l. omega (
-            arith,
-            weight_of-cons q (e.0, e.1 - t) (lower t es),
-            weight_of-cons q e es,
-            rest,
-            low,
-            here,
-            less,
-          ))
-          (λ l. omega (arith, weight_of-cons q e es, rest, low, here))
-      | false ↦ λ s.
-          let other : at_key q e ≡ 0 = ap (λ b. cond b e.1 0) s in
-          let less : at_key q (e.0, e.1 - t) ≡ 0 = ap (λ b. cond b (e.1 - t) 0) s in
-          let rest = weight_of-lower-distinct t q es h.1 in
-          by_lower (λ d. weight_of q d ≡ weight_of q (e ∷ es) - t) t e es
-          (λ l. omega (arith, weight_of-cons q (e.0, e.1 - t) (lower t es), weight_of-cons q e es, rest, other, less))
-          (λ l. omega (arith, weight_of-cons q e es, rest, other))
-    ] refl
+unfolding lower
+weight_of-lower-distinct t q es h =
+    let kept = lookup-filter-values (eq_by_cmp_equiv key_total) (nat_lt t) q es h in
+    let found =
+    lookup-map_values (λ n. n - t) (same_key q) (filter (exceeds t) es) ∙ ap (option_map (λ n. n - t)) kept in
+    weight_of-lookup q (lower t es) (distinct-lower t es h) ∙ ap (λ o. unwrap_or o 0) found
+    ∙ less (lookup (same_key q) es) ∙ ap (λ n. n - t) (sym (weight_of-lookup q es h))
+  where
+    less : (o : Option ℕ) → unwrap_or (option_map (λ n. n - t) (option_filter (nat_lt t) o)) 0 ≡ unwrap_or o 0 - t
+    less None = omega arith
+    less (Some n) =
+        elim (nat_lt t n) as (λ b. nat_lt t n ≡ b → unwrap_or (option_map (λ n. n - t) (cond b (Some n) None)) 0
+        ≡ n - t) [
+          | true ↦ λ p. refl
+          | false ↦ λ p. grind (arith, nat_tests, p)
+        ] refl
 
 -- ---- sorted by key
 -- entries whose keys are distinct rise where they are sorted
