@@ -82,8 +82,7 @@ fits_new n ws counts = record {
 distinct_at : (n m : ℕ) (ws : List ℕ) (seats : List Lists) (id : ℕ) (seat : Lists) → IsTallied n m ws seats
     → get_elem? seats id ≡ some seat → IsDistinctBelow n seat.claims
 distinct_at n m ws seats id seat k at = record {
-  once = λ j. dite (ℕ_discrete (times j seat.claims) 0)
-      (λ e. omega arith)
+  once = λ j. dite (ℕ_discrete (times j seat.claims) 0) (λ e. omega arith)
       (λ ne. let low = (k.each id seat at).claims_below j (omega arith) in
       omega (arith, at-le-sum_by (λ (u : Lists). times j u.claims) seats id seat at, k.claimed j low, k.once j low));
   below = λ j h. (k.each id seat at).claims_below j h;
@@ -119,10 +118,8 @@ claim_keeps_rule n m ws seats id j seat k at low free =
             idle = λ none. absurd (omega (arith, ap length none, length-append seat.claims (j ∷ [])));
           })
           (λ i u d. fits_after n ws (set ws j 1) u stays (k.each i u d));
-      claimed = λ i l. dite (ℕ_discrete i j)
-          (λ e. rw e mine) (others i l);
-      once = λ i l. dite (ℕ_discrete i j) (λ e. rw e (omega arith))
-          (λ ne. omega (arith, elsewhere i ne, k.once i l));
+      claimed = λ i l. dite (ℕ_discrete i j) (λ e. rw e mine) (others i l);
+      once = λ i l. dite (ℕ_discrete i j) (λ e. rw e (omega arith)) (λ ne. omega (arith, elsewhere i ne, k.once i l));
       summed = λ cell l.
           let same : all_added cell (set seats id after) ≡ all_added cell seats =
           omega (arith, added-replace cell seats id seat after at) in
@@ -198,8 +195,7 @@ addition_keeps_rule n m ws seats id cell amount seat k at some_claim inside =
           (λ i u d. fits_after n ws (set ws (n + cell) sum) u stays (k.each i u d));
       claimed = λ i l. omega (arith, apart i l, claimed-replace i seats id seat after at, k.claimed i l);
       once = λ i l. omega (arith, apart i l, k.once i l);
-      summed = λ i l. dite (ℕ_discrete i cell)
-          (λ e. rw e mine) (others i l);
+      summed = λ i l. dite (ℕ_discrete i cell) (λ e. rw e mine) (others i l);
     }
 
 -- a new seat comes, with empty lists
@@ -297,8 +293,7 @@ claim_step counts slots id me j same low s k homes at fits =
     let distinct : (after : Lists) (ws : List ℕ) (seats : List Lists) → after.counts ≡ seat.counts
     → IsTallied n m ws seats → get_elem? seats id ≡ some after → IsDistinctBelow after.counts.0 after.claims =
     (λ after ws seats e kept there. rw (e ∙ same) (distinct_at n m ws seats id after kept there)) in
-    dite (ℕ_discrete word 0)
-    (λ free.
+    dite (ℕ_discrete word 0) (λ free.
     let after = lists seat.counts (seat.claims ++ j ∷ []) seat.met seat.adds in
     let kept = claim_keeps_rule n m s.words s.views id j seat k at low free in (
       after,
