@@ -75,15 +75,14 @@ pub merged_is : MisraGriesIsHonest → (t : MergeTree) (k : ℕ) (pieces : List 
     → IsMergeOf t ss s → IsMerged t k pieces xs s
 merged_is law t k pieces xs ss s some whole e of =
     let sketches = map (sketch_of k) pieces in
-    let here : IsMergeOf t sketches s = subst (λ zs. IsMergeOf t zs s) e of in
+    let here : IsMergeOf t sketches s = rw e at of in
     let count : length sketches ≡ length pieces = length-map pieces (sketch_of k) in
     let first = ap (λ (piece : Sketch). piece.k) (sketch-at k pieces 0 some) in
     let k_is : s.k ≡ k = sym (here.same_k 0 no_sketch (omega arith)) ∙ first in
     let total_is = here.total ∙ (total-sketches k pieces ∙ ap total_of whole) in
     let each : (i : ℕ) → i < length sketches → let piece = get_or sketches i no_sketch in
     IsHonest piece.counters piece.total (get_or pieces i []) s.k =
-    (λ i low. subst (λ (z : Sketch × ℕ). IsHonest z.0.counters z.0.total (get_or pieces i []) z.1)
-    (λ j. (sym (sketch-at k pieces i (omega arith)) j, sym k_is j)) (law (get_or pieces i []) k)) in
+    (λ i low. rw (sketch-at k pieces i (omega arith), k_is) (law (get_or pieces i []) k)) in
     record {
       same_k = k_is;
       total = total_is;
@@ -115,8 +114,7 @@ thinned_enough contend thin s xs p q total ks keys numbers bound honest enough m
     let all = keys_of (contenders p q s) in
     let here : keys ≡ thinned p q (total_of xs) all (map bound all) = keys_are
     ∙ (λ i. thinned p q (total_is i) (ks_are i) ((numbers_are ∙ ap (map bound) ks_are) i)) in
-    subst (λ (z : List Bytes). AreEnough z xs p q) (sym here) (thin all bound xs p q most
-    ∙ contend s xs p q honest enough)
+    rw here (thin all bound xs p q most ∙ contend s xs p q honest enough)
 
 -- the second pass over candidates that are enough finds the heavy keys
 pub heavy_is : (xs : List Entry) (p q total : ℕ) (keys : List Bytes) (weights : List ℕ) → AreEnough keys xs p q

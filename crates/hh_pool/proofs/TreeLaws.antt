@@ -1,11 +1,11 @@
 -- What a tree makes of honest counters is honest, and so a report of condensed parts is that of the whole.
-use Rattle.std.proofs.Common.{◌+◌, ◌<◌, ◌++◌, ℕ, List, [], length, map, sym, subst, arith}
+use Rattle.std.proofs.Common.{◌+◌, ◌<◌, ℕ, List, [], length, map, subst, arith}
 use Rattle.std.specs.Prelude.{slice_index_or}
 use Rattle.std.proofs.lemmas.List.{get_or-map}
 use Rattle.std.proofs.lemmas.List.Sums.{sum_by-append}
 use Rattle.hh_stream.specs.Weights.{Entry, total_of}
 use Rattle.hh_stream.specs.Cuttings.{whole_of}
-use Rattle.hh_counters.specs.Counters.{Counters, IsHonest, join, misra_gries}
+use Rattle.hh_counters.specs.Counters.{Counters, IsHonest, misra_gries}
 use Rattle.hh_counters.specs.Laws.{MisraGriesIsHonest, JoinOfHonestIsHonest, HonestInAnyOrder, CondensedPartsReport}
 use Rattle.hh_shared.specs.Tally.{times}
 use Rattle.hh_pool.specs.Trees.{MergeTree, Piece, Merge, items_of, leaves, tree_value}
@@ -28,8 +28,7 @@ honest-value law (Merge l r) cs parts k each =
     let right = honest-value law r cs parts k (at-right l r each) in
     let ls = items_of l parts in
     let rs = items_of r parts in
-    subst (λ m. IsHonest (join (tree_value l cs k) (tree_value r cs k) k) m (ls ++ rs) k)
-    (sym (sum_by-append (λ (e : Entry). e.1) ls rs))
+    rw (sum_by-append (λ (e : Entry). e.1) ls rs)
     (law (tree_value l cs k) (tree_value r cs k) (total_of ls) (total_of rs) ls rs k left right)
 
 -- whatever the tree, honest counters of the parts make honest counters of the whole
@@ -49,11 +48,9 @@ report-by-tree trees own order report t parts c xs ys k tree is whole perm =
     let each : (i : ℕ) → i < length parts → let part = slice_index_or parts i [] in
     IsHonest (slice_index_or cs i []) (total_of part) part k = λ i low.
     let part = slice_index_or parts i [] in
-    subst (λ (d : Counters). IsHonest d (total_of part) part k)
-    (sym (get_or-map (λ (part : List Entry). misra_gries part k) parts i [] [] low)) (own part k) in
+    rw (get_or-map (λ (part : List Entry). misra_gries part k) parts i [] [] low) (own part k) in
     let value : IsHonest c (total_of (whole_of parts)) (whole_of parts) k =
-    subst (λ (d : Counters). IsHonest d (total_of (whole_of parts)) (whole_of parts) k) (sym is)
-    (trees t cs parts k tree each) in
+    rw is (trees t cs parts k tree each) in
     let again = order c (total_of (whole_of parts)) (whole_of parts) xs k whole value in
     let honest : IsHonest c (total_of xs) xs k = subst (λ m. IsHonest c m xs k) again.counted again in
     report c parts xs ys k 1 (k + 1) whole perm honest (omega arith)

@@ -21,7 +21,7 @@ use Rattle.hh_counters.specs.Counters.{Sketch, sketch_of}
 use Rattle.hh_countmin.specs.Family.{Coefficients}
 use Rattle.hh_countmin.specs.Table.{Grid, at_cell, cell_at, cell_sum, table_of}
 use Rattle.hh_countmin.specs.Laws.{CellsAreCellSums}
-use Rattle.hh_shared.specs.Tally.{times, added, IsDistinctBelow}
+use Rattle.hh_shared.specs.Tally.{added, IsDistinctBelow}
 use Rattle.hh_shared.specs.Seats.{Sums, Holding, fresh, joined}
 use Rattle.hh_pool.specs.Settings.{Settings}
 use Rattle.hh_pool.specs.Passes.{piece_of, items_at, summaries_at, HasTried, AreFirstPasses, AreSecondPasses, IsFirstPass, IsSecondPass}
@@ -40,14 +40,12 @@ items_at-append pieces one other = flat_map-append (piece_of pieces) one other
 tried-claim : (n : ℕ) (seat : Holding) → HasTried n seat
     → HasTried (n + 1) (record seat { claims = seat.claims ++ n ∷ [] })
 tried-claim n seat tried i low = dite (ℕ_discrete i n)
-    (λ e. subst (λ x. 0 < times x (seat.claims ++ n ∷ []) + times x seat.met) (sym e)
-    (omega (arith, times-push n seat.claims)))
+    (λ e. rw e (omega (arith, times-push n seat.claims)))
     (λ ne. omega (arith, tried i (omega arith), times-append i seat.claims (n ∷ [])))
 
 tried-met : (n : ℕ) (seat : Holding) → HasTried n seat → HasTried (n + 1) (record seat { met = seat.met ++ n ∷ [] })
 tried-met n seat tried i low = dite (ℕ_discrete i n)
-    (λ e. subst (λ x. 0 < times x seat.claims + times x (seat.met ++ n ∷ [])) (sym e)
-    (omega (arith, times-push n seat.met)))
+    (λ e. rw e (omega (arith, times-push n seat.met)))
     (λ ne. omega (arith, tried i (omega arith), times-append i seat.met (n ∷ [])))
 
 tried-joined : (n : ℕ) (one other : Holding) → HasTried n one → HasTried n (joined one other)
@@ -109,10 +107,10 @@ one_more_claimed : (pieces : List (List Entry)) (n : ℕ) (seat after : Holding)
 one_more_claimed pieces n seat after e distinct p =
     let claims = ap (λ h. h.claims) e in
     record {
-      tried = subst (HasTried (n + 1)) (sym e) (tried-claim n seat p.tried);
+      tried = rw e (tried-claim n seat p.tried);
       distinct = distinct;
-      rising = subst IsStrictlyIncreasing (sym claims) (rising-push seat.claims n p.rising p.low);
-      low = subst (All (λ (i : ℕ). i < n + 1)) (sym claims)
+      rising = rw claims (rising-push seat.claims n p.rising p.low);
+      low = rw claims
           (All-push (λ (i : ℕ). i < n + 1) seat.claims n (λ k d within. omega (arith, p.low k d within)) (omega arith));
       none_added = ap (λ h. h.adds) e ∙ p.none_added;
     }
@@ -127,8 +125,7 @@ pub first_met : (pieces : List (List Entry)) (settings : Settings) (n : ℕ) (se
     (kept : List (ℕ × Sketch)) (grid : Grid) → after ≡ record seat { met = seat.met ++ n ∷ [] }
     → IsFirstPassUpTo pieces settings n seat kept grid → IsFirstPassUpTo pieces settings (n + 1) after kept grid
 first_met pieces settings n seat after kept grid e p =
-    subst (λ h. IsFirstPassUpTo pieces settings (n + 1) h kept grid) (sym e)
-    (record { so_far = one_more_met pieces n seat p.so_far; summaries = p.summaries; table = p.table })
+    rw e (record { so_far = one_more_met pieces n seat p.so_far; summaries = p.summaries; table = p.table })
 
 -- it has claimed one piece more, summarised it and added its items to the table
 pub first_claimed : (pieces : List (List Entry)) (settings : Settings) (n : ℕ) (seat after : Holding)
@@ -212,8 +209,8 @@ second_begins pieces keys sums numbers e = record { so_far = nothing_tried piece
 pub second_met : (pieces : List (List Entry)) (keys : List Bytes) (n : ℕ) (seat after : Holding) (numbers : List ℕ)
     → after ≡ record seat { met = seat.met ++ n ∷ [] } → IsSecondPassUpTo pieces keys n seat numbers
     → IsSecondPassUpTo pieces keys (n + 1) after numbers
-second_met pieces keys n seat after numbers e p = subst (λ h. IsSecondPassUpTo pieces keys (n + 1) h numbers) (sym e)
-    (record { so_far = one_more_met pieces n seat p.so_far; numbers = p.numbers })
+second_met pieces keys n seat after numbers e p =
+    rw e (record { so_far = one_more_met pieces n seat p.so_far; numbers = p.numbers })
 
 -- counting goes on where it stopped
 pub counted-weights_at : (keys : List Bytes) (xs ys : List Entry)

@@ -207,12 +207,7 @@ fn least_unmarked(marks: &[bool]) -> Option<usize>
         × (slice_index_or marks.now i false ≡ false)
         × ((j : ℕ) → j < i → slice_index_or marks.now j false ≡ true)) }
 {
-    for i in 0..marks.len() {
-        if !marks[i] {
-            return Some(i);
-        }
-    }
-    None
+    marks.iter().position(|marked| !*marked)
 }
 
 /// Whether a tree's numbers are those of so many pieces, each once.

@@ -82,8 +82,7 @@ fits_new n ws counts = record {
 distinct_at : (n m : ℕ) (ws : List ℕ) (seats : List Lists) (id : ℕ) (seat : Lists) → IsTallied n m ws seats
     → get_elem? seats id ≡ some seat → IsDistinctBelow n seat.claims
 distinct_at n m ws seats id seat k at = record {
-  once = λ j. dite (ℕ_discrete (times j seat.claims) 0)
-      (λ e. omega arith)
+  once = λ j. dite (ℕ_discrete (times j seat.claims) 0) (λ e. omega arith)
       (λ ne. let low = (k.each id seat at).claims_below j (omega arith) in
       omega (arith, at-le-sum_by (λ (u : Lists). times j u.claims) seats id seat at, k.claimed j low, k.once j low));
   below = λ j h. (k.each id seat at).claims_below j h;
@@ -101,8 +100,7 @@ claim_keeps_rule n m ws seats id j seat k at low free =
     let elsewhere : (i : ℕ) → i ≢ j → get_or (set ws j 1) i 0 ≡ get_or ws i 0 =
     λ i ne. get_or-set_other ws j i 1 0 ne in
     let stays : (i : ℕ) → i < n → get_or ws i 0 ≡ 1 → get_or (set ws j 1) i 0 ≡ 1 =
-    λ i _ one. dite (ℕ_discrete i j) (λ e. subst (λ x. get_or (set ws j 1) x 0 ≡ 1) (sym e) here) (λ ne. elsewhere i ne
-    ∙ one) in
+    λ i _ one. dite (ℕ_discrete i j) (λ e. rw e here) (λ ne. elsewhere i ne ∙ one) in
     let mine : get_or (set ws j 1) j 0 ≡ all_claimed j (set seats id after) =
     omega (arith, here, claimed-replace j seats id seat after at, times-push j seat.claims, k.claimed j low) in
     let others : (i : ℕ) → i < n → i ≢ j → get_or (set ws j 1) i 0 ≡ all_claimed i (set seats id after) =
@@ -120,10 +118,8 @@ claim_keeps_rule n m ws seats id j seat k at low free =
             idle = λ none. absurd (omega (arith, ap length none, length-append seat.claims (j ∷ [])));
           })
           (λ i u d. fits_after n ws (set ws j 1) u stays (k.each i u d));
-      claimed = λ i l. dite (ℕ_discrete i j)
-          (λ e. subst (λ x. get_or (set ws j 1) x 0 ≡ all_claimed x (set seats id after)) (sym e) mine) (others i l);
-      once = λ i l. dite (ℕ_discrete i j) (λ e. subst (λ x. get_or (set ws j 1) x 0 < 2) (sym e) (omega arith))
-          (λ ne. omega (arith, elsewhere i ne, k.once i l));
+      claimed = λ i l. dite (ℕ_discrete i j) (λ e. rw e mine) (others i l);
+      once = λ i l. dite (ℕ_discrete i j) (λ e. rw e (omega arith)) (λ ne. omega (arith, elsewhere i ne, k.once i l));
       summed = λ cell l.
           let same : all_added cell (set seats id after) ≡ all_added cell seats =
           omega (arith, added-replace cell seats id seat after at) in
@@ -145,7 +141,7 @@ meeting_keeps_rule n m ws seats id j seat k at low taken =
             claims_below = f.claims_below;
             met_below = λ i h. dite (ℕ_discrete i j) (λ e. omega arith)
                 (λ ne. f.met_below i (omega (arith, times-push_other j i seat.met ne)));
-            met_claimed = λ i h. dite (ℕ_discrete i j) (λ e. subst (λ x. get_or ws x 0 ≡ 1) (sym e) taken)
+            met_claimed = λ i h. dite (ℕ_discrete i j) (λ e. rw e taken)
                 (λ ne. f.met_claimed i (omega (arith, times-push_other j i seat.met ne)));
             idle = f.idle;
           })
@@ -157,7 +153,7 @@ meeting_keeps_rule n m ws seats id j seat k at low taken =
           omega (arith, added-replace cell seats id seat after at) in
           k.summed cell l ∙ ap (λ x. x % 2 ^ 64) (sym same);
     } in
-    subst (λ xs. IsTallied n m xs (set seats id after)) (sym same_words) kept
+    rw same_words kept
 
 -- an amount is added to a cell
 addition_keeps_rule : (n m : ℕ) (ws : List ℕ) (seats : List Lists) (id cell amount : ℕ) (seat : Lists)
@@ -199,9 +195,7 @@ addition_keeps_rule n m ws seats id cell amount seat k at some_claim inside =
           (λ i u d. fits_after n ws (set ws (n + cell) sum) u stays (k.each i u d));
       claimed = λ i l. omega (arith, apart i l, claimed-replace i seats id seat after at, k.claimed i l);
       once = λ i l. omega (arith, apart i l, k.once i l);
-      summed = λ i l. dite (ℕ_discrete i cell)
-          (λ e. subst (λ x. get_or (set ws (n + cell) sum) (n + x) 0 ≡ all_added x (set seats id after) % 2 ^ 64)
-          (sym e) mine) (others i l);
+      summed = λ i l. dite (ℕ_discrete i cell) (λ e. rw e mine) (others i l);
     }
 
 -- a new seat comes, with empty lists
@@ -298,10 +292,8 @@ claim_step counts slots id me j same low s k homes at fits =
     let word = get_or s.words j 0 in
     let distinct : (after : Lists) (ws : List ℕ) (seats : List Lists) → after.counts ≡ seat.counts
     → IsTallied n m ws seats → get_elem? seats id ≡ some after → IsDistinctBelow after.counts.0 after.claims =
-    (λ after ws seats e kept there. subst (λ (c : ℕ × ℕ). IsDistinctBelow c.0 after.claims) (sym (e ∙ same))
-    (distinct_at n m ws seats id after kept there)) in
-    dite (ℕ_discrete word 0)
-    (λ free.
+    (λ after ws seats e kept there. rw (e ∙ same) (distinct_at n m ws seats id after kept there)) in
+    dite (ℕ_discrete word 0) (λ free.
     let after = lists seat.counts (seat.claims ++ j ∷ []) seat.met seat.adds in
     let kept = claim_keeps_rule n m s.words s.views id j seat k at low free in (
       after,
@@ -371,7 +363,7 @@ pub split_step : (counts : ℕ × ℕ) (id : ℕ) (seat : Lists)
     → Splits {S = ℕ} (λ s. IsTallied counts.0 counts.1 s.words s.views) id seat seat (newcomer seat.counts)
 split_step counts id seat s k at =
     split_keeps_rule counts.0 counts.1 s.words (set s.views id seat) seat.counts
-    (subst (λ seats. IsTallied counts.0 counts.1 s.words seats) (sym (set_again s.views id seat at)) k)
+    (rw (set_again s.views id seat at) k)
 
 -- of a seat that takes in another's lists
 pub join_step : (counts : ℕ × ℕ) (id : ℕ) (one : Lists) (other : ℕ) (two : Lists)

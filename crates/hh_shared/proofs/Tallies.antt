@@ -126,8 +126,7 @@ weighed-below f x xs (suc n) lt = by (weighed-below f x xs n) (eqb_tells x n)
         → weighed f (x ∷ xs) n + times n (x ∷ xs) * f n ≡ f x + (weighed f xs n + times n xs * f n)
     by lower (inl e) =
         let rest : weighed f (x ∷ xs) n ≡ weighed f xs n = weighed-above f x xs n (omega (arith, e.1)) in
-        let one : times n (x ∷ xs) ≡ 1 + times n xs =
-        subst (λ (m : ℕ). times m (x ∷ xs) ≡ 1 + times m xs) e.1 (times-here x xs) in
+        let one : times n (x ∷ xs) ≡ 1 + times n xs = rw e.1 (times-here n xs) in
         let same : f x ≡ f n = ap f e.1 in
         rw (one, rest, same) (omega arith)
     by lower (inr e) = rw (times-elsewhere n x xs e.1, lower (omega (arith, lt, e.1))) (omega arith)
