@@ -50,10 +50,12 @@ rows_in_range (a ∷ b ∷ words) =
     let factor = factor_in_range a in
     ((factor.0, factor.1, mod_below b modulus (omega arith)), rows_in_range words)
 
+-- as many rows are drawn as were asked for
 pub length-next_rows : (depth : ℕ) (g : Lcg) → length (next_rows depth g) ≡ depth
 unfolding first_words
 length-next_rows zero g = refl
-length-next_rows (suc depth) g = ap length (next_rows-suc (suc depth) depth g refl) ∙ ap suc (length-next_rows depth (pcg64 (pcg64 g).1).1)
+length-next_rows (suc depth) g =
+    ap length (next_rows-suc (suc depth) depth g refl) ∙ ap suc (length-next_rows depth (pcg64 (pcg64 g).1).1)
 
 -- what is drawn is the drawn family
 pub is_drawn : (seed depth : ℕ) (g : Lcg) → g ≡ generator_of seed
@@ -65,11 +67,13 @@ is_drawn seed depth g e =
     ∙ ap (λ (n : ℕ). family_of_words (first_words pcg64 n (generator_of seed))) (sym one)
 
 -- so many words make a family
-pub drawn_is_family : (word depth : ℕ) (g : Lcg) → IsDepth depth → IsFamily (record { z = factor_of word; rows = next_rows depth g })
+pub drawn_is_family : (word depth : ℕ) (g : Lcg) → IsDepth depth
+    → IsFamily (record { z = factor_of word; rows = next_rows depth g })
 drawn_is_family word depth g is_depth =
     let len = length-next_rows depth g in
     let factor = factor_in_range word in
     record {
       depth = (omega arith, omega arith);
-      in_range = (factor.0, factor.1, All-from_recursion IsRow (next_rows depth g) (rows_in_range (first_words pcg64 (2 * depth) g)));
+      in_range = (factor.0, factor.1, All-from_recursion IsRow (next_rows depth g)
+          (rows_in_range (first_words pcg64 (2 * depth) g)));
     }

@@ -19,7 +19,9 @@ power_from_ones n some small one =
     let none : rest ≡ 0 = zero_from_ones rest (omega (arith, ones, one)) in
     (k, omega (arith, split, none))
 
-pub mask-is : (n width : ℕ) → 0 < width → width < 2 ^ 64 → is_power_of_two width ≡ true → bit_and n (width - 1) ≡ n % width
+-- where the width is a power of two, the remainder is what the bits below it say
+pub mask-is : (n width : ℕ) → 0 < width → width < 2 ^ 64 → is_power_of_two width ≡ true
+    → bit_and n (width - 1) ≡ n % width
 mask-is n width some small one =
     let power = power_from_ones width some small (eqb-true _ _ one) in
     rw (power.1) (and_mask n power.0)

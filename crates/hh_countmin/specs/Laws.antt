@@ -11,7 +11,8 @@ EqualFamiliesAreOne = (f g : Coefficients) → IsTrue (same_family f g) ↔ (f �
 
 -- what a seed draws is a family
 abbrev pub DrawnFamiliesAreFamilies : Type 0
-DrawnFamiliesAreFamilies = (seed depth : ℕ) → IsDepth depth → IsFamily (drawn_family seed depth) × (length (drawn_family seed depth).rows ≡ depth)
+DrawnFamiliesAreFamilies = (seed depth : ℕ) → IsDepth depth
+    → IsFamily (drawn_family seed depth) × (length (drawn_family seed depth).rows ≡ depth)
 
 -- the cell sums of two lists, one after the other, are those of both together
 abbrev pub CellSumsAddUp : Type 0
@@ -27,14 +28,17 @@ RowsSumToTotal =
 
 -- an estimate is never below the key's weight
 abbrev pub EstimateIsNeverBelow : Type 0
-EstimateIsNeverBelow = (family : Coefficients) (width : ℕ) (key : Bytes) (xs : List Entry) → weight_of key xs ≤ estimate_of family width key xs
+EstimateIsNeverBelow = (family : Coefficients) (width : ℕ) (key : Bytes) (xs : List Entry)
+    → weight_of key xs ≤ estimate_of family width key xs
 
 -- an estimate is one of the key's cell sums, and none of them is below it
 abbrev pub EstimateIsLeastCellSum : Type 0
 EstimateIsLeastCellSum =
     (family : Coefficients) (width : ℕ) (key : Bytes) (xs : List Entry) → 1 ≤ length family.rows
-    → ((r : ℕ) → r < length family.rows → estimate_of family width key xs ≤ cell_sum family width r (cell_of family r key width) xs)
-    × ((r : ℕ) × (r < length family.rows) × (estimate_of family width key xs ≡ cell_sum family width r (cell_of family r key width) xs))
+    → ((r : ℕ) → r < length family.rows → estimate_of family width key xs ≤ cell_sum family width r
+        (cell_of family r key width) xs)
+    × ((r : ℕ) × (r < length family.rows) × (estimate_of family width key xs ≡ cell_sum family width r
+        (cell_of family r key width) xs))
 
 -- a table of no items is empty, an item more makes the table of all, and two tables make the table of both lists
 abbrev pub TablesFollowItems : Type 0
@@ -48,11 +52,13 @@ TablesFollowItems =
 abbrev pub CellsAreCellSums : Type 0
 CellsAreCellSums =
     (family : Coefficients) (width : ℕ) (xs : List Entry)
-    → ((r c : ℕ) → r < length family.rows → c < width → cell_at width (table_of family width xs).cells r c ≡ cell_sum family width r c xs)
+    → ((r c : ℕ) → r < length family.rows → c < width
+        → cell_at width (table_of family width xs).cells r c ≡ cell_sum family width r c xs)
     × ((cells : List ℕ) → length cells ≡ length family.rows * width
     → ((r c : ℕ) → r < length family.rows → c < width → cell_at width cells r c ≡ cell_sum family width r c xs)
     → cells ≡ (table_of family width xs).cells)
-    × (1 ≤ length family.rows → 1 ≤ width → (key : Bytes) → estimate_in (table_of family width xs) key ≡ estimate_of family width key xs)
+    × (1 ≤ length family.rows → 1 ≤ width → (key : Bytes)
+        → estimate_in (table_of family width xs) key ≡ estimate_of family width key xs)
 
 -- the table of a list has the parts of a table
 abbrev pub TablesFit : Type 0

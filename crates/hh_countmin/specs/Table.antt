@@ -49,7 +49,8 @@ table_of family width xs = record {
 
 -- a table of no items
 abbrev pub empty_table : Coefficients → ℕ → Grid
-empty_table family width = record { family = family; width = width; total = 0; cells = replicate (length family.rows * width) 0 }
+empty_table family width =
+    record { family = family; width = width; total = 0; cells = replicate (length family.rows * width) 0 }
 
 -- a table after an item: in each row the key's cell has the weight more, and no other cell
 abbrev pub added : Grid → Entry → Grid

@@ -7,4 +7,5 @@ pub returns-clause-never_below : goal.returns-clause-never_below
 returns-clause-never_below c = weight_of-le-estimate_of
 
 pub returns-clause-least : goal.returns-clause-least
-returns-clause-least c = λ family width key xs some. least_of_rows-is_least family (λ r. cell_sum family width r (cell_of family r key width) xs) some
+returns-clause-least c = λ family width key xs some. least_of_rows-is_least family
+    (λ r. cell_sum family width r (cell_of family r key width) xs) some

@@ -10,5 +10,6 @@ returns-clause-taken c = λ first xs is.
     let item : Entry = (c.args.key.now, c.args.weight) in
     let weighs : Entry → Type 0 = λ e. 0 < e.1 in (
       All-append weighs xs (item ∷ []) is.0 (All-from_recursion weighs (item ∷ []) (c.requires.positive, tt)),
-      c.add.ensures ∙ ap (λ (n : Count). counted_on n (item ∷ [])) is.1 ∙ count-more c.counts_add_up.ensures first.keys xs (item ∷ []),
+      c.add.ensures ∙ ap (λ (n : Count). counted_on n (item ∷ [])) is.1
+          ∙ count-more c.counts_add_up.ensures first.keys xs (item ∷ []),
     )

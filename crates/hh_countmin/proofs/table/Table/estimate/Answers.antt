@@ -9,4 +9,5 @@ loop-r-preserved c =
     let t = c.args.self.now in
     c.min-least.ensures
     ∙ ap₂ min c.loop-r.invariant c.cell_of_fingerprint.ensures
-    ∙ sym (least_up_to-more (λ q. cell_at t.width t.cells q (cell_of_fingerprint (row_of t.family q) c.fingerprint-fingerprint.result t.width)) c.loop-r.r (omega arith))
+    ∙ sym (least_up_to-more (λ q. cell_at t.width t.cells q
+        (cell_of_fingerprint (row_of t.family q) c.fingerprint-fingerprint.result t.width)) c.loop-r.r (omega arith))

@@ -8,21 +8,25 @@ pub add_cells-requires-clause-room : goal.add_cells-requires-clause-room
 add_cells-requires-clause-room c =
     let s = c.self.inside in
     let t = c.other.inside in
-    let other_fits = fits_same s.family t.family s.width t.width t.total t.cells.items (c.are_one.ensures.0 c.if-not-are_one.false) c.if-self-other.false c.other.invariant in
+    let other_fits = fits_same s.family t.family s.width t.width t.total t.cells.items
+        (c.are_one.ensures.0 c.if-not-are_one.false) c.if-self-other.false c.other.invariant in
     rw (c.deref_mut.ensures.value, c.deref.ensures.value)
     (λ i lt. omega (
       arith,
       cell-le-total s.family s.width s.total s.cells.items c.self.invariant i lt,
-      cell-le-total s.family s.width t.total t.cells.items other_fits i (omega (arith, c.self.invariant.all_cells, other_fits.all_cells)),
+      cell-le-total s.family s.width t.total t.cells.items other_fits i
+          (omega (arith, c.self.invariant.all_cells, other_fits.all_cells)),
     ))
 
 pub invariant_of-self : goal.invariant_of-self
 invariant_of-self c =
     let s = c.self.inside in
     let t = c.other.inside in
-    let other_fits = fits_same s.family t.family s.width t.width t.total t.cells.items (c.are_one.ensures.0 c.if-not-are_one.false) c.if-self-other.false c.other.invariant in
+    let other_fits = fits_same s.family t.family s.width t.width t.total t.cells.items
+        (c.are_one.ensures.0 c.if-not-are_one.false) c.if-self-other.false c.other.invariant in
     let len : length c.add_cells.new.cells ≡ s.cells.len = omega arith in
-    let all = summed_cells (length s.family.rows) s.width c.deref_mut.result.now c.deref.result.now c.add_cells.new.cells (omega (arith, c.self.invariant.all_cells)) c.add_cells.ensures in
+    let all = summed_cells (length s.family.rows) s.width c.deref_mut.result.now c.deref.result.now
+        c.add_cells.new.cells (omega (arith, c.self.invariant.all_cells)) c.add_cells.ensures in
     rw (take_at c.add_cells.new.cells _ _ len, all, c.deref_mut.ensures.value, c.deref.ensures.value)
     (fits_summed s.family s.width s.total t.total s.cells.items t.cells.items c.self.invariant other_fits (omega arith))
 
@@ -30,9 +34,12 @@ pub returns-clause-merged : goal.returns-clause-merged
 returns-clause-merged c =
     let s = c.self.inside in
     let len : length c.add_cells.new.cells ≡ s.cells.len = omega arith in
-    let sums : List ℕ → List ℕ → List ℕ = λ a b. cells_by (λ r q. cell_at s.width a r q + cell_at s.width b r q) (length s.family.rows) s.width in
+    let sums : List ℕ → List ℕ → List ℕ =
+        λ a b. cells_by (λ r q. cell_at s.width a r q + cell_at s.width b r q) (length s.family.rows) s.width in
     let all = take_at c.add_cells.new.cells _ _ len
-    ∙ summed_cells (length s.family.rows) s.width c.deref_mut.result.now c.deref.result.now c.add_cells.new.cells (omega (arith, c.self.invariant.all_cells)) c.add_cells.ensures
+    ∙ summed_cells (length s.family.rows) s.width c.deref_mut.result.now c.deref.result.now c.add_cells.new.cells
+        (omega (arith, c.self.invariant.all_cells)) c.add_cells.ensures
     ∙ ap₂ sums c.deref_mut.ensures.value c.deref.ensures.value in
-    let grid : List ℕ → Grid = λ cells. record { family = s.family; width = s.width; total = s.total + c.other.inside.total; cells = cells } in
+    let grid : List ℕ → Grid =
+        λ cells. record { family = s.family; width = s.width; total = s.total + c.other.inside.total; cells = cells } in
     ap grid all ∙ ap₂ merged c.self.view_is c.other.view_is
