@@ -24,7 +24,7 @@ pub cell_at-cells_by : (f : ℕ → ℕ → ℕ) (depth width r c : ℕ) → r <
 cell_at-cells_by f depth width r c lt in_row =
     let within = mul-add-lt r width c depth lt in_row in
     get_or-map-range_with_len (λ i. f (i / width) (i % width)) 0 (depth * width) (r * width + c) (r * width + c) 0
-        (omega (arith, within)) (omega arith)
+    (omega (arith, within)) (omega arith)
     ∙ ap₂ f (div-mul-add r width c in_row) (mod-mul-add r width c in_row)
 
 -- what holds at each row and cell holds at each place
@@ -48,7 +48,7 @@ pub same_cells_by : (f g : ℕ → ℕ → ℕ) (depth width : ℕ) → ((r c : 
     → cells_by f depth width ≡ cells_by g depth width
 same_cells_by f g depth width each =
     same_cells g depth width (cells_by f depth width) (length-cells_by f depth width)
-        (λ r c l m. cell_at-cells_by f depth width r c l m ∙ each r c l m)
+    (λ r c l m. cell_at-cells_by f depth width r c l m ∙ each r c l m)
 
 -- ---- what a row adds up to
 
@@ -88,8 +88,12 @@ nothing_after : (k w a n : ℕ) → k < a → sum_by (λ c. cond (eqb k c) w 0) 
 nothing_after k w a zero lt = refl
 nothing_after k w a (suc n) lt =
     let here : cond (eqb k a) w 0 ≡ 0 = grind (arith, nat_tests) in
-    omega (arith, here, nothing_after k w (a + 1) n (omega arith),
-        sum_by-cons (λ c. cond (eqb k c) w 0) a (range_with_len (a + 1) n))
+    omega (
+      arith,
+      here,
+      nothing_after k w (a + 1) n (omega arith),
+      sum_by-cons (λ c. cond (eqb k c) w 0) a (range_with_len (a + 1) n),
+    )
 
 once_within : (k w a n : ℕ) → a ≤ k → k < a + n → sum_by (λ c. cond (eqb k c) w 0) (range_with_len a n) ≡ w
 once_within k w a zero le lt = absurd (omega arith)
@@ -137,12 +141,12 @@ sum_over-cell_sum family width r (e ∷ xs) some =
     let split : sum_over (λ c. cell_sum family width r c (e ∷ xs)) width ≡ sum_over (λ c. here c + rest c) width =
     sum-map (λ c. cell_sum family width r c (e ∷ xs)) (range_with_len 0 width)
     ∙ sum_by-same (λ c. cell_sum family width r c (e ∷ xs)) (λ c. here c + rest c) (range_with_len 0 width)
-        (λ c. sum_by-cons (at_cell family width r c) e xs)
+    (λ c. sum_by-cons (at_cell family width r c) e xs)
     ∙ sym (sum-map (λ c. here c + rest c) (range_with_len 0 width)) in
     split
     ∙ sum_over-plus here rest width
     ∙ ap₂ (λ (a b : ℕ). a + b) (sum_over-one (cell_of family r e.0 width) e.1 width
-        (cell_of-below family r e.0 width some)) (sum_over-cell_sum family width r xs some)
+    (cell_of-below family r e.0 width some)) (sum_over-cell_sum family width r xs some)
     ∙ sym (sum_by-cons (λ d. d.1) e xs)
 
 -- ---- cells that fit
@@ -150,7 +154,7 @@ sum_over-cell_sum family width r (e ∷ xs) some =
 -- cells whose rows add up to the total fit
 pub fits_by : (f : ℕ → ℕ → ℕ) (family : Coefficients) (width total : ℕ) → IsWidth width → total < 2 ^ 63
     → ((r : ℕ) → r < length family.rows → sum_over (f r) width ≡ total)
-        → Fits family width total (cells_by f (length family.rows) width)
+    → Fits family width total (cells_by f (length family.rows) width)
 fits_by f family width total is_width small each =
     let depth = length family.rows in
     let cells = cells_by f depth width in
@@ -162,9 +166,9 @@ fits_by f family width total is_width small each =
       rows_sum = λ r lt.
           ap sum (row_at-map width depth cells r len lt
           ∙ fill_by_all (f r) (map (λ c. cell_at width cells r c) (range_with_len 0 width)) width 0
-              (length-map-range_with_len (λ c. cell_at width cells r c) 0 width)
+          (length-map-range_with_len (λ c. cell_at width cells r c) 0 width)
           (λ c m. get_or-map-range_with_len (λ c. cell_at width cells r c) 0 width c c 0 m (omega arith)
-              ∙ cell_at-cells_by f depth width r c lt m))
+          ∙ cell_at-cells_by f depth width r c lt m))
           ∙ each r lt;
     }
 
@@ -182,22 +186,27 @@ cell-le-total family width total cells fits i lt =
     (λ r c below in_row.
     let row = row_at width cells r in
     let is : get_or row c 0 ≡ cell_at width cells r c =
-        get_or-take width (drop (r * width) cells) c 0 in_row ∙ get_or-drop (r * width) cells c 0 in
-    omega (arith, is, get_or-le-sum_by (λ x. x) row c 0
-        (omega (arith, length-row_at width depth cells r fits.all_cells below)), fits.rows_sum r below))
+    get_or-take width (drop (r * width) cells) c 0 in_row ∙ get_or-drop (r * width) cells c 0 in
+    omega (
+      arith,
+      is,
+      get_or-le-sum_by (λ x. x) row c 0
+          (omega (arith, length-row_at width depth cells r fits.all_cells below)),
+      fits.rows_sum r below,
+    ))
 
 -- cells that fit, with a weight more in one cell of each row
 pub fits_raised : (family : Coefficients) (width total : ℕ) (cells : List ℕ) (weight : ℕ) (cell : ℕ → ℕ)
     → Fits family width total cells → total + weight < 2 ^ 63 → ((r : ℕ) → cell r < width)
     → Fits family width (total + weight) (cells_by (λ r c. cell_at width cells r c + cond (eqb (cell r) c) weight 0)
-        (length family.rows) width)
+    (length family.rows) width)
 fits_raised family width total cells weight cell fits small in_row =
     fits_by (λ r c. cell_at width cells r c + cond (eqb (cell r) c) weight 0) family width (total + weight)
-        fits.width_in_range small
+    fits.width_in_range small
     (λ r lt.
     sum_over-plus (λ c. cell_at width cells r c) (λ c. cond (eqb (cell r) c) weight 0) width
     ∙ ap₂ (λ (a b : ℕ). a + b) (sym (sum-row_at width (length family.rows) cells r fits.all_cells lt)
-        ∙ fits.rows_sum r lt) (sum_over-one (cell r) weight width (in_row r)))
+    ∙ fits.rows_sum r lt) (sum_over-one (cell r) weight width (in_row r)))
 
 -- the cells of two tables, one by one
 pub fits_summed : (family : Coefficients) (width m n : ℕ) (a b : List ℕ) → Fits family width m a → Fits family width n b
@@ -208,7 +217,7 @@ fits_summed family width m n a b p q small =
     (λ r lt.
     sum_over-plus (λ c. cell_at width a r c) (λ c. cell_at width b r c) width
     ∙ ap₂ (λ (s t : ℕ). s + t) (sym (sum-row_at width (length family.rows) a r p.all_cells lt)
-        ∙ p.rows_sum r lt) (sym (sum-row_at width (length family.rows) b r q.all_cells lt) ∙ q.rows_sum r lt))
+    ∙ p.rows_sum r lt) (sym (sum-row_at width (length family.rows) b r q.all_cells lt) ∙ q.rows_sum r lt))
 
 -- cells that are added one by one are the table of the sums
 pub summed_cells : (depth width : ℕ) (a b new : List ℕ) → length new ≡ depth * width

@@ -15,9 +15,9 @@ pub one_digit : (z sum digits byte left power : ℕ) → sum % modulus ≡ (digi
     modulus
 one_digit z sum digits byte left power so_far is_power =
     let term : (power * (byte + 1)) % modulus ≡ (z ^ left * (byte + 1)) % modulus =
-        ap (λ p. (p * (byte + 1)) % modulus) is_power ∙ mul-mod_first (z ^ left) (byte + 1) modulus in
+    ap (λ p. (p * (byte + 1)) % modulus) is_power ∙ mul-mod_first (z ^ left) (byte + 1) modulus in
     let spread : digits * z ^ suc left + z ^ left * (byte + 1) ≡ (digits * z + (byte + 1)) * z ^ left =
-        grind (arith, pow-suc z left) in
+    grind (arith, pow-suc z left) in
     same-sums sum (digits * z ^ suc left) (power * (byte + 1)) (z ^ left * (byte + 1)) modulus so_far term
     ∙ ap (λ u. u % modulus) spread
     ∙ sym (mul-mod_first (digits * z + (byte + 1)) (z ^ left) modulus)
@@ -37,22 +37,22 @@ fingerprint_goes_on z acc (b ∷ bytes) =
     let alone = fingerprint_step z 0 b in
     let rest = fingerprint_of z bytes in
     let after : fold (fingerprint_step z) first bytes % modulus ≡ (first * z ^ n + rest) % modulus =
-        fingerprint_goes_on z first bytes in
+    fingerprint_goes_on z first bytes in
     let other : fold (fingerprint_step z) alone bytes % modulus ≡ (alone * z ^ n + rest) % modulus =
-        fingerprint_goes_on z alone bytes in
+    fingerprint_goes_on z alone bytes in
     let one : (first * z ^ n) % modulus ≡ ((acc * z + (b + 1)) * z ^ n) % modulus =
-        mul-mod_first (acc * z + (b + 1)) (z ^ n) modulus in
+    mul-mod_first (acc * z + (b + 1)) (z ^ n) modulus in
     let two : (alone * z ^ n) % modulus ≡ ((0 * z + (b + 1)) * z ^ n) % modulus =
-        mul-mod_first (0 * z + (b + 1)) (z ^ n) modulus in
+    mul-mod_first (0 * z + (b + 1)) (z ^ n) modulus in
     let both : (acc * z + (b + 1)) * z ^ n ≡ acc * z ^ suc n + (0 * z + (b + 1)) * z ^ n = grind (arith, pow-suc z n) in
     let last : ((0 * z + (b + 1)) * z ^ n + rest) % modulus ≡ fingerprint_of z (b ∷ bytes) % modulus =
-        same-sums ((0 * z + (b + 1)) * z ^ n) (alone * z ^ n) rest rest modulus (sym two) refl ∙ sym other in
+    same-sums ((0 * z + (b + 1)) * z ^ n) (alone * z ^ n) rest rest modulus (sym two) refl ∙ sym other in
     after
     ∙ same-sums (first * z ^ n) ((acc * z + (b + 1)) * z ^ n) rest rest modulus one refl
     ∙ ap (λ u. (u + rest) % modulus) both
     ∙ ap (λ u. u % modulus) (omega arith)
     ∙ same-sums (acc * z ^ suc n) (acc * z ^ suc n) ((0 * z + (b + 1)) * z ^ n + rest) (fingerprint_of z (b ∷ bytes))
-        modulus refl last
+    modulus refl last
 
 -- the next power
 pub next_power : (z i : ℕ) → (z ^ i % modulus * z + 0) % modulus ≡ z ^ suc i % modulus

@@ -74,6 +74,10 @@ drawn_is_family word depth g is_depth =
     let factor = factor_in_range word in
     record {
       depth = (omega arith, omega arith);
-      in_range = (factor.0, factor.1, All-from_recursion IsRow (next_rows depth g)
-          (rows_in_range (first_words pcg64 (2 * depth) g)));
+      in_range = (
+        factor.0,
+        factor.1,
+        All-from_recursion IsRow (next_rows depth g)
+            (rows_in_range (first_words pcg64 (2 * depth) g)),
+      );
     }

@@ -57,9 +57,9 @@ within_cell : (family : Coefficients) (width r : ℕ) (key : Bytes) (e : Entry) 
 within_cell family width r key e false is = omega arith
 within_cell family width r key e true is =
     let same : cell_of family r e.0 width ≡ cell_of family r key width =
-        ap (λ (k : Bytes). cell_of family r k width) (sym (same_key-is key e.0 is)) in
+    ap (λ (k : Bytes). cell_of family r k width) (sym (same_key-is key e.0 is)) in
     let here : cond (eqb (cell_of family r e.0 width) (cell_of family r key width)) e.1 0 ≡ e.1 =
-        rw same (grind (arith, nat_tests)) in
+    rw same (grind (arith, nat_tests)) in
     omega (arith, here)
 
 -- a key's cell holds at least its weight
@@ -67,19 +67,19 @@ weight_of-le-cell_sum : (family : Coefficients) (width r : ℕ) (key : Bytes) (x
     → weight_of key xs ≤ cell_sum family width r (cell_of family r key width) xs
 weight_of-le-cell_sum family width r key xs =
     sum_by-le-sum_by (at_key key) (at_cell family width r (cell_of family r key width)) xs
-        (λ e. within_cell family width r key e (same_key key e.0) refl)
+    (λ e. within_cell family width r key e (same_key key e.0) refl)
 
 -- no estimate is below the key's weight
 pub weight_of-le-estimate_of : (family : Coefficients) (width : ℕ) (key : Bytes) (xs : List Entry)
     → weight_of key xs ≤ estimate_of family width key xs
 weight_of-le-estimate_of family width key xs =
     le-least_up_to (weight_of key xs) (λ r. cell_sum family width r (cell_of family r key width) xs)
-        (length family.rows - 1) (λ r. weight_of-le-cell_sum family width r key xs)
+    (length family.rows - 1) (λ r. weight_of-le-cell_sum family width r key xs)
 
 -- the least over the rows is at most each, and is one of them
 pub least_of_rows-is_least : (family : Coefficients) (f : ℕ → ℕ) → 1 ≤ length family.rows
     → ((r : ℕ) → r < length family.rows → least_of_rows family f ≤ f r)
-        × ((r : ℕ) × (r < length family.rows) × (least_of_rows family f ≡ f r))
+    × ((r : ℕ) × (r < length family.rows) × (least_of_rows family f ≡ f r))
 least_of_rows-is_least family f some =
     let found = least_up_to-is f (length family.rows - 1) in
     (λ r lt. least_up_to-le f (length family.rows - 1) r (omega arith), (found.0, omega (arith, found.1), found.2))
@@ -90,6 +90,6 @@ pub estimate_in-table_of : (family : Coefficients) (width : ℕ) (key : Bytes) (
 estimate_in-table_of family width key xs some wide =
     let cell : ℕ → ℕ = λ r. cell_of family r key width in
     same_least_up_to (λ r. cell_at width (table_of family width xs).cells r (cell r))
-        (λ r. cell_sum family width r (cell r) xs) (length family.rows - 1)
+    (λ r. cell_sum family width r (cell r) xs) (length family.rows - 1)
     (λ r le. cell_at-cells_by (λ q c. cell_sum family width q c xs) (length family.rows) width r (cell r) (omega arith)
-        (cell_of-below family r key width wide))
+    (cell_of-below family r key width wide))

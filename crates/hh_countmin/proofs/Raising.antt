@@ -30,13 +30,13 @@ raised_row width weight cell old new r value place c at within so_far in_row wid
   | inl here ↦
       let whole : raise_at cell weight r c ≡ weight = grind (arith, nat_tests) in
       let now : get_or (set new place value) (r * width + c) 0 ≡ value =
-          rw (← here, ← at) (get_or-set_same new place value 0 within) in
+      rw (← here, ← at) (get_or-set_same new place value 0 within) in
       let before : cell_at width old r (cell r) ≡ cell_at width old r c = ap (cell_at width old r) here in
       omega (arith, whole, now, before, is)
   | inr not_here ↦
       let none : raise_at cell weight r c ≡ 0 = grind (arith, nat_tests) in
       let apart : r * width + c ≢ place =
-          λ e. not_here (sym (same_from_place r c r (cell r) width wide in_row (e ∙ at)).1) in
+      λ e. not_here (sym (same_from_place r c r (cell r) width wide in_row (e ∙ at)).1) in
       let same = get_or-set_other new place (r * width + c) value 0 apart in
       omega (arith, none, same, so_far.others r c (omega arith) wide)
 ]
@@ -56,17 +56,17 @@ one_raised width weight depth cell old new r value so_far len lt in_row is =
         | inr not_here ↦
             let before : q < r = omega arith in
             get_or-set_other new place (q * width + c) value 0
-                (λ e. not_here (same_from_place q c r (cell r) width wide in_row e).0) ∙ so_far.raised q c before wide
+            (λ e. not_here (same_from_place q c r (cell r) width wide in_row e).0) ∙ so_far.raised q c before wide
       ];
       others = λ q c above wide.
           get_or-set_other new place (q * width + c) value 0
-              (λ e. absurd (omega (arith, (same_from_place q c r (cell r) width wide in_row e).0)))
-              ∙ so_far.others q c (omega arith) wide;
+          (λ e. absurd (omega (arith, (same_from_place q c r (cell r) width wide in_row e).0)))
+          ∙ so_far.others q c (omega arith) wide;
     }
 
 -- once all rows are done, each cell is raised by what it should be
 pub all_raised : (width weight depth : ℕ) (cell : ℕ → ℕ) (old new : List ℕ) → length old ≡ depth * width
     → IsRaised width weight cell old new depth → new
-        ≡ cells_by (λ r c. cell_at width old r c + raise_at cell weight r c) depth width
+    ≡ cells_by (λ r c. cell_at width old r c + raise_at cell weight r c) depth width
 all_raised width weight depth cell old new len is =
     same_cells (λ r c. cell_at width old r c + raise_at cell weight r c) depth width new (is.len ∙ len) is.raised

@@ -22,9 +22,9 @@ empty_table-is family width =
     let depth = length family.rows in
     same_tables family width 0 0 _ _ refl
     (same_cells (λ r c. cell_sum family width r c []) depth width (replicate (depth * width) 0)
-        (length-replicate (depth * width) 0)
+    (length-replicate (depth * width) 0)
     (λ r c lt in_row. get_or-replicate (depth * width) (r * width + c) 0 0
-        (omega (arith, mul-add-lt r width c depth lt in_row))))
+    (omega (arith, mul-add-lt r width c depth lt in_row))))
 
 -- adding an item to the table of a list gives the table of the list with the item last
 pub added-table_of : (family : Coefficients) (width : ℕ) (xs : List Entry) (e : Entry)
@@ -34,9 +34,9 @@ added-table_of family width xs e =
     let sums : ℕ → ℕ → ℕ = λ r c. cell_sum family width r c xs in
     same_tables family width _ _ _ _ (sym (sum_by_push (λ d. d.1) xs e))
     (same_cells_by (λ r c. cell_at width (cells_by sums depth width) r c + at_cell family width r c e)
-        (λ r c. cell_sum family width r c (xs ++ e ∷ [])) depth width
+    (λ r c. cell_sum family width r c (xs ++ e ∷ [])) depth width
     (λ r c lt in_row. ap₂ (λ (a b : ℕ). a + b) (cell_at-cells_by sums depth width r c lt in_row) refl
-        ∙ sym (sum_by_push (at_cell family width r c) xs e)))
+    ∙ sym (sum_by_push (at_cell family width r c) xs e)))
 
 -- merging the tables of two lists gives the table of both, one after the other
 pub merged-table_of : (family : Coefficients) (width : ℕ) (xs ys : List Entry)
@@ -46,10 +46,10 @@ merged-table_of family width xs ys =
     let sums : List Entry → ℕ → ℕ → ℕ = λ zs r c. cell_sum family width r c zs in
     same_tables family width _ _ _ _ (sym (sum_by-append (λ d. d.1) xs ys))
     (same_cells_by (λ r c. cell_at width (cells_by (sums xs) depth width) r c + cell_at width
-        (cells_by (sums ys) depth width) r c) (sums (xs ++ ys)) depth width
+    (cells_by (sums ys) depth width) r c) (sums (xs ++ ys)) depth width
     (λ r c lt in_row.
     ap₂ (λ (a b : ℕ). a + b) (cell_at-cells_by (sums xs) depth width r c lt in_row)
-        (cell_at-cells_by (sums ys) depth width r c lt in_row)
+    (cell_at-cells_by (sums ys) depth width r c lt in_row)
     ∙ sym (sum_by-append (at_cell family width r c) xs ys)))
 
 -- the table of items with a total below 2^63 meets all that a table has to
@@ -57,11 +57,11 @@ pub table_of-fits : (family : Coefficients) (width : ℕ) (xs : List Entry) → 
     → Fits family width (total_of xs) (table_of family width xs).cells
 table_of-fits family width xs is_width small =
     fits_by (λ r c. cell_sum family width r c xs) family width (total_of xs) is_width small
-        (λ r lt. sum_over-cell_sum family width r xs is_width.0)
+    (λ r lt. sum_over-cell_sum family width r xs is_width.0)
 
 -- cells that are all 0 meet all that a table has to
 pub empty_fits : (family : Coefficients) (width : ℕ) → IsWidth width
     → Fits family width 0 (replicate (length family.rows * width) 0)
 empty_fits family width is_width =
     subst (λ (t : Grid). Fits family width 0 t.cells) (sym (empty_table-is family width))
-        (table_of-fits family width [] is_width (omega arith))
+    (table_of-fits family width [] is_width (omega arith))

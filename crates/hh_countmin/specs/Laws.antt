@@ -36,9 +36,9 @@ abbrev pub EstimateIsLeastCellSum : Type 0
 EstimateIsLeastCellSum =
     (family : Coefficients) (width : ℕ) (key : Bytes) (xs : List Entry) → 1 ≤ length family.rows
     → ((r : ℕ) → r < length family.rows → estimate_of family width key xs ≤ cell_sum family width r
-        (cell_of family r key width) xs)
+    (cell_of family r key width) xs)
     × ((r : ℕ) × (r < length family.rows) × (estimate_of family width key xs ≡ cell_sum family width r
-        (cell_of family r key width) xs))
+    (cell_of family r key width) xs))
 
 -- a table of no items is empty, an item more makes the table of all, and two tables make the table of both lists
 abbrev pub TablesFollowItems : Type 0
@@ -53,12 +53,12 @@ abbrev pub CellsAreCellSums : Type 0
 CellsAreCellSums =
     (family : Coefficients) (width : ℕ) (xs : List Entry)
     → ((r c : ℕ) → r < length family.rows → c < width
-        → cell_at width (table_of family width xs).cells r c ≡ cell_sum family width r c xs)
+    → cell_at width (table_of family width xs).cells r c ≡ cell_sum family width r c xs)
     × ((cells : List ℕ) → length cells ≡ length family.rows * width
     → ((r c : ℕ) → r < length family.rows → c < width → cell_at width cells r c ≡ cell_sum family width r c xs)
     → cells ≡ (table_of family width xs).cells)
     × (1 ≤ length family.rows → 1 ≤ width → (key : Bytes)
-        → estimate_in (table_of family width xs) key ≡ estimate_of family width key xs)
+    → estimate_in (table_of family width xs) key ≡ estimate_of family width key xs)
 
 -- the table of a list has the parts of a table
 abbrev pub TablesFit : Type 0

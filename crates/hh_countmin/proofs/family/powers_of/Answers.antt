@@ -15,7 +15,7 @@ loop-i-preserved c =
     let before = c.loop-i.invariant.1 (i - 1) (omega arith) in
     let next : c.multiply_add.result ≡ z ^ i % modulus =
     c.multiply_add.ensures.value ∙ ap (λ p. (p * z + 0) % modulus) before ∙ next_power z (i - 1)
-        ∙ ap (λ j. z ^ j % modulus) (omega arith) in (
+    ∙ ap (λ j. z ^ j % modulus) (omega arith) in (
       length-set powers i c.multiply_add.result ∙ c.loop-i.invariant.0,
       λ j below. elim (cases_eq j i) [
         | inl e ↦ get_or-set_at powers i j c.multiply_add.result 0 e (omega arith) ∙ next

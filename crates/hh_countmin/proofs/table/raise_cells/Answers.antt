@@ -11,10 +11,10 @@ loop-r-preserved c =
     let is = c.cell_of_fingerprint.ensures.cell in
     let in_row : cell r < width = omega (arith, is, c.cell_of_fingerprint.ensures.within) in
     let value : get_or c.loop-r.cells (r * width + cell r) 0 + c.args.weight ≡ cell_at width c.args.cells.now r
-        (cell r) + c.args.weight =
+    (cell r) + c.args.weight =
     ap (λ n. n + c.args.weight) (c.loop-r.invariant.others r (cell r) (omega arith) in_row) in
     rw is (one_raised width c.args.weight (length c.args.family.now.rows) cell c.args.cells.now c.loop-r.cells r _
-        c.loop-r.invariant c.requires.all_cells (omega arith) in_row value)
+    c.loop-r.invariant c.requires.all_cells (omega arith) in_row value)
 
 pub returns : goal.returns
 returns c =

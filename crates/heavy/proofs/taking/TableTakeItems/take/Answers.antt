@@ -7,4 +7,4 @@ pub returns-clause-taken : goal.returns-clause-taken
 returns-clause-taken c = λ first xs is.
     let item : Entry = (c.args.key.now, c.args.weight) in
     c.in-Ok.ensures.added ∙ ap (λ (t : Grid). added t item) is
-        ∙ (c.tables_follow_items.ensures first.family first.width xs [] item).1
+    ∙ (c.tables_follow_items.ensures first.family first.width xs [] item).1

@@ -19,19 +19,21 @@ loop-i-preserved c =
     let digits = fingerprint_of z (take i bytes) in
     let before : length bytes - 1 - i ≡ left = omega arith in
     let power : c.from.result ≡ z ^ left % modulus = c.from.ensures
-        ∙ c.self.invariant.1 (length bytes - 1 - i) (omega (arith, c.requires.few))
-        ∙ ap (λ u. u ^ (length bytes - 1 - i) % modulus) same ∙ ap (λ j. z ^ j % modulus) before in
+    ∙ c.self.invariant.1 (length bytes - 1 - i) (omega (arith, c.requires.few))
+    ∙ ap (λ u. u ^ (length bytes - 1 - i) % modulus) same ∙ ap (λ j. z ^ j % modulus) before in
     let more : fingerprint_of z (take (i + 1) bytes) ≡ fingerprint_step z digits byte =
-        fold_more (fingerprint_step z) 0 bytes i 0 c.loop-i-test.true in
+    fold_more (fingerprint_step z) 0 bytes i 0 c.loop-i-test.true in
     let so_far : c.loop-i.sum % modulus ≡ (digits * z ^ suc left) % modulus =
-        c.loop-i.invariant.2 ∙ ap (λ j. (digits * z ^ j) % modulus) (omega arith) in
+    c.loop-i.invariant.2 ∙ ap (λ j. (digits * z ^ j) % modulus) (omega arith) in
     let term : c.from.result * (c.from-in-loop-i.result + 1) ≤ modulus * 256 = mul-le c.from.result
-        (c.from-in-loop-i.result + 1) modulus 256 (omega (arith, power))
-        (omega (arith, c.from-in-loop-i.ensures, c.type_inv.bytes i)) in
-    (omega arith, omega (arith, term, c.loop-i.invariant.1),
-        ap (λ b. (c.loop-i.sum + c.from.result * (b + 1)) % modulus) c.from-in-loop-i.ensures
-        ∙ one_digit z c.loop-i.sum digits byte left c.from.result so_far power
-        ∙ ap (λ d. (d * z ^ left) % modulus) (sym more))
+    (c.from-in-loop-i.result + 1) modulus 256 (omega (arith, power))
+    (omega (arith, c.from-in-loop-i.ensures, c.type_inv.bytes i)) in (
+      omega arith,
+      omega (arith, term, c.loop-i.invariant.1),
+      ap (λ b. (c.loop-i.sum + c.from.result * (b + 1)) % modulus) c.from-in-loop-i.ensures
+          ∙ one_digit z c.loop-i.sum digits byte left c.from.result so_far power
+          ∙ ap (λ d. (d * z ^ left) % modulus) (sym more),
+    )
 
 -- src/family.rt:165:5
 pub returns-clause-digits : goal.returns-clause-digits

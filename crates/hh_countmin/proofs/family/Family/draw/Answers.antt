@@ -7,9 +7,10 @@ use Rattle.hh_countmin.proofs.family.Family.draw.Goals as goal
 
 pub invariant_of-result : goal.invariant_of-result
 invariant_of-result c =
-    rw (c.factor-z.ensures, c.in-Ok.ensures)
-        (drawn_is_family c.next_word.result c.args.depth c.next_word.new.self (omega arith, omega arith),
-        rw (sym c.factor-z.ensures) c.powers_of.ensures)
+    rw (c.factor-z.ensures, c.in-Ok.ensures) (
+      drawn_is_family c.next_word.result c.args.depth c.next_word.new.self (omega arith, omega arith),
+      rw (sym c.factor-z.ensures) c.powers_of.ensures,
+    )
 
 pub returns-in-Ok-clause-drawn : goal.returns-in-Ok-clause-drawn
 returns-in-Ok-clause-drawn c =
@@ -17,5 +18,5 @@ returns-in-Ok-clause-drawn c =
     let word : c.next_word.result ≡ (pcg64 g).0 = ap (λ (p : ℕ × Lcg). p.0) c.next_word.ensures in
     let left : c.next_word.new.self ≡ (pcg64 g).1 = ap (λ (p : ℕ × Lcg). p.1) c.next_word.ensures in
     ap₂ (λ (z : ℕ) (rows : List (ℕ × ℕ)). record { z = z; rows = rows }) (c.factor-z.ensures
-        ∙ ap factor_of word) (c.in-Ok.ensures ∙ ap (next_rows c.args.depth) left)
+    ∙ ap factor_of word) (c.in-Ok.ensures ∙ ap (next_rows c.args.depth) left)
     ∙ is_drawn c.args.seed c.args.depth g c.seed_from_u64-generator.ensures

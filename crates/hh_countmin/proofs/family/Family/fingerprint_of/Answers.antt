@@ -20,17 +20,19 @@ loop-rest-preserved c =
     let few : length bytes ≤ 8 = omega (arith, c.split_at-in-loop-rest.ensures.front_len, c.min-in-loop-rest.ensures) in
     let same : c.self.inside.z ≡ z = ap (λ family. family.z) c.self.view_is in
     let is_power : power ≡ z ^ length bytes % modulus =
-        c.self.invariant.1 (length bytes) few ∙ ap (λ u. u ^ length bytes % modulus) same in
+    c.self.invariant.1 (length bytes) few ∙ ap (λ u. u ^ length bytes % modulus) same in
     let value : c.multiply_add-fingerprint.result ≡ fold step before bytes =
     c.multiply_add-fingerprint.ensures.value
     ∙ ap (λ p. (before * p + c.digits.result) % modulus) is_power
     ∙ ap (λ d. (before * (z ^ length bytes % modulus) + d) % modulus) c.digits.ensures.digits
     ∙ same-sums (before * (z ^ length bytes % modulus)) (before * z ^ length bytes) (fingerprint_of z bytes)
-        (fingerprint_of z bytes) modulus (mul-mod_second before (z ^ length bytes) modulus) refl
+    (fingerprint_of z bytes) modulus (mul-mod_second before (z ^ length bytes) modulus) refl
     ∙ sym (fingerprint_goes_on z before bytes)
     ∙ mod-eq_of_lt (fingerprint-below z before bytes c.loop-rest.invariant.0) in
     let split : bytes ++ after ≡ rest = ap (λ xs. xs ++ after) c.split_at-in-loop-rest.ensures.front
-        ∙ ap (λ xs. take c.min-in-loop-rest.result rest ++ xs) c.split_at-in-loop-rest.ensures.back
-        ∙ take-append-drop c.min-in-loop-rest.result rest in
-    (c.multiply_add-fingerprint.ensures.below, ap (λ acc. fold step acc after) value
-        ∙ sym (fold-append step before bytes after) ∙ ap (fold step before) split ∙ c.loop-rest.invariant.1)
+    ∙ ap (λ xs. take c.min-in-loop-rest.result rest ++ xs) c.split_at-in-loop-rest.ensures.back
+    ∙ take-append-drop c.min-in-loop-rest.result rest in (
+      c.multiply_add-fingerprint.ensures.below,
+      ap (λ acc. fold step acc after) value
+          ∙ sym (fold-append step before bytes after) ∙ ap (fold step before) split ∙ c.loop-rest.invariant.1,
+    )

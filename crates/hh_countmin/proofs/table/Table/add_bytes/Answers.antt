@@ -9,7 +9,7 @@ pub raise_cells-requires-clause-room : goal.raise_cells-requires-clause-room
 raise_cells-requires-clause-room c =
     let t = c.self.inside in
     rw c.deref_mut.ensures.value
-        (λ i lt. omega (arith, cell-le-total t.family t.width t.total t.cells.items c.self.invariant i lt))
+    (λ i lt. omega (arith, cell-le-total t.family t.width t.total t.cells.items c.self.invariant i lt))
 
 pub invariant_of-self : goal.invariant_of-self
 invariant_of-self c =
@@ -17,5 +17,5 @@ invariant_of-self c =
     let len : length c.raise_cells.new.cells ≡ t.cells.len = omega arith in
     rw (take_at c.raise_cells.new.cells _ _ len, c.raise_cells.ensures, c.deref_mut.ensures.value)
     (fits_raised t.family t.width t.total t.cells.items c.args.weight
-        (cell_in_row t.family c.fingerprint_of-fingerprint.result t.width) c.self.invariant (omega arith)
+    (cell_in_row t.family c.fingerprint_of-fingerprint.result t.width) c.self.invariant (omega arith)
     (λ r. mod_below _ t.width c.self.invariant.width_in_range.0))

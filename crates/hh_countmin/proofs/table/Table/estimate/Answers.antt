@@ -10,4 +10,4 @@ loop-r-preserved c =
     c.min-least.ensures
     ∙ ap₂ min c.loop-r.invariant c.cell_of_fingerprint.ensures
     ∙ sym (least_up_to-more (λ q. cell_at t.width t.cells q
-        (cell_of_fingerprint (row_of t.family q) c.fingerprint-fingerprint.result t.width)) c.loop-r.r (omega arith))
+    (cell_of_fingerprint (row_of t.family q) c.fingerprint-fingerprint.result t.width)) c.loop-r.r (omega arith))

@@ -7,4 +7,4 @@ use Rattle.hh_countmin.proofs.table.Table.estimate.Given as goal
 abbrev pub invariant-loop-r : goal.invariant-loop-r
 invariant-loop-r l =
     l.least ≡ least_up_to (λ q. cell_at l.self.width l.self.cells q
-        (cell_of_fingerprint (row_of l.self.family q) l.fingerprint l.self.width)) (l.r - 1)
+    (cell_of_fingerprint (row_of l.self.family q) l.fingerprint l.self.width)) (l.r - 1)

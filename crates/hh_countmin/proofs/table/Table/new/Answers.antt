@@ -6,5 +6,5 @@ pub invariant_of-result : goal.invariant_of-result
 invariant_of-result c =
     let width = c.args.width in
     let zeros =
-        c.in-Ok.ensures.items_if_clones_equal (λ y e. e) ∙ ap (λ n. replicate (n * width) 0) c.depth.ensures.depth in
+    c.in-Ok.ensures.items_if_clones_equal (λ y e. e) ∙ ap (λ n. replicate (n * width) 0) c.depth.ensures.depth in
     rw zeros (empty_fits c.args.family width (omega arith, omega arith))
