@@ -31,15 +31,12 @@ ROWS = [
     ("merge", ("different", MANY, 0, 0), [10, 100, 1_000, 65_535]),
     ("bucket_saving", ("zipf", MANY, 100_000, 0), SIZES),
     ("bucket_saving", ("uniform", MANY, 200_000, 0), SIZES),
-    ("gathered_saving", ("zipf", MANY, 100_000, 0), SIZES),
-    ("gathered_saving", ("uniform", MANY, 200_000, 0), SIZES),
     ("space_saving", ("zipf", FEW, 100_000, 0), [10, 100, 1_000, 10_000]),
     ("space_saving", ("uniform", FEW, 200_000, 0), [10, 100, 1_000, 10_000]),
     *[(call, shape, [10_000]) for call in ("read", "bucket_saving", "table", "save", "load") for shape in LENGTHS],
 ]
 # what the plain program calls it
-IN_PLAIN = {"read": ["time", "read"], "table": ["time", "table"], "bucket_saving": ["time", "ss"],
-            "gathered_saving": ["time", "ss"]}
+IN_PLAIN = {"read": ["time", "read"], "table": ["time", "table"], "bucket_saving": ["time", "ss"]}
 
 
 def once(command: list[str], path: Path) -> int:

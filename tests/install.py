@@ -169,7 +169,7 @@ def try_builds(tally: programs.Tally, room: str) -> None:
     status, out, err = copy.run(1)
     tally.check("a first build runs the program", (status, out) == (0, b"built: report\n"), (status, out, err))
     tally.check("it says at once what it does", err.startswith(BEGIN), err)
-    tally.check("it tells the crate", b"heavy: proving hh_stream, crate 1 of 8, " in err, err)
+    tally.check("it tells the crate", b"heavy: proving hh_stream, crate 1 of 9, " in err, err)
     tally.check("it has a line for each crate", b"\r" not in err and err.count(b"hh_stream") == 1, err)
     found = copy.run()
     tally.check("a built program is run without a word", found == (0, b"built: report\n", b""), found)
@@ -242,7 +242,7 @@ def try_terminal(tally: programs.Tally, room: str) -> None:
         pass  # the other side is closed
     os.close(terminal)
     said = said.replace(b"\r\n", b"\n")
-    told = said.count(b"\r\x1b[Kheavy: proving hh_stream, crate 1 of 8, 3 of 37 functions checked, 0:0")
+    told = said.count(b"\r\x1b[Kheavy: proving hh_stream, crate 1 of 9, 3 of 37 functions checked, 0:0")
     tally.check("a terminal's line is written over", out == b"built: report\n" and told > 1, said)
     tally.check("nothing of it is left", said.count(b"\n") == 3 and b"\r\x1b[Kheavy: built in " in said, said)
 

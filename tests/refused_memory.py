@@ -22,14 +22,14 @@ MARKS = {"REFUSE_FROM": "100003", "REFUSE_TO": "100019"}
 
 # The public calls that can answer Memory, by crate.
 CALLS = {
-    "hh_stream": ["Key::new", "Key::copy", "Stream::push", "Cutting::even", "Cutting::by_lengths"],
+    "hh_stream": [
+        "Key::new", "Key::of_bytes", "Key::copy", "Stream::push", "Cutting::even", "Cutting::by_lengths",
+    ],
     "hh_counters": [
-        "Summary::add", "Summary::of_items", "Summary::merge", "Candidates::of",
+        "Summary::add", "Summary::add_bytes", "Summary::of_items", "Summary::merge", "Candidates::of",
         "Candidates::contenders", "Candidates::select", "SpaceSaving::add", "SpaceSaving::into_summary",
-        "BucketSaving::new", "BucketSaving::add", "BucketSaving::add new bucket",
-        "BucketSaving::add monitored", "BucketSaving::add monitored new bucket", "BucketSaving::into_summary",
-        "GatheredSaving::new", "GatheredSaving::add", "GatheredSaving::add moving a key", "GatheredSaving::into_summary",
-        "monitored_summary",
+        "BucketSaving::new", "BucketSaving::add", "BucketSaving::add new bucket", "BucketSaving::add moving a key",
+        "BucketSaving::add_bytes", "BucketSaving::into_summary", "monitored_summary",
     ],
     "hh_countmin": ["Family::draw", "Family::from_parts", "Family::copy", "Table::new"],
     "hh_saved": ["write", "write table", "read", "read table", "places"],
@@ -49,7 +49,7 @@ TAKE_NONE = {
     "hh_stream": ["readers"],
     "hh_counters": [
         "Summary::new", "Summary readers", "Candidates readers", "SpaceSaving::new", "SpaceSaving readers",
-        "BucketSaving readers", "GatheredSaving readers", "SpaceSaving::add monitored", "GatheredSaving::add monitored",
+        "BucketSaving readers", "SpaceSaving::add monitored", "BucketSaving::add monitored",
     ],
     "hh_countmin": ["Table readers", "Table::from_cells", "Family readers"],
     "hh_saved": ["read truncated summary", "read truncated table"],
@@ -60,11 +60,10 @@ TAKE_NONE = {
 
 # How many lines tell what was lent to a call before it is made.
 LENT = {
-    "Stream::push": 2, "Summary::add": 1, "Summary::merge": 2, "SpaceSaving::add": 1, "SpaceSaving::into_summary": 1,
-    "SpaceSaving::add monitored": 1, "BucketSaving::add": 1, "BucketSaving::add new bucket": 1,
-    "BucketSaving::add monitored": 1, "BucketSaving::add monitored new bucket": 1, "BucketSaving::into_summary": 1,
-    "GatheredSaving::add": 1, "GatheredSaving::add moving a key": 1, "GatheredSaving::add monitored": 1,
-    "GatheredSaving::into_summary": 1,
+    "Stream::push": 2, "Summary::add": 1, "Summary::add_bytes": 1, "Summary::merge": 2, "SpaceSaving::add": 1,
+    "SpaceSaving::into_summary": 1, "SpaceSaving::add monitored": 1, "BucketSaving::add": 1,
+    "BucketSaving::add new bucket": 1, "BucketSaving::add moving a key": 1, "BucketSaving::add monitored": 1,
+    "BucketSaving::add_bytes": 1, "BucketSaving::into_summary": 1,
 }
 
 RECORDS = b"a,5\nb,3\nc,2\na,1\n"
@@ -145,7 +144,7 @@ def try_calls(refusing: Refusing, program: str) -> int:
     with ThreadPoolExecutor() as pool:
         made = dict(zip(rows, pool.map(requests, rows)))
     for of, name, length in rows:
-        has_short_key = length == "short" and name in ("Key::new", "Key::copy")
+        has_short_key = length == "short" and name in ("Key::new", "Key::of_bytes", "Key::copy")
         if made[of, name, length] > 0 and (has_short_key or (of, name) in none):
             refusing.tell([program, of, name, length], 0, "it took memory")
         if made[of, name, "long"] == 0 and (of, name) in can and name != "SpaceSaving::into_summary":

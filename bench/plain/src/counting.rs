@@ -1,7 +1,7 @@
-//! Maps from keys, Misra-Gries, and Space-Saving over a map and a heap, or over a map and buckets.
+//! Maps from keys, Misra-Gries, and Space-Saving over a map and a heap.
 
 use std::borrow::Borrow;
-use std::collections::{BTreeMap, BTreeSet, HashMap};
+use std::collections::HashMap;
 use std::hash::{BuildHasherDefault, Hash, Hasher};
 
 /// A map with a fast hash of bytes.
@@ -106,53 +106,5 @@ impl<K: Borrow<[u8]> + Clone + Eq + Hash + Ord> Saving<K> {
             self.swap(at, (at - 1) / 2);
             at = (at - 1) / 2;
         }
-    }
-}
-
-/// Space-Saving in the form of `BucketSaving`: a hash map from keys to counters, and an ordered map from a counter to the
-/// ordered set of its keys.
-pub struct Buckets<K> {
-    room: usize,
-    index: Map<K, u64>,
-    buckets: BTreeMap<u64, BTreeSet<K>>,
-}
-
-impl<K: Copy + Eq + Hash + Ord> Buckets<K> {
-    pub fn new(k: usize) -> Buckets<K> {
-        Buckets { room: k + 1, index: Map::default(), buckets: BTreeMap::new() }
-    }
-
-    pub fn add(&mut self, key: K, weight: u64) {
-        let mut from = 0;
-        if let Some(counter) = self.index.get_mut(&key) {
-            from = *counter;
-            *counter += weight;
-            let bucket = self.buckets.get_mut(&from).unwrap();
-            bucket.remove(&key);
-            if bucket.is_empty() {
-                self.buckets.remove(&from);
-            }
-        } else {
-            if self.index.len() == self.room {
-                from = self.drop_first();
-            }
-            self.index.insert(key, from + weight);
-        }
-        self.buckets.entry(from + weight).or_default().insert(key);
-    }
-
-    /// Drops the first key of the first bucket, and tells its counter.
-    fn drop_first(&mut self) -> u64 {
-        let mut first = self.buckets.first_entry().unwrap();
-        let least = *first.key();
-        self.index.remove(&first.get_mut().pop_first().unwrap());
-        if first.get().is_empty() {
-            first.remove();
-        }
-        least
-    }
-
-    pub fn len(&self) -> usize {
-        self.index.len()
     }
 }

@@ -5,15 +5,15 @@
 //! plain mg|ss K < FILE                   counts by Misra and Gries or by Space-Saving, no record kept
 //! plain table < FILE                     a Count-Min table, no record kept
 //! plain confirm KEYS < FILE              the weight of each key that the file KEYS lists, one a line; no record kept
-//! plain time WHAT K < FILE               prints nanoseconds for each item of a stream that is kept; WHAT is read, ss,
-//!                                        buckets (Space-Saving in the form of `BucketSaving`) or table
+//! plain time WHAT K < FILE               prints nanoseconds for each item of a stream that is kept; WHAT is read, ss
+//!                                        or table
 
 mod counting;
 mod reading;
 mod report;
 mod table;
 
-use counting::{Buckets, Map, Saving};
+use counting::{Map, Saving};
 use std::time::Instant;
 
 fn confirm(keys: &str) {
@@ -35,17 +35,16 @@ fn time(what: &str, k: usize) {
     if what != "read" {
         start = Instant::now();
     }
-    let (mut saving, mut buckets, mut cells) = (Saving::<&[u8]>::new(k), Buckets::<&[u8]>::new(k), table::cells());
+    let (mut saving, mut cells) = (Saving::<&[u8]>::new(k), table::cells());
     for (key, weight) in &items {
         match what {
             "ss" => saving.add(key, *weight, || &**key),
-            "buckets" => buckets.add(key, *weight),
             "table" => table::add(&mut cells, key, *weight),
             _ => {}
         }
     }
     let nanoseconds = start.elapsed().as_nanos() as usize / items.len().max(1);
-    assert!(saving.into_keys().count().max(buckets.len()) <= k + 1 && cells.iter().sum::<u64>() < u64::MAX);
+    assert!(saving.into_keys().count() <= k + 1 && cells.iter().sum::<u64>() < u64::MAX);
     println!("{nanoseconds}");
 }
 

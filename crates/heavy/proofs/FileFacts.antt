@@ -7,7 +7,7 @@ use Rattle.std.proofs.lemmas.Bool.Decides.{eqb_tells, leb_tells, not_from_Decide
 use Rattle.std.proofs.lemmas.List.{drop_more, drop_all, length-map}
 use Rattle.hh_stream.specs.Weights.{max_total}
 use Rattle.hh_countmin.specs.Family.{same_family}
-use Rattle.hh_countmin.specs.Table.{Grid, merged as merged_cells}
+use Rattle.hh_countmin.specs.Table.{Grid, grid_sum as merged_cells}
 use Rattle.hh_saved.specs.declared.saved.Saved.{Saved}
 use Rattle.hh_saved.specs.declared.saved.Saved.TheVariants.{Cells}
 use Rattle.heavy.specs.declared.error.MergeCause.TheVariants as cause
@@ -106,7 +106,7 @@ module _ {X : Type 0} (f : X → List ℕ) (xs : List X) (i : ℕ) (d : X) (file
     pub merge_goes_on : {next both : Saved} → file_of (i + 1) file ≡ Ok next → merge_saved (i + 1) v next ≡ Ok both
         → merged_from (i + 1 + 1) both (drop (i + 1) (map f xs)) ≡ whole
     unfolding merged_from
-    merge_goes_on read merged = rw (read, merged) at merge_next
+    merge_goes_on read made = rw (read, made) at merge_next
 
     -- a file that is refused is the refusal of all
     pub merge_unread : (e : ToolError) → Refuses (file_of (i + 1) file) e → Refuses whole e

@@ -1,11 +1,5 @@
-pub mod CountFacts
 pub mod FileFacts
 pub mod KeyFacts
 pub mod MergeFacts
 pub mod NameFacts
 pub mod OptionFacts
-pub mod PartFacts
-pub mod ReadFacts
-pub mod RowFacts
-pub mod TakeFacts
-pub mod TextFacts

@@ -5,7 +5,7 @@ use Rattle.std.specs.List.{AllByRecursion}
 use Rattle.std.proofs.lemmas.Bool.Decides.{eqb_tells, leb_tells}
 use Rattle.std.proofs.lemmas.List.{get_or-map}
 use Rattle.hh_stream.specs.Weights.{max_total}
-use Rattle.hh_counters.specs.Counters.{Sketch, merged, sketch_of}
+use Rattle.hh_counters.specs.Counters.{Sketch, merge_of, sketch_of}
 use Rattle.hh_counters.specs.Laws.{CondensedPartsSuffice}
 use Rattle.hh_pool.specs.Laws.{PartsReportByAnyTree, TreesMergeSummaries}
 use Rattle.hh_pool.specs.Trees.{MergeTree, Merge, merge_result, no_sketch, tree_result}
@@ -24,7 +24,8 @@ use Rattle.heavy.proofs.FileFacts.{ok-no_err}
 
 -- two saved summaries merge to what a node of a tree makes of them, or are refused
 both_merge : (n : ℕ) (s t : Sketch)
-    → ((merge_saved n (Counters s) (Counters t) ≡ Ok (Counters (merged s t))) × (merge_result s t ≡ Ok (merged s t)))
+    → ((merge_saved n (Counters s) (Counters t) ≡ Ok (Counters (merge_of s t)))
+    × (merge_result s t ≡ Ok (merge_of s t)))
     ⊎ ((e : ToolError) × (merge_saved n (Counters s) (Counters t) ≡ Err e))
 both_merge n s t = elim (eqb_tells s.k t.k) [
   | inl (same, _) ↦ elim (leb_tells (s.total + t.total) max_total) [
@@ -57,8 +58,8 @@ rest_merge ss n t u [] saved is holds all = (u, is, sym (cc all))
 rest_merge ss n t u (f ∷ fs) saved is ((v, made, read), holds) all = elim (both_merge n u v) [
   | inl (both, node) ↦
       let step : merged_from n (Counters u) (map (λ g. g.1) (f ∷ fs))
-      ≡ merged_from (n + 1) (Counters (merged u v)) (map (λ g. g.1) fs) = rw (read, both) refl in
-      rest_merge ss (n + 1) (Merge t f.0) (merged u v) fs saved (rw (is, made) node) holds (sym step ∙ all)
+      ≡ merged_from (n + 1) (Counters (merge_of u v)) (map (λ g. g.1) fs) = rw (read, both) refl in
+      rest_merge ss (n + 1) (Merge t f.0) (merge_of u v) fs saved (rw (is, made) node) holds (sym step ∙ all)
   | inr (e, refused) ↦
       let step : merged_from n (Counters u) (map (λ g. g.1) (f ∷ fs)) ≡ Err e = rw (read, refused) refl in
       absurd (ok-no_err (sym all ∙ step))

@@ -4,9 +4,9 @@ use Rattle.std.specs.List.{flat_map}
 use Rattle.std.specs.Fmt.{decimal}
 use Rattle.csv.specs.Writing.{default_writer, row_text}
 use Rattle.hh_stream.specs.Weights.{Bytes, weight_of, max_key_len, max_total}
-use Rattle.hh_counters.specs.Counters.{Sketch, slack, merged as merged_counters}
+use Rattle.hh_counters.specs.Counters.{Sketch, slack, merge_of as merged_counters}
 use Rattle.hh_countmin.specs.Family.{same_family}
-use Rattle.hh_countmin.specs.Table.{Grid, estimate_in, merged as merged_cells}
+use Rattle.hh_countmin.specs.Table.{Grid, estimate_in, grid_sum as merged_cells}
 use Rattle.hh_saved.specs.Reading.{saved_of}
 use Rattle.hh_saved.specs.declared.fault.SavedFault.{SavedFault}
 use Rattle.hh_saved.specs.declared.saved.Saved.{Saved}
@@ -117,21 +117,21 @@ unless None x = Ok x
 unless (Some e) x = Err e
 
 -- the value of the file, or the first refusal: of the file, and then of the keys
-abbrev pub asked : List ℕ → List Bytes → Result Saved ToolError
-asked file keys = do
+abbrev pub asked_value : List ℕ → List Bytes → Result Saved ToolError
+asked_value file keys = do
   v ← file_of 1 file
   unless (bad_key 1 keys) v
 
 -- the rows of all keys, or the first refusal
 abbrev pub answers : List ℕ → List Bytes → Result (List ℕ) ToolError
 answers file keys = do
-  v ← asked file keys
+  v ← asked_value file keys
   Ok (answer_rows v keys)
 
 -- the two numbers of each key, or the first refusal
 abbrev pub answers_of : List ℕ → List Bytes → Result (List (ℕ × ℕ)) ToolError
 answers_of file keys = do
-  v ← asked file keys
+  v ← asked_value file keys
   Ok (map (answer_of v) keys)
 
 -- the two numbers of one key, or the first refusal: of the file, and then of the key

@@ -1,12 +1,5 @@
-pub mod Counting
 pub mod Files
 pub mod Laws
-pub mod Limits
 pub mod Reports
-pub mod Rows
 pub mod Saving
-pub mod Sinks
 pub mod Status
-pub mod Streams
-pub mod Taking
-pub mod Thresholds

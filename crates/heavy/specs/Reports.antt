@@ -1,20 +1,25 @@
 -- What a report leaves in a sink, and what its refusals tell.
 use Rattle.std.specs.Prelude.{◌≡◌, ◌+◌, ◌-◌, not, ℕ, List, filter, Bool, true, false, Option, Some, None, is_none, Result, Ok, Err, ⊤, if◌then◌else◌}
 use Rattle.std.specs.Io.KnownBytes.{Appends, Keeps}
+use Rattle.hh_stream.specs.Cuttings.{max_pieces}
 use Rattle.hh_stream.specs.Weights.{Entry}
 use Rattle.hh_counters.specs.Report.{has_counter, heavy}
-use Rattle.hh_counters.specs.Counters.{Sketch}
-use Rattle.hh_countmin.specs.Family.{drawn_family}
-use Rattle.hh_pool.specs.PlanTexts.{PlanRefused, Spells}
-use Rattle.hh_pool.specs.Settings.{Settings}
+use Rattle.hh_counters.specs.Counters.{Sketch, max_k}
+use Rattle.hh_countmin.specs.Family.{drawn_family, max_depth, max_width}
+use Rattle.hh_pool.specs.PlanTexts.{PlanRefused, SpellsTree}
+use Rattle.hh_pool.specs.Settings.{Settings, max_workers}
 use Rattle.hh_pool.specs.Trees.{IsBalanced, IsMergeTree, MergeTree, chain_of}
 use Rattle.hh_pool.specs.declared.reading.PlanFault.{PlanFault}
 use Rattle.hh_pool.specs.declared.reading.PlanFault.TheVariants as plan
-use Rattle.heavy.specs.Limits.{in_range, most_depth, most_k, most_pieces, most_width, most_workers}
-use Rattle.heavy.specs.Rows.{rows_of}
-use Rattle.heavy.specs.Sinks.{TakesFirst}
-use Rattle.heavy.specs.Streams.{ReadsAs}
-use Rattle.heavy.specs.Thresholds.{threshold_of}
+use Rattle.hh_stream.specs.Ranges.{in_range}
+use Rattle.hh_records.specs.Rows.{rows_of}
+use Rattle.hh_records.specs.Sinks.{TakesFirst}
+use Rattle.hh_records.specs.Streams.{ReadsAs}
+use Rattle.hh_records.specs.Thresholds.{threshold_of}
+use Rattle.hh_records.specs.declared.records.ReadError.{ReadError}
+use Rattle.hh_records.specs.declared.records.ReadError.TheVariants as read
+use Rattle.heavy.specs.declared.confirmation.ConfirmFault.{ConfirmFault}
+use Rattle.heavy.specs.declared.confirmation.ConfirmFault.TheVariants as confirm
 use Rattle.heavy.specs.declared.error.ToolError.{ToolError}
 use Rattle.heavy.specs.declared.error.ToolError.TheVariants as tool
 use Rattle.heavy.specs.declared.error.TreeFault.{TreeFault}
@@ -22,25 +27,10 @@ use Rattle.heavy.specs.declared.error.TreeFault.TheVariants as bad
 use Rattle.heavy.specs.declared.report.ReportOptions.{ReportOptions}
 use Rattle.heavy.specs.declared.report.Tree.{Tree}
 use Rattle.heavy.specs.declared.report.Tree.TheVariants as tree
-use Rattle.heavy.specs.declared.records.ReadError.{ReadError}
-use Rattle.heavy.specs.declared.records.ReadError.TheVariants as read
-use Rattle.heavy.specs.declared.rows.ReportFault.{ReportFault}
-use Rattle.heavy.specs.declared.rows.ReportFault.TheVariants as fault
 
 -- the heavy keys of xs that have a counter in the summary
-abbrev pub confirmed : Sketch → List Entry → List Entry
-confirmed s xs = filter (has_counter s.counters) (heavy xs 1 (s.k + 1))
-
--- what a refusal to write rows leaves in a sink, and that `written` counts bytes of these rows
-abbrev pub RowsRefused : List Entry → Option (List ℕ) → Option (List ℕ) → ReportFault → Type 0
-RowsRefused rows old new (fault.WriteFault n) = TakesFirst old new (rows_of rows) n
-RowsRefused rows old new fault.Memory = Keeps old new
-
--- whether the sink failed
-abbrev pub is_write_fault : {T : Type 0} → Result T ReportFault → Bool
-is_write_fault (Err (fault.WriteFault n)) = true
-is_write_fault (Err fault.Memory) = false
-is_write_fault (Ok x) = false
+abbrev pub confirmed_rows : Sketch → List Entry → List Entry
+confirmed_rows s xs = filter (has_counter s.counters) (heavy xs 1 (s.k + 1))
 
 -- whether a command failed by its sink
 abbrev pub failed_by : {T : Type 0} → Result T ToolError → Bool
@@ -54,15 +44,20 @@ read_fault read.ReadFault = tool.ReadFault
 read_fault (read.BadRecord n c) = tool.BadRecord n c
 read_fault read.Memory = tool.Memory
 
+-- the fault of a command whose summary was not confirmed
+abbrev pub confirm_fault : ConfirmFault → ToolError
+confirm_fault confirm.TotalDiffers = tool.TotalDiffers
+confirm_fault confirm.Memory = tool.Memory
+
 -- the first test that options fail, before their tree
 abbrev pub bad_option : ReportOptions → Option ToolError
 bad_option o =
-    if not (in_range o.depth most_depth) then Some tool.BadDepth
-    else if not (in_range o.k most_k) then Some tool.BadK
-    else if not (in_range o.workers most_workers) then Some tool.BadWorkers
-    else if not (in_range o.width most_width) then Some tool.BadWidth
+    if not (in_range o.depth max_depth) then Some tool.BadDepth
+    else if not (in_range o.k max_k) then Some tool.BadK
+    else if not (in_range o.workers max_workers) then Some tool.BadWorkers
+    else if not (in_range o.width max_width) then Some tool.BadWidth
     else if is_none (threshold_of o.k o.threshold) then Some tool.BadThreshold
-    else if not (in_range o.pieces most_pieces) then Some tool.BadPieces
+    else if not (in_range o.pieces max_pieces) then Some tool.BadPieces
     else None
 
 -- a fault that options have, before their tree
@@ -90,7 +85,7 @@ settings_of o p q = record {
 abbrev pub Names : Tree → ℕ → MergeTree → Type 0
 Names tree.Chain pieces plan = plan ≡ chain_of (pieces - 1)
 Names tree.Balanced pieces plan = IsBalanced plan 0 pieces
-Names (tree.Text t) pieces plan = Spells t.items plan × IsMergeTree plan pieces
+Names (tree.Text t) pieces plan = SpellsTree t.items plan × IsMergeTree plan pieces
 
 -- the tree is one of so many pieces
 abbrev pub IsTree : Tree → ℕ → Type 0

@@ -2,7 +2,8 @@
 use Rattle.std.specs.Prelude.{◌≡◌, ◌≢◌, ℕ, List, map, not, codes, Option, Some, None, Ok, Err, ⊤, if◌then◌else◌}
 use Rattle.hh_stream.specs.Weights.{Entry, total_of}
 use Rattle.hh_counters.specs.Condensed.{condensed}
-use Rattle.hh_counters.specs.Counters.{Sketch, sketch_of}
+use Rattle.hh_counters.specs.Counters.{Sketch, max_k, sketch_of}
+use Rattle.hh_countmin.specs.Family.{max_depth, max_width}
 use Rattle.hh_countmin.specs.Table.{Grid}
 use Rattle.hh_saved.specs.Reading.{saved_of}
 use Rattle.hh_saved.specs.Sizes.{entry_in}
@@ -11,10 +12,10 @@ use Rattle.hh_saved.specs.declared.format.Version.TheVariants as version
 use Rattle.hh_saved.specs.declared.layout.Place.{Place}
 use Rattle.hh_saved.specs.declared.saved.Saved.{Saved}
 use Rattle.hh_saved.specs.declared.saved.Saved.TheVariants.{Counters, Cells}
-use Rattle.heavy.specs.Limits.{in_range, most_depth, most_k, most_width}
-use Rattle.heavy.specs.Reports.{confirmed}
-use Rattle.heavy.specs.Rows.{condensed_text, rows_of}
-use Rattle.heavy.specs.Streams.{ReadsAs}
+use Rattle.hh_stream.specs.Ranges.{in_range}
+use Rattle.hh_records.specs.Rows.{condensed_text, rows_of}
+use Rattle.hh_records.specs.Streams.{ReadsAs}
+use Rattle.heavy.specs.Reports.{confirmed_rows}
 use Rattle.heavy.specs.declared.saving.Method.{Method}
 use Rattle.heavy.specs.declared.saving.Method.TheVariants as method
 use Rattle.heavy.specs.declared.error.ToolError.{ToolError}
@@ -38,12 +39,12 @@ RecordsRefused left _ = ⊥
 
 -- the tests of a summary's k, and of a table's depth and width
 abbrev pub bad_k : ℕ → Option ToolError
-bad_k k = if not (in_range k most_k) then Some tool.BadK else None
+bad_k k = if not (in_range k max_k) then Some tool.BadK else None
 
 abbrev pub bad_table : ℕ → ℕ → Option ToolError
 bad_table depth width =
-    if not (in_range depth most_depth) then Some tool.BadDepth
-    else if not (in_range width most_width) then Some tool.BadWidth
+    if not (in_range depth max_depth) then Some tool.BadDepth
+    else if not (in_range width max_width) then Some tool.BadWidth
     else None
 
 -- the word that names a method
@@ -61,7 +62,7 @@ RefusedAfter (Some f) left e = e ≡ f
 abbrev pub ConfirmsRows : List ℕ → Option (List ℕ) → List ℕ → Type 0
 ConfirmsRows file left rows =
     (s : Sketch) × (xs : List Entry) × (saved_of file ≡ Ok (Counters s)) × ReadsAs left (Ok xs)
-    × (s.total ≡ total_of xs) × (rows ≡ rows_of (confirmed s xs))
+    × (s.total ≡ total_of xs) × (rows ≡ rows_of (confirmed_rows s xs))
 
 -- the file holds a summary, and these are the condensed rows of a stream, that of all bytes that the
 -- reader had left

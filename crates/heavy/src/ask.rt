@@ -5,8 +5,8 @@ ghost use Rattle.std.specs.List.{flat_map};
 ghost use Rattle.std.specs.Io.KnownBytes.{Appends};
 ghost use Rattle.csv.specs.Writing.{text_written};
 ghost use Rattle.hh_stream.specs.Weights.{max_key_len};
-ghost use Rattle.heavy.specs.Files.{Refuses, answer, answer_of, answer_row, answers, answers_of, asked, bad_key, file_of, key_fault};
-ghost use Rattle.heavy.specs.Rows.{IsBetweenRows};
+ghost use Rattle.hh_records.specs.Rows.{IsBetweenRows};
+ghost use Rattle.heavy.specs.Files.{Refuses, answer, answer_of, answer_row, answers, answers_of, asked_value, bad_key, file_of, key_fault};
 
 use crate::error::{KeyCause, ToolError};
 use crate::files::file_of;
@@ -36,7 +36,7 @@ fn check_key(number: u64, word: &[u8]) -> Result<(), ToolError>
 fn asked(alloc: Global, file: &[u8], words: &[Vec<u8>]) -> Result<Saved, ToolError>
     ensures value { IfOk result (λ saved. file_of 1 file.now ≡ Ok saved) }
     ensures keys { OnOk result (bad_key 1 (map vec_items words.now) ≡ None) }
-    ensures refused { IfErr result (Refuses (asked file.now (map vec_items words.now))) }
+    ensures refused { IfErr result (Refuses (asked_value file.now (map vec_items words.now))) }
 {
     let saved = file_of(alloc, 1, file)?;
     for i in 0..words.len() {

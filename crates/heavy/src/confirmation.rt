@@ -3,18 +3,16 @@
 ghost use Rattle.std.specs.Prelude.{◌≡◌, ◌≢◌, ◌↔◌, Ok, List, IfOk, IfErr, IsErrOf};
 ghost use Rattle.std.specs.Map.{keys_of};
 ghost use Rattle.hh_stream.specs.Weights.{Entry, total_of};
-ghost use Rattle.heavy.specs.Counting.{count_of};
-ghost use Rattle.heavy.specs.Reports.{confirmed};
+ghost use Rattle.hh_records.specs.Counting.{count_of};
+ghost use Rattle.hh_records.specs.Streams.{ReadsAs};
+ghost use Rattle.heavy.specs.Reports.{confirmed_rows};
 ghost use Rattle.heavy.specs.Saving.{CountRefused};
-ghost use Rattle.heavy.specs.Streams.{ReadsAs};
 ghost use Rattle.heavy.specs.declared.confirmation.ConfirmFault.TheVariants.{Memory};
 
-use crate::counts::Counts;
 use crate::error::ToolError;
-use crate::records::read_items;
-use crate::taking::TakeItems;
 use hh_counters::laws::{candidates_suffice, counts_add_up};
 use hh_counters::{Heavy, Summary};
+use hh_records::{Counts, TakeItems, read_items};
 use hh_stream::Stream;
 use std::alloc::{AllocError, Global};
 use std::io::Read;
@@ -49,7 +47,7 @@ pub fn confirm(
     summary: &Summary,
     stream: &Stream,
 ) -> Result<Vec<Heavy>, ConfirmFault>
-    ensures rows { IfOk result (λ rows. rows.items ≡ confirmed summary.now stream.now) }
+    ensures rows { IfOk result (λ rows. rows.items ≡ confirmed_rows summary.now stream.now) }
     ensures total_differs { IsErrOf result ConfirmFault.TotalDiffers
         ↔ (summary.now.total ≢ total_of stream.now) }
 {
@@ -66,7 +64,7 @@ pub fn confirm(
 fn heavy_rows(summary: &Summary, counts: &Counts) -> Result<Vec<Heavy>, AllocError>
     ensures { IfOk result (λ rows. (xs : List Entry)
         → counts.now ≡ count_of (keys_of summary.now.counters) xs
-        → rows.items ≡ confirmed summary.now xs) }
+        → rows.items ≡ confirmed_rows summary.now xs) }
 {
     candidates_suffice();
     let rows = counts.select(summary.k())?;
@@ -81,7 +79,7 @@ pub(crate) fn confirm_records<R: Read + Drop>(
     reader: R,
 ) -> Result<Vec<Heavy>, ToolError>
     ensures rows { IfOk result (λ rows. (xs : List Entry) × ReadsAs (R.remaining reader) (Ok xs)
-        × (summary.now.total ≡ total_of xs) × (rows.items ≡ confirmed summary.now xs)) }
+        × (summary.now.total ≡ total_of xs) × (rows.items ≡ confirmed_rows summary.now xs)) }
     ensures refused { IfErr result (λ fault.
         CountRefused summary.now (R.remaining reader) fault) }
 {

@@ -1,11 +1,12 @@
 //! What stops a command, with its text and its exit status.
 
 ghost use Rattle.std.specs.Prelude.{◌≡◌};
-ghost use Rattle.heavy.specs.Reports.{read_fault};
+ghost use Rattle.heavy.specs.Reports.{confirm_fault, read_fault};
 ghost use Rattle.heavy.specs.Status.{status_of};
-ghost use Rattle.heavy.specs.declared.error.ToolError.TheVariants.{Memory};
+ghost use Rattle.heavy.specs.declared.error.ToolError.TheVariants.{Memory, WriteFault as NotWritten};
 
-use crate::records::{BadRecordCause, ReadError};
+use crate::confirmation::ConfirmFault;
+use hh_records::{BadRecordCause, ReadError, WriteFault};
 use hh_saved::SavedFault;
 use std::alloc::AllocError;
 use thiserror::Error;
@@ -139,6 +140,27 @@ impl From<ReadError> for ToolError {
             ReadError::ReadFault => ToolError::ReadFault,
             ReadError::BadRecord { number, cause } => ToolError::BadRecord { number, cause },
             ReadError::Memory => ToolError::Memory,
+        }
+    }
+}
+
+impl From<WriteFault> for ToolError {
+    ghost from_gives = { λ fault error. error ≡ NotWritten fault.written };
+
+    fn from(fault: WriteFault) -> ToolError {
+        ToolError::WriteFault {
+            written: fault.written,
+        }
+    }
+}
+
+impl From<ConfirmFault> for ToolError {
+    ghost from_gives = { λ fault error. error ≡ confirm_fault fault };
+
+    fn from(fault: ConfirmFault) -> ToolError {
+        match fault {
+            ConfirmFault::TotalDiffers => ToolError::TotalDiffers,
+            ConfirmFault::Memory => ToolError::Memory,
         }
     }
 }

@@ -1,9 +1,10 @@
 //! Laws of the definitions in `specs/`. Each function does nothing: its contract is the law.
 
-ghost use Rattle.heavy.specs.Laws.{CondensedFilesAreRead, CondensedPartsConfirm, HeldTreesReport, HonestSummaryReports, MachinesReport, MergesHoldTrees, PartsHoldPieces};
+ghost use Rattle.heavy.specs.Laws.{CondensedPartsConfirm, HeldTreesReport, HonestSummaryReports, MachinesReport, MergesHoldTrees, PartsHoldPieces};
 
-use hh_counters::laws::{condensed_keeps_weights, condensed_parts_suffice};
+use hh_counters::laws::condensed_parts_suffice;
 use hh_pool::laws::{parts_report_by_any_tree, trees_merge_summaries};
+pub use hh_records::laws::condensed_files_are_read;
 use hh_saved::laws::spellings_are_read;
 
 /// Over several machines: each part is condensed where it lies, and the condensed parts, joined in
@@ -28,11 +29,4 @@ pub fn merged_files_report()
     trees_merge_summaries();
     parts_report_by_any_tree();
     condensed_parts_suffice();
-}
-
-/// Files of condensed records, joined, are read as the condensed records, one file after the other.
-pub fn condensed_files_are_read()
-    ensures { CondensedFilesAreRead }
-{
-    condensed_keeps_weights();
 }

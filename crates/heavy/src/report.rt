@@ -1,20 +1,19 @@
 //! A report from a reader to a sink.
 
 ghost use Rattle.std.specs.Prelude.{◌≡◌, false, true, length, IfOk, IfErr, IfSome, OnOk, MatchResult, Err, None, Some};
+ghost use Rattle.hh_stream.specs.Cuttings.{max_pieces};
 ghost use Rattle.hh_pool.specs.Trees.{leaves};
 ghost use Rattle.hh_counters.specs.Report.{heavy};
-ghost use Rattle.heavy.specs.Limits.{in_range, most_pieces};
+ghost use Rattle.hh_stream.specs.Ranges.{in_range};
+ghost use Rattle.hh_records.specs.Thresholds.{threshold_of};
 ghost use Rattle.heavy.specs.Reports.{IsOptionFault, IsReported, Names, ReportRefused, TreeRefused, bad_option, failed_by, settings_of};
-ghost use Rattle.heavy.specs.Thresholds.{threshold_of};
 
 use crate::error::{ToolError, TreeFault};
-use crate::records::read_stream;
-use crate::rows::{ReportFault, write_report};
-use crate::sink::Sink;
-use crate::threshold::{Share, threshold_of};
+use crate::limits::in_range;
 use hh_counters::{Heavy, MAX_K};
 use hh_countmin::{DrawFault, Family, MAX_DEPTH, MAX_WIDTH};
 use hh_pool::{MAX_WORKERS, OpenGate, Options, OptionsFault, Plan, PlanFault, RunError, analyse};
+use hh_records::{ReportFault, Share, Sink, read_stream, threshold_of, write_report};
 use hh_stream::{Cutting, CuttingFault, MAX_PIECES, Stream};
 use std::alloc::{AllocError, Global};
 use std::io::Read;
@@ -51,13 +50,6 @@ pub struct ReportOptions {
     pub depth: u64,
     /// The seed of the table's hash family.
     pub seed: u64,
-}
-
-/// Whether a number is from 1 to the most.
-pub(crate) fn in_range(number: u64, most: u64) -> bool
-    ensures { result ≡ in_range number most }
-{
-    1 <= number && number <= most
 }
 
 /// Tests the options, but for the tree, and gives the p and q of the threshold.
@@ -99,7 +91,7 @@ enum NoPlan {
 
 /// The plan of a tree over so many pieces.
 fn plan_of(alloc: Global, tree: &Tree, pieces: usize) -> Result<Plan, NoPlan>
-    requires { in_range pieces most_pieces ≡ true }
+    requires { in_range pieces max_pieces ≡ true }
     ensures pieces { IfOk result (λ plan. length (leaves plan) ≡ pieces) }
     ensures tree { IfOk result (λ plan. Names tree.now pieces plan) }
     ensures refused { (fault : TreeFault) → result ≡ Err (NoPlan.Bad fault)
@@ -153,7 +145,7 @@ fn heavy_keys<T: Threads + Wait + Sync>(
     plan: &Plan,
     settings: &Options,
 ) -> Result<Vec<Heavy>, AllocError>
-    requires pieces { in_range pieces most_pieces ≡ true }
+    requires pieces { in_range pieces max_pieces ≡ true }
     requires plan { length (leaves plan.now) ≡ pieces }
     ensures { IfOk result (λ rows. rows.items ≡ heavy stream.now settings.now.p settings.now.q) }
 {

@@ -2,28 +2,27 @@
 
 ghost use Rattle.std.specs.Prelude.{◌≡◌, List, true, IsErr, IfOk, IfErr, IfSome, Ok, Err};
 ghost use Rattle.hh_stream.specs.Weights.{Entry};
-ghost use Rattle.hh_counters.specs.Counters.{sketch_of};
-ghost use Rattle.hh_countmin.specs.Family.{drawn_family};
+ghost use Rattle.hh_counters.specs.Counters.{max_k, sketch_of};
+ghost use Rattle.hh_countmin.specs.Family.{drawn_family, max_depth, max_width};
 ghost use Rattle.hh_countmin.specs.Table.{empty_table, table_of};
+ghost use Rattle.hh_saved.specs.Reading.{saved_of};
 ghost use Rattle.hh_saved.specs.Spelling.{Spells};
 ghost use Rattle.hh_saved.specs.declared.format.Version.{Version};
 ghost use Rattle.hh_saved.specs.declared.format.Version.TheVariants as version;
 ghost use Rattle.hh_saved.specs.declared.saved.Saved.TheVariants.{Cells, Counters};
-ghost use Rattle.heavy.specs.Limits.{in_range, most_depth, most_k, most_width};
-ghost use Rattle.hh_saved.specs.Reading.{saved_of};
+ghost use Rattle.hh_stream.specs.Ranges.{in_range};
+ghost use Rattle.hh_records.specs.Streams.{ReadsAs};
 ghost use Rattle.heavy.specs.Saving.{CondenseRefused, CondensesRows, ConfirmRefused, ConfirmsRows, IsSummaryOf, ListsEntries, RecordsRefused, RefusedAfter, SavesStream, SummaryRefused, bad_k, bad_table, word_of};
-ghost use Rattle.heavy.specs.Streams.{ReadsAs};
 
 use crate::condensation::condense_records;
 use crate::confirmation::confirm_records;
 use crate::error::ToolError;
-use crate::records::read_items;
-use crate::report::in_range;
-use crate::rows::{condensed_text, report_text};
+use crate::limits::in_range;
 use hh_counters::laws::summaries_follow_items;
-use hh_counters::{GatheredSaving, MAX_K, Monitor, NewFault, Summary};
+use hh_counters::{BucketSaving, MAX_K, Monitor, NewFault, Summary};
 use hh_countmin::laws::tables_follow_items;
 use hh_countmin::{DrawFault, Family, MAX_DEPTH, MAX_WIDTH, Table, TableFault};
+use hh_records::{condensed_text, read_items, report_text};
 use hh_saved::{Place, Saved, SavedFault, places, read, write};
 use std::alloc::{AllocError, Global};
 use std::io::Read;
@@ -59,7 +58,7 @@ fn summary_of<R: Read + Drop>(
     method: Method,
     reader: R,
 ) -> Result<Summary, ToolError>
-    requires { in_range k most_k ≡ true }
+    requires { in_range k max_k ≡ true }
     ensures summary { IfOk result (IsSummaryOf k (R.remaining reader)) }
     ensures refused { IfErr result (λ fault. RecordsRefused (R.remaining reader) fault) }
 {
@@ -75,7 +74,7 @@ fn summary_by_counting<R: Read + Drop>(
     k: u64,
     reader: R,
 ) -> Result<Summary, ToolError>
-    requires { in_range k most_k ≡ true }
+    requires { in_range k max_k ≡ true }
     ensures summary { IfOk result (IsSummaryOf k (R.remaining reader)) }
     ensures refused { IfErr result (λ fault. RecordsRefused (R.remaining reader) fault) }
 {
@@ -92,12 +91,12 @@ fn summary_by_monitoring<R: Read + Drop>(
     k: u64,
     reader: R,
 ) -> Result<Summary, ToolError>
-    requires { in_range k most_k ≡ true }
+    requires { in_range k max_k ≡ true }
     ensures summary { IfOk result (IsSummaryOf k (R.remaining reader)) }
     ensures refused { IfErr result (λ fault. RecordsRefused (R.remaining reader) fault) }
 {
     summaries_follow_items();
-    let monitor = match GatheredSaving::new(alloc, k) {
+    let monitor = match BucketSaving::new(alloc, k) {
         Ok(monitor) => monitor,
         Err(NewFault::BadK) => unreachable!(),
         Err(NewFault::Memory) => return Err(ToolError::Memory),
@@ -132,8 +131,8 @@ pub fn summary_bytes<R: Read + Drop>(
 
 /// The table of no items, with the family that is drawn from the seed.
 fn empty_table(alloc: Global, width: u64, depth: u64, seed: u64) -> Result<Table, AllocError>
-    requires depth { in_range depth most_depth ≡ true }
-    requires width { in_range width most_width ≡ true }
+    requires depth { in_range depth max_depth ≡ true }
+    requires width { in_range width max_width ≡ true }
     ensures { IfOk result (λ table. table ≡ empty_table (drawn_family seed depth) width) }
 {
     let family = match Family::draw(alloc, seed, depth) {

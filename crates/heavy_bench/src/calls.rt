@@ -2,7 +2,7 @@
 
 use crate::fault::BenchFault;
 use heavy::read_stream;
-use hh_counters::{BucketSaving, GatheredSaving, Monitor, SpaceSaving, Summary};
+use hh_counters::{BucketSaving, Monitor, SpaceSaving, Summary};
 use hh_countmin::{Family, Table};
 use hh_saved::{Saved, read, write};
 use hh_stream::{Cutting, Item, Stream};
@@ -25,8 +25,6 @@ pub enum Call {
     SpaceSaving,
     /// `BucketSaving::add`, for each item.
     BucketSaving,
-    /// `GatheredSaving::add`, for each item.
-    GatheredSaving,
     /// `Table::add` with 4 rows of 1,024 cells, for each item.
     Table,
     /// `hh_saved::write` of the items' summary, for each counter.
@@ -44,7 +42,6 @@ impl Call {
             "merge" => Some(Call::Merge),
             "space_saving" => Some(Call::SpaceSaving),
             "bucket_saving" => Some(Call::BucketSaving),
-            "gathered_saving" => Some(Call::GatheredSaving),
             "table" => Some(Call::Table),
             "save" => Some(Call::Save),
             "load" => Some(Call::Load),
@@ -169,10 +166,6 @@ pub fn nanoseconds(rt: &HostRuntime, call: Call, k: u64) -> Result<u128, BenchFa
         }
         Call::BucketSaving => {
             let mut monitor = BucketSaving::new(alloc, k).map_err(|_| BenchFault::Refused)?;
-            monitor_all(&mut monitor, items)?;
-        }
-        Call::GatheredSaving => {
-            let mut monitor = GatheredSaving::new(alloc, k).map_err(|_| BenchFault::Refused)?;
             monitor_all(&mut monitor, items)?;
         }
         Call::Table => {

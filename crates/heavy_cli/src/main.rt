@@ -43,9 +43,8 @@ fn answer(rt: &HostRuntime, question: Question, input: Input<'_>) -> Result<Vec<
 /// Writes the bytes that a question is answered by.
 fn write_answer(rt: &HostRuntime, question: Question, input: Input<'_>) -> Result<(), ToolError> {
     let bytes = answer(rt, question, input)?;
-    put(&mut Out::new(rt.stdout()), &bytes).map_err(|fault| ToolError::WriteFault {
-        written: fault.written,
-    })
+    put(&mut Out::new(rt.stdout()), &bytes)?;
+    Ok(())
 }
 
 /// Tells a fault of the product, and gives its status.

@@ -140,51 +140,39 @@ fn progress_is_told_where_it_is_asked_for(rt: HostRuntime) -> Result<(), Fail> {
 }
 
 #[test]
-fn each_option_has_its_default_and_its_effect(rt: HostRuntime) -> Result<(), Fail> {
+fn each_option_of_a_report_has_its_default_and_its_effect(rt: HostRuntime) -> Result<(), Fail> {
+    for (words, expected) in [
+        ("", "100 - 4 4 Balanced 1024 4 0"),
+        ("|--k|7", "7 - 4 4 Balanced 1024 4 0"),
+        ("|--k=8", "8 - 4 4 Balanced 1024 4 0"),
+        ("|--threshold|1/9", "100 1/9 4 4 Balanced 1024 4 0"),
+        ("|--workers|6", "100 - 6 4 Balanced 1024 4 0"),
+        ("|--pieces|9", "100 - 4 9 Balanced 1024 4 0"),
+        ("|--tree|chain", "100 - 4 4 Chain 1024 4 0"),
+        ("|--tree|balanced", "100 - 4 4 Balanced 1024 4 0"),
+        ("|--tree|((0 1) 2)", "100 - 4 4 ((0 1) 2) 1024 4 0"),
+        ("|--width|11", "100 - 4 4 Balanced 11 4 0"),
+        ("|--depth|12", "100 - 4 4 Balanced 1024 12 0"),
+        ("|--seed|13", "100 - 4 4 Balanced 1024 4 13"),
+        ("|--k|0", "0 - 4 4 Balanced 1024 4 0"),
+        (
+            "|--seed|18446744073709551615",
+            "100 - 4 4 Balanced 1024 4 18446744073709551615",
+        ),
+    ] {
+        let line = format!(in rt.alloc(); "heavy|report{words}")?;
+        let expected = format!(in rt.alloc(); "report {expected}")?;
+        assert_eq!(rt;
+            told(rt.alloc(), line.as_str())?.as_str(),
+            expected.as_str()
+        );
+    }
+    Ok(())
+}
+
+#[test]
+fn each_other_option_has_its_default_and_its_effect(rt: HostRuntime) -> Result<(), Fail> {
     for (line, expected) in [
-        ("heavy|report", "report 100 - 4 4 Balanced 1024 4 0"),
-        ("heavy|report|--k|7", "report 7 - 4 4 Balanced 1024 4 0"),
-        ("heavy|report|--k=8", "report 8 - 4 4 Balanced 1024 4 0"),
-        (
-            "heavy|report|--threshold|1/9",
-            "report 100 1/9 4 4 Balanced 1024 4 0",
-        ),
-        (
-            "heavy|report|--workers|6",
-            "report 100 - 6 4 Balanced 1024 4 0",
-        ),
-        (
-            "heavy|report|--pieces|9",
-            "report 100 - 4 9 Balanced 1024 4 0",
-        ),
-        (
-            "heavy|report|--tree|chain",
-            "report 100 - 4 4 Chain 1024 4 0",
-        ),
-        (
-            "heavy|report|--tree|balanced",
-            "report 100 - 4 4 Balanced 1024 4 0",
-        ),
-        (
-            "heavy|report|--tree|((0 1) 2)",
-            "report 100 - 4 4 ((0 1) 2) 1024 4 0",
-        ),
-        (
-            "heavy|report|--width|11",
-            "report 100 - 4 4 Balanced 11 4 0",
-        ),
-        (
-            "heavy|report|--depth|12",
-            "report 100 - 4 4 Balanced 1024 12 0",
-        ),
-        (
-            "heavy|report|--seed|13",
-            "report 100 - 4 4 Balanced 1024 4 13",
-        ),
-        (
-            "heavy|report|--seed|18446744073709551615|--k|0",
-            "report 0 - 4 4 Balanced 1024 4 18446744073709551615",
-        ),
         ("heavy|summarise", "summarise k 100 method mg"),
         ("heavy|summarise|--k|5", "summarise k 5 method mg"),
         ("heavy|summarise|--method|ss", "summarise k 100 method ss"),

@@ -1,8 +1,9 @@
 -- Answers that come, and the tests before them.
-use Rattle.std.proofs.Common.{◌≡◌, ℕ, Option, Some, None, Result, Ok, Err, inl, inr, refl}
+use Rattle.std.proofs.Common.{◌≡◌, ℕ, true, Option, Some, None, Result, Ok, Err, inl, inr, refl}
 use Rattle.std.specs.Prelude.{IfOk, IfSome, IsOkAnd}
-use Rattle.std.proofs.lemmas.Bool.Decides.{leb_tells}
-use Rattle.hh_countmin.specs.Family.{IsDepth, max_depth}
+use Rattle.std.proofs.lemmas.Bool.{cases_Bool}
+use Rattle.hh_stream.specs.Ranges.{in_range}
+use Rattle.hh_countmin.specs.Family.{max_depth}
 use Rattle.heavy.specs.Saving.{bad_table}
 use Rattle.heavy.specs.declared.error.ToolError.{ToolError}
 
@@ -19,11 +20,8 @@ passed None r x h e = refl
 passed (Some fault) r x h e = absurd cc
 
 -- a table that passed its tests has a depth
-pub depth_passed : (depth width : ℕ) → bad_table depth width ≡ None → IsDepth depth
-depth_passed depth width none = elim (leb_tells 1 depth) [
-  | inl (e, some) ↦ elim (leb_tells depth max_depth) [
-    | inl (f, few) ↦ (some, few)
-    | inr (f, _) ↦ absurd (cc (rw (e, f) at none))
-  ]
-  | inr (e, _) ↦ absurd (cc (rw e at none))
+pub depth_passed : (depth width : ℕ) → bad_table depth width ≡ None → in_range depth max_depth ≡ true
+depth_passed depth width none = elim (cases_Bool (in_range depth max_depth)) [
+  | inl passes ↦ passes
+  | inr fails ↦ absurd (cc (rw fails at none))
 ]

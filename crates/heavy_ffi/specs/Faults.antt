@@ -2,9 +2,9 @@
 use Rattle.std.specs.Prelude.{◌≡◌, ◌⊎◌, ℕ}
 use Rattle.hh_saved.specs.declared.fault.SavedFault.{SavedFault}
 use Rattle.hh_saved.specs.declared.fault.SavedFault.TheVariants as saved
+use Rattle.hh_records.specs.declared.records.BadRecordCause.{BadRecordCause}
+use Rattle.hh_records.specs.declared.records.BadRecordCause.TheVariants as bad
 use Rattle.heavy.specs.Status.{status_of}
-use Rattle.heavy.specs.declared.records.BadRecordCause.{BadRecordCause}
-use Rattle.heavy.specs.declared.records.BadRecordCause.TheVariants as bad
 use Rattle.heavy.specs.declared.error.MergeCause.{MergeCause}
 use Rattle.heavy.specs.declared.error.MergeCause.TheVariants as merge
 use Rattle.heavy.specs.declared.error.KeyCause.{KeyCause}

@@ -4,8 +4,8 @@ use Rattle.hh_saved.specs.Spelling.{Spells}
 use Rattle.hh_saved.specs.declared.format.Version.TheVariants as version
 use Rattle.hh_saved.specs.declared.saved.Saved.{Saved}
 use Rattle.hh_stream.specs.Weights.{Bytes}
+use Rattle.hh_stream.specs.Ranges.{in_range}
 use Rattle.heavy.specs.Files.{answers_of, merged_files}
-use Rattle.heavy.specs.Limits.{in_range}
 use Rattle.heavy.specs.Saving.{bad_k}
 use Rattle.heavy.specs.declared.error.ToolError.{ToolError}
 use Rattle.heavy.specs.declared.error.ToolError.TheVariants as tool

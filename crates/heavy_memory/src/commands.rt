@@ -1,8 +1,8 @@
 //! The calls of `heavy`.
 
-use crate::lab::{Lab, Said, no_such_call};
+use crate::lab::{Lab, Said, marked, no_such_call};
 use crate::records::{call as record_call, summary_file};
-use crate::show::{Hex, Pairs, Places, Taken};
+use crate::show::{Hex, Taken};
 use heavy::{
     Method, Out, ReportOptions, Share, Sink, ToolError, Tree, ask_bytes, ask_key, ask_keys,
     condense_bytes, confirm_bytes, list_entries, merge_bytes, put, run_report, summary_bytes,
@@ -38,8 +38,7 @@ pub const ROOM: [u8; 256] = [0; 256];
 fn said(lab: &Lab, made: Result<Vec<u8>, ToolError>) -> Result<Said, Fail> {
     match made {
         Err(ToolError::Memory) => lab.refused(),
-        Err(fault) => Err(fault.into()),
-        Ok(bytes) => lab.answer(Hex(bytes.as_slice())),
+        made => lab.answer(Hex(made?.as_slice())),
     }
 }
 
@@ -56,14 +55,9 @@ fn reported<R: Threads + Wait + Sync>(rt: &R, lab: &Lab) -> Result<Said, Fail> {
         seed: 0,
     };
     let mut room = ROOM;
+    let mut out = Out::new(room.as_mut_slice());
     lab.begin();
-    let done = run_report(
-        rt,
-        lab.alloc,
-        &options,
-        text.as_slice(),
-        &mut Out::new(room.as_mut_slice()),
-    );
+    let done = run_report(rt, lab.alloc, &options, text.as_slice(), &mut out);
     lab.end();
     lab.show(Taken(room.as_slice()))?;
     match done {
@@ -75,17 +69,13 @@ fn reported<R: Threads + Wait + Sync>(rt: &R, lab: &Lab) -> Result<Said, Fail> {
 
 fn summary(lab: &Lab, method: Method) -> Result<Said, Fail> {
     let text = lab.text()?;
-    lab.begin();
-    let made = summary_bytes(lab.alloc, 2, method, text.as_slice());
-    lab.end();
+    let made = marked!(lab, summary_bytes(lab.alloc, 2, method, text.as_slice()));
     said(lab, made)
 }
 
 fn table(lab: &Lab) -> Result<Said, Fail> {
     let text = lab.text()?;
-    lab.begin();
-    let made = table_bytes(lab.alloc, 4, 2, 7, text.as_slice());
-    lab.end();
+    let made = marked!(lab, table_bytes(lab.alloc, 4, 2, 7, text.as_slice()));
     said(lab, made)
 }
 
@@ -102,10 +92,7 @@ fn merged(lab: &Lab, are_summaries: bool) -> Result<Said, Fail> {
     if files.is_empty() {
         return Err(Fail::new("no file"));
     }
-    lab.begin();
-    let made = merge_bytes(lab.alloc, files.as_slice());
-    lab.end();
-    said(lab, made)
+    said(lab, marked!(lab, merge_bytes(lab.alloc, &files)))
 }
 
 // A key with a counter, and one without.
@@ -120,65 +107,46 @@ fn two_keys(lab: &Lab) -> Result<Vec<Vec<u8>>, Fail> {
 fn asked(lab: &Lab) -> Result<Said, Fail> {
     let file = summary_file(lab)?;
     let keys = two_keys(lab)?;
-    lab.begin();
-    let made = ask_bytes(lab.alloc, file.as_slice(), keys.as_slice());
-    lab.end();
-    said(lab, made)
+    said(lab, marked!(lab, ask_bytes(lab.alloc, &file, &keys)))
 }
 
 fn asked_one(lab: &Lab) -> Result<Said, Fail> {
     let file = summary_file(lab)?;
     let key = lab.bytes(b'a')?;
-    lab.begin();
-    let made = ask_key(lab.alloc, file.as_slice(), key.as_slice());
-    lab.end();
-    match made {
+    match marked!(lab, ask_key(lab.alloc, &file, &key)) {
         Err(ToolError::Memory) => lab.refused(),
-        Err(fault) => Err(fault.into()),
-        Ok((low, high)) => lab.answer(format_args!("{low} {high}")),
+        made => lab.answer(format_args!("{:?}", made?)),
     }
 }
 
 fn asked_many(lab: &Lab) -> Result<Said, Fail> {
     let file = summary_file(lab)?;
     let keys = two_keys(lab)?;
-    lab.begin();
-    let made = ask_keys(lab.alloc, file.as_slice(), keys.as_slice());
-    lab.end();
-    match made {
+    match marked!(lab, ask_keys(lab.alloc, &file, &keys)) {
         Err(ToolError::Memory) => lab.refused(),
-        Err(fault) => Err(fault.into()),
-        Ok(pairs) => lab.answer(Pairs(pairs.as_slice())),
+        made => lab.answer(format_args!("{:?}", made?)),
     }
 }
 
 fn listed(lab: &Lab) -> Result<Said, Fail> {
     let file = summary_file(lab)?;
-    lab.begin();
-    let made = list_entries(lab.alloc, file.as_slice());
-    lab.end();
-    match made {
+    match marked!(lab, list_entries(lab.alloc, &file)) {
         Err(ToolError::Memory) => lab.refused(),
-        Err(fault) => Err(fault.into()),
-        Ok(places) => lab.answer(Places(places.as_slice())),
+        made => lab.answer(format_args!("{:?}", made?)),
     }
 }
 
 fn condensed(lab: &Lab) -> Result<Said, Fail> {
     let file = summary_file(lab)?;
     let text = lab.text()?;
-    lab.begin();
-    let made = condense_bytes(lab.alloc, file.as_slice(), text.as_slice());
-    lab.end();
+    let made = marked!(lab, condense_bytes(lab.alloc, &file, text.as_slice()));
     said(lab, made)
 }
 
 fn confirmed(lab: &Lab) -> Result<Said, Fail> {
     let file = summary_file(lab)?;
     let text = lab.text()?;
-    lab.begin();
-    let made = confirm_bytes(lab.alloc, file.as_slice(), text.as_slice());
-    lab.end();
+    let made = marked!(lab, confirm_bytes(lab.alloc, &file, text.as_slice()));
     said(lab, made)
 }
 

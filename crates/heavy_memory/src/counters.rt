@@ -1,6 +1,6 @@
 //! The calls of `hh_counters` on summaries and candidates.
 
-use crate::lab::{Lab, Said, no_such_call};
+use crate::lab::{Lab, Said, marked, no_such_call};
 use crate::monitors;
 use crate::show::{Counters, Numbers, Report};
 use hh_counters::{AddFault, Candidates, MergeFault, OfItemsFault, Summary};
@@ -10,7 +10,8 @@ use std::test::Fail;
 
 pub fn call(lab: &Lab, name: &str) -> Result<Said, Fail> {
     match name {
-        "Summary::add" => summary_add(lab),
+        "Summary::add" => summary_add(lab, false),
+        "Summary::add_bytes" => summary_add(lab, true),
         "Summary::of_items" => summary_of_items(lab),
         "Summary::merge" => summary_merge(lab),
         "Candidates::of" => candidates_of(lab),
@@ -24,21 +25,26 @@ pub fn call(lab: &Lab, name: &str) -> Result<Said, Fail> {
 }
 
 // A newcomer, by which all counters fall, and again where memory was refused.
-fn summary_add(lab: &Lab) -> Result<Said, Fail> {
+fn summary_add(lab: &Lab, as_bytes: bool) -> Result<Said, Fail> {
     let mut summary = lab.summary()?;
     let key = lab.key(b'd')?;
-    match added(lab, &mut summary, &key)? {
+    match added(lab, &mut summary, &key, as_bytes)? {
         Said::Answer => Ok(Said::Answer),
-        Said::Memory => added(lab, &mut summary, &key),
+        Said::Memory => added(lab, &mut summary, &key, as_bytes),
     }
 }
 
-fn added(lab: &Lab, summary: &mut Summary, key: &Key) -> Result<Said, Fail> {
+fn add(summary: &mut Summary, key: &Key, as_bytes: bool) -> Result<(), AddFault> {
+    if as_bytes {
+        summary.add_bytes(key.bytes(), 4)
+    } else {
+        summary.add(key, 4)
+    }
+}
+
+fn added(lab: &Lab, summary: &mut Summary, key: &Key, as_bytes: bool) -> Result<Said, Fail> {
     lab.show(Counters(summary))?;
-    lab.begin();
-    let added = summary.add(key, 4);
-    lab.end();
-    match added {
+    match marked!(lab, add(summary, key, as_bytes)) {
         Ok(()) => lab.answer(Counters(summary)),
         Err(AddFault::Memory) => lab.refused(),
         Err(fault) => Err(fault.into()),
@@ -47,10 +53,7 @@ fn added(lab: &Lab, summary: &mut Summary, key: &Key) -> Result<Said, Fail> {
 
 fn summary_of_items(lab: &Lab) -> Result<Said, Fail> {
     let stream = lab.stream()?;
-    lab.begin();
-    let made = Summary::of_items(lab.alloc, 2, stream.items());
-    lab.end();
-    match made {
+    match marked!(lab, Summary::of_items(lab.alloc, 2, stream.items())) {
         Err(OfItemsFault::Memory) => lab.refused(),
         made => lab.answer(Counters(&made?)),
     }
@@ -70,10 +73,7 @@ fn summary_merge(lab: &Lab) -> Result<Said, Fail> {
 fn merged(lab: &Lab, summary: &mut Summary, other: &Summary) -> Result<Said, Fail> {
     lab.show(Counters(summary))?;
     lab.show(Counters(other))?;
-    lab.begin();
-    let merged = summary.merge(other);
-    lab.end();
-    match merged {
+    match marked!(lab, summary.merge(other)) {
         Ok(()) => lab.answer(Counters(summary)),
         Err(MergeFault::Memory) => lab.refused(),
         Err(fault) => Err(fault.into()),
@@ -82,21 +82,17 @@ fn merged(lab: &Lab, summary: &mut Summary, other: &Summary) -> Result<Said, Fai
 
 fn candidates_of(lab: &Lab) -> Result<Said, Fail> {
     let summary = lab.summary()?;
-    lab.begin();
-    let made = Candidates::of(lab.alloc, &summary);
-    lab.end();
-    match made {
-        Err(AllocError) => lab.refused(),
-        Ok(candidates) => lab.answer(candidates.len()),
-    }
+    chosen(lab, marked!(lab, Candidates::of(lab.alloc, &summary)))
 }
 
 // Those that can have more than a quarter of the total.
 fn candidates_contenders(lab: &Lab) -> Result<Said, Fail> {
     let summary = lab.summary()?;
-    lab.begin();
-    let made = Candidates::contenders(lab.alloc, &summary, 1, 4);
-    lab.end();
+    let made = marked!(lab, Candidates::contenders(lab.alloc, &summary, 1, 4));
+    chosen(lab, made)
+}
+
+fn chosen(lab: &Lab, made: Result<Candidates, AllocError>) -> Result<Said, Fail> {
     match made {
         Err(AllocError) => lab.refused(),
         Ok(candidates) => lab.answer(candidates.len()),
@@ -109,10 +105,7 @@ fn candidates_select(lab: &Lab) -> Result<Said, Fail> {
     if candidates.len() != 2 {
         return Err(Fail::new("not two candidates"));
     }
-    lab.begin();
-    let made = candidates.select(&[6, 3], 11, 1, 4);
-    lab.end();
-    match made {
+    match marked!(lab, candidates.select(&[6, 3], 11, 1, 4)) {
         Err(AllocError) => lab.refused(),
         Ok(rows) => lab.answer(Report(rows.as_slice())),
     }
@@ -123,17 +116,10 @@ fn summary_readers(lab: &Lab) -> Result<Said, Fail> {
     let summary = lab.summary()?;
     let (a, z) = (lab.key(b'a')?, lab.key(b'z')?);
     lab.begin();
-    let numbers = [
-        summary.k(),
-        summary.total(),
-        summary.sum(),
-        summary.slack(),
-        summary.get(&a),
-        summary.get(&z),
-        first_counter(&summary),
-    ];
+    let of_all = [summary.k(), summary.total(), summary.sum(), summary.slack()];
+    let of_keys = [summary.get(&a), summary.get(&z), first_counter(&summary)];
     lab.end();
-    lab.answer(Numbers(&numbers))
+    lab.answer(format_args!("{of_all:?} {of_keys:?}"))
 }
 
 // The first counter of a summary.

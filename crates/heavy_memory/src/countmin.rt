@@ -1,6 +1,6 @@
 //! The calls of `hh_countmin`.
 
-use crate::lab::{Lab, Said, no_such_call};
+use crate::lab::{Lab, Said, marked, no_such_call};
 use crate::show::{Cells, Numbers, Rows};
 use hh_countmin::{DrawFault, Family, PartsFault, Table, TableFault};
 use hh_stream::Key;
@@ -21,20 +21,14 @@ pub fn call(lab: &Lab, name: &str) -> Result<Said, Fail> {
 }
 
 fn family_draw(lab: &Lab) -> Result<Said, Fail> {
-    lab.begin();
-    let made = Family::draw(lab.alloc, 7, 2);
-    lab.end();
-    match made {
+    match marked!(lab, Family::draw(lab.alloc, 7, 2)) {
         Err(DrawFault::Memory) => lab.refused(),
         made => lab.answer(Rows(&made?)),
     }
 }
 
 fn family_from_parts(lab: &Lab) -> Result<Said, Fail> {
-    lab.begin();
-    let made = Family::from_parts(lab.alloc, 256, &[(1, 0), (3, 1)]);
-    lab.end();
-    match made {
+    match marked!(lab, Family::from_parts(lab.alloc, 256, &[(1, 0), (3, 1)])) {
         Err(PartsFault::Memory) => lab.refused(),
         made => lab.answer(Rows(&made?)),
     }
@@ -42,10 +36,7 @@ fn family_from_parts(lab: &Lab) -> Result<Said, Fail> {
 
 fn family_copy(lab: &Lab) -> Result<Said, Fail> {
     let family = lab.family()?;
-    lab.begin();
-    let made = family.copy();
-    lab.end();
-    match made {
+    match marked!(lab, family.copy()) {
         Err(AllocError) => lab.refused(),
         Ok(copy) => lab.answer(Rows(&copy)),
     }
@@ -53,10 +44,7 @@ fn family_copy(lab: &Lab) -> Result<Said, Fail> {
 
 fn table_new(lab: &Lab) -> Result<Said, Fail> {
     let family = lab.family()?;
-    lab.begin();
-    let made = Table::new(lab.alloc, family, 4);
-    lab.end();
-    match made {
+    match marked!(lab, Table::new(lab.alloc, family, 4)) {
         Err(TableFault::Memory) => lab.refused(),
         made => lab.answer(Cells(&made?)),
     }

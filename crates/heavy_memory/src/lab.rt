@@ -17,6 +17,18 @@ const END: usize = 100_019;
 /// How many bytes a long key has. It takes memory, and a key of one byte takes none.
 const LONG: usize = 40;
 
+/// What a call answers, which is made between its marks.
+macro_rules! marked {
+    ($lab:expr, $call:expr) => {{
+        $lab.begin();
+        let made = $call;
+        $lab.end();
+        made
+    }};
+}
+
+pub(crate) use marked;
+
 /// What a call said.
 #[derive(Clone, Copy, PartialEq, Eq)]
 pub enum Said {

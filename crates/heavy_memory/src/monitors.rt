@@ -1,12 +1,10 @@
-//! The calls of `hh_counters` on the three forms of Space-Saving.
+//! The calls of `hh_counters` on both forms of Space-Saving.
 
 ghost use Rattle.std.specs.Prelude.{◌<◌};
 
-use crate::lab::{Lab, Said, no_such_call};
+use crate::lab::{Lab, Said, marked, no_such_call};
 use crate::show::{Counters, Numbers};
-use hh_counters::{
-    AddFault, BucketSaving, GatheredSaving, Monitor, NewFault, SpaceSaving, monitored_summary,
-};
+use hh_counters::{AddFault, BucketSaving, Monitor, NewFault, SpaceSaving, monitored_summary};
 use hh_stream::{Item, Key};
 use std::alloc::AllocError;
 use std::fmt;
@@ -24,46 +22,25 @@ pub fn call(lab: &Lab, name: &str) -> Result<Said, Fail> {
     }
 }
 
-// The calls on Space-Saving in buckets. The four items give a 6, b 3 and c 2, each in a bucket of
-// its own: with 4 more a newcomer, and c, go into the bucket of a, and with 9 more into a new one.
+// The calls on Space-Saving in buckets. The four items give a 6, b 3 and c 2, where a stands in the
+// bucket of 5: with 3 more than c a newcomer goes into that bucket, and with 4 more into a new one.
 fn bucketed(lab: &Lab, name: &str) -> Result<Said, Fail> {
     match name {
         "BucketSaving::new" => bucket_saving_new(lab),
-        "BucketSaving::add" => added(lab, BucketSaving::new(lab.alloc, 2)?, b'd', 4),
-        "BucketSaving::add new bucket" => added(lab, BucketSaving::new(lab.alloc, 2)?, b'd', 9),
+        "BucketSaving::add" => added(lab, BucketSaving::new(lab.alloc, 2)?, b'd', 3),
+        "BucketSaving::add new bucket" => added(lab, BucketSaving::new(lab.alloc, 2)?, b'd', 4),
+        "BucketSaving::add moving a key" => added(lab, waiting(lab)?, b'd', 4),
         "BucketSaving::add monitored" => added(lab, BucketSaving::new(lab.alloc, 2)?, b'c', 4),
-        "BucketSaving::add monitored new bucket" => added(lab, sharing(lab)?, b'c', 9),
+        "BucketSaving::add_bytes" => bytes_added(lab),
         "BucketSaving::into_summary" => translated(lab, BucketSaving::new(lab.alloc, 2)?),
         "BucketSaving readers" => readers(lab, BucketSaving::new(lab.alloc, 2)?),
-        _ => gathered(lab, name),
-    }
-}
-
-// The calls where hits are gathered. With c in a bucket of 1 before the four items, it moves to
-// that of 3, where b is, before b is dropped.
-fn gathered(lab: &Lab, name: &str) -> Result<Said, Fail> {
-    match name {
-        "GatheredSaving::new" => gathered_saving_new(lab),
-        "GatheredSaving::add" => added(lab, GatheredSaving::new(lab.alloc, 2)?, b'd', 4),
-        "GatheredSaving::add moving a key" => added(lab, waiting(lab)?, b'd', 4),
-        "GatheredSaving::add monitored" => {
-            added(lab, GatheredSaving::new(lab.alloc, 2)?, b'c', 4)
-        }
-        "GatheredSaving::into_summary" => translated(lab, GatheredSaving::new(lab.alloc, 2)?),
-        "GatheredSaving readers" => readers(lab, GatheredSaving::new(lab.alloc, 2)?),
         _ => Err(no_such_call(name)),
     }
 }
 
-// Where c has 1 already.
-fn waiting(lab: &Lab) -> Result<GatheredSaving, Fail> {
-    let mut monitor = GatheredSaving::new(lab.alloc, 2)?;
-    monitor.add(&lab.key(b'c')?, 1)?;
-    Ok(monitor)
-}
-
-// Where c has 1 already, so that the four items bring it into the bucket of b.
-fn sharing(lab: &Lab) -> Result<BucketSaving, Fail> {
+// Where c has 1 already, in the bucket of 1: before b is dropped, c moves to the bucket of 3, where
+// b is.
+fn waiting(lab: &Lab) -> Result<BucketSaving, Fail> {
     let mut monitor = BucketSaving::new(lab.alloc, 2)?;
     monitor.add(&lab.key(b'c')?, 1)?;
     Ok(monitor)
@@ -127,9 +104,39 @@ fn added_once<M: Monitor>(
     requires { 0 < weight }
 {
     show(lab, monitor, keys)?;
-    lab.begin();
-    let added = monitor.add(key, weight);
-    lab.end();
+    let added = marked!(lab, monitor.add(key, weight));
+    told(lab, monitor, keys, added)
+}
+
+// The same by the bytes of the key.
+fn bytes_added(lab: &Lab) -> Result<Said, Fail> {
+    let keys = keys(lab)?;
+    let key = lab.key(b'd')?;
+    let mut monitor = BucketSaving::new(lab.alloc, 2)?;
+    add_all(&mut monitor, lab.stream()?.items())?;
+    match bytes_added_once(lab, &mut monitor, keys.as_slice(), &key)? {
+        Said::Answer => Ok(Said::Answer),
+        Said::Memory => bytes_added_once(lab, &mut monitor, keys.as_slice(), &key),
+    }
+}
+
+fn bytes_added_once(
+    lab: &Lab,
+    monitor: &mut BucketSaving,
+    keys: &[Key],
+    key: &Key,
+) -> Result<Said, Fail> {
+    show(lab, monitor, keys)?;
+    let added = marked!(lab, monitor.add_bytes(key.bytes(), 4));
+    told(lab, monitor, keys, added)
+}
+
+fn told<M: Monitor>(
+    lab: &Lab,
+    monitor: &M,
+    keys: &[Key],
+    added: Result<(), AddFault>,
+) -> Result<Said, Fail> {
     match added {
         Ok(()) => lab.answer(Monitored { monitor, keys }),
         Err(AddFault::Memory) => lab.refused(),
@@ -157,10 +164,7 @@ fn translated<M: Monitor>(lab: &Lab, mut monitor: M) -> Result<Said, Fail> {
 // The monitor, handed back where memory was refused.
 fn translated_once<M: Monitor>(lab: &Lab, monitor: M, keys: &[Key]) -> Result<Option<M>, Fail> {
     show(lab, &monitor, keys)?;
-    lab.begin();
-    let made = monitor.into_summary();
-    lab.end();
-    match made {
+    match marked!(lab, monitor.into_summary()) {
         Ok(summary) => {
             let _said = lab.answer(Counters(&summary))?;
             Ok(None)
@@ -173,20 +177,7 @@ fn translated_once<M: Monitor>(lab: &Lab, monitor: M, keys: &[Key]) -> Result<Op
 }
 
 fn bucket_saving_new(lab: &Lab) -> Result<Said, Fail> {
-    lab.begin();
-    let made = BucketSaving::new(lab.alloc, 2);
-    lab.end();
-    match made {
-        Err(NewFault::Memory) => lab.refused(),
-        made => lab.answer(made?.total()),
-    }
-}
-
-fn gathered_saving_new(lab: &Lab) -> Result<Said, Fail> {
-    lab.begin();
-    let made = GatheredSaving::new(lab.alloc, 2);
-    lab.end();
-    match made {
+    match marked!(lab, BucketSaving::new(lab.alloc, 2)) {
         Err(NewFault::Memory) => lab.refused(),
         made => lab.answer(made?.total()),
     }
@@ -195,19 +186,14 @@ fn gathered_saving_new(lab: &Lab) -> Result<Said, Fail> {
 fn summarised(lab: &Lab) -> Result<Said, Fail> {
     let stream = lab.stream()?;
     let monitor = BucketSaving::new(lab.alloc, 2)?;
-    lab.begin();
-    let made = monitored_summary(monitor, stream.items());
-    lab.end();
-    match made {
+    match marked!(lab, monitored_summary(monitor, stream.items())) {
         Err(AllocError) => lab.refused(),
         Ok(summary) => lab.answer(Counters(&summary)),
     }
 }
 
 fn space_saving_new(lab: &Lab) -> Result<Said, Fail> {
-    lab.begin();
-    let made = SpaceSaving::new(lab.alloc, 2)?;
-    lab.end();
+    let made = marked!(lab, SpaceSaving::new(lab.alloc, 2)?);
     lab.answer(made.total())
 }
 

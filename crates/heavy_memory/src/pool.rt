@@ -1,6 +1,6 @@
 //! The calls of `hh_pool`.
 
-use crate::lab::{Lab, Said, no_such_call};
+use crate::lab::{Lab, Said, marked, no_such_call};
 use crate::show::{Cells, Counters, Numbers, Report};
 use hh_counters::{Candidates, MergeFault, Summary};
 use hh_pool::{
@@ -18,8 +18,8 @@ use std::thread::Threads;
 
 pub fn call<R: Threads + Wait + Sync>(rt: &R, lab: &Lab, name: &str) -> Result<Said, Fail> {
     match name {
-        "Plan::chain" => plan_chain(lab),
-        "Plan::balanced" => plan_balanced(lab),
+        "Plan::chain" => planned(lab, marked!(lab, Plan::chain(lab.alloc, 4))),
+        "Plan::balanced" => planned(lab, marked!(lab, Plan::balanced(lab.alloc, 4))),
         "Plan::parse" => plan_parse(lab),
         "merge_by" => merged(lab),
         "first_pass" => first(lab),
@@ -31,20 +31,7 @@ pub fn call<R: Threads + Wait + Sync>(rt: &R, lab: &Lab, name: &str) -> Result<S
     }
 }
 
-fn plan_chain(lab: &Lab) -> Result<Said, Fail> {
-    lab.begin();
-    let made = Plan::chain(lab.alloc, 4);
-    lab.end();
-    match made {
-        Err(AllocError) => lab.refused(),
-        Ok(plan) => lab.answer(plan.count()),
-    }
-}
-
-fn plan_balanced(lab: &Lab) -> Result<Said, Fail> {
-    lab.begin();
-    let made = Plan::balanced(lab.alloc, 4);
-    lab.end();
+fn planned(lab: &Lab, made: Result<Plan, AllocError>) -> Result<Said, Fail> {
     match made {
         Err(AllocError) => lab.refused(),
         Ok(plan) => lab.answer(plan.count()),
@@ -52,10 +39,7 @@ fn plan_balanced(lab: &Lab) -> Result<Said, Fail> {
 }
 
 fn plan_parse(lab: &Lab) -> Result<Said, Fail> {
-    lab.begin();
-    let made = Plan::parse(lab.alloc, b"((0 3) (1 2))", 4);
-    lab.end();
-    match made {
+    match marked!(lab, Plan::parse(lab.alloc, b"((0 3) (1 2))", 4)) {
         Err(PlanFault::Memory) => lab.refused(),
         made => lab.answer(made?.count()),
     }
@@ -82,10 +66,7 @@ fn merged(lab: &Lab) -> Result<Said, Fail> {
     if summaries.len() != plan.count() {
         return Err(Fail::new("not two summaries"));
     }
-    lab.begin();
-    let made = merge_by(lab.alloc, &plan, summaries);
-    lab.end();
-    match made {
+    match marked!(lab, merge_by(lab.alloc, &plan, summaries)) {
         Err(MergeFault::Memory) => lab.refused(),
         made => lab.answer(Counters(&made?)),
     }
@@ -176,19 +157,17 @@ fn outcome<R: Threads + Wait + Sync, G: Gate + Sync>(
     task: &Task,
     gate: &G,
 ) -> Result<Option<Outcome>, Fail> {
-    if task.cutting.len() != task.stream.len() {
+    let Task {
+        stream,
+        cutting,
+        plan,
+        options,
+    } = task;
+    if cutting.len() != stream.len() {
         return Err(Fail::new("not the stream's cutting"));
     }
     lab.begin();
-    let done = analyse(
-        rt,
-        lab.alloc,
-        &task.stream,
-        &task.cutting,
-        &task.plan,
-        &task.options,
-        gate,
-    );
+    let done = analyse(rt, lab.alloc, stream, cutting, plan, options, gate);
     lab.end();
     match done {
         Ok(outcome) => Ok(Some(outcome)),

@@ -1,7 +1,7 @@
 //! The calls of `heavy` on streams and rows.
 
 use crate::commands::ROOM;
-use crate::lab::{Lab, Said, no_such_call};
+use crate::lab::{Lab, Said, marked, no_such_call};
 use crate::show::{Hex, Items, Report, Taken};
 use heavy::{
     ConfirmFault, Heavy, Method, Out, ReadError, ReportFault, confirm, read_stream, report_text,
@@ -36,10 +36,7 @@ fn rows(lab: &Lab) -> Result<Vec<Heavy>, Fail> {
 
 fn read(lab: &Lab) -> Result<Said, Fail> {
     let text = lab.text()?;
-    lab.begin();
-    let made = read_stream(lab.alloc, text.as_slice());
-    lab.end();
-    match made {
+    match marked!(lab, read_stream(lab.alloc, text.as_slice())) {
         Err(ReadError::Memory) => lab.refused(),
         made => lab.answer(Items(made?.items())),
     }
@@ -47,10 +44,7 @@ fn read(lab: &Lab) -> Result<Said, Fail> {
 
 fn text(lab: &Lab) -> Result<Said, Fail> {
     let rows = rows(lab)?;
-    lab.begin();
-    let made = report_text(lab.alloc, rows.as_slice());
-    lab.end();
-    match made {
+    match marked!(lab, report_text(lab.alloc, rows.as_slice())) {
         Err(AllocError) => lab.refused(),
         Ok(text) => lab.answer(Hex(text.as_slice())),
     }
@@ -59,14 +53,8 @@ fn text(lab: &Lab) -> Result<Said, Fail> {
 fn written(lab: &Lab) -> Result<Said, Fail> {
     let rows = rows(lab)?;
     let mut room = ROOM;
-    lab.begin();
-    let done = write_report(
-        lab.alloc,
-        &mut Out::new(room.as_mut_slice()),
-        rows.as_slice(),
-    );
-    lab.end();
-    match done {
+    let mut out = Out::new(room.as_mut_slice());
+    match marked!(lab, write_report(lab.alloc, &mut out, &rows)) {
         Err(ReportFault::Memory) if room[0] == 0 => lab.refused(),
         Err(fault) => Err(fault.into()),
         Ok(()) => lab.answer(Taken(room.as_slice())),
@@ -92,10 +80,7 @@ fn confirmed_many(lab: &Lab) -> Result<Said, Fail> {
 
 // What confirming a summary answered.
 fn said(lab: &Lab, summary: &Summary, stream: &Stream) -> Result<Said, Fail> {
-    lab.begin();
-    let made = confirm(lab.alloc, summary, stream);
-    lab.end();
-    match made {
+    match marked!(lab, confirm(lab.alloc, summary, stream)) {
         Err(ConfirmFault::Memory) => lab.refused(),
         made => lab.answer(Report(made?.as_slice())),
     }

@@ -1,7 +1,7 @@
 //! The calls of `hh_saved`.
 
-use crate::lab::{Lab, Said, no_such_call};
-use crate::show::{Cells, Counters, Hex, Places};
+use crate::lab::{Lab, Said, marked, no_such_call};
+use crate::show::{Cells, Counters, Hex};
 use hh_countmin::Table;
 use hh_saved::{Saved, SavedFault, places, read, write};
 use std::alloc::AllocError;
@@ -27,10 +27,7 @@ fn table(lab: &Lab) -> Result<Saved, Fail> {
 }
 
 fn written(lab: &Lab, saved: Saved) -> Result<Said, Fail> {
-    lab.begin();
-    let made = write(lab.alloc, &saved);
-    lab.end();
-    match made {
+    match marked!(lab, write(lab.alloc, &saved)) {
         Err(AllocError) => lab.refused(),
         Ok(bytes) => lab.answer(Hex(bytes.as_slice())),
     }
@@ -38,10 +35,7 @@ fn written(lab: &Lab, saved: Saved) -> Result<Said, Fail> {
 
 fn found(lab: &Lab, saved: Saved) -> Result<Said, Fail> {
     let bytes = write(lab.alloc, &saved)?;
-    lab.begin();
-    let made = read(lab.alloc, bytes.as_slice());
-    lab.end();
-    match made {
+    match marked!(lab, read(lab.alloc, bytes.as_slice())) {
         Err(SavedFault::Memory) => lab.refused(),
         Err(fault) => Err(fault.into()),
         Ok(Saved::Counters(summary)) => lab.answer(Counters(&summary)),
@@ -54,21 +48,15 @@ fn placed(lab: &Lab) -> Result<Said, Fail> {
     let Saved::Counters(summary) = read(lab.alloc, bytes.as_slice())? else {
         return Err(Fail::new("another kind was read"));
     };
-    lab.begin();
-    let made = places(lab.alloc, bytes.as_slice(), &summary);
-    lab.end();
-    match made {
+    match marked!(lab, places(lab.alloc, bytes.as_slice(), &summary)) {
         Err(AllocError) => lab.refused(),
-        Ok(places) => lab.answer(Places(places.as_slice())),
+        Ok(places) => lab.answer(format_args!("{places:?}")),
     }
 }
 
 // Bytes whose fault stands before any growth.
 fn refused(lab: &Lab, bytes: &[u8]) -> Result<Said, Fail> {
-    lab.begin();
-    let made = read(lab.alloc, bytes);
-    lab.end();
-    match made {
+    match marked!(lab, read(lab.alloc, bytes)) {
         Err(SavedFault::Memory) => lab.refused(),
         Err(fault) => lab.answer(fault),
         Ok(_) => Err(Fail::new("truncated bytes were read")),

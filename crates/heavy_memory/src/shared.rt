@@ -1,6 +1,6 @@
 //! The calls of `hh_shared`.
 
-use crate::lab::{Lab, Said, no_such_call};
+use crate::lab::{Lab, Said, marked, no_such_call};
 use hh_shared::SharedSums;
 use std::alloc::AllocError;
 use std::test::Fail;
@@ -15,10 +15,7 @@ pub fn call(lab: &Lab, name: &str) -> Result<Said, Fail> {
 }
 
 fn sums_new(lab: &Lab) -> Result<Said, Fail> {
-    lab.begin();
-    let made = SharedSums::new(lab.alloc, 2, 3);
-    lab.end();
-    match made {
+    match marked!(lab, SharedSums::new(lab.alloc, 2, 3)) {
         Err(AllocError) => lab.refused(),
         Ok((sums, seat)) => lab.answer(sums.holds_all(&seat)),
     }
@@ -32,10 +29,7 @@ fn sums_close(lab: &Lab) -> Result<Said, Fail> {
     if !sums.holds_all(&seat) {
         return Err(Fail::new("the only claim is not held"));
     }
-    lab.begin();
-    let made = sums.close(seat);
-    lab.end();
-    match made {
+    match marked!(lab, sums.close(seat)) {
         Err(AllocError) => lab.refused(),
         Ok(cells) => lab.answer(format_args!("{cells:?}")),
     }

@@ -1,6 +1,6 @@
 //! How values are printed.
 
-use heavy::{Heavy, Place};
+use heavy::Heavy;
 use hh_counters::Summary;
 use hh_countmin::{Family, Table};
 use hh_stream::Item;
@@ -27,32 +27,6 @@ impl fmt::Display for Numbers<'_> {
     fn fmt<W: fmt::Write>(&self, f: &mut fmt::Formatter<W>) -> fmt::Result {
         for number in self.0 {
             write!(f, "{number} ")?;
-        }
-        Ok(())
-    }
-}
-
-/// Pairs of numbers.
-#[derive(Clone, Copy)]
-pub struct Pairs<'a>(pub &'a [(u64, u64)]);
-
-impl fmt::Display for Pairs<'_> {
-    fn fmt<W: fmt::Write>(&self, f: &mut fmt::Formatter<W>) -> fmt::Result {
-        for pair in self.0 {
-            write!(f, "{} {} ", pair.0, pair.1)?;
-        }
-        Ok(())
-    }
-}
-
-/// Where entries lie in a file.
-#[derive(Clone, Copy)]
-pub struct Places<'a>(pub &'a [Place]);
-
-impl fmt::Display for Places<'_> {
-    fn fmt<W: fmt::Write>(&self, f: &mut fmt::Formatter<W>) -> fmt::Result {
-        for place in self.0 {
-            write!(f, "{} {} {} ", place.start, place.len, place.counter)?;
         }
         Ok(())
     }

@@ -1,6 +1,6 @@
 //! The calls of `hh_stream`.
 
-use crate::lab::{Lab, Said, no_such_call};
+use crate::lab::{Lab, Said, marked, no_such_call};
 use crate::show::{Hex, Items};
 use hh_stream::{Cutting, CuttingFault, Item, Key, KeyFault, PushFault, PushRefused, Stream};
 use std::alloc::AllocError;
@@ -9,10 +9,16 @@ use std::test::Fail;
 pub fn call(lab: &Lab, name: &str) -> Result<Said, Fail> {
     match name {
         "Key::new" => key_new(lab),
+        "Key::of_bytes" => key_of_bytes(lab),
         "Key::copy" => key_copy(lab),
         "Stream::push" => stream_push(lab),
-        "Cutting::even" => cutting_even(lab),
-        "Cutting::by_lengths" => cutting_by_lengths(lab),
+        "Cutting::even" => cut(lab, marked!(lab, Cutting::even(lab.alloc, 10, 4))),
+        "Cutting::by_lengths" => {
+            cut(
+                lab,
+                marked!(lab, Cutting::by_lengths(lab.alloc, 10, &[3, 0, 7])),
+            )
+        }
         "readers" => readers(lab),
         _ => Err(no_such_call(name)),
     }
@@ -20,20 +26,23 @@ pub fn call(lab: &Lab, name: &str) -> Result<Said, Fail> {
 
 fn key_new(lab: &Lab) -> Result<Said, Fail> {
     let bytes = lab.bytes(b'a')?;
-    lab.begin();
-    let made = Key::new(lab.alloc, bytes.as_slice());
-    lab.end();
-    match made {
+    match marked!(lab, Key::new(lab.alloc, bytes.as_slice())) {
         Err(KeyFault::Memory) => lab.refused(),
         made => lab.answer(Hex(made?.bytes())),
     }
 }
 
+fn key_of_bytes(lab: &Lab) -> Result<Said, Fail> {
+    let key = lab.key(b'a')?;
+    copied(lab, marked!(lab, Key::of_bytes(lab.alloc, key.bytes())))
+}
+
 fn key_copy(lab: &Lab) -> Result<Said, Fail> {
     let key = lab.key(b'a')?;
-    lab.begin();
-    let made = key.copy();
-    lab.end();
+    copied(lab, marked!(lab, key.copy()))
+}
+
+fn copied(lab: &Lab, made: Result<Key, AllocError>) -> Result<Said, Fail> {
     match made {
         Err(AllocError) => lab.refused(),
         Ok(copy) => lab.answer(Hex(copy.bytes())),
@@ -56,10 +65,7 @@ fn stream_push(lab: &Lab) -> Result<Said, Fail> {
 fn pushed(lab: &Lab, stream: &mut Stream, key: Key) -> Result<Option<Key>, Fail> {
     lab.show(Items(stream.items()))?;
     lab.show(Hex(key.bytes()))?;
-    lab.begin();
-    let pushed = stream.push(key, 4);
-    lab.end();
-    match pushed {
+    match marked!(lab, stream.push(key, 4)) {
         Ok(()) => {
             lab.show(Items(stream.items()))?;
             let _said = lab.answer(stream.total())?;
@@ -78,20 +84,7 @@ fn pushed(lab: &Lab, stream: &mut Stream, key: Key) -> Result<Option<Key>, Fail>
     }
 }
 
-fn cutting_even(lab: &Lab) -> Result<Said, Fail> {
-    lab.begin();
-    let made = Cutting::even(lab.alloc, 10, 4);
-    lab.end();
-    match made {
-        Err(CuttingFault::Memory) => lab.refused(),
-        made => lab.answer(made?.count()),
-    }
-}
-
-fn cutting_by_lengths(lab: &Lab) -> Result<Said, Fail> {
-    lab.begin();
-    let made = Cutting::by_lengths(lab.alloc, 10, &[3, 0, 7]);
-    lab.end();
+fn cut(lab: &Lab, made: Result<Cutting, CuttingFault>) -> Result<Said, Fail> {
     match made {
         Err(CuttingFault::Memory) => lab.refused(),
         made => lab.answer(made?.count()),

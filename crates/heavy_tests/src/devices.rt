@@ -3,15 +3,30 @@
 use std::io;
 use std::io::{Error, ErrorKind, Read, Write};
 
-/// A reader of bytes that gives at most so many at a time, counts its reads, and fails at the one
-/// with a number, from 1 on.
+/// A reader of bytes that gives at most four at a time, counts its reads, and fails at the one with
+/// a number, from 1 on.
 #[derive(Drop)]
 pub(crate) struct Source<'a> {
-    pub(crate) bytes: &'a [u8],
-    pub(crate) at_once: usize,
-    pub(crate) reads: &'a mut u64,
-    pub(crate) fails_at: u64,
-    pub(crate) fault: ErrorKind,
+    bytes: &'a [u8],
+    reads: &'a mut u64,
+    fails_at: u64,
+    fault: ErrorKind,
+}
+
+impl<'a> Source<'a> {
+    pub(crate) fn new(
+        bytes: &'a [u8],
+        reads: &'a mut u64,
+        fails_at: u64,
+        fault: ErrorKind,
+    ) -> Source<'a> {
+        Source {
+            bytes,
+            reads,
+            fails_at,
+            fault,
+        }
+    }
 }
 
 impl Read for Source<'_> {
@@ -20,7 +35,7 @@ impl Read for Source<'_> {
         if *self.reads == self.fails_at {
             return Err(Error::from(self.fault));
         }
-        let count = self.bytes.len().min(self.at_once).min(buf.len());
+        let count = self.bytes.len().min(4).min(buf.len());
         buf[..count].copy_from_slice(&self.bytes[..count]);
         self.bytes = &self.bytes[count..];
         Ok(count)

@@ -1,17 +1,23 @@
 //! The texts of faults, and their exit statuses.
 
+use heavy::BadRecordCause::{BadWeight, EmptyKey, FieldCount, KeyTooLong, ZeroWeight};
 use heavy::{
     BadRecordCause, ConfirmFault, KeyCause, MergeCause, ReadError, ReportFault, SinkFault,
     ToolError, TreeFault, WriteFault,
 };
-use hh_counters::{AddFault, BadK, NewFault, OfItemsFault};
+use hh_counters::{AddFault, BadK, MergeFault, NewFault, OfItemsFault};
+use hh_countmin::MergeFault::{DifferentFamily, DifferentWidth};
+use hh_countmin::PartsFault::BadCoefficient;
 use hh_countmin::{DrawFault, PartsFault, TableFault, TotalTooLarge};
 use hh_pool::{OptionsFault, PlanFault, RunError};
 use hh_saved::SavedFault;
+use hh_stream::CuttingFault::{NoPieces, TooManyPieces};
 use hh_stream::{CuttingFault, KeyFault, PushFault};
 use std::fmt::Display;
 use std::process::Abort;
 use std::test::Fail;
+
+const TOTAL: &str = "the total would be above 2^63 - 1";
 
 /// Compares what a fault prints and its exit status with these.
 fn shows(
@@ -34,15 +40,12 @@ fn faults_of_usage(rt: HostRuntime) -> Result<(), Fail> {
         (ToolError::BadWidth, "width must be 1 to 65536"),
         (ToolError::BadPieces, "pieces must be 1 to 1024"),
         (ToolError::BadMethod, "method must be mg or ss"),
-        (
-            ToolError::BadThreshold,
-            "threshold must be P/Q with 1 <= P <= Q <= 4294967296 and P*(K+1) >= Q",
-        ),
     ];
     for (fault, text) in faults {
         shows(&rt, fault, text, 2)?;
     }
-    Ok(())
+    let threshold = "threshold must be P/Q with 1 <= P <= Q <= 4294967296 and P*(K+1) >= Q";
+    shows(&rt, ToolError::BadThreshold, threshold, 2)
 }
 
 #[test]
@@ -62,32 +65,21 @@ fn faults_of_trees(rt: HostRuntime) -> Result<(), Fail> {
 #[test]
 fn faults_of_devices(rt: HostRuntime) -> Result<(), Fail> {
     shows(&rt, ToolError::ReadFault, "input could not be read", 1)?;
-    shows(
-        &rt,
-        ToolError::WriteFault { written: 3 },
-        "output could not be written",
-        1,
-    )?;
-    shows(
-        &rt,
-        ToolError::FileFault { number: 2 },
-        "file 2: could not be read",
-        1,
-    )?;
+    let write_fault = ToolError::WriteFault { written: 3 };
+    shows(&rt, write_fault, "output could not be written", 1)?;
+    let file_fault = ToolError::FileFault { number: 2 };
+    shows(&rt, file_fault, "file 2: could not be read", 1)?;
     shows(&rt, ToolError::Memory, "out of memory", 4)
 }
 
 #[test]
 fn faults_of_records(rt: HostRuntime) -> Result<(), Fail> {
     let causes = [
-        (
-            BadRecordCause::FieldCount,
-            "record 2: wrong number of fields",
-        ),
-        (BadRecordCause::EmptyKey, "record 2: empty key"),
-        (BadRecordCause::KeyTooLong, "record 2: key too long"),
-        (BadRecordCause::BadWeight, "record 2: bad weight"),
-        (BadRecordCause::ZeroWeight, "record 2: zero weight"),
+        (FieldCount, "record 2: wrong number of fields"),
+        (EmptyKey, "record 2: empty key"),
+        (KeyTooLong, "record 2: key too long"),
+        (BadWeight, "record 2: bad weight"),
+        (ZeroWeight, "record 2: zero weight"),
         (BadRecordCause::TotalTooLarge, "record 2: total too large"),
     ];
     for (cause, text) in causes {
@@ -132,37 +124,25 @@ fn faults_between_files(rt: HostRuntime) -> Result<(), Fail> {
     for (cause, text) in causes {
         shows(&rt, ToolError::CannotMerge { number: 3, cause }, text, 3)?;
     }
-    shows(
-        &rt,
-        ToolError::MixedKinds { number: 3 },
-        "file 3: another kind",
-        3,
-    )
+    let mixed_kinds = ToolError::MixedKinds { number: 3 };
+    shows(&rt, mixed_kinds, "file 3: another kind", 3)
 }
 
 #[test]
 fn faults_of_summaries_and_keys(rt: HostRuntime) -> Result<(), Fail> {
-    let empty = ToolError::BadKey {
-        number: 2,
-        cause: KeyCause::Empty,
-    };
-    let long = ToolError::BadKey {
-        number: 1,
-        cause: KeyCause::TooLong,
-    };
-    let faults = [
-        (empty, "key 2: empty"),
-        (long, "key 1: too long"),
-        (ToolError::NotCounters, "file 1: not a counter summary"),
-        (
-            ToolError::TotalDiffers,
-            "file 1: its total is not the input's",
-        ),
-    ];
-    for (fault, text) in faults {
-        shows(&rt, fault, text, 3)?;
-    }
-    Ok(())
+    let (number, cause) = (2, KeyCause::Empty);
+    shows(&rt, ToolError::BadKey { number, cause }, "key 2: empty", 3)?;
+    let (number, cause) = (1, KeyCause::TooLong);
+    shows(
+        &rt,
+        ToolError::BadKey { number, cause },
+        "key 1: too long",
+        3,
+    )?;
+    let kind = "file 1: not a counter summary";
+    shows(&rt, ToolError::NotCounters, kind, 3)?;
+    let total = "file 1: its total is not the input's";
+    shows(&rt, ToolError::TotalDiffers, total, 3)
 }
 
 /// Compares what a fault prints with this.
@@ -181,22 +161,10 @@ fn faults_of_streams(rt: HostRuntime) -> Result<(), Fail> {
     tells(&rt, KeyFault::TooLong, "a key has at most 4096 bytes")?;
     tells(&rt, KeyFault::Memory, "out of memory")?;
     tells(&rt, PushFault::ZeroWeight, "a weight is at least 1")?;
-    tells(
-        &rt,
-        PushFault::TotalTooLarge,
-        "the total would be above 2^63 - 1",
-    )?;
+    tells(&rt, PushFault::TotalTooLarge, TOTAL)?;
     tells(&rt, PushFault::Memory, "out of memory")?;
-    tells(
-        &rt,
-        CuttingFault::NoPieces,
-        "a cutting has at least 1 piece",
-    )?;
-    tells(
-        &rt,
-        CuttingFault::TooManyPieces,
-        "a cutting has at most 1024 pieces",
-    )?;
+    tells(&rt, NoPieces, "a cutting has at least 1 piece")?;
+    tells(&rt, TooManyPieces, "a cutting has at most 1024 pieces")?;
     let sum = "the lengths do not add up to the number of items";
     tells(&rt, CuttingFault::WrongSum, sum)?;
     tells(&rt, CuttingFault::Memory, "out of memory")
@@ -209,17 +177,15 @@ fn faults_of_summaries(rt: HostRuntime) -> Result<(), Fail> {
     tells(&rt, NewFault::Memory, "out of memory")?;
     tells(&rt, OfItemsFault::BadK, "k must be 1 to 65535")?;
     tells(&rt, OfItemsFault::Memory, "out of memory")?;
+    tells(&rt, AddFault::TotalTooLarge, TOTAL)?;
+    tells(&rt, AddFault::Memory, "out of memory")?;
     tells(
         &rt,
-        AddFault::TotalTooLarge,
-        "the total would be above 2^63 - 1",
+        MergeFault::DifferentK,
+        "the summaries have different k",
     )?;
-    tells(&rt, AddFault::Memory, "out of memory")?;
-    let different_k = hh_counters::MergeFault::DifferentK;
-    tells(&rt, different_k, "the summaries have different k")?;
-    let total = hh_counters::MergeFault::TotalTooLarge;
-    tells(&rt, total, "the total would be above 2^63 - 1")?;
-    tells(&rt, hh_counters::MergeFault::Memory, "out of memory")
+    tells(&rt, MergeFault::TotalTooLarge, TOTAL)?;
+    tells(&rt, MergeFault::Memory, "out of memory")
 }
 
 #[test]
@@ -227,21 +193,18 @@ fn faults_of_tables(rt: HostRuntime) -> Result<(), Fail> {
     tells(&rt, DrawFault::BadDepth, "depth must be 1 to 16")?;
     tells(&rt, DrawFault::Memory, "out of memory")?;
     tells(&rt, PartsFault::BadDepth, "depth must be 1 to 16")?;
-    tells(
-        &rt,
-        PartsFault::BadCoefficient,
-        "a coefficient is out of range",
-    )?;
+    tells(&rt, BadCoefficient, "a coefficient is out of range")?;
     tells(&rt, PartsFault::Memory, "out of memory")?;
     tells(&rt, TableFault::BadWidth, "width must be 1 to 65536")?;
     tells(&rt, TableFault::Memory, "out of memory")?;
-    tells(&rt, TotalTooLarge, "the total would be above 2^63 - 1")?;
-    let family = hh_countmin::MergeFault::DifferentFamily;
-    tells(&rt, family, "the tables have different hash families")?;
-    let width = hh_countmin::MergeFault::DifferentWidth;
-    tells(&rt, width, "the tables have different widths")?;
-    let total = hh_countmin::MergeFault::TotalTooLarge;
-    tells(&rt, total, "the total would be above 2^63 - 1")
+    tells(&rt, TotalTooLarge, TOTAL)?;
+    tells(
+        &rt,
+        DifferentFamily,
+        "the tables have different hash families",
+    )?;
+    tells(&rt, DifferentWidth, "the tables have different widths")?;
+    tells(&rt, hh_countmin::MergeFault::TotalTooLarge, TOTAL)
 }
 
 #[test]
@@ -265,11 +228,8 @@ fn faults_of_analyses(rt: HostRuntime) -> Result<(), Fail> {
 fn faults_of_single_steps(rt: HostRuntime) -> Result<(), Fail> {
     tells(&rt, ReadError::ReadFault, "input could not be read")?;
     let (number, cause) = (7, BadRecordCause::ZeroWeight);
-    tells(
-        &rt,
-        ReadError::BadRecord { number, cause },
-        "record 7: zero weight",
-    )?;
+    let record = ReadError::BadRecord { number, cause };
+    tells(&rt, record, "record 7: zero weight")?;
     tells(&rt, ReadError::Memory, "out of memory")?;
     tells(&rt, SinkFault, "the sink could not do what it was asked")?;
     let written = 3;

@@ -1,10 +1,10 @@
-//! The worked rows on saved files, merged and asked, and each of their fields spoiled.
+//! The worked rows on saved files, merged and asked.
 
 use crate::saved_examples::{
     ANOTHER_FAMILY, ANOTHER_K, ANOTHER_WIDTH, CELLS, CELLS_1, COUNTERS, COUNTERS_1, LARGEST,
-    LARGEST_TOTAL, MERGED, MERGED_1, NO_ITEMS, NO_ITEMS_1, ONE, OTHER_KEYS, OTHER_KEYS_1, TWICE,
-    TWO,
+    LARGEST_TOTAL, MERGED, NO_ITEMS, NO_ITEMS_1, ONE, OTHER_KEYS, OTHER_KEYS_1, TWICE, TWO,
 };
+use heavy::MergeCause::{DifferentFamily, DifferentK, DifferentWidth, TotalTooLarge};
 use heavy::{
     KeyCause, MergeCause, ToolError, ask_bytes, ask_key, ask_keys, list_entries, merge_bytes,
 };
@@ -27,8 +27,16 @@ fn vectors(alloc: Global, parts: &[&[u8]]) -> Result<Vec<Vec<u8>>, Fail> {
     Ok(all)
 }
 
-fn bad_file(number: u64, fault: SavedFault) -> ToolError {
+pub(crate) fn bad_file(number: u64, fault: SavedFault) -> ToolError {
     ToolError::BadFile { number, fault }
+}
+
+fn cannot_merge(cause: MergeCause) -> ToolError {
+    ToolError::CannotMerge { number: 2, cause }
+}
+
+fn mixed_kinds(number: u64) -> ToolError {
+    ToolError::MixedKinds { number }
 }
 
 fn bad_key(number: u64, cause: KeyCause) -> ToolError {
@@ -44,7 +52,7 @@ fn merges(rt: &(impl Abort + AllocGlobal), files: &[&[u8]], spelling: &[u8]) -> 
 }
 
 /// Compares why the files are not merged with a fault.
-fn is_unmerged(
+pub(crate) fn is_unmerged(
     rt: &(impl Abort + AllocGlobal),
     files: &[&[u8]],
     fault: ToolError,
@@ -66,8 +74,8 @@ fn asked(
 }
 
 #[test]
-fn summaries_merge_to_one_spelling(rt: HostRuntime) -> Result<(), Fail> {
-    let rows: [(&[&[u8]], &[u8]); 10] = [
+fn files_merge_to_one_spelling(rt: HostRuntime) -> Result<(), Fail> {
+    let rows: [(&[&[u8]], &[u8]); 13] = [
         (&[COUNTERS], COUNTERS),
         (&[COUNTERS_1], COUNTERS),
         (&[NO_ITEMS_1], NO_ITEMS),
@@ -78,6 +86,9 @@ fn summaries_merge_to_one_spelling(rt: HostRuntime) -> Result<(), Fail> {
         (&[COUNTERS_1, OTHER_KEYS], MERGED),
         (&[COUNTERS_1, OTHER_KEYS_1], MERGED),
         (&[COUNTERS, NO_ITEMS, OTHER_KEYS], MERGED),
+        (&[CELLS], CELLS),
+        (&[CELLS_1], CELLS),
+        (&[ONE, ONE], TWO),
     ];
     for (files, spelling) in rows {
         merges(&rt, files, spelling)?;
@@ -86,165 +97,21 @@ fn summaries_merge_to_one_spelling(rt: HostRuntime) -> Result<(), Fail> {
 }
 
 #[test]
-fn tables_merge_to_one_spelling(rt: HostRuntime) -> Result<(), Fail> {
-    merges(&rt, &[CELLS], CELLS)?;
-    merges(&rt, &[CELLS_1], CELLS)?;
-    merges(&rt, &[ONE, ONE], TWO)
-}
-
-#[test]
-fn files_of_another_kind(rt: HostRuntime) -> Result<(), Fail> {
-    let number = 2;
-    is_unmerged(&rt, &[COUNTERS, CELLS], ToolError::MixedKinds { number })?;
-    is_unmerged(
-        &rt,
-        &[COUNTERS, CELLS, b"H"],
-        ToolError::MixedKinds { number },
-    )?;
-    let number = 3;
-    is_unmerged(
-        &rt,
-        &[CELLS, CELLS, COUNTERS],
-        ToolError::MixedKinds { number },
-    )
-}
-
-#[test]
 fn files_that_are_not_merged(rt: HostRuntime) -> Result<(), Fail> {
-    let rows: [(&[u8], &[u8], MergeCause); 5] = [
-        (COUNTERS, ANOTHER_K, MergeCause::DifferentK),
-        (COUNTERS, LARGEST_TOTAL, MergeCause::TotalTooLarge),
-        (CELLS, ANOTHER_FAMILY, MergeCause::DifferentFamily),
-        (ONE, ANOTHER_WIDTH, MergeCause::DifferentWidth),
-        (ONE, LARGEST, MergeCause::TotalTooLarge),
+    let rows: [(&[&[u8]], ToolError); 10] = [
+        (&[COUNTERS, CELLS], mixed_kinds(2)),
+        (&[COUNTERS, CELLS, b"H"], mixed_kinds(2)),
+        (&[CELLS, CELLS, COUNTERS], mixed_kinds(3)),
+        (&[COUNTERS, ANOTHER_K], cannot_merge(DifferentK)),
+        (&[COUNTERS, LARGEST_TOTAL], cannot_merge(TotalTooLarge)),
+        (&[CELLS, ANOTHER_FAMILY], cannot_merge(DifferentFamily)),
+        (&[ONE, ANOTHER_WIDTH], cannot_merge(DifferentWidth)),
+        (&[ONE, LARGEST], cannot_merge(TotalTooLarge)),
+        (&[COUNTERS, b"H"], bad_file(2, SavedFault::Truncated)),
+        (&[b"HHS3", CELLS, b"H"], bad_file(1, SavedFault::BadMagic)),
     ];
-    for (first, second, cause) in rows {
-        is_unmerged(
-            &rt,
-            &[first, second],
-            ToolError::CannotMerge { number: 2, cause },
-        )?;
-    }
-    Ok(())
-}
-
-#[test]
-fn files_that_are_no_spelling(rt: HostRuntime) -> Result<(), Fail> {
-    is_unmerged(&rt, &[COUNTERS, b"H"], bad_file(2, SavedFault::Truncated))?;
-    is_unmerged(
-        &rt,
-        &[b"HHS3", CELLS, b"H"],
-        bad_file(1, SavedFault::BadMagic),
-    )
-}
-
-/// Compares the fault of a file with a field at a place that is merged as the second.
-fn is_spoiled(
-    rt: &(impl Abort + AllocGlobal),
-    file: &[u8],
-    at: usize,
-    field: &[u8],
-    fault: SavedFault,
-) -> Result<(), Fail> {
-    let mut spoiled = file.to_vec(rt.alloc())?;
-    for (place, byte) in spoiled.iter_mut().skip(at).zip(field) {
-        *place = *byte;
-    }
-    is_unmerged(rt, &[file, &spoiled], bad_file(2, fault))
-}
-
-#[test]
-fn summaries_with_a_spoiled_field(rt: HostRuntime) -> Result<(), Fail> {
-    let fields: [(usize, &[u8], SavedFault); 9] = [
-        (0, b"\x49", SavedFault::BadMagic),
-        (4, b"\x03", SavedFault::BadKind),
-        (5, b"\x00\x00", SavedFault::BadK),
-        (7, b"\x80", SavedFault::TotalTooLarge),
-        (15, b"\x00\x03", SavedFault::BadCount),
-        (17, b"\x00", SavedFault::BadKey),
-        (28, b"a", SavedFault::KeyOrder),
-        (36, b"\x00", SavedFault::BadCounter),
-        (26, b"\x0b", SavedFault::SumTooLarge),
-    ];
-    for (at, field, fault) in fields {
-        is_spoiled(&rt, COUNTERS_1, at, field, fault)?;
-    }
-    Ok(())
-}
-
-#[test]
-fn summaries_of_version_2_with_a_spoiled_field(rt: HostRuntime) -> Result<(), Fail> {
-    let fields: [(usize, &[u8], SavedFault); 12] = [
-        (3, b"1", SavedFault::BadKey),
-        (3, b"3", SavedFault::BadMagic),
-        (4, b"\x03", SavedFault::BadKind),
-        (5, b"\x00\x00", SavedFault::BadK),
-        (7, b"\x80", SavedFault::TotalTooLarge),
-        (15, b"\x00\x03", SavedFault::BadCount),
-        (17, b"\x00\x00", SavedFault::BadKey),
-        (17, b"\x10\x01", SavedFault::BadKey),
-        (17, b"\x10\x00", SavedFault::Truncated),
-        (30, b"a", SavedFault::KeyOrder),
-        (38, b"\x00", SavedFault::BadCounter),
-        (27, b"\x0b", SavedFault::SumTooLarge),
-    ];
-    for (at, field, fault) in fields {
-        is_spoiled(&rt, COUNTERS, at, field, fault)?;
-    }
-    Ok(())
-}
-
-#[test]
-fn tables_with_a_spoiled_field(rt: HostRuntime) -> Result<(), Fail> {
-    let fields: [(usize, &[u8], SavedFault); 9] = [
-        (5, b"\x00\x00\x00\x00", SavedFault::BadWidth),
-        (5, b"\x00\x01\x00\x01", SavedFault::BadWidth),
-        (9, b"\x00", SavedFault::BadDepth),
-        (9, b"\x11", SavedFault::BadDepth),
-        (16, b"\x00", SavedFault::BadCoefficient),
-        (25, b"\x00", SavedFault::BadCoefficient),
-        (
-            26,
-            b"\x1f\xff\xff\xff\xff\xff\xff\xff",
-            SavedFault::BadCoefficient,
-        ),
-        (81, b"\x06", SavedFault::RowSum),
-        (57, b"\x09", SavedFault::RowSum),
-    ];
-    for (at, field, fault) in fields {
-        is_spoiled(&rt, CELLS, at, field, fault)?;
-        is_spoiled(&rt, CELLS_1, at, field, fault)?;
-    }
-    Ok(())
-}
-
-// A file of each kind in both versions.
-const FILES: [&[u8]; 8] = [
-    COUNTERS, COUNTERS_1, MERGED, MERGED_1, NO_ITEMS, NO_ITEMS_1, CELLS, CELLS_1,
-];
-
-#[test]
-fn files_that_end_too_early(rt: HostRuntime) -> Result<(), Fail> {
-    for file in FILES {
-        for len in 0..file.len() {
-            let fault = bad_file(2, SavedFault::Truncated);
-            is_unmerged(&rt, &[file, &file[..len]], fault)?;
-        }
-    }
-    Ok(())
-}
-
-/// Compares the fault of a file with a byte more that is merged as the second.
-fn is_trailed(rt: &(impl Abort + AllocGlobal), file: &[u8]) -> Result<(), Fail> {
-    let mut longer = file.to_vec(rt.alloc())?;
-    longer.push(0)?;
-    is_unmerged(rt, &[file, &longer], bad_file(2, SavedFault::Trailing))
-}
-
-#[test]
-fn files_with_a_byte_more(rt: HostRuntime) -> Result<(), Fail> {
-    for file in FILES {
-        is_trailed(&rt, file)?;
+    for (files, fault) in rows {
+        is_unmerged(&rt, files, fault)?;
     }
     Ok(())
 }
@@ -307,9 +174,7 @@ fn entries_lie_where_their_keys_stand(rt: HostRuntime) -> Result<(), Fail> {
         assert_eq!(rt; found.as_slice(), entries.as_slice());
     }
     assert!(rt; list_entries(rt.alloc(), NO_ITEMS)?.is_empty());
-    assert_eq!(rt;
-        list_entries(rt.alloc(), CELLS).err(),
-        Some(ToolError::NotCounters)
-    );
+    let refused = list_entries(rt.alloc(), CELLS).err();
+    assert_eq!(rt; refused, Some(ToolError::NotCounters));
     Ok(())
 }

@@ -1,6 +1,6 @@
-//! The worked rows on records, rows, sinks, reports and saved files, and what no clause says:
-//! texts, statuses, devices that fail, when a reader is touched. They are a crate of their own,
-//! since a crate with tests is proved twice.
+//! The worked rows on records, rows, sinks, reports and saved files, the vectors of the saved
+//! format, and what no clause says: texts, statuses, devices that fail, when a reader is touched.
+//! They are a crate of their own, since a crate with tests is proved twice.
 #![tactic(auto)]
 
 #[cfg(test)]
@@ -11,6 +11,8 @@ mod devices;
 mod faults;
 #[cfg(test)]
 mod files;
+#[cfg(test)]
+mod format;
 #[cfg(test)]
 mod records;
 #[cfg(test)]

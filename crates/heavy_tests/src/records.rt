@@ -1,6 +1,9 @@
 //! Records of texts, and the first one that fails a test.
 
 use crate::devices::Source;
+use heavy::BadRecordCause::{
+    BadWeight, EmptyKey, FieldCount, KeyTooLong, TotalTooLarge, ZeroWeight,
+};
 use heavy::{BadRecordCause, ReadError, read_stream};
 use hh_stream::Stream;
 use std::alloc::Global;
@@ -18,36 +21,19 @@ fn is_refused(rt: &(impl Abort + AllocGlobal), text: &[u8], number: u64, cause: 
 
 #[test]
 fn a_record_that_fails_a_test(rt: HostRuntime) {
-    let texts: [(&[u8], BadRecordCause); 9] = [
-        (b"a,0\n", BadRecordCause::ZeroWeight),
-        (b",4\n", BadRecordCause::EmptyKey),
-        (b"a,1,2\n", BadRecordCause::FieldCount),
-        (b"a,-1\n", BadRecordCause::BadWeight),
-        (b"a,\n", BadRecordCause::BadWeight),
-        (b"a,99999999999999999999\n", BadRecordCause::TotalTooLarge),
-        (b"a,9223372036854775808\n", BadRecordCause::TotalTooLarge),
-        (b",x\n", BadRecordCause::EmptyKey),
-        (b",,\n", BadRecordCause::FieldCount),
-    ];
-    for (text, cause) in texts {
-        is_refused(&rt, text, 1, cause);
-    }
-}
-
-#[test]
-fn a_later_record_that_fails_a_test(rt: HostRuntime) {
-    let texts: [(&[u8], u64, BadRecordCause); 3] = [
-        (
-            b"a,1\nb,000000000000000000001\n",
-            2,
-            BadRecordCause::BadWeight,
-        ),
-        (
-            b"x,9223372036854775807\ny,1\n",
-            2,
-            BadRecordCause::TotalTooLarge,
-        ),
-        (b"a\nb,2\nc,1x\n,\n", 3, BadRecordCause::BadWeight),
+    let texts: [(&[u8], u64, BadRecordCause); 12] = [
+        (b"a,0\n", 1, ZeroWeight),
+        (b",4\n", 1, EmptyKey),
+        (b"a,1,2\n", 1, FieldCount),
+        (b"a,-1\n", 1, BadWeight),
+        (b"a,\n", 1, BadWeight),
+        (b"a,99999999999999999999\n", 1, TotalTooLarge),
+        (b"a,9223372036854775808\n", 1, TotalTooLarge),
+        (b",x\n", 1, EmptyKey),
+        (b",,\n", 1, FieldCount),
+        (b"a,1\nb,000000000000000000001\n", 2, BadWeight),
+        (b"x,9223372036854775807\ny,1\n", 2, TotalTooLarge),
+        (b"a\nb,2\nc,1x\n,\n", 3, BadWeight),
     ];
     for (text, number, cause) in texts {
         is_refused(&rt, text, number, cause);
@@ -60,7 +46,7 @@ fn keys_have_at_most_4096_bytes(rt: HostRuntime) -> Result<(), Fail> {
     let stream = read_stream(rt.alloc(), text.as_slice())?;
     assert_eq!(rt; (stream.len(), stream.total()), (1, 1));
     text.push(b'x')?;
-    is_refused(&rt, &text, 1, BadRecordCause::KeyTooLong);
+    is_refused(&rt, &text, 1, KeyTooLong);
     Ok(())
 }
 
@@ -68,13 +54,7 @@ fn keys_have_at_most_4096_bytes(rt: HostRuntime) -> Result<(), Fail> {
 /// number fails; and how many reads there were.
 fn read_where(alloc: Global, fails_at: u64, fault: ErrorKind) -> (Result<Stream, ReadError>, u64) {
     let mut reads = 0;
-    let source = Source {
-        bytes: b"a,5\nb,3\nc,2\na,1\n",
-        at_once: 4,
-        reads: &mut reads,
-        fails_at,
-        fault,
-    };
+    let source = Source::new(b"a,5\nb,3\nc,2\na,1\n", &mut reads, fails_at, fault);
     (read_stream(alloc, source), reads)
 }
 
@@ -138,21 +118,14 @@ fn records_of_texts(rt: HostRuntime) -> Result<(), Fail> {
 #[test]
 fn a_key_of_4096_bytes_ff(rt: HostRuntime) -> Result<(), Fail> {
     let text = vec![in rt.alloc(); 0xffu8; 4096]?;
-    has_items(
-        &rt,
-        &read_stream(rt.alloc(), text.as_slice())?,
-        &[(&text, 1)],
-    );
+    let stream = read_stream(rt.alloc(), text.as_slice())?;
+    has_items(&rt, &stream, &[(&text, 1)]);
     Ok(())
 }
 
 #[test]
 fn records_of_ten_megabytes(rt: HostRuntime) -> Result<(), Fail> {
-    let tests = [
-        (b'x', BadRecordCause::KeyTooLong),
-        (b',', BadRecordCause::FieldCount),
-        (b'"', BadRecordCause::KeyTooLong),
-    ];
+    let tests = [(b'x', KeyTooLong), (b',', FieldCount), (b'"', KeyTooLong)];
     for (byte, cause) in tests {
         let text = vec![in rt.alloc(); byte; 10_000_000]?;
         is_refused(&rt, &text, 1, cause);
@@ -165,7 +138,7 @@ fn a_weight_of_ten_megabytes(rt: HostRuntime) -> Result<(), Fail> {
     let mut text = vec![in rt.alloc(); b'0'; 10_000_000]?;
     text[0] = b'a';
     text[1] = b',';
-    is_refused(&rt, &text, 1, BadRecordCause::BadWeight);
+    is_refused(&rt, &text, 1, BadWeight);
     Ok(())
 }
 
@@ -173,11 +146,8 @@ fn a_weight_of_ten_megabytes(rt: HostRuntime) -> Result<(), Fail> {
 fn a_record_behind_ten_megabytes_of_blank_lines(rt: HostRuntime) -> Result<(), Fail> {
     let mut text = vec![in rt.alloc(); b'\n'; 10_000_000]?;
     text.extend_from_slice(b"a,5")?;
-    has_items(
-        &rt,
-        &read_stream(rt.alloc(), text.as_slice())?,
-        &[(b"a", 5)],
-    );
+    let stream = read_stream(rt.alloc(), text.as_slice())?;
+    has_items(&rt, &stream, &[(b"a", 5)]);
     Ok(())
 }
 
@@ -190,7 +160,7 @@ fn more_than_65_536_records(rt: HostRuntime) -> Result<(), Fail> {
     let stream = read_stream(rt.alloc(), text.as_slice())?;
     assert_eq!(rt; (stream.len(), stream.total()), (70_000, 70_000));
     text.extend_from_slice(b"a,0\n")?;
-    is_refused(&rt, &text, 70_001, BadRecordCause::ZeroWeight);
+    is_refused(&rt, &text, 70_001, ZeroWeight);
     Ok(())
 }
 

@@ -70,13 +70,7 @@ pub(crate) fn refuses_unread(
     fault: ToolError,
 ) {
     let mut reads = 0;
-    let source = Source {
-        bytes: b"a,0\n",
-        at_once: 99,
-        reads: &mut reads,
-        fails_at: 1,
-        fault: ErrorKind::BrokenPipe,
-    };
+    let source = Source::new(b"a,0\n", &mut reads, 1, ErrorKind::BrokenPipe);
     let (taken, refusal) = report_of(rt, options, source, Manner::taking(99));
     assert_eq!(rt; refusal, Some(fault));
     assert!(rt; taken.is_empty());
@@ -151,14 +145,9 @@ fn k_out_of_range(rt: HostRuntime) {
 
 #[test]
 fn refused_records_write_nothing(rt: HostRuntime) {
-    let number = 2;
-    let cause = BadRecordCause::TotalTooLarge;
-    refuses(
-        &rt,
-        &options(2),
-        b"x,9223372036854775807\ny,1\n",
-        ToolError::BadRecord { number, cause },
-    );
+    let (number, cause) = (2, BadRecordCause::TotalTooLarge);
+    let fault = ToolError::BadRecord { number, cause };
+    refuses(&rt, &options(2), b"x,9223372036854775807\ny,1\n", fault);
 }
 
 /// What a report of the records writes, where the read with a number fails; the refusal, and how
@@ -169,13 +158,7 @@ fn report_from(
     fault: ErrorKind,
 ) -> (Vec<u8>, Option<ToolError>, u64) {
     let mut reads = 0;
-    let source = Source {
-        bytes: RECORDS,
-        at_once: 4,
-        reads: &mut reads,
-        fails_at,
-        fault,
-    };
+    let source = Source::new(RECORDS, &mut reads, fails_at, fault);
     let (taken, refusal) = report_of(rt, &options(2), source, Manner::taking(99));
     (taken, refusal, reads)
 }

@@ -1,16 +1,17 @@
 //! The worked rows on saved summaries and tables.
 
 use crate::devices::Source;
+use crate::files::bad_file;
+use crate::format::table_in;
 use crate::saved_examples::{CELLS, COUNTERS, COUNTERS_1, NO_ITEMS};
 use heavy::{
     BadRecordCause, Method, ToolError, condense_bytes, confirm_bytes, summary_bytes, table_bytes,
 };
-use hh_countmin::{Family, Table};
+use hh_countmin::Family;
 use hh_saved::{Saved, SavedFault, read};
 use hh_stream::Key;
 use std::alloc::Global;
 use std::io::ErrorKind;
-use std::process::Abort;
 use std::test::Fail;
 
 const RECORDS: &[u8] = b"a,5\nb,3\nc,2\na,1\n";
@@ -28,14 +29,10 @@ fn both_methods_save_one_summary(rt: HostRuntime) -> Result<(), Fail> {
     let alloc = rt.alloc();
     for word in [b"mg", b"ss"] {
         let method = Method::of(word)?;
-        assert_eq!(rt;
-            summary_bytes(alloc, 2, method, RECORDS)?.as_slice(),
-            COUNTERS
-        );
-        assert_eq!(rt;
-            summary_bytes(alloc, 2, method, b"".as_slice())?.as_slice(),
-            NO_ITEMS
-        );
+        for (text, file) in [(RECORDS, COUNTERS), (b"".as_slice(), NO_ITEMS)] {
+            let bytes = summary_bytes(alloc, 2, method, text)?;
+            assert_eq!(rt; bytes.as_slice(), file);
+        }
     }
     Ok(())
 }
@@ -71,14 +68,6 @@ fn summaries_that_are_not_saved(rt: HostRuntime) {
     for (k, text, fault) in tests {
         let refused = summary_bytes(rt.alloc(), k, Method::MisraGries, text);
         assert_eq!(rt; refused.err(), Some(fault));
-    }
-}
-
-/// The table that a file spells.
-fn table_in(rt: &(impl Abort + AllocGlobal), file: &[u8]) -> Result<Table, Fail> {
-    match read(rt.alloc(), file)? {
-        Saved::Cells(table) => Ok(table),
-        Saved::Counters(_) => panic!(rt; "not a table"),
     }
 }
 
@@ -126,10 +115,8 @@ fn saved_summary_is_confirmed(rt: HostRuntime) -> Result<(), Fail> {
 
 #[test]
 fn files_that_are_not_confirmed(rt: HostRuntime) {
-    let number = 1;
-    let fault = SavedFault::BadKind;
     let tests: [(&[u8], &[u8], ToolError); 4] = [
-        (b"HHS1\x03", BAD, ToolError::BadFile { number, fault }),
+        (b"HHS1\x03", BAD, bad_file(1, SavedFault::BadKind)),
         (CELLS, BAD, ToolError::NotCounters),
         (COUNTERS, BAD, BAD_RECORD),
         (COUNTERS, b"a,5\n", ToolError::TotalDiffers),
@@ -171,10 +158,8 @@ fn records_are_condensed(rt: HostRuntime) -> Result<(), Fail> {
 
 #[test]
 fn records_that_are_not_condensed(rt: HostRuntime) {
-    let number = 1;
-    let fault = SavedFault::BadKind;
     let tests: [(&[u8], ToolError); 3] = [
-        (b"HHS1\x03", ToolError::BadFile { number, fault }),
+        (b"HHS1\x03", bad_file(1, SavedFault::BadKind)),
         (CELLS, ToolError::NotCounters),
         (COUNTERS, BAD_RECORD),
     ];
@@ -186,27 +171,23 @@ fn records_that_are_not_condensed(rt: HostRuntime) {
 /// A command that reads records, and what it is given beside them.
 #[derive(Clone, Copy)]
 enum Command<'a> {
-    Summary { k: u64, method: Method },
-    Table { width: u64, depth: u64 },
-    Condense { file: &'a [u8] },
-    Confirm { file: &'a [u8] },
+    /// With k.
+    Summary(u64, Method),
+    /// With a width and a depth.
+    Table(u64, u64),
+    /// With a file.
+    Condense(&'a [u8]),
+    /// With a file.
+    Confirm(&'a [u8]),
 }
 
-const MISRA_GRIES: Command<'static> = Command::Summary {
-    k: 2,
-    method: Method::MisraGries,
-};
-
-const SPACE_SAVING: Command<'static> = Command::Summary {
-    k: 2,
-    method: Method::SpaceSaving,
-};
-
-const TABLE: Command<'static> = Command::Table { width: 4, depth: 2 };
-
-const CONDENSE: Command<'static> = Command::Condense { file: COUNTERS };
-
-const CONFIRM: Command<'static> = Command::Confirm { file: COUNTERS };
+const COMMANDS: [Command<'static>; 5] = [
+    Command::Summary(2, Method::MisraGries),
+    Command::Summary(2, Method::SpaceSaving),
+    Command::Table(4, 2),
+    Command::Condense(COUNTERS),
+    Command::Confirm(COUNTERS),
+];
 
 /// The bytes that a command gives of the records, where the read with a number fails; and how many
 /// reads there were.
@@ -217,25 +198,19 @@ fn given(
     fault: ErrorKind,
 ) -> (Result<Vec<u8>, ToolError>, u64) {
     let mut reads = 0;
-    let source = Source {
-        bytes: RECORDS,
-        at_once: 4,
-        reads: &mut reads,
-        fails_at,
-        fault,
-    };
+    let source = Source::new(RECORDS, &mut reads, fails_at, fault);
     let bytes = match command {
-        Command::Summary { k, method } => summary_bytes(alloc, k, method, source),
-        Command::Table { width, depth } => table_bytes(alloc, width, depth, 7, source),
-        Command::Condense { file } => condense_bytes(alloc, file, source),
-        Command::Confirm { file } => confirm_bytes(alloc, file, source),
+        Command::Summary(k, method) => summary_bytes(alloc, k, method, source),
+        Command::Table(width, depth) => table_bytes(alloc, width, depth, 7, source),
+        Command::Condense(file) => condense_bytes(alloc, file, source),
+        Command::Confirm(file) => confirm_bytes(alloc, file, source),
     };
     (bytes, reads)
 }
 
 #[test]
 fn each_read_of_a_command_fails(rt: HostRuntime) {
-    for command in [MISRA_GRIES, SPACE_SAVING, TABLE, CONDENSE, CONFIRM] {
+    for command in COMMANDS {
         let (_, reads) = given(rt.alloc(), command, 0, ErrorKind::BrokenPipe);
         assert!(rt; 4 < reads && reads < 99);
         for fails_at in 1..=reads {
@@ -247,7 +222,7 @@ fn each_read_of_a_command_fails(rt: HostRuntime) {
 
 #[test]
 fn each_read_of_a_command_is_interrupted(rt: HostRuntime) -> Result<(), Fail> {
-    for command in [MISRA_GRIES, SPACE_SAVING, TABLE, CONDENSE, CONFIRM] {
+    for command in COMMANDS {
         let (bytes, reads) = given(rt.alloc(), command, 0, ErrorKind::Interrupted);
         let bytes = bytes?;
         assert!(rt; 4 < reads && reads < 99);
@@ -263,37 +238,18 @@ fn each_read_of_a_command_is_interrupted(rt: HostRuntime) -> Result<(), Fail> {
 #[test]
 fn refused_before_anything_is_read(rt: HostRuntime) {
     let method = Method::SpaceSaving;
-    let (number, fault) = (1, SavedFault::BadKind);
     let commands = [
-        (Command::Summary { k: 0, method }, ToolError::BadK),
-        (Command::Summary { k: 65_536, method }, ToolError::BadK),
-        (Command::Table { width: 0, depth: 0 }, ToolError::BadDepth),
+        (Command::Summary(0, method), ToolError::BadK),
+        (Command::Summary(65_536, method), ToolError::BadK),
+        (Command::Table(0, 0), ToolError::BadDepth),
+        (Command::Table(4, 17), ToolError::BadDepth),
+        (Command::Table(0, 16), ToolError::BadWidth),
+        (Command::Table(65_537, 1), ToolError::BadWidth),
         (
-            Command::Table {
-                width: 4,
-                depth: 17,
-            },
-            ToolError::BadDepth,
+            Command::Confirm(b"HHS1\x03"),
+            bad_file(1, SavedFault::BadKind),
         ),
-        (
-            Command::Table {
-                width: 0,
-                depth: 16,
-            },
-            ToolError::BadWidth,
-        ),
-        (
-            Command::Table {
-                width: 65_537,
-                depth: 1,
-            },
-            ToolError::BadWidth,
-        ),
-        (
-            Command::Confirm { file: b"HHS1\x03" },
-            ToolError::BadFile { number, fault },
-        ),
-        (Command::Confirm { file: CELLS }, ToolError::NotCounters),
+        (Command::Confirm(CELLS), ToolError::NotCounters),
     ];
     for (command, fault) in commands {
         let (refused, reads) = given(rt.alloc(), command, 1, ErrorKind::BrokenPipe);

@@ -17,14 +17,7 @@ fn puts(rt: &(impl Abort + AllocGlobal), manner: Manner, written: usize, fails: 
     assert!(rt; b"12345".starts_with(taken.as_slice()));
     assert_eq!(rt; taken.len(), written);
     let written = written as u64;
-    assert_eq!(rt;
-        fault,
-        if fails {
-            Some(WriteFault { written })
-        } else {
-            None
-        }
-    );
+    assert_eq!(rt; fault, fails.then_some(WriteFault { written }));
 }
 
 #[test]

@@ -1,107 +1,69 @@
 -- Condensed entries are what a count of the keys of counters finds, and each of their keys is one.
-use Rattle.std.proofs.Common.{◌≡◌, ℕ, zero, suc, ◌+◌, ◌-◌, ◌<◌, ◌≤◌, Bool, true, false, cond, List, [], ◌∷◌, ◌++◌, length, map, Less, Equal, Greater, refl, sym, ap, ap₂, ◌∙◌, subst, arith}
-use Rattle.std.specs.Prelude.{filter, fold, zip, nat_lt, All, EachIndex, slice_index}
+use Rattle.std.proofs.Common.{◌≡◌, ℕ, zero, suc, ◌+◌, ◌-◌, ◌<◌, ◌≤◌, ⊎_elim, true, List, [], ◌∷◌, ◌++◌, length, map, refl, sym, ap, ap₂, ◌∙◌, subst, arith, rules}
+use Rattle.std.specs.Prelude.{filter, fold, zip, nat_lt, All, EachIndex, slice_index, codes}
 use Rattle.std.specs.List.{AllByRecursion}
 use Rattle.std.specs.List.Sorted.{IsStrictlySortedBy}
 use Rattle.std.specs.Map.{keys_of}
-use Rattle.std.specs.Ordering.{match_ordering}
 use Rattle.std.specs.Int.Digits.{digits_of}
+use Rattle.std.proofs.lemmas.Bool.{cases_lt, cond_both}
 use Rattle.std.proofs.lemmas.Bool.Decides.{nat_tests}
 use Rattle.std.proofs.lemmas.Int.Digits.{all_below_base_digits_of, length-digits_of-le}
 use Rattle.std.proofs.lemmas.List.{length-map}
-use Rattle.std.proofs.lemmas.List.Elements.{recursion_from_All}
+use Rattle.std.proofs.lemmas.List.Elements.{recursion_from_All, All-weaker, filter_passes}
 use Rattle.std.proofs.lemmas.List.Filters.{sum_by-filter_both}
-use Rattle.hh_stream.specs.Weights.{Bytes, Entry, IsKey, key_cmp, same_key, at_key, weight_of, total_of}
+use Rattle.hh_stream.specs.Weights.{Bytes, Entry, IsKey, key_cmp, weight_of, total_of}
 use Rattle.hh_counters.specs.Counters.{Counters, IsCounters, add_at, max_k, tally, exceeds}
 use Rattle.hh_counters.specs.Report.{has_counter, weights_at}
 use Rattle.hh_counters.specs.Condensed.{other_name, free_name, lacks_counter, other_weight, entry_of, condensed}
-use Rattle.hh_counters.proofs.Weights.{same_exact, weight_of-cons, weight_of-tally, total_of-tally, counters-tally, same_counters}
-use Rattle.hh_counters.proofs.Reports.{In, candidates, zip-weights_at, candidates_in, keys_of-candidates, in_from_number, number_from_in, rising-filter}
-use Rattle.hh_counters.proofs.Condensing.{other_key, weight_of-kept, all-filter, all-both, free_is_first}
+use Rattle.hh_counters.proofs.Weights.{by_add_at, by_key, in_from_number, number_from_in, at_differ, all-append, weight_of-cons, weight_of-tally, total_of-tally, counters-tally, same_counters}
+use Rattle.hh_counters.proofs.Reports.{all-filter, candidates, zip-weights_at, candidates_in, keys_of-candidates, rising-filter}
+use Rattle.hh_counters.proofs.Condensing.{weight_of-kept, free_is_first}
 
 -- ---- keys with no counter
 weight_of-dropped : (c : Counters) (x : Bytes) (xs : List Entry) → weight_of x c ≡ 0
     → weight_of x (filter (has_counter c) xs) ≡ 0
 weight_of-dropped c x [] none = refl
 weight_of-dropped c x (e ∷ xs) none =
-    elim (has_counter c e) as (λ b. has_counter c e ≡ b
-    → weight_of x (cond b (e ∷ filter (has_counter c) xs) (filter (has_counter c) xs)) ≡ 0) [
-      | true ↦ λ h. let some : 0 < weight_of e.0 c = grind (arith, nat_tests, h) in
-          omega (
-            arith,
-            weight_of-cons x e (filter (has_counter c) xs),
-            by some (same_key x e.0) refl,
-            weight_of-dropped c x xs none,
-          )
-      | false ↦ λ h. weight_of-dropped c x xs none
-    ] refl
-  where
-    by : 0 < weight_of e.0 c → (b : Bool) → same_key x e.0 ≡ b → at_key x e ≡ 0
-    by some true s = absurd (omega (arith, some, none, ap (λ y. weight_of y c) (same_exact x e.0 s)))
-    by some false s = other_key x e s
+    let rest = weight_of-dropped c x xs none in
+    cond_both (has_counter c e) _ _ (λ l. weight_of x l ≡ 0)
+    (λ h. by_key x e _ (λ same _. absurd (grind (arith, nat_tests, h, none, ap (λ y. weight_of y c) same)))
+    (λ _ at. omega (arith, weight_of-cons x e (filter (has_counter c) xs), at, rest)))
+    (λ _. rest)
 
 -- a count is none of a key with no counter
 weight_of-uncounted : (c : Counters) (x : Bytes) (xs : List Entry) → AllByRecursion (λ (e : Entry). 0 < e.1) c
     → weight_of x c ≡ 0 → weight_of x (candidates c xs) ≡ 0
 weight_of-uncounted [] x xs h none = refl
 weight_of-uncounted (e ∷ c) x xs h none =
-    elim (same_key x e.0) as (λ b. same_key x e.0 ≡ b → weight_of x (candidates (e ∷ c) xs) ≡ 0) [
-      | true ↦ λ s. let here : at_key x e ≡ e.1 =
-          ap (λ b. cond b e.1 0) s in absurd (omega (arith, none, weight_of-cons x e c, here, h.0))
-      | false ↦ λ s. omega (
-        arith,
-        none,
-        weight_of-cons x e c,
-        weight_of-cons x (e.0, weight_of e.0 xs) (candidates c xs),
-        other_key x (e.0, weight_of e.0 xs) s,
-        weight_of-uncounted c x xs h.1 (omega (arith, none, weight_of-cons x e c)),
-      )
-    ] refl
+    let whole = weight_of-cons x e c in
+    by_key x e _ (λ _ here. absurd (omega (arith, none, whole, here, h.0)))
+    (λ other _. let rest = weight_of-uncounted c x xs h.1 (omega (arith, none, whole)) in
+    let cons = weight_of-cons x (e.0, weight_of e.0 xs) (candidates c xs) in
+    omega (arith, cons, at_differ x (e.0, weight_of e.0 xs) other, rest))
 
 -- entries of 0 weigh nothing
 weight_of-positive : (x : Bytes) (es : List Entry) → weight_of x (filter (exceeds 0) es) ≡ weight_of x es
 weight_of-positive x [] = refl
-weight_of-positive x (e ∷ es) =
-    elim (nat_lt 0 e.1) as (λ b. nat_lt 0 e.1 ≡ b → weight_of x
-    (cond b (e ∷ filter (exceeds 0) es) (filter (exceeds 0) es)) ≡ weight_of x (e ∷ es)) [
-      | true ↦ λ h. omega
-          (arith, weight_of-cons x e (filter (exceeds 0) es), weight_of-cons x e es, weight_of-positive x es)
-      | false ↦ λ h.
-          let none : e.1 ≡ 0 = grind (arith, nat_tests, h) in
-          omega (arith, weight_of-cons x e es, nothing (same_key x e.0) e.1 none, weight_of-positive x es)
-    ] refl
-  where
-    nothing : (b : Bool) (n : ℕ) → n ≡ 0 → cond b n 0 ≡ 0
-    nothing true n h = h
-    nothing false n h = refl
+weight_of-positive x (e ∷ es) = cond_both (nat_lt 0 e.1) _ _ (λ l. weight_of x l ≡ weight_of x (e ∷ es))
+    (λ h. omega (arith, weight_of-cons x e (filter (exceeds 0) es), weight_of-cons x e es, weight_of-positive x es))
+    (λ h. grind (arith, nat_tests, h, weight_of-cons x e es, weight_of-positive x es))
 
 positive_kept : (es : List Entry) → AllByRecursion (λ (e : Entry). 0 < e.1) (filter (exceeds 0) es)
-positive_kept [] = tt
-positive_kept (e ∷ es) =
-    elim (nat_lt 0 e.1) as (λ b. nat_lt 0 e.1 ≡ b → AllByRecursion (λ (e : Entry). 0 < e.1)
-    (cond b (e ∷ filter (exceeds 0) es) (filter (exceeds 0) es))) [
-      | true ↦ λ h. (grind (arith, nat_tests, h), positive_kept es)
-      | false ↦ λ h. positive_kept es
-    ] refl
+positive_kept es = recursion_from_All (λ (e : Entry). 0 < e.1) _ (All-weaker (λ e. exceeds 0 e ≡ true)
+    (λ (e : Entry). 0 < e.1) (λ e t. grind (arith, nat_tests, t)) _ (filter_passes (exceeds 0) es))
 
 -- ---- the counts
 same_weights : (c : Counters) (xs : List Entry) → IsCounters c → (x : Bytes)
     → weight_of x (tally (filter (has_counter c) xs)) ≡ weight_of x (filter (exceeds 0) (candidates c xs))
 same_weights c xs h x =
     weight_of-tally x (filter (has_counter c) xs)
-    ∙ (elim (nat_lt 0 (weight_of x c)) as (λ b. nat_lt 0 (weight_of x c) ≡ b
-    → weight_of x (filter (has_counter c) xs) ≡ weight_of x (candidates c xs)) [
-      | true ↦ λ t.
-          let some : 0 < weight_of x c = grind (arith, nat_tests, t) in
-          let rises : IsStrictlySortedBy key_cmp (keys_of (candidates c xs)) =
-          subst (IsStrictlySortedBy key_cmp) (sym (keys_of-candidates c xs)) h.rising in
-          let there : In (x, weight_of x xs) (candidates c xs) =
-          candidates_in c xs (x, weight_of x c) (in_from_number x c h.rising some) in
-          weight_of-kept c x xs some ∙ sym (number_from_in (x, weight_of x xs) (candidates c xs) rises there)
-      | false ↦ λ t.
-          let none : weight_of x c ≡ 0 = grind (arith, nat_tests, t) in
-          weight_of-dropped c x xs none ∙ sym (weight_of-uncounted c x xs h.positive none)
-    ] refl)
+    ∙ ⊎_elim (λ (some : 0 < weight_of x c).
+    let rises = subst (IsStrictlySortedBy key_cmp) (sym (keys_of-candidates c xs)) h.rising in
+    let there = candidates_in c xs (x, weight_of x c) (in_from_number x c h.rising some) in
+    weight_of-kept c x xs some ∙ sym (number_from_in (x, weight_of x xs) (candidates c xs) rises there))
+    (λ (few : weight_of x c ≤ 0). let none : weight_of x c ≡ 0 = omega arith in
+    weight_of-dropped c x xs none ∙ sym (weight_of-uncounted c x xs h.positive none))
+    (cases_lt 0 (weight_of x c))
     ∙ sym (weight_of-positive x (candidates c xs))
 
 kept_is_counted : (c : Counters) (xs : List Entry) → IsCounters c → AllByRecursion (λ (e : Entry). 0 < e.1) xs
@@ -136,13 +98,8 @@ condensed_counts c xs h p =
 all_keys-add_at : (P : Bytes → Type 0) (c : Counters) (e : Entry) → AllByRecursion (λ (d : Entry). P d.0) c → P e.0
     → AllByRecursion (λ (d : Entry). P d.0) (add_at c e)
 all_keys-add_at P [] e h p = (p, tt)
-all_keys-add_at P (d ∷ c) e h p =
-    elim (key_cmp e.0 d.0) as (λ r. AllByRecursion (λ (d : Entry). P d.0)
-    (match_ordering r (e ∷ d ∷ c) ((d.0, d.1 + e.1) ∷ c) (d ∷ add_at c e))) [
-      | Less ↦ (p, h)
-      | Equal ↦ h
-      | Greater ↦ (h.0, all_keys-add_at P c e h.1 p)
-    ]
+all_keys-add_at P (d ∷ c) e h p = by_add_at (AllByRecursion (λ (d : Entry). P d.0)) c d e (λ _. (p, h)) (λ _. h)
+    (λ _. (h.0, all_keys-add_at P c e h.1 p))
 
 all_keys-from : (P : Bytes → Type 0) (c : Counters) (xs : List Entry) → AllByRecursion (λ (d : Entry). P d.0) c
     → AllByRecursion (λ (d : Entry). P d.0) xs → AllByRecursion (λ (d : Entry). P d.0) (fold add_at c xs)
@@ -171,26 +128,14 @@ name_is_key i small =
     record {
       some = omega arith;
       few = omega (arith, digits, size);
-      bytes = each_below (other_name i) (
-        omega arith,
-        (
-          omega arith,
-          (
-            omega arith,
-            (
-              omega arith,
-              (omega arith, (omega arith, below_256 ds (all_below_base_digits_of 10 i (omega arith)))),
-            ),
-          ),
-        ),
-      );
+      bytes = each_below (other_name i) (all-append (λ d. d < 256) (codes "others") (map (λ d. 48 + d) ds)
+          (search rules)
+          (below_256 ds (all_below_base_digits_of 10 i (omega arith))));
     }
 
 key-entry_of : (y : Bytes) (n : ℕ) → IsKey y → AllByRecursion (λ (e : Entry). IsKey e.0) (entry_of y n)
-key-entry_of y n key = elim (nat_lt 0 n) as (λ b. AllByRecursion (λ (e : Entry). IsKey e.0) (cond b ((y, n) ∷ []) [])) [
-  | true ↦ (key, tt)
-  | false ↦ tt
-]
+key-entry_of y n key =
+    cond_both (nat_lt 0 n) _ _ (AllByRecursion (λ (e : Entry). IsKey e.0)) (λ _. (key, tt)) (λ _. tt)
 
 -- the keys of condensed items are keys
 pub keys-condensed : (c : Counters) (xs : List Entry) → length c ≤ max_k → AllByRecursion (λ e. IsKey e.0) xs
@@ -199,6 +144,7 @@ unfolding condensed
 keys-condensed c xs few keys =
     let g = free_is_first c in
     let name : IsKey (free_name c) = subst IsKey (sym g.named) (name_is_key g.number (omega (arith, g.few, few))) in
-    all-both (λ (e : Entry). IsKey e.0) (tally (filter (has_counter c) xs)) (entry_of (free_name c) (other_weight c xs))
+    all-append (λ (e : Entry). IsKey e.0) (tally (filter (has_counter c) xs))
+    (entry_of (free_name c) (other_weight c xs))
     (all_keys-tally IsKey (filter (has_counter c) xs) (all-filter (λ (e : Entry). IsKey e.0) (has_counter c) xs keys))
     (key-entry_of (free_name c) (other_weight c xs) name)

@@ -1,13 +1,13 @@
 -- Condensed entries have the total and the weights of the keys with counters, and under a name that is no key of them
 -- what is left.
-use Rattle.std.proofs.Common.{◌≡◌, ℕ, zero, suc, ◌+◌, ◌-◌, ◌*◌, ◌<◌, ◌≤◌, ◌⊎◌, inl, inr, ⊎_elim, Bool, true, false, cond, List, [], ◌∷◌, ◌++◌, length, drop, map, Some, refl, sym, ap, ◌∙◌, subst, true≢false, arith}
-use Rattle.std.specs.Prelude.{filter, nat_lt, All, IsSome, IsPermutation, ◌||◌}
+use Rattle.std.proofs.Common.{◌≡◌, ℕ, zero, suc, ◌+◌, ◌-◌, ◌*◌, ◌<◌, ◌≤◌, ◌⊎◌, inl, inr, ⊎_elim, true, false, List, [], ◌∷◌, length, drop, map, Some, refl, sym, ap, ◌∙◌, subst, true≢false, arith}
+use Rattle.std.specs.Prelude.{filter, nat_lt, All, IsSome, IsPermutation, Contains}
 use Rattle.std.specs.List.{AllByRecursion, IsDistinct, list_any, flat_map}
 use Rattle.std.specs.Map.{lookup}
 use Rattle.std.specs.Cmp.{eq_by_cmp_equiv}
 use Rattle.std.specs.Int.Digits.{digits_of}
 use Rattle.std.proofs.lemmas.Bool.Decides.{nat_tests}
-use Rattle.std.proofs.lemmas.Bool.{cases_lt}
+use Rattle.std.proofs.lemmas.Bool.{cases_lt, cond_both, false_from_ne_true, or_cases}
 use Rattle.std.proofs.lemmas.Int.Digits.{same_from_digits_of}
 use Rattle.std.proofs.lemmas.List.Elements.{recursion_from_All, All-from_recursion}
 use Rattle.std.proofs.lemmas.List.Filters.{sum_by-filter_both}
@@ -18,8 +18,8 @@ use Rattle.hh_stream.specs.Cuttings.{whole_of}
 use Rattle.hh_counters.specs.Counters.{Counters, IsHonest, tally}
 use Rattle.hh_counters.specs.Report.{heavy, has_counter}
 use Rattle.hh_counters.specs.Condensed.{other_name, free_from, free_name, IsFirstFree, lacks_counter, other_weight, entry_of, condensed}
-use Rattle.hh_counters.proofs.Weights.{key_total, same_exact, weight_of-cons, total_of-cons, weight_of-append, total_of-append, weight_of-tally, total_of-tally, positive-tally}
-use Rattle.hh_counters.proofs.Reports.{In, in_filter, filter_in, in_heavy, heavy_in, heavy_is_report, same_ranked, ranked-filter, filter_all, heavy_has_counter, contains_from_in}
+use Rattle.hh_counters.proofs.Weights.{at_differ, by_key, all-append, key_total, same_exact, weight_of-cons, total_of-cons, weight_of-append, total_of-append, weight_of-tally, total_of-tally, positive-tally}
+use Rattle.hh_counters.proofs.Reports.{all-filter, in_filter, filter_in, in_heavy, heavy_in, heavy_is_report, same_ranked, ranked-filter, filter_all, heavy_has_counter}
 
 -- ---- the names are different
 unspelled : (ds : List ℕ) → map (λ d. d - 48) (map (λ d. 48 + d) ds) ≡ ds
@@ -33,11 +33,7 @@ same_from_name i j e =
     ∙ unspelled (digits_of 10 j))
 
 names_differ : (i j : ℕ) → i < j → same_key (other_name i) (other_name j) ≡ false
-names_differ i j l = by (same_key (other_name i) (other_name j)) refl
-  where
-    by : (b : Bool) → same_key (other_name i) (other_name j) ≡ b → same_key (other_name i) (other_name j) ≡ false
-    by true e = absurd (omega (arith, l, same_from_name i j (same_exact _ _ e)))
-    by false e = e
+names_differ i j l = false_from_ne_true _ (λ e. omega (arith, l, same_from_name i j (same_exact _ _ e)))
 
 -- m names from number n on
 names : ℕ → ℕ → List Bytes
@@ -60,27 +56,17 @@ distinct-names n zero = tt
 distinct-names n (suc m) = (later_differ n (n + 1) m (omega arith), distinct-names (n + 1) m)
 
 -- ---- not all of length c + 1 names have a counter
--- at another key an entry weighs nothing
-pub other_key : (x : Bytes) (e : Entry) → same_key x e.0 ≡ false → at_key x e ≡ 0
-other_key x e h = ap (λ b. cond b e.1 0) h
-
 has_entry : (x : Bytes) (c : Counters) → 0 < weight_of x c → IsSome (lookup (same_key x) c)
 has_entry x [] l = absurd (omega (arith, l))
-has_entry x (e ∷ c) l =
-    elim (same_key x e.0) as (λ b. same_key x e.0 ≡ b → IsSome (cond b (Some e.1) (lookup (same_key x) c))) [
-      | true ↦ λ s. refl
-      | false ↦ λ s. has_entry x c (omega (arith, l, weight_of-cons x e c, other_key x e s))
-    ] refl
+has_entry x (e ∷ c) l = cond_both (same_key x e.0) (Some e.1) (lookup (same_key x) c) IsSome (λ s. refl)
+    (λ s. has_entry x c (omega (arith, l, weight_of-cons x e c, at_differ x e s)))
 
 has_entries : (c : Counters) (ks : List Bytes) → AllByRecursion (λ y. 0 < weight_of y c) ks → (x : Bytes)
     → list_any (same_key x) ks ≡ true → IsSome (lookup (same_key x) c)
 has_entries c [] h x i = absurd (true≢false (sym i))
 has_entries c (k ∷ ks) h x i =
-    elim (same_key x k) as (λ b. same_key x k ≡ b → b || list_any (same_key x) ks ≡ true
-    → IsSome (lookup (same_key x) c)) [
-      | true ↦ λ s j. has_entry x c (subst (λ y. 0 < weight_of y c) (sym (same_exact x k s)) h.0)
-      | false ↦ λ s j. has_entries c ks h.1 x j
-    ] refl i
+    ⊎_elim (λ s. has_entry x c (subst (λ y. 0 < weight_of y c) (sym (same_exact x k s)) h.0))
+    (λ j. has_entries c ks h.1 x j) (or_cases (same_key x k) (list_any (same_key x) ks) i)
 
 some_names : (c : Counters) (n m : ℕ) → ((j : ℕ) → j < n + m → 0 < weight_of (other_name j) c)
     → AllByRecursion (λ y. 0 < weight_of y c) (names n m)
@@ -117,45 +103,44 @@ ends c n zero = record {
   before = λ j a b. absurd (omega (arith, a, b));
   stops = inr (omega arith);
 }
-ends c n (suc m) =
-    elim (nat_lt 0 (weight_of (other_name n) c)) as (λ b. nat_lt 0 (weight_of (other_name n) c) ≡ b
-    → Ends c n (suc m) (cond b (free_from c (n + 1) m) (other_name n))) [
-      | true ↦ λ e.
-          let more = ends c (n + 1) m in
-          let here : 0 < weight_of (other_name n) c = grind (arith, nat_tests, e) in
-          record {
-            at = more.at;
-            from = omega (arith, more.from);
-            most = omega (arith, more.most);
-            named = more.named;
-            before = λ j a b. ⊎_elim
-                (λ (l : n < j). more.before j (omega (arith, l)) b)
-                (λ (l : j ≤ n). let same : n ≡ j = omega (arith, a, l) in
-                subst (λ i. 0 < weight_of (other_name i) c) same here)
-                (cases_lt n j);
-            stops = ⊎_elim (λ (z : weight_of (other_name more.at) c ≡ 0). inl z)
-                (λ (z : more.at ≡ n + 1 + m). inr (omega (arith, z))) more.stops;
-          }
-      | false ↦ λ e. record {
-        at = n;
-        from = omega arith;
-        most = omega arith;
-        named = refl;
-        before = λ j a b. absurd (omega (arith, a, b));
-        stops = inl (grind (arith, nat_tests, e));
-      }
-    ] refl
+ends c n (suc m) = cond_both (nat_lt 0 (weight_of (other_name n) c)) _ _ (Ends c n (suc m))
+    (λ e.
+    let more = ends c (n + 1) m in
+    let here : 0 < weight_of (other_name n) c = grind (arith, nat_tests, e) in
+    record {
+      at = more.at;
+      from = omega (arith, more.from);
+      most = omega (arith, more.most);
+      named = more.named;
+      before = λ j a b. ⊎_elim
+          (λ (l : n < j). more.before j (omega (arith, l)) b)
+          (λ (l : j ≤ n). let same : n ≡ j = omega (arith, a, l) in
+          subst (λ i. 0 < weight_of (other_name i) c) same here)
+          (cases_lt n j);
+      stops = ⊎_elim (λ (z : weight_of (other_name more.at) c ≡ 0). inl z)
+          (λ (z : more.at ≡ n + 1 + m). inr (omega (arith, z))) more.stops;
+    })
+    (λ e. record {
+      at = n;
+      from = omega arith;
+      most = omega arith;
+      named = refl;
+      before = λ j a b. absurd (omega (arith, a, b));
+      stops = inl (grind (arith, nat_tests, e));
+    })
 
 -- the free name is the first of its row that has no counter
 pub free_is_first : (c : Counters) → IsFirstFree c (free_name c)
 unfolding free_name
 free_is_first c =
     let found = ends c 0 (length c) in
-    let none : weight_of (other_name found.at) c ≡ 0 = ⊎_elim
-    (λ (z : weight_of (other_name found.at) c ≡ 0). z)
-    (λ (z : found.at ≡ 0 + length c). by found.at found.before (omega (arith, z))
-    (nat_lt 0 (weight_of (other_name found.at) c)) refl)
-    found.stops in
+    let last : found.at ≡ length c → 0 < weight_of (other_name found.at) c → ⊥ =
+    λ all here. crowded c (λ j l. ⊎_elim
+    (λ (m : j < found.at). found.before j (omega arith) m)
+    (λ (m : found.at ≤ j). let same : found.at ≡ j = omega (arith, m, l, all) in
+    subst (λ n. 0 < weight_of (other_name n) c) same here)
+    (cases_lt j found.at)) in
+    let none : weight_of (other_name found.at) c ≡ 0 = grind (arith, last, found.stops) in
     record {
       number = found.at;
       named = found.named;
@@ -163,17 +148,6 @@ free_is_first c =
       first = λ j l. found.before j (omega arith) l;
       few = omega (arith, found.most);
     }
-  where
-    by : (i : ℕ) → ((j : ℕ) → 0 ≤ j → j < i → 0 < weight_of (other_name j) c) → i ≡ length c → (b : Bool)
-        → nat_lt 0 (weight_of (other_name i) c) ≡ b → weight_of (other_name i) c ≡ 0
-    by i before last true e =
-        let here : 0 < weight_of (other_name i) c = grind (arith, nat_tests, e) in
-        absurd (crowded c (λ j l. ⊎_elim
-        (λ (m : j < i). before j (omega arith) m)
-        (λ (m : i ≤ j). let same : i ≡ j = omega (arith, m, l, last) in
-        subst (λ n. 0 < weight_of (other_name n) c) same here)
-        (cases_lt j i)))
-    by i before last false e = grind (arith, nat_tests, e)
 
 -- and no other name is
 pub one_first_free : (c : Counters) (y : Bytes) → IsFirstFree c y → y ≡ free_name c
@@ -183,67 +157,36 @@ one_first_free c y h =
     λ l. omega (arith, g.first h.number l, ap (λ z. weight_of z c) h.named, h.free) in
     let not_after : g.number < h.number → ⊥ =
     λ l. omega (arith, h.first g.number l, ap (λ z. weight_of z c) g.named, g.free) in
-    h.named ∙ ap other_name (same_number h.number g.number not_before not_after) ∙ sym g.named
-  where
-    same_number : (i j : ℕ) → (i < j → ⊥) → (j < i → ⊥) → i ≡ j
-    same_number i j a b = grind (arith, a, b)
+    let same : h.number ≡ g.number = grind (arith, not_before, not_after) in
+    h.named ∙ ap other_name same ∙ sym g.named
 
 -- ---- what the entries hold
 lacking : (c : Counters) (x : Bytes) (e : Entry) → 0 < weight_of x c → weight_of e.0 c ≡ 0 → at_key x e ≡ 0
-lacking c x e some none = by (same_key x e.0) refl
-  where
-    by : (b : Bool) → same_key x e.0 ≡ b → at_key x e ≡ 0
-    by true s = absurd (omega (arith, some, none, ap (λ y. weight_of y c) (same_exact x e.0 s)))
-    by false s = other_key x e s
+lacking c x e some none = by_key x e _
+    (λ same _. absurd (omega (arith, some, none, ap (λ y. weight_of y c) same))) (λ _ other. other)
 
 -- the items whose keys have counters keep such a key's weight
 pub weight_of-kept : (c : Counters) (x : Bytes) (xs : List Entry) → 0 < weight_of x c
     → weight_of x (filter (has_counter c) xs) ≡ weight_of x xs
 weight_of-kept c x [] some = refl
-weight_of-kept c x (e ∷ xs) some =
-    elim (has_counter c e) as (λ b. has_counter c e ≡ b
-    → weight_of x (cond b (e ∷ filter (has_counter c) xs) (filter (has_counter c) xs)) ≡ weight_of x (e ∷ xs)) [
-      | true ↦ λ h. omega
-          (arith, weight_of-cons x e (filter (has_counter c) xs), weight_of-cons x e xs, weight_of-kept c x xs some)
-      | false ↦ λ h.
-          let none : weight_of e.0 c ≡ 0 = grind (arith, nat_tests, h) in
-          omega (arith, weight_of-cons x e xs, lacking c x e some none, weight_of-kept c x xs some)
-    ] refl
+weight_of-kept c x (e ∷ xs) some = cond_both (has_counter c e) _ _ (λ l. weight_of x l ≡ weight_of x (e ∷ xs))
+    (λ h. omega
+    (arith, weight_of-cons x e (filter (has_counter c) xs), weight_of-cons x e xs, weight_of-kept c x xs some))
+    (λ h. let none = lacking c x e some (grind (arith, nat_tests, h)) in
+    omega (arith, weight_of-cons x e xs, none, weight_of-kept c x xs some))
 
 total_of-entry_of : (y : Bytes) (n : ℕ) → total_of (entry_of y n) ≡ n
-total_of-entry_of y n = elim (nat_lt 0 n) as (λ b. nat_lt 0 n ≡ b → total_of (cond b ((y, n) ∷ []) []) ≡ n) [
-  | true ↦ λ h. omega (arith, total_of-cons (y, n) [])
-  | false ↦ λ h. let none : n ≡ 0 = grind (arith, nat_tests, h) in sym none
-] refl
+total_of-entry_of y n = cond_both (nat_lt 0 n) _ _ (λ l. total_of l ≡ n) (λ h. total_of-cons (y, n) [] ∙ omega arith)
+    (λ h. grind (arith, nat_tests, h))
 
 weight_of-entry_of : (c : Counters) (x y : Bytes) (n : ℕ) → 0 < weight_of x c → weight_of y c ≡ 0
     → weight_of x (entry_of y n) ≡ 0
-weight_of-entry_of c x y n some none = elim (nat_lt 0 n) as (λ b. weight_of x (cond b ((y, n) ∷ []) []) ≡ 0) [
-  | true ↦ omega (arith, weight_of-cons x (y, n) [], lacking c x (y, n) some none)
-  | false ↦ refl
-]
+weight_of-entry_of c x y n some none = cond_both (nat_lt 0 n) _ _ (λ l. weight_of x l ≡ 0)
+    (λ _. omega (arith, weight_of-cons x (y, n) [], lacking c x (y, n) some none)) (λ _. refl)
 
 positive-entry_of : (y : Bytes) (n : ℕ) → AllByRecursion (λ (e : Entry). 0 < e.1) (entry_of y n)
-positive-entry_of y n =
-    elim (nat_lt 0 n) as (λ b. nat_lt 0 n ≡ b → AllByRecursion (λ (e : Entry). 0 < e.1) (cond b ((y, n) ∷ []) [])) [
-      | true ↦ λ h. (grind (arith, nat_tests, h), tt)
-      | false ↦ λ h. tt
-    ] refl
-
--- what all have, those have that pass a test
-pub all-filter : (P : Entry → Type 0) (p : Entry → Bool) (xs : List Entry) → AllByRecursion P xs
-    → AllByRecursion P (filter p xs)
-all-filter P p [] h = h
-all-filter P p (e ∷ xs) h = elim (p e) as (λ b. AllByRecursion P (cond b (e ∷ filter p xs) (filter p xs))) [
-  | true ↦ (h.0, all-filter P p xs h.1)
-  | false ↦ all-filter P p xs h.1
-]
-
--- what all of two lists have, all of both together have
-pub all-both : (P : Entry → Type 0) (xs ys : List Entry) → AllByRecursion P xs → AllByRecursion P ys
-    → AllByRecursion P (xs ++ ys)
-all-both P [] ys h g = g
-all-both P (e ∷ xs) ys h g = (h.0, all-both P xs ys h.1 g)
+positive-entry_of y n = cond_both (nat_lt 0 n) _ _ (AllByRecursion (λ (e : Entry). 0 < e.1))
+    (λ h. (grind (arith, nat_tests, h), tt)) (λ _. tt)
 
 -- condensed items have the total of the items
 pub total_of-condensed : (c : Counters) (xs : List Entry) → total_of (condensed c xs) ≡ total_of xs
@@ -273,7 +216,8 @@ pub positive-condensed : (c : Counters) (xs : List Entry) → All (λ e. 0 < e.1
 unfolding condensed
 positive-condensed c xs h =
     let P : Entry → Type 0 = λ e. 0 < e.1 in
-    All-from_recursion P _ (all-both P (tally (filter (has_counter c) xs)) (entry_of (free_name c) (other_weight c xs))
+    All-from_recursion P _
+    (all-append P (tally (filter (has_counter c) xs)) (entry_of (free_name c) (other_weight c xs))
     (positive-tally (filter (has_counter c) xs) (all-filter P (has_counter c) xs (recursion_from_All P xs h)))
     (positive-entry_of (free_name c) (other_weight c xs)))
 
@@ -281,13 +225,9 @@ positive-condensed c xs h =
 total_of-parts : (c : Counters) (parts : List (List Entry))
     → total_of (flat_map (condensed c) parts) ≡ total_of (whole_of parts)
 total_of-parts c [] = refl
-total_of-parts c (xs ∷ parts) = omega (
-  arith,
-  total_of-append (condensed c xs) (flat_map (condensed c) parts),
-  total_of-append xs (whole_of parts),
-  total_of-condensed c xs,
-  total_of-parts c parts,
-)
+total_of-parts c (xs ∷ parts) =
+    let more = total_of-append (condensed c xs) (flat_map (condensed c) parts) in
+    omega (arith, more, total_of-append xs (whole_of parts), total_of-condensed c xs, total_of-parts c parts)
 
 weight_of-parts : (c : Counters) (parts : List (List Entry)) (x : Bytes) → 0 < weight_of x c
     → weight_of x (flat_map (condensed c) parts) ≡ weight_of x (whole_of parts)
@@ -303,7 +243,8 @@ weight_of-parts c (xs ∷ parts) x some = omega (
 -- ---- the report of the keys with counters
 found_within : (c : Counters) (xs ys : List Entry) (p q : ℕ) → total_of xs ≡ total_of ys
     → ((x : Bytes) → 0 < weight_of x c → weight_of x xs ≡ weight_of x ys)
-    → (e : Entry) → In e (filter (has_counter c) (heavy xs p q)) → In e (filter (has_counter c) (heavy ys p q))
+    → (e : Entry) → Contains (filter (has_counter c) (heavy xs p q)) e
+    → Contains (filter (has_counter c) (heavy ys p q)) e
 found_within c xs ys p q total same e i =
     let f = in_filter (has_counter c) e (heavy xs p q) i in
     let g = in_heavy xs p q e.0 e.1 f.0 in
@@ -347,4 +288,4 @@ condensed_report c parts xs ys k p q whole perm honest le =
     (sym (sum_by-IsPermutation (λ (e : Entry). e.1) (whole_of parts) xs whole))
     (λ x some. sym (sum_by-IsPermutation (at_key x) (whole_of parts) xs whole))
     ∙ filter_all (has_counter c) (heavy xs p q) (λ e i. grind
-    (arith, nat_tests, heavy_has_counter c xs k p q honest le e (contains_from_in e _ i)))
+    (arith, nat_tests, heavy_has_counter c xs k p q honest le e i))

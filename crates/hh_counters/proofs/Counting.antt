@@ -1,13 +1,14 @@
 -- Candidates counted item by item.
 use Rattle.std.proofs.Common.{◌≡◌, ◌↔◌, ℕ, zero, suc, ◌+◌, ◌<◌, ◌≤◌, Bool, true, false, cond, List, [], ◌∷◌, ◌++◌, length, get_or, take, Option, Some, None, Less, is_eq, is_some, refl, sym, ap, ap₂, ◌∙◌, subst, true≢false, append-nil, arith}
-use Rattle.std.specs.Prelude.{◌||◌, All, filter, replicate, position, slice_get, slice_set, Contains, IsSome}
+use Rattle.std.specs.Prelude.{All, filter, replicate, position, slice_get, slice_set, Contains, IsSome}
 use Rattle.std.specs.List.{AllByRecursion, list_any}
 use Rattle.std.specs.List.Sorted.{IsStrictlySortedBy}
 use Rattle.std.specs.Map.{keys_of}
 use Rattle.std.specs.Cmp.{eq_by_cmp_equiv}
 use Rattle.std.proofs.lemmas.Option.{slice_get-get_or, slice_get_within, get_or_from_slice_get}
 use Rattle.std.proofs.lemmas.List.{get_or_default, get_or-map, get_or-take, length-take, map-append, take_more}
-use Rattle.std.proofs.lemmas.List.Elements.{filter_more}
+use Rattle.std.proofs.lemmas.List.Elements.{All-from_recursion, filter_more}
+use Rattle.std.proofs.lemmas.Bool.{cond_both, false_from_ne_true, or_from, or_parts}
 use Rattle.std.proofs.lemmas.Map.Entries.{length-keys_of}
 use Rattle.std.proofs.lemmas.List.Folds.{list_any_none}
 use Rattle.std.proofs.lemmas.List.Quantifiers.{position-Some}
@@ -17,24 +18,25 @@ use Rattle.indexmap.specs.IndexSet.{insert_key}
 use Rattle.std.proofs.lemmas.List.Sums.{sum_by-le-sum_by}
 use Rattle.hh_stream.specs.Weights.{Bytes, Entry, key_cmp, same_key, at_key, weight_of, total_of}
 use Rattle.hh_counters.specs.Counters.{Counters}
-use Rattle.hh_counters.specs.Report.{weights_at, counted}
-use Rattle.hh_counters.proofs.Weights.{same_exact, key_total, key_self, flipped, weight_of-append, weight_of-cons, at_other}
+use Rattle.hh_counters.specs.Report.{weights_at, counts_with}
+use Rattle.hh_counters.proofs.Weights.{rising_entries, at_differ, same_exact, key_total, key_self, flipped, weight_of-append, weight_of-cons, at_other}
 
 -- counted from 0, each key has its weight
-pub counted_from_zero : (ks : List Bytes) (xs : List Entry) → counted ks xs (replicate (length ks) 0) ≡ weights_at ks xs
+pub counted_from_zero : (ks : List Bytes) (xs : List Entry)
+    → counts_with ks xs (replicate (length ks) 0) ≡ weights_at ks xs
 counted_from_zero [] xs = refl
 counted_from_zero (x ∷ ks) xs = ap₂ (λ n (ns : List ℕ). n ∷ ns) (omega arith) (counted_from_zero ks xs)
 
 -- counting one list and then another is counting both together
 pub counted-append : (ks : List Bytes) (xs ys : List Entry) (ns : List ℕ)
-    → counted ks (xs ++ ys) ns ≡ counted ks ys (counted ks xs ns)
+    → counts_with ks (xs ++ ys) ns ≡ counts_with ks ys (counts_with ks xs ns)
 counted-append [] xs ys ns = refl
 counted-append (x ∷ ks) xs ys [] = refl
 counted-append (x ∷ ks) xs ys (n ∷ ns) =
     ap₂ (λ n (ns : List ℕ). n ∷ ns) (omega (arith, weight_of-append x xs ys)) (counted-append ks xs ys ns)
 
 -- nothing counted changes nothing
-pub counted_none : (ks : List Bytes) (ns : List ℕ) → length ns ≡ length ks → counted ks [] ns ≡ ns
+pub counted_none : (ks : List Bytes) (ns : List ℕ) → length ns ≡ length ks → counts_with ks [] ns ≡ ns
 counted_none [] ns e = refl
 counted_none (x ∷ ks) [] e = refl
 counted_none (x ∷ ks) (n ∷ ns) e = ap₂ (λ n (ns : List ℕ). n ∷ ns) (omega arith) (counted_none ks ns (omega arith))
@@ -65,11 +67,8 @@ place_is ks x None h e found i = (
 place_is ks x (Some j) h e found i =
     let at_j = found_at ks x j (sym e) in (
       λ p. found_at ks x i (sym e ∙ p),
-      λ p. ap Some (same_number i j (one_place ks x i j h p at_j) (one_place ks x j i h at_j p)),
+      λ p. let same : j ≡ i = grind (arith, one_place ks x i j h p at_j, one_place ks x j i h at_j p) in ap Some same,
     )
-  where
-    same_number : (i j : ℕ) → (i < j → ⊥) → (j < i → ⊥) → j ≡ i
-    same_number i j a b = grind (arith, a, b)
 
 -- a look-up by hash finds a key where it is one of them
 pub place_found : (ks : List Bytes) (x : Bytes) (r : Option ℕ) → r ≡ position (same_key x) ks
@@ -86,16 +85,13 @@ place_found ks x (Some j) e found =
 weight_of-one : (x : Bytes) (e : Entry) → weight_of x (e ∷ []) ≡ at_key x e
 weight_of-one x e = omega (arith, weight_of-cons x e [])
 
-unequal : (x : Bytes) (e : Entry) → same_key x e.0 ≡ false → at_key x e ≡ 0
-unequal x e h = ap (λ b. cond b e.1 0) h
-
 -- an item whose key is none of them
 counted_miss : (ks : List Bytes) (ns : List ℕ) (e : Entry) → length ns ≡ length ks
-    → AllByRecursion (λ y. same_key y e.0 ≡ false) ks → counted ks (e ∷ []) ns ≡ ns
+    → AllByRecursion (λ y. same_key y e.0 ≡ false) ks → counts_with ks (e ∷ []) ns ≡ ns
 counted_miss [] ns e l h = refl
 counted_miss (k ∷ ks) [] e l h = refl
 counted_miss (k ∷ ks) (n ∷ ns) e l h = ap₂ (λ n (ns : List ℕ). n ∷ ns)
-    (omega (arith, weight_of-one k e, unequal k e h.0)) (counted_miss ks ns e (omega arith) h.1)
+    (omega (arith, weight_of-one k e, at_differ k e h.0)) (counted_miss ks ns e (omega arith) h.1)
 
 above_differ : (x : Bytes) (ks : List Bytes) → AllByRecursion (λ y. key_cmp x y ≡ Less) ks
     → AllByRecursion (λ y. same_key y x ≡ false) ks
@@ -105,16 +101,13 @@ above_differ x (k ∷ ks) h = (ap is_eq (flipped x k Less h.0), above_differ x k
 none_of_them : (ks : List Bytes) (x : Bytes) → ((i : ℕ) → slice_get ks i ≡ Some x → ⊥)
     → AllByRecursion (λ y. same_key y x ≡ false) ks
 none_of_them [] x h = tt
-none_of_them (k ∷ ks) x h = (by (same_key k x) refl, none_of_them ks x (λ i p. h (suc i) p))
-  where
-    by : (b : Bool) → same_key k x ≡ b → same_key k x ≡ false
-    by true e = absurd (h 0 (ap Some (same_exact k x e)))
-    by false e = e
+none_of_them (k ∷ ks) x h =
+    (false_from_ne_true _ (λ e. h 0 (ap Some (same_exact k x e))), none_of_them ks x (λ i p. h (suc i) p))
 
 -- an item whose key is the one at this place
 counted_hit : (ks : List Bytes) (ns : List ℕ) (p : ℕ) (e : Entry) → length ns ≡ length ks
     → IsStrictlySortedBy key_cmp ks → slice_get ks p ≡ Some e.0
-    → slice_set ns p (get_or ns p 0 + e.1) ≡ counted ks (e ∷ []) ns
+    → slice_set ns p (get_or ns p 0 + e.1) ≡ counts_with ks (e ∷ []) ns
 unfolding IsStrictlySortedBy
 counted_hit [] ns p e l h at = absurd (omega (arith, slice_get_within [] p e.0 at))
 counted_hit (k ∷ ks) [] p e l h at = absurd (omega (arith, l))
@@ -126,67 +119,59 @@ counted_hit (k ∷ ks) (n ∷ ns) zero e l h at =
     ap₂ (λ n (ns : List ℕ). n ∷ ns) (omega (arith, weight))
     (sym (counted_miss ks ns e (omega arith) (above_differ e.0 ks above)))
 counted_hit (k ∷ ks) (n ∷ ns) (suc p) e l h at =
-    let less : key_cmp k e.0 ≡ Less = below k e.0 ks p h.0 at in
+    let less = subst (λ y. key_cmp k y ≡ Less) (get_or_from_slice_get ks p e.0 e.0 at)
+    (All-from_recursion (λ y. key_cmp k y ≡ Less) ks h.0 p e.0 (slice_get_within ks p e.0 at)) in
     ap₂ (λ n (ns : List ℕ). n ∷ ns) (omega (arith, weight_of-one k e, at_other k e Less less refl))
     (counted_hit ks ns p e (omega arith) h.1 at)
-  where
-    below : (k x : Bytes) (ks : List Bytes) (p : ℕ) → AllByRecursion (λ y. key_cmp k y ≡ Less) ks
-        → slice_get ks p ≡ Some x → key_cmp k x ≡ Less
-    below k x [] p h at = absurd (omega (arith, slice_get_within [] p x at))
-    below k x (y ∷ ks) zero h at = ap (key_cmp k) (sym (get_or_from_slice_get (y ∷ ks) 0 x y at)) ∙ h.0
-    below k x (y ∷ ks) (suc p) h at = below k x ks p h.1 at
 
 -- one turn of the count, at a candidate and elsewhere
 pub count_turn : (ks : List Bytes) (xs : List Entry) (ns now new : List ℕ) (i : ℕ) (e : Entry) → i < length xs
-    → e ≡ get_or xs i e → now ≡ counted ks (take i xs) ns → new ≡ counted ks (e ∷ []) now
-    → new ≡ counted ks (take (i + 1) xs) ns
+    → e ≡ get_or xs i e → now ≡ counts_with ks (take i xs) ns → new ≡ counts_with ks (e ∷ []) now
+    → new ≡ counts_with ks (take (i + 1) xs) ns
 count_turn ks xs ns now new i e l is before after =
-    after ∙ ap (counted ks (e ∷ [])) before ∙ sym (counted-append ks (take i xs) (e ∷ []) ns)
-    ∙ ap (λ (ys : List Entry). counted ks ys ns) (ap (λ y. take i xs ++ y ∷ []) is ∙ sym (take_more xs i e l))
+    after ∙ ap (counts_with ks (e ∷ [])) before ∙ sym (counted-append ks (take i xs) (e ∷ []) ns)
+    ∙ ap (λ (ys : List Entry). counts_with ks ys ns) (ap (λ y. take i xs ++ y ∷ []) is ∙ sym (take_more xs i e l))
 
 -- an item of the key at this place
 pub count_hit : (ks : List Bytes) (now : List ℕ) (p : ℕ) (x : Bytes) (w : ℕ) → IsStrictlySortedBy key_cmp ks
     → length now ≡ length ks → slice_get ks p ≡ Some x
-    → slice_set now p (get_or now p 0 + w) ≡ counted ks ((x, w) ∷ []) now
+    → slice_set now p (get_or now p 0 + w) ≡ counts_with ks ((x, w) ∷ []) now
 count_hit ks now p x w h l at = counted_hit ks now p (x, w) l h at
 
 -- an item of none of the keys
 pub count_miss : (ks : List Bytes) (now : List ℕ) (x : Bytes) (w : ℕ) → length now ≡ length ks
-    → ((i : ℕ) → slice_get ks i ≡ Some x → ⊥) → now ≡ counted ks ((x, w) ∷ []) now
+    → ((i : ℕ) → slice_get ks i ≡ Some x → ⊥) → now ≡ counts_with ks ((x, w) ∷ []) now
 count_miss ks now x w l h = sym (counted_miss ks now (x, w) l (none_of_them ks x h))
 
 -- ---- no number grows too large
 -- no key weighs more than all items
 pub weight_of-le-total_of : (x : Bytes) (xs : List Entry) → weight_of x xs ≤ total_of xs
-weight_of-le-total_of x xs = sum_by-le-sum_by (at_key x) (λ (e : Entry). e.1) xs (λ e. at_most (same_key x e.0) e.1)
-  where
-    at_most : (b : Bool) (n : ℕ) → cond b n 0 ≤ n
-    at_most true n = omega arith
-    at_most false n = omega arith
+weight_of-le-total_of x xs = sum_by-le-sum_by (at_key x) (λ (e : Entry). e.1) xs (λ e. grind arith)
 
 -- no number grows by more than the total of the items
 pub counted-le : (ks : List Bytes) (xs : List Entry) (ns : List ℕ) (p : ℕ) → length ns ≡ length ks
-    → get_or (counted ks xs ns) p 0 ≤ get_or ns p 0 + total_of xs
+    → get_or (counts_with ks xs ns) p 0 ≤ get_or ns p 0 + total_of xs
 counted-le [] xs ns p l = omega arith
 counted-le (k ∷ ks) xs [] p l = absurd (omega (arith, l))
 counted-le (k ∷ ks) xs (n ∷ ns) zero l = omega (arith, weight_of-le-total_of k xs)
 counted-le (k ∷ ks) xs (n ∷ ns) (suc p) l = counted-le ks xs ns p (omega arith)
 
 length-counted : (ks : List Bytes) (xs : List Entry) (ns : List ℕ) → length ns ≡ length ks
-    → length (counted ks xs ns) ≡ length ks
+    → length (counts_with ks xs ns) ≡ length ks
 length-counted [] xs ns l = l
 length-counted (k ∷ ks) xs [] l = l
 length-counted (k ∷ ks) xs (n ∷ ns) l = ap suc (length-counted ks xs ns (omega (arith, l)))
 
 -- numbers that are at most m are at most m and the total of what is counted
 pub counts_stay_within : (ks : List Bytes) (xs : List Entry) (ns : List ℕ) (m : ℕ) → length ns ≡ length ks
-    → All (λ n. n ≤ m) ns → (length (counted ks xs ns) ≡ length ks) × All (λ n. n ≤ m + total_of xs) (counted ks xs ns)
+    → All (λ n. n ≤ m) ns
+    → (length (counts_with ks xs ns) ≡ length ks) × All (λ n. n ≤ m + total_of xs) (counts_with ks xs ns)
 counts_stay_within ks xs ns m l h = (length-counted ks xs ns l, bound)
   where
-    bound : All (λ n. n ≤ m + total_of xs) (counted ks xs ns)
+    bound : All (λ n. n ≤ m + total_of xs) (counts_with ks xs ns)
     bound i d lt =
         let within : get_or ns i 0 ≤ m = h i 0 (omega (arith, lt, l, length-counted ks xs ns l)) in
-        omega (arith, get_or_default (counted ks xs ns) i d 0 lt, counted-le ks xs ns i l, within)
+        omega (arith, get_or_default (counts_with ks xs ns) i d 0 lt, counted-le ks xs ns i l, within)
 
 -- ---- the keys of a summary
 -- the next of rising keys is new to those before it
@@ -206,20 +191,15 @@ insert_next ks i x h l is =
         ap (same_key x) (get_or-take i ks j d below) ∙ ap is_eq
         (flipped (get_or ks j d) x Less (ap (key_cmp (get_or ks j d)) (sym here) ∙ less))
 
-none_apart : (a b : Bool) → (a || b) ≡ false → (a ≡ false) × (b ≡ false)
-none_apart true b h = absurd (true≢false h)
-none_apart false b h = (refl, h)
-
 -- a key that is no key of counters is none of those that pass a test
 absent-filter : (may : Entry → Bool) (x : Bytes) (c : Counters) → list_any (same_key x) (keys_of c) ≡ false
     → list_any (same_key x) (keys_of (filter may c)) ≡ false
 absent-filter may x [] h = h
 absent-filter may x (e ∷ c) h =
-    let apart = none_apart (same_key x e.0) (list_any (same_key x) (keys_of c)) h in
-    elim (may e) as (λ b. list_any (same_key x) (keys_of (cond b (e ∷ filter may c) (filter may c))) ≡ false) [
-      | true ↦ ap₂ (λ a b. a || b) apart.0 (absent-filter may x c apart.1)
-      | false ↦ absent-filter may x c apart.1
-    ]
+    let apart = or_parts (same_key x e.0) (list_any (same_key x) (keys_of c)) h in
+    let rest = absent-filter may x c apart.1 in
+    cond_both (may e) _ _ (λ (d : Counters). list_any (same_key x) (keys_of d) ≡ false)
+    (λ _. or_from _ _ apart.0 rest) (λ _. rest)
 
 -- a key of rising counters is none of those before it
 absent_before : (c : Counters) (i : ℕ) (e : Entry) → IsStrictlySortedBy key_cmp (keys_of c) → i < length c
@@ -230,16 +210,12 @@ absent_before c i e rising l at = list_any_none (same_key e.0) (keys_of (take i 
         → same_key e.0 (get_or (keys_of (take i c)) j d) ≡ false
     differ j d m =
         let below : j < i = omega (arith, m, length-keys_of (take i c), length-take i c) in
-        let long : j < length (take i c) = omega (arith, m, length-keys_of (take i c)) in
-        let there : get_or (keys_of (take i c)) j d ≡ get_or (keys_of c) j d = get_or-map (λ (f : Entry). f.0)
-        (take i c) j e d long ∙ ap (λ (f : Entry). f.0) (get_or-take i c j e below)
-        ∙ sym (get_or-map (λ (f : Entry). f.0) c j e d (omega arith)) in
-        let here : get_or (keys_of c) i d ≡ e.0 =
-        get_or-map (λ (f : Entry). f.0) c i e d l ∙ ap (λ (f : Entry). f.0) at in
-        let less : key_cmp (get_or (keys_of c) j d) (get_or (keys_of c) i d) ≡ Less =
-        Less-from_sorted key_cmp (keys_of c) j i d rising below (omega (arith, l, length-keys_of c)) in
-        ap (same_key e.0) there ∙ ap is_eq (flipped (get_or (keys_of c) j d) e.0 Less
-        (ap (key_cmp (get_or (keys_of c) j d)) (sym here) ∙ less))
+        let there = get_or-map (λ (f : Entry). f.0) (take i c) j e d (omega (arith, m, length-keys_of (take i c)))
+        ∙ ap (λ (f : Entry). f.0) (get_or-take i c j e below) in
+        let less =
+        Less-from_sorted (λ (a b : Entry). key_cmp a.0 b.0) c j i e (rising_entries c rising) below l in
+        ap (same_key e.0) there ∙ ap is_eq (flipped (get_or c j e).0 e.0 Less
+        (ap (λ (f : Entry). key_cmp (get_or c j e).0 f.0) (sym at) ∙ less))
 
 -- a key of rising counters that passes a test comes behind those before it that pass
 pub insert_passing : (may : Entry → Bool) (c : Counters) (i : ℕ) (e : Entry) → IsStrictlySortedBy key_cmp (keys_of c)

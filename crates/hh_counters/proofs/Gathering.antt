@@ -1,117 +1,84 @@
--- Keys in buckets of counters that they had: what a hit leaves, the first key moved up, and the least counter.
-use Rattle.std.proofs.Common.{◌≡◌, ◌≢◌, ℕ, zero, suc, ◌+◌, ◌<◌, ◌≤◌, Bool, true, false, cond, ◌&&◌, List, [], ◌∷◌, length, get_or, Option, Some, None, refl, sym, ap, ◌∙◌, subst, arith}
-use Rattle.std.specs.Prelude.{nat_lt, ◌==◌, IfSome, IsSome, is_some, slice_get, position}
+-- Keys in buckets of counters that they had: the first key moved up, and the least counter.
+use Rattle.std.proofs.Common.{◌≡◌, ◌≢◌, ℕ, ◌<◌, ◌≤◌, Bool, true, false, cond, List, [], ◌∷◌, length, get_or, Option, Some, refl, sym, ap, ◌∙◌, subst, true≢false, arith}
+use Rattle.std.specs.Prelude.{IfSome, IsSome, IsTrue, slice_get}
+use Rattle.std.specs.BTreeSet.{Updates, insert_key}
 use Rattle.std.specs.List.{AllByRecursion, sum_by}
 use Rattle.std.specs.Map.{keys_of, lookup}
 use Rattle.std.proofs.lemmas.Bool.Decides.{nat_tests}
 use Rattle.std.proofs.lemmas.List.Elements.{recursion_from_All}
-use Rattle.std.proofs.lemmas.List.Quantifiers.{position-Some}
 use Rattle.std.proofs.lemmas.List.Sums.{sum_by-cons, sum_by-le-sum_by}
 use Rattle.hh_stream.specs.Weights.{Bytes, Entry, same_key, weight_of}
 use Rattle.hh_counters.specs.Counters.{tally, least_counter}
-use Rattle.hh_counters.specs.Buckets.{Buckets, place_at, AreOrdered, IsFirst, HasFirst, RaisesFirst, Agree, IsStanding, Stand}
-use Rattle.hh_counters.proofs.Weights.{same_exact, same_self, weight_of-tally}
+use Rattle.hh_counters.specs.Buckets.{Buckets, by_counter, is_in, Stand}
+use Rattle.hh_counters.proofs.Weights.{Distinct, same_exact, same_self, weight_of-tally}
 use Rattle.hh_counters.proofs.Stepping.{at_least_all, at_least_each, least_counter-le, least_counter-ge}
-use Rattle.hh_counters.proofs.Linked.{Distinct, PositiveAt, counters-view, found, held, length-view, moved_up, somewhere, stored_key}
+use Rattle.hh_counters.proofs.Linked.{PositiveAt, counters-view, first_popped, found, held, length-view, marks, moved_up, others_stay, sent}
 
--- ---- how far the keys stand below their counters
--- by how many numbers a bucket of the key q lies below the number n
-abbrev gap : Buckets → Bytes → ℕ → ℕ
-gap b q zero = 0
-gap b q (suc n) = cond (is_some (place_at b (suc n) q)) 0 (suc (gap b q n))
-
-here : (m n : ℕ) → (nat_lt 0 (suc n) && (m == suc n)) ≡ true → m ≡ suc n
-here m n is = grind (arith, nat_tests, is)
-
-up_to : (m n : ℕ) → (nat_lt 0 (suc n) && (m == suc n)) ≡ false → m ≤ suc n → m ≤ n
-up_to m n is le = grind (arith, nat_tests, is, le)
-
-gap_is : (f : Bytes → ℕ) (ks : List Bytes) (b : Buckets) (q : Bytes) (n : ℕ) → Agree f ks b
-    → IsSome (position (same_key q) ks) → 0 < f q → f q ≤ n → gap b q n + f q ≡ n
-gap_is f ks b q zero a there some le = absurd (omega (arith, some, le))
-gap_is f ks b q (suc n) a there some le =
-    ap (λ t. cond t 0 (suc (gap b q n)) + f q) (ap is_some (a (suc n) q)
-    ∙ test (nat_lt 0 (suc n) && (f q == suc n)) (position (same_key q) ks) there)
-    ∙ by (nat_lt 0 (suc n) && (f q == suc n)) refl (λ within. gap_is f ks b q n a there some within)
-  where
-    test : (t : Bool) (o : Option ℕ) → IsSome o → is_some (cond t o None) ≡ t
-    test true o there = there
-    test false o there = refl
-
-    by : (t : Bool) → (nat_lt 0 (suc n) && (f q == suc n)) ≡ t → (f q ≤ n → gap b q n + f q ≡ n)
-        → cond t 0 (suc (gap b q n)) + f q ≡ suc n
-    by true is rest = omega (arith, here (f q) n is)
-    by false is rest = omega (arith, rest (up_to (f q) n is le))
-
--- a key's gap and the number of its bucket add up to its counter
-gap_at : (exact : Bool) (f : Bytes → ℕ) (es : List Entry) (b : Buckets) (q : Bytes) → IsStanding exact f es b
-    → 0 < weight_of q (tally es) → gap b q (weight_of q (tally es)) + f q ≡ weight_of q (tally es)
-gap_at exact f es b q old some =
-    gap_is f (keys_of es) b q _ old.agree (somewhere es q old.distinct some) ((old.below q).1 some) (old.below q).0
+-- ---- how many keys wait
+-- 1 where the key q is not in the bucket of its counter
+abbrev waits : List Entry → Buckets → Bytes → ℕ
+waits es b q = cond (is_in b (weight_of q (tally es)) q) 0 1
 
 -- the measure of the moves
 abbrev pub lag : List Entry → Buckets → ℕ
-lag es b = sum_by (λ q. gap b q (weight_of q (tally es))) (keys_of es)
+lag es b = sum_by (waits es b) (keys_of es)
 
--- a sum is less where no term is more and one is less
-sum_less : (f g : Bytes → ℕ) (ks : List Bytes) (i : ℕ) (d : Bytes) → ((q : Bytes) → g q ≤ f q) → i < length ks
-    → g (get_or ks i d) < f (get_or ks i d) → sum_by g ks < sum_by f ks
-sum_less f g [] i d le l less = absurd (omega (arith, l))
-sum_less f g (k ∷ ks) zero d le l less =
-    omega (arith, less, sum_by-le-sum_by g f ks le, sum_by-cons g k ks, sum_by-cons f k ks)
-sum_less f g (k ∷ ks) (suc i) d le l less =
-    omega (arith, le k, sum_less f g ks i d le (omega (arith, l)) less, sum_by-cons g k ks, sum_by-cons f k ks)
-
--- it falls where a key moves up to the bucket of its counter and the others stay
-lag_falls : (f : Bytes → ℕ) (es : List Entry) (b d : Buckets) (n v : ℕ) (x : Bytes) (i : ℕ) → IsStanding false f es b
-    → IsStanding false (λ q. cond (same_key x q) v (f q)) es d → f x ≡ n → position (same_key x) (keys_of es) ≡ Some i
-    → weight_of x (tally es) ≡ v → n < v → lag es d < lag es b
-lag_falls f es b d n v x i old new from at counter less =
-    let here = position-Some (same_key x) (keys_of es) i x at in
-    let some : 0 < weight_of x (tally es) = omega (arith, counter, less) in
-    let to : cond (same_key x x) v (f x) ≡ v = ap (λ t. cond t v (f x)) (same_self x) in
-    let own : gap d x (weight_of x (tally es)) < gap b x (weight_of x (tally es)) =
-    omega (arith, gap_at false f es b x old some, gap_at false _ es d x new some, to, from, counter, less) in
-    sum_less _ _ (keys_of es) i x (λ q. no_wider q (weight_of q (tally es)) refl) here.0
-    (subst (λ z. gap d z (weight_of z (tally es)) < gap b z (weight_of z (tally es))) (same_exact x _ here.1) own)
+-- a sum is less where no term is more and that of a key of the index is less
+sum_less : (f g : Bytes → ℕ) (x : Bytes) (es : List Entry) → ((q : Bytes) → g q ≤ f q) → g x < f x
+    → IsSome (lookup (same_key x) es) → sum_by g (keys_of es) < sum_by f (keys_of es)
+sum_less f g x [] le less has = absurd (true≢false (sym has))
+sum_less f g x (e ∷ es) le less has = by (same_key x e.0) refl has (λ h. sum_less f g x es le less h)
   where
-    stays : (q : Bytes) → f q ≤ cond (same_key x q) v (f q)
-    stays q = elim (same_key x q) as (λ t. same_key x q ≡ t → f q ≤ cond t v (f q)) [
-      | true ↦ λ same. omega (arith, ap f (same_exact x q same), from, less)
-      | false ↦ λ other. omega arith
-    ] refl
+    by : (t : Bool) → same_key x e.0 ≡ t → IsSome (cond t (Some e.1) (lookup (same_key x) es))
+        → (IsSome (lookup (same_key x) es) → sum_by g (keys_of es) < sum_by f (keys_of es))
+        → sum_by g (keys_of (e ∷ es)) < sum_by f (keys_of (e ∷ es))
+    by true same has rest =
+        let here : g e.0 < f e.0 = subst (λ z. g z < f z) (same_exact x e.0 same) less in
+        let others = sum_by-le-sum_by g f (keys_of es) le in
+        omega (arith, here, others, sum_by-cons g e.0 (keys_of es), sum_by-cons f e.0 (keys_of es))
+    by false other has rest =
+        omega (arith, le e.0, rest has, sum_by-cons g e.0 (keys_of es), sum_by-cons f e.0 (keys_of es))
 
-    no_wider : (q : Bytes) (w : ℕ) → weight_of q (tally es) ≡ w → gap d q w ≤ gap b q w
-    no_wider q zero is = omega arith
-    no_wider q (suc w) is =
-        let some : 0 < weight_of q (tally es) = omega (arith, is) in
-        subst (λ m. gap d q m ≤ gap b q m) is
-        (omega (arith, stays q, gap_at false f es b q old some, gap_at false _ es d q new some))
+-- it falls where a key comes into the bucket of its counter and the others stay
+lag_falls : (es : List Entry) (b d : Buckets) (v : ℕ) (x : Bytes) → IsSome (lookup (same_key x) es)
+    → weight_of x (tally es) ≡ v → is_in b v x ≡ false → is_in d v x ≡ true
+    → ((c : ℕ) (q : Bytes) → same_key x q ≡ false → is_in d c q ≡ is_in b c q) → lag es d < lag es b
+lag_falls es b d v x has counter before after stays =
+    sum_less (waits es b) (waits es d) x es (λ q. no_more q (same_key x q) refl) (omega (arith, settled, waited)) has
+  where
+    settled : waits es d x ≡ 0
+    settled = rw counter (ap {B = ℕ} (λ t. cond t 0 1) after)
+
+    waited : waits es b x ≡ 1
+    waited = rw counter (ap {B = ℕ} (λ t. cond t 0 1) before)
+
+    no_more : (q : Bytes) (t : Bool) → same_key x q ≡ t → waits es d q ≤ waits es b q
+    no_more q true same = subst (λ z. waits es d z ≤ waits es b z) (same_exact x q same) (omega (arith, settled))
+    no_more q false other = omega (arith, ap {B = ℕ} (λ t. cond t 0 1) (stays (weight_of q (tally es)) q other))
 
 -- ---- the first key moved up
--- what stands at the place of the first key of the first bucket is that key with its counter
-pub settled_key : (es : List Entry) (b : Buckets) (n : ℕ) (x : Bytes) (i : ℕ) (y : Bytes) (v : ℕ) → Stand false es b
-    → IsFirst b n x i → slice_get es i ≡ Some (y, v) → lookup (same_key y) es ≡ Some v
-    → (y ≡ x) × (weight_of x (tally es) ≡ v)
-settled_key es b n x i y v stand first at value =
-    let place = held stand.0 (keys_of es) b n x i stand.1.agree first.there in
-    let same : y ≡ x = stored_key es x i y v place.2 at in
-    (same, ap (λ z. weight_of z (tally es)) (sym same) ∙ found es y v stand.1.distinct value)
-
 -- put into the bucket of its counter, it leaves less to do
-pub moved_on : (es : List Entry) (b d : Buckets) (n i : ℕ) (y : Bytes) (v : ℕ) → Stand false es b → HasFirst b n i
-    → slice_get es i ≡ Some (y, v) → lookup (same_key y) es ≡ Some v → v ≢ n → RaisesFirst b d v y i → AreOrdered d
-    → Stand false es d × (lag es d < lag es b)
-moved_on es b d n i y v stand front at value differ raises ordered =
+pub moved_on : (es : List Entry) (b m d : Buckets) (n v : ℕ) (x z : Bytes) (o : Option (ℕ × Bytes)) → Stand es b
+    → slice_get b.keys 0 ≡ Some (n, x) → IsTrue (is_in b n x) → lookup (same_key x) es ≡ Some v → v ≢ n → z ≡ x
+    → Updates by_counter b m (v, z) true → m.keys ≡ insert_key by_counter b.keys (v, z)
+    → (0 < length m.keys → IsSome o) → IfSome o (λ r. m.keys ≡ r ∷ d.keys)
+    → IfSome o (λ r. Updates by_counter m d r false) → Stand es d × (lag es d < lag es b)
+moved_on es b m d n v x z o stand front in_it value differ copy put sorted some popped taken =
     let f = stand.0 in
     let old = stand.1 in
-    let x = front.0 in
-    let key = settled_key es b n x i y v stand front.1 at value in
-    let from = held f (keys_of es) b n x i old.agree front.1.there in
-    let less : n < v = above n v (omega (arith, from.0, (old.below x).0, key.1)) differ in
-    let moves = subst (λ (z : Bytes). RaisesFirst b d v z i) key.0 raises n front.1 less in
-    let new = moved_up false f es b d n v x i old from less key.1 moves ordered in
-    ((λ q. cond (same_key x q) v (f q), new), lag_falls f es b d n v x i old new from.0 from.2 key.1 less)
+    let counter = found es x v old.distinct value in
+    let at = held f es b n x old in_it in
+    let less : n < v = above n v (omega (arith, at.0, (old.below x).0, counter)) differ in
+    let is = first_popped b.keys m.keys d.keys (n, x) (v, z) o front less sorted some popped in
+    let up = marks b m v x true (subst (λ k. Updates by_counter b m (v, k) true) copy put) in
+    let gone = marks m d n x false (subst (λ o. IfSome o (λ r. Updates by_counter m d r false)) is taken) in
+    let absent : is_in b v x ≡ false = old.agree v x ∙ grind (arith, nat_tests, at.0, less) in
+    let there : is_in d v x ≡ true = gone v x ∙ grind (arith, nat_tests, up v x, same_self x, less) in
+    let stays : (c : ℕ) (q : Bytes) → same_key x q ≡ false → is_in d c q ≡ is_in b c q =
+    λ c q other. others_stay m d n x false gone c q other ∙ others_stay b m v x true up c q other in (
+      (sent f x v, moved_up f es b m d n v x old at.0 less counter up gone),
+      lag_falls es b d v x (subst IsSome (sym value) refl) counter absent there stays,
+    )
   where
     above : (n v : ℕ) → n ≤ v → v ≢ n → n < v
     above n v le differ = grind (arith, nat_tests, le, differ)

@@ -1,5 +1,5 @@
 -- The level, and what a cut takes.
-use Rattle.std.proofs.Common.{◌≡◌, ℕ, suc, ◌+◌, ◌-◌, ◌*◌, ◌<◌, ◌≤◌, ◌⊎◌, inl, inr, ⊎_elim, Bool, true, false, cond, min, max, leb, List, [], ◌∷◌, ◌++◌, length, get_or, map, Less, Equal, Greater, refl, sym, ap, ◌∙◌, subst, is_eq, mul-one, mul-zero, mul-add, arith}
+use Rattle.std.proofs.Common.{◌≡◌, ℕ, suc, ◌+◌, ◌-◌, ◌*◌, ◌<◌, ◌≤◌, ◌⊎◌, inl, inr, ⊎_elim, Bool, true, false, cond, min, max, List, [], ◌∷◌, ◌++◌, length, get_or, map, Less, refl, sym, ap, ◌∙◌, subst, mul-one, mul-zero, mul-add, arith}
 use Rattle.std.specs.Prelude.{filter, fold, count_by, nat_lt, nat_le, IsPermutation}
 use Rattle.std.specs.List.{AllByRecursion}
 use Rattle.std.specs.List.Sorted.{IsStrictlySortedBy, IsSplitAround}
@@ -8,38 +8,27 @@ use Rattle.std.specs.Map.{keys_of, values_of}
 use Rattle.std.proofs.lemmas.List.Sums.{sum_by-cons, sum_by-append, count_by-le-length}
 use Rattle.std.proofs.lemmas.List.Sorted.{sum_by-IsPermutation}
 use Rattle.std.proofs.lemmas.Map.Keys.{ge_from_not_lt}
-use Rattle.std.proofs.lemmas.Bool.Decides.{nat_tests, leb_tells}
-use Rattle.hh_stream.specs.Weights.{Bytes, Entry, key_cmp, at_key, weight_of, total_of}
+use Rattle.std.proofs.lemmas.Bool.{cases_lt, cond_both}
+use Rattle.std.proofs.lemmas.Bool.Decides.{nat_tests}
+use Rattle.hh_stream.specs.Weights.{Bytes, Entry, key_cmp, same_key, weight_of, total_of}
 use Rattle.hh_counters.specs.Counters.{Counters, IsCounters, exceeds, over, IsLevel, less_by, least_passing, level, lower, least_counter}
-use Rattle.hh_counters.proofs.Weights.{weight_of-cons, total_of-cons, weight_above, at_other, key_exact}
+use Rattle.hh_counters.proofs.Weights.{weight_of-cons, total_of-cons, weight_above, same_exact}
 
 -- how many counters exceed a number, with one more
 pub over-cons : (e : Entry) (c : Counters) (t : ℕ) → over (e ∷ c) t ≡ cond (nat_lt t e.1) 1 0 + over c t
 over-cons e c t = sum_by-cons (λ d. cond (exceeds t d) 1 0) e c
 
 -- ---- the least that passes
-least_passing-le : (p : ℕ → Bool) (d : ℕ) (ns : List ℕ) → least_passing p d ns ≤ d
-least_passing-le p d [] = omega arith
-least_passing-le p d (n ∷ ns) = elim (p n) as (λ b. cond b (min n (least_passing p d ns)) (least_passing p d ns) ≤ d) [
-  | true ↦ omega (arith, least_passing-le p d ns)
-  | false ↦ least_passing-le p d ns
-]
-
 -- the lesser of two numbers is one of them
 pub min_is : (m n : ℕ) → (min m n ≡ m) ⊎ (min m n ≡ n)
-min_is m n = ⊎_elim (λ (h : (leb m n ≡ true) × (m ≤ n)). inl (omega arith))
-    (λ (h : (leb m n ≡ false) × (n < m)). inr (omega arith)) (leb_tells m n)
+min_is m n = ⊎_elim (λ (h : m < n). inl (omega arith)) (λ (h : n ≤ m). inr (omega arith)) (cases_lt m n)
 
 least_passing_passes : (p : ℕ → Bool) (d : ℕ) (ns : List ℕ) → p d ≡ true → p (least_passing p d ns) ≡ true
 least_passing_passes p d [] h = h
 least_passing_passes p d (n ∷ ns) h =
-    elim (p n) as (λ b. p n ≡ b → p (cond b (min n (least_passing p d ns)) (least_passing p d ns)) ≡ true) [
-      | true ↦ λ e. ⊎_elim
-          (λ (m : min n (least_passing p d ns) ≡ n). ap p m ∙ e)
-          (λ (m : min n (least_passing p d ns) ≡ least_passing p d ns). ap p m ∙ least_passing_passes p d ns h)
-          (min_is n (least_passing p d ns))
-      | false ↦ λ e. least_passing_passes p d ns h
-    ] refl
+    let rest = least_passing_passes p d ns h in
+    cond_both (p n) (min n (least_passing p d ns)) (least_passing p d ns) (λ m. p m ≡ true)
+    (λ e. ⊎_elim (λ m. ap p m ∙ e) (λ m. ap p m ∙ rest) (min_is n (least_passing p d ns))) (λ _. rest)
 
 -- the largest of 0 and those of ns that are at most s
 floor : ℕ → List ℕ → ℕ
@@ -108,22 +97,18 @@ length-lower t (e ∷ c) = grind (arith, nat_tests, over-cons e c t, length-lowe
 pub lower-cons : (t : ℕ) (e : Entry) (c : Counters)
     → lower t (e ∷ c) ≡ cond (nat_lt t e.1) ((e.0, e.1 - t) ∷ lower t c) (lower t c)
 unfolding lower
-lower-cons t e c =
-    elim (nat_lt t e.1) as (λ b. map (less_by t) (cond b (e ∷ filter (exceeds t) c) (filter (exceeds t) c))
-    ≡ cond b ((e.0, e.1 - t) ∷ lower t c) (lower t c)) [
-      | true ↦ refl
-      | false ↦ refl
-    ]
+lower-cons t e c = by (nat_lt t e.1)
+  where
+    by : (b : Bool) → map (less_by t) (cond b (e ∷ filter (exceeds t) c) (filter (exceeds t) c))
+        ≡ cond b ((e.0, e.1 - t) ∷ lower t c) (lower t c)
+    by true = refl
+    by false = refl
 
 -- a claim on what is left of e and c, where e exceeds t and where it does not
 pub by_lower : (P : Counters → Type 0) (t : ℕ) (e : Entry) (c : Counters) → (t < e.1 → P ((e.0, e.1 - t) ∷ lower t c))
     → (e.1 ≤ t → P (lower t c)) → P (lower t (e ∷ c))
-by_lower P t e c more less =
-    rw (lower-cons t e c) (elim (nat_lt t e.1) as (λ b. nat_lt t e.1 ≡ b
-    → P (cond b ((e.0, e.1 - t) ∷ lower t c) (lower t c))) [
-      | true ↦ λ p. more (grind (arith, nat_tests, p))
-      | false ↦ λ p. less (grind (arith, nat_tests, p))
-    ] refl)
+by_lower P t e c more less = rw (lower-cons t e c) (cond_both (nat_lt t e.1) _ _ P
+    (λ p. more (grind (arith, nat_tests, p))) (λ p. less (grind (arith, nat_tests, p))))
 
 above_lower : (z : Bytes) (t : ℕ) (c : Counters) → AllByRecursion (λ y. key_cmp z y ≡ Less) (keys_of c)
     → AllByRecursion (λ y. key_cmp z y ≡ Less) (keys_of (lower t c))
@@ -155,47 +140,13 @@ pub weight_of-lower : (t : ℕ) (x : Bytes) (c : Counters) → IsStrictlySortedB
 unfolding IsStrictlySortedBy
 weight_of-lower t x [] h = ap (weight_of x) (lower-nil t) ∙ omega arith
 weight_of-lower t x (e ∷ c) h =
+    let alone : same_key x e.0 ≡ true → weight_of x c ≡ 0 =
+    λ s. ap (λ k. weight_of k c) (same_exact x e.0 s) ∙ weight_above e.0 c h.0 in
+    let whole = weight_of-cons x e c in
+    let rest = weight_of-lower t x c h.1 in
     by_lower (λ d. weight_of x d ≡ weight_of x (e ∷ c) - t) t e c
-    (λ l. elim (key_cmp x e.0) as (λ r. key_cmp x e.0 ≡ r
-    → weight_of x ((e.0, e.1 - t) ∷ lower t c) ≡ weight_of x (e ∷ c) - t) [
-      | Less ↦ λ p. omega (
-        arith,
-        weight_of-cons x (e.0, e.1 - t) (lower t c),
-        weight_of-cons x e c,
-        at_other x (e.0, e.1 - t) Less p refl,
-        at_other x e Less p refl,
-        weight_of-lower t x c h.1,
-      )
-      | Equal ↦ λ p. omega (
-        arith,
-        weight_of-cons x (e.0, e.1 - t) (lower t c),
-        weight_of-cons x e c,
-        at_equal x (e.0, e.1 - t) p,
-        at_equal x e p,
-        weight_of-lower t x c h.1,
-        alone x e c h.0 p,
-      )
-      | Greater ↦ λ p. omega (
-        arith,
-        weight_of-cons x (e.0, e.1 - t) (lower t c),
-        weight_of-cons x e c,
-        at_other x (e.0, e.1 - t) Greater p refl,
-        at_other x e Greater p refl,
-        weight_of-lower t x c h.1,
-      )
-    ] refl)
-    (λ l. elim (key_cmp x e.0) as (λ r. key_cmp x e.0 ≡ r → weight_of x (lower t c) ≡ weight_of x (e ∷ c) - t) [
-      | Less ↦ λ p. omega (arith, weight_of-cons x e c, at_other x e Less p refl, weight_of-lower t x c h.1)
-      | Equal ↦ λ p. omega (arith, weight_of-cons x e c, at_equal x e p, weight_of-lower t x c h.1, alone x e c h.0 p)
-      | Greater ↦ λ p. omega (arith, weight_of-cons x e c, at_other x e Greater p refl, weight_of-lower t x c h.1)
-    ] refl)
-  where
-    at_equal : (x : Bytes) (e : Entry) → key_cmp x e.0 ≡ Equal → at_key x e ≡ e.1
-    at_equal x e p = ap (λ r. cond (is_eq r) e.1 0) p
-
-    alone : (x : Bytes) (e : Entry) (c : Counters) → AllByRecursion (λ y. key_cmp e.0 y ≡ Less) (keys_of c)
-        → key_cmp x e.0 ≡ Equal → weight_of x c ≡ 0
-    alone x e c h p = ap (λ k. weight_of k c) (key_exact x e.0 p) ∙ weight_above e.0 c h
+    (λ l. grind (arith, alone, whole, rest, weight_of-cons x (e.0, e.1 - t) (lower t c)))
+    (λ l. grind (arith, alone, whole, rest))
 
 -- at least t is taken from each of the counters that are at least t
 pub total_of-lower : (u : ℕ) (c : Counters) → total_of (lower (u + 1) c) + (u + 1) * over c u ≤ total_of c
@@ -211,11 +162,8 @@ total_of-lower u (e ∷ c) =
     let whole : cond (nat_lt u e.1) 1 0 ≡ 1 = grind (arith, nat_tests, l) in
     let times : (u + 1) * cond (nat_lt u e.1) 1 0 ≡ u + 1 = ap (λ n. (u + 1) * n) whole ∙ mul-one (u + 1) in
     omega arith)
-    (λ l. let times : (u + 1) * cond (nat_lt u e.1) 1 0 ≤ e.1 =
-    elim (nat_lt u e.1) as (λ b. nat_lt u e.1 ≡ b → (u + 1) * cond b 1 0 ≤ e.1) [
-      | true ↦ λ p. grind (arith, nat_tests, p, mul-one (u + 1))
-      | false ↦ λ p. omega (arith, mul-zero (u + 1))
-    ] refl in
+    (λ l. let times : (u + 1) * cond (nat_lt u e.1) 1 0 ≤ e.1 = cond_both (nat_lt u e.1) 1 0 (λ n. (u + 1) * n ≤ e.1)
+    (λ p. grind (arith, nat_tests, p, mul-one (u + 1))) (λ p. omega (arith, mul-zero (u + 1))) in
     omega arith)
 
 -- lowering adds nothing to the total
@@ -226,13 +174,10 @@ total_of-lower-le t (e ∷ c) = by_lower (λ d. total_of d ≤ total_of (e ∷ c
     (λ l. omega (arith, total_of-cons e c, total_of-lower-le t c))
 
 -- ---- the level where few counters, or one too many, are there
-over-le-length : (c : Counters) (t : ℕ) → over c t ≤ length c
-over-le-length c t = count_by-le-length (exceeds t) c
-
 -- where there are at most k counters, the level is 0
 pub level_few : (c : Counters) (k : ℕ) → length c ≤ k → level c k ≡ 0
 level_few c k h = one_level c k _ 0 (is_level c k)
-    (record { at_most = omega (arith, over-le-length c 0); least = λ s g. omega arith })
+    (record { at_most = omega (arith, count_by-le-length (exceeds 0) c); least = λ s g. omega arith })
 
 -- all counters exceed what is below each
 pub over_all : (c : Counters) (t m : ℕ) → AllByRecursion (λ (e : Entry). m ≤ e.1) c → t < m → over c t ≡ length c
@@ -241,11 +186,7 @@ over_all (e ∷ c) t m a h = grind (arith, nat_tests, over-cons e c t, a.0, h, o
 
 -- with more than k counters, none below m
 pub level_above : (c : Counters) (k m : ℕ) → AllByRecursion (λ (e : Entry). m ≤ e.1) c → k < length c → m ≤ level c k
-level_above c k m a h = ⊎_elim
-    (λ (f : (leb m (level c k) ≡ true) × (m ≤ level c k)). f.1)
-    (λ (f : (leb m (level c k) ≡ false) × (level c k < m)). absurd
-    (omega (arith, over_all c (level c k) m a f.1, (is_level c k).at_most)))
-    (leb_tells m (level c k))
+level_above c k m a h = grind (arith, over_all c (level c k) m a, (is_level c k).at_most)
 
 -- ---- the level by selection
 over-values : (c : Counters) (t : ℕ) → over c t ≡ count_by (nat_lt t) (values_of c)
@@ -258,34 +199,21 @@ over_split : (c : Counters) (t x : ℕ) (front back : List ℕ) → IsPermutatio
     → over c t ≡ count_by (nat_lt t) front + (cond (nat_lt t x) 1 0 + count_by (nat_lt t) back)
 over_split c t x front back p =
     let one : ℕ → ℕ = λ n. cond (nat_lt t n) 1 0 in
-    omega (
-      arith,
-      over-values c t,
-      sum_by-IsPermutation one (values_of c) (front ++ x ∷ back) p,
-      sum_by-append one front (x ∷ back),
-      sum_by-cons one x back,
-    )
+    let same = sum_by-IsPermutation one (values_of c) (front ++ x ∷ back) p in
+    omega (arith, over-values c t, same, sum_by-append one front (x ∷ back), sum_by-cons one x back)
 
 none_exceed : (t : ℕ) (ns : List ℕ) → ((k d : ℕ) → k < length ns → get_or ns k d ≤ t) → count_by (nat_lt t) ns ≡ 0
 none_exceed t [] h = refl
-none_exceed t (n ∷ ns) h = grind (
-  arith,
-  nat_tests,
-  sum_by-cons (λ n. cond (nat_lt t n) 1 0) n ns,
-  h 0 0 (omega arith),
-  none_exceed t ns (λ k d l. h (suc k) d (omega arith)),
-)
+none_exceed t (n ∷ ns) h =
+    let rest = none_exceed t ns (λ k d l. h (suc k) d (omega arith)) in
+    grind (arith, nat_tests, sum_by-cons (λ n. cond (nat_lt t n) 1 0) n ns, h 0 0 (omega arith), rest)
 
 all_exceed : (t : ℕ) (ns : List ℕ) → ((k d : ℕ) → k < length ns → t < get_or ns k d)
     → count_by (nat_lt t) ns ≡ length ns
 all_exceed t [] h = refl
-all_exceed t (n ∷ ns) h = grind (
-  arith,
-  nat_tests,
-  sum_by-cons (λ n. cond (nat_lt t n) 1 0) n ns,
-  h 0 0 (omega arith),
-  all_exceed t ns (λ k d l. h (suc k) d (omega arith)),
-)
+all_exceed t (n ∷ ns) h =
+    let rest = all_exceed t ns (λ k d l. h (suc k) d (omega arith)) in
+    grind (arith, nat_tests, sum_by-cons (λ n. cond (nat_lt t n) 1 0) n ns, h 0 0 (omega arith), rest)
 
 -- the number with k numbers behind it, none of them less, and none before it greater
 pub level_from_split : (c : Counters) (k x : ℕ) (front back : List ℕ) → IsPermutation (values_of c) (front ++ x ∷ back)
@@ -293,16 +221,12 @@ pub level_from_split : (c : Counters) (k x : ℕ) (front back : List ℕ) → Is
 level_from_split c k x front back p len split = one_level c k x _ (record {
   at_most =
       let before = none_exceed x front (λ j d l. ge_from_not_lt x (get_or front j d) (split.0 j d l)) in
-      let here : ◌≡◌ {A = ℕ} (cond (nat_lt x x) 1 0) 0 = grind (arith, nat_tests) in
-      omega (arith, over_split c x x front back p, before, here, count_by-le-length (nat_lt x) back, len);
+      grind (arith, nat_tests, over_split c x x front back p, before, count_by-le-length (nat_lt x) back, len);
   least = λ s few. ⊎_elim
-      (λ (f : (leb x s ≡ true) × (x ≤ s)). f.1)
-      (λ (f : (leb x s ≡ false) × (s < x)).
-      let behind =
-      all_exceed s back (λ j d l. omega (arith, ge_from_not_lt (get_or back j d) x (split.1 j d l), f.1)) in
-      let here : ◌≡◌ {A = ℕ} (cond (nat_lt s x) 1 0) 1 = grind (arith, nat_tests, f.1) in
-      absurd (omega (arith, over_split c s x front back p, behind, here, len, few)))
-      (leb_tells x s);
+      (λ (f : s < x).
+      let behind = all_exceed s back (λ j d l. omega (arith, ge_from_not_lt (get_or back j d) x (split.1 j d l), f)) in
+      absurd (grind (arith, nat_tests, over_split c s x front back p, behind, len, few, f)))
+      (λ (f : x ≤ s). f) (cases_lt s x);
 }) (is_level c k)
 
 -- ---- the least counter

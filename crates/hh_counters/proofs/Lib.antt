@@ -13,8 +13,6 @@ pub mod TakingOver
 pub mod Linked
 pub mod Gathering
 pub mod Sorting
-pub mod InBuckets
-pub mod Positions
 pub mod Monitoring
 pub mod Condensing
 pub mod CondensedCounts

@@ -7,22 +7,17 @@ use Rattle.std.specs.Map.{keys_of}
 use Rattle.std.specs.Ordering.{match_ordering, ordering_index}
 use Rattle.std.proofs.lemmas.Map.Keys.{Less-from_sorted, sorted_from_all_adjacent}
 use Rattle.std.proofs.lemmas.List.Elements.{recursion_from_All, All-from_recursion}
-use Rattle.std.proofs.lemmas.List.{get_or-map}
+use Rattle.std.proofs.lemmas.List.{get_or-map, get_or_default}
 use Rattle.std.proofs.lemmas.Map.Entries.{length-keys_of}
 use Rattle.std.proofs.lemmas.List.Sorted.{searchable_from_sorted}
 use Rattle.hh_stream.specs.Weights.{Bytes, Entry, key_cmp, weight_of}
 use Rattle.hh_counters.specs.Counters.{Counters, IsCounters, add_at}
-use Rattle.hh_counters.proofs.Weights.{key_total, key_exact, weight_of-cons, weight_first, at_other, turned, flipped, key_self}
+use Rattle.hh_counters.proofs.Weights.{rising_entries, key_total, key_exact, weight_of-cons, weight_first, at_other, turned, flipped, key_self}
 
 rise_at : (c : Counters) (i : ℕ) (d : Entry) → IsStrictlySortedBy key_cmp (keys_of c) → i + 1 < length c
     → is_lt (key_cmp (slice_index_or c (i + 1) d).0 (slice_index_or c i d).0) ≡ false
-rise_at c i d h l =
-    let less : key_cmp (get_or (keys_of c) i d.0) (get_or (keys_of c) (i + 1) d.0) ≡ Less =
-    Less-from_sorted key_cmp (keys_of c) i (i + 1) d.0 h (omega arith) (omega (arith, length-keys_of c)) in
-    let here = get_or-map (λ (e : Entry). e.0) c i d d.0 (omega arith) in
-    let next = get_or-map (λ (e : Entry). e.0) c (i + 1) d d.0 l in
-    ap is_lt (flipped (get_or c i d).0 (get_or c (i + 1) d).0 Less (ap (λ k. key_cmp k (get_or c (i + 1) d).0)
-    (sym here) ∙ ap (key_cmp (get_or (keys_of c) i d.0)) (sym next) ∙ less))
+rise_at c i d h l = ap is_lt (flipped (get_or c i d).0 (get_or c (i + 1) d).0 Less
+    (Less-from_sorted (λ (a b : Entry). key_cmp a.0 b.0) c i (i + 1) d (rising_entries c h) (omega arith) l))
 
 -- the comparisons with a key rise along counters, as a binary search asks
 comparisons_rise : (c : Counters) (key : Bytes) → IsStrictlySortedBy key_cmp (keys_of c)
@@ -58,12 +53,8 @@ weight_at [] i d key h l e = absurd (omega arith)
 weight_at (f ∷ c) zero d key h l e = sym (weight_first f c h.0) ∙ ap (λ k. weight_of k (f ∷ c)) e
 weight_at (f ∷ c) (suc i) d key h l e =
     let below : key_cmp f.0 key ≡ Less = sym (ap (key_cmp f.0) e) ∙ above_at f.0 c i d h.0 (omega arith) in
-    omega (
-      arith,
-      weight_of-cons key f c,
-      at_other key f Greater (flipped f.0 key Less below) refl,
-      weight_at c i d key h.1 (omega arith) e,
-    )
+    let other = at_other key f Greater (flipped f.0 key Less below) refl in
+    omega (arith, weight_of-cons key f c, other, weight_at c i d key h.1 (omega arith) e)
 
 -- each key is below or above, at the place where the key would go
 abbrev pub IsGap : Bytes → ℕ → Counters → Type 0
@@ -145,7 +136,5 @@ positive_at c h = All-from_recursion (λ (e : Entry). 0 < e.1) c h.positive
 -- the keys rise from place to place
 pub less_at : (c : Counters) → IsCounters c → (k j : ℕ) (d e : Entry) → k < j → j < length c
     → key_cmp (slice_index_or c k d).0 (slice_index_or c j e).0 ≡ Less
-less_at c h k j d e a l =
-    ap (λ x. key_cmp x (get_or c j e).0) (sym (get_or-map (λ (e : Entry). e.0) c k d [] (omega arith)))
-    ∙ ap (key_cmp (get_or (keys_of c) k [])) (sym (get_or-map (λ (e : Entry). e.0) c j e [] l))
-    ∙ Less-from_sorted key_cmp (keys_of c) k j [] h.rising a (omega (arith, l, length-keys_of c))
+less_at c h k j d e a l = ap (λ (x : Entry). key_cmp (get_or c k d).0 x.0) (get_or_default c j e d l)
+    ∙ Less-from_sorted (λ (a b : Entry). key_cmp a.0 b.0) c k j d (rising_entries c h.rising) a l

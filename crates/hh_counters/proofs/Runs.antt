@@ -1,18 +1,19 @@
 -- Runs of Space-Saving: their translation, and how far their counters lie from the true weights.
-use Rattle.std.proofs.Common.{◌≡◌, ℕ, ◌+◌, ◌<◌, ◌≤◌, ◌⊎◌, inl, inr, ⊎_elim, Bool, true, false, cond, List, [], ◌∷◌, length, refl, sym, ap, ap₂, ◌∙◌, subst, add-zero, arith}
-use Rattle.std.specs.Prelude.{All, nat_lt, nat_le, fold, ◌||◌, ◌==◌, min}
+use Rattle.std.proofs.Common.{◌≡◌, ℕ, ◌+◌, ◌<◌, ◌≤◌, ◌⊎◌, inl, inr, ⊎_elim, Bool, true, false, cond, suc, Less, Equal, Greater, is_gt, List, [], ◌∷◌, length, refl, sym, ap, ap₂, ◌∙◌, subst, add-zero, arith}
+use Rattle.std.specs.Prelude.{All, Contains, nat_lt, nat_le, fold, ◌||◌, ◌==◌, min}
 use Rattle.std.specs.List.{AllByRecursion}
 use Rattle.std.specs.List.Sorted.{IsStrictlySortedBy}
 use Rattle.std.specs.Map.{keys_of}
+use Rattle.std.proofs.lemmas.Bool.{cases_Bool}
 use Rattle.std.proofs.lemmas.Bool.Decides.{nat_tests}
 use Rattle.std.proofs.lemmas.List.Elements.{recursion_from_All}
 use Rattle.hh_stream.specs.Weights.{Bytes, Entry, key_cmp, same_key, at_key, weight_of, total_of}
 use Rattle.hh_counters.specs.Counters.{Counters, IsCounters, add_at, lower, cut, join, misra_gries, least_counter}
 use Rattle.hh_counters.specs.SpaceSaving.{least_of, translate, without, HasLeast, IsStep, raised, entered, replaced, IsRun, IsRunFrom, first_with, key_to_drop, taken_over, step, space_saving}
-use Rattle.hh_counters.proofs.Weights.{same_exact, weight_of-cons, total_of-cons, weight_of-add_at, weight_above, weight_first}
+use Rattle.hh_counters.proofs.Weights.{flipped, turned, above_first, number_from_in, positive_in, by_key, same_exact, weight_of-cons, total_of-cons, weight_of-add_at, weight_above, weight_first}
 use Rattle.hh_counters.proofs.Level.{min_is, lower-nil}
 use Rattle.hh_counters.proofs.Lowering.{cut-lower, level-least}
-use Rattle.hh_counters.proofs.Stepping.{IsKept, stepped, by_key, replaced_new, replaced_elsewhere, least_of_free, least_of_full}
+use Rattle.hh_counters.proofs.Stepping.{IsKept, stepped, replaced_new, replaced_elsewhere, least_of_free, least_of_full}
 
 -- each item has a weight
 abbrev pub Positive : List Entry → Type 0
@@ -29,7 +30,8 @@ step_translates : (s : Counters) (e : Entry) (k : ℕ) (t : Counters) → 0 < e.
 step_translates s e k t p h st =
     let d = stepped s e k t p h st in
     let level = level-least t k d.kept.few in
-    ap (λ (c : Counters). cut c k) d.same ∙ cut-lower t k (least_of s k) (omega (arith, d.rises, level))
+    ap (λ (c : Counters). cut c k) d.same
+    ∙ cut-lower t k (least_of s k) d.kept.counters.rising (omega (arith, d.rises, level))
     ∙ ap (λ m. lower m t) level
 
 run_translates : (xs : List Entry) (k : ℕ) (s t : Counters) → Positive xs → IsKept s k → IsRunFrom s xs k t
@@ -69,83 +71,71 @@ record IsClose (f g m : ℕ) : Type 0 where
   pub not_far_above : 0 < g → g ≤ f + m
   pub absent : g ≡ 0 → f ≤ m
 
-close_later : (f g m n : ℕ) → m ≤ n → IsClose f g m → IsClose f g n
-close_later f g m n h b = record {
-  not_below = b.not_below;
-  not_far_above = λ p. omega (arith, b.not_far_above p);
-  absent = λ z. omega (arith, b.absent z);
-}
-
-close_raised : (f g m n w : ℕ) → m ≤ n → 0 < g → IsClose f g m → IsClose (f + w) (g + w) n
-close_raised f g m n w h p b = record {
-  not_below = λ q. omega (arith, b.not_below p);
-  not_far_above = λ q. omega (arith, b.not_far_above p);
-  absent = λ z. absurd (omega (arith, z, p));
-}
-
-close_new : (f m n w : ℕ) → m ≤ n → 0 < w → IsClose f 0 m → IsClose (f + w) (m + w) n
-close_new f m n w h p b = record {
-  not_below = λ q. omega (arith, b.absent refl);
-  not_far_above = λ q. omega arith;
-  absent = λ z. absurd (omega (arith, z, p));
-}
-
-close_dropped : (f g m n : ℕ) → m ≤ n → 0 < g → g ≡ m → IsClose f g m → IsClose f 0 n
-close_dropped f g m n h p e b = record {
-  not_below = λ z. absurd (omega (arith, z));
-  not_far_above = λ z. absurd (omega (arith, z));
-  absent = λ z. omega (arith, b.not_below p);
-}
-
 -- s counts items of which the key q weighs f q
 abbrev IsCounted : (Bytes → ℕ) → Counters → ℕ → Type 0
 IsCounted f s k = (q : Bytes) → IsClose (f q) (weight_of q s) (least_of s k)
 
--- the claim at equal numbers
-close_at : (f i g h m : ℕ) → f ≡ i → g ≡ h → IsClose i h m → IsClose f g m
-close_at f i g h m e d c = subst (λ n. IsClose n g m) (sym e) (subst (λ n. IsClose i n m) (sym d) c)
-
 -- a step keeps the counters close
 counted : (f : Bytes → ℕ) (s : Counters) (e : Entry) (k : ℕ) (t : Counters) → 0 < e.1 → IsKept s k → IsStep s e k t
     → IsCounted f s k → IsCounted (λ q. f q + at_key q e) t k
-counted f s e k t p h (raised has is) b q =
-    let rises = (stepped s e k t p h (raised has is)).rises in
-    let now : weight_of q t ≡ weight_of q s + at_key q e = ap (weight_of q) is ∙ weight_of-add_at q s e in
-    by_key q e _
-    (λ same at. close_at _ (f q + e.1) _ (weight_of q s + e.1) _ (omega (arith, at)) (omega (arith, now, at))
-    (close_raised (f q) (weight_of q s) (least_of s k) (least_of t k) e.1 rises
-    (omega (arith, ap (λ x. weight_of x s) same, has)) (b q)))
-    (λ other at. close_at _ (f q) _ (weight_of q s) _ (omega (arith, at)) (omega (arith, now, at))
-    (close_later (f q) (weight_of q s) (least_of s k) (least_of t k) rises (b q)))
-counted f s e k t p h (entered new free is) b q =
-    let rises = (stepped s e k t p h (entered new free is)).rises in
-    let now : weight_of q t ≡ weight_of q s + at_key q e = ap (weight_of q) is ∙ weight_of-add_at q s e in
-    let none = least_of_free s k free in
-    by_key q e _
-    (λ same at. let absent : weight_of q s ≡ 0 = ap (λ x. weight_of x s) same ∙ new in
-    close_at _ (f q + e.1) _ (least_of s k + e.1) _ (omega (arith, at)) (omega (arith, now, at, absent, none))
-    (close_new (f q) (least_of s k) (least_of t k) e.1 rises p
-    (subst (λ n. IsClose (f q) n (least_of s k)) absent (b q))))
-    (λ other at. close_at _ (f q) _ (weight_of q s) _ (omega (arith, at)) (omega (arith, now, at))
-    (close_later (f q) (weight_of q s) (least_of s k) (least_of t k) rises (b q)))
-counted f s e k t p h (replaced new full y y_least is) b q =
-    let rises = (stepped s e k t p h (replaced new full y y_least is)).rises in
-    let least : weight_of y s ≡ least_of s k = y_least.least ∙ sym (least_of_full s k full) in
-    by_key q e _
-    (λ same at. let absent : weight_of q s ≡ 0 = ap (λ x. weight_of x s) same ∙ new in
-    close_at _ (f q + e.1) _ (least_of s k + e.1) _ (omega (arith, at))
-    (omega (arith, replaced_new s e y (weight_of y s + e.1) t new is q same, least))
-    (close_new (f q) (least_of s k) (least_of t k) e.1 rises p
-    (subst (λ n. IsClose (f q) n (least_of s k)) absent (b q))))
-    (λ other at. elim (same_key q y) as (λ c. same_key q y ≡ c → weight_of q t ≡ cond c 0 (weight_of q s)
-    → IsClose (f q + at_key q e) (weight_of q t) (least_of t k)) [
-      | true ↦ λ r now. close_at _ (f q) _ 0 _ (omega (arith, at)) now
-          (close_dropped (f q) (weight_of q s) (least_of s k) (least_of t k) rises
-          (omega (arith, ap (λ x. weight_of x s) (same_exact q y r), y_least.has))
-          (ap (λ x. weight_of x s) (same_exact q y r) ∙ least) (b q))
-      | false ↦ λ r now. close_at _ (f q) _ (weight_of q s) _ (omega (arith, at)) now
-          (close_later (f q) (weight_of q s) (least_of s k) (least_of t k) rises (b q))
-    ] refl (replaced_elsewhere s e y (weight_of y s + e.1) t is q other))
+counted f s e k t p h st b q = by st (stepped s e k t p h st).rises
+  where
+    z : IsClose (f q) (weight_of q s) (least_of s k)
+    z = b q
+
+    -- a key that keeps its counter, and one that took a counter over
+    stays : at_key q e ≡ 0 → weight_of q t ≡ weight_of q s → least_of s k ≤ least_of t k
+        → IsClose (f q + at_key q e) (weight_of q t) (least_of t k)
+    stays at now rises = record {
+      not_below = λ l. omega (arith, now, at, z.not_below, l);
+      not_far_above = λ l. omega (arith, now, at, z.not_far_above, l, rises);
+      absent = λ l. omega (arith, now, at, z.absent, l, rises);
+    }
+
+    took : at_key q e ≡ e.1 → weight_of q s ≡ 0 → weight_of q t ≡ least_of s k + at_key q e
+        → least_of s k ≤ least_of t k → IsClose (f q + at_key q e) (weight_of q t) (least_of t k)
+    took at new now rises = record {
+      not_below = λ l. omega (arith, now, z.absent new);
+      not_far_above = λ l. omega (arith, now, rises);
+      absent = λ l. absurd (omega (arith, now, l, at, p));
+    }
+
+    by : IsStep s e k t → least_of s k ≤ least_of t k → IsClose (f q + at_key q e) (weight_of q t) (least_of t k)
+    by (raised has is) rises =
+        let now = ap (weight_of q) is ∙ weight_of-add_at q s e in
+        by_key q e _
+        (λ same at.
+        let had = ap (λ x. weight_of x s) same in
+        record {
+          not_below = λ l. omega (arith, now, at, had, has, z.not_below);
+          not_far_above = λ l. omega (arith, now, at, had, has, z.not_far_above, rises);
+          absent = λ l. omega (arith, now, at, had, has, l);
+        })
+        (λ _ at. stays at (omega (arith, now, at)) rises)
+    by (entered new free is) rises =
+        let now = ap (weight_of q) is ∙ weight_of-add_at q s e in
+        let none = least_of_free s k free in
+        by_key q e _
+        (λ same at. took at (ap (λ x. weight_of x s) same ∙ new)
+        (omega (arith, now, at, ap (λ x. weight_of x s) same, new, none)) rises)
+        (λ _ at. stays at (omega (arith, now, at)) rises)
+    by (replaced new full y y_least is) rises =
+        let least : weight_of y s ≡ least_of s k = y_least.least ∙ sym (least_of_full s k full) in
+        by_key q e _
+        (λ same at. took at (ap (λ x. weight_of x s) same ∙ new)
+        (omega (arith, replaced_new s e y (weight_of y s + e.1) t new is q same, least, at)) rises)
+        (λ other at. ⊎_elim
+        (λ (r : same_key q y ≡ true).
+        let had = ap (λ x. weight_of x s) (same_exact q y r) in
+        let now = replaced_elsewhere s e y (weight_of y s + e.1) t is q other ∙ ap (λ c. cond c 0 (weight_of q s)) r in
+        record {
+          not_below = λ l. absurd (omega (arith, now, l));
+          not_far_above = λ l. absurd (omega (arith, now, l));
+          absent = λ l. omega (arith, at, had, least, y_least.has, z.not_below, rises);
+        })
+        (λ (r : same_key q y ≡ false). stays at (replaced_elsewhere s e y (weight_of y s + e.1) t is q other
+        ∙ ap (λ c. cond c 0 (weight_of q s)) r) rises)
+        (cases_Bool (same_key q y)))
 
 run_counted : (xs : List Entry) (f : Bytes → ℕ) (k : ℕ) (s t : Counters) → Positive xs → IsKept s k → IsRunFrom s xs k t
     → IsCounted f s k → IsCounted (λ q. f q + weight_of q xs) t k
@@ -168,59 +158,64 @@ run_bounds xs k s p r x =
     (λ l. (omega (arith, end.not_below l), omega (arith, end.not_far_above l)), λ z. omega (arith, end.absent z))
 
 -- ---- the product's step
--- some entry has the number n
-Attains : ℕ → Counters → Type 0
-Attains n [] = ⊥
-Attains n (e ∷ s) = (e.1 ≡ n) ⊎ Attains n s
-
 min_attained : (n : ℕ) (s : Counters) → (fold (λ n (d : Entry). min n d.1) n s ≡ n)
-    ⊎ Attains (fold (λ n (d : Entry). min n d.1) n s) s
-unfolding Attains
+    ⊎ ((e : Entry) × Contains s e × (e.1 ≡ fold (λ n (d : Entry). min n d.1) n s))
 min_attained n [] = inl refl
-min_attained n (e ∷ s) = ⊎_elim
-    (λ (is : fold (λ n (d : Entry). min n d.1) (min n e.1) s ≡ min n e.1). ⊎_elim
-    (λ (m : min n e.1 ≡ n). inl (is ∙ m))
-    (λ (m : min n e.1 ≡ e.1). inr (inl (sym (is ∙ m))))
-    (min_is n e.1))
-    (λ (there : Attains (fold (λ n (d : Entry). min n d.1) (min n e.1) s) s). inr (inr there))
-    (min_attained (min n e.1) s)
+min_attained n (e ∷ s) = by (min_attained (min n e.1) s) (min_is n e.1)
+  where
+    by : (fold (λ n (d : Entry). min n d.1) (min n e.1) s ≡ min n e.1)
+        ⊎ ((d : Entry) × Contains s d × (d.1 ≡ fold (λ n (d : Entry). min n d.1) (min n e.1) s))
+        → (min n e.1 ≡ n) ⊎ (min n e.1 ≡ e.1) → (fold (λ n (d : Entry). min n d.1) (min n e.1) s ≡ n)
+        ⊎ ((d : Entry) × Contains (e ∷ s) d × (d.1 ≡ fold (λ n (d : Entry). min n d.1) (min n e.1) s))
+    by (inl is) (inl m) = inl (is ∙ m)
+    by (inl is) (inr m) = inr (e, (0, omega arith, refl), sym (is ∙ m))
+    by (inr (d, i, at)) m = inr (d, (suc i.0, omega (arith, i.1), i.2), at)
 
-least_attained : (s : Counters) → 0 < length s → Attains (least_counter s) s
-unfolding Attains
+-- some entry has the least counter
+least_attained : (s : Counters) → 0 < length s → (e : Entry) × Contains s e × (e.1 ≡ least_counter s)
 least_attained [] h = absurd (omega arith)
-least_attained (e ∷ s) h = ⊎_elim (λ (is : least_counter (e ∷ s) ≡ e.1). inl (sym is))
-    (λ (there : Attains (least_counter (e ∷ s)) s). inr there) (min_attained e.1 s)
+least_attained (e ∷ s) h = by (min_attained e.1 s)
+  where
+    by : (least_counter (e ∷ s) ≡ e.1) ⊎ ((d : Entry) × Contains s d × (d.1 ≡ least_counter (e ∷ s)))
+        → (d : Entry) × Contains (e ∷ s) d × (d.1 ≡ least_counter (e ∷ s))
+    by (inl is) = (e, (0, omega arith, refl), sym is)
+    by (inr (d, i, at)) = (d, (suc i.0, omega (arith, i.1), i.2), at)
 
-attained_positive : (s : Counters) (n : ℕ) → Positive s → Attains n s → 0 < n
-unfolding Attains
-attained_positive [] n p a = absurd a
-attained_positive (e ∷ s) n p (inl is) = omega (arith, is, p.0)
-attained_positive (e ∷ s) n p (inr there) = attained_positive s n p.1 there
-
--- the first key with the counter n has the counter n
-first_with_has : (n : ℕ) (s : Counters) → 0 < n → IsStrictlySortedBy key_cmp (keys_of s) → Attains n s
-    → weight_of (first_with n s) s ≡ n
-unfolding IsStrictlySortedBy Attains
-first_with_has n [] p h a = absurd a
-first_with_has n (e ∷ s) p h a =
-    elim (e.1 == n) as (λ b. (e.1 == n) ≡ b → weight_of (cond b e.0 (first_with n s)) (e ∷ s) ≡ n) [
-      | true ↦ λ t. weight_first e s h.0 ∙ grind (arith, nat_tests, t)
+-- no key with the counter n stands before the one that is to be dropped for it
+pub first_with_first : (s : Counters) (n : ℕ) (z : Bytes) → 0 < n → IsStrictlySortedBy key_cmp (keys_of s)
+    → weight_of z s ≡ n → is_gt (key_cmp (first_with n s) z) ≡ false × (weight_of (first_with n s) s ≡ n)
+unfolding IsStrictlySortedBy
+first_with_first [] n z p h at = absurd (omega (arith, at, p))
+first_with_first (e ∷ s) n z p h at =
+    elim (e.1 == n) as (λ b. (e.1 == n) ≡ b → is_gt (key_cmp (cond b e.0 (first_with n s)) z) ≡ false
+    × (weight_of (cond b e.0 (first_with n s)) (e ∷ s) ≡ n)) [
+      | true ↦ λ t. (
+        elim (key_cmp z e.0) as (λ r. key_cmp z e.0 ≡ r → is_gt (key_cmp e.0 z) ≡ false) [
+          | Less ↦ λ q. absurd (omega (arith, at, p, weight_above z (e ∷ s) (q, above_first z e.0 (keys_of s) q h.0)))
+          | Equal ↦ λ q. ap is_gt (flipped z e.0 Equal q)
+          | Greater ↦ λ q. ap is_gt (turned z e.0 q)
+        ] refl,
+        weight_first e s h.0 ∙ grind (arith, nat_tests, t),
+      )
       | false ↦ λ f.
-          let tail : Attains n s =
-          ⊎_elim (λ (is : e.1 ≡ n). absurd (grind (arith, nat_tests, f, is))) (λ (there : Attains n s). there) a in
-          let z = first_with n s in
-          let got = first_with_has n s p h.1 tail in
-          by_key z e _
-          (λ same at. absurd (omega (arith, got, p, ap (λ x. weight_of x s) same, weight_above e.0 s h.0)))
-          (λ other at. omega (arith, weight_of-cons z e s, at, got))
+          let differs : weight_of z s ≡ n = by_key z e _
+          (λ same here. absurd (let whole : weight_of z (e ∷ s) ≡ e.1 = ap (λ k. weight_of k (e ∷ s)) same
+          ∙ weight_first e s h.0 in grind (arith, nat_tests, f, whole, at)))
+          (λ other here. omega (arith, weight_of-cons z e s, here, at)) in
+          let rest = first_with_first s n z p h.1 differs in (
+            rest.0,
+            by_key (first_with n s) e _
+                (λ same here. absurd (omega (arith, rest.1, p, ap (λ k. weight_of k s) same, weight_above e.0 s h.0)))
+                (λ other here. omega (arith, weight_of-cons (first_with n s) e s, here, rest.1)),
+          )
     ] refl
 
 drops_a_least : (s : Counters) → IsCounters s → 0 < length s → HasLeast s (key_to_drop s)
 drops_a_least s h l =
-    let at = least_attained s l in
-    let some = attained_positive s (least_counter s) h.positive at in
-    let got = first_with_has (least_counter s) s some h.rising at in
-    record { has = omega (arith, got, some); least = got }
+    let d = least_attained s l in
+    let some : 0 < least_counter s = omega (arith, d.2, positive_in s d.0 h d.1) in
+    let got = first_with_first s (least_counter s) d.0.0 some h.rising (number_from_in d.0 s h.rising d.1 ∙ d.2) in
+    record { has = omega (arith, got.1, some); least = got.1 }
 
 step_is_step : (s : Counters) (e : Entry) (k : ℕ) → IsCounters s → IsStep s e k (step s e k)
 step_is_step s e k h = by (nat_lt 0 (weight_of e.0 s)) (nat_le (length s) k) refl refl

@@ -1,36 +1,31 @@
 -- The counters of an index, less the least, sorted by key.
-use Rattle.std.proofs.Common.{Option, Some, None, ◌≡◌, ℕ, ◌+◌, ◌-◌, ◌<◌, ◌≤◌, true, false, cond, List, [], ◌∷◌, ◌++◌, length, get_or, take, is_eq, is_lt, refl, sym, ap, ap₂, ◌∙◌, subst, append-nil, arith}
-use Rattle.std.specs.Prelude.{filter, unwrap_or, nat_lt, IsPermutation, IsSortedBy}
+use Rattle.std.proofs.Common.{Option, Some, None, ◌≡◌, ℕ, ◌+◌, ◌-◌, ◌<◌, ◌≤◌, true, false, cond, List, [], ◌∷◌, ◌++◌, length, get_or, take, is_lt, refl, sym, ap, ◌∙◌, subst, append-nil, arith}
+use Rattle.std.specs.Prelude.{filter, map, unwrap_or, nat_lt, IsPermutation, IsSortedBy}
 use Rattle.std.specs.List.{IsDistinct}
 use Rattle.std.specs.List.Sorted.{IsStrictlySortedBy}
 use Rattle.std.specs.Map.{keys_of, lookup}
 use Rattle.std.specs.Option.{option_map}
 use Rattle.std.proofs.lemmas.Map.Made.{IsDistinct-keys_filter, keys_of-map_values, lookup-map_values}
 use Rattle.std.specs.Cmp.{eq_by_cmp_equiv}
+use Rattle.std.proofs.lemmas.Bool.{cond_both}
 use Rattle.std.proofs.lemmas.Bool.Decides.{nat_tests}
-use Rattle.std.proofs.lemmas.List.{get_or-map, take_more}
-use Rattle.std.proofs.lemmas.List.Sorted.{All-permutation, IsPermutation-map, sum_by-IsPermutation}
-use Rattle.std.proofs.lemmas.List.Elements.{All-from_recursion, recursion_from_All}
-use Rattle.std.proofs.lemmas.Map.Keys.{IsDistinct-IsPermutation, apart_from_distinct, sorted_from_all_adjacent}
-use Rattle.std.proofs.lemmas.Map.Entries.{length-keys_of, lookup-filter-values, option_filter}
+use Rattle.std.proofs.lemmas.List.{map-append, take_more}
+use Rattle.std.proofs.lemmas.List.Sorted.{All-permutation, sum_by-IsPermutation}
+use Rattle.std.proofs.lemmas.List.Elements.{All-from_recursion, filter-append}
+use Rattle.std.proofs.lemmas.Map.Keys.{Less-from_sorted}
+use Rattle.std.proofs.lemmas.Cmp.{on_total}
+use Rattle.std.proofs.lemmas.Map.Entries.{lookup-filter-values, option_filter}
 use Rattle.hh_stream.specs.Weights.{Bytes, Entry, key_cmp, same_key, at_key, weight_of}
-use Rattle.hh_counters.specs.Counters.{Counters, exceeds, tally, lower}
-use Rattle.hh_counters.proofs.Weights.{key_total, weight_of-tally, same_counters}
+use Rattle.hh_counters.specs.Counters.{Counters, exceeds, less_by, tally, lower}
+use Rattle.hh_counters.proofs.Weights.{Distinct, weight_of-lookup, key_total, weight_of-tally, same_counters}
 use Rattle.hh_counters.proofs.Level.{lower-nil, lower-cons, positive-lower, weight_of-lower, counters-lower}
-use Rattle.hh_counters.proofs.Linked.{Distinct, weight_of-lookup}
-use Rattle.hh_counters.proofs.Reports.{ranked_next}
+use Rattle.hh_counters.proofs.Reports.{rising_from_sort}
+use Rattle.hh_counters.proofs.Places.{counters_from_places}
 
 -- ---- lowering, entry by entry
 lower-append : (t : ℕ) (c d : Counters) → lower t (c ++ d) ≡ lower t c ++ lower t d
-lower-append t [] d = ap (λ (e : Counters). e ++ lower t d) (sym (lower-nil t))
-lower-append t (e ∷ c) d =
-    lower-cons t e (c ++ d)
-    ∙ (elim (nat_lt t e.1) as (λ b. cond b ((e.0, e.1 - t) ∷ lower t (c ++ d)) (lower t (c ++ d))
-    ≡ cond b ((e.0, e.1 - t) ∷ lower t c) (lower t c) ++ lower t d) [
-      | true ↦ ap (λ (f : Counters). (e.0, e.1 - t) ∷ f) (lower-append t c d)
-      | false ↦ lower-append t c d
-    ])
-    ∙ ap (λ (f : Counters). f ++ lower t d) (sym (lower-cons t e c))
+unfolding lower
+lower-append t c d = ap (map (less_by t)) (filter-append (exceeds t) c d) ∙ map-append (less_by t) _ _
 
 -- one more entry, above t or not
 lower_more : (t : ℕ) (es : List Entry) (i : ℕ) (e : Entry) → i < length es → e ≡ get_or es i e
@@ -76,32 +71,10 @@ weight_of-lower-distinct t q es h =
   where
     less : (o : Option ℕ) → unwrap_or (option_map (λ n. n - t) (option_filter (nat_lt t) o)) 0 ≡ unwrap_or o 0 - t
     less None = omega arith
-    less (Some n) =
-        elim (nat_lt t n) as (λ b. nat_lt t n ≡ b → unwrap_or (option_map (λ n. n - t) (cond b (Some n) None)) 0
-        ≡ n - t) [
-          | true ↦ λ p. refl
-          | false ↦ λ p. grind (arith, nat_tests, p)
-        ] refl
+    less (Some n) = cond_both (nat_lt t n) (Some n) None (λ o. unwrap_or (option_map (λ n. n - t) o) 0 ≡ n - t)
+        (λ _. refl) (λ p. grind (arith, nat_tests, p))
 
 -- ---- sorted by key
--- entries whose keys are distinct rise where they are sorted
-rising_from_sort : (es ys : List Entry) → Distinct es → IsPermutation es ys
-    → IsSortedBy (λ x y. is_lt (key_cmp x.0 y.0)) ys → IsStrictlySortedBy key_cmp (keys_of ys)
-rising_from_sort es ys h perm sorted =
-    let apart : IsDistinct same_key (keys_of ys) = IsDistinct-IsPermutation same_key (eq_by_cmp_equiv key_total).symm
-    (keys_of es) (keys_of ys) (IsPermutation-map (λ (e : Entry). e.0) es ys perm) h in
-    sorted_from_all_adjacent key_total (keys_of ys) [] (λ k l.
-    let d : Entry = ([], 0) in
-    let long : k + 1 < length ys = omega (arith, l, length-keys_of ys) in
-    let a = (get_or ys k d).0 in
-    let b = (get_or ys (k + 1) d).0 in
-    let first = get_or-map (λ (e : Entry). e.0) ys k d [] (omega arith) in
-    let second = get_or-map (λ (e : Entry). e.0) ys (k + 1) d [] long in
-    let differ : same_key (get_or (keys_of ys) k []) (get_or (keys_of ys) (k + 1) []) ≡ false =
-    apart_from_distinct same_key (keys_of ys) k (k + 1) [] apart (omega arith) l in
-    ap₂ key_cmp first second ∙ ranked_next (key_cmp a b) (key_cmp b a) (key_total.antisymm b a)
-    (sorted k d (omega arith) long) (λ e. cc (ap is_eq e, ap₂ same_key first second, differ)))
-
 -- what is left of an index, sorted by key, is what is left of its view
 pub translated_sorted : (t : ℕ) (es ys : List Entry) → Distinct es → IsPermutation (lower t es) ys
     → IsSortedBy (λ x y. is_lt (key_cmp x.0 y.0)) ys → IsStrictlySortedBy key_cmp (keys_of (tally es))
@@ -109,11 +82,11 @@ pub translated_sorted : (t : ℕ) (es ys : List Entry) → Distinct es → IsPer
 translated_sorted t es ys h perm sorted rising =
     let some : Entry → Type 0 = λ e. 0 < e.1 in
     same_counters _ _
-    (record {
-      rising = rising_from_sort (lower t es) ys (distinct-lower t es h) perm sorted;
-      positive = recursion_from_All some ys
-          (All-permutation some (lower t es) ys perm (All-from_recursion some (lower t es) (positive-lower t es)));
-    })
+    (counters_from_places ys
+    (All-permutation some (lower t es) ys perm (All-from_recursion some (lower t es) (positive-lower t es)))
+    (λ k d l. Less-from_sorted (λ (a b : Entry). key_cmp a.0 b.0) ys k (k + 1) d (rising_from_sort
+    (on_total (λ (e : Entry). e.0) key_total) (λ a b e. e) (lower t es) ys (distinct-lower t es h) perm sorted)
+    (omega arith) l))
     (counters-lower t (tally es) rising)
     (λ q. sum_by-IsPermutation (at_key q) (lower t es) ys perm ∙ weight_of-lower-distinct t q es h
     ∙ ap (λ n. n - t) (sym (weight_of-tally q es)) ∙ sym (weight_of-lower t q (tally es) rising))

@@ -1,18 +1,18 @@
 -- What a step of Space-Saving does to the weights, the length and the total.
-use Rattle.std.proofs.Common.{◌≡◌, ℕ, ◌+◌, ◌-◌, ◌<◌, ◌≤◌, Bool, true, false, cond, not, [], ◌∷◌, length, Less, Equal, Greater, is_eq, refl, sym, ap, ◌∙◌, subst, arith}
+use Rattle.std.proofs.Common.{◌≡◌, ℕ, ◌+◌, ◌-◌, ◌<◌, ◌≤◌, ⊎_elim, true, false, cond, not, [], ◌∷◌, length, Less, Equal, Greater, is_eq, refl, sym, ap, ◌∙◌, subst, arith}
 use Rattle.std.specs.Prelude.{fold, min, nat_le}
 use Rattle.std.specs.List.{AllByRecursion}
 use Rattle.std.specs.List.Sorted.{IsStrictlySortedBy}
 use Rattle.std.specs.Map.{keys_of}
-use Rattle.std.specs.Ordering.{match_ordering}
+use Rattle.std.proofs.lemmas.Bool.{cases_lt, cond_both}
 use Rattle.std.proofs.lemmas.Bool.Decides.{nat_tests}
 use Rattle.hh_stream.specs.Weights.{Bytes, Entry, key_cmp, same_key, at_key, weight_of, total_of}
 use Rattle.hh_counters.specs.Counters.{Counters, IsCounters, add_at, lower, least_counter, plus}
 use Rattle.hh_counters.specs.SpaceSaving.{least_of, translate, without, IsStep, raised, entered, replaced}
-use Rattle.hh_counters.proofs.Weights.{same_exact, same_self, key_exact, weight_of-cons, total_of-cons, weight_of-add_at, total_of-add_at, rising-add_at, positive-add_at, weight_above, weight_first, above_first, at_other, same_counters, counters-plus, weight_of-plus}
+use Rattle.hh_counters.proofs.Weights.{at_here, at_differ, by_key, by_add_at, same_exact, same_self, same_sym, key_exact, weight_of-cons, total_of-cons, weight_of-add_at, total_of-add_at, rising-add_at, positive-add_at, weight_above, weight_first, above_first, flipped, at_other, same_counters, counters-plus, weight_of-plus}
 use Rattle.hh_counters.proofs.Level.{least_counter-all, level_above, weight_of-lower, counters-lower}
 use Rattle.hh_counters.proofs.Lowering.{level-least}
-use Rattle.hh_counters.proofs.Reports.{positive-filter, rising-filter}
+use Rattle.hh_counters.proofs.Reports.{counters-filter}
 
 -- ---- an entry added
 -- counters with an item added are counters
@@ -25,60 +25,39 @@ length-add_at_old : (c : Counters) (e : Entry) → IsStrictlySortedBy key_cmp (k
 unfolding IsStrictlySortedBy
 length-add_at_old [] e h l = absurd (omega arith)
 length-add_at_old (d ∷ c) e h l =
-    elim (key_cmp e.0 d.0) as (λ r. key_cmp e.0 d.0 ≡ r
-    → length (match_ordering r (e ∷ d ∷ c) ((d.0, d.1 + e.1) ∷ c) (d ∷ add_at c e)) ≡ length (d ∷ c)) [
-      | Less ↦ λ p. absurd (omega (arith, l, weight_above e.0 (d ∷ c) (p, above_first e.0 d.0 (keys_of c) p h.0)))
-      | Equal ↦ λ p. omega arith
-      | Greater ↦ λ p. omega
-          (arith, length-add_at_old c e h.1 (omega (arith, l, weight_of-cons e.0 d c, at_other e.0 d Greater p refl)))
-    ] refl
+    by_add_at (λ b. length b ≡ length (d ∷ c)) c d e
+    (λ p. absurd (omega (arith, l, weight_above e.0 (d ∷ c) (p, above_first e.0 d.0 (keys_of c) p h.0))))
+    (λ p. omega arith)
+    (λ p. let other = at_other e.0 d Greater (flipped d.0 e.0 Less p) refl in
+    omega (arith, length-add_at_old c e h.1 (omega (arith, l, weight_of-cons e.0 d c, other))))
 
 -- and one that has none takes one place
 pub length-add_at_new : (c : Counters) (e : Entry) → AllByRecursion (λ (d : Entry). 0 < d.1) c → weight_of e.0 c ≡ 0
     → length (add_at c e) ≡ length c + 1
 length-add_at_new [] e h z = omega arith
 length-add_at_new (d ∷ c) e h z =
-    elim (key_cmp e.0 d.0) as (λ r. key_cmp e.0 d.0 ≡ r
-    → length (match_ordering r (e ∷ d ∷ c) ((d.0, d.1 + e.1) ∷ c) (d ∷ add_at c e)) ≡ length (d ∷ c) + 1) [
-      | Less ↦ λ p. omega arith
-      | Equal ↦ λ p. let here : at_key e.0 d ≡ d.1 =
-          ap (λ r. cond (is_eq r) d.1 0) p in absurd (omega (arith, weight_of-cons e.0 d c, here, h.0, z))
-      | Greater ↦ λ p. omega (arith, length-add_at_new c e h.1 (omega (arith, weight_of-cons e.0 d c, z)))
-    ] refl
+    by_add_at (λ b. length b ≡ length (d ∷ c) + 1) c d e (λ p. omega arith)
+    (λ p. let here = at_here e.0 d (ap (λ x. same_key x d.0) p ∙ same_self d.0) in
+    absurd (omega (arith, weight_of-cons e.0 d c, here, h.0, z)))
+    (λ p. omega (arith, length-add_at_new c e h.1 (omega (arith, weight_of-cons e.0 d c, z))))
 
 -- ---- a key taken out
 -- without a key it weighs nothing, and others weigh what they did
 pub weight_of-without : (q y : Bytes) (s : Counters) → weight_of q (without s y) ≡ cond (same_key q y) 0 (weight_of q s)
-weight_of-without q y [] = none (same_key q y)
-  where
-    none : (b : Bool) → ◌≡◌ {A = ℕ} 0 (cond b 0 0)
-    none true = refl
-    none false = refl
+weight_of-without q y [] = cond_both (same_key q y) 0 0 (λ (n : ℕ). 0 ≡ n) (λ _. refl) (λ _. refl)
 weight_of-without q y (e ∷ s) =
-    elim (same_key y e.0) as (λ b. same_key y e.0 ≡ b
-    → weight_of q (cond (not b) (e ∷ without s y) (without s y)) ≡ cond (same_key q y) 0 (weight_of q (e ∷ s))) [
-      | true ↦ λ p. weight_of-without q y s ∙ (elim (same_key q y) as (λ b. same_key q y ≡ b
-          → cond b 0 (weight_of q s) ≡ cond b 0 (weight_of q (e ∷ s))) [
-            | true ↦ λ r. refl
-            | false ↦ λ r. let other : at_key q e ≡ 0 =
-                ap (λ b. cond b e.1 0) (ap (same_key q) (sym (same_exact y e.0 p))
-                ∙ r) in omega (arith, weight_of-cons q e s, other)
-          ] refl)
-      | false ↦ λ p. weight_of-cons q e (without s y) ∙ ap (λ n. at_key q e + n) (weight_of-without q y s)
-          ∙ (elim (same_key q y) as (λ b. same_key q y ≡ b
-          → at_key q e + cond b 0 (weight_of q s) ≡ cond b 0 (weight_of q (e ∷ s))) [
-            | true ↦ λ r. let other : at_key q e ≡ 0 =
-                ap (λ b. cond b e.1 0) (ap (λ z. same_key z e.0) (same_exact q y r) ∙ p) in omega (arith, other)
-            | false ↦ λ r. omega (arith, weight_of-cons q e s)
-          ] refl)
-    ] refl
+    let tail = weight_of-without q y s in
+    by_key y e _
+    (λ is here. grind
+    (arith, weight_of-cons q e s, ap (same_key q) is, ap (λ x. same_key x e.0) is, same_self e.0, tail))
+    (λ other none. by_key q e _
+    (λ is here. grind
+    (arith, weight_of-cons q e s, weight_of-cons q e (without s y), is, here, other, tail, same_sym y e.0))
+    (λ apart here. grind (arith, weight_of-cons q e s, weight_of-cons q e (without s y), other, here, tail)))
 
 -- counters without a key are counters
 pub counters-without : (s : Counters) (y : Bytes) → IsCounters s → IsCounters (without s y)
-counters-without s y h = record {
-  rising = rising-filter (λ e. not (same_key y e.0)) s h.rising;
-  positive = positive-filter (λ e. not (same_key y e.0)) s h.positive;
-}
+counters-without s y h = counters-filter (λ e. not (same_key y e.0)) s h
 
 -- where all keys are above y, nothing goes
 pub without_above : (s : Counters) (y : Bytes) → AllByRecursion (λ z. key_cmp y z ≡ Less) (keys_of s) → without s y ≡ s
@@ -100,22 +79,16 @@ without_less (e ∷ s) y h l =
           let above =
           subst (λ k. AllByRecursion (λ z. key_cmp k z ≡ Less) (keys_of s)) (sym (key_exact y e.0 p)) h.rising.0 in
           let rest = without_above s y above in
-          let here : at_key y e ≡ e.1 = ap (λ r. cond (is_eq r) e.1 0) p in (
+          let here = at_here y e (ap is_eq p) in (
             omega (arith, ap length rest),
             omega (arith, ap total_of rest, total_of-cons e s, weight_of-cons y e s, here, weight_above y s above),
           )
       | Greater ↦ λ p.
+          let other = at_other y e Greater p refl in
           let tail = without_less s y (record { rising = h.rising.1; positive = h.positive.1 })
-          (omega (arith, l, weight_of-cons y e s, at_other y e Greater p refl)) in (
+          (omega (arith, l, weight_of-cons y e s, other)) in (
             omega (arith, tail.0),
-            omega (
-              arith,
-              tail.1,
-              total_of-cons e s,
-              total_of-cons e (without s y),
-              weight_of-cons y e s,
-              at_other y e Greater p refl,
-            ),
+            omega (arith, tail.1, total_of-cons e s, total_of-cons e (without s y), weight_of-cons y e s, other),
           )
     ] refl
 
@@ -128,36 +101,19 @@ at_least_all [] m h b = tt
 at_least_all (e ∷ s) m h b =
     let first = weight_first e s h.rising.0 in (
       omega (arith, first, b e.0 (omega (arith, first, h.positive.0))),
-      at_least_all s m (record { rising = h.rising.1; positive = h.positive.1 }) (λ q l.
-          elim (key_cmp q e.0) as (λ r. key_cmp q e.0 ≡ r → m ≤ weight_of q s) [
-            | Less ↦ λ p. absurd (omega (arith, l, weight_above q s (above_first q e.0 (keys_of s) p h.rising.0)))
-            | Equal ↦ λ p. absurd
-                (omega (
-                  arith,
-                  l,
-                  weight_above q s (subst (λ k. AllByRecursion (λ z. key_cmp k z ≡ Less) (keys_of s))
-                      (sym (key_exact q e.0 p)) h.rising.0),
-                ))
-            | Greater ↦ λ p. let skip = at_other q e Greater p refl in
-                omega (arith, b q (omega (arith, weight_of-cons q e s, skip, l)), weight_of-cons q e s, skip)
-          ] refl),
+      at_least_all s m (record { rising = h.rising.1; positive = h.positive.1 }) (λ q l. by_key q e _
+          (λ same _. absurd (omega (arith, l, ap (λ k. weight_of k s) same, weight_above e.0 s h.rising.0)))
+          (λ _ at. omega (arith, b q (omega (arith, weight_of-cons q e s, at, l)), weight_of-cons q e s, at))),
     )
 
 -- what is not above any counter is not above the weight of a key that has one
 pub at_least_each : (s : Counters) (m : ℕ) (q : Bytes) → AllByRecursion (λ (e : Entry). m ≤ e.1) s → 0 < weight_of q s
     → m ≤ weight_of q s
 at_least_each [] m q a l = absurd (omega arith)
-at_least_each (e ∷ s) m q a l = elim (same_key q e.0) as (λ b. same_key q e.0 ≡ b → m ≤ weight_of q (e ∷ s)) [
-  | true ↦ λ p. let here : at_key q e ≡ e.1 = ap (λ b. cond b e.1 0) p in omega (arith, weight_of-cons q e s, here, a.0)
-  | false ↦ λ p. let other : at_key q e ≡ 0 = ap (λ b. cond b e.1 0) p in
-      omega (
-        arith,
-        weight_of-cons q e s,
-        other,
-        at_least_each s m q a.1
-            (omega (arith, weight_of-cons q e s, other, l)),
-      )
-] refl
+at_least_each (e ∷ s) m q a l =
+    let whole = weight_of-cons q e s in
+    by_key q e _ (λ _ here. omega (arith, whole, here, a.0))
+    (λ _ other. omega (arith, whole, other, at_least_each s m q a.1 (omega (arith, whole, other, l))))
 
 -- a counter is at least the least
 pub least_counter-le : (s : Counters) (q : Bytes) → 0 < weight_of q s → least_counter s ≤ weight_of q s
@@ -185,10 +141,7 @@ least_of_full s k h =
     let no : nat_le (length s) k ≡ false = grind (arith, nat_tests, h) in ap (λ b. cond b 0 (least_counter s)) no
 
 least_of-le : (s : Counters) (k : ℕ) (q : Bytes) → 0 < weight_of q s → least_of s k ≤ weight_of q s
-least_of-le s k q l = elim (nat_le (length s) k) as (λ b. cond b 0 (least_counter s) ≤ weight_of q s) [
-  | true ↦ omega arith
-  | false ↦ least_counter-le s q l
-]
+least_of-le s k q l = grind (arith, least_counter-le s q l)
 
 -- ---- a step
 -- counters of at most k + 1 keys
@@ -205,12 +158,9 @@ pub record IsStepped (s : Counters) (e : Entry) (k : ℕ) (t : Counters) : Type 
 
 weight_of-translated : (s : Counters) (e : Entry) (k : ℕ) (q : Bytes) → IsCounters s
     → weight_of q (plus (translate s k) (e ∷ [])) ≡ (weight_of q s - least_of s k) + at_key q e
-weight_of-translated s e k q h = omega (
-  arith,
-  weight_of-plus q (translate s k) (e ∷ []),
-  weight_of-lower (least_of s k) q s h.rising,
-  weight_of-cons q e [],
-)
+weight_of-translated s e k q h =
+    let lowered = weight_of-lower (least_of s k) q s h.rising in
+    omega (arith, weight_of-plus q (translate s k) (e ∷ []), lowered, weight_of-cons q e [])
 
 one_counter : (e : Entry) → 0 < e.1 → IsCounters (e ∷ [])
 unfolding IsStrictlySortedBy
@@ -228,59 +178,33 @@ same_weights s e k t h p g w =
 -- the least does not fall where no counter falls below it
 least_rises : (s t : Counters) (k : ℕ) → IsKept t k → length s ≤ length t
     → ((q : Bytes) → 0 < weight_of q t → least_of s k ≤ weight_of q t) → least_of s k ≤ least_of t k
-least_rises s t k kept longer b =
-    elim (nat_le (length s) k) as (λ c. nat_le (length s) k ≡ c → least_of s k ≤ least_of t k) [
-      | true ↦ λ p. omega (arith, least_of_free s k (grind (arith, nat_tests, p)))
-      | false ↦ λ p. let full : k < length s = grind (arith, nat_tests, p) in
-          omega (
-            arith,
-            level_above t k (least_of s k) (at_least_all t (least_of s k) kept.counters b)
-                (omega (arith, full, longer)),
-            level-least t k kept.few,
-          )
-    ] refl
-
-at_same : (q : Bytes) (e : Entry) → same_key q e.0 ≡ true → at_key q e ≡ e.1
-at_same q e p = ap (λ b. cond b e.1 0) p
-
-at_differ : (q : Bytes) (e : Entry) → same_key q e.0 ≡ false → at_key q e ≡ 0
-at_differ q e p = ap (λ b. cond b e.1 0) p
-
--- a claim for each key, at e's and at any other
-pub by_key : (q : Bytes) (e : Entry) (P : Type 0) → (q ≡ e.0 → at_key q e ≡ e.1 → P)
-    → (same_key q e.0 ≡ false → at_key q e ≡ 0 → P) → P
-by_key q e P at_it elsewhere = elim (same_key q e.0) as (λ b. same_key q e.0 ≡ b → P) [
-  | true ↦ λ p. at_it (same_exact q e.0 p) (at_same q e p)
-  | false ↦ λ p. elsewhere p (at_differ q e p)
-] refl
+least_rises s t k kept longer b = ⊎_elim
+    (λ (full : k < length s). omega (
+      arith,
+      level_above t k (least_of s k) (at_least_all t (least_of s k) kept.counters b) (omega (arith, full, longer)),
+      level-least t k kept.few,
+    ))
+    (λ (free : length s ≤ k). omega (arith, least_of_free s k free)) (cases_lt k (length s))
 
 -- the weights where a newcomer took over the counter of y
 absent_without : (s : Counters) (q y : Bytes) → weight_of q s ≡ 0 → weight_of q (without s y) ≡ 0
-absent_without s q y z = weight_of-without q y s ∙ either (same_key q y) (weight_of q s) z
-  where
-    either : (b : Bool) (m : ℕ) → m ≡ 0 → cond b 0 m ≡ 0
-    either true m h = refl
-    either false m h = h
+absent_without s q y z = grind (arith, weight_of-without q y s, z)
 
 -- a newcomer has the counter that it took over, with its weight
 pub replaced_new : (s : Counters) (e : Entry) (y : Bytes) (n : ℕ) (t : Counters) → weight_of e.0 s ≡ 0
     → t ≡ add_at (without s y) (e.0, n) → (q : Bytes) → q ≡ e.0 → weight_of q t ≡ n
 replaced_new s e y n t new is q same =
     let gone : weight_of q (without s y) ≡ 0 = absent_without s q y (ap (λ x. weight_of x s) same ∙ new) in
-    let here : at_key q (e.0, n) ≡ n = at_same q (e.0, n) (ap (λ x. same_key x e.0) same ∙ same_self e.0) in
+    let here : at_key q (e.0, n) ≡ n = at_here q (e.0, n) (ap (λ x. same_key x e.0) same ∙ same_self e.0) in
     omega (arith, ap (weight_of q) is, weight_of-add_at q (without s y) (e.0, n), gone, here)
 
 -- the dropped key weighs nothing, and others weigh what they did
 pub replaced_elsewhere : (s : Counters) (e : Entry) (y : Bytes) (n : ℕ) (t : Counters)
     → t ≡ add_at (without s y) (e.0, n) → (q : Bytes) → same_key q e.0 ≡ false
     → weight_of q t ≡ cond (same_key q y) 0 (weight_of q s)
-replaced_elsewhere s e y n t is q other = omega (
-  arith,
-  ap (weight_of q) is,
-  weight_of-add_at q (without s y) (e.0, n),
-  weight_of-without q y s,
-  at_differ q (e.0, n) other,
-)
+replaced_elsewhere s e y n t is q other =
+    let weight = ap (weight_of q) is ∙ weight_of-add_at q (without s y) (e.0, n) in
+    omega (arith, weight, weight_of-without q y s, at_differ q (e.0, n) other)
 
 -- what a step does to the number of counters, the least one, the total and the translation
 pub stepped : (s : Counters) (e : Entry) (k : ℕ) (t : Counters) → 0 < e.1 → IsKept s k → IsStep s e k t
@@ -336,18 +260,12 @@ stepped s e k t p h (replaced new full y y_least is) =
       kept = kept;
       rises = least_rises s t k kept (omega (arith, long)) (λ q l. by_key q e _
           (λ same at. omega (arith, at_new q same, least))
-          (λ other at. let was = elsewhere q other in
-          elim (same_key q y) as (λ b. weight_of q t ≡ cond b 0 (weight_of q s) → least_of s k ≤ weight_of q t) [
-            | true ↦ λ z. absurd (omega (arith, z, l))
-            | false ↦ λ z. omega (arith, z, least_of-le s k q (omega (arith, z, l)))
-          ] was));
+          (λ other at. grind (arith, elsewhere q other, least_of-le s k q, l)));
       total = omega (arith, ap total_of is, total_of-add_at left f, fewer.1);
       same = same_weights s e k t h.counters p kept.counters (λ q. by_key q e _
           (λ same at. omega (arith, at_new q same, at, ap (λ x. weight_of x s) same, new, least))
-          (λ other at. let was = elsewhere q other in
-          elim (same_key q y) as (λ b. same_key q y ≡ b → weight_of q t ≡ cond b 0 (weight_of q s)
-          → (weight_of q s - least_of s k) + at_key q e ≡ weight_of q t - least_of s k) [
-            | true ↦ λ r z. omega (arith, z, at, ap (λ x. weight_of x s) (same_exact q y r), least)
-            | false ↦ λ r z. omega (arith, z, at)
-          ] refl was));
+          (λ other at.
+          let dropped : same_key q y ≡ true → weight_of q s ≡ weight_of y s =
+          λ r. ap (λ x. weight_of x s) (same_exact q y r) in
+          grind (arith, elsewhere q other, at, dropped, least)));
     }

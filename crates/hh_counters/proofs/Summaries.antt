@@ -1,16 +1,14 @@
 -- The counters of a stream, and of two summaries joined, are honest.
-use Rattle.std.proofs.Common.{◌≡◌, ℕ, zero, suc, ◌+◌, ◌-◌, ◌*◌, ◌<◌, ◌≤◌, List, [], ◌∷◌, ◌++◌, ◌^◌, Less, Equal, Greater, true, cond, map, length, take, get_or, refl, sym, ap, ◌∙◌, subst, append_assoc, append-nil, mul-add, mul_comm, mul-le-mul_left, mul-zero, add-one, arith}
-use Rattle.std.specs.Prelude.{fold, filter, nat_lt, replicate, IsPermutation}
-use Rattle.std.specs.List.{AllByRecursion, insert}
-use Rattle.std.specs.Ordering.{match_ordering}
-use Rattle.std.proofs.lemmas.Bool.Decides.{nat_tests}
+use Rattle.std.proofs.Common.{◌≡◌, ℕ, zero, suc, ◌+◌, ◌-◌, ◌*◌, ◌<◌, ◌≤◌, List, [], ◌∷◌, ◌++◌, ◌^◌, cond, length, take, get_or, refl, sym, ap, ◌∙◌, subst, append_assoc, append-nil, mul-add, mul_comm, mul-le-mul_left, mul-zero, add-one, arith}
+use Rattle.std.specs.Prelude.{fold, nat_lt, replicate, IsPermutation}
+use Rattle.std.specs.List.{insert}
 use Rattle.std.proofs.lemmas.List.{take_more, length-replicate}
 use Rattle.std.proofs.lemmas.List.Sorted.{sum_by-IsPermutation}
 use Rattle.std.proofs.lemmas.List.Sums.{fold_push}
 use Rattle.std.specs.List.Sorted.{IsStrictlySortedBy}
-use Rattle.hh_stream.specs.Weights.{Bytes, Entry, key_cmp, at_key, weight_of, total_of}
-use Rattle.hh_counters.specs.Counters.{Counters, IsCounters, add_at, exceeds, less_by, over, IsLevel, level, lower, least_counter, plus, join, misra_gries, IsHonest, Fits, added, sketch_of}
-use Rattle.hh_counters.proofs.Weights.{plus_is_fold, positive-add_at, key_exact, at_other, weight_of-cons, weight_of-append, total_of-append, rising-tally, weight_of-plus, total_of-plus}
+use Rattle.hh_stream.specs.Weights.{Bytes, Entry, at_key, weight_of, total_of}
+use Rattle.hh_counters.specs.Counters.{Counters, IsCounters, add_at, over, IsLevel, level, lower, least_counter, plus, join, misra_gries, IsHonest, Fits, sketch_with, sketch_of}
+use Rattle.hh_counters.proofs.Weights.{by_add_at, by_key, same_counters, plus_is_fold, rising-add_at, positive-add_at, weight_of-cons, weight_of-append, total_of-append, rising-tally, weight_of-plus, total_of-plus}
 use Rattle.hh_counters.proofs.Level.{over-cons, is_level, one_level, level_one_more, level_few, lower-cons, by_lower, length-lower, weight_of-lower, total_of-lower, total_of-lower-le, counters-lower}
 
 -- ---- a join
@@ -57,16 +55,9 @@ joins c d m l xs ys k counts countl belowc nearc belowd neard = record {
       mul-le-mul_left (k + 1) kept in
       let left : (k + 1) * weight_of x (xs ++ ys) ≡ (k + 1) * weight_of x xs + (k + 1) * weight_of x ys =
       ap (λ n. (k + 1) * n) (weight_of-append x xs ys) ∙ mul-add (k + 1) _ _ in
-      omega (
-        arith,
-        left,
-        times,
-        mul-add (k + 1) (weight_of x c) (weight_of x d),
-        mul-add (k + 1) (weight_of x (join c d k)) t,
-        nearc x,
-        neard x,
-        total_of-join c d k,
-      );
+      let both = mul-add (k + 1) (weight_of x c) (weight_of x d) in
+      let joint = mul-add (k + 1) (weight_of x (join c d k)) t in
+      omega (arith, left, times, both, joint, nearc x, neard x, total_of-join c d k);
 }
 
 -- honest counters of two lists, joined, are honest for both together
@@ -132,7 +123,7 @@ fits_join c d m l k h w b = record {
 
 -- ---- one item more
 -- one more item is one more join
-pub sketch_push : (k : ℕ) (xs : List Entry) (e : Entry) → sketch_of k (xs ++ e ∷ []) ≡ added (sketch_of k xs) e
+pub sketch_push : (k : ℕ) (xs : List Entry) (e : Entry) → sketch_of k (xs ++ e ∷ []) ≡ sketch_with (sketch_of k xs) e
 unfolding misra_gries
 sketch_push k xs e = let more : total_of (xs ++ e ∷ [])
     ≡ total_of xs + e.1 = omega (arith, total_of-append xs (e ∷ [])) in
@@ -140,9 +131,9 @@ sketch_push k xs e = let more : total_of (xs ++ e ∷ [])
 
 -- as in a loop over the items
 pub sketch_more : (k : ℕ) (xs : List Entry) (i : ℕ) (e : Entry) → i < length xs → e ≡ get_or xs i e
-    → sketch_of k (take (i + 1) xs) ≡ added (sketch_of k (take i xs)) e
+    → sketch_of k (take (i + 1) xs) ≡ sketch_with (sketch_of k (take i xs)) e
 sketch_more k xs i e l is = ap (sketch_of k) (take_more xs i e l) ∙ sketch_push k (take i xs) (get_or xs i e)
-    ∙ ap (added (sketch_of k (take i xs))) (sym is)
+    ∙ ap (sketch_with (sketch_of k (take i xs))) (sym is)
 
 -- nothing, and the empty stream
 pub sketch_nothing : (k : ℕ) → sketch_of k [] ≡ record { k = k; total = 0; counters = [] }
@@ -150,9 +141,6 @@ unfolding misra_gries
 sketch_nothing k = refl
 
 -- ---- the same with a subtraction, which does not stop at 0
-absent_key : (n : ℕ) (x : Bytes) → length x < n → key_cmp (replicate n 0) x ≡ Equal → ⊥
-absent_key n x l p = omega (arith, ap length (key_exact (replicate n 0) x p), length-replicate {A = ℕ} n 0, l)
-
 longest : List Entry → ℕ
 longest [] = 0
 longest (e ∷ xs) = length e.0 + longest xs
@@ -160,23 +148,9 @@ longest (e ∷ xs) = length e.0 + longest xs
 no_weight : (n : ℕ) (xs : List Entry) → longest xs < n → weight_of (replicate n 0) xs ≡ 0
 unfolding longest
 no_weight n [] l = refl
-no_weight n (e ∷ xs) l =
-    elim (key_cmp (replicate n 0) e.0) as (λ r. key_cmp (replicate n 0) e.0 ≡ r
-    → weight_of (replicate n 0) (e ∷ xs) ≡ 0) [
-      | Less ↦ λ p. omega (
-        arith,
-        weight_of-cons (replicate n 0) e xs,
-        at_other (replicate n 0) e Less p refl,
-        no_weight n xs (omega arith),
-      )
-      | Equal ↦ λ p. absurd (absent_key n e.0 (omega arith) p)
-      | Greater ↦ λ p. omega (
-        arith,
-        weight_of-cons (replicate n 0) e xs,
-        at_other (replicate n 0) e Greater p refl,
-        no_weight n xs (omega arith),
-      )
-    ] refl
+no_weight n (e ∷ xs) l = by_key (replicate n 0) e _
+    (λ same _. absurd (omega (arith, ap length same, length-replicate {A = ℕ} n 0, l)))
+    (λ _ at. omega (arith, weight_of-cons (replicate n 0) e xs, at, no_weight n xs (omega arith)))
 
 -- at a key that does not come, `near` says that the counters are within the total
 pub honest_within : (c : Counters) (m : ℕ) (xs : List Entry) (k : ℕ) → IsHonest c m xs k → total_of c ≤ m
@@ -210,18 +184,9 @@ honest_same c m xs ys k p h =
     }
 
 -- ---- an item for which there is room
-lower_none : (c : Counters) → AllByRecursion (λ (e : Entry). 0 < e.1) c → lower 0 c ≡ c
-unfolding lower
-lower_none [] h = refl
-lower_none (e ∷ c) h =
-    ap (λ b. map (less_by 0) (cond b (e ∷ filter (exceeds 0) c) (filter (exceeds 0) c))) (yes_above e.1 h.0)
-    ∙ (λ i. (e.0, sub-zero e.1 i) ∷ lower_none c h.1 i)
-  where
-    yes_above : (n : ℕ) → 0 < n → nat_lt 0 n ≡ true
-    yes_above n l = grind (arith, nat_tests, l)
-
-    sub-zero : (n : ℕ) → n - 0 ≡ n
-    sub-zero n = omega arith
+lower_none : (c : Counters) → IsCounters c → lower 0 c ≡ c
+lower_none c h = same_counters _ _ (counters-lower 0 c h.rising) h
+    (λ x. omega (arith, weight_of-lower 0 x c h.rising))
 
 -- an item's counter is joined by adding it, less the level
 join_one : (c : Counters) (e : Entry) (k : ℕ) → IsCounters c
@@ -233,31 +198,21 @@ pub join_room : (c : Counters) (e : Entry) (k : ℕ) → IsCounters c → 0 < e.
     → join c (e ∷ []) k ≡ add_at c e
 join_room c e k h p few =
     join_one c e k h ∙ ap (λ t. lower t (add_at c e)) (level_few (add_at c e) k few)
-    ∙ lower_none (add_at c e) (positive-add_at c e h.positive p)
+    ∙ lower_none (add_at c e)
+    (record { rising = rising-add_at c e h.rising; positive = positive-add_at c e h.positive p })
 
 length-add_at : (c : Counters) (e : Entry) → length (add_at c e) ≤ length c + 1
 length-add_at [] e = omega arith
-length-add_at (d ∷ c) e =
-    elim (key_cmp e.0 d.0) as (λ r. length (match_ordering r (e ∷ d ∷ c) ((d.0, d.1 + e.1) ∷ c) (d ∷ add_at c e))
-    ≤ length (d ∷ c) + 1) [
-      | Less ↦ omega arith
-      | Equal ↦ omega arith
-      | Greater ↦ omega (arith, length-add_at c e)
-    ]
+length-add_at (d ∷ c) e = by_add_at (λ b. length b ≤ length (d ∷ c) + 1) c d e (λ _. omega arith) (λ _. omega arith)
+    (λ _. omega (arith, length-add_at c e))
 
 -- ---- a newcomer at its place
 over-insert : (c : Counters) (i : ℕ) (e : Entry) (t : ℕ) → i ≤ length c → over (insert c i e) t ≡ over (e ∷ c) t
 over-insert c zero e t l = refl
 over-insert [] (suc i) e t l = absurd (omega arith)
 over-insert (f ∷ c) (suc i) e t l =
-    omega (
-      arith,
-      over-cons f (insert c i e) t,
-      over-insert c i e t (omega arith),
-      over-cons e (f ∷ c) t,
-      over-cons f c t,
-      over-cons e c t,
-    )
+    let rest = over-insert c i e t (omega arith) in
+    omega (arith, over-cons f (insert c i e) t, rest, over-cons e (f ∷ c) t, over-cons f c t, over-cons e c t)
 
 -- what is not above the level goes, so it need not have come
 pub lower-insert : (t : ℕ) (c : Counters) (i : ℕ) (e : Entry) → i ≤ length c → e.1 ≤ t

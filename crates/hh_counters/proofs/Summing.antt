@@ -5,7 +5,7 @@ use Rattle.std.specs.List.Sorted.{IsStrictlySortedBy}
 use Rattle.std.specs.Map.{keys_of}
 use Rattle.std.proofs.lemmas.List.{drop_more}
 use Rattle.std.proofs.Math.ListN.{drop_of_length-le}
-use Rattle.hh_stream.specs.Weights.{Bytes, Entry, key_cmp, same_key, at_key, weight_of}
+use Rattle.hh_stream.specs.Weights.{Bytes, Entry, key_cmp, same_key, weight_of}
 use Rattle.hh_counters.specs.Counters.{Counters, IsCounters, plus}
 use Rattle.hh_counters.proofs.Weights.{key_exact, turned, at_both, above_first, weight_of-append, weight_of-cons, weight_of-plus, counters-plus, same_counters}
 
@@ -70,110 +70,82 @@ positive_there [] c e h = h.0
 positive_there (d ∷ a) c e h = positive_there a c e h.1
 
 -- ---- the pass
-shifted : (a c : List Entry) (e : Entry) → (a ++ e ∷ []) ++ c ≡ a ++ e ∷ c
-shifted a c e = append_assoc a (e ∷ []) c
+-- the sides exchanged
+exchanged : (left right all : Counters) (l r : ℕ) → IsSummed left right l r all → IsSummed right left r l all
+exchanged left right all l r h = record {
+  left_in = h.right_in;
+  right_in = h.left_in;
+  with_left = h.with_right;
+  with_right = h.with_left;
+  weights = λ x. omega (arith, h.weights x);
+}
+
+-- what is left begins with the entry that was read
+rest_of : (c : Counters) (i : ℕ) (e : Entry) → i < length c → e ≡ get_or c i e → drop i c ≡ e ∷ drop (i + 1) c
+rest_of c i e l at = drop_more c i e l ∙ ap (λ d. d ∷ drop (i + 1) c) (sym at)
+
+shifted : (a c : List Entry) (e : Entry) → IsCounters (a ++ e ∷ c) → IsCounters ((a ++ e ∷ []) ++ c)
+shifted a c e h = subst IsCounters (sym (append_assoc a (e ∷ []) c)) h
 
 -- the left entry comes next
 pub summed_left : (left right all : Counters) (l r : ℕ) (e f : Entry) → l < length left → r < length right
     → e ≡ get_or left l e → f ≡ get_or right r f → key_cmp e.0 f.0 ≡ Less → IsSummed left right l r all
     → IsSummed left right (l + 1) r (all ++ e ∷ [])
 summed_left left right all l r e f ll rr at_l at_r less h =
-    let el : drop l left ≡ e ∷ drop (l + 1) left = drop_more left l e ll ∙ ap (λ d. d ∷ drop (l + 1) left) (sym at_l) in
-    let fr : drop r right ≡ f ∷ drop (r + 1) right =
-    drop_more right r f rr ∙ ap (λ d. d ∷ drop (r + 1) right) (sym at_r) in
-    let with_e : IsCounters (all ++ e ∷ drop (l + 1) left) =
-    subst (λ (d : List Entry). IsCounters (all ++ d)) el h.with_left in
-    let with_f : IsCounters (all ++ f ∷ drop (r + 1) right) =
-    subst (λ (d : List Entry). IsCounters (all ++ d)) fr h.with_right in
+    let el = rest_of left l e ll at_l in
+    let fr = rest_of right r f rr at_r in
+    let with_e = subst (λ (d : List Entry). IsCounters (all ++ d)) el h.with_left in
+    let with_f = subst (λ (d : List Entry). IsCounters (all ++ d)) fr h.with_right in
     record {
       left_in = omega arith;
       right_in = h.right_in;
-      with_left = subst IsCounters (sym (shifted all (drop (l + 1) left) e)) with_e;
-      with_right = subst IsCounters (sym (shifted all (drop r right) e))
-          (subst (λ (d : List Entry). IsCounters (all ++ e ∷ d)) (sym fr)
+      with_left = shifted all (drop (l + 1) left) e with_e;
+      with_right = shifted all (drop r right) e (subst (λ (d : List Entry). IsCounters (all ++ e ∷ d)) (sym fr)
           (between all (drop (l + 1) left) (drop (r + 1) right) e f with_e with_f less));
-      weights = λ x. omega (
-        arith,
-        weight_of-append x all (e ∷ []),
-        weight_of-cons x e [],
-        ap (weight_of x) el,
-        weight_of-cons x e (drop (l + 1) left),
-        h.weights x,
-      );
+      weights = λ x.
+          let before = ap (weight_of x) el ∙ weight_of-cons x e (drop (l + 1) left) in
+          omega (arith, weight_of-append x all (e ∷ []), weight_of-cons x e [], before, h.weights x);
     }
 
 -- the right entry comes next
 pub summed_right : (left right all : Counters) (l r : ℕ) (e f : Entry) → l < length left → r < length right
     → e ≡ get_or left l e → f ≡ get_or right r f → key_cmp e.0 f.0 ≡ Greater → IsSummed left right l r all
     → IsSummed left right l (r + 1) (all ++ f ∷ [])
-summed_right left right all l r e f ll rr at_l at_r more h =
-    let el : drop l left ≡ e ∷ drop (l + 1) left = drop_more left l e ll ∙ ap (λ d. d ∷ drop (l + 1) left) (sym at_l) in
-    let fr : drop r right ≡ f ∷ drop (r + 1) right =
-    drop_more right r f rr ∙ ap (λ d. d ∷ drop (r + 1) right) (sym at_r) in
-    let with_e : IsCounters (all ++ e ∷ drop (l + 1) left) =
-    subst (λ (d : List Entry). IsCounters (all ++ d)) el h.with_left in
-    let with_f : IsCounters (all ++ f ∷ drop (r + 1) right) =
-    subst (λ (d : List Entry). IsCounters (all ++ d)) fr h.with_right in
-    record {
-      left_in = h.left_in;
-      right_in = omega arith;
-      with_left = subst IsCounters (sym (shifted all (drop l left) f))
-          (subst (λ (d : List Entry). IsCounters (all ++ f ∷ d)) (sym el)
-          (between all (drop (r + 1) right) (drop (l + 1) left) f e with_f with_e (turned e.0 f.0 more)));
-      with_right = subst IsCounters (sym (shifted all (drop (r + 1) right) f)) with_f;
-      weights = λ x. omega (
-        arith,
-        weight_of-append x all (f ∷ []),
-        weight_of-cons x f [],
-        ap (weight_of x) fr,
-        weight_of-cons x f (drop (r + 1) right),
-        h.weights x,
-      );
-    }
+summed_right left right all l r e f ll rr at_l at_r more h = exchanged _ _ _ _ _
+    (summed_left right left all r l f e rr ll at_r at_l (turned e.0 f.0 more) (exchanged left right all l r h))
 
 -- both have the key
 pub summed_both : (left right all : Counters) (l r : ℕ) (e f : Entry) → l < length left → r < length right
     → e ≡ get_or left l e → f ≡ get_or right r f → key_cmp e.0 f.0 ≡ Equal → IsSummed left right l r all
     → IsSummed left right (l + 1) (r + 1) (all ++ (e.0, e.1 + f.1) ∷ [])
 summed_both left right all l r e f ll rr at_l at_r same h =
-    let el : drop l left ≡ e ∷ drop (l + 1) left = drop_more left l e ll ∙ ap (λ d. d ∷ drop (l + 1) left) (sym at_l) in
-    let fr : drop r right ≡ f ∷ drop (r + 1) right =
-    drop_more right r f rr ∙ ap (λ d. d ∷ drop (r + 1) right) (sym at_r) in
-    let with_e : IsCounters (all ++ e ∷ drop (l + 1) left) =
-    subst (λ (d : List Entry). IsCounters (all ++ d)) el h.with_left in
-    let with_f : IsCounters (all ++ f ∷ drop (r + 1) right) =
-    subst (λ (d : List Entry). IsCounters (all ++ d)) fr h.with_right in
+    let el = rest_of left l e ll at_l in
+    let fr = rest_of right r f rr at_r in
+    let with_e = subst (λ (d : List Entry). IsCounters (all ++ d)) el h.with_left in
+    let with_f = subst (λ (d : List Entry). IsCounters (all ++ d)) fr h.with_right in
     let n : ℕ = e.1 + f.1 in
     let some : 0 < n = omega (arith, positive_there all (drop (l + 1) left) e with_e.positive) in
     let key : e.0 ≡ f.0 = key_exact e.0 f.0 same in
     record {
       left_in = omega arith;
       right_in = omega arith;
-      with_left = subst IsCounters (sym (shifted all (drop (l + 1) left) (e.0, n)))
-          (renumbered all (drop (l + 1) left) e n some with_e);
-      with_right = subst IsCounters (sym (shifted all (drop (r + 1) right) (e.0, n)))
+      with_left = shifted all (drop (l + 1) left) (e.0, n) (renumbered all (drop (l + 1) left) e n some with_e);
+      with_right = shifted all (drop (r + 1) right) (e.0, n)
           (subst (λ y. IsCounters (all ++ (y, n) ∷ drop (r + 1) right)) (sym key)
           (renumbered all (drop (r + 1) right) f n some with_f));
-      weights = λ x.
-          omega (
-            arith,
-            weight_of-append x all ((e.0, n) ∷ []),
-            both_at x,
-            weight_of-cons x e [],
-            weight_of-cons x f [],
-            ap (weight_of x) el,
-            ap (weight_of x) fr,
-            weight_of-cons x e (drop (l + 1) left),
-            weight_of-cons x f (drop (r + 1) right),
-            h.weights x,
-          );
+      weights = λ x. omega (
+        arith,
+        weight_of-append x all ((e.0, n) ∷ []),
+        weight_of-cons x (e.0, n) [],
+        at_both (same_key x e.0) e.1 f.1,
+        ap (λ y. cond (same_key x y) f.1 0) key,
+        ap (weight_of x) el,
+        ap (weight_of x) fr,
+        weight_of-cons x e (drop (l + 1) left),
+        weight_of-cons x f (drop (r + 1) right),
+        h.weights x,
+      );
     }
-  where
-    both_at : (x : Bytes) → weight_of x ((e.0, e.1 + f.1) ∷ []) ≡ weight_of x (e ∷ []) + weight_of x (f ∷ [])
-    both_at x =
-        let other : at_key x f ≡ cond (same_key x e.0) f.1 0 =
-        ap (λ y. cond (same_key x y) f.1 0) (sym (key_exact e.0 f.0 same)) in
-        omega (arith, at_both (same_key x e.0) e.1 f.1, other)
 
 -- at the end of either list, what is left of the other is put last
 pub summed_whole : (left right all : Counters) (l r : ℕ) → IsCounters left → IsCounters right
@@ -181,13 +153,8 @@ pub summed_whole : (left right all : Counters) (l r : ℕ) → IsCounters left �
     → (all ++ drop l left) ++ drop r right ≡ plus left right
 summed_whole left right all l r hl hr done h =
     same_counters _ _ whole (counters-plus left right hl hr)
-    (λ x. omega (
-      arith,
-      weight_of-append x (all ++ drop l left) (drop r right),
-      weight_of-append x all (drop l left),
-      weight_of-plus x left right,
-      h.weights x,
-    ))
+    (λ x. let rest = weight_of-append x (all ++ drop l left) (drop r right) in
+    omega (arith, rest, weight_of-append x all (drop l left), weight_of-plus x left right, h.weights x))
   where
     whole : IsCounters ((all ++ drop l left) ++ drop r right)
     whole = ⊎_elim

@@ -7,11 +7,12 @@ use Rattle.std.specs.List.{AllByRecursion}
 use Rattle.std.specs.List.Sorted.{IsStrictlySortedBy}
 use Rattle.std.specs.Map.{keys_of}
 use Rattle.std.specs.Ordering.{match_ordering}
+use Rattle.std.proofs.lemmas.Bool.{false_from_ne_true}
 use Rattle.std.proofs.lemmas.Bool.Decides.{nat_tests}
 use Rattle.hh_stream.specs.Weights.{Bytes, Entry, key_cmp, same_key, at_key, weight_of}
 use Rattle.hh_counters.specs.Counters.{Counters, IsCounters, Fits, add_at, lower, over, least_counter}
 use Rattle.hh_counters.specs.SpaceSaving.{least_of, without, first_with, key_to_drop, taken_over, IsFirstLeast, step, IsMonitor}
-use Rattle.hh_counters.proofs.Weights.{same_exact, same_self, turned, flipped, above_first, weight_of-cons, weight_of-add_at, rising-add_at, same_counters}
+use Rattle.hh_counters.proofs.Weights.{at_differ, same_exact, same_self, turned, flipped, above_first, weight_of-cons, weight_of-add_at, rising-add_at, same_counters}
 use Rattle.hh_counters.proofs.Level.{least_counter-all, is_level, counters-lower, length-lower, total_of-lower-le}
 use Rattle.hh_counters.proofs.Lowering.{level-least}
 use Rattle.hh_counters.proofs.Stepping.{least_counter-ge, weight_of-without, counters-without, counters-add_at, without_above, length-add_at_new}
@@ -97,14 +98,12 @@ pub without-add_at : (s : Counters) (e : Entry) (y : Bytes) → IsCounters s →
 without-add_at s e y h p other =
     same_counters _ _ (counters-without (add_at s e) y (counters-add_at s e h p))
     (counters-add_at (without s y) e (counters-without s y h) p)
-    (λ q. weight_of-without q y (add_at s e) ∙ ap (cond (same_key q y) 0) (weight_of-add_at q s e)
-    ∙ (elim (same_key q y) as (λ b. same_key q y ≡ b
-    → cond b 0 (weight_of q s + at_key q e) ≡ cond b 0 (weight_of q s) + at_key q e) [
-      | true ↦ λ same. let none : at_key q e ≡ 0 =
-          ap (λ b. cond b e.1 0) (ap (λ z. same_key z e.0) (same_exact q y same) ∙ other) in omega (arith, none)
-      | false ↦ λ differs. refl
-    ] refl)
-    ∙ ap (λ n. n + at_key q e) (sym (weight_of-without q y s)) ∙ sym (weight_of-add_at q (without s y) e))
+    (λ q.
+    let apart : same_key q y ≡ true → at_key q e ≡ 0 =
+    λ same. at_differ q e (ap (λ z. same_key z e.0) (same_exact q y same) ∙ other) in
+    let left = weight_of-without q y (add_at s e) in
+    let right = weight_of-add_at q (without s y) e in
+    grind (arith, left, weight_of-add_at q s e, weight_of-without q y s, right, apart))
 
 -- the newcomer put in, and then the entry of the least counter taken out from where it stands now
 pub replaced_at : (s : Counters) (e : Entry) (i j : ℕ) (d : Entry) → IsCounters s → weight_of e.0 s ≡ 0 → 0 < e.1
@@ -116,24 +115,16 @@ replaced_at s e i j d h z p least at =
     let all = add_at s new in
     let place = cond (is_lt (key_cmp old.0 e.0)) i (i + 1) in
     let within : place < length all =
-    omega (arith, at_most (is_lt (key_cmp old.0 e.0)), length-add_at_new s new h.positive z, least.in_range) in
+    grind (arith, length-add_at_new s new h.positive z, least.in_range) in
     let counted : old.1 ≡ weight_of old.0 s = weight_at s i d old.0 h.rising least.in_range refl in
     let other : same_key old.0 e.0 ≡ false =
-    differ (same_key old.0 e.0) refl (omega (arith, counted, positive_at s h i d least.in_range)) in
+    false_from_ne_true _ (λ same. omega
+    (arith, counted, positive_at s h i d least.in_range, z, ap (λ y. weight_of y s) (same_exact old.0 e.0 same))) in
     ap (remove all) at
     ∙ remove_is_without all place d (rising-add_at s new h.rising) within
     ∙ ap (λ (f : Entry). without all f.0) (entry_after s new i d h z least.in_range)
     ∙ without-add_at s new old.0 h (omega (arith, p)) other
     ∙ ap₂ (λ y n. add_at (without s y) (e.0, n + e.1)) (sym (least_key s i d least)) (least_number s i d least)
-  where
-    at_most : (b : Bool) → cond b i (i + 1) ≤ i + 1
-    at_most true = omega arith
-    at_most false = omega arith
-
-    differ : (b : Bool) → same_key (get_or s i d).0 e.0 ≡ b → 0 < weight_of (get_or s i d).0 s
-        → same_key (get_or s i d).0 e.0 ≡ false
-    differ true q l = absurd (omega (arith, l, ap (λ y. weight_of y s) (same_exact (get_or s i d).0 e.0 q), z))
-    differ false q l = q
 
 -- the place that is removed is one of those after the newcomer came in
 pub shifted_within : (s : Counters) (e : Entry) (i j : ℕ) (n : ℕ) → IsCounters s → weight_of e.0 s ≡ 0 → i < length s

@@ -103,11 +103,11 @@ pub record Fits (k n : ℕ) (c : Counters) : Type 0 where
   pub within : total_of c ≤ n
 
 -- a summary after one more item, and after another summary with the same k
-abbrev pub added : Sketch → Entry → Sketch
-added s e = record { k = s.k; total = s.total + e.1; counters = join s.counters (e ∷ []) s.k }
+abbrev pub sketch_with : Sketch → Entry → Sketch
+sketch_with s e = record { k = s.k; total = s.total + e.1; counters = join s.counters (e ∷ []) s.k }
 
-abbrev pub merged : Sketch → Sketch → Sketch
-merged s t = record { k = s.k; total = s.total + t.total; counters = join s.counters t.counters s.k }
+abbrev pub merge_of : Sketch → Sketch → Sketch
+merge_of s t = record { k = s.k; total = s.total + t.total; counters = join s.counters t.counters s.k }
 
 -- the summary of a stream
 abbrev pub sketch_of : ℕ → List Entry → Sketch

@@ -4,10 +4,10 @@ use Rattle.std.specs.List.{AllByRecursion, flat_map}
 use Rattle.std.specs.Map.{keys_of}
 use Rattle.hh_stream.specs.Weights.{Bytes, Entry, IsKey, weight_of, total_of}
 use Rattle.hh_stream.specs.Cuttings.{whole_of}
-use Rattle.hh_counters.specs.Counters.{Counters, Sketch, IsCounters, exceeds, IsLevel, level, max_k, plus, join, misra_gries, IsHonest, slack, added, sketch_of}
-use Rattle.hh_counters.specs.SpaceSaving.{least_of, translate, IsRun, space_saving, monitor_of, monitored, translated}
+use Rattle.hh_counters.specs.Counters.{Counters, Sketch, IsCounters, exceeds, IsLevel, level, max_k, plus, join, misra_gries, IsHonest, slack, sketch_with, sketch_of}
+use Rattle.hh_counters.specs.SpaceSaving.{least_of, translate, IsRun, space_saving, monitor_of, monitor_with, translation_of}
 use Rattle.hh_counters.specs.Condensed.{IsFirstFree, free_name, entry_of, condensed}
-use Rattle.hh_counters.specs.Report.{contenders, thinned, heavy, selected, weights_at, counted, has_counter, IsReport}
+use Rattle.hh_counters.specs.Report.{contenders, keys_above, heavy, rows_above, weights_at, counts_with, has_counter, IsReport}
 
 -- the counters of a stream are honest for it
 abbrev pub MisraGriesIsHonest : Type 0
@@ -72,36 +72,38 @@ abbrev pub CandidatesSuffice : Type 0
 CandidatesSuffice =
     (c : Counters) (xs : List Entry) (k p q : ℕ)
     → (IsCounters c
-    → selected p q (total_of xs) (zip (keys_of c) (weights_at (keys_of c) xs)) ≡ filter (has_counter c) (heavy xs p q))
+    → rows_above p q (total_of xs) (zip (keys_of c) (weights_at (keys_of c) xs))
+    ≡ filter (has_counter c) (heavy xs p q))
     × (IsHonest c (total_of xs) xs k → q ≤ p * (k + 1)
-    → selected p q (total_of xs) (zip (keys_of c) (weights_at (keys_of c) xs)) ≡ heavy xs p q)
+    → rows_above p q (total_of xs) (zip (keys_of c) (weights_at (keys_of c) xs)) ≡ heavy xs p q)
 
 -- of an honest summary the contenders for a share are candidates enough
 abbrev pub ContendersSuffice : Type 0
 ContendersSuffice =
     (s : Sketch) (xs : List Entry) (p q : ℕ) → IsHonest s.counters s.total xs s.k → q ≤ p * (s.k + 1)
-    → selected p q (total_of xs) (zip (keys_of (contenders p q s)) (weights_at (keys_of (contenders p q s)) xs))
+    → rows_above p q (total_of xs) (zip (keys_of (contenders p q s)) (weights_at (keys_of (contenders p q s)) xs))
     ≡ heavy xs p q
 
 -- where no weight is above its key's bound, the keys whose bound is more than a share are candidates enough
 abbrev pub ThinnedSuffice : Type 0
 ThinnedSuffice =
     (ks : List Bytes) (bound : Bytes → ℕ) (xs : List Entry) (p q : ℕ) → ((x : Bytes) → weight_of x xs ≤ bound x)
-    → let some = thinned p q (total_of xs) ks (map bound ks) in
-    selected p q (total_of xs) (zip some (weights_at some xs)) ≡ selected p q (total_of xs) (zip ks (weights_at ks xs))
+    → let some = keys_above p q (total_of xs) ks (map bound ks) in
+    rows_above p q (total_of xs) (zip some (weights_at some xs))
+    ≡ rows_above p q (total_of xs) (zip ks (weights_at ks xs))
 
 -- counting starts at 0, and pieces may be counted one after the other
 abbrev pub CountsAddUp : Type 0
 CountsAddUp =
     (ks : List Bytes) (xs ys : List Entry) (ns : List ℕ)
-    → (counted ks xs (replicate (length ks) 0) ≡ weights_at ks xs)
-    × (counted ks (xs ++ ys) ns ≡ counted ks ys (counted ks xs ns))
+    → (counts_with ks xs (replicate (length ks) 0) ≡ weights_at ks xs)
+    × (counts_with ks (xs ++ ys) ns ≡ counts_with ks ys (counts_with ks xs ns))
 
 -- there is a number for each key still, and none grows by more than the items' total
 abbrev pub CountsStayWithin : Type 0
 CountsStayWithin =
     (ks : List Bytes) (xs : List Entry) (ns : List ℕ) (m : ℕ) → length ns ≡ length ks → All (λ n. n ≤ m) ns
-    → (length (counted ks xs ns) ≡ length ks) × All (λ n. n ≤ m + total_of xs) (counted ks xs ns)
+    → (length (counts_with ks xs ns) ≡ length ks) × All (λ n. n ≤ m + total_of xs) (counts_with ks xs ns)
 
 -- the counters of a run add up to the items' total
 abbrev pub RunSumsToTotal : Type 0
@@ -129,15 +131,15 @@ abbrev pub SummariesFollowItems : Type 0
 SummariesFollowItems =
     (k : ℕ) (xs : List Entry) (e : Entry)
     → (sketch_of k [] ≡ record { k = k; total = 0; counters = [] })
-    × (sketch_of k (xs ++ e ∷ []) ≡ added (sketch_of k xs) e)
+    × (sketch_of k (xs ++ e ∷ []) ≡ sketch_with (sketch_of k xs) e)
 
 -- so it is with a monitor, whose translation at the end is the summary of all
 abbrev pub MonitorsFollowItems : Type 0
 MonitorsFollowItems =
     (k : ℕ) (xs : List Entry) (e : Entry)
     → (monitor_of k [] ≡ record { k = k; total = 0; counters = [] })
-    × (monitor_of k (xs ++ e ∷ []) ≡ monitored (monitor_of k xs) e)
-    × (All (λ e. 0 < e.1) xs → translated (monitor_of k xs) ≡ sketch_of k xs)
+    × (monitor_of k (xs ++ e ∷ []) ≡ monitor_with (monitor_of k xs) e)
+    × (All (λ e. 0 < e.1) xs → translation_of (monitor_of k xs) ≡ sketch_of k xs)
 
 -- the name of the entry for other keys is the first that has no counter, and no other name is
 abbrev pub FreeNameIsFirst : Type 0

@@ -32,22 +32,22 @@ abbrev pub is_heavy : ℕ → ℕ → ℕ → Entry → Bool
 is_heavy p q n e = nat_lt (p * n) (q * e.1)
 
 -- those entries that are more than p/q of n, in the order of the report
-abbrev pub selected : ℕ → ℕ → ℕ → List Entry → List Entry
-selected p q n es = by_rank (filter (is_heavy p q n) es)
+abbrev pub rows_above : ℕ → ℕ → ℕ → List Entry → List Entry
+rows_above p q n es = by_rank (filter (is_heavy p q n) es)
 
 -- the keys that have more than p/q of the total weight, with their weights
 abbrev pub heavy : List Entry → ℕ → ℕ → List Entry
-heavy xs p q = selected p q (total_of xs) (tally xs)
+heavy xs p q = rows_above p q (total_of xs) (tally xs)
 
 -- the weight of each key in xs
 abbrev pub weights_at : List Bytes → List Entry → List ℕ
 weights_at ks xs = map (λ x. weight_of x xs) ks
 
 -- each number, one for each key, with the key's weight in xs added
-abbrev pub counted : List Bytes → List Entry → List ℕ → List ℕ
-counted [] xs ns = ns
-counted (x ∷ ks) xs [] = []
-counted (x ∷ ks) xs (n ∷ ns) = (n + weight_of x xs) ∷ counted ks xs ns
+abbrev pub counts_with : List Bytes → List Entry → List ℕ → List ℕ
+counts_with [] xs ns = ns
+counts_with (x ∷ ks) xs [] = []
+counts_with (x ∷ ks) xs (n ∷ ns) = (n + weight_of x xs) ∷ counts_with ks xs ns
 
 -- whether a key with this counter can have more than p/q of the total: k + 1 times what it weighs is at
 -- most k + 1 times its counter and what the total has above the counters' sum
@@ -60,8 +60,8 @@ abbrev pub contenders : ℕ → ℕ → Sketch → Counters
 contenders p q s = filter (can_be_heavy p q s) s.counters
 
 -- those of the keys of which the number is more than p/q of n
-abbrev pub thinned : ℕ → ℕ → ℕ → List Bytes → List ℕ → List Bytes
-thinned p q n ks ns = keys_of (filter (is_heavy p q n) (zip ks ns))
+abbrev pub keys_above : ℕ → ℕ → ℕ → List Bytes → List ℕ → List Bytes
+keys_above p q n ks ns = keys_of (filter (is_heavy p q n) (zip ks ns))
 
 abbrev pub has_counter : List Entry → Entry → Bool
 has_counter c e = nat_lt 0 (weight_of e.0 c)

@@ -70,12 +70,12 @@ pub record IsMonitor (k n : ℕ) (s : Counters) : Type 0 where
   pub sum_is : total_of s ≡ n
 
 -- after one more item
-abbrev pub monitored : Sketch → Entry → Sketch
-monitored s e = record { k = s.k; total = s.total + e.1; counters = step s.counters e s.k }
+abbrev pub monitor_with : Sketch → Entry → Sketch
+monitor_with s e = record { k = s.k; total = s.total + e.1; counters = step s.counters e s.k }
 
 -- the summary of Misra and Gries that it is translated to
-abbrev pub translated : Sketch → Sketch
-translated s = record { k = s.k; total = s.total; counters = translate s.counters s.k }
+abbrev pub translation_of : Sketch → Sketch
+translation_of s = record { k = s.k; total = s.total; counters = translate s.counters s.k }
 
 -- the least counter stands at the place i, and at none before it
 pub record IsFirstLeast (s : Counters) (i : ℕ) : Type 0 where

@@ -1,49 +1,61 @@
-//! Space-Saving in buckets.
+//! Space-Saving in buckets, which are put right only before a key is dropped.
 
-ghost use Rattle.std.specs.Prelude.{◌≡◌, Bool, true, ℕ, ◌≢◌, ◌+◌, ◌-◌, ◌^◌, ◌<◌, ◌≤◌, ◌↔◌, ◌⊎◌, [], ◌∷◌, ◌++◌, IsSome, IfOk, IsErrOf, OnOk, OnErr, IfErr, None, Some, length, slice_get};
+ghost use Rattle.std.specs.Prelude.{◌≡◌, ℕ, true, ◌+◌, ◌-◌, ◌^◌, ◌<◌, ◌≤◌, ◌↔◌, ◌⊎◌, [], ◌∷◌, ◌++◌, IfSome, IsOk, IfOk, IsErrOf, OnOk, OnErr, None, Some, length, false};
 ghost use Rattle.std.specs.Map.{keys_of, lookup};
 ghost use Rattle.std.specs.List.{IsDistinct};
 ghost use Rattle.indexmap.specs.IndexMap.{get as index_get, index_of, keys, IsUnique, Updates};
-ghost use Rattle.hh_stream.specs.Weights.{Bytes, key_cmp, same_key, total_of};
-ghost use Rattle.hh_counters.specs.Counters.{max_k, Sketch, IsCounters, tally, lower};
-ghost use Rattle.hh_counters.specs.Buckets.{AreOrdered, Changes, Moves, HasSame, HasSettled, Stand, IsTakenIn};
+ghost use Rattle.hh_stream.specs.Weights.{Bytes, max_key_len, max_total, same_key, total_of, weight_of};
+ghost use Rattle.hh_stream.specs.Ranges.{in_range};
+ghost use Rattle.hh_counters.specs.Counters.{max_k, IsCounters, tally, least_counter, lower};
+ghost use Rattle.hh_counters.specs.SpaceSaving.{monitor_with};
+ghost use Rattle.std.specs.BTreeSet.{IsUnchanged, Updates as SetUpdates, insert_key};
+ghost use Rattle.hh_counters.specs.Buckets.{HasSettled, IsTakenIn, Stand, by_counter};
 
-use crate::buckets::{Bucket, drop_first, first, put, take};
 use crate::monitor::Monitor;
+use crate::shared_key::SharedKey;
+use crate::sought::Sought;
 use crate::summary::{AddFault, MAX_K, Summary};
 use hh_stream::{Key, MAX_TOTAL};
 use indexmap::IndexMap;
 use std::alloc::{AllocError, Global};
-use std::collections::BTreeMap;
+use std::collections::BTreeSet;
 use std::marker::Model;
 use thiserror::Error;
 
-/// Space-Saving with the monitored keys in buckets by their counters, so that the key to drop is
-/// the first one of the first bucket.
+/// Space-Saving with the monitored keys in buckets by counters that they had, so that the key to
+/// drop is soon found. Hits are gathered: an item whose key is monitored only raises the key's
+/// counter, and the key stays in its bucket (Metwally, Agrawal and El Abbadi 2005, whose list of
+/// buckets moves a key with each item).
 ///
-/// An item costs a look-up by hash and searches in ordered maps, whose steps grow as the logarithm
-/// of the number of counters. A newcomer's key is hashed a second time and copied twice, a
-/// monitored key is copied once, and either may have one other key copied, the least of the bucket
-/// that it comes to. A contract sees k, the total and the counters by rising key.
+/// No key stands in the bucket of a number above its counter. So before a key is dropped, the first
+/// key of the first bucket moves to that of its counter, again and again, until the first key
+/// stands right: it then has the least counter.
+///
+/// An item whose key is monitored costs one look-up by hash, and takes no memory. A newcomer costs
+/// searches in an ordered set, whose steps grow as the logarithm of the number of counters, and the
+/// moves of keys that were hit since they moved last. Its key is made once and hashed twice; each
+/// key that moves, and the one that is dropped, is hashed, and none is copied.
+/// [`least`](Monitor::least) looks at each counter. A contract sees k, the total and the counters
+/// by rising key.
 #[derive(Debug, Drop)]
 pub struct BucketSaving {
     alloc: Global,
     k: u64,
     total: u64,
-    index: IndexMap<Key, u64>,
-    buckets: BTreeMap<u64, Bucket>,
+    index: IndexMap<SharedKey, u64>,
+    // the keys beside one number are its bucket
+    buckets: BTreeSet<(u64, SharedKey)>,
 }
 
 impl Model for BucketSaving {
     ghost use Rattle.hh_counters.specs.Counters.{Sketch, tally};
-    ghost use Rattle.std.specs.Prelude.{true};
     ghost use Rattle.hh_counters.specs.Buckets.{IsLinked};
 
     ghost Value = { Sketch };
 
     ghost view = { λ s. record { k = s.k; total = s.total; counters = tally s.index.entries } };
 
-    ghost invariant = { λ s. IsLinked true s.k s.total s.index.entries s.buckets };
+    ghost invariant = { λ s. IsLinked s.k s.total s.index.entries s.buckets };
 }
 
 /// Why there is no new Space-Saving: the first of these that holds.
@@ -64,33 +76,55 @@ impl BucketSaving {
     /// Space-Saving of no items, with room for the first keys.
     pub fn new(alloc: Global, k: u64) -> Result<BucketSaving, NewFault>
         ensures empty { IfOk result (λ s. s ≡ record { k = k; total = 0; counters = [] }) }
-        ensures bad_k { IsErrOf result NewFault.BadK ↔ ((k ≡ 0) ⊎ (max_k < k)) }
+        ensures bad_k { IsErrOf result NewFault.BadK ↔ (in_range k max_k ≡ false) }
     {
-        let index = first_index(alloc, k)?;
-        Ok(BucketSaving {
-            alloc,
-            k,
-            total: 0,
-            index,
-            buckets: BTreeMap::new(alloc),
-        })
+        if k == 0 || k > MAX_K {
+            return Err(NewFault::BadK);
+        }
+        // a newcomer enters before the key that it replaces goes
+        let most = k as usize + 2;
+        match IndexMap::with_capacity(alloc, most.min(FIRST_ROOM)) {
+            Ok(index) => Ok(BucketSaving {
+                alloc,
+                k,
+                total: 0,
+                index,
+                buckets: BTreeSet::new(alloc),
+            }),
+            Err(_) => Err(NewFault::Memory),
+        }
     }
-}
 
-/// An index of no keys, with room for the first ones of a monitor with k.
-pub fn first_index(alloc: Global, k: u64) -> Result<IndexMap<Key, u64>, NewFault>
-    ensures empty { IfOk result (λ index. index.entries ≡ []) }
-    ensures in_range { IfOk result (λ _. (1 ≤ k) × (k ≤ max_k)) }
-    ensures bad_k { IsErrOf result NewFault.BadK ↔ ((k ≡ 0) ⊎ (max_k < k)) }
-{
-    if k == 0 || k > MAX_K {
-        return Err(NewFault::BadK);
-    }
-    // a newcomer enters before the key that it replaces goes
-    let most = k as usize + 2;
-    match IndexMap::with_capacity(alloc, most.min(FIRST_ROOM)) {
-        Ok(index) => Ok(index),
-        Err(_) => Err(NewFault::Memory),
+    /// [`add`](Monitor::add) of the key with these bytes, 1 to 4,096 of them.
+    pub fn add_bytes(&mut self, key: &[u8], weight: u64) -> Result<(), AddFault>
+        requires key { (0 < length key.now) × (length key.now ≤ max_key_len) }
+        requires positive { 0 < weight }
+        ensures added { OnOk result (self.new ≡ monitor_with self.old (key.now, weight)) }
+        ensures unchanged { OnErr result (self.new ≡ self.old) }
+        ensures too_large { IsErrOf result AddFault.TotalTooLarge
+            ↔ (max_total < self.old.total + weight) }
+
+        // a monitored key takes no memory
+        ensures known { 0 < weight_of key.now self.old.counters
+            → self.old.total + weight ≤ max_total → IsOk result }
+    {
+        if weight > MAX_TOTAL - self.total {
+            return Err(AddFault::TotalTooLarge);
+        }
+        match add_item(
+            self.alloc,
+            self.k,
+            &mut self.index,
+            &mut self.buckets,
+            key,
+            weight,
+        ) {
+            Ok(()) => {
+                self.total += weight;
+                Ok(())
+            }
+            Err(_) => Err(AddFault::Memory),
+        }
     }
 }
 
@@ -113,34 +147,15 @@ impl Monitor for BucketSaving {
         if self.index.len() as u64 <= self.k {
             return 0;
         }
-        match first(&self.buckets) {
-            Some((counter, _)) => counter,
-            None => 0,
-        }
+        least_in(&self.index)
     }
 
     fn get(&self, key: &Key) -> u64 {
-        self.index.get(key).copied().unwrap_or(0)
+        self.index.get(Sought(key.bytes())).copied().unwrap_or(0)
     }
 
     fn add(&mut self, key: &Key, weight: u64) -> Result<(), AddFault> {
-        if weight > MAX_TOTAL - self.total {
-            return Err(AddFault::TotalTooLarge);
-        }
-        match add_item(
-            self.alloc,
-            self.k,
-            &mut self.index,
-            &mut self.buckets,
-            key,
-            weight,
-        ) {
-            Ok(()) => {
-                self.total += weight;
-                Ok(())
-            }
-            Err(_) => Err(AddFault::Memory),
-        }
+        self.add_bytes(key.bytes(), weight)
     }
 
     fn into_summary(self) -> Result<Summary, BucketSaving> {
@@ -152,10 +167,28 @@ impl Monitor for BucketSaving {
     }
 }
 
-/// The counters less the least, by rising key.
-pub fn translated_entries(
+// The least counter, 0 where there is none.
+fn least_in(index: &IndexMap<SharedKey, u64>) -> u64
+    requires distinct { IsDistinct same_key (keys_of index.now.entries) }
+    requires positive { (q : Bytes)
+        → IfSome (lookup (same_key q) index.now.entries) (λ m. 0 < m) }
+    ensures { result ≡ least_counter (tally index.now.entries) }
+{
+    let mut least = 0;
+    for i in 0..index.len() {
+        if let Some((_, counter)) = index.get_index(i) {
+            if i == 0 || *counter < least {
+                least = *counter;
+            }
+        }
+    }
+    least
+}
+
+// The counters less the least, by rising key.
+fn translated_entries(
     alloc: Global,
-    index: &IndexMap<Key, u64>,
+    index: &IndexMap<SharedKey, u64>,
     least: u64,
 ) -> Result<Vec<(Key, u64)>, AllocError>
     requires distinct { IsDistinct same_key (keys_of index.now.entries) }
@@ -170,7 +203,7 @@ pub fn translated_entries(
 // The counters above this number, less it, in the order of the index.
 fn entries_above(
     alloc: Global,
-    index: &IndexMap<Key, u64>,
+    index: &IndexMap<SharedKey, u64>,
     least: u64,
 ) -> Result<Vec<(Key, u64)>, AllocError>
     ensures { IfOk result (λ entries. entries.items ≡ lower least index.now.entries) }
@@ -179,7 +212,7 @@ fn entries_above(
     for i in 0..index.len() {
         if let Some((key, counter)) = index.get_index(i) {
             if *counter > least {
-                entries.push((key.copy()?, *counter - least))?;
+                entries.push((key.key().copy()?, *counter - least))?;
             }
         }
     }
@@ -187,134 +220,125 @@ fn entries_above(
 }
 
 // Adds the item to both parts, or leaves the counters as they were.
+#[tactic(auto, using(crate::proofs::Linked::absent))]
 fn add_item(
     alloc: Global,
     k: u64,
-    index: &mut IndexMap<Key, u64>,
-    buckets: &mut BTreeMap<u64, Bucket>,
-    key: &Key,
+    index: &mut IndexMap<SharedKey, u64>,
+    buckets: &mut BTreeSet<(u64, SharedKey)>,
+    key: &[u8],
     weight: u64,
 ) -> Result<(), AllocError>
+    requires key { (0 < length key.now) × (length key.now ≤ max_key_len) }
     requires positive { 0 < weight }
     requires bounded { total_of (tally index.old.entries) + weight < 2 ^ 63 }
-    requires stand { Stand true index.old.entries buckets.old }
+    requires stand { Stand index.old.entries buckets.old }
     ensures taken { OnOk result
-        (IsTakenIn true k index.old.entries index.new.entries buckets.new (key.now, weight)) }
+        (IsTakenIn k index.old.entries index.new.entries buckets.new (key.now, weight)) }
     ensures unchanged { OnErr result (index.new.entries ≡ index.old.entries) }
-    ensures stand { OnErr result (Stand true index.new.entries buckets.new) }
+    ensures stand { OnErr result (Stand index.new.entries buckets.new) }
+    ensures known { 0 < weight_of key.now (tally index.old.entries) → IsOk result }
 {
-    if let Some((place, _, counter)) = index.get_full(key) {
-        let from = *counter;
-        raise(alloc, index, buckets, key, place, from, from + weight)?;
+    if let Some((place, _, counter)) = index.get_full(Sought(key)) {
+        let raised = *counter + weight;
+        set_counter(index, key, place, raised);
         return Ok(());
     }
-    let newcomer = key.copy()?;
-    let last = index.len();
-    if last as u64 <= k {
-        enter(alloc, index, buckets, newcomer, last, weight)?;
+    let newcomer = SharedKey::of_bytes(alloc, key)?;
+    if index.len() as u64 <= k {
+        enter(index, buckets, newcomer, weight)?;
         return Ok(());
     }
-    let Some(least) = first(buckets) else {
-        unreachable!("a full index has a first bucket");
-    };
-    replace_first(alloc, index, buckets, newcomer, least, weight)?;
+    let least = settle(index, buckets)?;
+    replace_first(index, buckets, newcomer, least, weight)?;
     Ok(())
 }
 
-/// Puts a newcomer at the place of the first key of the first bucket, whose counter and place are
-/// `first`, or leaves both parts as they were.
-pub fn replace_first(
-    alloc: Global,
-    index: &mut IndexMap<Key, u64>,
-    buckets: &mut BTreeMap<u64, Bucket>,
-    newcomer: Key,
-    first: (u64, usize),
+// Moves the first key of the first bucket to that of its counter, until it stands there. This
+// counter, which is the least.
+fn settle(
+    index: &IndexMap<SharedKey, u64>,
+    buckets: &mut BTreeSet<(u64, SharedKey)>,
+) -> Result<u64, AllocError>
+    requires some { 0 < length index.now.entries }
+    requires stand { Stand index.now.entries buckets.old }
+    ensures stand { Stand index.now.entries buckets.new }
+    ensures settled { IfOk result (HasSettled index.now.entries buckets.new) }
+{
+    loop {
+        let Some((from, key)) = buckets.first() else {
+            unreachable!("an index with a key has a first bucket");
+        };
+        let Some(counter) = index.get(key) else {
+            unreachable!("a key in a bucket is in the index");
+        };
+        if counter == from {
+            return Ok(*from);
+        }
+        let moved = (*counter, key.share()?);
+        buckets.insert(moved)?;
+        buckets.pop_first();
+    }
+}
+
+// Puts a newcomer in place of the first key of the first bucket, whose counter is the least, or
+// leaves both parts as they were.
+fn replace_first(
+    index: &mut IndexMap<SharedKey, u64>,
+    buckets: &mut BTreeSet<(u64, SharedKey)>,
+    newcomer: SharedKey,
+    least: u64,
     weight: u64,
 ) -> Result<(), AllocError>
     requires positive { 0 < weight }
     requires bounded { total_of (tally index.old.entries) + weight < 2 ^ 63 }
     requires new { index_get same_key index.old newcomer ≡ None }
-    requires settled { HasSettled index.old.entries buckets.old first.0 first.1 }
-    requires ordered { AreOrdered buckets.old }
-    ensures taken { OnOk result ((exact : Bool) (k : ℕ) → Stand exact index.old.entries buckets.old
+    requires settled { HasSettled index.old.entries buckets.old least }
+    ensures taken { OnOk result ((k : ℕ) → Stand index.old.entries buckets.old
         → k < length index.old.entries
-        → IsTakenIn exact k index.old.entries index.new.entries buckets.new (newcomer, weight)) }
+        → IsTakenIn k index.old.entries index.new.entries buckets.new (newcomer, weight)) }
     ensures unchanged { OnErr result (index.new.entries ≡ index.old.entries) }
-    ensures same { OnErr result (HasSame buckets.old buckets.new) }
-    ensures ordered { AreOrdered buckets.new }
+    ensures same { OnErr result (IsUnchanged buckets.old buckets.new) }
 {
-    let (least, place) = first;
-    enter(alloc, index, buckets, newcomer, place, least + weight)?;
-    drop_first(buckets);
-    // the newcomer, which stands last, goes to the place that it has in its bucket
-    index.swap_remove_index(place);
+    enter(index, buckets, newcomer, least + weight)?;
+    let Some((_, dropped)) = buckets.pop_first() else {
+        unreachable!("the first key is still there");
+    };
+    index.swap_remove(&dropped);
     Ok(())
 }
 
-// Moves the key, which stands at the place, from one counter to another in both parts, or leaves
-// both as they were.
-fn raise(
-    alloc: Global,
-    index: &mut IndexMap<Key, u64>,
-    buckets: &mut BTreeMap<u64, Bucket>,
-    key: &Key,
-    place: usize,
-    from: u64,
-    to: u64,
-) -> Result<(), AllocError>
-    requires place { index_of same_key index.old key.now ≡ Some place }
-    requires ordered { AreOrdered buckets.old }
-    requires apart { from ≢ to }
-    ensures raised { OnOk result (Updates same_key index.old index.new key.now (Some to)) }
-    ensures keys { keys index.new ≡ keys index.old }
-    ensures moved { OnOk result (Moves buckets.old buckets.new from to key.now place) }
-    ensures unchanged { OnErr result (index.new.entries ≡ index.old.entries) }
-    ensures same { OnErr result (HasSame buckets.old buckets.new) }
-    ensures ordered { AreOrdered buckets.new }
-    ensures distinct { IsUnique same_key index.old → IsUnique same_key index.new }
-{
-    put(alloc, buckets, to, key.copy()?, place)?;
-    take(buckets, from, key);
-    set_counter(index, key.bytes(), place, to);
-    Ok(())
-}
-
-/// Makes this the counter of the key, which stands at the place.
-pub fn set_counter(index: &mut IndexMap<Key, u64>, key: &[u8], place: usize, to: u64)
+// Makes this the counter of the key, which stands at the place.
+fn set_counter(index: &mut IndexMap<SharedKey, u64>, key: &[u8], place: usize, to: u64)
     requires place { index_of same_key index.old key.now ≡ Some place }
     ensures set { Updates same_key index.old index.new key.now (Some to) }
-    ensures keys { keys index.new ≡ keys index.old }
     ensures distinct { IsUnique same_key index.old → IsUnique same_key index.new }
 {
     let (_, counter) = index.pair_mut(place);
     *counter = to;
 }
 
-/// Puts a new key last into the index and, with the place that it is to have, into its bucket, or
-/// leaves both as they were.
-pub fn enter(
-    alloc: Global,
-    index: &mut IndexMap<Key, u64>,
-    buckets: &mut BTreeMap<u64, Bucket>,
-    key: Key,
-    place: usize,
+// Puts a new key into the index and into the bucket of its counter, or leaves both as they were.
+fn enter(
+    index: &mut IndexMap<SharedKey, u64>,
+    buckets: &mut BTreeSet<(u64, SharedKey)>,
+    key: SharedKey,
     counter: u64,
 ) -> Result<(), AllocError>
     requires new { index_get same_key index.old key ≡ None }
-    requires ordered { AreOrdered buckets.old }
     ensures entered { OnOk result (Updates same_key index.old index.new key (Some counter)) }
-    ensures last { OnOk result (index.new.entries ≡ index.old.entries ++ (key, counter) ∷ []) }
-    ensures put { OnOk result (Changes buckets.old buckets.new counter key (Some place)) }
+    ensures put { OnOk result (SetUpdates by_counter buckets.old buckets.new (counter, key) true) }
+    ensures sorted { OnOk result
+        (buckets.new.keys ≡ insert_key by_counter buckets.old.keys (counter, key)) }
     ensures unchanged { OnErr result (index.new.entries ≡ index.old.entries) }
-    ensures same { OnErr result (HasSame buckets.old buckets.new) }
-    ensures ordered { AreOrdered buckets.new }
+    ensures same { OnErr result (IsUnchanged buckets.old buckets.new) }
     ensures distinct { IsUnique same_key index.old → IsUnique same_key index.new }
 {
-    let copy = key.copy()?;
+    let shared = key.share()?;
     index.insert(key, counter)?;
-    if let Err(refused) = put(alloc, buckets, counter, copy, place) {
+    if let Err(refused) = buckets.insert((counter, shared)) {
         index.pop();
-        return Err(refused);
+        return Err(refused.into());
     }
     Ok(())
 }

@@ -5,7 +5,7 @@ ghost use Rattle.std.specs.List.Sorted.{IsStrictlySortedBy};
 ghost use Rattle.std.specs.Map.{keys_of};
 ghost use Rattle.hh_stream.specs.Weights.{key_cmp, total_of};
 ghost use Rattle.hh_counters.specs.Counters.{max_k};
-ghost use Rattle.hh_counters.specs.Report.{IsShare, contenders, counted, selected, thinned};
+ghost use Rattle.hh_counters.specs.Report.{IsShare, contenders, counts_with, rows_above, keys_above};
 
 use crate::report::{Heavy, is_share, selected_rows};
 use crate::sought::Sought;
@@ -87,7 +87,7 @@ impl Candidates {
         requires lengths { length numbers.now ≡ length self.now }
         requires share { IsShare p q }
         ensures keys { IfOk result
-            (λ candidates. candidates ≡ thinned p q total self.now numbers.now) }
+            (λ candidates. candidates ≡ keys_above p q total self.now numbers.now) }
         ensures few { IfOk result (λ candidates. length candidates ≤ length self.now) }
     {
         let mut keys = IndexSet::new(*self.keys.allocator());
@@ -144,7 +144,7 @@ impl Candidates {
     pub fn count(&self, key: &Key, weight: u64, numbers: &mut [u64])
         requires lengths { length numbers.old ≡ length self.now }
         requires bounded { All (λ n. n + weight < 2 ^ 64) numbers.old }
-        ensures { numbers.new ≡ counted self.now ((key.now, weight) ∷ []) numbers.old }
+        ensures { numbers.new ≡ counts_with self.now ((key.now, weight) ∷ []) numbers.old }
     {
         self.count_bytes(key.bytes(), weight, numbers);
     }
@@ -153,7 +153,7 @@ impl Candidates {
     pub fn count_bytes(&self, key: &[u8], weight: u64, numbers: &mut [u64])
         requires lengths { length numbers.old ≡ length self.now }
         requires bounded { All (λ n. n + weight < 2 ^ 64) numbers.old }
-        ensures { numbers.new ≡ counted self.now ((key.now, weight) ∷ []) numbers.old }
+        ensures { numbers.new ≡ counts_with self.now ((key.now, weight) ∷ []) numbers.old }
     {
         if self.keys.is_empty() {
             return;
@@ -167,7 +167,7 @@ impl Candidates {
     pub fn count_piece(&self, items: &[Item], numbers: &mut [u64])
         requires lengths { length numbers.old ≡ length self.now }
         requires bounded { All (λ n. n + total_of items.now < 2 ^ 64) numbers.old }
-        ensures { numbers.new ≡ counted self.now items.now numbers.old }
+        ensures { numbers.new ≡ counts_with self.now items.now numbers.old }
     {
         if self.keys.is_empty() {
             return;
@@ -190,10 +190,10 @@ impl Candidates {
         requires lengths { length numbers.now ≡ length self.now }
         requires share { IsShare p q }
         ensures rows { IfOk result
-            (λ rows. rows.items ≡ selected p q total (zip self.now numbers.now)) }
+            (λ rows. rows.items ≡ rows_above p q total (zip self.now numbers.now)) }
 
         // a report without rows takes no memory
-        ensures none { selected p q total (zip self.now numbers.now) ≡ [] → IsOk result }
+        ensures none { rows_above p q total (zip self.now numbers.now) ≡ [] → IsOk result }
     {
         let alloc = *self.keys.allocator();
         selected_rows(alloc, self.keys.as_slice(), numbers, p, q, total)

@@ -200,7 +200,7 @@ pub fn add_item(
 }
 
 /// The counters of both joined: added key by key, less the level.
-pub fn joined(
+pub fn join(
     alloc: Global,
     left: &[(Key, u64)],
     right: &[(Key, u64)],
@@ -211,14 +211,14 @@ pub fn joined(
     requires bounded { total_of left.now + total_of right.now < 2 ^ 63 }
     ensures { IfOk result (λ all. all.items ≡ join left.now right.now k) }
 {
-    let mut all = summed(alloc, left, right)?;
+    let mut all = plus(alloc, left, right)?;
     let level = level_of(alloc, &all, k as usize)?;
     lower_all(&mut all, level);
     Ok(all)
 }
 
 // The counters of both added, key by key, in one pass over the two.
-fn summed(
+fn plus(
     alloc: Global,
     left: &[(Key, u64)],
     right: &[(Key, u64)],

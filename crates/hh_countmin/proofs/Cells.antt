@@ -1,16 +1,17 @@
 -- Cells in rows: what stands at a row and a cell, what a row adds up to, and which cells fit.
-use Rattle.std.proofs.Common.{◌≡◌, ℕ, zero, suc, ◌+◌, ◌*◌, ◌/◌, ◌%◌, ◌^◌, ◌<◌, ◌≤◌, cond, eqb, List, [], ◌∷◌, ◌++◌, length, get_or, drop, map, refl, sym, ap, ap₂, ◌∙◌, subst, inl, inr, arith}
+use Rattle.std.proofs.Common.{◌≡◌, ℕ, zero, suc, ◌+◌, ◌*◌, ◌/◌, ◌%◌, ◌^◌, ◌<◌, ◌≤◌, cond, eqb, List, [], ◌∷◌, length, get_or, drop, map, refl, sym, ap, ap₂, ◌∙◌, subst, inl, inr, arith, true}
 use Rattle.std.specs.Prelude.{sum, sum_by, EachIndex}
 use Rattle.std.specs.List.{range_with_len}
 use Rattle.std.proofs.lemmas.Bool.{cases_eq}
 use Rattle.std.proofs.lemmas.Bool.Decides.{nat_tests}
 use Rattle.std.proofs.lemmas.List.{length-take, length-drop, get_or-take, get_or-drop}
 use Rattle.std.proofs.lemmas.List.FromFn.{length-map-range_with_len, get_or-map-range_with_len, fill_by_all}
-use Rattle.std.proofs.lemmas.List.Sums.{sum-map, sum_by-cons, sum_by-append, get_or-le-sum_by}
+use Rattle.std.proofs.lemmas.List.Sums.{sum-map, sum_by-cons, get_or-le-sum_by}
 use Rattle.std.proofs.lemmas.Nat.{mul-add-lt, div-mul-add, mod-mul-add, div_below, mod_below, div-add-mod', row_fits}
+use Rattle.hh_stream.specs.Ranges.{in_range}
 use Rattle.hh_stream.specs.Weights.{Entry, total_of}
-use Rattle.hh_countmin.specs.Family.{Coefficients, IsWidth, cell_of}
-use Rattle.hh_countmin.specs.Table.{Fits, cell_at, row_at, cells_by, at_cell, cell_sum}
+use Rattle.hh_countmin.specs.Family.{Coefficients, max_width, cell_of}
+use Rattle.hh_countmin.specs.Table.{FitsTable, cell_at, row_at, cells_by, at_cell, cell_sum}
 
 -- ---- a row and a cell
 
@@ -88,12 +89,8 @@ nothing_after : (k w a n : ℕ) → k < a → sum_by (λ c. cond (eqb k c) w 0) 
 nothing_after k w a zero lt = refl
 nothing_after k w a (suc n) lt =
     let here : cond (eqb k a) w 0 ≡ 0 = grind (arith, nat_tests) in
-    omega (
-      arith,
-      here,
-      nothing_after k w (a + 1) n (omega arith),
-      sum_by-cons (λ c. cond (eqb k c) w 0) a (range_with_len (a + 1) n),
-    )
+    let cons = sum_by-cons (λ c. cond (eqb k c) w 0) a (range_with_len (a + 1) n) in
+    omega (arith, here, nothing_after k w (a + 1) n (omega arith), cons)
 
 once_within : (k w a n : ℕ) → a ≤ k → k < a + n → sum_by (λ c. cond (eqb k c) w 0) (range_with_len a n) ≡ w
 once_within k w a zero le lt = absurd (omega arith)
@@ -115,11 +112,6 @@ sum_over-one k w n lt =
     sum-map (λ c. cond (eqb k c) w 0) (range_with_len 0 n) ∙ once_within k w 0 n (omega arith) (omega arith)
 
 -- ---- cell sums
-
--- what the items of two lists add to a cell is what each list's add
-pub cell_sum-append : (family : Coefficients) (width r c : ℕ) (xs ys : List Entry)
-    → cell_sum family width r c (xs ++ ys) ≡ cell_sum family width r c xs + cell_sum family width r c ys
-cell_sum-append family width r c xs ys = sum_by-append (at_cell family width r c) xs ys
 
 -- a key's cell lies within the width
 pub cell_of-below : (family : Coefficients) (r : ℕ) (key : List ℕ) (width : ℕ) → 1 ≤ width
@@ -152,9 +144,10 @@ sum_over-cell_sum family width r (e ∷ xs) some =
 -- ---- cells that fit
 
 -- cells whose rows add up to the total fit
-pub fits_by : (f : ℕ → ℕ → ℕ) (family : Coefficients) (width total : ℕ) → IsWidth width → total < 2 ^ 63
+pub fits_by : (f : ℕ → ℕ → ℕ) (family : Coefficients) (width total : ℕ) → in_range width max_width ≡ true
+    → total < 2 ^ 63
     → ((r : ℕ) → r < length family.rows → sum_over (f r) width ≡ total)
-    → Fits family width total (cells_by f (length family.rows) width)
+    → FitsTable family width total (cells_by f (length family.rows) width)
 fits_by f family width total is_width small each =
     let depth = length family.rows in
     let cells = cells_by f depth width in
@@ -178,8 +171,8 @@ length-row_at width depth cells r len lt =
     ap length (row_at-map width depth cells r len lt) ∙ length-map-range_with_len (λ c. cell_at width cells r c) 0 width
 
 -- no cell is above the total
-pub cell-le-total : (family : Coefficients) (width total : ℕ) (cells : List ℕ) → Fits family width total cells → (i : ℕ)
-    → i < length cells → get_or cells i 0 ≤ total
+pub cell-le-total : (family : Coefficients) (width total : ℕ) (cells : List ℕ) → FitsTable family width total cells
+    → (i : ℕ) → i < length cells → get_or cells i 0 ≤ total
 cell-le-total family width total cells fits i lt =
     let depth = length family.rows in
     by_place (λ k. get_or cells k 0 ≤ total) depth width i (omega (arith, fits.all_cells))
@@ -197,9 +190,9 @@ cell-le-total family width total cells fits i lt =
 
 -- cells that fit, with a weight more in one cell of each row
 pub fits_raised : (family : Coefficients) (width total : ℕ) (cells : List ℕ) (weight : ℕ) (cell : ℕ → ℕ)
-    → Fits family width total cells → total + weight < 2 ^ 63 → ((r : ℕ) → cell r < width)
-    → Fits family width (total + weight) (cells_by (λ r c. cell_at width cells r c + cond (eqb (cell r) c) weight 0)
-    (length family.rows) width)
+    → FitsTable family width total cells → total + weight < 2 ^ 63 → ((r : ℕ) → cell r < width)
+    → FitsTable family width (total + weight)
+    (cells_by (λ r c. cell_at width cells r c + cond (eqb (cell r) c) weight 0) (length family.rows) width)
 fits_raised family width total cells weight cell fits small in_row =
     fits_by (λ r c. cell_at width cells r c + cond (eqb (cell r) c) weight 0) family width (total + weight)
     fits.width_in_range small
@@ -209,9 +202,9 @@ fits_raised family width total cells weight cell fits small in_row =
     ∙ fits.rows_sum r lt) (sum_over-one (cell r) weight width (in_row r)))
 
 -- the cells of two tables, one by one
-pub fits_summed : (family : Coefficients) (width m n : ℕ) (a b : List ℕ) → Fits family width m a → Fits family width n b
-    → m + n < 2 ^ 63
-    → Fits family width (m + n) (cells_by (λ r c. cell_at width a r c + cell_at width b r c) (length family.rows) width)
+pub fits_summed : (family : Coefficients) (width m n : ℕ) (a b : List ℕ) → FitsTable family width m a
+    → FitsTable family width n b → m + n < 2 ^ 63 → FitsTable family width (m + n)
+    (cells_by (λ r c. cell_at width a r c + cell_at width b r c) (length family.rows) width)
 fits_summed family width m n a b p q small =
     fits_by (λ r c. cell_at width a r c + cell_at width b r c) family width (m + n) p.width_in_range small
     (λ r lt.
@@ -228,6 +221,6 @@ summed_cells depth width a b new len each =
     (λ r c lt in_row. each (r * width + c) (omega (arith, len, mul-add-lt r width c depth lt in_row)))
 
 -- the same cells fit the same family and width
-pub fits_same : (f g : Coefficients) (v w total : ℕ) (cells : List ℕ) → f ≡ g → v ≡ w → Fits g w total cells
-    → Fits f v total cells
+pub fits_same : (f g : Coefficients) (v w total : ℕ) (cells : List ℕ) → f ≡ g → v ≡ w → FitsTable g w total cells
+    → FitsTable f v total cells
 fits_same f g v w total cells same_family same_width fits = rw (same_family, same_width) fits

@@ -1,5 +1,5 @@
 -- Rows drawn one after the other.
-use Rattle.std.proofs.Common.{◌≡◌, ℕ, zero, suc, ◌+◌, ◌*◌, ◌-◌, ◌<◌, ◌≤◌, List, [], ◌∷◌, ◌++◌, length, refl, sym, ap, ap₂, ◌∙◌, append_assoc, arith}
+use Rattle.std.proofs.Common.{◌≡◌, ℕ, zero, suc, ◌+◌, ◌*◌, ◌-◌, ◌<◌, ◌≤◌, List, [], ◌∷◌, ◌++◌, length, refl, sym, ap, ap₂, ◌∙◌, append_assoc, arith, true}
 use Rattle.std.specs.List.{AllByRecursion}
 use Rattle.std.proofs.lemmas.List.{append-nil}
 use Rattle.std.proofs.lemmas.List.Elements.{All-from_recursion}
@@ -7,7 +7,8 @@ use Rattle.std.proofs.lemmas.Nat.{mod_below}
 use Rattle.rand_core.specs.Steps.{first_words}
 use Rattle.rand_pcg.specs.Lcg.{Lcg}
 use Rattle.rand_pcg.specs.Pcg.{pcg64}
-use Rattle.hh_countmin.specs.Family.{modulus, IsRow, IsDepth, IsFamily, factor_of, addend_of, rows_of_words, family_of_words, generator_of, drawn_family}
+use Rattle.hh_stream.specs.Ranges.{in_range}
+use Rattle.hh_countmin.specs.Family.{modulus, IsRow, max_depth, IsFamily, factor_of, addend_of, rows_of_words, family_of_words, generator_of, drawn_family}
 
 -- the rows that a generator's next words make
 abbrev pub next_rows : ℕ → Lcg → List (ℕ × ℕ)
@@ -67,14 +68,14 @@ is_drawn seed depth g e =
     ∙ ap (λ (n : ℕ). family_of_words (first_words pcg64 n (generator_of seed))) (sym one)
 
 -- so many words make a family
-pub drawn_is_family : (word depth : ℕ) (g : Lcg) → IsDepth depth
+pub drawn_is_family : (word depth : ℕ) (g : Lcg) → in_range depth max_depth ≡ true
     → IsFamily (record { z = factor_of word; rows = next_rows depth g })
 drawn_is_family word depth g is_depth =
     let len = length-next_rows depth g in
     let factor = factor_in_range word in
     record {
-      depth = (omega arith, omega arith);
-      in_range = (
+      depth = rw len is_depth;
+      coefficients = (
         factor.0,
         factor.1,
         All-from_recursion IsRow (next_rows depth g)

@@ -8,7 +8,7 @@ use Rattle.std.proofs.lemmas.Bool.{cases_eq, cases_lt}
 use Rattle.std.proofs.lemmas.Bool.Decides.{nat_tests}
 use Rattle.std.proofs.lemmas.List.Sums.{sum_by-le-sum_by}
 use Rattle.hh_stream.specs.Weights.{Bytes, Entry, same_key, at_key, weight_of}
-use Rattle.hh_countmin.specs.Family.{Coefficients, cell_of}
+use Rattle.hh_countmin.specs.Family.{Coefficients, cell_of, IsFamily}
 use Rattle.hh_countmin.specs.Table.{at_cell, cell_sum, cell_at, least_up_to, least_of_rows, estimate_of, estimate_in, table_of}
 use Rattle.hh_countmin.proofs.Cells.{cell_at-cells_by, cell_of-below}
 
@@ -93,3 +93,7 @@ estimate_in-table_of family width key xs some wide =
     (λ r. cell_sum family width r (cell r) xs) (length family.rows - 1)
     (λ r le. cell_at-cells_by (λ q c. cell_sum family width q c xs) (length family.rows) width r (cell r) (omega arith)
     (cell_of-below family r key width wide))
+
+-- a family has a row
+pub some_rows : (family : Coefficients) → IsFamily family → 1 ≤ length family.rows
+some_rows family is = grind (arith, nat_tests, is.depth)

@@ -1,11 +1,13 @@
 -- The table of a list: empty, with an item more, and of two lists; and when its parts are a table's.
-use Rattle.std.proofs.Common.{◌≡◌, ℕ, ◌+◌, ◌*◌, ◌^◌, ◌<◌, List, [], ◌∷◌, ◌++◌, length, replicate, refl, sym, ap₂, ◌∙◌, subst, arith}
+use Rattle.std.proofs.Common.{◌≡◌, ℕ, ◌+◌, ◌*◌, ◌^◌, ◌<◌, List, [], ◌∷◌, ◌++◌, length, replicate, refl, sym, ap₂, ◌∙◌, subst, arith, true}
 use Rattle.std.proofs.lemmas.List.{get_or-replicate, length-replicate}
 use Rattle.std.proofs.lemmas.List.Sums.{sum_by-append, sum_by_push}
 use Rattle.std.proofs.lemmas.Nat.{mul-add-lt}
+use Rattle.std.proofs.lemmas.Bool.Decides.{nat_tests}
+use Rattle.hh_stream.specs.Ranges.{in_range}
 use Rattle.hh_stream.specs.Weights.{Entry, total_of}
-use Rattle.hh_countmin.specs.Family.{Coefficients, IsWidth}
-use Rattle.hh_countmin.specs.Table.{Grid, Fits, cell_at, at_cell, cell_sum, cells_by, table_of, empty_table, added, merged}
+use Rattle.hh_countmin.specs.Family.{Coefficients, max_width}
+use Rattle.hh_countmin.specs.Table.{Grid, FitsTable, cell_at, at_cell, cell_sum, cells_by, table_of, empty_table, grid_with, grid_sum}
 use Rattle.hh_countmin.proofs.Cells.{cell_at-cells_by, same_cells, same_cells_by, sum_over-cell_sum, fits_by}
 
 abbrev grid : Coefficients → ℕ → ℕ → List ℕ → Grid
@@ -28,7 +30,7 @@ empty_table-is family width =
 
 -- adding an item to the table of a list gives the table of the list with the item last
 pub added-table_of : (family : Coefficients) (width : ℕ) (xs : List Entry) (e : Entry)
-    → added (table_of family width xs) e ≡ table_of family width (xs ++ e ∷ [])
+    → grid_with (table_of family width xs) e ≡ table_of family width (xs ++ e ∷ [])
 added-table_of family width xs e =
     let depth = length family.rows in
     let sums : ℕ → ℕ → ℕ = λ r c. cell_sum family width r c xs in
@@ -40,7 +42,7 @@ added-table_of family width xs e =
 
 -- merging the tables of two lists gives the table of both, one after the other
 pub merged-table_of : (family : Coefficients) (width : ℕ) (xs ys : List Entry)
-    → merged (table_of family width xs) (table_of family width ys) ≡ table_of family width (xs ++ ys)
+    → grid_sum (table_of family width xs) (table_of family width ys) ≡ table_of family width (xs ++ ys)
 merged-table_of family width xs ys =
     let depth = length family.rows in
     let sums : List Entry → ℕ → ℕ → ℕ = λ zs r c. cell_sum family width r c zs in
@@ -53,15 +55,16 @@ merged-table_of family width xs ys =
     ∙ sym (sum_by-append (at_cell family width r c) xs ys)))
 
 -- the table of items with a total below 2^63 meets all that a table has to
-pub table_of-fits : (family : Coefficients) (width : ℕ) (xs : List Entry) → IsWidth width → total_of xs < 2 ^ 63
-    → Fits family width (total_of xs) (table_of family width xs).cells
+pub table_of-fits : (family : Coefficients) (width : ℕ) (xs : List Entry) → in_range width max_width ≡ true
+    → total_of xs < 2 ^ 63
+    → FitsTable family width (total_of xs) (table_of family width xs).cells
 table_of-fits family width xs is_width small =
     fits_by (λ r c. cell_sum family width r c xs) family width (total_of xs) is_width small
-    (λ r lt. sum_over-cell_sum family width r xs is_width.0)
+    (λ r lt. sum_over-cell_sum family width r xs (grind (arith, nat_tests, is_width)))
 
 -- cells that are all 0 meet all that a table has to
-pub empty_fits : (family : Coefficients) (width : ℕ) → IsWidth width
-    → Fits family width 0 (replicate (length family.rows * width) 0)
+pub empty_fits : (family : Coefficients) (width : ℕ) → in_range width max_width ≡ true
+    → FitsTable family width 0 (replicate (length family.rows * width) 0)
 empty_fits family width is_width =
-    subst (λ (t : Grid). Fits family width 0 t.cells) (sym (empty_table-is family width))
+    subst (λ (t : Grid). FitsTable family width 0 t.cells) (sym (empty_table-is family width))
     (table_of-fits family width [] is_width (omega arith))

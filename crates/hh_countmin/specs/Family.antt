@@ -1,6 +1,7 @@
 -- Hash families: the coefficients, the fingerprint and the cell of a key, and the family of a seed.
-use Rattle.std.specs.Prelude.{ℕ, ◌+◌, ◌*◌, ◌-◌, ◌%◌, ◌^◌, ◌≡◌, ◌≤◌, ◌<◌, Bool, ◌&&◌, nat_eq, List, [], ◌∷◌, length, fold, All, slice_index, slice_index_or}
+use Rattle.std.specs.Prelude.{ℕ, ◌+◌, ◌*◌, ◌-◌, ◌%◌, ◌^◌, ◌≡◌, ◌≤◌, ◌<◌, Bool, true, ◌&&◌, nat_eq, List, [], ◌∷◌, length, fold, All, slice_index, slice_index_or}
 use lib.Pointwise.{pointwise}
+use Rattle.hh_stream.specs.Ranges.{in_range}
 use Rattle.hh_stream.specs.Weights.{Bytes}
 use Rattle.rand_core.specs.Steps.{first_words}
 use Rattle.rand_core.specs.Pcg32Seed.{pcg32_seed}
@@ -27,18 +28,12 @@ max_depth = 16
 abbrev pub max_width : ℕ
 max_width = 65536
 
-abbrev pub IsDepth : ℕ → Type 0
-IsDepth depth = (1 ≤ depth) × (depth ≤ max_depth)
-
-abbrev pub IsWidth : ℕ → Type 0
-IsWidth width = (1 ≤ width) × (width ≤ max_width)
-
 abbrev pub AreCoefficients : ℕ → List (ℕ × ℕ) → Type 0
 AreCoefficients z rows = (1 ≤ z) × (z < modulus) × All IsRow rows
 
 pub record IsFamily (family : Coefficients) : Type 0 where
-  pub depth : IsDepth (length family.rows)
-  pub in_range : AreCoefficients family.z family.rows
+  pub depth : in_range (length family.rows) max_depth ≡ true
+  pub coefficients : AreCoefficients family.z family.rows
 
 -- whether two families are one
 abbrev pub same_row : ℕ × ℕ → ℕ × ℕ → Bool
@@ -48,8 +43,8 @@ abbrev pub same_family : Coefficients → Coefficients → Bool
 same_family f g = nat_eq f.z g.z && pointwise same_row f.rows g.rows
 
 -- the coefficients of row r
-abbrev pub row_of : Coefficients → ℕ → ℕ × ℕ
-row_of family r = slice_index_or family.rows r (0, 0)
+abbrev pub coefficients_of : Coefficients → ℕ → ℕ × ℕ
+coefficients_of family r = slice_index_or family.rows r (0, 0)
 
 -- one byte more
 abbrev pub fingerprint_step : ℕ → ℕ → ℕ → ℕ
@@ -69,7 +64,7 @@ cell_of_fingerprint row fingerprint width = (row.0 * fingerprint + row.1) % modu
 
 -- the cell of a key in row r
 abbrev pub cell_of : Coefficients → ℕ → Bytes → ℕ → ℕ
-cell_of family r key width = cell_of_fingerprint (row_of family r) (fingerprint_of family.z key) width
+cell_of family r key width = cell_of_fingerprint (coefficients_of family r) (fingerprint_of family.z key) width
 
 -- ---- the family of a seed
 

@@ -1,9 +1,10 @@
 -- What holds of the definitions.
-use Rattle.std.specs.Prelude.{◌≡◌, ℕ, ◌+◌, ◌*◌, ◌^◌, ◌<◌, ◌≤◌, ◌↔◌, IsTrue, List, ◌∷◌, ◌++◌, [], length, map, sum}
+use Rattle.std.specs.Prelude.{◌≡◌, true, ℕ, ◌+◌, ◌*◌, ◌^◌, ◌<◌, ◌≤◌, ◌↔◌, IsTrue, List, ◌∷◌, ◌++◌, [], length, map, sum}
 use Rattle.std.specs.List.{range_with_len}
+use Rattle.hh_stream.specs.Ranges.{in_range}
 use Rattle.hh_stream.specs.Weights.{Bytes, Entry, weight_of, total_of}
-use Rattle.hh_countmin.specs.Family.{Coefficients, IsWidth, IsFamily, same_family, drawn_family, IsDepth, cell_of}
-use Rattle.hh_countmin.specs.Table.{Fits, cell_at, cell_sum, table_of, empty_table, added, merged, estimate_in, estimate_of}
+use Rattle.hh_countmin.specs.Family.{Coefficients, max_depth, max_width, IsFamily, same_family, drawn_family, cell_of}
+use Rattle.hh_countmin.specs.Table.{FitsTable, cell_at, cell_sum, table_of, empty_table, grid_with, grid_sum, estimate_in, estimate_of}
 
 -- `==` of two families says whether they are one
 abbrev pub EqualFamiliesAreOne : Type 0
@@ -11,7 +12,7 @@ EqualFamiliesAreOne = (f g : Coefficients) → IsTrue (same_family f g) ↔ (f �
 
 -- what a seed draws is a family
 abbrev pub DrawnFamiliesAreFamilies : Type 0
-DrawnFamiliesAreFamilies = (seed depth : ℕ) → IsDepth depth
+DrawnFamiliesAreFamilies = (seed depth : ℕ) → in_range depth max_depth ≡ true
     → IsFamily (drawn_family seed depth) × (length (drawn_family seed depth).rows ≡ depth)
 
 -- the cell sums of two lists, one after the other, are those of both together
@@ -45,8 +46,8 @@ abbrev pub TablesFollowItems : Type 0
 TablesFollowItems =
     (family : Coefficients) (width : ℕ) (xs ys : List Entry) (e : Entry)
     → (empty_table family width ≡ table_of family width [])
-    × (added (table_of family width xs) e ≡ table_of family width (xs ++ e ∷ []))
-    × (merged (table_of family width xs) (table_of family width ys) ≡ table_of family width (xs ++ ys))
+    × (grid_with (table_of family width xs) e ≡ table_of family width (xs ++ e ∷ []))
+    × (grid_sum (table_of family width xs) (table_of family width ys) ≡ table_of family width (xs ++ ys))
 
 -- the cells of the table of a list are its cell sums, and no other cells are; so are its estimates
 abbrev pub CellsAreCellSums : Type 0
@@ -63,5 +64,5 @@ CellsAreCellSums =
 -- the table of a list has the parts of a table
 abbrev pub TablesFit : Type 0
 TablesFit =
-    (family : Coefficients) (width : ℕ) (xs : List Entry) → IsWidth width → total_of xs < 2 ^ 63
-    → Fits family width (total_of xs) (table_of family width xs).cells
+    (family : Coefficients) (width : ℕ) (xs : List Entry) → in_range width max_width ≡ true → total_of xs < 2 ^ 63
+    → FitsTable family width (total_of xs) (table_of family width xs).cells

@@ -1,8 +1,9 @@
 -- Count-Min tables: what their cells are of a list of items, and what a key's estimate is.
-use Rattle.std.specs.Prelude.{◌≡◌, ℕ, zero, suc, ◌+◌, ◌*◌, ◌-◌, ◌/◌, ◌%◌, ◌^◌, ◌<◌, ◌==◌, cond, min, List, length, take, drop, map, sum, sum_by, replicate, slice_index}
+use Rattle.std.specs.Prelude.{◌≡◌, true, ℕ, zero, suc, ◌+◌, ◌*◌, ◌-◌, ◌/◌, ◌%◌, ◌^◌, ◌<◌, ◌==◌, cond, min, List, length, take, drop, map, sum, sum_by, replicate, slice_index}
 use Rattle.std.specs.List.{range_with_len}
+use Rattle.hh_stream.specs.Ranges.{in_range}
 use Rattle.hh_stream.specs.Weights.{Bytes, Entry, total_of}
-use Rattle.hh_countmin.specs.Family.{Coefficients, IsWidth, cell_of}
+use Rattle.hh_countmin.specs.Family.{Coefficients, max_width, cell_of}
 
 -- what a contract sees of a table: the cells lie row by row
 pub record Grid : Type 0 where
@@ -20,8 +21,8 @@ abbrev pub row_at : ℕ → List ℕ → ℕ → List ℕ
 row_at width cells r = take width (drop (r * width) cells)
 
 -- the parts of a table
-pub record Fits (family : Coefficients) (width total : ℕ) (cells : List ℕ) : Type 0 where
-  pub width_in_range : IsWidth width
+pub record FitsTable (family : Coefficients) (width total : ℕ) (cells : List ℕ) : Type 0 where
+  pub width_in_range : in_range width max_width ≡ true
   pub total_in_range : total < 2 ^ 63
   pub all_cells : length cells ≡ length family.rows * width
   pub rows_sum : (r : ℕ) → r < length family.rows → sum (row_at width cells r) ≡ total
@@ -53,15 +54,15 @@ empty_table family width =
     record { family = family; width = width; total = 0; cells = replicate (length family.rows * width) 0 }
 
 -- a table after an item: in each row the key's cell has the weight more, and no other cell
-abbrev pub added : Grid → Entry → Grid
-added t e = record t {
+abbrev pub grid_with : Grid → Entry → Grid
+grid_with t e = record t {
   total = t.total + e.1;
   cells = cells_by (λ r c. cell_at t.width t.cells r c + at_cell t.family t.width r c e) (length t.family.rows) t.width;
 }
 
 -- two tables of one family and width, cell by cell
-abbrev pub merged : Grid → Grid → Grid
-merged s t = record s {
+abbrev pub grid_sum : Grid → Grid → Grid
+grid_sum s t = record s {
   total = s.total + t.total;
   cells = cells_by (λ r c. cell_at s.width s.cells r c + cell_at s.width t.cells r c) (length s.family.rows) s.width;
 }

@@ -1,7 +1,8 @@
 //! Hash families.
 
-ghost use Rattle.std.specs.Prelude.{◌≡◌, ◌+◌, ◌*◌, ◌<◌, ◌≤◌, ◌↔◌, ◌⊎◌, length, IfOk, IsErrOf, IsTrue};
-ghost use Rattle.hh_countmin.specs.Family.{max_depth, modulus, IsDepth, IsWidth, IsFamily, AreCoefficients, IsRow, row_of, fingerprint_of, ArePowers, cell_of, cell_of_fingerprint, drawn_family, factor_of, addend_of, rows_of_words};
+ghost use Rattle.std.specs.Prelude.{◌≡◌, ◌+◌, ◌*◌, ◌<◌, ◌≤◌, ◌↔◌, ◌⊎◌, length, IfOk, IsErrOf, IsTrue, true, false};
+ghost use Rattle.hh_stream.specs.Ranges.{in_range};
+ghost use Rattle.hh_countmin.specs.Family.{max_depth, max_width, modulus, IsFamily, AreCoefficients, IsRow, coefficients_of, fingerprint_of, ArePowers, cell_of, cell_of_fingerprint, drawn_family, factor_of, addend_of, rows_of_words};
 ghost use Rattle.rand_core.specs.Steps.{first_words};
 ghost use Rattle.rand_pcg.specs.Pcg.{pcg64};
 
@@ -76,7 +77,7 @@ impl Family {
     pub fn draw(alloc: Global, seed: u64, depth: u64) -> Result<Family, DrawFault>
         ensures drawn { IfOk result (λ family. family ≡ drawn_family seed depth) }
         ensures bad_depth { IsErrOf result DrawFault.BadDepth
-            ↔ ((depth ≡ 0) ⊎ (max_depth < depth)) }
+            ↔ (in_range depth max_depth ≡ false) }
     {
         if depth == 0 || depth > MAX_DEPTH {
             return Err(DrawFault::BadDepth);
@@ -99,9 +100,10 @@ impl Family {
         ensures parts { IfOk result (λ family. family ≡ record { z = z; rows = rows.now }) }
         ensures in_range { IfOk result IsFamily }
         ensures bad_depth { IsErrOf result PartsFault.BadDepth
-            ↔ ((length rows.now ≡ 0) ⊎ (max_depth < length rows.now)) }
+            ↔ (in_range (length rows.now) max_depth ≡ false) }
         ensures bad_coefficient { IsErrOf result PartsFault.BadCoefficient
-            ↔ (IsDepth (length rows.now) × ¬ (AreCoefficients z rows.now)) }
+            ↔ ((in_range (length rows.now) max_depth ≡ true)
+            × ¬ (AreCoefficients z rows.now)) }
     {
         if rows.is_empty() || rows.len() as u64 > MAX_DEPTH {
             return Err(PartsFault::BadDepth);
@@ -148,7 +150,7 @@ impl Family {
     /// The coefficients (a, b) of row `r`.
     pub fn row(&self, r: u64) -> (u64, u64)
         requires { r < length self.now.rows }
-        ensures row { result ≡ row_of self.now r }
+        ensures row { result ≡ coefficients_of self.now r }
         ensures in_range { IsRow result }
     {
         self.rows[r as usize]
@@ -197,7 +199,7 @@ impl Family {
     /// The cell of a key in row `r` of a table of this width.
     pub fn cell(&self, r: u64, key: &Key, width: u64) -> u64
         requires row { r < length self.now.rows }
-        requires width { IsWidth width }
+        requires width { in_range width max_width ≡ true }
         ensures cell { result ≡ cell_of self.now r key.now width }
         ensures within { result < width }
     {
@@ -209,9 +211,9 @@ impl Family {
     #[inline]
     pub fn cell_of_fingerprint(&self, r: u64, fingerprint: u64, width: u64) -> u64
         requires row { r < length self.now.rows }
-        requires width { IsWidth width }
+        requires width { in_range width max_width ≡ true }
         requires fingerprint { fingerprint < modulus }
-        ensures cell { result ≡ cell_of_fingerprint (row_of self.now r) fingerprint width }
+        ensures cell { result ≡ cell_of_fingerprint (coefficients_of self.now r) fingerprint width }
         ensures within { result < width }
     {
         let (a, b) = self.row(r);

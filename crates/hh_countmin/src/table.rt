@@ -1,9 +1,10 @@
 //! Count-Min tables.
 
-ghost use Rattle.std.specs.Prelude.{◌≡◌, ◌≢◌, ◌+◌, ◌*◌, ◌<◌, ◌≤◌, ◌^◌, ◌↔◌, ◌⊎◌, ◌==◌, ℕ, cond, sum, length, slice_index, IfOk, OnOk, OnErr, IsErr, IsErrOf, IsTrue, EachIndex};
-ghost use Rattle.hh_countmin.specs.Family.{max_width, modulus, IsWidth, row_of, cell_of_fingerprint};
+ghost use Rattle.std.specs.Prelude.{◌≡◌, ◌≢◌, ◌+◌, ◌*◌, ◌<◌, ◌≤◌, ◌^◌, ◌↔◌, ◌⊎◌, ◌==◌, ℕ, cond, sum, length, slice_index, IfOk, OnOk, OnErr, IsErr, IsErrOf, IsTrue, EachIndex, true, false};
+ghost use Rattle.hh_stream.specs.Ranges.{in_range};
+ghost use Rattle.hh_countmin.specs.Family.{max_width, modulus, coefficients_of, cell_of_fingerprint};
 ghost use Rattle.hh_stream.specs.Weights.{max_total};
-ghost use Rattle.hh_countmin.specs.Table.{Fits, row_at, cell_at, cells_by, empty_table, added, merged, estimate_in};
+ghost use Rattle.hh_countmin.specs.Table.{FitsTable, row_at, cell_at, cells_by, empty_table, grid_with, grid_sum, estimate_in};
 
 use crate::family::{Family, MAX_WIDTH};
 use hh_stream::{Key, MAX_TOTAL};
@@ -25,7 +26,7 @@ pub struct Table {
 }
 
 impl Model for Table {
-    ghost use Rattle.hh_countmin.specs.Table.{Grid, Fits};
+    ghost use Rattle.hh_countmin.specs.Table.{Grid, FitsTable};
 
     ghost Value = { Grid };
 
@@ -37,7 +38,7 @@ impl Model for Table {
           cells = table.cells.items;
         } };
 
-    ghost invariant = { λ table. Fits table.family table.width table.total table.cells.items };
+    ghost invariant = { λ table. FitsTable table.family table.width table.total table.cells.items };
 }
 
 /// Why there is no table: the first of these that holds.
@@ -75,7 +76,7 @@ impl Table {
     pub fn new(alloc: Global, family: Family, width: u64) -> Result<Table, TableFault>
         ensures table { IfOk result (λ table. table ≡ empty_table family width) }
         ensures bad_width { IsErrOf result TableFault.BadWidth
-            ↔ ((width ≡ 0) ⊎ (max_width < width)) }
+            ↔ (in_range width max_width ≡ false) }
     {
         if width == 0 || width > MAX_WIDTH {
             return Err(TableFault::BadWidth);
@@ -96,7 +97,7 @@ impl Table {
     /// [`MAX_TOTAL`], and there are as many rows of `width` cells as the family has, each of which
     /// adds up to the total.
     pub fn fits(family: &Family, width: u64, total: u64, cells: &[u64]) -> bool
-        ensures { IsTrue result ↔ Fits family.now width total cells.now }
+        ensures { IsTrue result ↔ FitsTable family.now width total cells.now }
     {
         1 <= width
             && width <= MAX_WIDTH
@@ -109,7 +110,7 @@ impl Table {
     /// and so nothing is promised of any: an estimate is not below a weight in a stream where the
     /// cells came from that stream.
     pub fn from_cells(family: Family, width: u64, total: u64, cells: Vec<u64>) -> Table
-        requires { Fits family width total cells.items }
+        requires { FitsTable family width total cells.items }
         ensures { result
             ≡ record { family = family; width = width; total = total; cells = cells.items } }
     {
@@ -123,7 +124,7 @@ impl Table {
 
     /// Adds an item's weight to the key's cell of each row. After a refusal the table is as it was.
     pub fn add(&mut self, key: &Key, weight: u64) -> Result<(), TotalTooLarge>
-        ensures added { OnOk result (self.new ≡ added self.old (key.now, weight)) }
+        ensures added { OnOk result (self.new ≡ grid_with self.old (key.now, weight)) }
         ensures unchanged { OnErr result (self.new ≡ self.old) }
         ensures too_large { IsErr result ↔ (max_total < self.old.total + weight) }
     {
@@ -132,7 +133,7 @@ impl Table {
 
     /// [`add`](Table::add) of the key with these bytes.
     pub fn add_bytes(&mut self, key: &[u8], weight: u64) -> Result<(), TotalTooLarge>
-        ensures added { OnOk result (self.new ≡ added self.old (key.now, weight)) }
+        ensures added { OnOk result (self.new ≡ grid_with self.old (key.now, weight)) }
         ensures unchanged { OnErr result (self.new ≡ self.old) }
         ensures too_large { IsErr result ↔ (max_total < self.old.total + weight) }
     {
@@ -154,7 +155,7 @@ impl Table {
     /// Adds the cells and the total of a table of the same family and width. After a refusal the
     /// table is as it was.
     pub fn merge(&mut self, other: &Table) -> Result<(), MergeFault>
-        ensures merged { OnOk result (self.new ≡ merged self.old other.now) }
+        ensures merged { OnOk result (self.new ≡ grid_sum self.old other.now) }
         ensures unchanged { OnErr result (self.new ≡ self.old) }
 
         ensures different_family { IsErrOf result MergeFault.DifferentFamily
@@ -180,6 +181,7 @@ impl Table {
     }
 
     /// The least of the key's cells: at least the key's weight among the items added.
+    #[tactic(auto, using(crate::proofs::Estimates::some_rows))]
     pub fn estimate(&self, key: &Key) -> u64
         ensures estimate { result ≡ estimate_in self.now key.now }
     {
@@ -207,7 +209,7 @@ impl Table {
         requires fingerprint { fingerprint < modulus }
         ensures { result
             ≡ cell_at self.now.width self.now.cells r
-            (cell_of_fingerprint (row_of self.now.family r) fingerprint self.now.width) }
+            (cell_of_fingerprint (coefficients_of self.now.family r) fingerprint self.now.width) }
     {
         self.cell_at(
             r,
@@ -225,7 +227,7 @@ impl Table {
     /// The sum of the weights of all items.
     pub fn total(&self) -> u64
         ensures total { result ≡ self.now.total }
-        ensures fits { Fits self.now.family self.now.width self.now.total self.now.cells }
+        ensures fits { FitsTable self.now.family self.now.width self.now.total self.now.cells }
     {
         self.total
     }
@@ -233,7 +235,7 @@ impl Table {
     /// How many cells a row has.
     pub fn width(&self) -> u64
         ensures width { result ≡ self.now.width }
-        ensures in_range { IsWidth result }
+        ensures in_range { in_range result max_width ≡ true }
     {
         self.width
     }
@@ -256,13 +258,13 @@ fn are_one(family: &Family, other: &Family) -> bool
 // Adds the weight to the cell that the fingerprint has in each row.
 fn raise_cells(cells: &mut [u64], family: &Family, width: u64, fingerprint: u64, weight: u64)
     requires all_cells { length cells.old ≡ length family.now.rows * width }
-    requires width { IsWidth width }
+    requires width { in_range width max_width ≡ true }
     requires fingerprint { fingerprint < modulus }
     requires room { EachIndex cells.old (λ i. slice_index cells.old i + weight < 2 ^ 64) }
     ensures { cells.new
         ≡ cells_by
         (λ r c. cell_at width cells.old r c
-        + cond (cell_of_fingerprint (row_of family.now r) fingerprint width == c) weight 0)
+        + cond (cell_of_fingerprint (coefficients_of family.now r) fingerprint width == c) weight 0)
         (length family.now.rows) width }
 {
     for r in 0..family.depth() {

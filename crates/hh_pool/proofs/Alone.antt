@@ -6,7 +6,7 @@ use Rattle.std.proofs.lemmas.Grind.{flat_map-append}
 use Rattle.hh_stream.specs.Weights.{Bytes, Entry, max_total, total_of}
 use Rattle.hh_stream.specs.Cuttings.{pieces_of, whole_of}
 use Rattle.hh_counters.specs.Counters.{Sketch, sketch_of}
-use Rattle.hh_counters.specs.Report.{counted, weights_at}
+use Rattle.hh_counters.specs.Report.{counts_with, weights_at}
 use Rattle.hh_countmin.specs.Table.{Grid, table_of}
 use Rattle.hh_pool.specs.Settings.{Settings}
 use Rattle.hh_pool.specs.Passes.{piece_of}
@@ -50,9 +50,9 @@ alone_more pieces settings n sketches more was grid low e f p = record {
 
 -- counted on to the end of the next piece
 pub weights-more : (pieces : List (List Entry)) (keys : List Bytes) (n : ℕ) (weights more : List ℕ) → n < length pieces
-    → weights ≡ weights_at keys (whole_of (take n pieces)) → more ≡ counted keys (piece_of pieces n) weights
+    → weights ≡ weights_at keys (whole_of (take n pieces)) → more ≡ counts_with keys (piece_of pieces n) weights
     → more ≡ weights_at keys (whole_of (take (n + 1) pieces))
 weights-more pieces keys n weights more low e f =
-    f ∙ (ap (counted keys (piece_of pieces n)) e
+    f ∙ (ap (counts_with keys (piece_of pieces n)) e
     ∙ (counted-weights_at keys (whole_of (take n pieces)) (piece_of pieces n)
     ∙ ap (weights_at keys) (sym (whole-more pieces n low))))

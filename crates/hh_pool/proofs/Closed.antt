@@ -14,7 +14,7 @@ use Rattle.hh_counters.specs.Counters.{Sketch, sketch_of}
 use Rattle.hh_counters.specs.Report.{weights_at}
 use Rattle.hh_countmin.specs.Table.{at_cell, cell_sum, table_of}
 use Rattle.hh_countmin.specs.Laws.{CellsAreCellSums}
-use Rattle.hh_shared.specs.Tally.{added, sum_at, IsDistinctBelow, HasAllBelow}
+use Rattle.hh_shared.specs.Tally.{cell_total, sum_at, IsDistinctBelow, HasAllBelow}
 use Rattle.hh_shared.specs.Seats.{Holding}
 use Rattle.hh_pool.specs.Settings.{Settings}
 use Rattle.hh_pool.specs.Passes.{piece_of, summaries_at, AreFirstPasses, AreSecondPasses}
@@ -36,11 +36,11 @@ closed_cells law pieces xs settings seat kept values whole low p distinct all lo
     let width = settings.width in
     let depth = length family.rows in
     (law family width xs).1 values long (λ r c row cell.
-    let all_items : added (r * width + c) seat.adds ≡ cell_sum family width r c xs =
+    let all_items : cell_total (r * width + c) seat.adds ≡ cell_sum family width r c xs =
     p.adds r c row cell ∙ (sum_by-all_items (at_cell family width r c) pieces seat.claims distinct all
     ∙ ap (cell_sum family width r c) whole) in
     each (r * width + c) (omega (arith, mul-add-lt r width c depth row cell))
-    ∙ exact (cell_sum family width r c xs) (added (r * width + c) seat.adds) all_items
+    ∙ exact (cell_sum family width r c xs) (cell_total (r * width + c) seat.adds) all_items
     (omega (arith, cell_sum-le family width r c xs)))
 
 -- the closed sums of the second pass are the candidates' weights
@@ -54,9 +54,10 @@ closed_weights pieces xs keys seat values whole low p distinct all long each =
     (λ i within.
     let key = get_or keys i [] in
     let at = slice_get-get_or keys i [] (omega arith) in
-    let all_items : added i seat.adds ≡ weight_of key xs =
+    let all_items : cell_total i seat.adds ≡ weight_of key xs =
     p.adds i key at ∙ (sum_by-all_items (at_key key) pieces seat.claims distinct all ∙ ap (weight_of key) whole) in
-    each i (omega arith) ∙ (exact (weight_of key xs) (added i seat.adds) all_items (omega (arith, weight_of-le key xs))
+    each i (omega arith)
+    ∙ (exact (weight_of key xs) (cell_total i seat.adds) all_items (omega (arith, weight_of-le key xs))
     ∙ sym (weight_behind_number keys xs i key at)))
 
 -- each summary found is its piece's

@@ -1,11 +1,11 @@
 -- The leaves of a tree, and what its parts need and give where its summaries are merged.
-use Rattle.std.proofs.Common.{◌≡◌, ◌+◌, ◌<◌, ◌∙◌, ℕ, List, [], length, Ok, Err, refl, sym, arith}
+use Rattle.std.proofs.Common.{◌≡◌, ◌+◌, ◌<◌, ◌∙◌, ℕ, List, [], length, Result, Ok, refl, sym, arith}
 use Rattle.std.specs.Prelude.{slice_index_or, sum_by}
 use Rattle.hh_counters.specs.Counters.{Sketch}
 use Rattle.hh_counters.specs.declared.summary.MergeFault.{MergeFault}
 use Rattle.hh_shared.specs.Tally.{times, IsDistinctBelow, HasAllBelow}
 use Rattle.hh_shared.proofs.Tallies.{all-length, sum_by-all, times-append, times-here}
-use Rattle.hh_pool.specs.Trees.{IsMergeTree, MergeTree, Piece, Merge, leaves, merge_result, no_sketch, tree_result}
+use Rattle.hh_pool.specs.Trees.{IsMergeTree, MergeTree, Piece, Merge, leaves, merge_both, no_sketch, tree_result}
 
 -- how many merges a tree has
 abbrev pub merges : MergeTree → ℕ
@@ -14,13 +14,8 @@ merges (Merge l r) = 1 + merges l + merges r
 
 -- the leaves of a merge tree of p pieces are different numbers below p
 pub distinct-leaves : (t : MergeTree) (p : ℕ) → IsMergeTree t p → IsDistinctBelow p (leaves t)
-distinct-leaves t p h = record { once = once t p h; below = below t p h }
-  where
-    once : (t : MergeTree) (p : ℕ) → IsMergeTree t p → (i : ℕ) → times i (leaves t) < 2
-    once t p h i = grind (arith, h.once i, h.within i)
-
-    below : (t : MergeTree) (p : ℕ) → IsMergeTree t p → (i : ℕ) → 0 < times i (leaves t) → i < p
-    below t p h i some = grind (arith, h.within i)
+distinct-leaves t p h =
+    record { once = λ i. grind (arith, h.once i, h.within i); below = λ i some. grind (arith, h.within i) }
 
 all-leaves : (t : MergeTree) (p : ℕ) → IsMergeTree t p → HasAllBelow p (leaves t)
 all-leaves t p h = record { has = λ i low. omega (arith, h.once i low) }
@@ -81,14 +76,8 @@ right-same : (l r : MergeTree) (n : ℕ) (xs ys : List Sketch) → IsDistinctBel
 right-same l r n xs ys h others =
     result-same r xs ys (λ i some. others i (omega (arith, some, h.once i, times-append i (leaves l) (leaves r))))
 
--- both results are there: the node merges them
-pub node-result : (l r : MergeTree) (n : ℕ) (xs ys : List Sketch) (s t : Sketch)
+-- the left result is there: the node merges it with the right one, or is refused with it
+pub node-result : (l r : MergeTree) (n : ℕ) (xs ys : List Sketch) (s : Sketch) (right : Result Sketch MergeFault)
     → IsDistinctBelow n (leaves (Merge l r)) → AreOutside l xs ys
-    → tree_result l xs ≡ Ok s → tree_result r ys ≡ Ok t → tree_result (Merge l r) xs ≡ merge_result s t
-node-result l r n xs ys s t h others left right = rw (left, sym (right-same l r n xs ys h others) ∙ right) refl
-
--- the right tree is refused
-pub node-refusal : (l r : MergeTree) (n : ℕ) (xs ys : List Sketch) (s : Sketch) (e : MergeFault)
-    → IsDistinctBelow n (leaves (Merge l r)) → AreOutside l xs ys
-    → tree_result l xs ≡ Ok s → tree_result r ys ≡ Err e → tree_result (Merge l r) xs ≡ Err e
-node-refusal l r n xs ys s e h others left right = rw (left, sym (right-same l r n xs ys h others) ∙ right) refl
+    → tree_result l xs ≡ Ok s → tree_result r ys ≡ right → tree_result (Merge l r) xs ≡ merge_both (Ok s) right
+node-result l r n xs ys s right h others left is = rw (left, sym (right-same l r n xs ys h others) ∙ is) refl

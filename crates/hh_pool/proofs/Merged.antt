@@ -7,9 +7,9 @@ use Rattle.std.proofs.lemmas.List.Sums.{sum_by-append, sum_by-cons}
 use Rattle.std.proofs.lemmas.Bool.Decides.{nat_tests}
 use Rattle.hh_stream.specs.Weights.{Bytes, Entry, weight_of, total_of, max_total}
 use Rattle.hh_stream.specs.Cuttings.{pieces_of, whole_of}
-use Rattle.hh_counters.specs.Counters.{Sketch, sketch_of, merged, misra_gries, IsHonest}
+use Rattle.hh_counters.specs.Counters.{Sketch, sketch_of, merge_of, misra_gries, IsHonest}
 use Rattle.hh_counters.specs.declared.summary.MergeFault.{MergeFault}
-use Rattle.hh_counters.specs.Report.{contenders, heavy, selected, thinned, weights_at}
+use Rattle.hh_counters.specs.Report.{contenders, heavy, rows_above, keys_above, weights_at}
 use Rattle.hh_counters.specs.Laws.{MisraGriesIsHonest, JoinOfHonestIsHonest, ContendersSuffice, ThinnedSuffice}
 use Rattle.hh_shared.specs.Tally.{times}
 use Rattle.hh_pool.specs.Trees.{MergeTree, Piece, Merge, IsMergeTree, leaves, merge_both, merge_result, no_sketch, tree_result, tree_value}
@@ -23,7 +23,7 @@ use Rattle.hh_pool.proofs.ValueFacts.{IsMergeOf, merge-of}
 abbrev total_at : List Sketch → ℕ → ℕ
 total_at ss i = (get_or ss i no_sketch).total
 
-merge_fits : (s t : Sketch) → s.k ≡ t.k → s.total + t.total ≤ max_total → merge_result s t ≡ Ok (merged s t)
+merge_fits : (s t : Sketch) → s.k ≡ t.k → s.total + t.total ≤ max_total → merge_result s t ≡ Ok (merge_of s t)
 merge_fits s t same fits = grind (arith, nat_tests)
 
 -- summaries with one k, whose totals fit together, are merged
@@ -37,7 +37,7 @@ tree_merges (Merge l r) ss k one_k fits =
     let a = tree_merges l ss k (at-left l r one_k) (omega arith) in
     let b = tree_merges r ss k (at-right l r one_k) (omega arith) in
     let node = merge_fits a.0 b.0 (a.2 ∙ sym b.2) (omega (arith, a.3, b.3)) in
-    (merged a.0 b.0, (λ i. merge_both (a.1 i) (b.1 i)) ∙ node, a.2, omega (arith, a.3, b.3))
+    (merge_of a.0 b.0, (λ i. merge_both (a.1 i) (b.1 i)) ∙ node, a.2, omega (arith, a.3, b.3))
 
 -- the totals of the pieces' summaries add up to the total of all items
 total-sketches : (k : ℕ) (pieces : List (List Entry)) → sum_by (λ (s : Sketch). s.total) (map (sketch_of k) pieces)
@@ -108,19 +108,19 @@ pub thinned_enough : ContendersSuffice → ThinnedSuffice
     → (s : Sketch) (xs : List Entry) (p q total : ℕ) (ks keys : List Bytes) (numbers : List ℕ) (bound : Bytes → ℕ)
     → IsHonest s.counters s.total xs s.k → q ≤ p * (s.k + 1)
     → ((x : Bytes) → weight_of x xs ≤ bound x) → total ≡ total_of xs → ks ≡ keys_of (contenders p q s)
-    → numbers ≡ map bound ks → keys ≡ thinned p q total ks numbers → AreEnough keys xs p q
+    → numbers ≡ map bound ks → keys ≡ keys_above p q total ks numbers → AreEnough keys xs p q
 thinned_enough contend thin s xs p q total ks keys numbers bound honest enough most total_is ks_are numbers_are
     keys_are =
     let all = keys_of (contenders p q s) in
-    let here : keys ≡ thinned p q (total_of xs) all (map bound all) = keys_are
-    ∙ (λ i. thinned p q (total_is i) (ks_are i) ((numbers_are ∙ ap (map bound) ks_are) i)) in
+    let here : keys ≡ keys_above p q (total_of xs) all (map bound all) = keys_are
+    ∙ (λ i. keys_above p q (total_is i) (ks_are i) ((numbers_are ∙ ap (map bound) ks_are) i)) in
     rw here (thin all bound xs p q most ∙ contend s xs p q honest enough)
 
 -- the second pass over candidates that are enough finds the heavy keys
 pub heavy_is : (xs : List Entry) (p q total : ℕ) (keys : List Bytes) (weights : List ℕ) → AreEnough keys xs p q
-    → total ≡ total_of xs → weights ≡ weights_at keys xs → selected p q total (zip keys weights) ≡ heavy xs p q
+    → total ≡ total_of xs → weights ≡ weights_at keys xs → rows_above p q total (zip keys weights) ≡ heavy xs p q
 heavy_is xs p q total keys weights enough total_is weights_are =
-    (λ i. selected p q (total_is i) (zip keys (weights_are i))) ∙ enough
+    (λ i. rows_above p q (total_is i) (zip keys (weights_are i))) ∙ enough
 
 -- so no refusal comes
 pub no_refusal : (t : MergeTree) (k : ℕ) (lengths : List ℕ) (xs : List Entry) (ss : List Sketch) (e : MergeFault)

@@ -7,7 +7,7 @@ use Rattle.std.proofs.Common.{drop-cons, get_or-set_other, get_or-set_same}
 use Rattle.std.proofs.Math.ListN.{length-set}
 use Rattle.hh_pool.specs.Trees.{IsMergeTree, MergeTree, leaves}
 use Rattle.hh_shared.specs.Tally.{times, IsDistinctBelow}
-use Rattle.hh_pool.specs.PlanTexts.{AreMarked, NumbersRefused, PlanRefused, Spells}
+use Rattle.hh_pool.specs.PlanTexts.{AreMarked, NumbersRefused, PlanRefused, SpellsTree}
 use Rattle.hh_pool.specs.declared.reading.PlanFault.{PlanFault}
 use Rattle.hh_pool.specs.declared.reading.PlanFault.TheVariants as fault
 use Rattle.hh_shared.proofs.Tallies.{distinct-push, times-push, times-push_other}
@@ -64,7 +64,7 @@ all-came t marks p m own all = record {
     none i le = grind (arith, own.below i)
 
 -- a tree's numbers are refused after its text was read
-pub numbers-refused : (text : List ℕ) (t : MergeTree) (p : ℕ) (f : PlanFault) → Spells text t
+pub numbers-refused : (text : List ℕ) (t : MergeTree) (p : ℕ) (f : PlanFault) → SpellsTree text t
     → NumbersRefused p (leaves t) f → PlanRefused text p f
 numbers-refused text t p (fault.Syntax n) spells h = absurd h
 numbers-refused text t p (fault.UnknownPiece i) spells h = (t, spells, h)

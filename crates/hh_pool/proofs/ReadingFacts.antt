@@ -8,7 +8,7 @@ use Rattle.std.proofs.lemmas.Fmt.{decimal_by_steps, decimal_digit, decimal_step}
 use Rattle.std.proofs.Math.Seq.{take-length}
 use Rattle.std.proofs.lemmas.List.{append-nil, take-append-drop, take_more}
 use Rattle.hh_pool.specs.Trees.{MergeTree, Piece, Merge}
-use Rattle.hh_pool.specs.PlanTexts.{Begins, Done, HasText, IsSyntaxFault, Left, Now, Number, Open, Reading, Right, Spells, Start, after_tree, at_start, first_reading, has_short_numbers, is_digit, nesting, read_tree, step, steps, text_of}
+use Rattle.hh_pool.specs.PlanTexts.{Begins, Done, HasText, IsSyntaxFault, Left, Now, Number, Open, Reading, Right, SpellsTree, Start, after_tree, at_start, first_reading, has_short_numbers, is_digit, nesting, read_tree, step, steps, text_of}
 
 -- ---- what was read
 -- the text before the place that is read
@@ -243,14 +243,14 @@ end-read : (t : MergeTree) → read_tree (record { now = end_of t; outer = [] })
 end-read (Piece i) = refl
 end-read (Merge l r) = refl
 
-read-spells : (s : Reading) (t : MergeTree) → IsSound s → read_tree s ≡ Some t → Spells (read_text s) t
+read-spells : (s : Reading) (t : MergeTree) → IsSound s → read_tree s ≡ Some t → SpellsTree (read_text s) t
 read-spells s t sound h = by s.now s.outer sound.now h
   where
     some-tree : (x y : MergeTree) → ◌≡◌ {A = Option MergeTree} (Some x) (Some y) → x ≡ y
     some-tree x y e = cc e
 
     by : (now : Now) (os : List Open) → IsSoundNow now (length os) → read_tree (record { now = now; outer = os })
-        ≡ Some t → Spells (outer_text os ++ now_text now) t
+        ≡ Some t → SpellsTree (outer_text os ++ now_text now) t
     by Start os sn h = cc h
     by (Number n) [] sn h = rw (← some-tree (Piece n) t h)
         (record { tree = record { short = grind (arith, nat_tests); shallow = omega arith }; bytes = refl })
@@ -343,7 +343,7 @@ syntax-end text s h none = record {
   ends = ends;
 }
   where
-    ends : (t : MergeTree) → Spells text t → ⊥
+    ends : (t : MergeTree) → SpellsTree text t → ⊥
     ends t spells =
         let is = some-eq _ _ (sym h ∙ ap (steps first_reading) spells.bytes ∙ text-read t spells.tree) in
         let bad = none ∙ ap read_tree is ∙ end-read t in
@@ -356,5 +356,5 @@ whole-read text n s low high h = let all : n ≡ length text = omega (arith, low
 
 -- where it has, the text spells that tree
 pub spells-end : (text : List ℕ) (s : Reading) (t : MergeTree) → steps first_reading text ≡ Some s
-    → Some t ≡ read_tree s → Spells text t
+    → Some t ≡ read_tree s → SpellsTree text t
 spells-end text s t h e = let sofar = read-so-far text s h in rw sofar.0 at (read-spells s t sofar.1 (sym e))

@@ -16,13 +16,13 @@ use Rattle.hh_stream.specs.Cuttings.{pieces_of, whole_of}
 use Rattle.hh_shared.proofs.Tallies.{times-append, times-push, added-append}
 use Rattle.hh_pool.proofs.Pieces.{distinct_pieces, sum_by-items, weight_of-le}
 use Rattle.std.proofs.lemmas.List.Sums.{sum_by-append}
-use Rattle.hh_counters.specs.Report.{weights_at, counted}
+use Rattle.hh_counters.specs.Report.{weights_at, counts_with}
 use Rattle.hh_counters.specs.Counters.{Sketch, sketch_of}
 use Rattle.hh_countmin.specs.Family.{Coefficients}
 use Rattle.hh_countmin.specs.Table.{Grid, at_cell, cell_at, cell_sum, table_of}
 use Rattle.hh_countmin.specs.Laws.{CellsAreCellSums}
-use Rattle.hh_shared.specs.Tally.{added, IsDistinctBelow}
-use Rattle.hh_shared.specs.Seats.{Sums, Holding, fresh, joined}
+use Rattle.hh_shared.specs.Tally.{cell_total, IsDistinctBelow}
+use Rattle.hh_shared.specs.Seats.{Sums, Holding, fresh, seat_of_both}
 use Rattle.hh_pool.specs.Settings.{Settings}
 use Rattle.hh_pool.specs.Passes.{piece_of, items_at, summaries_at, HasTried, AreFirstPasses, AreSecondPasses, IsFirstPass, IsSecondPass}
 use Rattle.hh_pool.specs.Progress.{HasTriedUpTo, IsFirstPassUpTo, IsSecondPassUpTo}
@@ -31,10 +31,6 @@ items_at-push : (pieces : List (List Entry)) (claims : List ℕ) (i : ℕ)
     → items_at pieces (claims ++ i ∷ []) ≡ items_at pieces claims ++ piece_of pieces i
 items_at-push pieces claims i = flat_map-append (piece_of pieces) claims (i ∷ [])
     ∙ ap (λ xs. items_at pieces claims ++ xs) (append-nil (piece_of pieces i))
-
-items_at-append : (pieces : List (List Entry)) (one other : List ℕ)
-    → items_at pieces (one ++ other) ≡ items_at pieces one ++ items_at pieces other
-items_at-append pieces one other = flat_map-append (piece_of pieces) one other
 
 -- a number that is claimed or met has been tried
 tried-claim : (n : ℕ) (seat : Holding) → HasTried n seat
@@ -48,14 +44,14 @@ tried-met n seat tried i low = dite (ℕ_discrete i n)
     (λ e. rw e (omega (arith, times-push n seat.met)))
     (λ ne. omega (arith, tried i (omega arith), times-append i seat.met (n ∷ [])))
 
-tried-joined : (n : ℕ) (one other : Holding) → HasTried n one → HasTried n (joined one other)
+tried-joined : (n : ℕ) (one other : Holding) → HasTried n one → HasTried n (seat_of_both one other)
 tried-joined n one other tried i low =
     omega (arith, tried i low, times-append i one.claims other.claims, times-append i one.met other.met)
 
-abbrev nothing : ℕ → ℕ
-nothing _ = 0
+abbrev nothing : {A : Type 0} → A → ℕ
+nothing x = 0
 
-all_zero : (xs : List ℕ) (i : ℕ) → get_or (map nothing xs) i 0 ≡ 0
+all_zero : {A : Type 0} (xs : List A) (i : ℕ) → get_or (map nothing xs) i 0 ≡ 0
 all_zero [] i = refl
 all_zero (x ∷ xs) zero = refl
 all_zero (x ∷ xs) (suc i) = all_zero xs i
@@ -65,8 +61,8 @@ pub claim-behind_cell : (family : Coefficients) (width : ℕ) (pieces : List (Li
     → grid ≡ table_of family width (items_at pieces claims) → (cell : ℕ) → 0 < get_or grid.cells cell 0
     → 0 < length claims
 claim-behind_cell family width pieces [] grid e cell some =
-    let none = all_zero (range_with_len 0 (length family.rows * width)) cell in
-    absurd (omega (arith, ap (λ g. get_or g.cells cell 0) e, none))
+    let zeros = all_zero (range_with_len 0 (length family.rows * width)) cell in
+    absurd (omega (arith, ap (λ g. get_or g.cells cell 0) e, zeros))
 claim-behind_cell family width pieces (i ∷ is) grid e cell some = omega arith
 
 -- numbers that rise, and one above them
@@ -149,7 +145,7 @@ first_claimed pieces settings n seat after kept more grid e distinct f g was p =
 pub first_ends : CellsAreCellSums
     → (pieces : List (List Entry)) (settings : Settings) (seat after : Holding) (kept : List (ℕ × Sketch)) (grid : Grid)
     → after ≡ record seat { adds = after.adds }
-    → ((cell : ℕ) → added cell after.adds ≡ added cell seat.adds + get_or grid.cells cell 0)
+    → ((cell : ℕ) → cell_total cell after.adds ≡ cell_total cell seat.adds + get_or grid.cells cell 0)
     → IsFirstPassUpTo pieces settings (length pieces) seat kept grid → IsFirstPass pieces settings after kept
 first_ends law pieces settings seat after kept grid e adds p =
     let claims = ap (λ h. h.claims) e in
@@ -161,7 +157,7 @@ first_ends law pieces settings seat after kept grid e adds p =
             let cells = ap (λ g. cell_at settings.width g.cells r c) p.table
             ∙ (law settings.family settings.width (items_at pieces seat.claims)).0 r c row cell in
             let items = ap (λ is. cell_sum settings.family settings.width r c (items_at pieces is)) claims in
-            omega (arith, adds (r * settings.width + c), ap (added (r * settings.width + c)) p.so_far.none_added);
+            omega (arith, adds (r * settings.width + c), ap (cell_total (r * settings.width + c)) p.so_far.none_added);
         summaries = p.summaries ∙ ap (summaries_at settings.k pieces) (sym claims);
       };
     }
@@ -169,12 +165,12 @@ first_ends law pieces settings seat after kept grid e adds p =
 -- what two workers brought back, joined
 pub first_joined : (pieces : List (List Entry)) (settings : Settings) (one other : Holding)
     (kept more : List (ℕ × Sketch)) → AreFirstPasses pieces settings one kept
-    → AreFirstPasses pieces settings other more → AreFirstPasses pieces settings (joined one other) (kept ++ more)
+    → AreFirstPasses pieces settings other more → AreFirstPasses pieces settings (seat_of_both one other) (kept ++ more)
 first_joined pieces settings one other kept more p q = record {
   tried = tried-joined (length pieces) one other p.tried;
   adds = λ r c row cell.
       let f = at_cell settings.family settings.width r c in
-      let items = ap (sum_by f) (items_at-append pieces one.claims other.claims) in
+      let items = ap (sum_by f) (flat_map-append (piece_of pieces) one.claims other.claims) in
       let sum = sum_by-append f (items_at pieces one.claims) (items_at pieces other.claims) in
       let both = added-append (r * settings.width + c) one.adds other.adds in
       omega (arith, items, sum, both, p.adds r c row cell, q.adds r c row cell);
@@ -214,7 +210,7 @@ second_met pieces keys n seat after numbers e p =
 
 -- counting goes on where it stopped
 pub counted-weights_at : (keys : List Bytes) (xs ys : List Entry)
-    → counted keys ys (weights_at keys xs) ≡ weights_at keys (xs ++ ys)
+    → counts_with keys ys (weights_at keys xs) ≡ weights_at keys (xs ++ ys)
 counted-weights_at [] xs ys = refl
 counted-weights_at (k ∷ ks) xs ys = (λ i. sym (sum_by-append (at_key k) xs ys) i ∷ counted-weights_at ks xs ys i)
 
@@ -222,13 +218,13 @@ counted-weights_at (k ∷ ks) xs ys = (λ i. sym (sum_by-append (at_key k) xs ys
 pub second_claimed : (pieces : List (List Entry)) (keys : List Bytes) (n : ℕ) (seat after : Holding)
     (numbers more : List ℕ)
     → after ≡ record seat { claims = seat.claims ++ n ∷ [] } → IsDistinctBelow (length pieces) after.claims
-    → more ≡ counted keys (piece_of pieces n) numbers
+    → more ≡ counts_with keys (piece_of pieces n) numbers
     → IsSecondPassUpTo pieces keys n seat numbers → IsSecondPassUpTo pieces keys (n + 1) after more
 second_claimed pieces keys n seat after numbers more e distinct f p =
     let claims = ap (λ h. h.claims) e in
     record {
       so_far = one_more_claimed pieces n seat after e distinct p.so_far;
-      numbers = f ∙ (ap (counted keys (piece_of pieces n)) p.numbers
+      numbers = f ∙ (ap (counts_with keys (piece_of pieces n)) p.numbers
           ∙ (counted-weights_at keys (items_at pieces seat.claims) (piece_of pieces n)
           ∙ ap (weights_at keys) (sym (items_at-push pieces seat.claims n) ∙ ap (items_at pieces) (sym claims))));
     }
@@ -254,18 +250,14 @@ weight_behind_number keys xs i key at =
 -- only who has claimed a piece has something to add
 pub claim-behind_number : (pieces : List (List Entry)) (keys : List Bytes) (claims : List ℕ) (numbers : List ℕ)
     → numbers ≡ weights_at keys (items_at pieces claims) → (i : ℕ) → 0 < get_or numbers i 0 → 0 < length claims
-claim-behind_number pieces keys [] numbers e i some = absurd (omega (arith, ap (λ ns. get_or ns i 0) e, none keys i))
-  where
-    none : (ks : List Bytes) (i : ℕ) → get_or (weights_at ks []) i 0 ≡ 0
-    none [] i = refl
-    none (k ∷ ks) zero = refl
-    none (k ∷ ks) (suc i) = none ks i
+claim-behind_number pieces keys [] numbers e i some =
+    absurd (omega (arith, ap (λ ns. get_or ns i 0) e, all_zero keys i))
 claim-behind_number pieces keys (j ∷ js) numbers e i some = omega arith
 
 -- the worker's own numbers are added to the shared ones
 pub second_ends : (pieces : List (List Entry)) (keys : List Bytes) (seat after : Holding) (numbers : List ℕ)
     → after ≡ record seat { adds = after.adds }
-    → ((cell : ℕ) → added cell after.adds ≡ added cell seat.adds + get_or numbers cell 0)
+    → ((cell : ℕ) → cell_total cell after.adds ≡ cell_total cell seat.adds + get_or numbers cell 0)
     → IsSecondPassUpTo pieces keys (length pieces) seat numbers → IsSecondPass pieces keys after
 second_ends pieces keys seat after numbers e adds p =
     let claims = ap (λ h. h.claims) e in
@@ -277,18 +269,18 @@ second_ends pieces keys seat after numbers e adds p =
             let weight = weight_behind_number keys (items_at pieces seat.claims) i key at in
             let numbers = ap (λ ns. get_or ns i 0) p.numbers in
             let items = ap (λ is. weight_of key (items_at pieces is)) claims in
-            omega (arith, adds i, ap (added i) p.so_far.none_added, numbers, weight, items);
+            omega (arith, adds i, ap (cell_total i) p.so_far.none_added, numbers, weight, items);
       };
     }
 
 -- what two workers brought back, joined
 pub second_joined : (pieces : List (List Entry)) (keys : List Bytes) (one other : Holding)
     → AreSecondPasses pieces keys one → AreSecondPasses pieces keys other
-    → AreSecondPasses pieces keys (joined one other)
+    → AreSecondPasses pieces keys (seat_of_both one other)
 second_joined pieces keys one other p q = record {
   tried = tried-joined (length pieces) one other p.tried;
   adds = λ i key at.
-      let items = ap (weight_of key) (items_at-append pieces one.claims other.claims)
+      let items = ap (weight_of key) (flat_map-append (piece_of pieces) one.claims other.claims)
       ∙ sum_by-append (at_key key) (items_at pieces one.claims) (items_at pieces other.claims) in
       omega (arith, added-append i one.adds other.adds, p.adds i key at, q.adds i key at);
 }

@@ -7,7 +7,7 @@ use Rattle.std.proofs.Math.ListN.{get_or-map}
 use Rattle.std.proofs.lemmas.List.Elements.{All-from_get_or}
 use Rattle.hh_stream.specs.Cuttings.{whole_of}
 use Rattle.hh_stream.specs.Weights.{Bytes, Entry, at_key, max_total, weight_of}
-use Rattle.hh_counters.specs.Counters.{Counters, IsHonest, Sketch, merged}
+use Rattle.hh_counters.specs.Counters.{Counters, IsHonest, Sketch, merge_of}
 use Rattle.hh_counters.specs.Laws.{JoinOfHonestIsHonest}
 use Rattle.hh_counters.specs.declared.summary.MergeFault.{MergeFault}
 use Rattle.hh_pool.specs.Trees.{IsMergeTree, MergeTree, MergesHonestly, Piece, Merge, items_of, leaves, merge_both, no_sketch, tree_result, tree_value}
@@ -18,7 +18,7 @@ use Rattle.hh_pool.proofs.Pieces.{sum_by-flat_map}
 
 -- a merge that went well had two results with one k
 both-ok : (a b : Result Sketch MergeFault) (u : Sketch) → merge_both a b ≡ Ok u
-    → (s : Sketch) × (t : Sketch) × (a ≡ Ok s) × (b ≡ Ok t) × (s.k ≡ t.k) × (merged s t ≡ u)
+    → (s : Sketch) × (t : Sketch) × (a ≡ Ok s) × (b ≡ Ok t) × (s.k ≡ t.k) × (merge_of s t ≡ u)
 both-ok (Err e) b u h = cc h
 both-ok (Ok s) (Err e) u h = cc h
 both-ok (Ok s) (Ok t) u h = by (eqb_tells s.k t.k) (nat_le (s.total + t.total) max_total) refl
@@ -26,7 +26,7 @@ both-ok (Ok s) (Ok t) u h = by (eqb_tells s.k t.k) (nat_le (s.total + t.total) m
     by : ((s.k == t.k) ≡ true) × (s.k ≡ t.k) ⊎ ((s.k == t.k) ≡ false) × (s.k ≢ t.k) → (b : Bool)
         → nat_le (s.total + t.total) max_total ≡ b
         → (s' : Sketch) × (t' : Sketch) × (◌≡◌ {A = Result Sketch MergeFault} (Ok s) (Ok s'))
-        × (◌≡◌ {A = Result Sketch MergeFault} (Ok t) (Ok t')) × (s'.k ≡ t'.k) × (merged s' t' ≡ u)
+        × (◌≡◌ {A = Result Sketch MergeFault} (Ok t) (Ok t')) × (s'.k ≡ t'.k) × (merge_of s' t' ≡ u)
     by (inr e) b f = let bad = rw e.0 at h in cc bad
     by (inl e) false f = let bad = rw (e.0, f) at h in cc bad
     by (inl e) true f = let fine = rw (e.0, f) at h in (s, t, refl, refl, e.1, cc fine)
@@ -66,7 +66,7 @@ value-of (Merge l r) ss u h =
     rw (← is) (value-merge l r ss s t same vl vr)
   where
     value-merge : (l r : MergeTree) (ss : List Sketch) (s t : Sketch) → s.k ≡ t.k → IsValue l ss s → IsValue r ss t
-        → IsValue (Merge l r) ss (merged s t)
+        → IsValue (Merge l r) ss (merge_of s t)
     value-merge l r ss s t same vl vr = record {
       k = λ i some. elim (in-part i (leaves l) (leaves r) some) [ inl a ↦ vl.k i a | inr b ↦ vr.k i b ∙ sym same ];
       total =

@@ -5,7 +5,7 @@ use Rattle.std.specs.List.Sorted.{IsStrictlyIncreasing}
 use Rattle.hh_stream.specs.Weights.{Bytes, Entry, weight_of}
 use Rattle.hh_counters.specs.Counters.{Sketch, sketch_of}
 use Rattle.hh_countmin.specs.Table.{cell_sum}
-use Rattle.hh_shared.specs.Tally.{times, added}
+use Rattle.hh_shared.specs.Tally.{times, cell_total}
 use Rattle.hh_shared.specs.Seats.{Holding}
 use Rattle.hh_pool.specs.Settings.{Settings}
 
@@ -32,7 +32,7 @@ pub record AreFirstPasses (pieces : List (List Entry)) (settings : Settings) (se
     (kept : List (ℕ × Sketch)) : Type 0 where
   pub tried : HasTried (length pieces) seat
   pub adds : (r c : ℕ) → r < length settings.family.rows → c < settings.width
-      → added (r * settings.width + c) seat.adds
+      → cell_total (r * settings.width + c) seat.adds
       ≡ cell_sum settings.family settings.width r c (items_at pieces seat.claims)
   pub summaries : kept ≡ summaries_at settings.k pieces seat.claims
 
@@ -41,7 +41,7 @@ pub record AreFirstPasses (pieces : List (List Entry)) (settings : Settings) (se
 pub record AreSecondPasses (pieces : List (List Entry)) (keys : List Bytes) (seat : Holding) : Type 0 where
   pub tried : HasTried (length pieces) seat
   pub adds : (i : ℕ) (key : Bytes) → slice_get keys i ≡ Some key
-      → added i seat.adds ≡ weight_of key (items_at pieces seat.claims)
+      → cell_total i seat.adds ≡ weight_of key (items_at pieces seat.claims)
 
 -- One worker takes the lowest piece that it finds unclaimed: each piece that it claims is above those that it claimed
 -- before

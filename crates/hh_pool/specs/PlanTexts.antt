@@ -28,7 +28,7 @@ pub record HasText (t : MergeTree) : Type 0 where
   pub shallow : nesting t ≤ 1023
 
 -- the text is that of the tree
-pub record Spells (text : List ℕ) (t : MergeTree) : Type 0 where
+pub record SpellsTree (text : List ℕ) (t : MergeTree) : Type 0 where
   pub tree : HasText t
   pub bytes : text ≡ text_of t
 
@@ -42,7 +42,7 @@ pub record IsSyntaxFault (text : List ℕ) (n : ℕ) : Type 0 where
   pub within : n ≤ length text
   pub continues : (t : MergeTree) × Begins (take n text) t
   pub stops : n < length text → (t : MergeTree) → Begins (take (n + 1) text) t → ⊥
-  pub ends : (t : MergeTree) → Spells text t → ⊥
+  pub ends : (t : MergeTree) → SpellsTree text t → ⊥
 
 -- each number below p is marked where it is one of the numbers
 abbrev pub AreMarked : List Bool → ℕ → List ℕ → Type 0
@@ -71,7 +71,7 @@ NumbersRefused p xs fault.Memory = ⊤
 abbrev pub PlanRefused : List ℕ → ℕ → PlanFault → Type 0
 PlanRefused text p (fault.Syntax n) = IsSyntaxFault text n
 PlanRefused text p fault.Memory = ⊤
-PlanRefused text p f = (t : MergeTree) × Spells text t × NumbersRefused p (leaves t) f
+PlanRefused text p f = (t : MergeTree) × SpellsTree text t × NumbersRefused p (leaves t) f
 
 -- ---- reading byte by byte
 -- an open parenthesis: its left tree is being read, or its right one after this left one

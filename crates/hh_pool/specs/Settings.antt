@@ -1,6 +1,5 @@
 -- What an analysis is asked for.
 use Rattle.std.specs.Prelude.{ℕ, ◌+◌, ◌*◌, ◌≤◌}
-use Rattle.hh_counters.specs.Counters.{max_k}
 use Rattle.hh_counters.specs.Report.{IsShare}
 use Rattle.hh_countmin.specs.Family.{Coefficients}
 
@@ -16,14 +15,6 @@ pub record Settings : Type 0 where
 -- the most workers
 abbrev pub max_workers : ℕ
 max_workers = 64
-
--- the k of a summary in range
-abbrev pub IsK : ℕ → Type 0
-IsK k = (1 ≤ k) × (k ≤ max_k)
-
--- a number of workers in range
-abbrev pub IsWorkers : ℕ → Type 0
-IsWorkers workers = (1 ≤ workers) × (workers ≤ max_workers)
 
 -- p/q is a share of at least 1/(k + 1), so that k counters don't miss a key above it
 abbrev pub IsThreshold : ℕ → ℕ → ℕ → Type 0

@@ -3,7 +3,7 @@ use Rattle.std.specs.Prelude.{◌≡◌, ℕ, zero, suc, ◌+◌, ◌-◌, ◌/�
 use Rattle.std.proofs.Common.{sym, ap, ◌∙◌}
 use base.Stored.{Coded, Gv, gnil, gnum, gcons}
 use Rattle.hh_stream.specs.Weights.{Entry, max_total}
-use Rattle.hh_counters.specs.Counters.{Counters, IsHonest, Sketch, join, merged}
+use Rattle.hh_counters.specs.Counters.{Counters, IsHonest, Sketch, join, merge_of}
 use Rattle.hh_stream.specs.Cuttings.{whole_of}
 use Rattle.hh_shared.specs.Tally.{times}
 use Rattle.hh_counters.specs.declared.summary.MergeFault.{MergeFault}
@@ -65,7 +65,7 @@ tree_value (Merge l r) cs k = join (tree_value l cs k) (tree_value r cs k) k
 -- one summary merged with another, or why not
 abbrev pub merge_result : Sketch → Sketch → Result Sketch MergeFault
 merge_result s t =
-    if s.k == t.k then (if nat_le (s.total + t.total) max_total then Ok (merged s t) else Err fault.TotalTooLarge)
+    if s.k == t.k then (if nat_le (s.total + t.total) max_total then Ok (merge_of s t) else Err fault.TotalTooLarge)
     else Err fault.DifferentK
 
 -- the left refusal comes before the right one, and that of the node comes last

@@ -1,15 +1,16 @@
 //! The analysis of a stream: two passes by workers, and a merge between them.
 
-ghost use Rattle.std.specs.Prelude.{◌≡◌, ◌≢◌, ◌+◌, ◌*◌, ◌≤◌, ◌<◌, ◌∷◌, ◌↔◌};
+ghost use Rattle.std.specs.Prelude.{◌≡◌, ◌≢◌, ◌+◌, ◌*◌, ◌≤◌, ◌<◌, ◌∷◌, ◌↔◌, true};
 ghost use Rattle.std.specs.Prelude.{ℕ, List, All, length, map, sum, IfOk, IfSome, IsErrOf};
 ghost use Rattle.std.specs.List.{range_with_len};
 ghost use Rattle.hh_stream.specs.Weights.{Entry};
 ghost use Rattle.hh_stream.specs.Cuttings.{max_pieces, pieces_of};
+ghost use Rattle.hh_stream.specs.Ranges.{in_range};
 ghost use Rattle.hh_counters.specs.Counters.{max_k, IsHonest, Sketch, sketch_of};
 ghost use Rattle.hh_counters.specs.Report.{IsShare, weights_at, heavy};
 ghost use Rattle.hh_countmin.specs.Table.{estimate_in, table_of};
 ghost use Rattle.hh_shared.specs.Tally.{HasAllBelow, IsDistinctBelow};
-ghost use Rattle.hh_pool.specs.Settings.{IsWorkers};
+ghost use Rattle.hh_pool.specs.Settings.{max_workers};
 ghost use Rattle.hh_pool.specs.Trees.{IsMergeTree, leaves};
 ghost use Rattle.hh_pool.specs.Outcomes.{AreEnough, IsMerged};
 
@@ -106,7 +107,7 @@ fn weigh<R: Threads + Wait + Sync, G: Gate + Sync>(
     gate: &G,
 ) -> Result<Vec<u64>, AllocError>
     requires same_len { sum cutting.now ≡ length stream.now }
-    requires workers { IsWorkers workers }
+    requires workers { in_range workers max_workers ≡ true }
     requires few { length candidates.now ≤ max_k }
     ensures { IfOk result (λ weights. weights.items ≡ weights_at candidates.now stream.now) }
 {

@@ -7,7 +7,7 @@ ghost use Rattle.hh_stream.specs.Cuttings.{pieces_of};
 ghost use Rattle.hh_counters.specs.Counters.{sketch_of};
 ghost use Rattle.hh_countmin.specs.Family.{Coefficients};
 ghost use Rattle.hh_countmin.specs.Table.{table_of};
-ghost use Rattle.hh_shared.specs.Tally.{added};
+ghost use Rattle.hh_shared.specs.Tally.{cell_total};
 ghost use Rattle.hh_shared.specs.Seats.{fresh};
 ghost use Rattle.hh_pool.specs.Passes.{IsFirstPass};
 ghost use Rattle.hh_pool.specs.Progress.{HasDoneFirst, HasTriedFirst, first_pieces};
@@ -15,7 +15,7 @@ ghost use Rattle.hh_pool.specs.Progress.{HasDoneFirst, HasTriedFirst, first_piec
 use crate::gate::Gate;
 use crate::options::Options;
 use crate::pass::{Pass, add_numbers};
-use hh_counters::{GatheredSaving, NewFault, Summary, monitored_summary};
+use hh_counters::{BucketSaving, NewFault, Summary, monitored_summary};
 use hh_countmin::laws::{cells_are_cell_sums, tables_follow_items};
 use hh_countmin::{Table, TableFault};
 use hh_shared::{SharedSums, SumSeat};
@@ -66,8 +66,7 @@ pub fn first_pass<G: Gate>(
     pass.run(sums, seat, worker)
 }
 
-/// The summary of a piece, by Space-Saving with its hits gathered, which is Misra-Gries once it is
-/// translated.
+/// The summary of a piece, by Space-Saving in buckets, which is Misra-Gries once it is translated.
 pub(crate) fn summary_of(
     alloc: Global,
     options: &Options,
@@ -76,7 +75,7 @@ pub(crate) fn summary_of(
     requires { total_of items.now ≤ max_total }
     ensures { IfOk result (λ summary. summary ≡ sketch_of options.now.k items.now) }
 {
-    match GatheredSaving::new(alloc, options.k()) {
+    match BucketSaving::new(alloc, options.k()) {
         Ok(monitor) => monitored_summary(monitor, items),
         Err(NewFault::BadK) => unreachable!(),
         Err(NewFault::Memory) => Err(AllocError),

@@ -62,7 +62,11 @@ fn merge_tree(alloc: Global, tree: &Tree, summaries: &mut [Summary]) -> Result<S
 ///
 /// Whatever the plan, where each summary is honest for a list of items, the result is honest for
 /// all of them (Agarwal et al., Mergeable Summaries, PODS 2012).
-pub fn merge_by(alloc: Global, plan: &Plan, summaries: Vec<Summary>) -> Result<Summary, MergeFault>
+pub fn merge_by(
+    alloc: Global,
+    plan: &Plan,
+    mut summaries: Vec<Summary>,
+) -> Result<Summary, MergeFault>
     requires { IsMergeTree plan.now (length summaries.items) }
     ensures merged { IfOk result (λ s. tree_result plan.now summaries.items ≡ Ok s) }
     ensures refused { IfErr result (λ e.
@@ -75,6 +79,5 @@ pub fn merge_by(alloc: Global, plan: &Plan, summaries: Vec<Summary>) -> Result<S
     ensures honest { IfOk result (λ s. MergesHonestly summaries.items s) }
 {
     join_of_honest_is_honest();
-    let mut summaries = summaries;
     merge_tree(alloc, plan.tree(), &mut summaries)
 }

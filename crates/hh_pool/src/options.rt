@@ -1,10 +1,11 @@
 //! What an analysis is asked for.
 
-ghost use Rattle.std.specs.Prelude.{◌≡◌, ◌+◌, ◌*◌, ◌<◌, ◌≤◌, ◌↔◌, ◌⊎◌, length, IfOk, IsErrOf};
+ghost use Rattle.std.specs.Prelude.{◌≡◌, ◌+◌, ◌*◌, ◌<◌, ◌≤◌, ◌↔◌, ◌⊎◌, length, IfOk, IsErrOf, true, false};
+ghost use Rattle.hh_stream.specs.Ranges.{in_range};
 ghost use Rattle.hh_counters.specs.Counters.{max_k};
 ghost use Rattle.hh_counters.specs.Report.{max_q};
-ghost use Rattle.hh_countmin.specs.Family.{max_width, IsWidth, IsFamily};
-ghost use Rattle.hh_pool.specs.Settings.{max_workers, IsK, IsThreshold, IsWorkers};
+ghost use Rattle.hh_countmin.specs.Family.{max_width, IsFamily};
+ghost use Rattle.hh_pool.specs.Settings.{max_workers, IsThreshold};
 
 use hh_counters::{MAX_K, MAX_Q};
 use hh_countmin::{Family, MAX_WIDTH};
@@ -27,8 +28,11 @@ pub struct Options {
 }
 
 impl Model for Options {
-    ghost use Rattle.hh_countmin.specs.Family.{IsWidth};
-    ghost use Rattle.hh_pool.specs.Settings.{Settings, IsK, IsThreshold, IsWorkers};
+    ghost use Rattle.std.specs.Prelude.{◌≡◌, true};
+    ghost use Rattle.hh_stream.specs.Ranges.{in_range};
+    ghost use Rattle.hh_counters.specs.Counters.{max_k};
+    ghost use Rattle.hh_countmin.specs.Family.{max_width};
+    ghost use Rattle.hh_pool.specs.Settings.{Settings, IsThreshold, max_workers};
 
     ghost Value = { Settings };
 
@@ -42,7 +46,8 @@ impl Model for Options {
     } };
 
     ghost invariant = { λ o.
-        IsK o.k × IsThreshold o.k o.p o.q × IsWorkers o.workers × IsWidth o.width };
+        (in_range o.k max_k ≡ true) × IsThreshold o.k o.p o.q
+        × (in_range o.workers max_workers ≡ true) × (in_range o.width max_width ≡ true) };
 }
 
 /// Why there are no such options.
@@ -83,13 +88,15 @@ impl Options {
           width = width;
           family = family;
         }) }
-        ensures bad_k { IsErrOf result OptionsFault.BadK ↔ ((k ≡ 0) ⊎ (max_k < k)) }
+        ensures bad_k { IsErrOf result OptionsFault.BadK ↔ (in_range k max_k ≡ false) }
         ensures bad_workers { IsErrOf result OptionsFault.BadWorkers
-            ↔ (IsK k × ((workers ≡ 0) ⊎ (max_workers < workers))) }
+            ↔ ((in_range k max_k ≡ true) × (in_range workers max_workers ≡ false)) }
         ensures bad_width { IsErrOf result OptionsFault.BadWidth
-            ↔ (IsK k × IsWorkers workers × ((width ≡ 0) ⊎ (max_width < width))) }
+            ↔ ((in_range k max_k ≡ true) × (in_range workers max_workers ≡ true)
+            × (in_range width max_width ≡ false)) }
         ensures bad_threshold { IsErrOf result OptionsFault.BadThreshold
-            ↔ (IsK k × IsWorkers workers × IsWidth width
+            ↔ ((in_range k max_k ≡ true) × (in_range workers max_workers ≡ true)
+            × (in_range width max_width ≡ true)
             × ((p ≡ 0) ⊎ (q < p) ⊎ (max_q < q) ⊎ (p * (k + 1) < q))) }
     {
         if k == 0 || k > MAX_K {
@@ -116,7 +123,7 @@ impl Options {
 
     pub(crate) fn k(&self) -> u64
         ensures k { result ≡ self.now.k }
-        ensures in_range { IsK self.now.k }
+        ensures in_range { in_range self.now.k max_k ≡ true }
     {
         self.k
     }
@@ -132,14 +139,14 @@ impl Options {
 
     pub(crate) fn workers(&self) -> u64
         ensures workers { result ≡ self.now.workers }
-        ensures in_range { IsWorkers self.now.workers }
+        ensures in_range { in_range self.now.workers max_workers ≡ true }
     {
         self.workers
     }
 
     pub(crate) fn width(&self) -> u64
         ensures width { result ≡ self.now.width }
-        ensures in_range { IsWidth self.now.width }
+        ensures in_range { in_range self.now.width max_width ≡ true }
     {
         self.width
     }

@@ -1,8 +1,8 @@
 //! What workers that share sums run.
 
 ghost use Rattle.std.specs.Prelude.{◌≡◌, ◌+◌, ◌<◌, ◌≤◌, ℕ, length, slice_index, IfOk};
-ghost use Rattle.hh_shared.specs.Tally.{added};
-ghost use Rattle.hh_shared.specs.Seats.{Sums, Holding, fresh, joined};
+ghost use Rattle.hh_shared.specs.Tally.{cell_total};
+ghost use Rattle.hh_shared.specs.Seats.{Sums, Holding, fresh, seat_of_both};
 
 use hh_shared::{SharedSums, SumSeat};
 use std::alloc::AllocError;
@@ -36,7 +36,7 @@ pub(crate) trait Pass {
     fn together(&self, one: Self::Kept, other: Self::Kept) -> Result<Self::Kept, AllocError>
         ensures { IfOk result (λ both. (a b : Holding)
             → all_done self.now a one → all_done self.now b other
-            → all_done self.now (joined a b) both) };
+            → all_done self.now (seat_of_both a b) both) };
 }
 
 /// Adds to each cell the number at its place, those that are not 0.
@@ -46,8 +46,8 @@ pub(crate) fn add_numbers(sums: &SharedSums, seat: &mut SumSeat, numbers: &[u64]
     requires holds_a_claim { (cell : ℕ) → 0 < slice_index numbers.now cell
         → 0 < length seat.old.claims }
     ensures unchanged { seat.new ≡ record seat.old { adds = seat.new.adds } }
-    ensures added { (cell : ℕ) →
-        added cell seat.new.adds ≡ added cell seat.old.adds + slice_index numbers.now cell }
+    ensures added { (cell : ℕ) → cell_total cell seat.new.adds
+        ≡ cell_total cell seat.old.adds + slice_index numbers.now cell }
 {
     for (cell, &number) in numbers.iter().enumerate() {
         if number != 0 {

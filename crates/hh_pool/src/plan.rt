@@ -2,7 +2,7 @@
 
 ghost use Rattle.std.specs.Prelude.{◌≡◌, ◌+◌, ◌-◌, ◌<◌, ◌≤◌, length, IfOk, IfErr};
 ghost use Rattle.hh_stream.specs.Cuttings.{max_pieces};
-ghost use Rattle.hh_pool.specs.PlanTexts.{PlanRefused, Spells};
+ghost use Rattle.hh_pool.specs.PlanTexts.{PlanRefused, SpellsTree};
 ghost use Rattle.hh_pool.specs.Plans.{shape};
 ghost use Rattle.hh_pool.specs.Trees.{IsBalanced, IsMergeTree, chain_of, leaves};
 
@@ -109,7 +109,7 @@ impl Plan {
     pub fn parse(alloc: Global, text: &[u8], pieces: usize) -> Result<Plan, PlanFault>
         requires some { 1 ≤ pieces }
         requires few { pieces ≤ max_pieces }
-        ensures spelled { IfOk result (λ plan. Spells text.now plan) }
+        ensures spelled { IfOk result (λ plan. SpellsTree text.now plan) }
         ensures tree { IfOk result (λ plan. IsMergeTree plan pieces) }
         ensures pieces { IfOk result (λ plan. length (leaves plan) ≡ pieces) }
         ensures refused { IfErr result (λ fault. PlanRefused text.now pieces fault) }

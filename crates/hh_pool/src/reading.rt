@@ -6,7 +6,7 @@ ghost use Rattle.hh_pool.specs.declared.reading.PlanFault.TheVariants.{Memory};
 ghost use Rattle.hh_pool.specs.Plans.{now_of, open_of, reading_of, shape};
 ghost use Rattle.hh_shared.specs.Tally.{IsDistinctBelow};
 ghost use Rattle.hh_pool.specs.PlanTexts.{AreMarked, NumbersRefused, PlanRefused, SyntaxRefused};
-ghost use Rattle.hh_pool.specs.PlanTexts.{Spells, after_tree, at_start, read_tree, step};
+ghost use Rattle.hh_pool.specs.PlanTexts.{SpellsTree, after_tree, at_start, read_tree, step};
 ghost use Rattle.hh_pool.specs.Trees.{IsMergeTree, leaves};
 
 use crate::plan::Tree;
@@ -148,7 +148,7 @@ fn ended_tree(reading: Reading) -> Option<Tree>
 
 /// The tree that a text spells.
 fn tree_of(alloc: Global, text: &[u8]) -> Result<Tree, PlanFault>
-    ensures tree { IfOk result (λ tree. Spells text.now (shape tree)) }
+    ensures tree { IfOk result (λ tree. SpellsTree text.now (shape tree)) }
     ensures refused { IfErr result (λ fault. SyntaxRefused text.now fault) }
 {
     let mut reading = Reading {
@@ -227,7 +227,7 @@ fn check_numbers(alloc: Global, tree: &Tree, pieces: usize) -> Result<(), PlanFa
 
 /// The merge tree of so many pieces that a text spells.
 pub(crate) fn read_merge_tree(alloc: Global, text: &[u8], pieces: usize) -> Result<Tree, PlanFault>
-    ensures tree { IfOk result (λ tree. Spells text.now (shape tree)) }
+    ensures tree { IfOk result (λ tree. SpellsTree text.now (shape tree)) }
     ensures merges { IfOk result (λ tree. IsMergeTree (shape tree) pieces) }
     ensures refused { IfErr result (λ fault. PlanRefused text.now pieces fault) }
 {

@@ -3,7 +3,8 @@
 use crate::fixtures::{
     analyse_stream, four_items, is_of_four_items, options, plain_family, stream_of,
 };
-use hh_pool::{MAX_WORKERS, OpenGate, Options, OptionsFault, Outcome, Plan, RunError};
+use hh_pool::OptionsFault::{BadK, BadThreshold, BadWidth, BadWorkers};
+use hh_pool::{MAX_WORKERS, OpenGate, Options, Outcome, Plan, RunError};
 use hh_stream::{Cutting, Key};
 use std::alloc::Global;
 use std::process::Abort;
@@ -15,30 +16,20 @@ use std::thread::Threads;
 fn options_are_checked_in_order(rt: HostRuntime) -> Result<(), Fail> {
     let alloc = rt.alloc();
     let refused = [
-        (0, 0, 0, 0, 0, OptionsFault::BadK),
-        (65_536, 1, 1, 1, 1, OptionsFault::BadK),
-        (1, 0, 0, 0, 0, OptionsFault::BadWorkers),
-        (1, 1, 2, MAX_WORKERS + 1, 1, OptionsFault::BadWorkers),
-        (1, 0, 0, 1, 0, OptionsFault::BadWidth),
-        (1, 1, 2, 1, 65_537, OptionsFault::BadWidth),
-        (2, 0, 0, 1, 1, OptionsFault::BadThreshold),
-        (2, 3, 2, 1, 1, OptionsFault::BadThreshold),
-        (
-            2,
-            4_294_967_297,
-            4_294_967_297,
-            1,
-            1,
-            OptionsFault::BadThreshold,
-        ),
-        (9, 1, 11, 1, 1, OptionsFault::BadThreshold),
+        (0, 0, 0, 0, 0, BadK),
+        (65_536, 1, 1, 1, 1, BadK),
+        (1, 0, 0, 0, 0, BadWorkers),
+        (1, 1, 2, MAX_WORKERS + 1, 1, BadWorkers),
+        (1, 0, 0, 1, 0, BadWidth),
+        (1, 1, 2, 1, 65_537, BadWidth),
+        (2, 0, 0, 1, 1, BadThreshold),
+        (2, 3, 2, 1, 1, BadThreshold),
+        (2, 4_294_967_297, 4_294_967_297, 1, 1, BadThreshold),
+        (9, 1, 11, 1, 1, BadThreshold),
     ];
     for (k, p, q, workers, width, fault) in refused {
-        let family = plain_family(alloc)?;
-        assert_eq!(rt;
-            Options::new(k, p, q, workers, width, family).err(),
-            Some(fault)
-        );
+        let made = Options::new(k, p, q, workers, width, plain_family(alloc)?);
+        assert_eq!(rt; made.err(), Some(fault));
     }
     Ok(())
 }
@@ -96,12 +87,8 @@ fn analyses_reach_their_limits(rt: HostRuntime) -> Result<(), Fail> {
 fn numbers_of(alloc: Global, outcome: &Outcome) -> Result<(usize, u64, u64, u64), Fail> {
     let summary = &outcome.summary;
     let counter = summary.get(&Key::new(alloc, b"a")?);
-    Ok((
-        outcome.heavy.len(),
-        counter,
-        summary.total(),
-        summary.slack(),
-    ))
+    let rows = outcome.heavy.len();
+    Ok((rows, counter, summary.total(), summary.slack()))
 }
 
 #[test]

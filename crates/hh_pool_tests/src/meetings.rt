@@ -134,43 +134,23 @@ fn meets<R: Threads + Wait + Abort + Sync>(
     Ok(is_of_four_items(alloc, &outcome)? && gate.is_exact())
 }
 
+// Each of eight workers has one piece in hand, so each one's number comes.
 #[test]
-fn two_workers_at_once(rt: HostRuntime) -> Result<(), Fail> {
-    let gate = Meeting::new(2, TWO, 1, 10_000_000);
-    assert!(rt; meets(&rt, rt.alloc(), 2, 2, &gate)?);
-    assert_eq!(rt; gate.reached.load(SeqCst), 0);
-    Ok(())
-}
-
-#[test]
-fn one_worker_reaches_the_limit(rt: HostRuntime) -> Result<(), Fail> {
-    let gate = Meeting::new(1, TWO, 1, 1_000);
-    assert!(rt; meets(&rt, rt.alloc(), 2, 1, &gate)?);
-    assert_eq!(rt; gate.reached.load(SeqCst), 1);
-    Ok(())
-}
-
-#[test]
-fn four_workers_at_once(rt: HostRuntime) -> Result<(), Fail> {
-    let gate = Meeting::new(4, FOUR, 4, 10_000_000);
-    assert!(rt; meets(&rt, rt.alloc(), 4, 4, &gate)?);
-    assert_eq!(rt; gate.reached.load(SeqCst), 0);
-    Ok(())
-}
-
-// Each worker has one piece in hand, so each one's number comes.
-#[test]
-fn eight_workers_at_once(rt: HostRuntime) -> Result<(), Fail> {
-    let gate = Meeting::new(8, EIGHT, 8, 10_000_000);
-    assert!(rt; meets(&rt, rt.alloc(), 8, 8, &gate)?);
-    assert_eq!(rt; gate.reached.load(SeqCst), 0);
-    assert!(rt; gate.heard_eight());
-    Ok(())
-}
-
-#[test]
-fn seven_pieces_are_called_for_once_each(rt: HostRuntime) -> Result<(), Fail> {
-    let gate = Meeting::new(4, SEVEN, 0, 0);
-    assert!(rt; meets(&rt, rt.alloc(), 7, 4, &gate)?);
+fn workers_meet_at_once(rt: HostRuntime) -> Result<(), Fail> {
+    let meetings = [
+        // pieces, workers, calls to wait for, pieces held, turns, and whether these run out
+        (2, 2, TWO, 1, 10_000_000, 0),
+        (2, 1, TWO, 1, 1_000, 1),
+        (4, 4, FOUR, 4, 10_000_000, 0),
+        (8, 8, EIGHT, 8, 10_000_000, 0),
+        (7, 4, SEVEN, 0, 0, 0),
+    ];
+    for (pieces, workers, wanted, held, limit, reached) in meetings {
+        let gate = Meeting::new(workers, wanted, held, limit);
+        assert!(rt; 1 <= pieces && pieces <= 8);
+        assert!(rt; meets(&rt, rt.alloc(), pieces, workers, &gate)?);
+        assert_eq!(rt; gate.reached.load(SeqCst), reached, "{workers} workers");
+        assert!(rt; workers < 8 || gate.heard_eight());
+    }
     Ok(())
 }

@@ -1,11 +1,12 @@
-//! The worked rows on the two passes, by two seats one after the other.
+//! The worked rows on the two passes, by two seats one after the other, whose gate hears the number
+//! of the worker that does all pieces.
 
 ghost use Rattle.std.specs.Prelude.{◌≡◌};
 
 use crate::fixtures::{four_items, plain_family};
 use crate::meetings::Meeting;
 use hh_counters::{Candidates, Summary};
-use hh_pool::{OpenGate, Options, first_pass, second_pass};
+use hh_pool::{Options, first_pass, second_pass};
 use hh_shared::{SharedSums, SumSeat};
 use hh_stream::{Cutting, Key};
 use std::alloc::Global;
@@ -31,13 +32,12 @@ fn has_counters(
 fn close_both(
     rt: &impl Abort,
     sums: SharedSums,
-    one: SumSeat,
+    mut one: SumSeat,
     other: SumSeat,
 ) -> Result<Vec<u64>, Fail>
     requires one { one.sums ≡ sums }
     requires other { other.sums ≡ sums }
 {
-    let mut one = one;
     sums.join(&mut one, other);
     assert!(rt; sums.holds_all(&one));
     Ok(sums.close(one)?)
@@ -54,10 +54,11 @@ fn first_of_two_seats_summarises_all_pieces(rt: HostRuntime) -> Result<(), Fail>
     let options = Options::new(2, 1, 3, 2, 4, family)?;
     let (sums, mut one) = SharedSums::new(alloc, cutting.count(), cells)?;
     let other = sums.split(&mut one);
-    let (one, found) = first_pass(alloc, &sums, one, &stream, &cutting, &options, &OpenGate, 0)?;
-    let (other, none) = first_pass(
-        alloc, &sums, other, &stream, &cutting, &options, &OpenGate, 1,
-    )?;
+    let gate = Meeting::new(6, 0, 0, 0);
+    let (one, found) = first_pass(alloc, &sums, one, &stream, &cutting, &options, &gate, 5)?;
+    let (other, none) = first_pass(alloc, &sums, other, &stream, &cutting, &options, &gate, 1)?;
+    assert_eq!(rt; gate.first.workers.load(SeqCst), 2 << 40);
+    assert_eq!(rt; gate.first.pieces.load(SeqCst), 0x0101);
     assert_eq!(rt; (found.len(), none.len()), (2, 0));
     assert!(rt; has_counters(alloc, &found[0], 0, (b"a", 5), (b"b", 3))?);
     assert!(rt; has_counters(alloc, &found[1], 1, (b"a", 1), (b"c", 2))?);
@@ -75,64 +76,14 @@ fn first_of_two_seats_counts_all_candidates(rt: HostRuntime) -> Result<(), Fail>
     let candidates = Candidates::of(alloc, &Summary::of_items(alloc, 2, stream.items())?)?;
     assert_eq!(rt; candidates.len(), 2);
     let (sums, mut one) = SharedSums::new(alloc, cutting.count(), candidates.len())?;
-    let other = sums.split(&mut one);
-    let one = second_pass(
-        alloc,
-        &sums,
-        one,
-        &stream,
-        &cutting,
-        &candidates,
-        &OpenGate,
-        0,
-    )?;
-    let other = second_pass(
-        alloc,
-        &sums,
-        other,
-        &stream,
-        &cutting,
-        &candidates,
-        &OpenGate,
-        1,
-    )?;
-    assert!(rt; !sums.holds_all(&other));
-    assert_eq!(rt;
-        close_both(&rt, sums, one, other)?.as_slice(),
-        [6, 3].as_slice()
-    );
-    Ok(())
-}
-
-#[test]
-fn gate_hears_the_number_of_the_worker(rt: HostRuntime) -> Result<(), Fail> {
-    let alloc = rt.alloc();
-    let stream = four_items(alloc)?;
-    let cutting = Cutting::even(alloc, stream.len(), 2)?;
-    assert_eq!(rt; cutting.len(), stream.len());
-    let family = plain_family(alloc)?;
-    let cells = (family.depth() * 4) as usize;
-    let options = Options::new(2, 1, 3, 2, 4, family)?;
-    let (sums, seat) = SharedSums::new(alloc, cutting.count(), cells)?;
-    let gate = Meeting::new(6, 0, 0, 0);
-    let _done = first_pass(alloc, &sums, seat, &stream, &cutting, &options, &gate, 5)?;
-    assert_eq!(rt; gate.first.workers.load(SeqCst), 2 << 40);
-    assert_eq!(rt; gate.first.pieces.load(SeqCst), 0x0101);
-    Ok(())
-}
-
-#[test]
-fn gate_of_the_second_pass_hears_the_number_too(rt: HostRuntime) -> Result<(), Fail> {
-    let alloc = rt.alloc();
-    let stream = four_items(alloc)?;
-    let cutting = Cutting::even(alloc, stream.len(), 2)?;
-    assert_eq!(rt; cutting.len(), stream.len());
-    let candidates = Candidates::of(alloc, &Summary::of_items(alloc, 2, stream.items())?)?;
-    assert_eq!(rt; candidates.len(), 2);
-    let (sums, seat) = SharedSums::new(alloc, cutting.count(), candidates.len())?;
+    let two = sums.split(&mut one);
     let gate = Meeting::new(7, 0, 0, 0);
-    let _seat = second_pass(alloc, &sums, seat, &stream, &cutting, &candidates, &gate, 6)?;
+    let one = second_pass(alloc, &sums, one, &stream, &cutting, &candidates, &gate, 6)?;
+    let two = second_pass(alloc, &sums, two, &stream, &cutting, &candidates, &gate, 1)?;
     assert_eq!(rt; gate.second.workers.load(SeqCst), 2 << 48);
     assert_eq!(rt; gate.second.pieces.load(SeqCst), 0x0101);
+    assert!(rt; !sums.holds_all(&two));
+    let counts = close_both(&rt, sums, one, two)?;
+    assert_eq!(rt; counts.as_slice(), [6, 3].as_slice());
     Ok(())
 }

@@ -45,10 +45,8 @@ fn plans_of_texts(rt: HostRuntime) -> Result<(), Fail> {
 #[test]
 fn parentheses_are_open_1023_deep(rt: HostRuntime) -> Result<(), Fail> {
     let text = vec![in rt.alloc(); b'('; 1024]?;
-    assert_eq!(rt;
-        Plan::parse(rt.alloc(), &text, 1024).err(),
-        Some(PlanFault::Syntax(1023))
-    );
+    let refused = Plan::parse(rt.alloc(), &text, 1024).err();
+    assert_eq!(rt; refused, Some(PlanFault::Syntax(1023)));
     Ok(())
 }
 
@@ -131,20 +129,17 @@ fn merge_of(
 }
 
 #[test]
-fn merges_of_four_pieces_follow_the_plan(rt: HostRuntime) -> Result<(), Fail> {
-    let chain = Plan::chain(rt.alloc(), 4)?;
-    assert_eq!(rt; merge_of(&rt, &chain)?, (1, 0, 1, 5, 2));
-    let balanced = Plan::balanced(rt.alloc(), 4)?;
-    assert_eq!(rt; merge_of(&rt, &balanced)?, (1, 1, 0, 5, 2));
-    Ok(())
-}
-
-#[test]
-fn merges_of_three_pieces_follow_the_plan(rt: HostRuntime) -> Result<(), Fail> {
-    let left = Plan::parse(rt.alloc(), b"((0 1) 2)", 3)?;
-    assert_eq!(rt; merge_of(&rt, &left)?, (0, 0, 0, 4, 2));
-    let right = Plan::parse(rt.alloc(), b"(0 (1 2))", 3)?;
-    assert_eq!(rt; merge_of(&rt, &right)?, (1, 2, 0, 4, 1));
+fn merges_follow_the_plan(rt: HostRuntime) -> Result<(), Fail> {
+    let alloc = rt.alloc();
+    let plans = [
+        (Plan::chain(alloc, 4)?, (1, 0, 1, 5, 2)),
+        (Plan::balanced(alloc, 4)?, (1, 1, 0, 5, 2)),
+        (Plan::parse(alloc, b"((0 1) 2)", 3)?, (0, 0, 0, 4, 2)),
+        (Plan::parse(alloc, b"(0 (1 2))", 3)?, (1, 2, 0, 4, 1)),
+    ];
+    for (plan, numbers) in plans {
+        assert_eq!(rt; merge_of(&rt, &plan)?, numbers);
+    }
     Ok(())
 }
 
@@ -154,10 +149,8 @@ fn different_k_is_not_merged(rt: HostRuntime) -> Result<(), Fail> {
     summaries.push(one(&rt, 2, b"a", 1))?;
     summaries.push(one(&rt, 3, b"a", 1))?;
     let plan = Plan::parse(rt.alloc(), b"(0 1)", 2)?;
-    assert_eq!(rt;
-        merge_all(&rt, &plan, summaries).err(),
-        Some(MergeFault::DifferentK)
-    );
+    let refused = merge_all(&rt, &plan, summaries).err();
+    assert_eq!(rt; refused, Some(MergeFault::DifferentK));
     Ok(())
 }
 
@@ -169,9 +162,7 @@ fn chain_of_1024_pieces_merges(rt: HostRuntime) -> Result<(), Fail> {
     }
     let summary = merge_all(&rt, &Plan::chain(rt.alloc(), 1024)?, summaries)?;
     let counter = summary.get(&Key::new(rt.alloc(), b"a")?);
-    assert_eq!(rt;
-        (counter, summary.total(), summary.slack()),
-        (1024, 1024, 0)
-    );
+    let numbers = (counter, summary.total(), summary.slack());
+    assert_eq!(rt; numbers, (1024, 1024, 0));
     Ok(())
 }

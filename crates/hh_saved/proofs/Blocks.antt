@@ -52,13 +52,8 @@ pub length-flat_map : {X : Type 0} (decode : List ℕ → X) (encode : X → Lis
     → IsCode decode encode size P → (xs : List X) → length (flat_map encode xs) ≡ size * length xs
 length-flat_map decode encode size P code [] = omega arith
 length-flat_map decode encode size P code (x ∷ xs) =
-    omega (
-      arith,
-      ap length (flat_map-cons encode x xs),
-      length-append (encode x) (flat_map encode xs),
-      code.len x,
-      length-flat_map _ _ _ _ code xs,
-    )
+    let more = ap length (flat_map-cons encode x xs) ∙ length-append (encode x) (flat_map encode xs) in
+    omega (arith, more, code.len x, length-flat_map _ _ _ _ code xs)
 
 -- blocks that were written are read again
 pub blocks_in-flat_map : {X : Type 0} (decode : List ℕ → X) (encode : X → List ℕ) (size : ℕ) (P : X → Type 0)

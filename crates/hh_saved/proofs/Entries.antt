@@ -1,5 +1,5 @@
 -- Entries and summaries: what is read is spelled so, and what is spelled so is read.
-use Rattle.std.proofs.Common.{◌≡◌, ℕ, zero, suc, ◌-◌, ◌^◌, ◌<◌, ◌≤◌, Bool, true, ltb, leb, List, [], ◌∷◌, ◌++◌, length, Ok, Ordering, Less, Equal, Greater, refl, sym, ap, subst, ◌∙◌, append_assoc, arith}
+use Rattle.std.proofs.Common.{◌≡◌, ℕ, zero, suc, ◌-◌, ◌^◌, ◌<◌, ◌≤◌, true, ltb, leb, List, [], ◌∷◌, ◌++◌, length, Ok, Ordering, Less, Equal, Greater, refl, sym, ap, subst, ◌∙◌, append_assoc, arith}
 use Rattle.std.specs.Prelude.{◌&&◌}
 use Rattle.std.specs.List.{flat_map, AllByRecursion}
 use Rattle.std.specs.List.Sorted.{IsStrictlySortedBy}
@@ -11,13 +11,14 @@ use Rattle.std.proofs.lemmas.Bool.Decides.{nat_tests}
 use Rattle.std.proofs.lemmas.List.Concat.{flat_map-cons}
 use Rattle.std.proofs.lemmas.List.Sums.{sum_by-cons}
 use Rattle.hh_stream.specs.Weights.{Bytes, Entry, key_cmp, max_key_len, total_of}
+use Rattle.hh_stream.specs.Ranges.{in_range}
 use Rattle.hh_counters.specs.Counters.{Sketch, Fits}
 use Rattle.hh_saved.specs.declared.format.Version.{Version}
 use Rattle.hh_saved.specs.declared.format.Version.TheVariants.{One, Two}
 use Rattle.hh_saved.specs.declared.fault.SavedFault.TheVariants as faults
 use Rattle.hh_saved.specs.Spelling.{IsSavedKey, entry_bytes, len_width, max_len, sketch_bytes}
 use Rattle.hh_saved.specs.Reading.{total_at, key_at, entry_at, entries_at, sketch_at}
-use Rattle.hh_saved.proofs.Fields.{IsBytes, bind_ok, passed, ok_is, Takes, Takes-then, both, and_true, wide16, wide64, len_limit, wide_len, where_takes, where_again, bytes_take, bytes_again}
+use Rattle.hh_saved.proofs.Fields.{IsBytes, bind_ok, passed, ok_is, Takes, Takes-then, Decides-bounds, wide16, wide64, len_limit, wide_len, where_takes, where_again, bytes_take, bytes_again}
 
 -- what is_lt tells
 is_less : (o : Ordering) → is_lt o ≡ true → o ≡ Less
@@ -32,10 +33,6 @@ few_bytes : (version : Version) → (max_len version ≤ max_key_len) × (max_le
 few_bytes One = (omega arith, omega arith)
 few_bytes Two = (omega arith, omega arith)
 
--- the length of a key that the version can spell
-abbrev is_len : Version → ℕ → Bool
-is_len version n = leb 1 n && leb n (max_len version)
-
 -- a key that is read is spelled so, and stands above the one before
 key_takes : (version : Version) (before bytes : List ℕ) (x : Bytes × List ℕ) → IsBytes bytes
     → key_at version before bytes ≡ Ok x
@@ -49,17 +46,15 @@ key_takes version before bytes x fits e =
     let g = passed _ _ _ x b.2 in
     let first = where_takes _ _ (wide_len version) _ _ _ _ fits a.1 in
     let second = bytes_take _ _ _ first.0.rest_fits b.1 in
-    let tests = both (leb 1 a.0.0) (leb a.0.0 (max_len version)) first.2 in
-    let some : 1 ≤ a.0.0 = grind (arith, nat_tests, tests.0) in
-    let few : a.0.0 ≤ max_len version = grind (arith, nat_tests, tests.1) in
+    let len = (Decides-bounds 1 (max_len version) a.0.0).0 first.2 in
     let key : IsSavedKey version b.0.0 = record {
       key =
           record {
             some = omega (arith, second.1);
-            few = omega (arith, second.1, few, (few_bytes version).0);
+            few = omega (arith, second.1, (few_bytes version).0);
             bytes = λ i lt. second.2 i;
           };
-      few = omega (arith, second.1, few);
+      few = omega (arith, second.1);
     } in
     let spelled = Takes-then _ _ _ _ _ first.0 second.0 in
     rw (← g.1) (rw second.1 spelled, key, is_less (key_cmp before b.0.0) g.0)
@@ -69,12 +64,10 @@ key_again : (version : Version) (before key rest : List ℕ) → IsSavedKey vers
     → key_at version before (to_be_bytes (len_width version) (length key) ++ (key ++ rest)) ≡ Ok (key, rest)
 unfolding key_at
 key_again version before key rest is above =
-    let pass : is_len version (length key) ≡ true =
-    and_true (leb 1 (length key)) (leb (length key) (max_len version)) (grind (arith, nat_tests, is.key.some))
-    (grind (arith, nat_tests, is.few)) in
+    let pass = (Decides-bounds 1 (max_len version) (length key)).1 (is.key.some, is.few) in
     let small : length key < len_limit version = omega (arith, is.few, (few_bytes version).1) in
     rw (
-      where_again (len_width version) (len_limit version) (wide_len version) (is_len version) faults.BadKey (length key)
+      where_again _ _ (wide_len version) (λ n. in_range n (max_len version)) faults.BadKey (length key)
           (key ++ rest) small pass,
       bytes_again (length key) key rest refl,
       above,
@@ -118,9 +111,7 @@ unfolding entry_at
 entry_again version before left e rest is =
     let w = len_width version in
     let regrouped : entry_bytes version e ++ rest ≡ to_be_bytes w (length e.0)
-    ++ (e.0 ++ (to_be_bytes w64 e.1 ++ rest)) =
-    append_assoc (to_be_bytes w (length e.0)) (e.0 ++ to_be_bytes w64 e.1) rest
-    ∙ ap (λ (t : List ℕ). to_be_bytes w (length e.0) ++ t) (append_assoc e.0 (to_be_bytes w64 e.1) rest) in
+    ++ (e.0 ++ (to_be_bytes w64 e.1 ++ rest)) = simp append_assoc in
     let some : ltb 0 e.1 ≡ true = grind (arith, nat_tests, is.some) in
     let within : leb e.1 left ≡ true = grind (arith, nat_tests, is.within) in
     ap (entry_at version before left) regrouped
@@ -162,8 +153,7 @@ entries_again version [] before left rest are = refl
 entries_again version (e ∷ es) before left rest are =
     let regrouped : flat_map (entry_bytes version) (e ∷ es) ++ rest ≡ entry_bytes version e
     ++ (flat_map (entry_bytes version) es ++ rest) =
-    ap (λ (t : List ℕ). t ++ rest) (flat_map-cons (entry_bytes version) e es)
-    ∙ append_assoc (entry_bytes version e) (flat_map (entry_bytes version) es) rest in
+    simp (flat_map-cons, append_assoc) in
     ap (entries_at version (suc (length es)) before left) regrouped
     ∙ rw (
       entry_again version before left e (flat_map (entry_bytes version) es ++ rest) are.0,
@@ -307,9 +297,7 @@ sketch_again version s rest fits are =
     let count = to_be_bytes w16 (length s.counters) in
     let total = to_be_bytes w64 s.total in
     let regrouped : sketch_bytes version s ++ rest ≡ to_be_bytes w16 s.k ++ (total ++ (count ++ (entries ++ rest))) =
-    append_assoc (to_be_bytes w16 s.k) (total ++ (count ++ entries)) rest
-    ∙ ap (λ (t : List ℕ). to_be_bytes w16 s.k ++ t)
-    (append_assoc total (count ++ entries) rest ∙ ap (λ (t : List ℕ). total ++ t) (append_assoc count entries rest)) in
+    simp append_assoc in
     let some : ltb 0 s.k ≡ true = grind (arith, nat_tests, fits.some) in
     let few : leb (length s.counters) s.k ≡ true = grind (arith, nat_tests, fits.few) in
     ap (sketch_at version) regrouped

@@ -1,21 +1,17 @@
 -- Hash families: what is read is spelled so, and what is spelled so is read.
-use Rattle.std.proofs.Common.{◌≡◌, ℕ, ◌+◌, ◌*◌, ◌≤◌, Bool, false, cond, leb, List, ◌++◌, length, take, drop, Result, Ok, Err, Decides, refl, sym, ap, ap₂, ◌∙◌, arith}
+use Rattle.std.proofs.Common.{◌≡◌, ℕ, ◌+◌, ◌*◌, Bool, false, cond, List, ◌++◌, length, take, drop, Result, Ok, Err, Decides, refl, sym, ap, ap₂, ◌∙◌, arith}
 use Rattle.std.specs.List.{flat_map, list_all}
 use Rattle.std.specs.Int.{w64, from_be_bytes, to_be_bytes}
-use Rattle.std.proofs.lemmas.Bool.Decides.{same_from_decides, nat_tests, Decides-and, Decides-like, Decides-ltb, Decides-by_and}
+use Rattle.std.proofs.lemmas.Bool.Decides.{same_from_decides, Decides-and, Decides-like, Decides-ltb, Decides-by_and}
 use Rattle.std.proofs.lemmas.List.{take_at, drop_at, take-append-drop, length-take, length-drop, length-append}
 use Rattle.std.proofs.lemmas.List.Elements.{recursion_from_All}
 use Rattle.hh_countmin.specs.Family.{Coefficients, modulus, IsRow, AreCoefficients}
 use Rattle.hh_saved.specs.declared.fault.SavedFault.{SavedFault}
 use Rattle.hh_saved.specs.declared.fault.SavedFault.TheVariants as faults
 use Rattle.hh_saved.specs.Spelling.{pair_bytes}
-use Rattle.hh_saved.specs.Reading.{bytes_at, blocks_in, pair_of, family_in, is_row, in_range, family_at}
-use Rattle.hh_saved.proofs.Fields.{IsBytes, IsBytes-take, IsBytes-drop, bind_ok, passed, Takes, wide64, bytes_take, bytes_again}
+use Rattle.hh_saved.specs.Reading.{bytes_at, blocks_in, pair_of, family_in, is_row, has_coefficients, family_at}
+use Rattle.hh_saved.proofs.Fields.{Decides-leb, IsBytes, IsBytes-take, IsBytes-drop, bind_ok, passed, Takes, wide64, bytes_take, bytes_again}
 use Rattle.hh_saved.proofs.Blocks.{IsCode, length-blocks_in, flat_map-blocks_in, length-flat_map, blocks_in-flat_map}
-
--- what the test of an order tells
-Decides-leb : (a b : ℕ) → Decides (leb a b) (a ≤ b)
-Decides-leb a b = (λ e. grind (arith, nat_tests), λ le. grind (arith, nat_tests))
 
 -- what the test of a row tells
 is_row-Decides : (row : ℕ × ℕ) → Decides (is_row row) (IsRow row)
@@ -24,26 +20,29 @@ is_row-Decides row =
     (Decides-and _ _ (Decides-and _ _ (Decides-leb 1 row.0) (Decides-ltb row.0 modulus)) (Decides-ltb row.1 modulus))
 
 -- what the test of a family tells
-pub in_range-Decides : (family : Coefficients) → Decides (in_range family) (AreCoefficients family.z family.rows)
-in_range-Decides family =
+pub has_coefficients-Decides : (family : Coefficients)
+    → Decides (has_coefficients family) (AreCoefficients family.z family.rows)
+has_coefficients-Decides family =
     Decides-like _ (λ p. (p.0.0, p.0.1, p.1)) (λ p. ((p.0, p.1), p.2))
     (Decides-and _ _ (Decides-and _ _ (Decides-leb 1 family.z) (Decides-ltb family.z modulus))
     (Decides-by_and is_row IsRow (list_all is_row) is_row-Decides refl (λ _ _. refl) family.rows))
 
 -- what a family's bytes give, as its test went
 pub family_at-is : (depth : ℕ) (bytes field rest : List ℕ) (family : Coefficients) (b : Bool)
-    → bytes_at (8 + 16 * depth) bytes ≡ Ok (field, rest) → family ≡ family_in depth field → in_range family ≡ b
+    → bytes_at (8 + 16 * depth) bytes ≡ Ok (field, rest) → family ≡ family_in depth field → has_coefficients family ≡ b
     → family_at depth bytes ≡ cond b (Ok (family, rest)) (Err faults.BadCoefficient)
 unfolding family_at
 family_at-is depth bytes field rest family b read is test =
     let answer : Coefficients → Bool → Result (Coefficients × List ℕ) SavedFault =
     λ f t. cond t (Ok (f, rest)) (Err faults.BadCoefficient) in
-    rw read (ap (λ (f : Coefficients). answer f (in_range f)) (sym is) ∙ ap (answer family) test)
+    rw read (ap (λ (f : Coefficients). answer f (has_coefficients f)) (sym is) ∙ ap (answer family) test)
 
 -- a family that was refused is out of range
-pub in_range-refused : (family : Coefficients) → (AreCoefficients family.z family.rows → ⊥) → in_range family ≡ false
-in_range-refused family refused =
-    same_from_decides (in_range family) false (in_range-Decides family) (λ e. absurd cc, λ are. absurd (refused are))
+pub has_coefficients-refused : (family : Coefficients) → (AreCoefficients family.z family.rows → ⊥)
+    → has_coefficients family ≡ false
+has_coefficients-refused family refused =
+    same_from_decides (has_coefficients family) false (has_coefficients-Decides family)
+    (λ e. absurd cc, λ are. absurd (refused are))
 
 -- 16 bytes are a row's coefficients, and these are the bytes
 pub pair_code : IsCode pair_of pair_bytes 16 IsRow
@@ -87,7 +86,7 @@ family_takes depth bytes x fits e =
     ap₂ (λ (x y : List ℕ). x ++ y) front back ∙ take-append-drop 8 field.0 in
     rw (← g.1) (
       rw whole t.0,
-      (in_range-Decides family).0 g.0,
+      (has_coefficients-Decides family).0 g.0,
       length-blocks_in pair_of 16 depth (drop 8 field.0),
     )
 
@@ -110,4 +109,5 @@ family_again family rest are =
     ∙ blocks_in-flat_map _ _ _ _ pair_code family.rows (recursion_from_All IsRow family.rows are.2) in
     let is : family ≡ family_in depth field =
     sym (ap₂ (λ (n : ℕ) (rows : List (ℕ × ℕ)). record { z = n; rows = rows }) z pairs) in
-    family_at-is depth _ _ _ _ _ (bytes_again (8 + 16 * depth) field rest len) is ((in_range-Decides family).1 are)
+    family_at-is depth _ _ _ _ _ (bytes_again (8 + 16 * depth) field rest len) is
+    ((has_coefficients-Decides family).1 are)

@@ -1,19 +1,20 @@
 -- Rows of cells and tables: what is read is spelled so, and what is spelled so is read.
-use Rattle.std.proofs.Common.{◌≡◌, ℕ, zero, suc, ◌+◌, ◌*◌, ◌^◌, ◌<◌, ◌≤◌, Bool, true, leb, eqb, eq-eqb, List, [], ◌∷◌, ◌++◌, length, take, drop, Ok, refl, sym, ap, subst, ◌∙◌, append_assoc, arith}
+use Rattle.std.proofs.Common.{◌≡◌, ℕ, zero, suc, ◌+◌, ◌*◌, ◌^◌, ◌<◌, ◌≤◌, true, leb, eqb, eq-eqb, List, [], ◌∷◌, ◌++◌, length, take, drop, Ok, refl, sym, ap, subst, ◌∙◌, append_assoc, arith}
 use Rattle.std.specs.Prelude.{sum, ◌&&◌}
 use Rattle.std.specs.List.{flat_map, AllByRecursion}
 use Rattle.std.specs.Int.{w8, w32, w64, from_be_bytes, to_be_bytes}
 use Rattle.std.proofs.lemmas.Bool.{eqb-true}
-use Rattle.std.proofs.lemmas.Bool.Decides.{nat_tests}
 use Rattle.std.proofs.lemmas.List.{take_at, drop_at, take-append-drop, length-take, length-drop, drop-drop, nil_from_length}
 use Rattle.std.proofs.lemmas.List.Sums.{sum_by-cons}
 use Rattle.std.proofs.lemmas.Grind.{flat_map-append}
-use Rattle.hh_countmin.specs.Family.{Coefficients, IsFamily}
-use Rattle.hh_countmin.specs.Table.{Grid, Fits, row_at as row_cells}
+use Rattle.std.proofs.lemmas.Bool.Decides.{nat_tests}
+use Rattle.hh_stream.specs.Ranges.{in_range}
+use Rattle.hh_countmin.specs.Family.{Coefficients, IsFamily, max_depth, max_width}
+use Rattle.hh_countmin.specs.Table.{Grid, FitsTable, row_at as row_cells}
 use Rattle.hh_saved.specs.declared.fault.SavedFault.TheVariants as faults
 use Rattle.hh_saved.specs.Spelling.{pair_bytes, cells_bytes, grid_bytes}
 use Rattle.hh_saved.specs.Reading.{cells_in, row_at, rows_at, grid_at}
-use Rattle.hh_saved.proofs.Fields.{IsBytes, bind_ok, passed, ok_is, both, and_true, Takes, Takes-then, wide8, wide32, wide64, where_takes, where_again, bytes_take, bytes_again}
+use Rattle.hh_saved.proofs.Fields.{IsBytes, bind_ok, passed, ok_is, Decides-bounds, Takes, Takes-then, wide8, wide32, wide64, where_takes, where_again, bytes_take, bytes_again}
 use Rattle.hh_saved.proofs.Blocks.{IsCode, length-blocks_in, flat_map-blocks_in, length-flat_map, blocks_in-flat_map}
 use Rattle.hh_saved.proofs.Entries.{total_takes, total_again}
 use Rattle.hh_saved.proofs.Families.{family_bytes, family_takes, family_again}
@@ -141,10 +142,10 @@ rows_sum (suc n) width total cells are (suc r) lt =
     ap sum (row_cells-suc width r cells) ∙ rows_sum n width total (drop width cells) are.2 r (omega arith)
 
 -- such rows are the cells of a table
-pub cells_fit : (family : Coefficients) (width total : ℕ) (cells : List ℕ) → 1 ≤ width → width ≤ 65536 → total < 2 ^ 63
-    → AreRows (length family.rows) width total cells → Fits family width total cells
-cells_fit family width total cells some few small are = record {
-  width_in_range = (some, few);
+pub cells_fit : (family : Coefficients) (width total : ℕ) (cells : List ℕ) → in_range width max_width ≡ true
+    → total < 2 ^ 63 → AreRows (length family.rows) width total cells → FitsTable family width total cells
+cells_fit family width total cells wide small are = record {
+  width_in_range = wide;
   total_in_range = small;
   all_cells = rows_len (length family.rows) width total cells are;
   rows_sum = rows_sum (length family.rows) width total cells are;
@@ -165,21 +166,9 @@ rows_from (suc n) width total cells len sums =
 
 -- ---- tables
 
--- a width in range
-abbrev is_width : ℕ → Bool
-is_width n = leb 1 n && leb n 65536
-
--- a depth in range
-abbrev is_depth : ℕ → Bool
-is_depth n = leb 1 n && leb n 16
-
--- the bytes of a table behind its family
-abbrev tail_bytes : ℕ → List ℕ → List ℕ
-tail_bytes total cells = to_be_bytes w64 total ++ cells_bytes cells
-
 -- a table that is read is spelled so
 pub grid_takes : (bytes : List ℕ) (x : Grid × List ℕ) → IsBytes bytes → grid_at bytes ≡ Ok x
-    → Takes bytes (grid_bytes x.0) x.1 × IsFamily x.0.family × Fits x.0.family x.0.width x.0.total x.0.cells
+    → Takes bytes (grid_bytes x.0) x.1 × IsFamily x.0.family × FitsTable x.0.family x.0.width x.0.total x.0.cells
 unfolding grid_at
 grid_takes bytes x fits e =
     let a = bind_ok _ _ x e in
@@ -197,13 +186,7 @@ grid_takes bytes x fits e =
     let t2 = family_takes _ _ _ t1.0.rest_fits c.1 in
     let t3 = total_takes _ _ t2.0.rest_fits d.1 in
     let t4 = rows_take _ _ _ _ _ t3.0.rest_fits f.1 in
-    let wide = both (leb 1 width.0) (leb width.0 65536) t0.2 in
-    let deep = both (leb 1 depth.0) (leb depth.0 16) t1.2 in
-    let is_wide : (1 ≤ width.0) × (width.0 ≤ 65536) =
-    (grind (arith, nat_tests, wide.0), grind (arith, nat_tests, wide.1)) in
-    let is_deep : (1 ≤ depth.0) × (depth.0 ≤ 16) =
-    (grind (arith, nat_tests, deep.0), grind (arith, nat_tests, deep.1)) in
-    let tail = tail_bytes total.0 cells.0 in
+    let tail = to_be_bytes w64 total.0 ++ cells_bytes cells.0 in
     let rows = flat_map pair_bytes family.0.rows in
     let e34 = Takes-then _ _ _ _ _ t3.0 t4.0 in
     let e24 = Takes-then _ _ _ _ _ t2.0 e34 in
@@ -212,47 +195,33 @@ grid_takes bytes x fits e =
     (sym t2.2) (Takes-then _ _ _ _ _ t1.0 (rw (append_assoc (to_be_bytes w64 family.0.z) rows tail) at e24)) in
     let e04 = Takes-then _ _ _ _ _ t0.0 e14 in
     let is_family : IsFamily family.0 =
-    record { depth = (omega (arith, t2.2), omega (arith, t2.2)); in_range = t2.1 } in
+    record { depth = rw t2.2 t1.2; coefficients = t2.1 } in
     let are = subst (λ (n : ℕ). AreRows n width.0 total.0 cells.0) (sym t2.2) t4.1 in
     let made : Grid × List ℕ =
     (record { family = family.0; width = width.0; total = total.0; cells = cells.0 }, cells.1) in
     rw (← ok_is made x f.2)
-    (e04, is_family, cells_fit family.0 width.0 total.0 cells.0 is_wide.0 is_wide.1 t3.1 are)
+    (e04, is_family, cells_fit family.0 width.0 total.0 cells.0 t0.2 t3.1 are)
 
 -- and a table that is spelled so is read
-pub grid_again : (t : Grid) (rest : List ℕ) → IsFamily t.family → Fits t.family t.width t.total t.cells
+pub grid_again : (t : Grid) (rest : List ℕ) → IsFamily t.family → FitsTable t.family t.width t.total t.cells
     → grid_at (grid_bytes t ++ rest) ≡ Ok (t, rest)
 unfolding grid_at
 grid_again t rest family fits =
     let depth = length t.family.rows in
-    let z = to_be_bytes w64 t.family.z in
-    let rows = flat_map pair_bytes t.family.rows in
     let total = to_be_bytes w64 t.total in
     let cells = cells_bytes t.cells in
     let regrouped : grid_bytes t ++ rest ≡ to_be_bytes w32 t.width
-    ++ (to_be_bytes w8 depth ++ (family_bytes t.family ++ (total ++ (cells ++ rest)))) =
-    append_assoc (to_be_bytes w32 t.width) (to_be_bytes w8 depth ++ (z ++ (rows ++ (total ++ cells)))) rest
-    ∙ ap (λ (x : List ℕ). to_be_bytes w32 t.width ++ x)
-    (append_assoc (to_be_bytes w8 depth) (z ++ (rows ++ (total ++ cells))) rest
-    ∙ ap (λ (x : List ℕ). to_be_bytes w8 depth ++ x) (append_assoc z (rows ++ (total ++ cells)) rest
-    ∙ ap (λ (x : List ℕ). z ++ x) (append_assoc rows (total ++ cells) rest
-    ∙ ap (λ (x : List ℕ). rows ++ x) (append_assoc total cells rest))
-    ∙ sym (append_assoc z rows (total ++ (cells ++ rest))))) in
-    let wide : is_width t.width ≡ true =
-    and_true (leb 1 t.width) (leb t.width 65536) (grind (arith, nat_tests, fits.width_in_range))
-    (grind (arith, nat_tests, fits.width_in_range)) in
-    let deep : is_depth depth ≡ true =
-    and_true (leb 1 depth) (leb depth 16) (grind (arith, nat_tests, family.depth))
-    (grind (arith, nat_tests, family.depth)) in
+    ++ (to_be_bytes w8 depth ++ (family_bytes t.family ++ (total ++ (cells ++ rest)))) = simp append_assoc in
     let are = rows_from depth t.width t.total t.cells fits.all_cells fits.rows_sum in
     ap grid_at regrouped
     ∙ rw (
-      where_again _ _ wide32 is_width faults.BadWidth t.width
+      where_again _ _ wide32 (λ n. in_range n max_width) faults.BadWidth t.width
           (to_be_bytes w8 depth ++ (family_bytes t.family ++ (total ++ (cells ++ rest))))
-          (omega (arith, fits.width_in_range)) wide,
-      where_again _ _ wide8 is_depth faults.BadDepth depth (family_bytes t.family ++ (total ++ (cells ++ rest)))
-          (omega (arith, family.depth)) deep,
-      family_again t.family (total ++ (cells ++ rest)) family.in_range,
+          (grind (arith, nat_tests, fits.width_in_range)) fits.width_in_range,
+      where_again _ _ wide8 (λ n. in_range n max_depth) faults.BadDepth depth
+          (family_bytes t.family ++ (total ++ (cells ++ rest))) (grind (arith, nat_tests, family.depth))
+          family.depth,
+      family_again t.family (total ++ (cells ++ rest)) family.coefficients,
       total_again t.total (cells ++ rest) fits.total_in_range,
       rows_again depth t.width t.total t.cells rest are (omega (arith, fits.total_in_range)),
     ) refl

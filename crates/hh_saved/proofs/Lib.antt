@@ -1,4 +1,3 @@
-pub mod Appending
 pub mod Blocks
 pub mod Entries
 pub mod Families

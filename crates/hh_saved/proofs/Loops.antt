@@ -8,11 +8,11 @@ use Rattle.hh_saved.specs.declared.fault.SavedFault.TheVariants as faults
 use Rattle.hh_saved.proofs.Fields.{ok_is}
 use Rattle.hh_saved.specs.Reading.{◌>>=◌, Fails, with_front, last_key_of, entry_at, entries_at, row_at, rows_at}
 
--- a failure of a part is one of the whole
-pub Fails-along : {X Y : Type 0} (e : SavedFault) (part : Result X SavedFault) (whole : Result Y SavedFault)
-    → (part ≡ Err e → whole ≡ Err e) → Fails e part → Fails e whole
-Fails-along faults.Memory part whole so fails = tt
-Fails-along e part whole so fails = so fails
+-- a failure of a part is one of the whole, and so of what equals it
+Fails-along : {X Y : Type 0} (e : SavedFault) (part : Result X SavedFault) (whole all : Result Y SavedFault)
+    → (part ≡ Err e → whole ≡ Err e) → whole ≡ all → Fails e part → Fails e all
+Fails-along faults.Memory part whole all so same fails = tt
+Fails-along e part whole all so same fails = sym same ∙ so fails
 
 -- ---- entries
 
@@ -38,10 +38,8 @@ pub entries_go_on : (version : Version) (front : List Entry) (count i left : ℕ
 unfolding entries_at
 entries_go_on version front count i left bytes e after all lt read so_far =
     let k : count - i ≡ suc (count - (i + 1)) = omega arith in
-    let one : with_front front (entries_at version (count - i) (last_key_of front) left bytes)
-    ≡ with_front (front ++ e ∷ []) (entries_at version (count - (i + 1)) e.0 (left - e.1) after) =
-    rw (k, read) (regroup front (e ∷ []) (entries_at version (count - (i + 1)) e.0 (left - e.1) after)) in
-    rw (last_key_of-push front e) (sym one ∙ so_far)
+    let rest = entries_at version (count - (i + 1)) e.0 (left - e.1) after in
+    rw (last_key_of-push front e) (sym (regroup front (e ∷ []) rest) ∙ rw (k, read) at so_far)
 
 -- an entry that fails
 pub entries_fail : (version : Version) (fault : SavedFault) (front : List Entry) (count i left : ℕ) (bytes : List ℕ)
@@ -51,9 +49,7 @@ pub entries_fail : (version : Version) (fault : SavedFault) (front : List Entry)
 unfolding entries_at
 entries_fail version fault front count i left bytes all lt fails so_far =
     let k : count - i ≡ suc (count - (i + 1)) = omega arith in
-    Fails-along fault (entry_at version (last_key_of front) left bytes) all
-    (λ h. let one : with_front front (entries_at version (count - i) (last_key_of front) left bytes) ≡ Err fault =
-    rw (k, h) refl in sym so_far ∙ one) fails
+    Fails-along fault (entry_at version (last_key_of front) left bytes) _ all (λ h. rw (k, h) refl) so_far fails
 
 -- no entry is left
 pub entries_end : (version : Version) (front : List Entry) (count i left : ℕ) (bytes : List ℕ)
@@ -62,9 +58,7 @@ pub entries_end : (version : Version) (front : List Entry) (count i left : ℕ) 
 unfolding entries_at
 entries_end version front count i left bytes all le so_far =
     let k : count - i ≡ 0 = omega arith in
-    let one : with_front front (entries_at version (count - i) (last_key_of front) left bytes) ≡ Ok (front, bytes) =
-    rw k (ap (λ (es : List Entry). Ok (es, bytes)) (append-nil front)) in
-    sym so_far ∙ one
+    sym (rw k at so_far) ∙ ap (λ (es : List Entry). Ok (es, bytes)) (append-nil front)
 
 -- ---- rows
 
@@ -90,10 +84,8 @@ pub rows_go_on : (front cells : List ℕ) (depth i width total : ℕ) (bytes aft
 unfolding rows_at
 rows_go_on front cells depth i width total bytes after all lt read so_far =
     let k : depth - i ≡ suc (depth - (i + 1)) = omega arith in
-    let one : with_front front (rows_at (depth - i) width total bytes)
-    ≡ with_front cells (rows_at (depth - (i + 1)) width total after) =
-    rw k (rows_step front (depth - (i + 1)) width total bytes (row_at width total bytes) cells after read) in
-    sym one ∙ so_far
+    sym (rows_step front (depth - (i + 1)) width total bytes (row_at width total bytes) cells after read)
+    ∙ rw k at so_far
 
 -- a row that fails, whatever is behind it
 rows_stop : (front : List ℕ) (n width total : ℕ) (read : Result (List ℕ × List ℕ) SavedFault) (fault : SavedFault)
@@ -111,9 +103,8 @@ pub rows_fail : (fault : SavedFault) (front : List ℕ) (depth i width total : �
 unfolding rows_at
 rows_fail fault front depth i width total bytes all lt fails so_far =
     let k : depth - i ≡ suc (depth - (i + 1)) = omega arith in
-    Fails-along fault (with_front front (row_at width total bytes)) all
-    (λ h. let one : with_front front (rows_at (depth - i) width total bytes) ≡ Err fault =
-    rw k (rows_stop front (depth - (i + 1)) width total (row_at width total bytes) fault h) in sym so_far ∙ one) fails
+    Fails-along fault (with_front front (row_at width total bytes)) _ all
+    (λ h. rw k (rows_stop front (depth - (i + 1)) width total (row_at width total bytes) fault h)) so_far fails
 
 -- no row is left
 pub rows_end : (front : List ℕ) (depth i width total : ℕ) (bytes : List ℕ) (all : Result (List ℕ × List ℕ) SavedFault)
@@ -122,6 +113,4 @@ pub rows_end : (front : List ℕ) (depth i width total : ℕ) (bytes : List ℕ)
 unfolding rows_at
 rows_end front depth i width total bytes all le so_far =
     let k : depth - i ≡ 0 = omega arith in
-    let one : with_front front (rows_at (depth - i) width total bytes) ≡ Ok (front, bytes) =
-    rw k (ap (λ (es : List ℕ). Ok (es, bytes)) (append-nil front)) in
-    sym so_far ∙ one
+    sym (rw k at so_far) ∙ ap (λ (es : List ℕ). Ok (es, bytes)) (append-nil front)

@@ -33,8 +33,7 @@ module _ (version : Version) (file rest : List ℕ) (start : ℕ) (e : Entry)
       let w = byte_len (len_width version) in
       let len = to_be_bytes (len_width version) (length e.0) in
       let counter = to_be_bytes w64 e.1 in
-      let apart : drop start file ≡ len ++ (e.0 ++ (counter ++ rest)) =
-      here ∙ append_assoc len (e.0 ++ counter) rest ∙ ap (λ (t : List ℕ). len ++ t) (append_assoc e.0 counter rest) in
+      let apart : drop start file ≡ len ++ (e.0 ++ (counter ++ rest)) = here ∙ simp append_assoc in
       sym (drop-drop w start file) ∙ ap (drop w) apart
       ∙ drop_at len (e.0 ++ (counter ++ rest)) w ((wide_len version).len (length e.0))
 

@@ -1,7 +1,7 @@
 -- How many bytes saved values have.
-use Rattle.std.proofs.Common.{◌≡◌, ℕ, ◌+◌, ◌*◌, ◌≤◌, ◌∙◌, List, [], ◌∷◌, ◌++◌, length, ap, refl, arith}
+use Rattle.std.proofs.Common.{◌≡◌, ℕ, ◌+◌, ◌*◌, ◌≤◌, ◌∙◌, List, [], ◌∷◌, ◌++◌, length, ap, arith}
 use Rattle.std.specs.List.{flat_map, AllByRecursion}
-use Rattle.std.specs.Int.{w8, w16, w32, w64, byte_len, to_be_bytes}
+use Rattle.std.specs.Int.{w64, byte_len, to_be_bytes}
 use Rattle.std.proofs.lemmas.List.{length-append}
 use Rattle.std.proofs.lemmas.List.Concat.{flat_map-cons}
 use Rattle.std.proofs.Math.Nat.{mul-le-mul_right, suc-mul}
@@ -11,7 +11,7 @@ use Rattle.hh_countmin.specs.Table.{Grid}
 use Rattle.hh_saved.specs.declared.format.Version.{Version}
 use Rattle.hh_saved.specs.declared.format.Version.TheVariants.{Two}
 use Rattle.hh_saved.specs.declared.saved.Saved.TheVariants.{Counters, Cells}
-use Rattle.hh_saved.specs.Spelling.{IsSavedKey, Spells, cells_bytes, entry_bytes, len_width, magic_of, grid_bytes, pair_bytes, sketch_bytes}
+use Rattle.hh_saved.specs.Spelling.{IsSavedKey, Spells, cells_bytes, entry_bytes, len_width, pair_bytes}
 use Rattle.hh_saved.specs.Sizes.{most_summary_bytes, table_bytes}
 use Rattle.hh_saved.proofs.Blocks.{length-flat_map}
 use Rattle.hh_saved.proofs.Families.{pair_code}
@@ -40,47 +40,14 @@ entries-length m (e ∷ es) few =
     let short : length e.0 ≤ m = few.0 in
     omega (arith, parts, one, short, entries-length m es few.1, suc-mul (length es) (m + 10))
 
--- what stands before the entries has 17 bytes
-sketch-length : (s : Sketch) → length (sketch_bytes Two s) ≡ 12 + length (flat_map (entry_bytes Two) s.counters)
-sketch-length s =
-    let entries = flat_map (entry_bytes Two) s.counters in
-    let count = to_be_bytes w16 (length s.counters) in
-    let total = to_be_bytes w64 s.total in
-    let k : length (to_be_bytes w16 s.k) ≡ 2 = refl in
-    let eight : length total ≡ 8 = refl in
-    let two : length count ≡ 2 = refl in
-    omega (
-      arith,
-      k,
-      eight,
-      two,
-      length-append (to_be_bytes w16 s.k) (total ++ (count ++ entries)),
-      length-append total (count ++ entries),
-      length-append count entries,
-    )
-
--- magic and kind
-content-length : (magic kind : ℕ) (content : List ℕ)
-    → length (to_be_bytes w32 magic ++ (to_be_bytes w8 kind ++ content)) ≡ 5 + length content
-content-length magic kind content =
-    let first : length (to_be_bytes w32 magic) ≡ 4 = refl in
-    let second : length (to_be_bytes w8 kind) ≡ 1 = refl in
-    omega (
-      arith,
-      first,
-      second,
-      length-append (to_be_bytes w32 magic) (to_be_bytes w8 kind ++ content),
-      length-append (to_be_bytes w8 kind) content,
-    )
-
 -- a summary's bytes, by its longest key
 pub bounded : (bytes : List ℕ) (s : Sketch) (m : ℕ) → Spells Two bytes (Counters s)
     → AllByRecursion (λ e. length e.0 ≤ m) s.counters → length bytes ≤ most_summary_bytes s.k m
 bounded bytes s m is few =
-    let whole : length bytes ≡ 5 + length (sketch_bytes Two s) =
-    ap length is.spelled ∙ content-length (magic_of Two) 1 (sketch_bytes Two s) in
+    let whole : length bytes ≡ 17 + length (flat_map (entry_bytes Two) s.counters) =
+    omega (arith, ap length is.spelled) in
     let most : length s.counters * (m + 10) ≤ s.k * (m + 10) = mul-le-mul_right (m + 10) is.saved.0.few in
-    omega (arith, whole, sketch-length s, entries-length m s.counters few, most)
+    omega (arith, whole, entries-length m s.counters few, most)
 
 -- keys are bounded
 short_keys : (es : List Entry) → AllByRecursion (λ e. IsSavedKey Two e.0) es
@@ -93,39 +60,19 @@ pub bounded_by_k : (bytes : List ℕ) (s : Sketch) → Spells Two bytes (Counter
     → length bytes ≤ most_summary_bytes s.k max_key_len
 bounded_by_k bytes s is = bounded bytes s max_key_len is (short_keys s.counters is.saved.1)
 
--- what a table's fields have
-grid-length : (t : Grid) → length (grid_bytes t) ≡ 21 + 16 * length t.family.rows + 8 * length t.cells
-grid-length t =
-    let cells = cells_bytes t.cells in
-    let total = to_be_bytes w64 t.total in
-    let rows = flat_map pair_bytes t.family.rows in
-    let z = to_be_bytes w64 t.family.z in
-    let depth = to_be_bytes w8 (length t.family.rows) in
-    let width = to_be_bytes w32 t.width in
-    let four : length width ≡ 4 = refl in
-    let one : length depth ≡ 1 = refl in
-    let eight : length z ≡ 8 = refl in
-    let also : length total ≡ 8 = refl in
-    omega (
-      arith,
-      four,
-      one,
-      eight,
-      also,
-      length-flat_map _ _ _ _ pair_code t.family.rows,
-      length-flat_map _ _ _ _ cell_code t.cells,
-      length-append width (depth ++ (z ++ (rows ++ (total ++ cells)))),
-      length-append depth (z ++ (rows ++ (total ++ cells))),
-      length-append z (rows ++ (total ++ cells)),
-      length-append rows (total ++ cells),
-      length-append total cells,
-    )
-
 -- a table's bytes, by its rows and their width
 pub one_size : (version : Version) (bytes : List ℕ) (t : Grid) → Spells version bytes (Cells t)
     → length bytes ≡ table_bytes t.width (length t.family.rows)
 one_size version bytes t is =
-    let whole : length bytes ≡ 5 + length (grid_bytes t) =
-    ap length is.spelled ∙ content-length (magic_of version) 2 (grid_bytes t) in
-    let cells : length t.cells ≡ length t.family.rows * t.width = is.saved.1.all_cells in
-    omega (arith, whole, grid-length t, cells)
+    let rows = flat_map pair_bytes t.family.rows in
+    let cells = cells_bytes t.cells in
+    let whole : length bytes ≡ 18 + length (rows ++ (to_be_bytes w64 t.total ++ cells)) =
+    omega (arith, ap length is.spelled) in
+    omega (
+      arith,
+      whole,
+      length-append rows (to_be_bytes w64 t.total ++ cells),
+      length-flat_map _ _ _ _ pair_code t.family.rows,
+      length-flat_map _ _ _ _ cell_code t.cells,
+      is.saved.1.all_cells,
+    )

@@ -19,10 +19,12 @@ use Rattle.hh_saved.proofs.Fields.{IsBytes, bind_ok, passed, ok_is, Takes, Takes
 use Rattle.hh_saved.proofs.Entries.{sketch_takes, sketch_again}
 use Rattle.hh_saved.proofs.Grids.{grid_takes, grid_again}
 
--- which way a test went
-chosen : {A : Type 0} (b : Bool) (x y z : A) → cond b x y ≡ z → ((b ≡ true) × (x ≡ z)) ⊎ ((b ≡ false) × (y ≡ z))
-chosen true x y z e = inl (refl, e)
-chosen false x y z e = inr (refl, e)
+-- which of two tests passed, where neither is refused
+chosen : {A : Type 0} (b c : Bool) (x y : Result A SavedFault) (fault : SavedFault) (z : A)
+    → cond b x (cond c y (Err fault)) ≡ Ok z → ((b ≡ true) × (x ≡ Ok z)) ⊎ ((c ≡ true) × (y ≡ Ok z))
+chosen true c x y fault z e = inl (refl, e)
+chosen false true x y fault z e = inr (refl, e)
+chosen false false x y fault z e = absurd cc
 
 -- ---- the version
 
@@ -31,12 +33,8 @@ named : (n : ℕ) (version : Version) → version_of n ≡ Ok version → n ≡ 
 named n version e =
     ⊎_elim
     (λ first. eqb-true _ _ first.0 ∙ ap magic_of (ok_is One version first.1))
-    (λ others.
-    ⊎_elim
     (λ second. eqb-true _ _ second.0 ∙ ap magic_of (ok_is Two version second.1))
-    (λ none. let h : Err faults.BadMagic ≡ Ok version = none.1 in absurd cc)
-    (chosen (eqb n (magic_of Two)) (Ok Two) (Err faults.BadMagic) (Ok version) others.1))
-    (chosen (eqb n (magic_of One)) (Ok One) (cond (eqb n (magic_of Two)) (Ok Two) (Err faults.BadMagic)) (Ok version) e)
+    (chosen (eqb n (magic_of One)) (eqb n (magic_of Two)) (Ok One) (Ok Two) faults.BadMagic version e)
 
 -- a version that is read is spelled so
 version_takes : (bytes : List ℕ) (x : Version × List ℕ) → IsBytes bytes → version_at bytes ≡ Ok x
@@ -81,16 +79,12 @@ body_takes version kind bytes x fits e =
     let t = sketch_takes _ _ _ fits a.1 in
     let made : Saved × List ℕ = (Counters a.0.0, a.0.1) in
     subst (IsContent version kind bytes) (ok_is made x a.2) (t.0, (t.1, t.2), eqb-true _ _ first.0))
-    (λ others.
-    ⊎_elim
     (λ second.
     let a = bind_ok _ _ x second.1 in
     let t = grid_takes _ _ fits a.1 in
     let made : Saved × List ℕ = (Cells a.0.0, a.0.1) in
     subst (IsContent version kind bytes) (ok_is made x a.2) (t.0, (t.1, t.2), eqb-true _ _ second.0))
-    (λ none. let h : Err faults.BadKind ≡ Ok x = none.1 in absurd cc)
-    (chosen (eqb kind 2) cells (Err faults.BadKind) (Ok x) others.1))
-    (chosen (eqb kind 1) counters (cond (eqb kind 2) cells (Err faults.BadKind)) (Ok x) e)
+    (chosen (eqb kind 1) (eqb kind 2) counters cells faults.BadKind x e)
 
 -- and a body that is spelled so is read
 body_again : (version : Version) (v : Saved) (rest : List ℕ) → IsSaved version v
@@ -129,8 +123,7 @@ spelling_names version v rest =
     let magic = to_be_bytes w32 (magic_of version) in
     let kind = to_be_bytes w8 (kind_of v) in
     let content = content_bytes version v in
-    let regrouped : spelling_of version v ++ rest ≡ magic ++ (kind ++ (content ++ rest)) =
-    append_assoc magic (kind ++ content) rest ∙ ap (λ (x : List ℕ). magic ++ x) (append_assoc kind content rest) in
+    let regrouped : spelling_of version v ++ rest ≡ magic ++ (kind ++ (content ++ rest)) = simp append_assoc in
     ap version_at regrouped ∙ version_again version (kind ++ (content ++ rest))
 
 -- and a value that is spelled so is read

@@ -5,6 +5,7 @@ use Rattle.std.specs.Result.{result_err}
 use Rattle.std.specs.Int.{Width, w8, w16, w32, w64, byte_len, from_be_bytes}
 use Rattle.std.specs.Ordering.{is_lt}
 use Rattle.hh_stream.specs.Weights.{Bytes, Entry, key_cmp}
+use Rattle.hh_stream.specs.Ranges.{in_range}
 use Rattle.hh_counters.specs.Counters.{Sketch}
 use Rattle.hh_countmin.specs.Family.{Coefficients, max_depth, max_width, modulus}
 use Rattle.hh_countmin.specs.Table.{Grid}
@@ -75,7 +76,7 @@ last_key_of es = (slice_index_or es (length es - 1) ([], 0)).0
 -- the length of a key
 abbrev pub len_at : Version → List ℕ → Result (ℕ × List ℕ) SavedFault
 len_at version bytes =
-    number_where (len_width version) (λ n. nat_le 1 n && nat_le n (max_len version)) faults.BadKey bytes
+    number_where (len_width version) (λ n. in_range n (max_len version)) faults.BadKey bytes
 
 -- a key above the one before it; every key is above no bytes
 unfoldable pub key_at : Version → Bytes → List ℕ → Result (Bytes × List ℕ) SavedFault
@@ -129,14 +130,15 @@ abbrev pub is_row : ℕ × ℕ → Bool
 is_row row = nat_le 1 row.0 && nat_lt row.0 modulus && nat_lt row.1 modulus
 
 -- the coefficients of a family are in range
-abbrev pub in_range : Coefficients → Bool
-in_range family = nat_le 1 family.z && nat_lt family.z modulus && list_all is_row family.rows
+abbrev pub has_coefficients : Coefficients → Bool
+has_coefficients family = nat_le 1 family.z && nat_lt family.z modulus && list_all is_row family.rows
 
 -- a family whose coefficients are in range
 unfoldable pub family_at : ℕ → List ℕ → Result (Coefficients × List ℕ) SavedFault
 family_at depth bytes = do
   field ← bytes_at (8 + 16 * depth) bytes
-  if in_range (family_in depth field.0) then Ok (family_in depth field.0, field.1) else Err faults.BadCoefficient
+  if has_coefficients (family_in depth field.0) then Ok (family_in depth field.0, field.1)
+      else Err faults.BadCoefficient
 
 -- the cells that the bytes of a row hold
 abbrev pub cells_in : ℕ → List ℕ → List ℕ
@@ -159,8 +161,8 @@ rows_at (suc n) width total bytes = do
 -- width, depth, the family, the total and the rows
 unfoldable pub grid_at : List ℕ → Result (Grid × List ℕ) SavedFault
 grid_at bytes = do
-  width ← number_where w32 (λ n. nat_le 1 n && nat_le n max_width) faults.BadWidth bytes
-  depth ← number_where w8 (λ n. nat_le 1 n && nat_le n max_depth) faults.BadDepth width.1
+  width ← number_where w32 (λ n. in_range n max_width) faults.BadWidth bytes
+  depth ← number_where w8 (λ n. in_range n max_depth) faults.BadDepth width.1
   family ← family_at depth.0 depth.1
   total ← total_at family.1
   cells ← rows_at depth.0 width.0 total.0 total.1
@@ -230,8 +232,8 @@ sketch_head_at version bytes = do
 -- the bytes of the family, whose coefficients take the first memory
 unfoldable pub grid_head_at : List ℕ → Result (List ℕ) SavedFault
 grid_head_at bytes = do
-  width ← number_where w32 (λ n. nat_le 1 n && nat_le n max_width) faults.BadWidth bytes
-  depth ← number_where w8 (λ n. nat_le 1 n && nat_le n max_depth) faults.BadDepth width.1
+  width ← number_where w32 (λ n. in_range n max_width) faults.BadWidth bytes
+  depth ← number_where w8 (λ n. in_range n max_depth) faults.BadDepth width.1
   family ← bytes_at (8 + 16 * depth.0) depth.1
   Ok family.1
 

@@ -3,9 +3,9 @@ use Rattle.std.specs.Prelude.{◌≡◌, ℕ, ◌≤◌, List, ◌++◌, length}
 use Rattle.std.specs.List.{flat_map, AllByRecursion}
 use Rattle.std.specs.Int.{Width, w8, w16, w32, w64, to_be_bytes}
 use Rattle.hh_stream.specs.Weights.{Bytes, Entry, IsKey, max_key_len}
-use Rattle.hh_counters.specs.Counters.{Sketch, Fits as FitsCounters}
+use Rattle.hh_counters.specs.Counters.{Sketch, Fits}
 use Rattle.hh_countmin.specs.Family.{IsFamily}
-use Rattle.hh_countmin.specs.Table.{Grid, Fits as FitsCells}
+use Rattle.hh_countmin.specs.Table.{Grid, FitsTable}
 use Rattle.hh_saved.specs.declared.format.Version.{Version}
 use Rattle.hh_saved.specs.declared.format.Version.TheVariants.{One, Two}
 use Rattle.hh_saved.specs.declared.saved.Saved.{Saved}
@@ -78,8 +78,8 @@ spelling_of version v = to_be_bytes w32 (magic_of version) ++ (to_be_bytes w8 (k
 -- what a value keeps that the version can spell
 abbrev pub IsSaved : Version → Saved → Type 0
 IsSaved version (Counters s) =
-    FitsCounters s.k s.total s.counters × AllByRecursion (λ e. IsSavedKey version e.0) s.counters
-IsSaved version (Cells t) = IsFamily t.family × FitsCells t.family t.width t.total t.cells
+    Fits s.k s.total s.counters × AllByRecursion (λ e. IsSavedKey version e.0) s.counters
+IsSaved version (Cells t) = IsFamily t.family × FitsTable t.family t.width t.total t.cells
 
 -- the bytes are the version's spelling of the value
 pub record Spells (version : Version) (bytes : List ℕ) (v : Saved) : Type 0 where

@@ -11,8 +11,6 @@ pub mod laws;
 mod layout;
 mod reading;
 mod saved;
-#[cfg(test)]
-mod tests;
 mod writing;
 
 pub use fault::SavedFault;

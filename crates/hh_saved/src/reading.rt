@@ -1,8 +1,9 @@
 //! Reading a saved file, field by field from the left.
 
-ghost use Rattle.std.specs.Prelude.{◌≡◌, ◌⊎◌, ◌≤◌, ◌<◌, ◌+◌, ◌*◌, ◌++◌, List, Ok, Err, [], length, IfOk, IfErr, OnOk};
+ghost use Rattle.std.specs.Prelude.{◌≡◌, ◌⊎◌, ◌≤◌, ◌<◌, ◌+◌, ◌*◌, ◌++◌, List, Ok, Err, [], length, IfOk, IfErr, OnOk, true};
 ghost use Rattle.std.specs.Int.{w8, w16, w32, w64, from_be_bytes};
 ghost use Rattle.hh_stream.specs.Weights.{max_key_len};
+ghost use Rattle.hh_stream.specs.Ranges.{in_range};
 ghost use Rattle.hh_countmin.specs.Family.{max_depth, max_width};
 ghost use Rattle.hh_saved.specs.declared.format.Version.{Version};
 ghost use Rattle.hh_saved.specs.declared.saved.Saved.{Saved};
@@ -322,7 +323,7 @@ fn pairs_of(alloc: Global, depth: usize, bytes: &[u8]) -> Result<Vec<(u64, u64)>
 
 #[tactic(auto, unfolding(crate::specs::Reading::family_at))]
 fn family_of(alloc: Global, depth: usize, bytes: &[u8]) -> Result<(Family, &[u8]), SavedFault>
-    requires { (1 ≤ depth) × (depth ≤ max_depth) }
+    requires { in_range depth max_depth ≡ true }
     ensures family { Gives (λ x. (x.0, x.1.now)) result (family_at depth bytes.now) }
     ensures early { StopsAt result (bytes_at (8 + 16 * depth) bytes.now) }
 {

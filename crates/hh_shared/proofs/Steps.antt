@@ -10,9 +10,9 @@ use lib.ListN.{get_elem?}
 use lib.Seq.{set-get_or}
 use Rattle.atomic_table.specs.Table.{Me, keeps, Allows, Splits, Joins}
 use Rattle.atomic_table.proofs.Lists.{at_set, at_snoc, set_again}
-use Rattle.hh_shared.specs.Tally.{times, added, IsDistinctBelow, HasAllBelow, sum_at}
+use Rattle.hh_shared.specs.Tally.{times, cell_total, IsDistinctBelow, HasAllBelow, sum_at}
 use Rattle.hh_shared.specs.declared.rule.Lists.{Lists}
-use Rattle.hh_shared.specs.Rule.{lists, newcomer, Fits, IsTallied, Claims, Adds, Looks, taken_in, spent}
+use Rattle.hh_shared.specs.Rule.{lists, newcomer, FitsSeat, IsTallied, Claims, Adds, Looks, both_lists, spent_seat}
 use Rattle.hh_shared.proofs.Tallies.{sum_by-replace, at-le-sum_by, two-le-sum_by, sum_by-only, times-append, times-here, times-push, times-push_other, added-append, added-push, added-push_other}
 
 -- how often all seats claimed a number
@@ -21,7 +21,7 @@ all_claimed j seats = sum_by (λ (seat : Lists). times j seat.claims) seats
 
 -- what all seats added to a cell
 abbrev all_added : ℕ → List Lists → ℕ
-all_added cell seats = sum_by (λ (seat : Lists). added cell seat.adds) seats
+all_added cell seats = sum_by (λ (seat : Lists). cell_total cell seat.adds) seats
 
 -- where one seat is replaced, the claims change by what that seat claimed
 claimed-replace : (j : ℕ) (seats : List Lists) (id : ℕ) (before after : Lists) → get_elem? seats id ≡ some before
@@ -30,9 +30,10 @@ claimed-replace j seats id before after at = sum_by-replace (λ (u : Lists). tim
 
 -- and the cell's sum by what it added
 added-replace : (cell : ℕ) (seats : List Lists) (id : ℕ) (before after : Lists) → get_elem? seats id ≡ some before
-    → all_added cell (set seats id after) + added cell before.adds ≡ all_added cell seats + added cell after.adds
+    → all_added cell (set seats id after) + cell_total cell before.adds
+    ≡ all_added cell seats + cell_total cell after.adds
 added-replace cell seats id before after at =
-    sum_by-replace (λ (u : Lists). added cell u.adds) seats id before after at
+    sum_by-replace (λ (u : Lists). cell_total cell u.adds) seats id before after at
 
 -- each seat has the property
 abbrev Each : (Lists → Type 0) → List Lists → Type 0
@@ -61,7 +62,7 @@ set_there (x ∷ xs) (suc id) before after at = set_there xs id before after at
 
 -- what the rule says of a seat stays so where the words of the claims that are 1 stay 1
 fits_after : (n : ℕ) (ws xs : List ℕ) (seat : Lists) → ((j : ℕ) → j < n → get_or ws j 0 ≡ 1 → get_or xs j 0 ≡ 1)
-    → Fits n ws seat → Fits n xs seat
+    → FitsSeat n ws seat → FitsSeat n xs seat
 fits_after n ws xs seat stays f = record {
   claims_below = f.claims_below;
   met_below = f.met_below;
@@ -70,7 +71,7 @@ fits_after n ws xs seat stays f = record {
 }
 
 -- a new seat keeps the rule
-fits_new : (n : ℕ) (ws : List ℕ) (counts : ℕ × ℕ) → Fits n ws (newcomer counts)
+fits_new : (n : ℕ) (ws : List ℕ) (counts : ℕ × ℕ) → FitsSeat n ws (newcomer counts)
 fits_new n ws counts = record {
   claims_below = λ j h. absurd (omega arith);
   met_below = λ j h. absurd (omega arith);
@@ -109,7 +110,7 @@ claim_keeps_rule n m ws seats id j seat k at low free =
     omega (arith, elsewhere i ne, sum, times-push_other j i seat.claims ne, k.claimed i l)) in
     record {
       size = length-set ws j 1 ∙ k.size;
-      each = each-set (Fits n (set ws j 1)) seats id after
+      each = each-set (FitsSeat n (set ws j 1)) seats id after
           (record {
             claims_below = λ i h. dite (ℕ_discrete i j) (λ e. omega arith)
                 (λ ne. f.claims_below i (omega (arith, times-push_other j i seat.claims ne)));
@@ -121,9 +122,8 @@ claim_keeps_rule n m ws seats id j seat k at low free =
       claimed = λ i l. dite (ℕ_discrete i j) (λ e. rw e mine) (others i l);
       once = λ i l. dite (ℕ_discrete i j) (λ e. rw e (omega arith)) (λ ne. omega (arith, elsewhere i ne, k.once i l));
       summed = λ cell l.
-          let same : all_added cell (set seats id after) ≡ all_added cell seats =
-          omega (arith, added-replace cell seats id seat after at) in
-          get_or-set_other ws j (n + cell) 1 0 (λ e. omega arith) ∙ (k.summed cell l ∙ ap (λ x. x % 2 ^ 64) (sym same));
+          let apart = get_or-set_other ws j (n + cell) 1 0 (λ e. omega arith) in
+          omega (arith, apart, added-replace cell seats id seat after at, k.summed cell l);
     }
 
 -- a claim that was found claimed is met
@@ -136,7 +136,7 @@ meeting_keeps_rule n m ws seats id j seat k at low taken =
     let same_words : set ws j 1 ≡ ws = ap (λ x. set ws j x) (sym taken) ∙ set-get_or ws j 0 in
     let kept : IsTallied n m ws (set seats id after) = record {
       size = k.size;
-      each = each-set (Fits n ws) seats id after
+      each = each-set (FitsSeat n ws) seats id after
           (record {
             claims_below = f.claims_below;
             met_below = λ i h. dite (ℕ_discrete i j) (λ e. omega arith)
@@ -148,10 +148,7 @@ meeting_keeps_rule n m ws seats id j seat k at low taken =
           k.each;
       claimed = λ i l. omega (arith, claimed-replace i seats id seat after at, k.claimed i l);
       once = k.once;
-      summed = λ cell l.
-          let same : all_added cell (set seats id after) ≡ all_added cell seats =
-          omega (arith, added-replace cell seats id seat after at) in
-          k.summed cell l ∙ ap (λ x. x % 2 ^ 64) (sym same);
+      summed = λ cell l. omega (arith, added-replace cell seats id seat after at, k.summed cell l);
     } in
     rw same_words kept
 
@@ -178,13 +175,12 @@ addition_keeps_rule n m ws seats id cell amount seat k at some_claim inside =
     let others : (i : ℕ) → i < m → i ≢ cell
     → get_or (set ws (n + cell) sum) (n + i) 0 ≡ all_added i (set seats id after) % 2 ^ 64 =
     (λ i l ne.
-    let same : all_added i (set seats id after) ≡ all_added i seats =
-    omega (arith, added-replace i seats id seat after at, added-push_other cell amount i seat.adds ne) in
-    get_or-set_other ws (n + cell) (n + i) sum 0 (λ e. ne (omega arith))
-    ∙ (k.summed i l ∙ ap (λ x. x % 2 ^ 64) (sym same))) in
+    let word = get_or-set_other ws (n + cell) (n + i) sum 0 (λ e. ne (omega arith)) in
+    let same = added-push_other cell amount i seat.adds ne in
+    omega (arith, word, same, added-replace i seats id seat after at, k.summed i l)) in
     record {
       size = length-set ws (n + cell) sum ∙ k.size;
-      each = each-set (Fits n (set ws (n + cell) sum)) seats id after
+      each = each-set (FitsSeat n (set ws (n + cell) sum)) seats id after
           (fits_after n ws (set ws (n + cell) sum) after stays (record {
             claims_below = f.claims_below;
             met_below =
@@ -203,13 +199,11 @@ split_keeps_rule : (n m : ℕ) (ws : List ℕ) (seats : List Lists) (counts : �
     → IsTallied n m ws (seats ++ newcomer counts ∷ [])
 split_keeps_rule n m ws seats counts k = record {
   size = k.size;
-  each = each-push (Fits n ws) seats (newcomer counts) (fits_new n ws counts) k.each;
+  each = each-push (FitsSeat n ws) seats (newcomer counts) (fits_new n ws counts) k.each;
   claimed = λ j l. omega (arith, sum_by_push (λ (u : Lists). times j u.claims) seats (newcomer counts), k.claimed j l);
   once = k.once;
   summed = λ cell l.
-      let same : all_added cell (seats ++ newcomer counts ∷ []) ≡ all_added cell seats =
-      omega (arith, sum_by_push (λ (u : Lists). added cell u.adds) seats (newcomer counts)) in
-      k.summed cell l ∙ ap (λ x. x % 2 ^ 64) (sym same);
+      omega (arith, sum_by_push (λ (u : Lists). cell_total cell u.adds) seats (newcomer counts), k.summed cell l);
 }
 
 -- where empty lists come with empty lists, so do they joined
@@ -220,10 +214,10 @@ empty-both (x ∷ xs) ys zs ws f g e = cc
 
 -- the lists of two seats move to the first
 join_keeps_rule : (n m : ℕ) (ws : List ℕ) (seats : List Lists) (id other : ℕ) (one two : Lists) → IsTallied n m ws seats
-    → get_elem? seats id ≡ some one → (other ≡ id → ⊥) → get_elem? (set seats id (taken_in one two)) other ≡ some two
-    → IsTallied n m ws (set (set seats id (taken_in one two)) other spent)
+    → get_elem? seats id ≡ some one → (other ≡ id → ⊥) → get_elem? (set seats id (both_lists one two)) other ≡ some two
+    → IsTallied n m ws (set (set seats id (both_lists one two)) other spent_seat)
 join_keeps_rule n m ws seats id other one two k at apart there =
-    let both = taken_in one two in
+    let both = both_lists one two in
     let half = set seats id both in
     let was : get_elem? seats other ≡ some two =
     ⊎_elim (λ (t : (other ≡ id) × (both ≡ two)). absurd (apart t.0))
@@ -232,8 +226,8 @@ join_keeps_rule n m ws seats id other one two k at apart there =
     let g = k.each other two was in
     record {
       size = k.size;
-      each = each-set (Fits n ws) half other spent (fits_new n ws (0, 0)) (each-set (Fits n ws) seats id both
-          (record {
+      each = each-set (FitsSeat n ws) half other spent_seat (fits_new n ws (0, 0))
+          (each-set (FitsSeat n ws) seats id both (record {
             claims_below = λ i h. let sum = times-append i one.claims two.claims in
                 dite (ℕ_discrete (times i one.claims) 0) (λ z. g.claims_below i (omega arith))
                 (λ z. f.claims_below i (omega arith));
@@ -248,15 +242,13 @@ join_keeps_rule n m ws seats id other one two k at apart there =
           k.each);
       claimed = λ i l.
           let first = claimed-replace i seats id one both at in
-          let second = claimed-replace i half other two spent there in
+          let second = claimed-replace i half other two spent_seat there in
           omega (arith, first, second, times-append i one.claims two.claims, k.claimed i l);
       once = k.once;
       summed = λ cell l.
           let first = added-replace cell seats id one both at in
-          let second = added-replace cell half other two spent there in
-          let same : all_added cell (set half other spent) ≡ all_added cell seats =
-          omega (arith, first, second, added-append cell one.adds two.adds) in
-          k.summed cell l ∙ ap (λ x. x % 2 ^ 64) (sym same);
+          let second = added-replace cell half other two spent_seat there in
+          omega (arith, first, second, added-append cell one.adds two.adds, k.summed cell l);
     }
 
 -- a list is empty or has a number
@@ -269,17 +261,17 @@ pub closes : (n m : ℕ) (ws : List ℕ) (seats : List Lists) (id : ℕ) (seat :
     → get_elem? seats id ≡ some seat → HasAllBelow n seat.claims → (cell : ℕ) → cell < m
     → get_or ws (n + cell) 0 ≡ sum_at seat.adds cell
 closes n m ws seats id seat k at all cell inside =
-    let nothing : (other : ℕ) (u : Lists) → other ≢ id → get_elem? seats other ≡ some u → added cell u.adds ≡ 0 =
+    let nothing : (other : ℕ) (u : Lists) → other ≢ id → get_elem? seats other ≡ some u → cell_total cell u.adds ≡ 0 =
     (λ other u apart there. let f = k.each other u there in
     ⊎_elim
-    (λ (none : u.claims ≡ []). ap (added cell) (f.idle none))
+    (λ (none : u.claims ≡ []). ap (cell_total cell) (f.idle none))
     (λ (its : (j : ℕ) × (0 < times j u.claims)).
     let low = f.claims_below its.0 its.1 in
     let two = two-le-sum_by (λ (y : Lists). times its.0 y.claims) seats id other seat u apart at there in
     absurd (omega (arith, all.has its.0 low, k.claimed its.0 low, k.once its.0 low, two)))
     (none-or-some u.claims)) in
     k.summed cell inside ∙ ap (λ x. x % 2 ^ 64)
-    (sum_by-only (λ (u : Lists). added cell u.adds) seats id seat at nothing)
+    (sum_by-only (λ (u : Lists). cell_total cell u.adds) seats id seat at nothing)
 
 -- The steps, as `atomic_table` asks for them
 pub claim_step : (counts : ℕ × ℕ) (slots id : ℕ) (me : Me ℕ Lists) (j : ℕ) → me.0.counts ≡ counts → j < counts.0
@@ -367,6 +359,6 @@ split_step counts id seat s k at =
 
 -- of a seat that takes in another's lists
 pub join_step : (counts : ℕ × ℕ) (id : ℕ) (one : Lists) (other : ℕ) (two : Lists)
-    → Joins {S = ℕ} (λ s. IsTallied counts.0 counts.1 s.words s.views) id one other two (taken_in one two) spent
+    → Joins {S = ℕ} (λ s. IsTallied counts.0 counts.1 s.words s.views) id one other two (both_lists one two) spent_seat
 join_step counts id one other two s k at apart there =
     join_keeps_rule counts.0 counts.1 s.words s.views id other one two k at apart there

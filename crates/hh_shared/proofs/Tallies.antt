@@ -10,7 +10,7 @@ use Rattle.std.proofs.Math.Nat.{zero-mul, one-mul}
 use Rattle.std.proofs.Math.Seq.{take-length}
 use mathlib.Core.Option.{some, some-injective, some-ne-none}
 use lib.ListN.{get_elem?}
-use Rattle.hh_shared.specs.Tally.{times, added, IsDistinctBelow, HasAllBelow}
+use Rattle.hh_shared.specs.Tally.{times, cell_total, IsDistinctBelow, HasAllBelow}
 
 module _ {A : Type 0} where
   -- where one element is replaced, the sum changes by what that element adds
@@ -62,7 +62,8 @@ pub times-append : (i : ℕ) (xs ys : List ℕ) → times i (xs ++ ys) ≡ times
 times-append i xs ys = sum_by-append (λ j. cond (j == i) 1 0) xs ys
 
 -- the additions of two lists to a cell add up
-pub added-append : (cell : ℕ) (xs ys : List (ℕ × ℕ)) → added cell (xs ++ ys) ≡ added cell xs + added cell ys
+pub added-append : (cell : ℕ) (xs ys : List (ℕ × ℕ))
+    → cell_total cell (xs ++ ys) ≡ cell_total cell xs + cell_total cell ys
 added-append cell xs ys = sum_by-append (λ (a : ℕ × ℕ). cond (a.0 == cell) a.1 0) xs ys
 
 -- how often a number stands in a longer list
@@ -86,16 +87,17 @@ pub times-push_other : (x j : ℕ) (xs : List ℕ) → j ≢ x → times j (xs +
 times-push_other x j xs n = omega (arith, times-append j xs (x ∷ []), times-elsewhere j x [] (λ e. n (sym e)))
 
 -- one more addition to a cell adds its amount there
-pub added-push : (cell amount : ℕ) (xs : List (ℕ × ℕ)) → added cell (xs ++ (cell, amount) ∷ []) ≡ added cell xs + amount
+pub added-push : (cell amount : ℕ) (xs : List (ℕ × ℕ))
+    → cell_total cell (xs ++ (cell, amount) ∷ []) ≡ cell_total cell xs + amount
 added-push cell amount xs =
-    let one : added cell ((cell, amount) ∷ []) ≡ amount = rw (eq-eqb cell cell refl) (omega arith) in
+    let one : cell_total cell ((cell, amount) ∷ []) ≡ amount = rw (eq-eqb cell cell refl) (omega arith) in
     omega (arith, added-append cell xs ((cell, amount) ∷ []))
 
 -- and nothing to another cell
 pub added-push_other : (cell amount other : ℕ) (xs : List (ℕ × ℕ)) → other ≢ cell
-    → added other (xs ++ (cell, amount) ∷ []) ≡ added other xs
+    → cell_total other (xs ++ (cell, amount) ∷ []) ≡ cell_total other xs
 added-push_other cell amount other xs n =
-    let none : added other ((cell, amount) ∷ []) ≡ 0 = rw (ne_eqb cell other (λ e. n (sym e))) refl in
+    let none : cell_total other ((cell, amount) ∷ []) ≡ 0 = rw (ne_eqb cell other (λ e. n (sym e))) refl in
     omega (arith, added-append other xs ((cell, amount) ∷ []))
 
 -- f of each number below n, as often as it stands in xs

@@ -4,7 +4,7 @@ use mathlib.Core.Option.{some}
 use lib.ListN.{get_elem?}
 use Rattle.atomic_table.specs.Seated.{TableId}
 use Rattle.atomic_table.specs.Table.{Me}
-use Rattle.hh_shared.specs.Tally.{times, added, IsDistinctBelow}
+use Rattle.hh_shared.specs.Tally.{times, cell_total, IsDistinctBelow}
 use Rattle.hh_shared.specs.Seats.{Holding}
 use Rattle.hh_shared.specs.declared.rule.Lists.{Lists}
 
@@ -18,7 +18,7 @@ newcomer counts = lists counts [] [] []
 
 -- what the rule says of one seat: its numbers are numbers of claims, those that it met are claimed, and without a claim
 -- it has no adds
-pub record Fits (claims : ℕ) (words : List ℕ) (seat : Lists) : Type 0 where
+pub record FitsSeat (claims : ℕ) (words : List ℕ) (seat : Lists) : Type 0 where
   pub claims_below : (j : ℕ) → 0 < times j seat.claims → j < claims
   pub met_below : (j : ℕ) → 0 < times j seat.met → j < claims
   pub met_claimed : (j : ℕ) → 0 < times j seat.met → slice_index words j ≡ 1
@@ -28,11 +28,11 @@ pub record Fits (claims : ℕ) (words : List ℕ) (seat : Lists) : Type 0 where
 -- of all seats; a cell's word is the sum of what all seats added. Dropped seats count
 pub record IsTallied (claims cells : ℕ) (words : List ℕ) (seats : List Lists) : Type 0 where
   pub size : length words ≡ claims + cells
-  pub each : (id : ℕ) (seat : Lists) → get_elem? seats id ≡ some seat → Fits claims words seat
+  pub each : (id : ℕ) (seat : Lists) → get_elem? seats id ≡ some seat → FitsSeat claims words seat
   pub claimed : (j : ℕ) → j < claims → slice_index words j ≡ sum_by (λ seat. times j seat.claims) seats
   pub once : (j : ℕ) → j < claims → slice_index words j < 2
   pub summed : (cell : ℕ) → cell < cells
-      → slice_index words (claims + cell) ≡ sum_by (λ seat. added cell seat.adds) seats % 2 ^ 64
+      → slice_index words (claims + cell) ≡ sum_by (λ seat. cell_total cell seat.adds) seats % 2 ^ 64
 
 -- the number was found free, and is the seat's; or it was found claimed, and was met
 pub record Claims (seat : Lists) (j found : ℕ) (after : Lists) : Type 0 where
@@ -50,12 +50,12 @@ abbrev pub Looks : Lists → Lists → Type 0
 Looks seat after = (after ≡ seat) × IsDistinctBelow after.counts.0 after.claims
 
 -- the first seat has the lists of both
-abbrev pub taken_in : Lists → Lists → Lists
-taken_in one other = lists one.counts (one.claims ++ other.claims) (one.met ++ other.met) (one.adds ++ other.adds)
+abbrev pub both_lists : Lists → Lists → Lists
+both_lists one other = lists one.counts (one.claims ++ other.claims) (one.met ++ other.met) (one.adds ++ other.adds)
 
 -- what is left of a seat that was joined into another
-abbrev pub spent : Lists
-spent = newcomer (0, 0)
+abbrev pub spent_seat : Lists
+spent_seat = newcomer (0, 0)
 
 -- a table's seat as contracts see it
 abbrev pub holding_of : TableId → Lists → Holding

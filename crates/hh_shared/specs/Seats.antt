@@ -29,8 +29,8 @@ abbrev pub fresh : Sums → Holding
 fresh sums = record { sums = sums; claims = []; met = []; adds = [] }
 
 -- the first seat with the lists of both
-abbrev pub joined : Holding → Holding → Holding
-joined one other = record {
+abbrev pub seat_of_both : Holding → Holding → Holding
+seat_of_both one other = record {
   sums = one.sums;
   claims = one.claims ++ other.claims;
   met = one.met ++ other.met;

@@ -6,12 +6,12 @@ abbrev pub times : ℕ → List ℕ → ℕ
 times j xs = count_by (λ x. x == j) xs
 
 -- the sum of the amounts that were added to a cell, without a bound
-abbrev pub added : ℕ → List (ℕ × ℕ) → ℕ
-added cell adds = sum_by (λ a. if a.0 == cell then a.1 else 0) adds
+abbrev pub cell_total : ℕ → List (ℕ × ℕ) → ℕ
+cell_total cell adds = sum_by (λ a. if a.0 == cell then a.1 else 0) adds
 
 -- the sum of the amounts that were added to a cell, modulo 2^64
 abbrev pub sum_at : List (ℕ × ℕ) → ℕ → ℕ
-sum_at adds cell = added cell adds % 2 ^ 64
+sum_at adds cell = cell_total cell adds % 2 ^ 64
 
 -- no number stands twice in the list, and each is below n
 pub record IsDistinctBelow (n : ℕ) (xs : List ℕ) : Type 0 where

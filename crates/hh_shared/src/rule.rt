@@ -70,9 +70,9 @@ impl Split<Lists> for SplitOff {
 pub struct TakeIn;
 
 impl Join<Lists> for TakeIn {
-    ghost use Rattle.hh_shared.specs.Rule.{taken_in, spent};
+    ghost use Rattle.hh_shared.specs.Rule.{both_lists, spent_seat};
 
-    ghost both = { taken_in };
+    ghost both = { both_lists };
 
-    ghost spent = { spent };
+    ghost spent = { spent_seat };
 }

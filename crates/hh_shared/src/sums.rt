@@ -3,7 +3,7 @@
 ghost use Rattle.std.specs.Prelude.{◌≡◌, ◌+◌, ◌<◌, ◌≤◌, ◌↔◌, ◌∷◌, ◌++◌, ℕ, [], length, slice_index};
 ghost use Rattle.std.specs.Prelude.{vec_len, IsOk, IfOk, IsTrue, MatchBool};
 ghost use Rattle.hh_shared.specs.Tally.{sum_at, IsDistinctBelow, HasAllBelow, AreDisjoint};
-ghost use Rattle.hh_shared.specs.Seats.{max_claims, max_cells, fresh, joined};
+ghost use Rattle.hh_shared.specs.Seats.{max_claims, max_cells, fresh, seat_of_both};
 
 use crate::rule::{Add, Claim, Lists, Look, SplitOff, TakeIn, Tallied};
 use atomic_table::{Seat, Table};
@@ -141,7 +141,7 @@ impl SharedSums {
     pub fn join(&self, seat: &mut SumSeat, other: SumSeat)
         requires seat { seat.old.sums ≡ self.now }
         requires other { other.sums ≡ self.now }
-        ensures joined { seat.new ≡ joined seat.old other }
+        ensures joined { seat.new ≡ seat_of_both seat.old other }
         ensures disjoint { AreDisjoint seat.old.claims other.claims }
     {
         let SumSeat { seat: half, count } = other;

@@ -129,9 +129,7 @@ fn tally_by_four<R: Threads + Sync>(rt: &R, sums: &SharedSums, mut seat: SumSeat
 fn four_threads_claim_a_hundred_numbers(rt: HostRuntime) -> Result<(), Fail> {
     let (sums, seat) = SharedSums::new(rt.alloc(), 100, 3)?;
     let seat = tally_by_four(&rt, &sums, seat);
-    assert_eq!(rt;
-        close_all(&rt, sums, seat)?.as_slice(),
-        [1683, 1617, 1650].as_slice()
-    );
+    let cells = close_all(&rt, sums, seat)?;
+    assert_eq!(rt; cells.as_slice(), [1683, 1617, 1650].as_slice());
     Ok(())
 }

@@ -5,9 +5,9 @@ use Rattle.hh_stream.specs.declared.key.Storage.TheVariants.{Inline, Heap}
 use Rattle.hh_stream.specs.Weights.{Bytes, inline_len}
 
 -- the bytes that are stored
-abbrev pub stored : Storage → Bytes
-stored (Inline len short) = take len short.bytes
-stored (Heap bytes) = bytes.items
+abbrev pub stored_bytes : Storage → Bytes
+stored_bytes (Inline len short) = take len short.bytes
+stored_bytes (Heap bytes) = bytes.items
 
 -- bytes lie in the value exactly where it has room for them
 abbrev pub IsStorage : Storage → Type 0

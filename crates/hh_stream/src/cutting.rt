@@ -1,9 +1,10 @@
 //! Cuttings of a stream into consecutive pieces.
 
-ghost use Rattle.std.specs.Prelude.{◌≡◌, ◌≢◌, ◌<◌, ◌≤◌, ◌^◌, ◌⊎◌, ◌↔◌, [], length, sum, slice_index_or, IsTrue, OnOk, OnErr, IfOk, IsErrOf};
+ghost use Rattle.std.specs.Prelude.{◌≡◌, ◌≢◌, ◌<◌, ◌≤◌, ◌^◌, ◌↔◌, [], true, false, length, sum, slice_index_or, IsTrue, OnOk, OnErr, IfOk, IsErrOf};
 ghost use Rattle.hh_stream.specs.declared.cutting.CuttingFault.TheVariants.{Memory};
 ghost use Rattle.hh_stream.specs.Weights.{max_total, total_of};
 ghost use Rattle.hh_stream.specs.Cuttings.{max_pieces, even_lengths, pieces_of, whole_of};
+ghost use Rattle.hh_stream.specs.Ranges.{in_range};
 
 use crate::stream::{Item, Stream};
 use std::alloc::{AllocError, Global};
@@ -63,8 +64,8 @@ fn check_count(pieces: usize) -> Result<(), CuttingFault>
     ensures no_pieces { IsErrOf result CuttingFault.NoPieces ↔ (pieces ≡ 0) }
     ensures too_many { IsErrOf result CuttingFault.TooManyPieces ↔ (max_pieces < pieces) }
     ensures right_sum { ¬ IsErrOf result CuttingFault.WrongSum }
-    ensures within { OnOk result ((0 < pieces) × (pieces ≤ max_pieces)) }
-    ensures outside { OnErr result ((pieces ≡ 0) ⊎ (max_pieces < pieces)) }
+    ensures within { OnOk result (in_range pieces max_pieces ≡ true) }
+    ensures outside { OnErr result (in_range pieces max_pieces ≡ false) }
 {
     if pieces == 0 {
         return Err(CuttingFault::NoPieces);
@@ -133,8 +134,7 @@ impl Cutting {
         ensures too_many { IsErrOf result CuttingFault.TooManyPieces
             ↔ (max_pieces < length lengths.now) }
         ensures wrong_sum { IsErrOf result CuttingFault.WrongSum
-            ↔ ((0 < length lengths.now) × (length lengths.now ≤ max_pieces)
-            × (sum lengths.now ≢ len)) }
+            ↔ ((in_range (length lengths.now) max_pieces ≡ true) × (sum lengths.now ≢ len)) }
     {
         check_count(lengths.len())?;
         if !adds_up(lengths, len) {

@@ -6,7 +6,7 @@ ghost use Rattle.std.specs.FinMap.{nat_cmp-IsAntisymmetric, slice_cmp-IsAntisymm
 ghost use Rattle.std.specs.Cmp.{partial_equiv_from_equiv, partial_order_from_total, eq_by_cmp_equiv, Equal-is};
 ghost use Rattle.std.specs.Cmp.Lexicographic.{slice_cmp, nat_list_cmp_total};
 ghost use Rattle.std.specs.Ordering.{nat_cmp, as_partial_cmp};
-ghost use Rattle.hh_stream.specs.Storage.{IsStorage, stored};
+ghost use Rattle.hh_stream.specs.Storage.{IsStorage, stored_bytes};
 ghost use Rattle.hh_stream.specs.Weights.{max_key_len, inline_len, IsKey, key_cmp, same_key};
 
 use std::alloc::{AllocError, Global};
@@ -49,14 +49,14 @@ struct Short {
 }
 
 impl Model for Key {
-    ghost use Rattle.hh_stream.specs.Storage.{IsStorage, stored};
+    ghost use Rattle.hh_stream.specs.Storage.{IsStorage, stored_bytes};
     ghost use Rattle.hh_stream.specs.Weights.{Bytes, IsKey};
 
     ghost Value = { Bytes };
 
-    ghost view = { λ key. stored key.storage };
+    ghost view = { λ key. stored_bytes key.storage };
 
-    ghost invariant = { λ key. IsStorage key.storage × IsKey (stored key.storage) };
+    ghost invariant = { λ key. IsStorage key.storage × IsKey (stored_bytes key.storage) };
 }
 
 /// Why bytes are no key: the first of these that holds.
@@ -137,7 +137,7 @@ impl Key {
 /// A few bytes, in the value itself.
 fn inline(bytes: &[u8]) -> Storage
     requires { length bytes.now ≤ inline_len }
-    ensures bytes { stored result ≡ bytes.now }
+    ensures bytes { stored_bytes result ≡ bytes.now }
     ensures storage { IsStorage result }
 {
     let mut room = [0; INLINE_LEN];

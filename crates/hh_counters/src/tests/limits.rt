@@ -25,8 +25,7 @@ fn largest_k_has_as_many_counters(rt: HostRuntime) -> Result<(), Fail> {
 }
 
 // How many keys are monitored after these items, and the least counter.
-fn monitored<M: Monitor>(monitor: M, stream: &Stream) -> Result<(usize, u64), AddFault> {
-    let mut monitor = monitor;
+fn monitored<M: Monitor>(mut monitor: M, stream: &Stream) -> Result<(usize, u64), AddFault> {
     for item in stream.items() {
         monitor.add(item.key(), item.weight())?;
     }

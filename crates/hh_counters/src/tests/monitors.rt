@@ -1,9 +1,7 @@
 //! The forms of Space-Saving on small streams, and side by side on a longer one.
 
 use super::{FOUR_RECORDS, key_of, shown, stream_of};
-use crate::{
-    AddFault, BucketSaving, GatheredSaving, Monitor, SpaceSaving, Summary, monitored_summary,
-};
+use crate::{AddFault, BucketSaving, Monitor, SpaceSaving, Summary, monitored_summary};
 use hh_stream::{Item, Key, MAX_TOTAL, Stream};
 use std::alloc::Global;
 use std::test::Fail;
@@ -36,20 +34,18 @@ fn translated<M: Monitor>(alloc: Global, monitor: M) -> Result<String, Fail> {
 }
 
 // The counters after these items, and then the summary.
-fn run<M: Monitor>(alloc: Global, monitor: M, items: &[(&str, u64)]) -> Result<String, Fail> {
-    let mut monitor = monitor;
+fn run<M: Monitor>(alloc: Global, mut monitor: M, items: &[(&str, u64)]) -> Result<String, Fail> {
     add_all(&mut monitor, stream_of(alloc, items)?.items())?;
     let mut text = counters(alloc, &monitor)?;
     write!(text, " to {}", translated(alloc, monitor)?)?;
     Ok(text)
 }
 
-// The same run by each form, which all say the same.
+// The same run by each form, which both say the same.
 fn each_form(alloc: Global, k: u64, items: &[(&str, u64)]) -> Result<String, Fail> {
     let plain = run(alloc, SpaceSaving::new(alloc, k)?, items)?;
     let buckets = run(alloc, BucketSaving::new(alloc, k)?, items)?;
-    let gathered = run(alloc, GatheredSaving::new(alloc, k)?, items)?;
-    if plain != buckets || plain != gathered {
+    if plain != buckets {
         return Err(Fail::new("the forms differ"));
     }
     Ok(plain)
@@ -91,11 +87,11 @@ fn each_form_counts_small_streams(rt: HostRuntime) -> Result<(), Fail> {
 }
 
 #[test]
-fn gathered_buckets_count_keys_by_their_bytes(rt: HostRuntime) -> Result<(), Fail> {
+fn buckets_count_keys_by_their_bytes(rt: HostRuntime) -> Result<(), Fail> {
     let long = "a key of more than 24 bytes";
     let items = [("a", 5), (long, 3), ("a", 1), (long, 4), ("b", 2)];
     let stream = stream_of(rt.alloc(), &items)?;
-    let mut monitor = GatheredSaving::new(rt.alloc(), 1)?;
+    let mut monitor = BucketSaving::new(rt.alloc(), 1)?;
     for item in stream.items() {
         monitor.add_bytes(item.key().bytes(), item.weight())?;
     }
@@ -122,14 +118,6 @@ fn buckets_have_k_from_1_to_65535(rt: HostRuntime) {
 }
 
 #[test]
-fn gathered_buckets_have_k_from_1_to_65535(rt: HostRuntime) {
-    for (k, refused) in [(0, true), (1, false), (65_535, false), (65_536, true)] {
-        let monitor = GatheredSaving::new(rt.alloc(), k);
-        assert_eq!(rt; monitor.is_err(), refused);
-    }
-}
-
-#[test]
 fn new_plain_form_is_empty(rt: HostRuntime) -> Result<(), Fail> {
     let monitor = SpaceSaving::new(rt.alloc(), 2)?;
     assert!(rt; monitor.k() == 2 && monitor.is_empty());
@@ -143,16 +131,8 @@ fn new_buckets_are_empty(rt: HostRuntime) -> Result<(), Fail> {
     Ok(())
 }
 
-#[test]
-fn new_gathered_buckets_are_empty(rt: HostRuntime) -> Result<(), Fail> {
-    let monitor = GatheredSaving::new(rt.alloc(), 2)?;
-    assert!(rt; monitor.k() == 2 && monitor.is_empty());
-    Ok(())
-}
-
 // What comes of the key with the largest total, and then with 1 more, and its counter.
-fn filled<M: Monitor>(monitor: M, key: &Key) -> Result<(Option<AddFault>, u64), AddFault> {
-    let mut monitor = monitor;
+fn filled<M: Monitor>(mut monitor: M, key: &Key) -> Result<(Option<AddFault>, u64), AddFault> {
     monitor.add(key, MAX_TOTAL)?;
     let fault = monitor.add(key, 1).err();
     Ok((fault, monitor.get(key)))
@@ -164,7 +144,6 @@ fn monitored_total_has_a_largest_value(rt: HostRuntime) -> Result<(), Fail> {
     let full = (Some(AddFault::TotalTooLarge), MAX_TOTAL);
     assert_eq!(rt; filled(SpaceSaving::new(rt.alloc(), 1)?, &key)?, full);
     assert_eq!(rt; filled(BucketSaving::new(rt.alloc(), 1)?, &key)?, full);
-    assert_eq!(rt; filled(GatheredSaving::new(rt.alloc(), 1)?, &key)?, full);
     Ok(())
 }
 
@@ -198,12 +177,11 @@ fn agree<M: Monitor>(plain: &SpaceSaving, other: &M, keys: &[Key]) -> bool {
 // Whether the plain form and this one agree after each of the items.
 fn agree_after_each<M: Monitor>(
     alloc: Global,
-    other: M,
+    mut other: M,
     items: &[Item],
     keys: &[Key],
 ) -> Result<bool, Fail> {
     let mut plain = SpaceSaving::new(alloc, 10)?;
-    let mut other = other;
     for item in items {
         plain.add(item.key(), item.weight())?;
         other.add(item.key(), item.weight())?;
@@ -220,15 +198,6 @@ fn buckets_agree_after_each_of_10000_items(rt: HostRuntime) -> Result<(), Fail> 
     let stream = long_stream(rt.alloc())?;
     let buckets = BucketSaving::new(rt.alloc(), 10)?;
     assert!(rt; agree_after_each(rt.alloc(), buckets, stream.items(), &keys)?);
-    Ok(())
-}
-
-#[test]
-fn gathered_buckets_agree_after_each_of_10000_items(rt: HostRuntime) -> Result<(), Fail> {
-    let keys = keys_of_one_byte(rt.alloc())?;
-    let stream = long_stream(rt.alloc())?;
-    let gathered = GatheredSaving::new(rt.alloc(), 10)?;
-    assert!(rt; agree_after_each(rt.alloc(), gathered, stream.items(), &keys)?);
     Ok(())
 }
 
@@ -259,16 +228,6 @@ fn plain_form_translates_10000_items(rt: HostRuntime) -> Result<(), Fail> {
 fn buckets_translate_10000_items(rt: HostRuntime) -> Result<(), Fail> {
     let stream = long_stream(rt.alloc())?;
     let monitor = BucketSaving::new(rt.alloc(), 10)?;
-    let summary = monitored_summary(monitor, stream.items())?;
-    let text = shown(rt.alloc(), &summary)?;
-    assert_eq!(rt; text.as_str(), LONG_SUMMARY);
-    Ok(())
-}
-
-#[test]
-fn gathered_buckets_translate_10000_items(rt: HostRuntime) -> Result<(), Fail> {
-    let stream = long_stream(rt.alloc())?;
-    let monitor = GatheredSaving::new(rt.alloc(), 10)?;
     let summary = monitored_summary(monitor, stream.items())?;
     let text = shown(rt.alloc(), &summary)?;
     assert_eq!(rt; text.as_str(), LONG_SUMMARY);

@@ -1,8 +1,8 @@
 use Rattle.std.proofs.Common.{◌≡◌, Some, take}
 use Rattle.std.specs.List.{flat_map}
 use Rattle.csv.specs.Writing.{text_written}
+use Rattle.hh_records.specs.Rows.{IsBetweenRows}
 use Rattle.heavy.specs.Files.{answer_row}
-use Rattle.heavy.specs.Rows.{IsBetweenRows}
 use Rattle.heavy.proofs.ask.answers_text.Given as goal
 
 abbrev pub invariant-loop-word : goal.invariant-loop-word

@@ -1,7 +1,7 @@
 use Rattle.std.proofs.Common.{◌≡◌, ◌∙◌, ap}
 use Rattle.std.proofs.lemmas.Result.{err_from_is_err_and}
 use Rattle.hh_counters.specs.Report.{heavy}
-use Rattle.heavy.specs.Rows.{rows_of}
+use Rattle.hh_records.specs.Rows.{rows_of}
 use Rattle.heavy.proofs.OptionFacts.{options_refused}
 use Rattle.heavy.proofs.report.run_report.Goals as goal
 

@@ -11,7 +11,3 @@ returns-in-Err-clause-unchanged c =
     let put_in = c.in_ok-insert.ensures.entries ∙ insert_entry-new same_key c.args.index.now c.args.key c.args.counter
     c.requires.new in
     search (rules, popped, put_in)
-
-pub returns-clause-last : goal.returns-clause-last
-returns-clause-last c =
-    c.in_ok-insert.ensures.entries ∙ insert_entry-new same_key c.args.index.now c.args.key c.args.counter c.requires.new

@@ -23,7 +23,8 @@ loop-i-preserved c =
       | in-Some+then-counter-least+in_ok-copy+in_ok-push w ↦
           let e : Entry = (w.in-Some.key.now, w.in-Some.counter.now) in
           ap (λ v. v.items) w.entries-is ∙ w.in_ok-push.ensures.items
-          ∙ ap₂ (λ (d : Counters) (k : Bytes). d ++ (k, e.1 - t) ∷ []) c.loop-i.invariant w.in_ok-copy.ensures.equal
+          ∙ ap₂ (λ (d : Counters) (k : Bytes). d ++ (k, e.1 - t) ∷ []) c.loop-i.invariant
+          (w.in_ok-copy.ensures.equal ∙ w.key.ensures)
           ∙ sym (lower_above t es i e l (at e w.in-Some.ensures.entry) w.if-counter-least.true)
       | in-Some+else-counter-least w ↦
           let e : Entry = (w.in-Some.key.now, w.in-Some.counter.now) in

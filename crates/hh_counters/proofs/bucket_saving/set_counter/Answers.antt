@@ -21,6 +21,3 @@ returns-clause-set c =
 pub returns-clause-distinct : goal.returns-clause-distinct
 returns-clause-distinct c =
     λ unique. subst (IsDistinct same_key) (sym (keys-with_value_at c.args.index.now c.args.place c.args.to)) unique
-
-pub returns-clause-keys : goal.returns-clause-keys
-returns-clause-keys c = keys-with_value_at c.args.index.now c.args.place c.args.to

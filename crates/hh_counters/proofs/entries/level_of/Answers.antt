@@ -20,14 +20,8 @@ returns c =
     let permutation = subst (λ (ns : List ℕ). IsPermutation ns (front ++ split.result.1.now ∷ back))
     (c.deref_mut.ensures.value ∙ numbers) split.ensures.permutation in
     let whole = length_permutation (values_of entries) (front ++ split.result.1.now ∷ back) permutation in
-    let behind : length back
-    ≡ c.args.k = omega (
-      arith,
-      whole,
-      length-append front (split.result.1.now ∷ back),
-      length-map entries (λ (e : Entry). e.1),
-      split.ensures.front_len,
-      c.len.ensures,
-      ap length numbers,
-    ) in
+    let parts = length-append front (split.result.1.now ∷ back) in
+    let len = length-map entries (λ (e : Entry). e.1) in
+    let behind : length back ≡ c.args.k =
+    omega (arith, whole, parts, len, split.ensures.front_len, c.len.ensures, ap length numbers) in
     level_from_split entries c.args.k split.result.1.now front back permutation behind split.ensures.partitioned

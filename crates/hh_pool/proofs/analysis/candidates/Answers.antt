@@ -1,6 +1,7 @@
 use Rattle.std.proofs.Common.{◌≤◌, ap, ◌∙◌, arith}
+use Rattle.std.proofs.lemmas.Bool.Decides.{nat_tests}
 use Rattle.hh_stream.specs.Weights.{Bytes, weight_of}
-use Rattle.hh_counters.specs.Report.{thinned}
+use Rattle.hh_counters.specs.Report.{keys_above}
 use Rattle.hh_countmin.specs.Table.{Grid, estimate_in}
 use Rattle.hh_pool.proofs.Merged.{thinned_enough}
 use Rattle.hh_pool.proofs.analysis.candidates.Goals as goal
@@ -9,7 +10,7 @@ pub returns-clause-enough : goal.returns-clause-enough
 returns-clause-enough c = λ xs honest le is.
     let t = c.args.table.now in
     let same = (c.cells_are_cell_sums.ensures t.family t.width xs).2 c.requires.rows
-    c.total.ensures.fits.width_in_range.0 in
+    (grind (arith, nat_tests, c.total.ensures.fits.width_in_range)) in
     let most : (x : Bytes) → weight_of x xs ≤ estimate_in t x =
     λ x.
     let never = c.estimate_is_never_below.ensures.never_below t.family t.width x xs in
@@ -20,4 +21,4 @@ returns-clause-enough c = λ xs honest le is.
     honest le most (c.total.ensures.total ∙ ap (λ (g : Grid). g.total) is) c.in_ok-contenders.ensures.keys
     c.in_ok-estimates.ensures
     (c.in_ok-candidates.ensures.keys
-    ∙ ap (thinned c.args.p c.args.q c.total.result c.in_ok-contenders.contenders) c.deref.ensures.value)
+    ∙ ap (keys_above c.args.p c.args.q c.total.result c.in_ok-contenders.contenders) c.deref.ensures.value)

@@ -3,7 +3,7 @@ use Rattle.std.specs.Prelude.{zip}
 use Rattle.std.proofs.lemmas.List.{length-map}
 use Rattle.hh_stream.specs.Cuttings.{pieces_of}
 use Rattle.hh_counters.specs.Counters.{Sketch, sketch_of}
-use Rattle.hh_counters.specs.Report.{selected}
+use Rattle.hh_counters.specs.Report.{rows_above}
 use Rattle.hh_countmin.specs.Table.{table_of}
 use Rattle.hh_pool.proofs.Pieces.{length-pieces_of}
 use Rattle.hh_pool.proofs.ValueFacts.{IsMergeOf}
@@ -62,6 +62,6 @@ returns-clause-heavy g c =
     let enough = c.in_ok-candidates.ensures.enough stream honest (rw (merged.same_k, asked.p, asked.q) asked.in_range.1)
     (filled ∙ (λ i. table_of (sym filled i).family (sym filled i).width stream)) in
     c.in_ok-heavy.ensures.rows
-    ∙ ((λ i. selected (asked.p i) (asked.q i) c.total-total.result (zip keys (c.deref.ensures.value i)))
+    ∙ ((λ i. rows_above (asked.p i) (asked.q i) c.total-total.result (zip keys (c.deref.ensures.value i)))
     ∙ heavy_is stream c.args.options.now.p c.args.options.now.q c.total-total.result keys c.in_ok-weights.weights.items
     (rw (asked.p, asked.q) at enough) c.total-total.ensures.total c.in_ok-weights.ensures)

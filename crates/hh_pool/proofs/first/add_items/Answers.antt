@@ -2,7 +2,7 @@ use Rattle.std.proofs.Common.{◌≡◌, ◌+◌, ◌++◌, ◌∷◌, ◌∙◌
 use Rattle.std.proofs.lemmas.List.{take_more}
 use Rattle.std.proofs.lemmas.List.Sums.{sum_by_push}
 use Rattle.hh_stream.specs.Weights.{Entry, total_of}
-use Rattle.hh_countmin.specs.Table.{Grid, added, table_of}
+use Rattle.hh_countmin.specs.Table.{Grid, grid_with, table_of}
 use Rattle.hh_pool.proofs.first.add_items.Goals as goal
 
 pub loop-item-preserved : goal.loop-item-preserved
@@ -13,14 +13,14 @@ loop-item-preserved c =
     let more : take (i + 1) items ≡ take i items ++ e ∷ [] = take_more items i e c.loop-item-test.true
     ∙ ap (λ (x : Entry). take i items ++ x ∷ []) (sym c.item-item.is) in
     let item : (c.key.result.now, c.weight.result) ≡ e = λ j. (c.key.ensures j, c.weight.ensures.weight j) in
-    let after : c.add.new.self ≡ added c.loop-item.table e = c.in-Ok.ensures.added
-    ∙ ap (added c.loop-item.table) item in
+    let after : c.add.new.self ≡ grid_with c.loop-item.table e = c.in-Ok.ensures.added
+    ∙ ap (grid_with c.loop-item.table) item in
     record {
       total =
           let push = sum_by_push (λ (x : Entry). x.1) (take i items) e in
           omega (arith, ap (λ (t : Grid). t.total) after, c.loop-item.invariant.total, ap total_of more, push);
       table = λ family width xs was.
-          after ∙ (ap (λ (t : Grid). added t e) (c.loop-item.invariant.table family width xs was)
+          after ∙ (ap (λ (t : Grid). grid_with t e) (c.loop-item.invariant.table family width xs was)
           ∙ ((c.tables_follow_items.ensures family width (xs ++ take i items) [] e).1
           ∙ ap (table_of family width) (append_assoc xs (take i items) (e ∷ []) ∙ ap (λ ys. xs ++ ys) (sym more))));
     }

@@ -1,4 +1,5 @@
 use Rattle.std.proofs.Common.{arith}
+use Rattle.std.proofs.lemmas.Bool.Decides.{nat_tests}
 use Rattle.hh_saved.proofs.Fields.{IsBytes, wide8, wide32, number_takes}
 use Rattle.hh_saved.proofs.Entries.{total_takes}
 use Rattle.hh_saved.proofs.Families.{family_takes}
@@ -18,5 +19,5 @@ from_cells-requires c =
     let t2 = family_takes _ _ _ t1.0.rest_fits family.ensures.family in
     let t3 = total_takes _ _ t2.0.rest_fits total.ensures in
     let t4 = rows_take _ _ _ _ _ t3.0.rest_fits cells.ensures in
-    cells_fit family.family c.from-width.result total.total cells.cells.items (omega arith) (omega arith) t3.1
+    cells_fit family.family c.from-width.result total.total cells.cells.items (grind (arith, nat_tests)) t3.1
     (rw t2.2 t4.1)

@@ -1,13 +1,12 @@
-use Rattle.std.proofs.Common.{true}
+use Rattle.std.proofs.Common.{refl, arith}
 use Rattle.hh_counters.specs.Counters.{tally}
 use Rattle.hh_counters.proofs.Linked.{nothing_linked}
 use Rattle.hh_counters.proofs.bucket_saving.BucketSaving.new.Goals as goal
 
 pub invariant_of-result : goal.invariant_of-result
 invariant_of-result c =
-    let index = c.in_ok-index.ensures in
-    rw index.empty (nothing_linked true c.args.k c.new.result index.in_range.0 index.in_range.1 c.new.ensures.empty)
+    rw c.in-Ok.ensures.empty (nothing_linked c.args.k c.new.result (omega arith) (omega arith) c.new.ensures.empty)
 
-pub returns-clause-empty : goal.returns-clause-empty
+pub returns-in-Ok-clause-empty : goal.returns-in-Ok-clause-empty
 unfolding tally
-returns-clause-empty c = λ i. record { k = c.args.k; total = 0; counters = tally (c.in_ok-index.ensures.empty i) }
+returns-in-Ok-clause-empty c = rw c.in-Ok.ensures.empty refl

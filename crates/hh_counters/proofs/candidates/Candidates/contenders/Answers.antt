@@ -2,8 +2,7 @@ use Rattle.std.proofs.Common.{◌≡◌, length, take, get_or, sym, ap, ap₂, �
 use Rattle.std.specs.Prelude.{filter}
 use Rattle.std.specs.List.Sorted.{IsStrictlySortedBy}
 use Rattle.std.specs.Map.{keys_of}
-use Rattle.std.proofs.lemmas.List.{take_all}
-use Rattle.std.proofs.lemmas.List.{length-take}
+use Rattle.std.proofs.lemmas.List.{length-take, take_all}
 use Rattle.std.proofs.lemmas.List.Sums.{count_by-le-length, length-filter}
 use Rattle.std.proofs.lemmas.Map.Entries.{length-keys_of}
 use Rattle.indexmap.specs.IndexSet.{insert_key}

@@ -1,6 +1,6 @@
 use Rattle.std.proofs.Common.{◌≡◌, [], ◌∷◌, take, get_or, sym, ap, ◌∙◌, arith}
 use Rattle.hh_stream.specs.Weights.{Entry}
-use Rattle.hh_counters.specs.Report.{counted}
+use Rattle.hh_counters.specs.Report.{counts_with}
 use Rattle.std.proofs.lemmas.List.{get_or_default}
 use Rattle.std.proofs.lemmas.List.Sums.{sum_by_more_le}
 use Rattle.hh_counters.proofs.Counting.{counted_none, counted-le, count_turn}
@@ -17,16 +17,8 @@ count-requires-clause-bounded c = λ p d lt.
     let more = sum_by_more_le (λ (e : Entry). e.1) c.args.items.now i item c.loop-item-test.true in
     let now = counted-le c.args.self.now (take i c.args.items.now) ns p c.requires.lengths in
     let room = c.requires.bounded p 0 (omega (arith, lt, c.loop-item.auto.numbers)) in
-    omega (
-      arith,
-      get_or_default c.loop-item.numbers p d 0 lt,
-      ap (λ ns. get_or ns p 0) c.loop-item.invariant,
-      now,
-      more,
-      room,
-      ap (λ (e : Entry). e.1) c.item-item.is,
-      c.weight.ensures.weight,
-    )
+    let number = get_or_default c.loop-item.numbers p d 0 lt ∙ ap (λ ns. get_or ns p 0) c.loop-item.invariant in
+    omega (arith, number, now, more, room, ap (λ (e : Entry). e.1) c.item-item.is, c.weight.ensures.weight)
 
 pub loop-item-preserved : goal.loop-item-preserved
 loop-item-preserved c =
@@ -37,4 +29,4 @@ loop-item-preserved c =
     let same : taken ≡ item = λ j. (c.key.ensures j, c.weight.ensures.weight j) in
     count_turn ks c.args.items.now c.args.numbers.now c.loop-item.numbers c.count.new.numbers i item
     c.loop-item-test.true c.item-item.is c.loop-item.invariant
-    (c.count.ensures ∙ ap (λ (e : Entry). counted ks (e ∷ []) c.loop-item.numbers) same)
+    (c.count.ensures ∙ ap (λ (e : Entry). counts_with ks (e ∷ []) c.loop-item.numbers) same)

@@ -1,4 +1,5 @@
 use Rattle.std.proofs.Common.{◌≡◌, ℕ, List, ap, sym, ap₂, ◌∙◌, arith}
+use Rattle.std.proofs.lemmas.Bool.Decides.{nat_tests}
 use Rattle.rand_pcg.specs.Lcg.{Lcg}
 use Rattle.rand_pcg.specs.Pcg.{pcg64}
 use Rattle.hh_countmin.specs.Family.{factor_of}
@@ -8,7 +9,7 @@ use Rattle.hh_countmin.proofs.family.Family.draw.Goals as goal
 pub invariant_of-result : goal.invariant_of-result
 invariant_of-result c =
     rw (c.factor-z.ensures, c.in-Ok.ensures) (
-      drawn_is_family c.next_word.result c.args.depth c.next_word.new.self (omega arith, omega arith),
+      drawn_is_family c.next_word.result c.args.depth c.next_word.new.self (grind (arith, nat_tests)),
       rw (sym c.factor-z.ensures) c.powers_of.ensures,
     )
 

@@ -1,5 +1,5 @@
 use Rattle.std.proofs.Common.{◌≡◌, ◌-◌}
-use Rattle.hh_countmin.specs.Family.{row_of, cell_of_fingerprint}
+use Rattle.hh_countmin.specs.Family.{coefficients_of, cell_of_fingerprint}
 use Rattle.hh_countmin.specs.Table.{cell_at, least_up_to}
 use Rattle.hh_countmin.proofs.table.Table.estimate.Given as goal
 
@@ -7,4 +7,4 @@ use Rattle.hh_countmin.proofs.table.Table.estimate.Given as goal
 abbrev pub invariant-loop-r : goal.invariant-loop-r
 invariant-loop-r l =
     l.least ≡ least_up_to (λ q. cell_at l.self.width l.self.cells q
-    (cell_of_fingerprint (row_of l.self.family q) l.fingerprint l.self.width)) (l.r - 1)
+    (cell_of_fingerprint (coefficients_of l.self.family q) l.fingerprint l.self.width)) (l.r - 1)

@@ -1,4 +1,5 @@
 use Rattle.std.proofs.Common.{replicate, ap, ◌*◌, ◌∙◌, arith}
+use Rattle.std.proofs.lemmas.Bool.Decides.{nat_tests}
 use Rattle.hh_countmin.proofs.Tables.{empty_fits}
 use Rattle.hh_countmin.proofs.table.Table.new.Goals as goal
 
@@ -7,4 +8,4 @@ invariant_of-result c =
     let width = c.args.width in
     let zeros =
     c.in-Ok.ensures.items_if_clones_equal (λ y e. e) ∙ ap (λ n. replicate (n * width) 0) c.depth.ensures.depth in
-    rw zeros (empty_fits c.args.family width (omega arith, omega arith))
+    rw zeros (empty_fits c.args.family width (grind (arith, nat_tests)))

@@ -1,5 +1,5 @@
 use Rattle.std.proofs.Common.{◌≡◌, ◌+◌, ◌∙◌, length, get_or, ap, arith}
-use Rattle.hh_shared.specs.Tally.{added}
+use Rattle.hh_shared.specs.Tally.{cell_total}
 use Rattle.hh_pool.specs.Progress.{first_pieces}
 use Rattle.hh_pool.proofs.Pieces.{length-pieces_of}
 use Rattle.hh_pool.proofs.Tried.{first_begins, first_ends, claim-behind_cell}
@@ -30,7 +30,8 @@ returns-clause-done g c =
     omega (arith, length-pieces_of c.args.self.now.cutting.now c.args.self.now.stream.now) in
     let all = rw tried at c.loop-piece.invariant.so_far in
     first_ends c.cells_are_cell_sums.ensures pieces options seat _ _ made.table c.add_numbers.ensures.unchanged
-    (λ cell. c.add_numbers.ensures.added cell ∙ ap (λ xs. added cell seat.adds + get_or xs cell 0) c.cells.ensures) all
+    (λ cell. c.add_numbers.ensures.added cell
+    ∙ ap (λ xs. cell_total cell seat.adds + get_or xs cell 0) c.cells.ensures) all
 
 pub returns-clause-all_done : goal.returns-clause-all_done
 returns-clause-all_done g c = (returns-clause-done g c).work

@@ -1,7 +1,7 @@
 use Rattle.std.proofs.Common.{◌<◌, ◌∙◌, List, length, take, ap, arith}
 use Rattle.hh_stream.specs.Weights.{Entry}
 use Rattle.hh_stream.specs.Cuttings.{whole_of}
-use Rattle.hh_counters.specs.Report.{counted}
+use Rattle.hh_counters.specs.Report.{counts_with}
 use Rattle.hh_pool.specs.Progress.{second_pieces}
 use Rattle.hh_pool.proofs.Pieces.{length-pieces_of}
 use Rattle.hh_pool.proofs.Tried.{weights_fit}
@@ -21,4 +21,4 @@ returns g c =
     let within : c.args.piece < length pieces =
     omega (arith, c.requires.piece, length-pieces_of c.args.self.now.cutting.now c.args.self.now.stream.now) in
     weights-more pieces keys c.args.piece c.args.weights.now _ within c.requires.before (c.count_piece.ensures
-    ∙ ap (λ (xs : List Entry). counted keys xs c.args.weights.now) c.piece-items.ensures.piece)
+    ∙ ap (λ (xs : List Entry). counts_with keys xs c.args.weights.now) c.piece-items.ensures.piece)

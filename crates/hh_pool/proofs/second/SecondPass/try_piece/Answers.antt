@@ -1,6 +1,6 @@
 use Rattle.std.proofs.Common.{◌∙◌, List, ap}
 use Rattle.hh_stream.specs.Weights.{Entry}
-use Rattle.hh_counters.specs.Report.{counted}
+use Rattle.hh_counters.specs.Report.{counts_with}
 use Rattle.hh_pool.specs.Passes.{items_at}
 use Rattle.hh_pool.specs.Progress.{second_pieces}
 use Rattle.hh_pool.proofs.Pieces.{distinct_pieces}
@@ -23,7 +23,7 @@ returns-then-claim-clause-after g c =
     let stream = c.args.self.now.stream.now in
     let distinct = distinct_pieces _ stream _ _ c.requires.claims c.if-claim.ensures.distinct in
     let numbers = c.count_piece.ensures
-    ∙ ap (λ (xs : List Entry). counted keys xs c.args.numbers.now) c.piece-items.ensures.piece in
+    ∙ ap (λ (xs : List Entry). counts_with keys xs c.args.numbers.now) c.piece-items.ensures.piece in
     second_claimed pieces keys c.args.piece c.args.seat.now _ _ _ c.if-claim.ensures.claimed_or_met distinct numbers
     c.requires.before
 

@@ -1,6 +1,6 @@
 use Rattle.std.proofs.Common.{◌≡◌, ◌+◌, ◌∙◌, length, get_or, replicate, ap, arith}
 use Rattle.std.proofs.lemmas.Grind.{common_steps}
-use Rattle.hh_shared.specs.Tally.{added}
+use Rattle.hh_shared.specs.Tally.{cell_total}
 use Rattle.hh_pool.specs.Progress.{second_pieces}
 use Rattle.hh_pool.proofs.Pieces.{length-pieces_of}
 use Rattle.hh_pool.proofs.Tried.{second_begins, second_ends, claim-behind_number}
@@ -31,7 +31,7 @@ returns-clause-done g c =
     omega (arith, length-pieces_of c.args.self.now.cutting.now c.args.self.now.stream.now) in
     let all = rw tried at c.loop-piece.invariant.so_far in
     second_ends pieces keys seat _ numbers c.add_numbers.ensures.unchanged (λ cell. c.add_numbers.ensures.added cell
-    ∙ ap (λ xs. added cell seat.adds + get_or xs cell 0) c.deref.ensures.value) all
+    ∙ ap (λ xs. cell_total cell seat.adds + get_or xs cell 0) c.deref.ensures.value) all
 
 pub returns-clause-all_done : goal.returns-clause-all_done
 returns-clause-all_done g c = (returns-clause-done g c).work

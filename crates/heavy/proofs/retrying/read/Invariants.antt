@@ -1,8 +1,0 @@
--- An interrupted read consumes nothing, and the buffer keeps its length.
-use Rattle.std.proofs.Common.{◌≡◌, length}
-use Rattle.std.specs.Io.KnownBytes.{Keeps}
-use Rattle.heavy.proofs.retrying.read.Given as goal
-
-abbrev pub invariant-loop : goal.invariant-loop
-invariant-loop g l = (length l.buf ≡ length l.initial.buf)
-    × Keeps (g.R.Read.remaining l.initial.reader) (g.R.Read.remaining l.reader)

@@ -1,0 +1,110 @@
+-- The stream that a text of records writes.
+use Rattle.std.specs.Prelude.{◌≡◌, ◌==◌, ◌&&◌, ◌+◌, ◌-◌, ◌*◌, not, nat_le, ℕ, Bool, List, [], ◌∷◌, ◌++◌, length, fold, Option, Some, None, IfSome, Result, Ok, Err, ⊤, if◌then◌else◌}
+use Rattle.std.specs.List.{list_all}
+use Rattle.csv.specs.Reading.{default_config, records, strip_bom}
+use Rattle.csv.specs.declared.error.ErrorKind.{ErrorKind}
+use Rattle.csv.specs.declared.error.ErrorKind.TheVariants as kind
+use Rattle.hh_stream.specs.Weights.{Bytes, Entry, total_of, max_total, max_key_len}
+use Rattle.hh_records.specs.declared.records.BadRecordCause.{BadRecordCause}
+use Rattle.hh_records.specs.declared.records.BadRecordCause.TheVariants as cause
+use Rattle.hh_records.specs.declared.records.ReadError.{ReadError}
+use Rattle.hh_records.specs.declared.records.ReadError.TheVariants as read
+use Rattle.hh_records.specs.declared.records.RecordFault.{RecordFault}
+use Rattle.hh_records.specs.declared.records.RecordFault.TheVariants as fault
+
+-- the fields of a record
+abbrev pub Fields : Type 0
+Fields = List (List ℕ)
+
+abbrev pub is_digit : ℕ → Bool
+is_digit b = nat_le 48 b && nat_le b 57
+
+-- a field of 1 to so many digits
+abbrev pub is_number : ℕ → List ℕ → Bool
+is_number most f = not (length f == 0) && nat_le (length f) most && list_all is_digit f
+
+-- a weight's field has 1 to 20 digits
+abbrev pub is_weight : List ℕ → Bool
+is_weight f = is_number 20 f
+
+-- the number that digits write
+abbrev pub value_of : List ℕ → ℕ
+value_of f = fold (λ a d. a * 10 + (d - 48)) 0 f
+
+-- a weight after a total of t, or why it can't be added
+abbrev pub weight_or_cause : ℕ → ℕ → Result ℕ BadRecordCause
+weight_or_cause t w =
+    if w == 0 then Err cause.ZeroWeight
+    else if nat_le (t + w) max_total then Ok w
+    else Err cause.TotalTooLarge
+
+-- the weight that a field writes, and 1 where there is none
+abbrev pub weight_after : ℕ → Option (List ℕ) → Result ℕ BadRecordCause
+weight_after t None = weight_or_cause t 1
+weight_after t (Some f) = if is_weight f then weight_or_cause t (value_of f) else Err cause.BadWeight
+
+-- a record of one or two fields, as the key and the weight's field
+abbrev pub parts_of : Fields → Option (List ℕ × Option (List ℕ))
+parts_of [] = None
+parts_of (k ∷ []) = Some (k, None)
+parts_of (k ∷ f ∷ []) = Some (k, Some f)
+parts_of (k ∷ f ∷ g ∷ rest) = None
+
+abbrev pub item_of_pair : Bytes → Result ℕ BadRecordCause → Result Entry BadRecordCause
+item_of_pair k (Ok w) = Ok (k, w)
+item_of_pair k (Err c) = Err c
+
+abbrev pub item_of_parts : ℕ → Option (List ℕ × Option (List ℕ)) → Result Entry BadRecordCause
+item_of_parts t None = Err cause.FieldCount
+item_of_parts t (Some p) =
+    if length p.0 == 0 then Err cause.EmptyKey
+    else if nat_le (length p.0) max_key_len then item_of_pair p.0 (weight_after t p.1)
+    else Err cause.KeyTooLong
+
+-- the item of a record after a total of t, or the first test that it fails
+abbrev pub item_of_fields : ℕ → Fields → Result Entry BadRecordCause
+item_of_fields t r = item_of_parts t (parts_of r)
+
+-- a stream, or the number and the cause of the first record that fails
+abbrev pub Reading : Type 0
+Reading = Result (List Entry) (ℕ × BadRecordCause)
+
+abbrev pub reading_next : Result Entry BadRecordCause → ℕ → (Entry → Reading) → Reading
+reading_next (Ok p) n more = more p
+reading_next (Err c) n more = Err (n, c)
+
+-- the items xs, and then those of the records from number n on
+unfoldable pub items_from : ℕ → List Entry → List Fields → Reading
+items_from n xs [] = Ok xs
+items_from n xs (r ∷ rs) =
+    reading_next (item_of_fields (total_of xs) r) n (λ p. items_from (n + 1) (xs ++ p ∷ []) rs)
+
+-- what a text reads as, over all the records that csv reads from it
+abbrev pub stream_of : List ℕ → Reading
+stream_of text = items_from 1 [] (records default_config (strip_bom text))
+
+-- what all the bytes that a reader had left read as, where they are known
+abbrev pub ReadsAs : Option (List ℕ) → Reading → Type 0
+ReadsAs left reading = IfSome left (λ text. stream_of text ≡ reading)
+
+-- what a refusal tells of the reader's bytes, where these are known
+abbrev pub ReadRefused : Option (List ℕ) → ReadError → Type 0
+ReadRefused left read.ReadFault = ⊤
+ReadRefused left (read.BadRecord n c) = ReadsAs left (Err (n, c))
+ReadRefused left read.Memory = ⊤
+
+-- how a fault of csv's reader ends the reading: its want of memory is Memory, and any other fault
+-- is one of the reader underneath
+abbrev pub fault_of : ErrorKind → ReadError
+fault_of kind.OutOfMemory = read.Memory
+fault_of _ = read.ReadFault
+
+-- what a refusal tells of a record after a total of t
+abbrev pub RecordRefused : ℕ → Fields → RecordFault → Type 0
+RecordRefused t r (fault.Bad c) = item_of_fields t r ≡ Err c
+RecordRefused t r fault.Memory = ⊤
+
+-- the refusal that tells a record's number with its fault
+abbrev pub numbered_fault : ℕ → RecordFault → ReadError
+numbered_fault n (fault.Bad c) = read.BadRecord n c
+numbered_fault n fault.Memory = read.Memory

@@ -1,0 +1,21 @@
+//! Records in and rows out, as CSV text: records of keys and weights are read one by one, their
+//! items are handed to what takes them, and rows are written to a sink.
+//!
+//! `hh_` is heavy hitters, the frequent keys.
+#![tactic(auto)]
+
+mod counts;
+pub mod laws;
+mod records;
+mod retrying;
+mod rows;
+mod sink;
+mod taking;
+mod threshold;
+
+pub use counts::Counts;
+pub use records::{BadRecordCause, ReadError, read_items, read_stream};
+pub use rows::{ReportFault, condensed_text, report_text, write_report};
+pub use sink::{Out, Sink, SinkFault, WriteFault, put};
+pub use taking::TakeItems;
+pub use threshold::{Share, threshold_of};
