@@ -63,14 +63,19 @@ pub const SEED: Number = Number {
     default: 0,
 };
 
+/// The option with this name and help.
+fn option<'a>(alloc: Global, name: &'a str, help: &'a str) -> Arg<'a>
+    ensures { result.global ≡ false }
+{
+    Arg::new(alloc, name).long(name).help(help)
+}
+
 impl Number {
     fn argument<'a>(self, alloc: Global) -> Arg<'a>
         ensures { result.global ≡ false }
     {
-        Arg::new(alloc, self.name)
-            .long(self.name)
+        option(alloc, self.name, self.help)
             .value_name("N")
-            .help(self.help)
             .value_parser(value_parser!(u64))
     }
 
@@ -94,11 +99,10 @@ fn described<'a>(alloc: Global, name: &'a str, help: Help) -> Command<'a>
 fn reader<'a>(alloc: Global, name: &'a str, help: Help) -> Result<Command<'a>, AllocError>
     ensures { IfOk result (λ c. (fields_of c).has_globals ≡ false) }
 {
-    let progress = Arg::new(alloc, PROGRESS)
-        .long(PROGRESS)
+    let told = "Tell on standard error how far standard input is read, about once a second";
+    let progress = option(alloc, PROGRESS, told)
         .action(ArgAction::SetTrue)
-        .display_order(LAST)
-        .help("Tell on standard error how far standard input is read, about once a second");
+        .display_order(LAST);
     described(alloc, name, help).arg(progress)
 }
 
@@ -128,13 +132,11 @@ fn with_workers<'a>(alloc: Global, command: Command<'a>) -> Result<Command<'a>, 
     ensures { (fields_of command.entry).has_globals ≡ false
         → IfOk result (λ c. (fields_of c).has_globals ≡ false) }
 {
-    let tree = Arg::new(alloc, "tree").long("tree").value_name("TREE").help(
-        "How to merge the pieces: balanced, chain or as in ((0 1) 2) [default: balanced]",
-    );
+    let shapes = "How to merge the pieces: balanced, chain or as in ((0 1) 2) [default: balanced]";
     command
         .arg(WORKERS.argument(alloc))?
         .arg(PIECES.argument(alloc))?
-        .arg(tree)
+        .arg(option(alloc, "tree", shapes).value_name("TREE"))
 }
 
 /// The same command, with the options that say which keys are heavy.
@@ -142,10 +144,9 @@ fn with_share<'a>(alloc: Global, command: Command<'a>) -> Result<Command<'a>, Al
     ensures { (fields_of command.entry).has_globals ≡ false
         → IfOk result (λ c. (fields_of c).has_globals ≡ false) }
 {
-    let threshold = Arg::new(alloc, "threshold")
-        .long("threshold")
+    let share = "Keys above this share of the total are heavy, as 1/50 [default: 1/(k+1)]";
+    let threshold = option(alloc, "threshold", share)
         .value_name("P/Q")
-        .help("Keys above this share of the total are heavy, as 1/50 [default: 1/(k+1)]")
         .long_help(
             "Keys above this share of the total weight are heavy, from 1/(k+1) to 1/1,
 with P and Q up to 4294967296 [default: 1/(k+1)]",
@@ -165,13 +166,10 @@ fn report_command<'a>(alloc: Global) -> Result<Command<'a>, AllocError>
 fn summarise_command<'a>(alloc: Global) -> Result<Command<'a>, AllocError>
     ensures { IfOk result (λ c. (fields_of c).has_globals ≡ false) }
 {
-    let method = Arg::new(alloc, "method")
-        .long("method")
-        .value_name("METHOD")
-        .help("How: mg (Misra-Gries) or ss (Space-Saving), with the same result [default: mg]");
+    let methods = "How: mg (Misra-Gries) or ss (Space-Saving), with the same result [default: mg]";
     reader(alloc, "summarise", SUMMARISE)?
         .arg(K.argument(alloc))?
-        .arg(method)
+        .arg(option(alloc, "method", methods).value_name("METHOD"))
 }
 
 fn table_command<'a>(alloc: Global) -> Result<Command<'a>, AllocError>

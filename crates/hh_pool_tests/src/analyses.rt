@@ -3,6 +3,7 @@
 use crate::fixtures::{
     analyse_stream, four_items, is_of_four_items, options, plain_family, stream_of,
 };
+use hh_counters::Heavy;
 use hh_pool::OptionsFault::{BadK, BadThreshold, BadWidth, BadWorkers};
 use hh_pool::{MAX_WORKERS, OpenGate, Options, Outcome, Plan, RunError};
 use hh_stream::{Cutting, Key};
@@ -83,12 +84,11 @@ fn analyses_reach_their_limits(rt: HostRuntime) -> Result<(), Fail> {
     Ok(())
 }
 
-// How many heavy keys there are, the counter of a, the total and the slack.
-fn numbers_of(alloc: Global, outcome: &Outcome) -> Result<(usize, u64, u64, u64), Fail> {
+// How many heavy keys there are, the counter of this key, the total and the slack.
+fn numbers_of(outcome: &Outcome, key: &Key) -> (usize, u64, u64, u64) {
     let summary = &outcome.summary;
-    let counter = summary.get(&Key::new(alloc, b"a")?);
     let rows = outcome.heavy.len();
-    Ok((rows, counter, summary.total(), summary.slack()))
+    (rows, summary.get(key), summary.total(), summary.slack())
 }
 
 #[test]
@@ -98,15 +98,26 @@ fn counters_follow_the_plan(rt: HostRuntime) -> Result<(), Fail> {
     let stream = stream_of(alloc, &items)?;
     let cutting = Cutting::even(alloc, 3, 3)?;
     let options = options(alloc, 1, 2)?;
+    let key = Key::new(alloc, b"a")?;
     for (text, counter, slack) in [(b"((0 1) 2)", 0, 2), (b"(0 (1 2))", 2, 1)] {
         let plan = Plan::parse(alloc, text, 3)?;
         let outcome = analyse_stream(&rt, alloc, &stream, &cutting, &plan, &options, &OpenGate)?;
-        assert_eq!(rt; numbers_of(alloc, &outcome)?, (0, counter, 4, slack));
+        assert_eq!(rt; numbers_of(&outcome, &key), (0, counter, 4, slack));
     }
     Ok(())
 }
 
-// The report of these items for p/q, as "a 6 b 3 ".
+// The rows of a report, as "a 6 b 3 ".
+fn rows_text(alloc: Global, rows: &[Heavy]) -> Result<String, Fail> {
+    let mut text = String::new(alloc);
+    for row in rows {
+        let key = str::from_utf8(row.key.bytes()).unwrap_or("no text");
+        write!(text, "{key} {} ", row.weight)?;
+    }
+    Ok(text)
+}
+
+// The report of these items for p/q.
 fn report_above<R: Threads + Wait + Abort + Sync>(
     rt: &R,
     alloc: Global,
@@ -120,14 +131,7 @@ fn report_above<R: Threads + Wait + Abort + Sync>(
     let plan = Plan::chain(alloc, 2)?;
     let options = Options::new(k, p, q, 2, 4, plain_family(alloc)?)?;
     let outcome = analyse_stream(rt, alloc, &stream, &cutting, &plan, &options, &OpenGate)?;
-    let mut text = String::new(alloc);
-    for row in &outcome.heavy {
-        for byte in row.key.bytes() {
-            text.push(char::from(*byte))?;
-        }
-        write!(text, " {} ", row.weight)?;
-    }
-    Ok(text)
+    rows_text(alloc, &outcome.heavy)
 }
 
 // Half of a b is no more than half of it.
