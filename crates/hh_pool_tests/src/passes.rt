@@ -1,18 +1,22 @@
 //! The worked rows on the two passes, by two seats one after the other, whose gate hears the number
 //! of the worker that does all pieces.
 
-ghost use Rattle.std.specs.Prelude.{◌≡◌};
+ghost use Rattle.std.specs.Prelude.{◌≡◌, length, sum};
 
 use crate::fixtures::{four_items, plain_family};
 use crate::meetings::Meeting;
 use hh_counters::{Candidates, Summary};
 use hh_pool::{Options, first_pass, second_pass};
 use hh_shared::{SharedSums, SumSeat};
-use hh_stream::{Cutting, Key};
+use hh_stream::{Cutting, Key, Stream};
 use std::alloc::Global;
 use std::process::Abort;
 use std::sync::atomic::Ordering::SeqCst;
 use std::test::Fail;
+
+fn counter_of(alloc: Global, summary: &Summary, key: &[u8]) -> Result<u64, Fail> {
+    Ok(summary.get(&Key::new(alloc, key)?))
+}
 
 // Whether the summary has this number and these two counters alone.
 fn has_counters(
@@ -23,8 +27,8 @@ fn has_counters(
     second: (&[u8], u64),
 ) -> Result<bool, Fail> {
     let summary = &found.1;
-    let one = summary.get(&Key::new(alloc, first.0)?);
-    let other = summary.get(&Key::new(alloc, second.0)?);
+    let one = counter_of(alloc, summary, first.0)?;
+    let other = counter_of(alloc, summary, second.0)?;
     Ok((found.0, summary.len(), one, other) == (number, 2, first.1, second.1))
 }
 
@@ -43,28 +47,61 @@ fn close_both(
     Ok(sums.close(one)?)
 }
 
+// What each of two seats finds in the first pass, one after the other, and then the cells of both.
+fn first_of_both(
+    rt: &impl Abort,
+    alloc: Global,
+    stream: &Stream,
+    cutting: &Cutting,
+    gate: &Meeting,
+) -> Result<(Vec<(usize, Summary)>, Vec<(usize, Summary)>, Vec<u64>), Fail>
+    requires same_len { sum cutting.now ≡ length stream.now }
+{
+    let family = plain_family(alloc)?;
+    let cells = (family.depth() * 4) as usize;
+    let options = Options::new(2, 1, 3, 2, 4, family)?;
+    let (sums, mut one) = SharedSums::new(alloc, cutting.count(), cells)?;
+    let other = sums.split(&mut one);
+    let (one, found) = first_pass(alloc, &sums, one, stream, cutting, &options, gate, 5)?;
+    let (other, none) = first_pass(alloc, &sums, other, stream, cutting, &options, gate, 1)?;
+    Ok((found, none, close_both(rt, sums, one, other)?))
+}
+
 #[test]
 fn first_of_two_seats_summarises_all_pieces(rt: HostRuntime) -> Result<(), Fail> {
     let alloc = rt.alloc();
     let stream = four_items(alloc)?;
     let cutting = Cutting::even(alloc, stream.len(), 2)?;
     assert_eq!(rt; cutting.len(), stream.len());
-    let family = plain_family(alloc)?;
-    let cells = (family.depth() * 4) as usize;
-    let options = Options::new(2, 1, 3, 2, 4, family)?;
-    let (sums, mut one) = SharedSums::new(alloc, cutting.count(), cells)?;
-    let other = sums.split(&mut one);
     let gate = Meeting::new(6, 0, 0, 0);
-    let (one, found) = first_pass(alloc, &sums, one, &stream, &cutting, &options, &gate, 5)?;
-    let (other, none) = first_pass(alloc, &sums, other, &stream, &cutting, &options, &gate, 1)?;
+    let (found, none, cells) = first_of_both(&rt, alloc, &stream, &cutting, &gate)?;
     assert_eq!(rt; gate.first.workers.load(SeqCst), 2 << 40);
     assert_eq!(rt; gate.first.pieces.load(SeqCst), 0x0101);
     assert_eq!(rt; (found.len(), none.len()), (2, 0));
     assert!(rt; has_counters(alloc, &found[0], 0, (b"a", 5), (b"b", 3))?);
     assert!(rt; has_counters(alloc, &found[1], 1, (b"a", 1), (b"c", 2))?);
-    let cells = close_both(&rt, sums, one, other)?;
     assert_eq!(rt; cells.as_slice(), [2, 0, 6, 3, 0, 2, 3, 6].as_slice());
     Ok(())
+}
+
+// The counts of both seats, once each has run the second pass, one after the other.
+fn second_of_both(
+    rt: &impl Abort,
+    alloc: Global,
+    stream: &Stream,
+    cutting: &Cutting,
+    candidates: &Candidates,
+    gate: &Meeting,
+) -> Result<Vec<u64>, Fail>
+    requires same_len { sum cutting.now ≡ length stream.now }
+    requires two { length candidates.now ≡ 2 }
+{
+    let (sums, mut one) = SharedSums::new(alloc, cutting.count(), candidates.len())?;
+    let two = sums.split(&mut one);
+    let one = second_pass(alloc, &sums, one, stream, cutting, candidates, gate, 6)?;
+    let two = second_pass(alloc, &sums, two, stream, cutting, candidates, gate, 1)?;
+    assert!(rt; !sums.holds_all(&two));
+    close_both(rt, sums, one, two)
 }
 
 #[test]
@@ -75,15 +112,10 @@ fn first_of_two_seats_counts_all_candidates(rt: HostRuntime) -> Result<(), Fail>
     assert_eq!(rt; cutting.len(), stream.len());
     let candidates = Candidates::of(alloc, &Summary::of_items(alloc, 2, stream.items())?)?;
     assert_eq!(rt; candidates.len(), 2);
-    let (sums, mut one) = SharedSums::new(alloc, cutting.count(), candidates.len())?;
-    let two = sums.split(&mut one);
     let gate = Meeting::new(7, 0, 0, 0);
-    let one = second_pass(alloc, &sums, one, &stream, &cutting, &candidates, &gate, 6)?;
-    let two = second_pass(alloc, &sums, two, &stream, &cutting, &candidates, &gate, 1)?;
+    let counts = second_of_both(&rt, alloc, &stream, &cutting, &candidates, &gate)?;
     assert_eq!(rt; gate.second.workers.load(SeqCst), 2 << 48);
     assert_eq!(rt; gate.second.pieces.load(SeqCst), 0x0101);
-    assert!(rt; !sums.holds_all(&two));
-    let counts = close_both(&rt, sums, one, two)?;
     assert_eq!(rt; counts.as_slice(), [6, 3].as_slice());
     Ok(())
 }
