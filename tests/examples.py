@@ -1,15 +1,14 @@
 #!/usr/bin/env python3
-"""Runs the examples of the program's help, of the man page, of the README and of examples/machines, and compares what they
-print.
+"""Runs the examples of the program's help, of the man page and of the pages, and compares what they print.
 
 An example is a block of lines indented by four spaces (in the man page, between .EX and .EE) with a line that begins
 with `$ `: what stands behind it is run by bash, and has to print the lines below it and nothing else. The blocks of a
 page are run in order in one folder, which has the folder examples/, the program as `heavy` and as bin/heavy, and a
 stand-in for ssh that runs the words here.
 
-Of other blocks, one that imports is Python over the library for C, which is run where that was built, or all that it
-stands on; a drawing needs nothing; and each line of any other begins with a command, which has to be there with the
-options that are shown.
+Of other blocks, that of python/README.md is Python over the library for C, which is run where that was built, or all
+that it stands on; Rattle in the README stands in the sources, word for word; a drawing needs nothing; and each line of any
+other begins with a command, which has to be there with the options that are shown.
 
 usage: tests/examples.py
 """
@@ -27,6 +26,7 @@ import programs
 # what an example may use where it is installed, by the words that tell so
 TOOLS = {r"\bawk\b": "awk", r"\bcut\b": "cut", r"one_file\.sh|many_machines\.sh": "parallel", r"over_dask\.py": "dask"}
 PAGES = ["README.md", *sorted(str(page.relative_to(programs.TOP)) for page in programs.TOP.glob("examples/*/README.md"))]
+FENCED = re.compile(r"^```rust\n(.*?)^```$", re.MULTILINE | re.DOTALL)
 SSH = '#!/bin/sh\nshift\nexec sh -c "$*"\n'
 DAYS = {"monday.csv": b"10.0.0.1,5\n10.0.0.2,1\n", "tuesday.csv": b"10.0.0.1,2\n"}
 # what the lines of Python over these days give
@@ -42,14 +42,14 @@ def installed(tool: str) -> bool:
 
 def blocks_of(text: str) -> list[list[str]]:
     """The blocks of a text that have a line to type, without the indentation."""
-    blocks = re.findall(r"(?:^    .*\n?)+", text, re.MULTILINE)
+    blocks = re.findall(r"(?:^    .*\n?)+", FENCED.sub("", text), re.MULTILINE)
     lines = [[line[4:] for line in block.splitlines()] for block in blocks]
     return [block for block in lines if any(line.startswith("$ ") for line in block)]
 
 
 def others_of(text: str) -> list[list[str]]:
     """The other blocks, each with those that only blank lines keep from it."""
-    blocks = re.findall(r"^    .*\n(?:^(?:    .*)?\n(?=(?:\n*)    |\n))*(?:^    .*\n)?", text, re.MULTILINE)
+    blocks = re.findall(r"^    .*\n(?:^(?:    .*)?\n(?=(?:\n*)    |\n))*(?:^    .*\n)?", FENCED.sub("", text), re.MULTILINE)
     lines = [[line[4:] for line in block.splitlines() if line] for block in blocks]
     return [block for block in lines if not any(line.startswith("$ ") for line in block)]
 
@@ -134,7 +134,7 @@ def try_commands(tally: programs.Tally) -> None:
     """What the pages show beside examples."""
     for page in ["CONTRIBUTING.md", *PAGES]:
         for block in others_of((programs.TOP / page).read_text()):
-            if any(line.startswith("import ") for line in block) or any("──" in line for line in block):
+            if any("──" in line for line in block):
                 continue
             for line in block:
                 tally.check(f"{page}: {line}", not command_faults(line), command_faults(line))
@@ -142,12 +142,27 @@ def try_commands(tally: programs.Tally) -> None:
         tally.check(f"{line!r} is not found to be there", command_faults(line))
 
 
+def without_spaces(text: str) -> str:
+    return re.sub(r",?\s+|,(?=\))", "", text)
+
+
+def try_rattle(tally: programs.Tally) -> None:
+    """The README's Rattle stands in the sources."""
+    shown = FENCED.findall((programs.TOP / "README.md").read_text())
+    sources = "".join(without_spaces(path.read_text()) for path in sorted(programs.TOP.glob("crates/*/src/**/*.rt")))
+    tally.check("the README has Rattle", len(shown) == 1, shown)
+    for text in shown:
+        tally.check("the README's Rattle is in the sources", without_spaces(text) in sources, text)
+        drifted = text.replace("≢", "≡")
+        tally.check("Rattle that is not in the sources", without_spaces(drifted) not in sources, drifted)
+
+
 def try_python(tally: programs.Tally) -> None:
-    """The README's lines of Python, each with what it gives."""
-    blocks = [block for block in others_of((programs.TOP / "README.md").read_text()) if "import heavy" in block]
-    tally.check("the README has lines of Python", len(blocks) == 1, blocks)
+    """The lines of Python of python/README.md, each with what it gives."""
+    blocks = [block for block in others_of((programs.TOP / "python" / "README.md").read_text()) if "import heavy" in block]
+    tally.check("python/README.md has lines of Python", len(blocks) == 1, blocks)
     if not programs.has_library():
-        print("examples: the README's lines of Python are left out, for want of the library for C", flush=True)
+        print("examples: the lines of Python are left out, for want of the library for C", flush=True)
         return
     with tempfile.TemporaryDirectory() as room:
         ended = programs.install_library(f"{room}/usr", programs.compilers()[0])
@@ -164,9 +179,9 @@ def try_python(tally: programs.Tally) -> None:
         env = {**os.environ, "LIBHEAVY": f"{room}/usr/lib/libheavy.so.1", "PYTHONPATH": str(programs.TOP / "python")}
         ended = programs.run([sys.executable, "-B", "-c", program], env=env, cwd=room)
         printed = dict(zip(values, ended.out.decode().splitlines()))
-        tally.check("the README's lines of Python", ended.status == 0, ended)
+        tally.check("the lines of Python", ended.status == 0, ended)
         for value, given in GIVEN.items():
-            tally.check(f"{value} of the README", printed.get(value) == repr(given), ended)
+            tally.check(f"{value} of python/README.md", printed.get(value) == repr(given), ended)
 
 
 def main() -> None:
@@ -178,6 +193,7 @@ def main() -> None:
         faults = faults_of(blocks)
         tally.check(f"the examples of {page}", not faults, "; ".join(faults))
     try_commands(tally)
+    try_rattle(tally)
     try_python(tally)
     drifted = [[*block, "one line more"] for block in found["heavy --help"]]
     tally.check("an example that shows too much", faults_of(drifted), "not found")

@@ -17,7 +17,7 @@ from pathlib import Path
 
 import programs
 
-# The program heavy_memory marks a call by requests of these sizes.
+# The program heavy_oom marks a call by requests of these sizes.
 MARKS = {"REFUSE_FROM": "100003", "REFUSE_TO": "100019"}
 
 # The public calls that can answer Memory, by crate.
@@ -219,7 +219,7 @@ def try_commands(refusing: Refusing, program: str, room: str) -> int:
 def main() -> None:
     with tempfile.TemporaryDirectory() as room:
         refusing = Refusing(programs.preloaded("refuse.c", room))
-        memory = programs.built("heavy_memory")
+        memory = programs.built("heavy_oom")
         calls = try_calls(refusing, memory)
         try_many_keys(refusing, memory)
         try_first_piece(refusing, memory)

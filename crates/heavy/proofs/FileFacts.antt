@@ -7,7 +7,7 @@ use Rattle.std.proofs.lemmas.Bool.Decides.{eqb_tells, leb_tells, not_from_Decide
 use Rattle.std.proofs.lemmas.List.{drop_more, drop_all, length-map}
 use Rattle.hh_stream.specs.Weights.{max_total}
 use Rattle.hh_countmin.specs.Family.{same_family}
-use Rattle.hh_countmin.specs.Table.{Grid, grid_sum as merged_cells}
+use Rattle.hh_countmin.specs.Table.{TableView, grid_sum as merged_cells}
 use Rattle.hh_saved.specs.declared.saved.Saved.{Saved}
 use Rattle.hh_saved.specs.declared.saved.Saved.TheVariants.{Cells}
 use Rattle.heavy.specs.declared.error.MergeCause.TheVariants as cause
@@ -37,7 +37,7 @@ of_total-too_large total v large = elim (leb_tells total max_total) [
   | inr (e, lt) ↦ rw e refl
 ]
 
-module _ (n : ℕ) (s t : Grid) (one : Decides (same_family s.family t.family) (s.family ≡ t.family)) where
+module _ (n : ℕ) (s t : TableView) (one : Decides (same_family s.family t.family) (s.family ≡ t.family)) where
   -- tables of different families are not merged
   pub cells-other_family : s.family ≢ t.family
       → merge_saved n (Cells s) (Cells t) ≡ Err (tool.CannotMerge n cause.DifferentFamily)

@@ -5,7 +5,7 @@ use Rattle.std.specs.List.{AllByRecursion}
 use Rattle.std.proofs.lemmas.Bool.Decides.{eqb_tells, leb_tells}
 use Rattle.std.proofs.lemmas.List.{get_or-map}
 use Rattle.hh_stream.specs.Weights.{max_total}
-use Rattle.hh_counters.specs.Counters.{Sketch, merge_of, sketch_of}
+use Rattle.hh_counters.specs.Counters.{SummaryView, merge_of, sketch_of}
 use Rattle.hh_counters.specs.Laws.{CondensedPartsSuffice}
 use Rattle.hh_pool.specs.Laws.{PartsReportByAnyTree, TreesMergeSummaries}
 use Rattle.hh_pool.specs.Trees.{MergeTree, Merge, merge_result, no_sketch, tree_result}
@@ -23,7 +23,7 @@ use Rattle.heavy.specs.Laws.{HeldTreesReport, HoldsTree, MergesHoldTrees, PartsH
 use Rattle.heavy.proofs.FileFacts.{ok-no_err}
 
 -- two saved summaries merge to what a node of a tree makes of them, or are refused
-both_merge : (n : ℕ) (s t : Sketch)
+both_merge : (n : ℕ) (s t : SummaryView)
     → ((merge_saved n (Counters s) (Counters t) ≡ Ok (Counters (merge_of s t)))
     × (merge_result s t ≡ Ok (merge_of s t)))
     ⊎ ((e : ToolError) × (merge_saved n (Counters s) (Counters t) ≡ Err e))
@@ -49,10 +49,10 @@ parts_hold_pieces law k i parts version file low spells = (
 )
 
 -- the files that are left, merged into the summary that the tree t makes
-rest_merge : (ss : List Sketch) (n : ℕ) (t : MergeTree) (u : Sketch) (fs : List (MergeTree × List ℕ)) (saved : Saved)
+rest_merge : (ss : List SummaryView) (n : ℕ) (t : MergeTree) (u : SummaryView) (fs : List (MergeTree × List ℕ)) (saved : Saved)
     → tree_result t ss ≡ Ok u → AllByRecursion (HoldsTree ss) fs
     → merged_from n (Counters u) (map (λ g. g.1) fs) ≡ Ok saved
-    → (s : Sketch) × (tree_result (fold Merge t (map (λ g. g.0) fs)) ss ≡ Ok s) × (saved ≡ Counters s)
+    → (s : SummaryView) × (tree_result (fold Merge t (map (λ g. g.0) fs)) ss ≡ Ok s) × (saved ≡ Counters s)
 unfolding merged_from
 rest_merge ss n t u [] saved is holds all = (u, is, sym (cc all))
 rest_merge ss n t u (f ∷ fs) saved is ((v, made, read), holds) all = elim (both_merge n u v) [

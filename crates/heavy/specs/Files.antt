@@ -4,9 +4,9 @@ use Rattle.std.specs.List.{flat_map}
 use Rattle.std.specs.Fmt.{decimal}
 use Rattle.csv.specs.Writing.{default_writer, row_text}
 use Rattle.hh_stream.specs.Weights.{Bytes, weight_of, max_key_len, max_total}
-use Rattle.hh_counters.specs.Counters.{Sketch, slack, merge_of as merged_counters}
+use Rattle.hh_counters.specs.Counters.{SummaryView, slack, merge_of as merged_counters}
 use Rattle.hh_countmin.specs.Family.{same_family}
-use Rattle.hh_countmin.specs.Table.{Grid, estimate_in, grid_sum as merged_cells}
+use Rattle.hh_countmin.specs.Table.{TableView, estimate_in, grid_sum as merged_cells}
 use Rattle.hh_saved.specs.Reading.{saved_of}
 use Rattle.hh_saved.specs.declared.fault.SavedFault.{SavedFault}
 use Rattle.hh_saved.specs.declared.saved.Saved.{Saved}
@@ -42,12 +42,12 @@ file_of n bytes = in_file n (saved_of bytes)
 abbrev pub of_total : ℕ → Saved → Result Saved MergeCause
 of_total total v = if nat_le total max_total then Ok v else Err cause.TotalTooLarge
 
-abbrev pub counters_of_both : Sketch → Sketch → Result Saved MergeCause
+abbrev pub counters_of_both : SummaryView → SummaryView → Result Saved MergeCause
 counters_of_both s t =
     if s.k == t.k then of_total (s.total + t.total) (Counters (merged_counters s t))
     else Err cause.DifferentK
 
-abbrev pub cells_of_both : Grid → Grid → Result Saved MergeCause
+abbrev pub cells_of_both : TableView → TableView → Result Saved MergeCause
 cells_of_both s t =
     if not (same_family s.family t.family) then Err cause.DifferentFamily
     else if s.width == t.width then of_total (s.total + t.total) (Cells (merged_cells s t))

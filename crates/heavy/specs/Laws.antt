@@ -3,7 +3,7 @@ use Rattle.std.specs.Prelude.{◌≡◌, ℕ, ◌+◌, ◌<◌, List, [], ◌∷
 use Rattle.std.specs.List.{AllByRecursion, flat_map}
 use Rattle.hh_stream.specs.Weights.{Entry, total_of}
 use Rattle.hh_stream.specs.Cuttings.{whole_of}
-use Rattle.hh_counters.specs.Counters.{Sketch, IsHonest, misra_gries, sketch_of}
+use Rattle.hh_counters.specs.Counters.{SummaryView, IsHonest, misra_gries, sketch_of}
 use Rattle.hh_counters.specs.Report.{heavy}
 use Rattle.hh_counters.specs.Condensed.{condensed}
 use Rattle.hh_pool.specs.Trees.{MergeTree, Piece, Merge, IsMergeTree, tree_result, tree_value}
@@ -18,14 +18,14 @@ use Rattle.heavy.specs.Reports.{confirmed_rows}
 -- parts that are condensed one by one, and joined in any order, are confirmed as the parts are
 abbrev pub CondensedPartsConfirm : Type 0
 CondensedPartsConfirm =
-    (s : Sketch) (parts : List (List Entry)) (ys : List Entry)
+    (s : SummaryView) (parts : List (List Entry)) (ys : List Entry)
     → IsPermutation (flat_map (condensed s.counters) parts) ys
     → (total_of ys ≡ total_of (whole_of parts)) × (confirmed_rows s ys ≡ confirmed_rows s (whole_of parts))
 
 -- by a summary that is honest for the whole, however it was made, that is the whole's report
 abbrev pub HonestSummaryReports : Type 0
 HonestSummaryReports =
-    (s : Sketch) (parts : List (List Entry)) (xs ys : List Entry)
+    (s : SummaryView) (parts : List (List Entry)) (xs ys : List Entry)
     → IsHonest s.counters (total_of xs) xs s.k
     → IsPermutation (whole_of parts) xs → IsPermutation (flat_map (condensed s.counters) parts) ys
     → confirmed_rows s ys ≡ heavy xs 1 (s.k + 1)
@@ -34,15 +34,15 @@ HonestSummaryReports =
 -- was merged, joined in any order and confirmed: its heavy keys, with their weights
 abbrev pub MachinesReport : Type 0
 MachinesReport =
-    (t : MergeTree) (s : Sketch) (parts : List (List Entry)) (xs ys : List Entry)
+    (t : MergeTree) (s : SummaryView) (parts : List (List Entry)) (xs ys : List Entry)
     → IsPermutation (whole_of parts) xs → IsMergeTree t (length parts)
     → s.counters ≡ tree_value t (map (λ part. misra_gries part s.k) parts) s.k
     → IsPermutation (flat_map (condensed s.counters) parts) ys
     → (total_of ys ≡ total_of xs) × (confirmed_rows s ys ≡ heavy xs 1 (s.k + 1))
 
 -- the file holds the summary that the tree makes of the parts' summaries
-abbrev pub HoldsTree : List Sketch → MergeTree × List ℕ → Type 0
-HoldsTree ss f = (s : Sketch) × (tree_result f.0 ss ≡ Ok s) × (saved_of f.1 ≡ Ok (Counters s))
+abbrev pub HoldsTree : List SummaryView → MergeTree × List ℕ → Type 0
+HoldsTree ss f = (s : SummaryView) × (tree_result f.0 ss ≡ Ok s) × (saved_of f.1 ≡ Ok (Counters s))
 
 -- a tree with each next one on its right
 abbrev pub merged_trees : MergeTree × List ℕ → List (MergeTree × List ℕ) → MergeTree
@@ -58,7 +58,7 @@ PartsHoldPieces =
 -- what files with trees merge to, saved, holds these trees merged
 abbrev pub MergesHoldTrees : Type 0
 MergesHoldTrees =
-    (ss : List Sketch) (f : MergeTree × List ℕ) (fs : List (MergeTree × List ℕ)) (saved : Saved)
+    (ss : List SummaryView) (f : MergeTree × List ℕ) (fs : List (MergeTree × List ℕ)) (saved : Saved)
     (version : Version) (file : List ℕ)
     → AllByRecursion (HoldsTree ss) (f ∷ fs)
     → merged_files (map (λ g. g.1) (f ∷ fs)) ≡ Ok saved → Spells version file saved
@@ -68,7 +68,7 @@ MergesHoldTrees =
 -- and are confirmed as the heavy keys of the whole
 abbrev pub HeldTreesReport : Type 0
 HeldTreesReport =
-    (k : ℕ) (parts : List (List Entry)) (t : MergeTree) (file : List ℕ) (s : Sketch)
+    (k : ℕ) (parts : List (List Entry)) (t : MergeTree) (file : List ℕ) (s : SummaryView)
     (xs ys : List Entry)
     → HoldsTree (map (sketch_of k) parts) (t, file) → IsMergeTree t (length parts)
     → saved_of file ≡ Ok (Counters s)

@@ -4,7 +4,7 @@ use Rattle.std.specs.Io.KnownBytes.{Appends, Keeps}
 use Rattle.hh_stream.specs.Cuttings.{max_pieces}
 use Rattle.hh_stream.specs.Weights.{Entry}
 use Rattle.hh_counters.specs.Report.{has_counter, heavy}
-use Rattle.hh_counters.specs.Counters.{Sketch, max_k}
+use Rattle.hh_counters.specs.Counters.{SummaryView, max_k}
 use Rattle.hh_countmin.specs.Family.{drawn_family, max_depth, max_width}
 use Rattle.hh_pool.specs.PlanTexts.{PlanRefused, SpellsTree}
 use Rattle.hh_pool.specs.Settings.{Settings, max_workers}
@@ -29,7 +29,7 @@ use Rattle.heavy.specs.declared.report.Tree.{Tree}
 use Rattle.heavy.specs.declared.report.Tree.TheVariants as tree
 
 -- the heavy keys of xs that have a counter in the summary
-abbrev pub confirmed_rows : Sketch → List Entry → List Entry
+abbrev pub confirmed_rows : SummaryView → List Entry → List Entry
 confirmed_rows s xs = filter (has_counter s.counters) (heavy xs 1 (s.k + 1))
 
 -- whether a command failed by its sink

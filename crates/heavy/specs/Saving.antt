@@ -2,9 +2,9 @@
 use Rattle.std.specs.Prelude.{◌≡◌, ◌≢◌, ℕ, List, map, not, codes, Option, Some, None, Ok, Err, ⊤, if◌then◌else◌}
 use Rattle.hh_stream.specs.Weights.{Entry, total_of}
 use Rattle.hh_counters.specs.Condensed.{condensed}
-use Rattle.hh_counters.specs.Counters.{Sketch, max_k, sketch_of}
+use Rattle.hh_counters.specs.Counters.{SummaryView, max_k, sketch_of}
 use Rattle.hh_countmin.specs.Family.{max_depth, max_width}
-use Rattle.hh_countmin.specs.Table.{Grid}
+use Rattle.hh_countmin.specs.Table.{TableView}
 use Rattle.hh_saved.specs.Reading.{saved_of}
 use Rattle.hh_saved.specs.Sizes.{entry_in}
 use Rattle.hh_saved.specs.Spelling.{Spells}
@@ -27,7 +27,7 @@ abbrev pub SavesStream : (List Entry → Saved) → Option (List ℕ) → List �
 SavesStream f left bytes = (xs : List Entry) × ReadsAs left (Ok xs) × Spells version.Two bytes (f xs)
 
 -- the summary that Misra and Gries make of the stream of all bytes that the reader had left
-abbrev pub IsSummaryOf : ℕ → Option (List ℕ) → Sketch → Type 0
+abbrev pub IsSummaryOf : ℕ → Option (List ℕ) → SummaryView → Type 0
 IsSummaryOf k left summary = (xs : List Entry) × ReadsAs left (Ok xs) × (summary ≡ sketch_of k xs)
 
 -- what a refusal to read records tells, where they were read: not before the tests that come first
@@ -61,40 +61,40 @@ RefusedAfter (Some f) left e = e ≡ f
 -- total, that of all bytes that the reader had left
 abbrev pub ConfirmsRows : List ℕ → Option (List ℕ) → List ℕ → Type 0
 ConfirmsRows file left rows =
-    (s : Sketch) × (xs : List Entry) × (saved_of file ≡ Ok (Counters s)) × ReadsAs left (Ok xs)
+    (s : SummaryView) × (xs : List Entry) × (saved_of file ≡ Ok (Counters s)) × ReadsAs left (Ok xs)
     × (s.total ≡ total_of xs) × (rows ≡ rows_of (confirmed_rows s xs))
 
 -- the file holds a summary, and these are the condensed rows of a stream, that of all bytes that the
 -- reader had left
 abbrev pub CondensesRows : List ℕ → Option (List ℕ) → List ℕ → Type 0
 CondensesRows file left rows =
-    (s : Sketch) × (xs : List Entry) × (saved_of file ≡ Ok (Counters s)) × ReadsAs left (Ok xs)
+    (s : SummaryView) × (xs : List Entry) × (saved_of file ≡ Ok (Counters s)) × ReadsAs left (Ok xs)
     × (rows ≡ condensed_text (condensed s.counters xs))
 
 -- what a refusal to read a summary tells: of the file, and of its kind
 abbrev pub SummaryRefused : List ℕ → ToolError → Type 0
 SummaryRefused file (tool.BadFile n f) = (n ≡ 1) × (saved_of file ≡ Err f)
-SummaryRefused file tool.NotCounters = (t : Grid) × (saved_of file ≡ Ok (Cells t))
+SummaryRefused file tool.NotCounters = (t : TableView) × (saved_of file ≡ Ok (Cells t))
 SummaryRefused file tool.Memory = ⊤
 SummaryRefused file _ = ⊥
 
 -- the file holds a summary, and its entries are those at these places, by rising key
 abbrev pub ListsEntries : List ℕ → List Place → Type 0
 ListsEntries file places =
-    (s : Sketch) × (saved_of file ≡ Ok (Counters s)) × (map (entry_in file) places ≡ s.counters)
+    (s : SummaryView) × (saved_of file ≡ Ok (Counters s)) × (map (entry_in file) places ≡ s.counters)
 
 -- what a refusal to condense tells: of the file, of its kind, and of the records
 abbrev pub CondenseRefused : List ℕ → Option (List ℕ) → ToolError → Type 0
 CondenseRefused file left (tool.BadFile n f) = (n ≡ 1) × (saved_of file ≡ Err f)
-CondenseRefused file left tool.NotCounters = (t : Grid) × (saved_of file ≡ Ok (Cells t))
-CondenseRefused file left tool.ReadFault = (s : Sketch) × (saved_of file ≡ Ok (Counters s))
+CondenseRefused file left tool.NotCounters = (t : TableView) × (saved_of file ≡ Ok (Cells t))
+CondenseRefused file left tool.ReadFault = (s : SummaryView) × (saved_of file ≡ Ok (Counters s))
 CondenseRefused file left (tool.BadRecord n c) =
-    (s : Sketch) × (saved_of file ≡ Ok (Counters s)) × ReadsAs left (Err (n, c))
+    (s : SummaryView) × (saved_of file ≡ Ok (Counters s)) × ReadsAs left (Err (n, c))
 CondenseRefused file left tool.Memory = ⊤
 CondenseRefused file left _ = ⊥
 
 -- what a refusal to count a summary's keys in records tells: of the records, and of the totals
-abbrev pub CountRefused : Sketch → Option (List ℕ) → ToolError → Type 0
+abbrev pub CountRefused : SummaryView → Option (List ℕ) → ToolError → Type 0
 CountRefused s left tool.ReadFault = ⊤
 CountRefused s left (tool.BadRecord n c) = ReadsAs left (Err (n, c))
 CountRefused s left tool.TotalDiffers = (xs : List Entry) × ReadsAs left (Ok xs) × (s.total ≢ total_of xs)
@@ -104,12 +104,12 @@ CountRefused s left _ = ⊥
 -- what a refusal to confirm tells: of the file, of its kind, of the records, and of the totals
 abbrev pub ConfirmRefused : List ℕ → Option (List ℕ) → ToolError → Type 0
 ConfirmRefused file left (tool.BadFile n f) = (n ≡ 1) × (saved_of file ≡ Err f)
-ConfirmRefused file left tool.NotCounters = (t : Grid) × (saved_of file ≡ Ok (Cells t))
-ConfirmRefused file left tool.ReadFault = (s : Sketch) × (saved_of file ≡ Ok (Counters s))
+ConfirmRefused file left tool.NotCounters = (t : TableView) × (saved_of file ≡ Ok (Cells t))
+ConfirmRefused file left tool.ReadFault = (s : SummaryView) × (saved_of file ≡ Ok (Counters s))
 ConfirmRefused file left (tool.BadRecord n c) =
-    (s : Sketch) × (saved_of file ≡ Ok (Counters s)) × ReadsAs left (Err (n, c))
+    (s : SummaryView) × (saved_of file ≡ Ok (Counters s)) × ReadsAs left (Err (n, c))
 ConfirmRefused file left tool.TotalDiffers =
-    (s : Sketch) × (xs : List Entry) × (saved_of file ≡ Ok (Counters s)) × ReadsAs left (Ok xs)
+    (s : SummaryView) × (xs : List Entry) × (saved_of file ≡ Ok (Counters s)) × ReadsAs left (Ok xs)
     × (s.total ≢ total_of xs)
 ConfirmRefused file left tool.Memory = ⊤
 ConfirmRefused file left _ = ⊥

@@ -215,7 +215,7 @@ fn confirm_command<'a>(alloc: Global) -> Result<Command<'a>, AllocError>
 }
 
 /// The command line that the program reads.
-pub fn command<'a>(alloc: Global) -> Result<Command<'a>, AllocError>
+pub fn command_line<'a>(alloc: Global) -> Result<Command<'a>, AllocError>
     ensures globals { IfOk result (λ c. (fields_of c).has_globals ≡ false) }
     ensures required { IfOk result (λ c. (fields_of c).subcommand_required ≡ true) }
 {

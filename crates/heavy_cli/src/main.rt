@@ -17,7 +17,7 @@ use heavy::{
     summary_bytes, table_bytes,
 };
 use progress::Metered;
-use request::{NoRequest, Question, Request, read_request};
+use request::{Command, Request, UsageError, read_request};
 use std::io::Stdin;
 use std::process::ExitCode;
 
@@ -27,22 +27,22 @@ const USAGE: u8 = 2;
 /// Standard input.
 type Input<'a> = Metered<'a, Stdin>;
 
-/// The bytes that a question is answered by.
-fn answer(rt: &HostRuntime, question: Question, input: Input<'_>) -> Result<Vec<u8>, ToolError> {
+/// The bytes that a command is answered by.
+fn answer(rt: &HostRuntime, command: Command, input: Input<'_>) -> Result<Vec<u8>, ToolError> {
     let alloc = rt.alloc();
-    match question {
-        Question::Summarise { k, method } => summary_bytes(alloc, k, Method::of(&method)?, input),
-        Question::Table { width, depth, seed } => table_bytes(alloc, width, depth, seed, input),
-        Question::Merge { first, others } => merge_bytes(alloc, &read_files(rt, &first, &others)?),
-        Question::Ask { file, keys } => ask_bytes(alloc, &read_file(rt, 1, &file)?, &keys),
-        Question::Condense { file } => condense_bytes(alloc, &read_file(rt, 1, &file)?, input),
-        Question::Confirm { file } => confirm_bytes(alloc, &read_file(rt, 1, &file)?, input),
+    match command {
+        Command::Summarise { k, method } => summary_bytes(alloc, k, Method::of(&method)?, input),
+        Command::Table { width, depth, seed } => table_bytes(alloc, width, depth, seed, input),
+        Command::Merge { first, others } => merge_bytes(alloc, &read_files(rt, &first, &others)?),
+        Command::Ask { file, keys } => ask_bytes(alloc, &read_file(rt, 1, &file)?, &keys),
+        Command::Condense { file } => condense_bytes(alloc, &read_file(rt, 1, &file)?, input),
+        Command::Confirm { file } => confirm_bytes(alloc, &read_file(rt, 1, &file)?, input),
     }
 }
 
-/// Writes the bytes that a question is answered by.
-fn write_answer(rt: &HostRuntime, question: Question, input: Input<'_>) -> Result<(), ToolError> {
-    let bytes = answer(rt, question, input)?;
+/// Writes the bytes that a command is answered by.
+fn write_answer(rt: &HostRuntime, command: Command, input: Input<'_>) -> Result<(), ToolError> {
+    let bytes = answer(rt, command, input)?;
     put(&mut Out::new(rt.stdout()), &bytes)?;
     Ok(())
 }
@@ -73,11 +73,11 @@ fn main(rt: HostRuntime) -> ExitCode {
                     let mut out = Out::new(rt.stdout());
                     run_report(&rt, rt.alloc(), &options, input, &mut out)
                 }
-                Request::Answer(question) => write_answer(&rt, question, input),
+                Request::Answer(command) => write_answer(&rt, command, input),
             }
         }
-        Err(NoRequest::Told(error)) => return status_told(&rt, error),
-        Err(NoRequest::Memory) => Err(ToolError::Memory),
+        Err(UsageError::Told(error)) => return status_told(&rt, error),
+        Err(UsageError::Memory) => Err(ToolError::Memory),
     };
     match outcome {
         Ok(()) => ExitCode::SUCCESS,

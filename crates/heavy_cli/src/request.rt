@@ -1,6 +1,6 @@
 //! What a command line asks for.
 
-use crate::arguments::{DEPTH, K, PIECES, PROGRESS, SEED, WIDTH, WORKERS, command};
+use crate::arguments::{DEPTH, K, PIECES, PROGRESS, SEED, WIDTH, WORKERS, command_line};
 use crate::words::{bytes_of, read_words};
 use clap::error::ErrorKind;
 use clap::{ArgMatches, Error};
@@ -21,12 +21,12 @@ pub enum Request {
     /// The report of standard input, written as it is made.
     Report(ReportOptions),
     /// Bytes that are made whole, and then written.
-    Answer(Question),
+    Answer(Command),
 }
 
 /// What bytes are asked for. Words are taken by their bytes.
 #[derive(Drop)]
-pub enum Question {
+pub enum Command {
     /// The saved summary of standard input.
     Summarise {
         k: u64,
@@ -60,16 +60,16 @@ pub enum Question {
 
 /// Why a command line asks for nothing.
 #[derive(Drop)]
-pub enum NoRequest {
+pub enum UsageError {
     /// It asks for help, or has a fault: what `clap` says of it.
     Told(Error),
     /// The allocator had no memory.
     Memory,
 }
 
-impl From<AllocError> for NoRequest {
-    fn from(_: AllocError) -> NoRequest {
-        NoRequest::Memory
+impl From<AllocError> for UsageError {
+    fn from(_: AllocError) -> UsageError {
+        UsageError::Memory
     }
 }
 
@@ -122,16 +122,16 @@ fn report(alloc: Global, found: &ArgMatches) -> Result<Request, AllocError> {
     }))
 }
 
-fn summarise(alloc: Global, found: &ArgMatches) -> Result<Question, AllocError> {
+fn summarise(alloc: Global, found: &ArgMatches) -> Result<Command, AllocError> {
     let method = word_or(alloc, found, "method", "mg")?;
-    Ok(Question::Summarise {
+    Ok(Command::Summarise {
         k: K.of(found),
         method,
     })
 }
 
-fn table(found: &ArgMatches) -> Question {
-    Question::Table {
+fn table(found: &ArgMatches) -> Command {
+    Command::Table {
         width: WIDTH.of(found),
         depth: DEPTH.of(found),
         seed: SEED.of(found),
@@ -139,35 +139,35 @@ fn table(found: &ArgMatches) -> Question {
 }
 
 /// A file that is not named, which `clap` lets not come, is one without a name: it can't be read.
-fn merge(alloc: Global, found: &ArgMatches) -> Result<Question, AllocError> {
+fn merge(alloc: Global, found: &ArgMatches) -> Result<Command, AllocError> {
     let first = word_or(alloc, found, "FILE", "")?;
     let mut others = words(alloc, found, "FILE")?;
     if !others.is_empty() {
         others.remove(0);
     }
-    Ok(Question::Merge { first, others })
+    Ok(Command::Merge { first, others })
 }
 
-fn ask(alloc: Global, found: &ArgMatches) -> Result<Question, AllocError> {
+fn ask(alloc: Global, found: &ArgMatches) -> Result<Command, AllocError> {
     let file = word_or(alloc, found, "FILE", "")?;
     let keys = words(alloc, found, "KEY")?;
-    Ok(Question::Ask { file, keys })
+    Ok(Command::Ask { file, keys })
 }
 
-fn condense(alloc: Global, found: &ArgMatches) -> Result<Question, AllocError> {
+fn condense(alloc: Global, found: &ArgMatches) -> Result<Command, AllocError> {
     let file = word_or(alloc, found, "FILE", "")?;
-    Ok(Question::Condense { file })
+    Ok(Command::Condense { file })
 }
 
-fn confirm(alloc: Global, found: &ArgMatches) -> Result<Question, AllocError> {
+fn confirm(alloc: Global, found: &ArgMatches) -> Result<Command, AllocError> {
     let file = word_or(alloc, found, "FILE", "")?;
-    Ok(Question::Confirm { file })
+    Ok(Command::Confirm { file })
 }
 
 /// What a command with these words asks for. `clap` lets these seven names come: the one that is
 /// none of the other six is the report's.
 fn request_of(alloc: Global, name: &str, found: &ArgMatches) -> Result<Request, AllocError> {
-    let question = match name {
+    let command = match name {
         "summarise" => summarise(alloc, found)?,
         "table" => table(found),
         "merge" => merge(alloc, found)?,
@@ -176,18 +176,17 @@ fn request_of(alloc: Global, name: &str, found: &ArgMatches) -> Result<Request, 
         "confirm" => confirm(alloc, found)?,
         _ => return report(alloc, found),
     };
-    Ok(Request::Answer(question))
+    Ok(Request::Answer(command))
 }
 
 /// What these words ask for, the first of which is the program's name.
-pub fn request_in(alloc: Global, words: &[String]) -> Result<Invocation, NoRequest> {
-    let command = command(alloc)?;
-    let matches = match command.try_get_matches_from(words) {
+pub fn request_in(alloc: Global, words: &[String]) -> Result<Invocation, UsageError> {
+    let matches = match command_line(alloc)?.try_get_matches_from(words) {
         Ok(matches) => matches,
         Err(error) if matches!(error.kind(), ErrorKind::OutOfMemory) => {
-            return Err(NoRequest::Memory);
+            return Err(UsageError::Memory);
         }
-        Err(error) => return Err(NoRequest::Told(error)),
+        Err(error) => return Err(UsageError::Told(error)),
     };
     let Some((name, found)) = matches.subcommand() else {
         unreachable!("a command is required");
@@ -199,7 +198,7 @@ pub fn request_in(alloc: Global, words: &[String]) -> Result<Invocation, NoReque
 }
 
 /// What the command line asks for.
-pub fn read_request(rt: &HostRuntime) -> Result<Invocation, NoRequest> {
+pub fn read_request(rt: &HostRuntime) -> Result<Invocation, UsageError> {
     let words = read_words(rt, rt.alloc())?;
     request_in(rt.alloc(), words.as_slice())
 }

@@ -1,7 +1,7 @@
 //! What no clause says of the command line: what its words ask for, and words that are not text.
 
 use crate::record_count::RecordCount;
-use crate::request::{Invocation, NoRequest, Question, Request, request_in};
+use crate::request::{Command, Invocation, Request, UsageError, request_in};
 use crate::words::{bytes_of, text_of};
 use clap::error::ErrorKind;
 use heavy::{ReportOptions, Share, Tree};
@@ -32,7 +32,7 @@ fn text_stays_as_it_is(rt: HostRuntime) -> Result<(), Fail> {
 }
 
 /// What the words of a line ask for, which `|` parts.
-fn request(alloc: Global, line: &str) -> Result<Result<Invocation, NoRequest>, Fail> {
+fn request(alloc: Global, line: &str) -> Result<Result<Invocation, UsageError>, Fail> {
     let mut words = Vec::new(alloc);
     for word in line.split('|') {
         words.push(String::from_str(alloc, word)?)?;
@@ -78,28 +78,28 @@ fn report_told(alloc: Global, options: &ReportOptions) -> Result<String, Fail> {
     Ok(format!(in alloc; "report {first} {tree} {width} {depth} {seed}")?)
 }
 
-fn question_told(alloc: Global, question: &Question) -> Result<String, Fail> {
-    Ok(match question {
-        Question::Summarise { k, method } => {
+fn command_told(alloc: Global, command: &Command) -> Result<String, Fail> {
+    Ok(match command {
+        Command::Summarise { k, method } => {
             let method = text(method);
             format!(in alloc; "summarise k {k} method {method}")?
         }
-        Question::Table { width, depth, seed } => {
+        Command::Table { width, depth, seed } => {
             format!(in alloc; "table width {width} depth {depth} seed {seed}")?
         }
-        Question::Merge { first, others } => {
+        Command::Merge { first, others } => {
             let (first, others) = (text(first), list(alloc, others)?);
             format!(in alloc; "merge {first} and {others}")?
         }
-        Question::Ask { file, keys } => {
+        Command::Ask { file, keys } => {
             let (file, keys) = (text(file), list(alloc, keys)?);
             format!(in alloc; "ask {file} of {keys}")?
         }
-        Question::Condense { file } => {
+        Command::Condense { file } => {
             let file = text(file);
             format!(in alloc; "condense {file}")?
         }
-        Question::Confirm { file } => {
+        Command::Confirm { file } => {
             let file = text(file);
             format!(in alloc; "confirm {file}")?
         }
@@ -112,7 +112,7 @@ fn told(alloc: Global, line: &str) -> Result<String, Fail> {
     };
     match asked.request {
         Request::Report(options) => report_told(alloc, &options),
-        Request::Answer(question) => question_told(alloc, &question),
+        Request::Answer(command) => command_told(alloc, &command),
     }
 }
 
@@ -239,7 +239,7 @@ fn lines_are_refused_or_ask_for_help(rt: HostRuntime) -> Result<(), Fail> {
         ("heavy|help", ErrorKind::DisplayHelp, 0),
         ("heavy|table|--help", ErrorKind::DisplayHelp, 0),
     ] {
-        let Err(NoRequest::Told(error)) = request(rt.alloc(), line)? else {
+        let Err(UsageError::Told(error)) = request(rt.alloc(), line)? else {
             return Err(Fail::new("the line is not refused"));
         };
         assert_eq!(rt; error.kind(), kind);

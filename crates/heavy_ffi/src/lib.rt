@@ -12,7 +12,7 @@ ghost use Rattle.std.specs.Prelude.{◌≡◌, ◌≢◌, ◌<◌, ◌≤◌, �
 ghost use Rattle.std.specs.Prelude.{IfErr, IfOk};
 ghost use Rattle.hh_stream.specs.Cuttings.{pieces_of};
 ghost use Rattle.hh_stream.specs.Weights.{max_key_len};
-ghost use Rattle.hh_counters.specs.Counters.{Sketch, sketch_of};
+ghost use Rattle.hh_counters.specs.Counters.{SummaryView, sketch_of};
 ghost use Rattle.hh_countmin.specs.Family.{drawn_family};
 ghost use Rattle.hh_countmin.specs.Table.{table_of};
 ghost use Rattle.hh_saved.specs.Sizes.{most_summary_bytes, table_bytes};
@@ -151,7 +151,7 @@ pub extern "C" fn heavy_merge(
         room.old needed.new }
     ensures refused { result ≢ 0 → result ≢ 5 → 0 < length lengths.now → IsRefused
         (Refuses (merged_files (pieces_of lengths.now files.now))) result told.new }
-    ensures enough { (s : Sketch)
+    ensures enough { (s : SummaryView)
         → merged_files (pieces_of lengths.now files.now) ≡ Ok (Counters s)
         → most_summary_bytes s.k max_key_len ≤ length room.old → result ≢ 5 }
     ensures no_files { lengths.now ≡ [] → (result ≡ 2) × (told.new ≡ no_fault) }

@@ -9,7 +9,7 @@ use Rattle.std.proofs.lemmas.List.Elements.{recursion_from_All}
 use Rattle.std.proofs.lemmas.List.Sums.{sum_by-cons, sum_by-le-sum_by}
 use Rattle.hh_stream.specs.Weights.{Bytes, Entry, same_key, weight_of}
 use Rattle.hh_counters.specs.Counters.{tally, least_counter}
-use Rattle.hh_counters.specs.Buckets.{Buckets, by_counter, is_in, Stand}
+use Rattle.hh_counters.specs.Buckets.{Buckets, by_counter, is_in, BoundCounters}
 use Rattle.hh_counters.proofs.Weights.{Distinct, same_exact, same_self, weight_of-tally}
 use Rattle.hh_counters.proofs.Stepping.{at_least_all, at_least_each, least_counter-le, least_counter-ge}
 use Rattle.hh_counters.proofs.Linked.{PositiveAt, counters-view, first_popped, found, held, length-view, marks, moved_up, others_stay, sent}
@@ -44,28 +44,28 @@ lag_falls : (es : List Entry) (b d : Buckets) (v : ℕ) (x : Bytes) → IsSome (
     → weight_of x (tally es) ≡ v → is_in b v x ≡ false → is_in d v x ≡ true
     → ((c : ℕ) (q : Bytes) → same_key x q ≡ false → is_in d c q ≡ is_in b c q) → lag es d < lag es b
 lag_falls es b d v x has counter before after stays =
-    sum_less (waits es b) (waits es d) x es (λ q. no_more q (same_key x q) refl) (omega (arith, settled, waited)) has
+    sum_less (waits es b) (waits es d) x es (λ q. no_more q (same_key x q) refl) (omega (arith, fresh, waited)) has
   where
-    settled : waits es d x ≡ 0
-    settled = rw counter (ap {B = ℕ} (λ t. cond t 0 1) after)
+    fresh : waits es d x ≡ 0
+    fresh = rw counter (ap {B = ℕ} (λ t. cond t 0 1) after)
 
     waited : waits es b x ≡ 1
     waited = rw counter (ap {B = ℕ} (λ t. cond t 0 1) before)
 
     no_more : (q : Bytes) (t : Bool) → same_key x q ≡ t → waits es d q ≤ waits es b q
-    no_more q true same = subst (λ z. waits es d z ≤ waits es b z) (same_exact x q same) (omega (arith, settled))
+    no_more q true same = subst (λ z. waits es d z ≤ waits es b z) (same_exact x q same) (omega (arith, fresh))
     no_more q false other = omega (arith, ap {B = ℕ} (λ t. cond t 0 1) (stays (weight_of q (tally es)) q other))
 
 -- ---- the first key moved up
 -- put into the bucket of its counter, it leaves less to do
-pub moved_on : (es : List Entry) (b m d : Buckets) (n v : ℕ) (x z : Bytes) (o : Option (ℕ × Bytes)) → Stand es b
+pub moved_on : (es : List Entry) (b m d : Buckets) (n v : ℕ) (x z : Bytes) (o : Option (ℕ × Bytes)) → BoundCounters es b
     → slice_get b.keys 0 ≡ Some (n, x) → IsTrue (is_in b n x) → lookup (same_key x) es ≡ Some v → v ≢ n → z ≡ x
     → Updates by_counter b m (v, z) true → m.keys ≡ insert_key by_counter b.keys (v, z)
     → (0 < length m.keys → IsSome o) → IfSome o (λ r. m.keys ≡ r ∷ d.keys)
-    → IfSome o (λ r. Updates by_counter m d r false) → Stand es d × (lag es d < lag es b)
-moved_on es b m d n v x z o stand front in_it value differ copy put sorted some popped taken =
-    let f = stand.0 in
-    let old = stand.1 in
+    → IfSome o (λ r. Updates by_counter m d r false) → BoundCounters es d × (lag es d < lag es b)
+moved_on es b m d n v x z o bounds front in_it value differ copy put sorted some popped taken =
+    let f = bounds.0 in
+    let old = bounds.1 in
     let counter = found es x v old.distinct value in
     let at = held f es b n x old in_it in
     let less : n < v = above n v (omega (arith, at.0, (old.below x).0, counter)) differ in

@@ -20,7 +20,7 @@ use Rattle.std.proofs.lemmas.Option.{none-some, slice_get_within, get_or_from_sl
 use Rattle.hh_stream.specs.Weights.{Bytes, Entry, key_cmp, same_key, at_key, weight_of, total_of}
 use Rattle.hh_counters.specs.Counters.{Counters, IsCounters, add_at, tally, least_counter}
 use Rattle.hh_counters.specs.SpaceSaving.{least_of, without, first_with, key_to_drop, taken_over, step, IsMonitor}
-use Rattle.hh_counters.specs.Buckets.{Buckets, by_counter, is_in, IsStanding, Stand, IsLinked, IsTakenIn, IsSettled}
+use Rattle.hh_counters.specs.Buckets.{Buckets, by_counter, is_in, AreBoundedBy, BoundCounters, IsLinked, IsTakenIn, IsFreshFirst}
 use Rattle.hh_counters.proofs.Weights.{Distinct, weight_of-lookup, by_key, flipped, key_exact, key_total, same_exact, same_sym, same_self, weight_of-add_at, weight_of-tally, rising-tally, positive-tally, same_counters}
 use Rattle.hh_counters.proofs.Stepping.{least_of_free, at_least_all, least_counter-le, least_counter-ge, counters-add_at, counters-without, weight_of-without, length-add_at_new}
 use Rattle.hh_counters.proofs.Runs.{Positive, first_with_first}
@@ -166,9 +166,9 @@ cond_below true w m n h = (omega arith, λ p. p)
 cond_below false w m n h = h
 
 -- a new key enters the index and the bucket of its counter
-put_in : (f : Bytes → ℕ) (es fs : List Entry) (b d : Buckets) (x : Bytes) (w : ℕ) → 0 < w → IsStanding f es b
+put_in : (f : Bytes → ℕ) (es fs : List Entry) (b d : Buckets) (x : Bytes) (w : ℕ) → 0 < w → AreBoundedBy f es b
     → lookup (same_key x) es ≡ None → Distinct fs → Renumbers es fs x (Some w) → Marks b d w x true
-    → IsStanding (sent f x w) fs d
+    → AreBoundedBy (sent f x w) fs d
 put_in f es fs b d x w p old none distinct u m =
     let free : f x ≡ 0 = omega (arith, (old.below x).0, absent es x old.distinct none) in
     record {
@@ -181,8 +181,8 @@ put_in f es fs b d x w p old none distinct u m =
     }
 
 -- a key leaves both
-taken_out : (f : Bytes → ℕ) (es fs : List Entry) (b d : Buckets) (y : Bytes) (n : ℕ) → IsStanding f es b
-    → f y ≡ n → Distinct fs → Renumbers es fs y None → Marks b d n y false → IsStanding (sent f y 0) fs d
+taken_out : (f : Bytes → ℕ) (es fs : List Entry) (b d : Buckets) (y : Bytes) (n : ℕ) → AreBoundedBy f es b
+    → f y ≡ n → Distinct fs → Renumbers es fs y None → Marks b d n y false → AreBoundedBy (sent f y 0) fs d
 taken_out f es fs b d y n old at distinct u m = record {
   distinct = distinct;
   positive = positive_set es fs y None tt old.positive u;
@@ -193,9 +193,9 @@ taken_out f es fs b d y n old at distinct u m = record {
 }
 
 -- a key moves up from the bucket of n to that of its counter
-pub moved_up : (f : Bytes → ℕ) (es : List Entry) (b m d : Buckets) (n v : ℕ) (x : Bytes) → IsStanding f es b
+pub moved_up : (f : Bytes → ℕ) (es : List Entry) (b m d : Buckets) (n v : ℕ) (x : Bytes) → AreBoundedBy f es b
     → f x ≡ n → n < v → weight_of x (tally es) ≡ v → Marks b m v x true → Marks m d n x false
-    → IsStanding (sent f x v) es d
+    → AreBoundedBy (sent f x v) es d
 moved_up f es b m d n v x old at less counter put taken = record {
   distinct = old.distinct;
   positive = old.positive;
@@ -211,14 +211,14 @@ moved_up f es b m d n v x old at less counter put taken = record {
 
 -- ---- the first key of the first bucket
 -- what is in the bucket of n is a key with n
-pub held : (f : Bytes → ℕ) (es : List Entry) (b : Buckets) (n : ℕ) (q : Bytes) → IsStanding f es b
+pub held : (f : Bytes → ℕ) (es : List Entry) (b : Buckets) (n : ℕ) (q : Bytes) → AreBoundedBy f es b
     → IsTrue (is_in b n q) → (f q ≡ n) × (0 < n)
 held f es b n q old in_it =
     let test : (nat_lt 0 n && (f q == n)) ≡ true = sym (old.agree n q) ∙ in_it in
     (grind (arith, nat_tests, test), grind (arith, nat_tests, test))
 
 -- a key with a counter is in its bucket
-pub in_a_bucket : (f : Bytes → ℕ) (es : List Entry) (b : Buckets) (q : Bytes) → IsStanding f es b
+pub in_a_bucket : (f : Bytes → ℕ) (es : List Entry) (b : Buckets) (q : Bytes) → AreBoundedBy f es b
     → 0 < weight_of q (tally es) → IsTrue (is_in b (f q) q)
 in_a_bucket f es b q old h =
     let some = (old.below q).1 h in
@@ -245,26 +245,26 @@ both_first y z g h = key_exact y z (level (key_cmp y z) (key_cmp z y) (flipped y
     level Greater t e g h = absurd (true≢false g)
 
 -- the first key of the first bucket, where that is the one of its counter, has the least counter and is the key to drop
-drop_is : (f : Bytes → ℕ) (es : List Entry) (b : Buckets) (n : ℕ) (y : Bytes) → IsStanding f es b → 0 < length es
-    → IsSettled es b n y → (least_counter (tally es) ≡ n) × (key_to_drop (tally es) ≡ y)
-drop_is f es b n y old some settled =
+drop_is : (f : Bytes → ℕ) (es : List Entry) (b : Buckets) (n : ℕ) (y : Bytes) → AreBoundedBy f es b → 0 < length es
+    → IsFreshFirst es b n y → (least_counter (tally es) ≡ n) × (key_to_drop (tally es) ≡ y)
+drop_is f es b n y old some fresh =
     let s = tally es in
     let c = counters-view es old.distinct old.positive in
-    let at = held f es b n y old settled.there in
+    let at = held f es b n y old fresh.there in
     let other : (q : Bytes) → 0 < weight_of q s → (n ≤ f q) × (n ≡ f q → is_gt (key_cmp y q) ≡ false) =
-    λ q h. not_above n (f q) y q (settled.lowest (f q, q) (in_a_bucket f es b q old h)) in
+    λ q h. not_above n (f q) y q (fresh.lowest (f q, q) (in_a_bucket f es b q old h)) in
     let above = least_counter-ge n s (omega (arith, length-view es old.distinct old.positive, some))
     (at_least_all s n c (λ q h. omega (arith, (other q h).0, (old.below q).0))) in
     let least : least_counter s ≡ n =
-    omega (arith, above, settled.counter, least_counter-le s y (omega (arith, settled.counter, at.1))) in
-    let first = first_with_first s n y at.1 c.rising settled.counter in
+    omega (arith, above, fresh.counter, least_counter-le s y (omega (arith, fresh.counter, at.1))) in
+    let first = first_with_first s n y at.1 c.rising fresh.counter in
     let x = first_with n s in
     let own = other x (omega (arith, first.1, at.1)) in
     let back = own.1 (omega (arith, own.0, (old.below x).0, first.1)) in
     (least, ap (λ m. first_with m s) least ∙ both_first x y first.0 back)
 
 -- where there is a key, there is a bucket
-pub some_bucket : (f : Bytes → ℕ) (es : List Entry) (b : Buckets) → IsStanding f es b → 0 < length es
+pub some_bucket : (f : Bytes → ℕ) (es : List Entry) (b : Buckets) → AreBoundedBy f es b → 0 < length es
     → 0 < length b.keys
 some_bucket f [] b old some = absurd (omega (arith, some))
 some_bucket f (e ∷ es) b old some =
@@ -314,8 +314,8 @@ step_full s e k z full =
 
 -- a hit, whose weight waits in the counter
 pub hit : (k : ℕ) (es fs : List Entry) (b : Buckets) (f : Bytes → ℕ) (x : Bytes) (n w : ℕ) → 0 < w
-    → IsStanding f es b → lookup (same_key x) es ≡ Some n → Distinct fs → Renumbers es fs x (Some (n + w))
-    → (tally fs ≡ step (tally es) (x, w) k) × IsStanding f fs b
+    → AreBoundedBy f es b → lookup (same_key x) es ≡ Some n → Distinct fs → Renumbers es fs x (Some (n + w))
+    → (tally fs ≡ step (tally es) (x, w) k) × AreBoundedBy f fs b
 hit k es fs b f x n w p old has distinct u =
     let at = found es x n old.distinct has in
     let some = number_positive es x n old.positive has in
@@ -341,35 +341,35 @@ hit k es fs b f x n w p old has distinct u =
         (λ _ none. omega (arith, h, none))
 
 -- a newcomer x, which is a copy of z, with a counter free
-pub entered : (k : ℕ) (es fs : List Entry) (b d : Buckets) (x z : Bytes) (w : ℕ) → 0 < w → Stand es b
+pub entered : (k : ℕ) (es fs : List Entry) (b d : Buckets) (x z : Bytes) (w : ℕ) → 0 < w → BoundCounters es b
     → lookup (same_key z) es ≡ None → x ≡ z → length es ≤ k → Distinct fs → Renumbers es fs x (Some w)
     → Updates by_counter b d (w, x) true → IsTakenIn k es fs d (z, w)
-entered k es fs b d x z w p stand missed copy free distinct u put =
-    let old = stand.1 in
+entered k es fs b d x z w p bounds missed copy free distinct u put =
+    let old = bounds.1 in
     let none : lookup (same_key x) es ≡ None = ap (λ y. lookup (same_key y) es) copy ∙ missed in
     let at = absent es x old.distinct none in
     let room : length (tally es) ≤ k = omega (arith, length-view es old.distinct old.positive, free) in
     subst (λ y. IsTakenIn k es fs d (y, w)) copy (record {
       step_is = view_put es fs x w w p old.distinct old.positive distinct u (omega (arith, at))
           ∙ sym (step_room (tally es) (x, w) k (inr room));
-      stand = (sent stand.0 x w, put_in stand.0 es fs b d x w p old none distinct u (marks b d w x true put));
+      bounds = (sent bounds.0 x w, put_in bounds.0 es fs b d x w p old none distinct u (marks b d w x true put));
     })
 
 -- a newcomer takes over the first of the least counters
-pub replaced : (k : ℕ) (es fs gs : List Entry) (b d a : Buckets) (x y : Bytes) (n w : ℕ) → 0 < w → Stand es b
-    → lookup (same_key x) es ≡ None → k < length es → IsSettled es b n y
+pub replaced : (k : ℕ) (es fs gs : List Entry) (b d a : Buckets) (x y : Bytes) (n w : ℕ) → 0 < w → BoundCounters es b
+    → lookup (same_key x) es ≡ None → k < length es → IsFreshFirst es b n y
     → Distinct fs → Renumbers es fs x (Some (n + w)) → Updates by_counter b d (n + w, x) true
     → Distinct gs → Renumbers fs gs y None → Updates by_counter d a (n, y) false → IsTakenIn k es gs a (x, w)
-replaced k es fs gs b d a x y n w p stand none full settled distinct_put u put distinct v taken =
-    let f = stand.0 in
-    let old = stand.1 in
+replaced k es fs gs b d a x y n w p bounds none full fresh distinct_put u put distinct v taken =
+    let f = bounds.0 in
+    let old = bounds.1 in
     let t = tally es in
     let at = absent es x old.distinct none in
     let counters = counters-view es old.distinct old.positive in
-    let before = drop_is f es b n y old (omega (arith, full)) settled in
-    let own = held f es b n y old settled.there in
+    let before = drop_is f es b n y old (omega (arith, full)) fresh in
+    let own = held f es b n y old fresh.there in
     let differ = false_from_ne_true (same_key y x)
-    (λ same. omega (arith, settled.counter, own.1, at, ap (λ k. weight_of k t) (same_exact y x same))) in
+    (λ same. omega (arith, fresh.counter, own.1, at, ap (λ k. weight_of k t) (same_exact y x same))) in
     let some : 0 < n + w = omega (arith, p) in
     let mid = put_in f es fs b d x (n + w) some old none distinct_put u (marks b d (n + w) x true put) in
     let over : tally gs ≡ taken_over t (x, w) =
@@ -382,7 +382,7 @@ replaced k es fs gs b d a x y n w p stand none full settled distinct_put u put d
     ap (λ c. cond c (n + w) (f y)) (same_sym x y ∙ differ) ∙ own.0 in
     record {
       step_is = over ∙ sym (step_full t (x, w) k at (omega (arith, length-view es old.distinct old.positive, full)));
-      stand = (
+      bounds = (
         sent (sent f x (n + w)) y 0,
         taken_out (sent f x (n + w)) fs gs d a y n mid stays distinct v (marks d a n y false taken),
       );
@@ -394,7 +394,7 @@ pub linked_more : (k n : ℕ) (es fs : List Entry) (b d : Buckets) (e : Entry) �
     → n + e.1 < 2 ^ 63 → IsTakenIn k es fs d e → IsLinked k (n + e.1) fs d
 linked_more k n es fs b d e linked p bound taken = record {
   monitor = subst (IsMonitor k (n + e.1)) (sym taken.step_is) (monitor_step k n (tally es) e linked.monitor p bound);
-  stand = taken.stand;
+  bounds = taken.bounds;
 }
 
 -- ---- what readers need
@@ -403,7 +403,7 @@ pub nothing_linked : (k : ℕ) (b : Buckets) → 1 ≤ k → k ≤ 65535 → b.k
 unfolding tally IsDistinct
 nothing_linked k b low high empty = record {
   monitor = monitor_nothing k low high;
-  stand = (
+  bounds = (
     λ q. 0,
     record {
       distinct = tt;
@@ -420,7 +420,7 @@ nothing_linked k b low high empty = record {
 -- as many keys have counters as the index has entries
 pub length-linked : (k n : ℕ) (es : List Entry) (b : Buckets) → IsLinked k n es b
     → length es ≡ length (tally es)
-length-linked k n es b linked = sym (length-view es linked.stand.1.distinct linked.stand.1.positive)
+length-linked k n es b linked = sym (length-view es linked.bounds.1.distinct linked.bounds.1.positive)
 
 -- where one is free, the least is 0
 pub least_free : (k n : ℕ) (es : List Entry) (b : Buckets) → IsLinked k n es b → length es ≤ k

@@ -6,7 +6,7 @@ use Rattle.std.proofs.lemmas.List.{take_more}
 use Rattle.std.proofs.lemmas.List.Elements.{All-more}
 use Rattle.std.proofs.lemmas.List.Sums.{fold_push, sum_by_push}
 use Rattle.hh_stream.specs.Weights.{Entry, total_of}
-use Rattle.hh_counters.specs.Counters.{Sketch, sketch_of}
+use Rattle.hh_counters.specs.Counters.{SummaryView, sketch_of}
 use Rattle.hh_counters.specs.SpaceSaving.{monitor_of, monitor_with, space_saving, step, translation_of}
 use Rattle.hh_counters.proofs.Runs.{steps_are_a_run, run_is_misra_gries}
 
@@ -37,7 +37,7 @@ positive_more xs i e lt is some before =
     All-more (λ (d : Entry). 0 < d.1) xs i e lt before (subst (λ (d : Entry). 0 < d.1) is some)
 
 -- the loop over the items has come to its end
-pub monitored_all : (k : ℕ) (xs : List Entry) (i : ℕ) (s : Sketch) → i ≤ length xs → length xs ≤ i
+pub monitored_all : (k : ℕ) (xs : List Entry) (i : ℕ) (s : SummaryView) → i ≤ length xs → length xs ≤ i
     → s ≡ monitor_of k (take i xs) → All (λ (d : Entry). 0 < d.1) (take i xs) → translation_of s ≡ sketch_of k xs
 monitored_all k xs i s low high is positive =
     let whole : take i xs ≡ xs = ap (λ n. take n xs) (omega (arith, low, high)) ∙ take-length xs in

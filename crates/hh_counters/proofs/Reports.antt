@@ -19,7 +19,7 @@ use Rattle.std.proofs.lemmas.List.Kept.{IsStrictlySortedBy-filter}
 use Rattle.std.proofs.lemmas.Slice.Zip.{get_or-zip, length-zip}
 use Rattle.std.proofs.Math.Nat.{le-div_iff_mul-le}
 use Rattle.hh_stream.specs.Weights.{Bytes, Entry, key_cmp, same_key, weight_of, total_of}
-use Rattle.hh_counters.specs.Counters.{Counters, Sketch, IsCounters, tally, IsHonest, slack}
+use Rattle.hh_counters.specs.Counters.{Counters, SummaryView, IsCounters, tally, IsHonest, slack}
 use Rattle.hh_counters.specs.Report.{rank_cmp, ranked_in, by_rank, is_heavy, rows_above, heavy, weights_at, can_be_heavy, contenders, keys_above, has_counter, IsReport}
 use Rattle.hh_counters.proofs.Weights.{Distinct, same_sym, key_total, rising-tally, weight_of-tally, flipped, number_from_in, positive_in, in_from_number, same_rising}
 
@@ -376,15 +376,15 @@ report_from_candidates c xs k p q h le =
     (arith, nat_tests, heavy_has_counter c xs k p q h le x i))
 
 -- what numbers above the weights leave out is not heavy
-filter_thinned : (bound : Bytes → ℕ) (xs : List Entry) (p q n : ℕ) → ((x : Bytes) → weight_of x xs ≤ bound x)
+filter_pruned : (bound : Bytes → ℕ) (xs : List Entry) (p q n : ℕ) → ((x : Bytes) → weight_of x xs ≤ bound x)
     → (ks : List Bytes)
     → filter (is_heavy p q n)
     (zip (keys_above p q n ks (map bound ks)) (weights_at (keys_above p q n ks (map bound ks)) xs))
     ≡ filter (is_heavy p q n) (zip ks (weights_at ks xs))
-filter_thinned bound xs p q n most [] = refl
-filter_thinned bound xs p q n most (k ∷ ks) =
+filter_pruned bound xs p q n most [] = refl
+filter_pruned bound xs p q n most (k ∷ ks) =
     let test : Entry → Bool = is_heavy p q n in
-    let rest = filter_thinned bound xs p q n most ks in
+    let rest = filter_pruned bound xs p q n most ks in
     cond_both (test (k, bound k)) _ _ (λ (es : List Entry). filter test (zip (keys_of es) (weights_at (keys_of es) xs))
     ≡ filter test (zip (k ∷ ks) (weights_at (k ∷ ks) xs)))
     (λ _. ap (λ (es : List Entry). cond (test (k, weight_of k xs)) ((k, weight_of k xs) ∷ es) es) rest)
@@ -392,11 +392,11 @@ filter_thinned bound xs p q n most (k ∷ ks) =
     grind (arith, nat_tests, low, high, mul-le-mul_left q (most k))))))
 
 -- so the others are candidates enough
-pub report_from_thinned : (ks : List Bytes) (bound : Bytes → ℕ) (xs : List Entry) (p q : ℕ)
+pub report_from_pruned : (ks : List Bytes) (bound : Bytes → ℕ) (xs : List Entry) (p q : ℕ)
     → ((x : Bytes) → weight_of x xs ≤ bound x)
     → rows_above p q (total_of xs) (zip (keys_above p q (total_of xs) ks (map bound ks)) (weights_at
     (keys_above p q (total_of xs) ks (map bound ks)) xs)) ≡ rows_above p q (total_of xs) (zip ks (weights_at ks xs))
-report_from_thinned ks bound xs p q most = ap by_rank (filter_thinned bound xs p q (total_of xs) most ks)
+report_from_pruned ks bound xs p q most = ap by_rank (filter_pruned bound xs p q (total_of xs) most ks)
 
 -- what p/q of n bounds from below, near a counter
 can_exceed : (k p q n w t c : ℕ) → p * n < q * w → (k + 1) * w + t ≤ n + (k + 1) * c
@@ -407,7 +407,7 @@ can_exceed k p q n w t c more near =
     grind (arith, most, times)
 
 -- a heavy key of an honest summary is a contender
-contends : (s : Sketch) (xs : List Entry) (p q : ℕ) → IsHonest s.counters s.total xs s.k → q ≤ p * (s.k + 1)
+contends : (s : SummaryView) (xs : List Entry) (p q : ℕ) → IsHonest s.counters s.total xs s.k → q ≤ p * (s.k + 1)
     → (e : Entry) → Contains (heavy xs p q) e → has_counter (contenders p q s) e ≡ true
 contends s xs p q h le e i =
     let n = h.counted in
@@ -426,7 +426,7 @@ contends s xs p q h le e i =
     grind (arith, nat_tests, same, some)
 
 -- so the contenders are candidates enough
-pub report_from_contenders : (s : Sketch) (xs : List Entry) (p q : ℕ) → IsHonest s.counters s.total xs s.k
+pub report_from_contenders : (s : SummaryView) (xs : List Entry) (p q : ℕ) → IsHonest s.counters s.total xs s.k
     → q ≤ p * (s.k + 1)
     → rows_above p q (total_of xs) (zip (keys_of (contenders p q s)) (weights_at (keys_of (contenders p q s)) xs))
     ≡ heavy xs p q

@@ -58,7 +58,7 @@ distinct-lower t es h =
     subst (IsDistinct same_key) (sym (keys_of-map_values (λ n. n - t) (filter (exceeds t) es)))
     (IsDistinct-keys_filter same_key (exceeds t) es h)
 
--- each key's number less t, in whatever order the keys stand
+-- each key's number less t, in whatever order the keys bounds
 weight_of-lower-distinct : (t : ℕ) (q : Bytes) (es : List Entry) → Distinct es
     → weight_of q (lower t es) ≡ weight_of q es - t
 unfolding lower

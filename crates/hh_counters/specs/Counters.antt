@@ -84,7 +84,7 @@ abbrev pub slack : Counters → ℕ → ℕ → ℕ
 slack c m k = (m - total_of c) / (k + 1)
 
 -- what a contract sees of a summary
-pub record Sketch : Type 0 where
+pub record SummaryView : Type 0 where
   pub k : ℕ
   pub total : ℕ
   pub counters : Counters
@@ -103,12 +103,12 @@ pub record Fits (k n : ℕ) (c : Counters) : Type 0 where
   pub within : total_of c ≤ n
 
 -- a summary after one more item, and after another summary with the same k
-abbrev pub sketch_with : Sketch → Entry → Sketch
+abbrev pub sketch_with : SummaryView → Entry → SummaryView
 sketch_with s e = record { k = s.k; total = s.total + e.1; counters = join s.counters (e ∷ []) s.k }
 
-abbrev pub merge_of : Sketch → Sketch → Sketch
+abbrev pub merge_of : SummaryView → SummaryView → SummaryView
 merge_of s t = record { k = s.k; total = s.total + t.total; counters = join s.counters t.counters s.k }
 
 -- the summary of a stream
-abbrev pub sketch_of : ℕ → List Entry → Sketch
+abbrev pub sketch_of : ℕ → List Entry → SummaryView
 sketch_of k xs = record { k = k; total = total_of xs; counters = misra_gries xs k }

@@ -4,7 +4,7 @@ use Rattle.std.specs.List.{AllByRecursion, flat_map}
 use Rattle.std.specs.Map.{keys_of}
 use Rattle.hh_stream.specs.Weights.{Bytes, Entry, IsKey, weight_of, total_of}
 use Rattle.hh_stream.specs.Cuttings.{whole_of}
-use Rattle.hh_counters.specs.Counters.{Counters, Sketch, IsCounters, exceeds, IsLevel, level, max_k, plus, join, misra_gries, IsHonest, slack, sketch_with, sketch_of}
+use Rattle.hh_counters.specs.Counters.{Counters, SummaryView, IsCounters, exceeds, IsLevel, level, max_k, plus, join, misra_gries, IsHonest, slack, sketch_with, sketch_of}
 use Rattle.hh_counters.specs.SpaceSaving.{least_of, translate, IsRun, space_saving, monitor_of, monitor_with, translation_of}
 use Rattle.hh_counters.specs.Condensed.{IsFirstFree, free_name, entry_of, condensed}
 use Rattle.hh_counters.specs.Report.{contenders, keys_above, heavy, rows_above, weights_at, counts_with, has_counter, IsReport}
@@ -80,13 +80,13 @@ CandidatesSuffice =
 -- of an honest summary the contenders for a share are candidates enough
 abbrev pub ContendersSuffice : Type 0
 ContendersSuffice =
-    (s : Sketch) (xs : List Entry) (p q : ℕ) → IsHonest s.counters s.total xs s.k → q ≤ p * (s.k + 1)
+    (s : SummaryView) (xs : List Entry) (p q : ℕ) → IsHonest s.counters s.total xs s.k → q ≤ p * (s.k + 1)
     → rows_above p q (total_of xs) (zip (keys_of (contenders p q s)) (weights_at (keys_of (contenders p q s)) xs))
     ≡ heavy xs p q
 
 -- where no weight is above its key's bound, the keys whose bound is more than a share are candidates enough
-abbrev pub ThinnedSuffice : Type 0
-ThinnedSuffice =
+abbrev pub PrunedSuffice : Type 0
+PrunedSuffice =
     (ks : List Bytes) (bound : Bytes → ℕ) (xs : List Entry) (p q : ℕ) → ((x : Bytes) → weight_of x xs ≤ bound x)
     → let some = keys_above p q (total_of xs) ks (map bound ks) in
     rows_above p q (total_of xs) (zip some (weights_at some xs))

@@ -5,7 +5,7 @@ use Rattle.std.specs.Map.{keys_of}
 use Rattle.std.specs.declared.cmp.Ordering.{Ordering}
 use Rattle.std.specs.Ordering.{nat_cmp, ordering_then, is_lt}
 use Rattle.hh_stream.specs.Weights.{Bytes, Entry, key_cmp, weight_of, total_of}
-use Rattle.hh_counters.specs.Counters.{Counters, Sketch, tally}
+use Rattle.hh_counters.specs.Counters.{Counters, SummaryView, tally}
 
 -- by falling weight, then by rising key
 abbrev pub rank_cmp : Entry → Entry → Ordering
@@ -51,12 +51,12 @@ counts_with (x ∷ ks) xs (n ∷ ns) = (n + weight_of x xs) ∷ counts_with ks x
 
 -- whether a key with this counter can have more than p/q of the total: k + 1 times what it weighs is at
 -- most k + 1 times its counter and what the total has above the counters' sum
-abbrev pub can_be_heavy : ℕ → ℕ → Sketch → Entry → Bool
+abbrev pub can_be_heavy : ℕ → ℕ → SummaryView → Entry → Bool
 can_be_heavy p q s e =
     nat_lt (p * s.total * (s.k + 1) + q * total_of s.counters) (q * (s.total + (s.k + 1) * e.1))
 
 -- the counters of those keys
-abbrev pub contenders : ℕ → ℕ → Sketch → Counters
+abbrev pub contenders : ℕ → ℕ → SummaryView → Counters
 contenders p q s = filter (can_be_heavy p q s) s.counters
 
 -- those of the keys of which the number is more than p/q of n

@@ -1,7 +1,7 @@
 -- Space-Saving (Metwally, Agrawal and El Abbadi 2005, here with weights): k + 1 counters, a newcomer takes the least.
 use Rattle.std.specs.Prelude.{◌≡◌, ℕ, ◌+◌, ◌^◌, ◌<◌, ◌≤◌, not, ◌||◌, ◌==◌, if◌then◌else◌, nat_lt, nat_le, List, [], ◌∷◌, length, slice_index_or, filter, fold}
 use Rattle.hh_stream.specs.Weights.{Bytes, Entry, same_key, weight_of, total_of}
-use Rattle.hh_counters.specs.Counters.{max_k, Counters, IsCounters, add_at, lower, least_counter, Sketch}
+use Rattle.hh_counters.specs.Counters.{max_k, Counters, IsCounters, add_at, lower, least_counter, SummaryView}
 
 -- 0 where one of the k + 1 counters is free, else the least
 abbrev pub least_of : Counters → ℕ → ℕ
@@ -70,11 +70,11 @@ pub record IsMonitor (k n : ℕ) (s : Counters) : Type 0 where
   pub sum_is : total_of s ≡ n
 
 -- after one more item
-abbrev pub monitor_with : Sketch → Entry → Sketch
+abbrev pub monitor_with : SummaryView → Entry → SummaryView
 monitor_with s e = record { k = s.k; total = s.total + e.1; counters = step s.counters e s.k }
 
 -- the summary of Misra and Gries that it is translated to
-abbrev pub translation_of : Sketch → Sketch
+abbrev pub translation_of : SummaryView → SummaryView
 translation_of s = record { k = s.k; total = s.total; counters = translate s.counters s.k }
 
 -- the least counter stands at the place i, and at none before it
@@ -84,5 +84,5 @@ pub record IsFirstLeast (s : Counters) (i : ℕ) : Type 0 where
   pub first : (j : ℕ) (d : Entry) → j < i → (slice_index_or s i d).1 < (slice_index_or s j d).1
 
 -- what a monitor shows after the items
-abbrev pub monitor_of : ℕ → List Entry → Sketch
+abbrev pub monitor_of : ℕ → List Entry → SummaryView
 monitor_of k xs = record { k = k; total = total_of xs; counters = space_saving xs k }

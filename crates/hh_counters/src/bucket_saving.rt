@@ -9,7 +9,7 @@ ghost use Rattle.hh_stream.specs.Ranges.{in_range};
 ghost use Rattle.hh_counters.specs.Counters.{max_k, IsCounters, tally, least_counter, lower};
 ghost use Rattle.hh_counters.specs.SpaceSaving.{monitor_with};
 ghost use Rattle.std.specs.BTreeSet.{IsUnchanged, Updates as SetUpdates, insert_key};
-ghost use Rattle.hh_counters.specs.Buckets.{HasSettled, IsTakenIn, Stand, by_counter};
+ghost use Rattle.hh_counters.specs.Buckets.{HasFreshFirst, IsTakenIn, BoundCounters, by_counter};
 
 use crate::monitor::Monitor;
 use crate::shared_key::SharedKey;
@@ -48,10 +48,10 @@ pub struct BucketSaving {
 }
 
 impl Model for BucketSaving {
-    ghost use Rattle.hh_counters.specs.Counters.{Sketch, tally};
+    ghost use Rattle.hh_counters.specs.Counters.{SummaryView, tally};
     ghost use Rattle.hh_counters.specs.Buckets.{IsLinked};
 
-    ghost Value = { Sketch };
+    ghost Value = { SummaryView };
 
     ghost view = { λ s. record { k = s.k; total = s.total; counters = tally s.index.entries } };
 
@@ -232,11 +232,11 @@ fn add_item(
     requires key { (0 < length key.now) × (length key.now ≤ max_key_len) }
     requires positive { 0 < weight }
     requires bounded { total_of (tally index.old.entries) + weight < 2 ^ 63 }
-    requires stand { Stand index.old.entries buckets.old }
+    requires bounds { BoundCounters index.old.entries buckets.old }
     ensures taken { OnOk result
         (IsTakenIn k index.old.entries index.new.entries buckets.new (key.now, weight)) }
     ensures unchanged { OnErr result (index.new.entries ≡ index.old.entries) }
-    ensures stand { OnErr result (Stand index.new.entries buckets.new) }
+    ensures bounds { OnErr result (BoundCounters index.new.entries buckets.new) }
     ensures known { 0 < weight_of key.now (tally index.old.entries) → IsOk result }
 {
     if let Some((place, _, counter)) = index.get_full(Sought(key)) {
@@ -249,21 +249,21 @@ fn add_item(
         enter(index, buckets, newcomer, weight)?;
         return Ok(());
     }
-    let least = settle(index, buckets)?;
+    let least = refresh_first(index, buckets)?;
     replace_first(index, buckets, newcomer, least, weight)?;
     Ok(())
 }
 
 // Moves the first key of the first bucket to that of its counter, until it stands there. This
 // counter, which is the least.
-fn settle(
+fn refresh_first(
     index: &IndexMap<SharedKey, u64>,
     buckets: &mut BTreeSet<(u64, SharedKey)>,
 ) -> Result<u64, AllocError>
     requires some { 0 < length index.now.entries }
-    requires stand { Stand index.now.entries buckets.old }
-    ensures stand { Stand index.now.entries buckets.new }
-    ensures settled { IfOk result (HasSettled index.now.entries buckets.new) }
+    requires bounds { BoundCounters index.now.entries buckets.old }
+    ensures bounds { BoundCounters index.now.entries buckets.new }
+    ensures fresh { IfOk result (HasFreshFirst index.now.entries buckets.new) }
 {
     loop {
         let Some((from, key)) = buckets.first() else {
@@ -293,8 +293,8 @@ fn replace_first(
     requires positive { 0 < weight }
     requires bounded { total_of (tally index.old.entries) + weight < 2 ^ 63 }
     requires new { index_get same_key index.old newcomer ≡ None }
-    requires settled { HasSettled index.old.entries buckets.old least }
-    ensures taken { OnOk result ((k : ℕ) → Stand index.old.entries buckets.old
+    requires fresh { HasFreshFirst index.old.entries buckets.old least }
+    ensures taken { OnOk result ((k : ℕ) → BoundCounters index.old.entries buckets.old
         → k < length index.old.entries
         → IsTakenIn k index.old.entries index.new.entries buckets.new (newcomer, weight)) }
     ensures unchanged { OnErr result (index.new.entries ≡ index.old.entries) }

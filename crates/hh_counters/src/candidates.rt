@@ -7,7 +7,7 @@ ghost use Rattle.hh_stream.specs.Weights.{key_cmp, total_of};
 ghost use Rattle.hh_counters.specs.Counters.{max_k};
 ghost use Rattle.hh_counters.specs.Report.{IsShare, contenders, counts_with, rows_above, keys_above};
 
-use crate::report::{Heavy, is_share, selected_rows};
+use crate::report::{Heavy, is_heavy, selected_rows};
 use crate::sought::Sought;
 use crate::summary::Summary;
 use hh_stream::{Item, Key};
@@ -77,7 +77,7 @@ impl Candidates {
     /// Those candidates of which the number is more than p/q of the total, where `numbers` has one
     /// for each place. Numbers that are not below the keys' weights leave each heavy key. p/q is at
     /// most 1, and q at most [`MAX_Q`](crate::MAX_Q).
-    pub fn thinned(
+    pub fn pruned(
         &self,
         numbers: &[u64],
         total: u64,
@@ -92,7 +92,7 @@ impl Candidates {
     {
         let mut keys = IndexSet::new(*self.keys.allocator());
         for i in 0..numbers.len() {
-            if is_share(numbers[i], p, q, total) {
+            if is_heavy(numbers[i], p, q, total) {
                 keys.insert(self.keys.as_slice()[i].copy()?)?;
             }
         }

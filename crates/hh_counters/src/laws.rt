@@ -1,6 +1,6 @@
 //! Laws of the definitions in `specs/`. Each function does nothing: its contract is the law.
 
-ghost use Rattle.hh_counters.specs.Laws.{MisraGriesIsHonest, JoinOfHonestIsHonest, HeavyKeysHaveCounters, CountersBoundWeights, LevelIsLeast, SumIsByKey, JoinTakesTheLevel, ReportIsExact, ReportIsUnique, HonestIsNear, HonestInAnyOrder, CandidatesSuffice, ContendersSuffice, ThinnedSuffice, CountsAddUp, CountsStayWithin, RunSumsToTotal, RunBoundsWeights, TranslationIsMisraGries, StepsAreARun, SummariesFollowItems, MonitorsFollowItems, FreeNameIsFirst, CondensedKeepsWeights, CondensedAreItems, FoundByWeights, CondensedPartsSuffice, CondensedPartsReport, CondensedIsCounted};
+ghost use Rattle.hh_counters.specs.Laws.{MisraGriesIsHonest, JoinOfHonestIsHonest, HeavyKeysHaveCounters, CountersBoundWeights, LevelIsLeast, SumIsByKey, JoinTakesTheLevel, ReportIsExact, ReportIsUnique, HonestIsNear, HonestInAnyOrder, CandidatesSuffice, ContendersSuffice, PrunedSuffice, CountsAddUp, CountsStayWithin, RunSumsToTotal, RunBoundsWeights, TranslationIsMisraGries, StepsAreARun, SummariesFollowItems, MonitorsFollowItems, FreeNameIsFirst, CondensedKeepsWeights, CondensedAreItems, FoundByWeights, CondensedPartsSuffice, CondensedPartsReport, CondensedIsCounted};
 
 /// The Misra-Gries counters of a list of items are honest for it (Misra and Gries 1982).
 pub fn misra_gries_is_honest()
@@ -59,8 +59,8 @@ pub fn contenders_suffice()
 
 /// Of candidates those are enough of which a number that is not below the key's weight is more than
 /// the share.
-pub fn thinned_suffice()
-    ensures { ThinnedSuffice }
+pub fn pruned_suffice()
+    ensures { PrunedSuffice }
 {}
 
 /// Candidates counted from 0 have their weights, and counting piece by piece is counting all.

@@ -2,7 +2,7 @@
 
 ghost use Rattle.std.specs.Prelude.{◌≡◌, ◌+◌, ◌<◌, ◌≤◌, ◌↔◌, ◌==◌, OnOk, OnErr, IsOk, IfOk, IfErr, IsErrOf, length, []};
 ghost use Rattle.hh_stream.specs.Weights.{max_total, weight_of, total_of};
-ghost use Rattle.hh_counters.specs.Counters.{Sketch, sketch_of};
+ghost use Rattle.hh_counters.specs.Counters.{SummaryView, sketch_of};
 ghost use Rattle.hh_counters.specs.SpaceSaving.{least_of, monitor_of, monitor_with, translation_of};
 
 use crate::summary::{AddFault, Summary};
@@ -16,7 +16,7 @@ use std::alloc::AllocError;
 /// it; no other key weighs more than that. Each form has the same counters after the same items.
 pub trait Monitor: Drop {
     // k, the total, and the counters by rising key
-    ghost seen: { Self → Sketch };
+    ghost seen: { Self → SummaryView };
 
     /// One less than the most keys that are monitored.
     fn k(&self) -> u64

@@ -64,7 +64,7 @@ fn heavy_rows(
 {
     let mut rows = Vec::new(alloc);
     for i in 0..keys.len() {
-        if is_share(numbers[i], p, q, total) {
+        if is_heavy(numbers[i], p, q, total) {
             let row = Heavy {
                 key: keys[i].copy()?,
                 weight: numbers[i],
@@ -76,7 +76,7 @@ fn heavy_rows(
 }
 
 /// Whether the number is more than p/q of the total.
-pub fn is_share(number: u64, p: u64, q: u64, total: u64) -> bool
+pub fn is_heavy(number: u64, p: u64, q: u64, total: u64) -> bool
     ensures { result ≡ nat_lt (p * total) (q * number) }
 {
     u128::from(p) * u128::from(total) < u128::from(q) * u128::from(number)

@@ -3,7 +3,7 @@
 ghost use Rattle.std.specs.Prelude.{◌≡◌, ℕ, ◌+◌, ◌<◌, ◌≤◌, ◌^◌, ◌↔◌, ◌⊎◌, [], IfOk, IsOk, IsErr, OnOk, OnErr, IsErrOf, length, slice_index_or, false};
 ghost use Rattle.hh_stream.specs.Weights.{max_total, Entry, key_cmp, weight_of, total_of};
 ghost use Rattle.hh_stream.specs.Ranges.{in_range};
-ghost use Rattle.hh_counters.specs.Counters.{max_k, IsCounters, Sketch};
+ghost use Rattle.hh_counters.specs.Counters.{max_k, IsCounters, SummaryView};
 ghost use Rattle.hh_counters.specs.SpaceSaving.{IsFirstLeast, IsMonitor, monitor_with, step, taken_over, translation_of};
 
 use crate::entries::{add_entry, counter_of, least_counter, lower_all};
@@ -27,10 +27,10 @@ pub struct SpaceSaving {
 }
 
 impl Model for SpaceSaving {
-    ghost use Rattle.hh_counters.specs.Counters.{Sketch};
+    ghost use Rattle.hh_counters.specs.Counters.{SummaryView};
     ghost use Rattle.hh_counters.specs.SpaceSaving.{IsMonitor};
 
-    ghost Value = { Sketch };
+    ghost Value = { SummaryView };
 
     ghost view = { λ s. record { k = s.k; total = s.total; counters = s.entries.items } };
 

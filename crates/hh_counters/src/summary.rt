@@ -3,7 +3,7 @@
 ghost use Rattle.std.specs.Prelude.{◌≡◌, ℕ, ◌+◌, ◌<◌, ◌≤◌, ◌^◌, ◌↔◌, ◌⊎◌, [], ◌≢◌, ◌==◌, IsTrue, IsOk, IsErr, IsErrOf, IfOk, OnOk, OnErr, length, slice_index_or, false, true};
 ghost use Rattle.hh_stream.specs.Weights.{max_total, weight_of, total_of, max_key_len};
 ghost use Rattle.hh_stream.specs.Ranges.{in_range};
-ghost use Rattle.hh_counters.specs.Counters.{max_k, Fits, IsCounters, Sketch, sketch_with, merge_of, sketch_of, slack};
+ghost use Rattle.hh_counters.specs.Counters.{max_k, Fits, IsCounters, SummaryView, sketch_with, merge_of, sketch_of, slack};
 
 use crate::entries::{add_item, are_counters, counter_of, join, sum_of, sums_within};
 use hh_stream::{Item, Key, MAX_TOTAL};
@@ -30,9 +30,9 @@ pub struct Summary {
 }
 
 impl Model for Summary {
-    ghost use Rattle.hh_counters.specs.Counters.{Sketch, Fits};
+    ghost use Rattle.hh_counters.specs.Counters.{SummaryView, Fits};
 
-    ghost Value = { Sketch };
+    ghost Value = { SummaryView };
 
     ghost view = { λ s. record { k = s.k; total = s.total; counters = s.entries.items } };
 

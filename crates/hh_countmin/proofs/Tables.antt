@@ -7,10 +7,10 @@ use Rattle.std.proofs.lemmas.Bool.Decides.{nat_tests}
 use Rattle.hh_stream.specs.Ranges.{in_range}
 use Rattle.hh_stream.specs.Weights.{Entry, total_of}
 use Rattle.hh_countmin.specs.Family.{Coefficients, max_width}
-use Rattle.hh_countmin.specs.Table.{Grid, FitsTable, cell_at, at_cell, cell_sum, cells_by, table_of, empty_table, grid_with, grid_sum}
+use Rattle.hh_countmin.specs.Table.{TableView, FitsTable, cell_at, at_cell, cell_sum, cells_by, table_of, empty_table, grid_with, grid_sum}
 use Rattle.hh_countmin.proofs.Cells.{cell_at-cells_by, same_cells, same_cells_by, sum_over-cell_sum, fits_by}
 
-abbrev grid : Coefficients → ℕ → ℕ → List ℕ → Grid
+abbrev grid : Coefficients → ℕ → ℕ → List ℕ → TableView
 grid family width total cells = record { family = family; width = width; total = total; cells = cells }
 
 -- tables with one total and the same cells
@@ -66,5 +66,5 @@ table_of-fits family width xs is_width small =
 pub empty_fits : (family : Coefficients) (width : ℕ) → in_range width max_width ≡ true
     → FitsTable family width 0 (replicate (length family.rows * width) 0)
 empty_fits family width is_width =
-    subst (λ (t : Grid). FitsTable family width 0 t.cells) (sym (empty_table-is family width))
+    subst (λ (t : TableView). FitsTable family width 0 t.cells) (sym (empty_table-is family width))
     (table_of-fits family width [] is_width (omega arith))

@@ -6,7 +6,7 @@ use Rattle.hh_stream.specs.Weights.{Bytes, Entry, total_of}
 use Rattle.hh_countmin.specs.Family.{Coefficients, max_width, cell_of}
 
 -- what a contract sees of a table: the cells lie row by row
-pub record Grid : Type 0 where
+pub record TableView : Type 0 where
   pub family : Coefficients
   pub width : ℕ
   pub total : ℕ
@@ -40,7 +40,7 @@ abbrev pub cell_sum : Coefficients → ℕ → ℕ → ℕ → List Entry → �
 cell_sum family width r c xs = sum_by (at_cell family width r c) xs
 
 -- the table of a list of items
-abbrev pub table_of : Coefficients → ℕ → List Entry → Grid
+abbrev pub table_of : Coefficients → ℕ → List Entry → TableView
 table_of family width xs = record {
   family = family;
   width = width;
@@ -49,19 +49,19 @@ table_of family width xs = record {
 }
 
 -- a table of no items
-abbrev pub empty_table : Coefficients → ℕ → Grid
+abbrev pub empty_table : Coefficients → ℕ → TableView
 empty_table family width =
     record { family = family; width = width; total = 0; cells = replicate (length family.rows * width) 0 }
 
 -- a table after an item: in each row the key's cell has the weight more, and no other cell
-abbrev pub grid_with : Grid → Entry → Grid
+abbrev pub grid_with : TableView → Entry → TableView
 grid_with t e = record t {
   total = t.total + e.1;
   cells = cells_by (λ r c. cell_at t.width t.cells r c + at_cell t.family t.width r c e) (length t.family.rows) t.width;
 }
 
 -- two tables of one family and width, cell by cell
-abbrev pub grid_sum : Grid → Grid → Grid
+abbrev pub grid_sum : TableView → TableView → TableView
 grid_sum s t = record s {
   total = s.total + t.total;
   cells = cells_by (λ r c. cell_at s.width s.cells r c + cell_at s.width t.cells r c) (length s.family.rows) s.width;
@@ -77,7 +77,7 @@ abbrev pub least_of_rows : Coefficients → (ℕ → ℕ) → ℕ
 least_of_rows family f = least_up_to f (length family.rows - 1)
 
 -- the least of a key's cells in a table
-abbrev pub estimate_in : Grid → Bytes → ℕ
+abbrev pub estimate_in : TableView → Bytes → ℕ
 estimate_in t key = least_of_rows t.family (λ r. cell_at t.width t.cells r (cell_of t.family r key t.width))
 
 -- a key's estimate of a list of items

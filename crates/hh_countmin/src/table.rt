@@ -26,9 +26,9 @@ pub struct Table {
 }
 
 impl Model for Table {
-    ghost use Rattle.hh_countmin.specs.Table.{Grid, FitsTable};
+    ghost use Rattle.hh_countmin.specs.Table.{TableView, FitsTable};
 
-    ghost Value = { Grid };
+    ghost Value = { TableView };
 
     ghost view = { λ table.
         record {

@@ -5,9 +5,9 @@ use Rattle.std.proofs.lemmas.List.Sums.{sum_by_more_le}
 use Rattle.std.proofs.lemmas.Grind.{flat_map-append}
 use Rattle.hh_stream.specs.Weights.{Bytes, Entry, max_total, total_of}
 use Rattle.hh_stream.specs.Cuttings.{pieces_of, whole_of}
-use Rattle.hh_counters.specs.Counters.{Sketch, sketch_of}
+use Rattle.hh_counters.specs.Counters.{SummaryView, sketch_of}
 use Rattle.hh_counters.specs.Report.{counts_with, weights_at}
-use Rattle.hh_countmin.specs.Table.{Grid, table_of}
+use Rattle.hh_countmin.specs.Table.{TableView, table_of}
 use Rattle.hh_pool.specs.Settings.{Settings}
 use Rattle.hh_pool.specs.Passes.{piece_of}
 use Rattle.hh_pool.specs.Progress.{IsFirstAloneUpTo}
@@ -32,13 +32,13 @@ total-more lengths xs piece n low is whole most =
     omega (arith, weigh (take n pieces), weigh pieces, more, ap total_of is, ap total_of whole)
 
 -- nothing is done
-pub alone_begins : (pieces : List (List Entry)) (settings : Settings) (grid : Grid)
+pub alone_begins : (pieces : List (List Entry)) (settings : Settings) (grid : TableView)
     → grid ≡ table_of settings.family settings.width [] → IsFirstAloneUpTo pieces settings 0 [] grid
 alone_begins pieces settings grid e = record { summaries = refl; table = e }
 
 -- one piece more is summarised, and its items are in the table
-pub alone_more : (pieces : List (List Entry)) (settings : Settings) (n : ℕ) (sketches more : List Sketch)
-    (was grid : Grid) → n < length pieces → more ≡ sketches ++ sketch_of settings.k (piece_of pieces n) ∷ []
+pub alone_more : (pieces : List (List Entry)) (settings : Settings) (n : ℕ) (sketches more : List SummaryView)
+    (was grid : TableView) → n < length pieces → more ≡ sketches ++ sketch_of settings.k (piece_of pieces n) ∷ []
     → grid ≡ table_of settings.family settings.width (whole_of (take n pieces) ++ piece_of pieces n)
     → IsFirstAloneUpTo pieces settings n sketches was → IsFirstAloneUpTo pieces settings (n + 1) more grid
 alone_more pieces settings n sketches more was grid low e f p = record {

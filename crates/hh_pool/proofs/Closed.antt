@@ -10,7 +10,7 @@ use Rattle.std.proofs.lemmas.Nat.{mul-add-lt}
 use Rattle.std.proofs.lemmas.Option.{slice_get-get_or}
 use Rattle.hh_stream.specs.Weights.{Bytes, Entry, at_key, weight_of, total_of, max_total}
 use Rattle.hh_stream.specs.Cuttings.{whole_of}
-use Rattle.hh_counters.specs.Counters.{Sketch, sketch_of}
+use Rattle.hh_counters.specs.Counters.{SummaryView, sketch_of}
 use Rattle.hh_counters.specs.Report.{weights_at}
 use Rattle.hh_countmin.specs.Table.{at_cell, cell_sum, table_of}
 use Rattle.hh_countmin.specs.Laws.{CellsAreCellSums}
@@ -26,7 +26,7 @@ exact n sum e low = omega arith
 
 -- the closed sums of the first pass are the cells of the whole table
 pub closed_cells : CellsAreCellSums → (pieces : List (List Entry)) (xs : List Entry) (settings : Settings)
-    (seat : Holding) (kept : List (ℕ × Sketch)) (values : List ℕ) → whole_of pieces ≡ xs → total_of xs ≤ max_total
+    (seat : Holding) (kept : List (ℕ × SummaryView)) (values : List ℕ) → whole_of pieces ≡ xs → total_of xs ≤ max_total
     → AreFirstPasses pieces settings seat kept → IsDistinctBelow (length pieces) seat.claims
     → HasAllBelow (length pieces) seat.claims → length values ≡ length settings.family.rows * settings.width
     → ((cell : ℕ) → cell < length settings.family.rows * settings.width → get_or values cell 0 ≡ sum_at seat.adds cell)
@@ -61,15 +61,15 @@ closed_weights pieces xs keys seat values whole low p distinct all long each =
     ∙ sym (weight_behind_number keys xs i key at)))
 
 -- each summary found is its piece's
-pub found_are : (k : ℕ) (pieces : List (List Entry)) (claims : List ℕ) (found : List (ℕ × Sketch))
-    → found ≡ summaries_at k pieces claims → All (λ (it : ℕ × Sketch). it.1 ≡ sketch_of k (piece_of pieces it.0)) found
+pub found_are : (k : ℕ) (pieces : List (List Entry)) (claims : List ℕ) (found : List (ℕ × SummaryView))
+    → found ≡ summaries_at k pieces claims → All (λ (it : ℕ × SummaryView). it.1 ≡ sketch_of k (piece_of pieces it.0)) found
 found_are k pieces claims found e =
-    let P : ℕ × Sketch → Type 0 = λ it. it.1 ≡ sketch_of k (piece_of pieces it.0) in
+    let P : ℕ × SummaryView → Type 0 = λ it. it.1 ≡ sketch_of k (piece_of pieces it.0) in
     subst (All P) (sym e) (All-map P (λ i. (i, sketch_of k (piece_of pieces i))) claims (λ j d low. refl))
 
 -- the numbers of the summaries are the claimed ones
 pub numbers_at : (k : ℕ) (pieces : List (List Entry)) (claims : List ℕ)
-    → map (λ (it : ℕ × Sketch). it.0) (summaries_at k pieces claims) ≡ claims
+    → map (λ (it : ℕ × SummaryView). it.0) (summaries_at k pieces claims) ≡ claims
 numbers_at k pieces [] = refl
 numbers_at k pieces (i ∷ is) = λ j. i ∷ numbers_at k pieces is j
 

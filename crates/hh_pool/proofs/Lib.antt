@@ -1,7 +1,7 @@
 pub mod TreeFacts
 pub mod MergeFacts
 pub mod ValueFacts
-pub mod ReadingFacts
+pub mod ParsingFacts
 pub mod NumberFacts
 pub mod Pieces
 pub mod Tried

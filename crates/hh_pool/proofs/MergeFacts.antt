@@ -1,7 +1,7 @@
 -- The leaves of a tree, and what its parts need and give where its summaries are merged.
 use Rattle.std.proofs.Common.{◌≡◌, ◌+◌, ◌<◌, ◌∙◌, ℕ, List, [], length, Result, Ok, refl, sym, arith}
 use Rattle.std.specs.Prelude.{slice_index_or, sum_by}
-use Rattle.hh_counters.specs.Counters.{Sketch}
+use Rattle.hh_counters.specs.Counters.{SummaryView}
 use Rattle.hh_counters.specs.declared.summary.MergeFault.{MergeFault}
 use Rattle.hh_shared.specs.Tally.{times, IsDistinctBelow, HasAllBelow}
 use Rattle.hh_shared.proofs.Tallies.{all-length, sum_by-all, times-append, times-here}
@@ -58,12 +58,12 @@ right-places l r n h = record {
 }
 
 -- the summaries are the same but at the leaves of the tree
-abbrev AreOutside : MergeTree → List Sketch → List Sketch → Type 0
+abbrev AreOutside : MergeTree → List SummaryView → List SummaryView → Type 0
 AreOutside t xs ys =
     (i : ℕ) → times i (leaves t) ≡ 0 → slice_index_or ys i no_sketch ≡ slice_index_or xs i no_sketch
 
 -- a result depends on the summaries at the leaves alone
-result-same : (t : MergeTree) (xs ys : List Sketch)
+result-same : (t : MergeTree) (xs ys : List SummaryView)
     → ((i : ℕ) → 0 < times i (leaves t) → slice_index_or ys i no_sketch ≡ slice_index_or xs i no_sketch)
     → tree_result t ys ≡ tree_result t xs
 result-same (Piece i) xs ys h = rw (h i (omega (arith, times-here i []))) refl
@@ -71,13 +71,13 @@ result-same (Merge l r) xs ys h =
     rw (result-same l xs ys (at-left l r h), result-same r xs ys (at-right l r h)) refl
 
 -- what the left tree took is none of the right tree's
-right-same : (l r : MergeTree) (n : ℕ) (xs ys : List Sketch) → IsDistinctBelow n (leaves (Merge l r))
+right-same : (l r : MergeTree) (n : ℕ) (xs ys : List SummaryView) → IsDistinctBelow n (leaves (Merge l r))
     → AreOutside l xs ys → tree_result r ys ≡ tree_result r xs
 right-same l r n xs ys h others =
     result-same r xs ys (λ i some. others i (omega (arith, some, h.once i, times-append i (leaves l) (leaves r))))
 
 -- the left result is there: the node merges it with the right one, or is refused with it
-pub node-result : (l r : MergeTree) (n : ℕ) (xs ys : List Sketch) (s : Sketch) (right : Result Sketch MergeFault)
+pub node-result : (l r : MergeTree) (n : ℕ) (xs ys : List SummaryView) (s : SummaryView) (right : Result SummaryView MergeFault)
     → IsDistinctBelow n (leaves (Merge l r)) → AreOutside l xs ys
     → tree_result l xs ≡ Ok s → tree_result r ys ≡ right → tree_result (Merge l r) xs ≡ merge_both (Ok s) right
 node-result l r n xs ys s right h others left is = rw (left, sym (right-same l r n xs ys h others) ∙ is) refl

@@ -7,10 +7,10 @@ use Rattle.std.proofs.lemmas.List.Sums.{sum_by-append, sum_by-cons}
 use Rattle.std.proofs.lemmas.Bool.Decides.{nat_tests}
 use Rattle.hh_stream.specs.Weights.{Bytes, Entry, weight_of, total_of, max_total}
 use Rattle.hh_stream.specs.Cuttings.{pieces_of, whole_of}
-use Rattle.hh_counters.specs.Counters.{Sketch, sketch_of, merge_of, misra_gries, IsHonest}
+use Rattle.hh_counters.specs.Counters.{SummaryView, sketch_of, merge_of, misra_gries, IsHonest}
 use Rattle.hh_counters.specs.declared.summary.MergeFault.{MergeFault}
 use Rattle.hh_counters.specs.Report.{contenders, heavy, rows_above, keys_above, weights_at}
-use Rattle.hh_counters.specs.Laws.{MisraGriesIsHonest, JoinOfHonestIsHonest, ContendersSuffice, ThinnedSuffice}
+use Rattle.hh_counters.specs.Laws.{MisraGriesIsHonest, JoinOfHonestIsHonest, ContendersSuffice, PrunedSuffice}
 use Rattle.hh_shared.specs.Tally.{times}
 use Rattle.hh_pool.specs.Trees.{MergeTree, Piece, Merge, IsMergeTree, leaves, merge_both, merge_result, no_sketch, tree_result, tree_value}
 use Rattle.hh_pool.specs.Laws.{TreesMergeSummaries}
@@ -20,16 +20,16 @@ use Rattle.hh_pool.proofs.MergeFacts.{at-left, at-right, distinct-leaves, length
 use Rattle.hh_pool.proofs.Pieces.{length-pieces_of}
 use Rattle.hh_pool.proofs.ValueFacts.{IsMergeOf, merge-of}
 
-abbrev total_at : List Sketch → ℕ → ℕ
+abbrev total_at : List SummaryView → ℕ → ℕ
 total_at ss i = (get_or ss i no_sketch).total
 
-merge_fits : (s t : Sketch) → s.k ≡ t.k → s.total + t.total ≤ max_total → merge_result s t ≡ Ok (merge_of s t)
+merge_fits : (s t : SummaryView) → s.k ≡ t.k → s.total + t.total ≤ max_total → merge_result s t ≡ Ok (merge_of s t)
 merge_fits s t same fits = grind (arith, nat_tests)
 
 -- summaries with one k, whose totals fit together, are merged
-tree_merges : (t : MergeTree) (ss : List Sketch) (k : ℕ)
+tree_merges : (t : MergeTree) (ss : List SummaryView) (k : ℕ)
     → ((i : ℕ) → 0 < times i (leaves t) → (get_or ss i no_sketch).k ≡ k) → sum_by (total_at ss) (leaves t) ≤ max_total
-    → (s : Sketch) × (tree_result t ss ≡ Ok s) × (s.k ≡ k) × (s.total ≡ sum_by (total_at ss) (leaves t))
+    → (s : SummaryView) × (tree_result t ss ≡ Ok s) × (s.k ≡ k) × (s.total ≡ sum_by (total_at ss) (leaves t))
 tree_merges (Piece i) ss k one_k fits =
     (get_or ss i no_sketch, refl, one_k i (omega (arith, times-here i [])), omega arith)
 tree_merges (Merge l r) ss k one_k fits =
@@ -40,14 +40,14 @@ tree_merges (Merge l r) ss k one_k fits =
     (merge_of a.0 b.0, (λ i. merge_both (a.1 i) (b.1 i)) ∙ node, a.2, omega (arith, a.3, b.3))
 
 -- the totals of the pieces' summaries add up to the total of all items
-total-sketches : (k : ℕ) (pieces : List (List Entry)) → sum_by (λ (s : Sketch). s.total) (map (sketch_of k) pieces)
+total-sketches : (k : ℕ) (pieces : List (List Entry)) → sum_by (λ (s : SummaryView). s.total) (map (sketch_of k) pieces)
     ≡ total_of (whole_of pieces)
 total-sketches k [] = refl
 total-sketches k (p ∷ ps) =
-    let first = sum_by-cons (λ (s : Sketch). s.total) (sketch_of k p) (map (sketch_of k) ps) in
+    let first = sum_by-cons (λ (s : SummaryView). s.total) (sketch_of k p) (map (sketch_of k) ps) in
     omega (arith, first, total-sketches k ps, sum_by-append (λ (e : Entry). e.1) p (whole_of ps))
 
-counters-sketches : (k : ℕ) (pieces : List (List Entry)) → map (λ (s : Sketch). s.counters) (map (sketch_of k) pieces)
+counters-sketches : (k : ℕ) (pieces : List (List Entry)) → map (λ (s : SummaryView). s.counters) (map (sketch_of k) pieces)
     ≡ map (λ p. misra_gries p k) pieces
 counters-sketches k [] = refl
 counters-sketches k (p ∷ ps) = ap (λ cs. misra_gries p k ∷ cs) (counters-sketches k ps)
@@ -58,26 +58,26 @@ sketch-at k pieces i low = get_or-map (sketch_of k) pieces i [] no_sketch low
 
 -- no plan is refused at the summaries of a stream's pieces
 pieces_merge : (t : MergeTree) (k : ℕ) (pieces : List (List Entry)) → IsMergeTree t (length pieces)
-    → total_of (whole_of pieces) ≤ max_total → (s : Sketch) × (tree_result t (map (sketch_of k) pieces) ≡ Ok s)
+    → total_of (whole_of pieces) ≤ max_total → (s : SummaryView) × (tree_result t (map (sketch_of k) pieces) ≡ Ok s)
 pieces_merge t k pieces plan fits =
     let ss = map (sketch_of k) pieces in
     let count = length-map pieces (sketch_of k) in
-    let all = sum-leaves (λ (s : Sketch). s.total) no_sketch t ss (subst (IsMergeTree t) (sym count) plan) in
+    let all = sum-leaves (λ (s : SummaryView). s.total) no_sketch t ss (subst (IsMergeTree t) (sym count) plan) in
     let below = (distinct-leaves t (length pieces) plan).below in
     let one_k : (i : ℕ) → 0 < times i (leaves t) → (get_or ss i no_sketch).k ≡ k =
-    λ i some. ap (λ (s : Sketch). s.k) (sketch-at k pieces i (below i some)) in
+    λ i some. ap (λ (s : SummaryView). s.k) (sketch-at k pieces i (below i some)) in
     let one = tree_merges t ss k one_k (omega (arith, all, total-sketches k pieces)) in
     (one.0, one.1)
 
 -- what merge_by says of the summaries of a stream's pieces
 pub merged_is : MisraGriesIsHonest → (t : MergeTree) (k : ℕ) (pieces : List (List Entry)) (xs : List Entry)
-    (ss : List Sketch) (s : Sketch) → 0 < length pieces → whole_of pieces ≡ xs → ss ≡ map (sketch_of k) pieces
+    (ss : List SummaryView) (s : SummaryView) → 0 < length pieces → whole_of pieces ≡ xs → ss ≡ map (sketch_of k) pieces
     → IsMergeOf t ss s → IsMerged t k pieces xs s
 merged_is law t k pieces xs ss s some whole e of =
     let sketches = map (sketch_of k) pieces in
     let here : IsMergeOf t sketches s = rw e at of in
     let count : length sketches ≡ length pieces = length-map pieces (sketch_of k) in
-    let first = ap (λ (piece : Sketch). piece.k) (sketch-at k pieces 0 some) in
+    let first = ap (λ (piece : SummaryView). piece.k) (sketch-at k pieces 0 some) in
     let k_is : s.k ≡ k = sym (here.same_k 0 no_sketch (omega arith)) ∙ first in
     let total_is = here.total ∙ (total-sketches k pieces ∙ ap total_of whole) in
     let each : (i : ℕ) → i < length sketches → let piece = get_or sketches i no_sketch in
@@ -103,13 +103,13 @@ summaries-merge join law t k parts s tree made =
     let some : 0 < length parts = omega (arith, some-leaf t, length_leaves t (length parts) tree) in
     merged_is law t k parts (whole_of parts) ss s some refl refl (merge-of join t ss s over made)
 
--- the contenders of an honest summary, thinned by numbers that no weight is above, are enough
-pub thinned_enough : ContendersSuffice → ThinnedSuffice
-    → (s : Sketch) (xs : List Entry) (p q total : ℕ) (ks keys : List Bytes) (numbers : List ℕ) (bound : Bytes → ℕ)
+-- the contenders of an honest summary, pruned by numbers that no weight is above, are enough
+pub pruned_enough : ContendersSuffice → PrunedSuffice
+    → (s : SummaryView) (xs : List Entry) (p q total : ℕ) (ks keys : List Bytes) (numbers : List ℕ) (bound : Bytes → ℕ)
     → IsHonest s.counters s.total xs s.k → q ≤ p * (s.k + 1)
     → ((x : Bytes) → weight_of x xs ≤ bound x) → total ≡ total_of xs → ks ≡ keys_of (contenders p q s)
     → numbers ≡ map bound ks → keys ≡ keys_above p q total ks numbers → AreEnough keys xs p q
-thinned_enough contend thin s xs p q total ks keys numbers bound honest enough most total_is ks_are numbers_are
+pruned_enough contend thin s xs p q total ks keys numbers bound honest enough most total_is ks_are numbers_are
     keys_are =
     let all = keys_of (contenders p q s) in
     let here : keys ≡ keys_above p q (total_of xs) all (map bound all) = keys_are
@@ -123,7 +123,7 @@ heavy_is xs p q total keys weights enough total_is weights_are =
     (λ i. rows_above p q (total_is i) (zip keys (weights_are i))) ∙ enough
 
 -- so no refusal comes
-pub no_refusal : (t : MergeTree) (k : ℕ) (lengths : List ℕ) (xs : List Entry) (ss : List Sketch) (e : MergeFault)
+pub no_refusal : (t : MergeTree) (k : ℕ) (lengths : List ℕ) (xs : List Entry) (ss : List SummaryView) (e : MergeFault)
     → IsMergeTree t (length lengths) → whole_of (pieces_of lengths xs) ≡ xs → total_of xs ≤ max_total
     → ss ≡ map (sketch_of k) (pieces_of lengths xs) → tree_result t ss ≡ Err e → ⊥
 no_refusal t k lengths xs ss e tree whole most is refused =

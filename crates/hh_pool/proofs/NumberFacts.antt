@@ -8,8 +8,8 @@ use Rattle.std.proofs.Math.ListN.{length-set}
 use Rattle.hh_pool.specs.Trees.{IsMergeTree, MergeTree, leaves}
 use Rattle.hh_shared.specs.Tally.{times, IsDistinctBelow}
 use Rattle.hh_pool.specs.PlanTexts.{AreMarked, NumbersRefused, PlanRefused, SpellsTree}
-use Rattle.hh_pool.specs.declared.reading.PlanFault.{PlanFault}
-use Rattle.hh_pool.specs.declared.reading.PlanFault.TheVariants as fault
+use Rattle.hh_pool.specs.declared.parsing.PlanFault.{PlanFault}
+use Rattle.hh_pool.specs.declared.parsing.PlanFault.TheVariants as fault
 use Rattle.hh_shared.proofs.Tallies.{distinct-push, times-push, times-push_other}
 
 -- a list at a place

@@ -10,7 +10,7 @@ use Rattle.std.proofs.lemmas.List.FromFn.{fill_by_all}
 use Rattle.std.proofs.lemmas.List.Sorted.{All-permutation, IsPermutation-map, sum_by-IsPermutation}
 use Rattle.std.proofs.lemmas.List.Sums.{count_by_more_yes}
 use Rattle.std.proofs.lemmas.Map.Keys.{ge_from_not_lt}
-use Rattle.hh_counters.specs.Counters.{Sketch}
+use Rattle.hh_counters.specs.Counters.{SummaryView}
 use Rattle.hh_shared.specs.Tally.{times, IsDistinctBelow, HasAllBelow}
 use Rattle.hh_pool.specs.Trees.{no_sketch}
 use Rattle.hh_shared.proofs.Tallies.{all-length, times-append}
@@ -60,14 +60,14 @@ rising xs ordered once k within = ⊎_elim
     (cases_lt (get_or xs k 0) (get_or xs (k + 1) 0))
 
 -- sorted by their numbers, the summaries are those of 0, 1 and so on
-pub ordered : (f : ℕ → Sketch) (n : ℕ) (found sorted : List (ℕ × Sketch))
-    → All (λ (it : ℕ × Sketch). it.1 ≡ f it.0) found → IsDistinctBelow n (map (λ (it : ℕ × Sketch). it.0) found)
-    → HasAllBelow n (map (λ (it : ℕ × Sketch). it.0) found)
-    → IsPermutation found sorted → IsSortedBy (λ (x y : ℕ × Sketch). is_lt (nat_cmp x.0 y.0)) sorted
-    → map (λ (it : ℕ × Sketch). it.1) sorted ≡ map f (range_with_len 0 n)
+pub ordered : (f : ℕ → SummaryView) (n : ℕ) (found sorted : List (ℕ × SummaryView))
+    → All (λ (it : ℕ × SummaryView). it.1 ≡ f it.0) found → IsDistinctBelow n (map (λ (it : ℕ × SummaryView). it.0) found)
+    → HasAllBelow n (map (λ (it : ℕ × SummaryView). it.0) found)
+    → IsPermutation found sorted → IsSortedBy (λ (x y : ℕ × SummaryView). is_lt (nat_cmp x.0 y.0)) sorted
+    → map (λ (it : ℕ × SummaryView). it.1) sorted ≡ map f (range_with_len 0 n)
 ordered f n found sorted theirs distinct all perm sort =
-    let d : ℕ × Sketch = (0, no_sketch) in
-    let number : ℕ × Sketch → ℕ = λ it. it.0 in
+    let d : ℕ × SummaryView = (0, no_sketch) in
+    let number : ℕ × SummaryView → ℕ = λ it. it.0 in
     let were = map number found in
     let are = map number sorted in
     let same : (j : ℕ) → times j are ≡ times j were =
@@ -88,10 +88,10 @@ ordered f n found sorted theirs distinct all perm sort =
     let risen = ge_from_not_lt (get_or sorted (k + 1) d).0 (get_or sorted k d).0 (sort k d (omega arith) inside) in
     omega (arith, here, next, risen))
     once.once in
-    fill_by_all f (map (λ (it : ℕ × Sketch). it.1) sorted) n no_sketch (length-map sorted (λ (it : ℕ × Sketch). it.1)
+    fill_by_all f (map (λ (it : ℕ × SummaryView). it.1) sorted) n no_sketch (length-map sorted (λ (it : ℕ × SummaryView). it.1)
     ∙ long) (λ i low.
     let inside : i < length sorted = omega arith in
     let at : (get_or sorted i d).0 ≡ i = sym (get_or-map number sorted i d 0 inside)
     ∙ numbered are n rises count below i low in
-    get_or-map (λ (it : ℕ × Sketch). it.1) sorted i d no_sketch inside
-    ∙ (All-permutation (λ (it : ℕ × Sketch). it.1 ≡ f it.0) found sorted perm theirs i d inside ∙ ap f at))
+    get_or-map (λ (it : ℕ × SummaryView). it.1) sorted i d no_sketch inside
+    ∙ (All-permutation (λ (it : ℕ × SummaryView). it.1 ≡ f it.0) found sorted perm theirs i d inside ∙ ap f at))

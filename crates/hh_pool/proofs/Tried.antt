@@ -17,9 +17,9 @@ use Rattle.hh_shared.proofs.Tallies.{times-append, times-push, added-append}
 use Rattle.hh_pool.proofs.Pieces.{distinct_pieces, sum_by-items, weight_of-le}
 use Rattle.std.proofs.lemmas.List.Sums.{sum_by-append}
 use Rattle.hh_counters.specs.Report.{weights_at, counts_with}
-use Rattle.hh_counters.specs.Counters.{Sketch, sketch_of}
+use Rattle.hh_counters.specs.Counters.{SummaryView, sketch_of}
 use Rattle.hh_countmin.specs.Family.{Coefficients}
-use Rattle.hh_countmin.specs.Table.{Grid, at_cell, cell_at, cell_sum, table_of}
+use Rattle.hh_countmin.specs.Table.{TableView, at_cell, cell_at, cell_sum, table_of}
 use Rattle.hh_countmin.specs.Laws.{CellsAreCellSums}
 use Rattle.hh_shared.specs.Tally.{cell_total, IsDistinctBelow}
 use Rattle.hh_shared.specs.Seats.{Sums, Holding, fresh, seat_of_both}
@@ -57,7 +57,7 @@ all_zero (x ∷ xs) zero = refl
 all_zero (x ∷ xs) (suc i) = all_zero xs i
 
 -- only who has claimed a piece has something to add
-pub claim-behind_cell : (family : Coefficients) (width : ℕ) (pieces : List (List Entry)) (claims : List ℕ) (grid : Grid)
+pub claim-behind_cell : (family : Coefficients) (width : ℕ) (pieces : List (List Entry)) (claims : List ℕ) (grid : TableView)
     → grid ≡ table_of family width (items_at pieces claims) → (cell : ℕ) → 0 < get_or grid.cells cell 0
     → 0 < length claims
 claim-behind_cell family width pieces [] grid e cell some =
@@ -112,24 +112,24 @@ one_more_claimed pieces n seat after e distinct p =
     }
 
 -- a worker of the first pass begins with empty lists and the table of no items
-pub first_begins : (pieces : List (List Entry)) (settings : Settings) (sums : Sums) (grid : Grid)
+pub first_begins : (pieces : List (List Entry)) (settings : Settings) (sums : Sums) (grid : TableView)
     → grid ≡ table_of settings.family settings.width [] → IsFirstPassUpTo pieces settings 0 (fresh sums) [] grid
 first_begins pieces settings sums grid e = record { so_far = nothing_tried pieces sums; summaries = refl; table = e }
 
 -- it has met one piece more
 pub first_met : (pieces : List (List Entry)) (settings : Settings) (n : ℕ) (seat after : Holding)
-    (kept : List (ℕ × Sketch)) (grid : Grid) → after ≡ record seat { met = seat.met ++ n ∷ [] }
+    (kept : List (ℕ × SummaryView)) (grid : TableView) → after ≡ record seat { met = seat.met ++ n ∷ [] }
     → IsFirstPassUpTo pieces settings n seat kept grid → IsFirstPassUpTo pieces settings (n + 1) after kept grid
 first_met pieces settings n seat after kept grid e p =
     rw e (record { so_far = one_more_met pieces n seat p.so_far; summaries = p.summaries; table = p.table })
 
 -- it has claimed one piece more, summarised it and added its items to the table
 pub first_claimed : (pieces : List (List Entry)) (settings : Settings) (n : ℕ) (seat after : Holding)
-    (kept more : List (ℕ × Sketch)) (grid : Grid)
+    (kept more : List (ℕ × SummaryView)) (grid : TableView)
     → after ≡ record seat { claims = seat.claims ++ n ∷ [] } → IsDistinctBelow (length pieces) after.claims
     → more ≡ kept ++ (n, sketch_of settings.k (piece_of pieces n)) ∷ []
     → grid ≡ table_of settings.family settings.width (items_at pieces seat.claims ++ piece_of pieces n)
-    → (was : Grid) → IsFirstPassUpTo pieces settings n seat kept was
+    → (was : TableView) → IsFirstPassUpTo pieces settings n seat kept was
     → IsFirstPassUpTo pieces settings (n + 1) after more grid
 first_claimed pieces settings n seat after kept more grid e distinct f g was p =
     let claims = ap (λ h. h.claims) e in
@@ -143,7 +143,7 @@ first_claimed pieces settings n seat after kept more grid e distinct f g was p =
 
 -- the cells of the worker's own table are added to the shared ones
 pub first_ends : CellsAreCellSums
-    → (pieces : List (List Entry)) (settings : Settings) (seat after : Holding) (kept : List (ℕ × Sketch)) (grid : Grid)
+    → (pieces : List (List Entry)) (settings : Settings) (seat after : Holding) (kept : List (ℕ × SummaryView)) (grid : TableView)
     → after ≡ record seat { adds = after.adds }
     → ((cell : ℕ) → cell_total cell after.adds ≡ cell_total cell seat.adds + get_or grid.cells cell 0)
     → IsFirstPassUpTo pieces settings (length pieces) seat kept grid → IsFirstPass pieces settings after kept
@@ -164,7 +164,7 @@ first_ends law pieces settings seat after kept grid e adds p =
 
 -- what two workers brought back, joined
 pub first_joined : (pieces : List (List Entry)) (settings : Settings) (one other : Holding)
-    (kept more : List (ℕ × Sketch)) → AreFirstPasses pieces settings one kept
+    (kept more : List (ℕ × SummaryView)) → AreFirstPasses pieces settings one kept
     → AreFirstPasses pieces settings other more → AreFirstPasses pieces settings (seat_of_both one other) (kept ++ more)
 first_joined pieces settings one other kept more p q = record {
   tried = tried-joined (length pieces) one other p.tried;

@@ -7,7 +7,7 @@ use Rattle.std.proofs.Math.ListN.{get_or-map}
 use Rattle.std.proofs.lemmas.List.Elements.{All-from_get_or}
 use Rattle.hh_stream.specs.Cuttings.{whole_of}
 use Rattle.hh_stream.specs.Weights.{Bytes, Entry, at_key, max_total, weight_of}
-use Rattle.hh_counters.specs.Counters.{Counters, IsHonest, Sketch, merge_of}
+use Rattle.hh_counters.specs.Counters.{Counters, IsHonest, SummaryView, merge_of}
 use Rattle.hh_counters.specs.Laws.{JoinOfHonestIsHonest}
 use Rattle.hh_counters.specs.declared.summary.MergeFault.{MergeFault}
 use Rattle.hh_pool.specs.Trees.{IsMergeTree, MergeTree, MergesHonestly, Piece, Merge, items_of, leaves, merge_both, no_sketch, tree_result, tree_value}
@@ -17,22 +17,22 @@ use Rattle.hh_pool.proofs.MergeFacts.{at-left, at-right, distinct-leaves, sum-le
 use Rattle.hh_pool.proofs.Pieces.{sum_by-flat_map}
 
 -- a merge that went well had two results with one k
-both-ok : (a b : Result Sketch MergeFault) (u : Sketch) → merge_both a b ≡ Ok u
-    → (s : Sketch) × (t : Sketch) × (a ≡ Ok s) × (b ≡ Ok t) × (s.k ≡ t.k) × (merge_of s t ≡ u)
+both-ok : (a b : Result SummaryView MergeFault) (u : SummaryView) → merge_both a b ≡ Ok u
+    → (s : SummaryView) × (t : SummaryView) × (a ≡ Ok s) × (b ≡ Ok t) × (s.k ≡ t.k) × (merge_of s t ≡ u)
 both-ok (Err e) b u h = cc h
 both-ok (Ok s) (Err e) u h = cc h
 both-ok (Ok s) (Ok t) u h = by (eqb_tells s.k t.k) (nat_le (s.total + t.total) max_total) refl
   where
     by : ((s.k == t.k) ≡ true) × (s.k ≡ t.k) ⊎ ((s.k == t.k) ≡ false) × (s.k ≢ t.k) → (b : Bool)
         → nat_le (s.total + t.total) max_total ≡ b
-        → (s' : Sketch) × (t' : Sketch) × (◌≡◌ {A = Result Sketch MergeFault} (Ok s) (Ok s'))
-        × (◌≡◌ {A = Result Sketch MergeFault} (Ok t) (Ok t')) × (s'.k ≡ t'.k) × (merge_of s' t' ≡ u)
+        → (s' : SummaryView) × (t' : SummaryView) × (◌≡◌ {A = Result SummaryView MergeFault} (Ok s) (Ok s'))
+        × (◌≡◌ {A = Result SummaryView MergeFault} (Ok t) (Ok t')) × (s'.k ≡ t'.k) × (merge_of s' t' ≡ u)
     by (inr e) b f = let bad = rw e.0 at h in cc bad
     by (inl e) false f = let bad = rw (e.0, f) at h in cc bad
     by (inl e) true f = let fine = rw (e.0, f) at h in (s, t, refl, refl, e.1, cc fine)
 
 -- what a tree's result is, leaf by leaf
-record IsValue (t : MergeTree) (ss : List Sketch) (s : Sketch) : Type 0 where
+record IsValue (t : MergeTree) (ss : List SummaryView) (s : SummaryView) : Type 0 where
   k : (i : ℕ) → 0 < times i (leaves t) → (slice_index_or ss i no_sketch).k ≡ s.k
   total : s.total ≡ sum_by (λ i. (slice_index_or ss i no_sketch).total) (leaves t)
   counters : s.counters ≡ tree_value t (map (λ s. s.counters) ss) s.k
@@ -51,13 +51,13 @@ in-part i xs ys some = by (times i xs) refl
     by zero e = inr (omega (arith, some, e, times-append i xs ys))
     by (suc n) e = inl (omega (arith, e))
 
-value-of : (t : MergeTree) (ss : List Sketch) (s : Sketch) → tree_result t ss ≡ Ok s → IsValue t ss s
+value-of : (t : MergeTree) (ss : List SummaryView) (s : SummaryView) → tree_result t ss ≡ Ok s → IsValue t ss s
 value-of (Piece i) ss s h =
     let is : slice_index_or ss i no_sketch ≡ s = cc h in
     record {
       k = λ j some. rw (← one-leaf j i some, is) refl;
       total = rw (sum_by-cons (λ i. (slice_index_or ss i no_sketch).total) i [], is) (omega arith);
-      counters = rw (get_or-map (λ (s : Sketch). s.counters) ss i no_sketch, is) refl;
+      counters = rw (get_or-map (λ (s : SummaryView). s.counters) ss i no_sketch, is) refl;
     }
 value-of (Merge l r) ss u h =
     let (s, t, left, right, same, is) = both-ok (tree_result l ss) (tree_result r ss) u h in
@@ -65,7 +65,7 @@ value-of (Merge l r) ss u h =
     let vr = value-of r ss t right in
     rw (← is) (value-merge l r ss s t same vl vr)
   where
-    value-merge : (l r : MergeTree) (ss : List Sketch) (s t : Sketch) → s.k ≡ t.k → IsValue l ss s → IsValue r ss t
+    value-merge : (l r : MergeTree) (ss : List SummaryView) (s t : SummaryView) → s.k ≡ t.k → IsValue l ss s → IsValue r ss t
         → IsValue (Merge l r) ss (merge_of s t)
     value-merge l r ss s t same vl vr = record {
       k = λ i some. elim (in-part i (leaves l) (leaves r) some) [ inl a ↦ vl.k i a | inr b ↦ vr.k i b ∙ sym same ];
@@ -105,7 +105,7 @@ honest-whole t lists c m k tree h =
     }
 
 -- honest pieces make an honest tree
-honest-items : JoinOfHonestIsHonest → (t : MergeTree) (ss : List Sketch) (lists : List (List Entry)) (s : Sketch)
+honest-items : JoinOfHonestIsHonest → (t : MergeTree) (ss : List SummaryView) (lists : List (List Entry)) (s : SummaryView)
     → tree_result t ss ≡ Ok s → ((i : ℕ) → 0 < times i (leaves t) → let piece = slice_index_or ss i no_sketch in
     IsHonest piece.counters piece.total (slice_index_or lists i []) s.k)
     → IsHonest s.counters s.total (items_of t lists) s.k
@@ -114,7 +114,7 @@ honest-items law (Piece i) ss lists s h each =
     rw is at (each i (omega (arith, times-here i [])))
 honest-items law (Merge l r) ss lists u h each =
     let (s, t, left, right, same, is) = both-ok (tree_result l ss) (tree_result r ss) u h in
-    let k : u.k ≡ s.k = ap (λ (v : Sketch). v.k) (sym is) in
+    let k : u.k ≡ s.k = ap (λ (v : SummaryView). v.k) (sym is) in
     let hl = honest-items law l ss lists s left (λ i some. rw k at (at-left l r each i some)) in
     let hr = honest-items law r ss lists t right (λ i some. rw (k, same) at (at-right l r each i some)) in
     let both = law s.counters t.counters s.total t.total (items_of l lists) (items_of r lists) s.k in
@@ -122,22 +122,22 @@ honest-items law (Merge l r) ss lists u h each =
 
 -- What a merge by a plan gives: the summaries had its k, its total is the sum of theirs, its counters are the tree's,
 -- and it is honest where they are
-pub record IsMergeOf (t : MergeTree) (ss : List Sketch) (s : Sketch) : Type 0 where
+pub record IsMergeOf (t : MergeTree) (ss : List SummaryView) (s : SummaryView) : Type 0 where
   pub same_k : All (λ piece. piece.k ≡ s.k) ss
   pub total : s.total ≡ sum_by (λ piece. piece.total) ss
   pub counters : s.counters ≡ tree_value t (map (λ piece. piece.counters) ss) s.k
   pub honest : MergesHonestly ss s
 
 -- the summary that a tree's result is
-pub merge-of : JoinOfHonestIsHonest → (t : MergeTree) (ss : List Sketch) (s : Sketch) → IsMergeTree t (length ss)
+pub merge-of : JoinOfHonestIsHonest → (t : MergeTree) (ss : List SummaryView) (s : SummaryView) → IsMergeTree t (length ss)
     → tree_result t ss ≡ Ok s → IsMergeOf t ss s
 merge-of law t ss s tree h =
     let value = value-of t ss s h in
     let below = (distinct-leaves t (length ss) tree).below in
     record {
-      same_k = All-from_get_or (λ (piece : Sketch). piece.k ≡ s.k) ss no_sketch
+      same_k = All-from_get_or (λ (piece : SummaryView). piece.k ≡ s.k) ss no_sketch
           (λ i lt. value.k i (omega (arith, tree.once i lt)));
-      total = value.total ∙ sum-leaves (λ (piece : Sketch). piece.total) no_sketch t ss tree;
+      total = value.total ∙ sum-leaves (λ (piece : SummaryView). piece.total) no_sketch t ss tree;
       counters = value.counters;
       honest = λ lists len each.
           let part = honest-items law t ss lists s h (λ i some. each i (below i some)) in

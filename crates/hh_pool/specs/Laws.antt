@@ -3,7 +3,7 @@ use Rattle.std.specs.Prelude.{◌≡◌, ℕ, ◌+◌, ◌<◌, List, [], length
 use Rattle.std.specs.List.{flat_map}
 use Rattle.hh_stream.specs.Weights.{Entry, total_of}
 use Rattle.hh_stream.specs.Cuttings.{whole_of}
-use Rattle.hh_counters.specs.Counters.{Counters, IsHonest, Sketch, misra_gries, sketch_of}
+use Rattle.hh_counters.specs.Counters.{Counters, IsHonest, SummaryView, misra_gries, sketch_of}
 use Rattle.hh_counters.specs.Report.{has_counter, heavy}
 use Rattle.hh_counters.specs.Condensed.{condensed}
 use Rattle.hh_pool.specs.Outcomes.{IsMerged}
@@ -30,6 +30,6 @@ PartsReportByAnyTree =
 -- the summary that any tree makes of the parts' summaries is the merged summary of the whole
 abbrev pub TreesMergeSummaries : Type 0
 TreesMergeSummaries =
-    (t : MergeTree) (k : ℕ) (parts : List (List Entry)) (s : Sketch)
+    (t : MergeTree) (k : ℕ) (parts : List (List Entry)) (s : SummaryView)
     → IsMergeTree t (length parts) → tree_result t (map (sketch_of k) parts) ≡ Ok s
     → IsMerged t k parts (whole_of parts) s

@@ -1,7 +1,7 @@
 -- What an analysis comes to.
 use Rattle.std.specs.Prelude.{◌≡◌, ℕ, List, map, zip}
 use Rattle.hh_stream.specs.Weights.{Bytes, Entry, total_of}
-use Rattle.hh_counters.specs.Counters.{Sketch, misra_gries, IsHonest}
+use Rattle.hh_counters.specs.Counters.{SummaryView, misra_gries, IsHonest}
 use Rattle.hh_counters.specs.Report.{heavy, rows_above, weights_at}
 use Rattle.hh_pool.specs.Trees.{MergeTree, tree_value}
 
@@ -12,7 +12,7 @@ AreEnough ks xs p q = rows_above p q (total_of xs) (zip ks (weights_at ks xs)) �
 -- The summary has this k, the total of all items, and the counters that the tree makes of those of the pieces, and it
 -- is honest for the items xs
 pub record IsMerged (tree : MergeTree) (k : ℕ) (pieces : List (List Entry)) (xs : List Entry)
-    (summary : Sketch) : Type 0 where
+    (summary : SummaryView) : Type 0 where
   pub same_k : summary.k ≡ k
   pub total : summary.total ≡ total_of xs
   pub counters : summary.counters ≡ tree_value tree (map (λ piece. misra_gries piece k) pieces) k

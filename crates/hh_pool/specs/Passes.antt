@@ -3,7 +3,7 @@ use Rattle.std.specs.Prelude.{◌≡◌, ℕ, ◌+◌, ◌*◌, ◌<◌, List, [
 use Rattle.std.specs.List.{flat_map}
 use Rattle.std.specs.List.Sorted.{IsStrictlyIncreasing}
 use Rattle.hh_stream.specs.Weights.{Bytes, Entry, weight_of}
-use Rattle.hh_counters.specs.Counters.{Sketch, sketch_of}
+use Rattle.hh_counters.specs.Counters.{SummaryView, sketch_of}
 use Rattle.hh_countmin.specs.Table.{cell_sum}
 use Rattle.hh_shared.specs.Tally.{times, cell_total}
 use Rattle.hh_shared.specs.Seats.{Holding}
@@ -18,7 +18,7 @@ abbrev pub items_at : List (List Entry) → List ℕ → List Entry
 items_at pieces numbers = flat_map (piece_of pieces) numbers
 
 -- the summaries of the pieces with these numbers, each with its number
-abbrev pub summaries_at : ℕ → List (List Entry) → List ℕ → List (ℕ × Sketch)
+abbrev pub summaries_at : ℕ → List (List Entry) → List ℕ → List (ℕ × SummaryView)
 summaries_at k pieces numbers = map (λ i. (i, sketch_of k (piece_of pieces i))) numbers
 
 -- each number below n was claimed, or met as another's claim
@@ -29,7 +29,7 @@ HasTried n seat = (i : ℕ) → i < n → 0 < times i seat.claims + times i seat
 -- has row r, cell c of the table sum up to the table's cell over the claimed pieces, and the summaries are exactly
 -- those of the claimed pieces
 pub record AreFirstPasses (pieces : List (List Entry)) (settings : Settings) (seat : Holding)
-    (kept : List (ℕ × Sketch)) : Type 0 where
+    (kept : List (ℕ × SummaryView)) : Type 0 where
   pub tried : HasTried (length pieces) seat
   pub adds : (r c : ℕ) → r < length settings.family.rows → c < settings.width
       → cell_total (r * settings.width + c) seat.adds
@@ -46,7 +46,7 @@ pub record AreSecondPasses (pieces : List (List Entry)) (keys : List Bytes) (sea
 -- One worker takes the lowest piece that it finds unclaimed: each piece that it claims is above those that it claimed
 -- before
 pub record IsFirstPass (pieces : List (List Entry)) (settings : Settings) (seat : Holding)
-    (kept : List (ℕ × Sketch)) : Type 0 where
+    (kept : List (ℕ × SummaryView)) : Type 0 where
   pub rising : IsStrictlyIncreasing seat.claims
   pub work : AreFirstPasses pieces settings seat kept
 

@@ -4,8 +4,8 @@ use Rattle.std.specs.Option.{option_and_then}
 use Rattle.std.specs.Fmt.{decimal}
 use Rattle.hh_shared.specs.Tally.{times, IsDistinctBelow}
 use Rattle.hh_pool.specs.Trees.{MergeTree, Piece, Merge, leaves}
-use Rattle.hh_pool.specs.declared.reading.PlanFault.{PlanFault}
-use Rattle.hh_pool.specs.declared.reading.PlanFault.TheVariants as fault
+use Rattle.hh_pool.specs.declared.parsing.PlanFault.{PlanFault}
+use Rattle.hh_pool.specs.declared.parsing.PlanFault.TheVariants as fault
 
 -- the text of a tree: a piece's number, or two trees in parentheses with a space between them
 abbrev pub text_of : MergeTree → List ℕ

@@ -2,11 +2,11 @@
 use Rattle.hh_pool.specs.Trees.{MergeTree, Piece, Merge}
 use Rattle.std.specs.Prelude.{map}
 use Rattle.hh_pool.specs.PlanTexts as text
-use Rattle.hh_pool.specs.declared.reading.Now.{Now}
-use Rattle.hh_pool.specs.declared.reading.Now.TheVariants.{Start, Number, Done}
-use Rattle.hh_pool.specs.declared.reading.Open.{Open}
-use Rattle.hh_pool.specs.declared.reading.Open.TheVariants.{Left, Right}
-use Rattle.hh_pool.specs.declared.reading.Reading.{Reading}
+use Rattle.hh_pool.specs.declared.parsing.Now.{Now}
+use Rattle.hh_pool.specs.declared.parsing.Now.TheVariants.{Start, Number, Done}
+use Rattle.hh_pool.specs.declared.parsing.Open.{Open}
+use Rattle.hh_pool.specs.declared.parsing.Open.TheVariants.{Left, Right}
+use Rattle.hh_pool.specs.declared.parsing.Reading.{Reading}
 use Rattle.hh_pool.specs.declared.plan.Tree.{Tree}
 use Rattle.hh_pool.specs.declared.plan.Tree.TheVariants.{Leaf, Node'}
 

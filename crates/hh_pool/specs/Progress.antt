@@ -3,9 +3,9 @@ use Rattle.std.specs.Prelude.{◌≡◌, ℕ, ◌<◌, All, List, [], length, ma
 use Rattle.std.specs.List.Sorted.{IsStrictlyIncreasing}
 use Rattle.hh_stream.specs.Weights.{Bytes, Entry}
 use Rattle.hh_stream.specs.Cuttings.{pieces_of, whole_of}
-use Rattle.hh_counters.specs.Counters.{Sketch, sketch_of}
+use Rattle.hh_counters.specs.Counters.{SummaryView, sketch_of}
 use Rattle.hh_counters.specs.Report.{weights_at}
-use Rattle.hh_countmin.specs.Table.{Grid, table_of}
+use Rattle.hh_countmin.specs.Table.{TableView, table_of}
 use Rattle.hh_shared.specs.Tally.{IsDistinctBelow}
 use Rattle.hh_shared.specs.Seats.{Holding}
 use Rattle.hh_pool.specs.Settings.{Settings}
@@ -24,7 +24,7 @@ pub record HasTriedUpTo (pieces : List (List Entry)) (n : ℕ) (seat : Holding) 
 
 -- a worker of the first pass has tried n pieces, and hasn't yet added what its table holds
 pub record IsFirstPassUpTo (pieces : List (List Entry)) (settings : Settings) (n : ℕ) (seat : Holding)
-    (kept : List (ℕ × Sketch)) (grid : Grid) : Type 0 where
+    (kept : List (ℕ × SummaryView)) (grid : TableView) : Type 0 where
   pub so_far : HasTriedUpTo pieces n seat
   pub summaries : kept ≡ summaries_at settings.k pieces seat.claims
   pub table : grid ≡ table_of settings.family settings.width (items_at pieces seat.claims)
@@ -36,8 +36,8 @@ pub record IsSecondPassUpTo (pieces : List (List Entry)) (keys : List Bytes) (n 
   pub numbers : counts ≡ weights_at keys (items_at pieces seat.claims)
 
 -- what the calling thread has made of the first n pieces
-pub record IsFirstAloneUpTo (pieces : List (List Entry)) (settings : Settings) (n : ℕ) (sketches : List Sketch)
-    (grid : Grid) : Type 0 where
+pub record IsFirstAloneUpTo (pieces : List (List Entry)) (settings : Settings) (n : ℕ) (sketches : List SummaryView)
+    (grid : TableView) : Type 0 where
   pub summaries : sketches ≡ map (sketch_of settings.k) (take n pieces)
   pub table : grid ≡ table_of settings.family settings.width (whole_of (take n pieces))
 
@@ -51,7 +51,7 @@ HasTriedFirst pass n seat made =
     IsFirstPassUpTo (first_pieces pass) pass.options.now n seat made.summaries.items made.table
 
 -- the calling thread has done the first n pieces
-abbrev pub HasDoneFirst : {G : Type 0} → FirstPass G → ℕ → List Sketch → Grid → Type 0
+abbrev pub HasDoneFirst : {G : Type 0} → FirstPass G → ℕ → List SummaryView → TableView → Type 0
 HasDoneFirst pass n sketches grid = IsFirstAloneUpTo (first_pieces pass) pass.options.now n sketches grid
 
 -- the pieces that the second pass goes over

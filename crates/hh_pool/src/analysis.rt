@@ -6,7 +6,7 @@ ghost use Rattle.std.specs.List.{range_with_len};
 ghost use Rattle.hh_stream.specs.Weights.{Entry};
 ghost use Rattle.hh_stream.specs.Cuttings.{max_pieces, pieces_of};
 ghost use Rattle.hh_stream.specs.Ranges.{in_range};
-ghost use Rattle.hh_counters.specs.Counters.{max_k, IsHonest, Sketch, sketch_of};
+ghost use Rattle.hh_counters.specs.Counters.{max_k, IsHonest, SummaryView, sketch_of};
 ghost use Rattle.hh_counters.specs.Report.{IsShare, weights_at, heavy};
 ghost use Rattle.hh_countmin.specs.Table.{estimate_in, table_of};
 ghost use Rattle.hh_shared.specs.Tally.{HasAllBelow, IsDistinctBelow};
@@ -22,7 +22,7 @@ use crate::outcome::{Outcome, RunError};
 use crate::plan::Plan;
 use crate::second::SecondPass;
 use crate::workers::run_apart;
-use hh_counters::laws::{contenders_suffice, misra_gries_is_honest, thinned_suffice};
+use hh_counters::laws::{contenders_suffice, misra_gries_is_honest, pruned_suffice};
 use hh_counters::{Candidates, MergeFault, Summary};
 use hh_countmin::Table;
 use hh_countmin::laws::{cells_are_cell_sums, estimate_is_never_below, tables_fit};
@@ -35,7 +35,7 @@ use std::thread::Threads;
 
 /// The summaries in the order of their numbers.
 fn in_order(alloc: Global, mut found: Vec<(usize, Summary)>) -> Result<Vec<Summary>, AllocError>
-    ensures { (f : ℕ → Sketch) (count : ℕ) → All (λ it. it.1 ≡ f it.0) found.items
+    ensures { (f : ℕ → SummaryView) (count : ℕ) → All (λ it. it.1 ≡ f it.0) found.items
         → IsDistinctBelow count (map (λ it. it.0) found.items)
         → HasAllBelow count (map (λ it. it.0) found.items)
         → IfOk result (λ summaries. summaries.items ≡ map f (range_with_len 0 count)) }
@@ -160,12 +160,12 @@ fn candidates(
         → IfOk result (λ candidates. AreEnough candidates xs p q) }
 {
     contenders_suffice();
-    thinned_suffice();
+    pruned_suffice();
     estimate_is_never_below();
     cells_are_cell_sums();
     let contenders = Candidates::contenders(alloc, summary, p, q)?;
     let estimates = estimates(alloc, table, &contenders)?;
-    let candidates = contenders.thinned(&estimates, table.total(), p, q)?;
+    let candidates = contenders.pruned(&estimates, table.total(), p, q)?;
     Ok(candidates)
 }
 

@@ -9,9 +9,9 @@ pub mod laws;
 mod merging;
 mod options;
 mod outcome;
+mod parsing;
 mod pass;
 mod plan;
-mod reading;
 mod second;
 mod workers;
 

@@ -4,7 +4,7 @@ ghost use Rattle.std.specs.Prelude.{◌≡◌, ◌≢◌, ◌≤◌, ℕ, List, 
 ghost use Rattle.std.specs.Prelude.{All, Ok, Err, IfOk, IfErr};
 ghost use Rattle.hh_stream.specs.Weights.{Entry};
 ghost use Rattle.hh_stream.specs.Cuttings.{max_pieces, whole_of};
-ghost use Rattle.hh_counters.specs.Counters.{IsHonest, Sketch};
+ghost use Rattle.hh_counters.specs.Counters.{IsHonest, SummaryView};
 ghost use Rattle.hh_shared.specs.Tally.{times, IsDistinctBelow};
 ghost use Rattle.hh_pool.specs.Plans.{shape};
 ghost use Rattle.hh_pool.specs.Trees.{IsMergeTree, MergesHonestly};

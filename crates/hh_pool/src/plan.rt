@@ -6,7 +6,7 @@ ghost use Rattle.hh_pool.specs.PlanTexts.{PlanRefused, SpellsTree};
 ghost use Rattle.hh_pool.specs.Plans.{shape};
 ghost use Rattle.hh_pool.specs.Trees.{IsBalanced, IsMergeTree, chain_of, leaves};
 
-use crate::reading::{PlanFault, read_merge_tree};
+use crate::parsing::{PlanFault, read_merge_tree};
 use std::alloc::{AllocError, Global};
 use std::marker::Model;
 

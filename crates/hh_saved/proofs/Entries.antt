@@ -12,7 +12,7 @@ use Rattle.std.proofs.lemmas.List.Concat.{flat_map-cons}
 use Rattle.std.proofs.lemmas.List.Sums.{sum_by-cons}
 use Rattle.hh_stream.specs.Weights.{Bytes, Entry, key_cmp, max_key_len, total_of}
 use Rattle.hh_stream.specs.Ranges.{in_range}
-use Rattle.hh_counters.specs.Counters.{Sketch, Fits}
+use Rattle.hh_counters.specs.Counters.{SummaryView, Fits}
 use Rattle.hh_saved.specs.declared.format.Version.{Version}
 use Rattle.hh_saved.specs.declared.format.Version.TheVariants.{One, Two}
 use Rattle.hh_saved.specs.declared.fault.SavedFault.TheVariants as faults
@@ -255,7 +255,7 @@ total_again n rest small =
     where_again _ _ wide64 (λ n. ltb n (2 ^ 63)) faults.TotalTooLarge n rest (omega arith) pass
 
 -- a summary that is read is spelled so
-pub sketch_takes : (version : Version) (bytes : List ℕ) (x : Sketch × List ℕ) → IsBytes bytes
+pub sketch_takes : (version : Version) (bytes : List ℕ) (x : SummaryView × List ℕ) → IsBytes bytes
     → sketch_at version bytes ≡ Ok x
     → Takes bytes (sketch_bytes version x.0) x.1 × Fits x.0.k x.0.total x.0.counters
     × AllByRecursion (λ e. IsSavedKey version e.0) x.0.counters
@@ -280,7 +280,7 @@ sketch_takes version bytes x fits e =
     (sym t3.1) (Takes-then _ _ _ _ _ t2.0 t3.0) in
     let e13 = Takes-then _ _ _ _ _ t1.0 e23 in
     let e03 = Takes-then _ _ _ _ _ t0.0 e13 in
-    let made : Sketch × List ℕ = (record { k = k.0; total = total.0; counters = entries.0 }, entries.1) in
+    let made : SummaryView × List ℕ = (record { k = k.0; total = total.0; counters = entries.0 }, entries.1) in
     rw (← ok_is made x f.2) (
       e03,
       entries_fit version k.0 total.0 entries.0 some (omega (arith, t0.1)) t1.1 (omega (arith, t3.1, few)) t3.2,
@@ -288,7 +288,7 @@ sketch_takes version bytes x fits e =
     )
 
 -- and a summary that is spelled so is read
-pub sketch_again : (version : Version) (s : Sketch) (rest : List ℕ) → Fits s.k s.total s.counters
+pub sketch_again : (version : Version) (s : SummaryView) (rest : List ℕ) → Fits s.k s.total s.counters
     → AllByRecursion (λ e. IsSavedKey version e.0) s.counters
     → sketch_at version (sketch_bytes version s ++ rest) ≡ Ok (s, rest)
 unfolding sketch_at

@@ -10,7 +10,7 @@ use Rattle.std.proofs.lemmas.Grind.{flat_map-append}
 use Rattle.std.proofs.lemmas.Bool.Decides.{nat_tests}
 use Rattle.hh_stream.specs.Ranges.{in_range}
 use Rattle.hh_countmin.specs.Family.{Coefficients, IsFamily, max_depth, max_width}
-use Rattle.hh_countmin.specs.Table.{Grid, FitsTable, row_at as row_cells}
+use Rattle.hh_countmin.specs.Table.{TableView, FitsTable, row_at as row_cells}
 use Rattle.hh_saved.specs.declared.fault.SavedFault.TheVariants as faults
 use Rattle.hh_saved.specs.Spelling.{pair_bytes, cells_bytes, grid_bytes}
 use Rattle.hh_saved.specs.Reading.{cells_in, row_at, rows_at, grid_at}
@@ -167,7 +167,7 @@ rows_from (suc n) width total cells len sums =
 -- ---- tables
 
 -- a table that is read is spelled so
-pub grid_takes : (bytes : List ℕ) (x : Grid × List ℕ) → IsBytes bytes → grid_at bytes ≡ Ok x
+pub grid_takes : (bytes : List ℕ) (x : TableView × List ℕ) → IsBytes bytes → grid_at bytes ≡ Ok x
     → Takes bytes (grid_bytes x.0) x.1 × IsFamily x.0.family × FitsTable x.0.family x.0.width x.0.total x.0.cells
 unfolding grid_at
 grid_takes bytes x fits e =
@@ -197,13 +197,13 @@ grid_takes bytes x fits e =
     let is_family : IsFamily family.0 =
     record { depth = rw t2.2 t1.2; coefficients = t2.1 } in
     let are = subst (λ (n : ℕ). AreRows n width.0 total.0 cells.0) (sym t2.2) t4.1 in
-    let made : Grid × List ℕ =
+    let made : TableView × List ℕ =
     (record { family = family.0; width = width.0; total = total.0; cells = cells.0 }, cells.1) in
     rw (← ok_is made x f.2)
     (e04, is_family, cells_fit family.0 width.0 total.0 cells.0 t0.2 t3.1 are)
 
 -- and a table that is spelled so is read
-pub grid_again : (t : Grid) (rest : List ℕ) → IsFamily t.family → FitsTable t.family t.width t.total t.cells
+pub grid_again : (t : TableView) (rest : List ℕ) → IsFamily t.family → FitsTable t.family t.width t.total t.cells
     → grid_at (grid_bytes t ++ rest) ≡ Ok (t, rest)
 unfolding grid_at
 grid_again t rest family fits =

@@ -6,7 +6,7 @@ use Rattle.std.proofs.lemmas.List.{append-nil, drop-drop, drop_at, drop_more, ma
 use Rattle.std.proofs.lemmas.List.Concat.{flat_map-cons}
 use Rattle.std.proofs.Math.Seq.{drop-append-add}
 use Rattle.hh_stream.specs.Weights.{Entry}
-use Rattle.hh_counters.specs.Counters.{Sketch}
+use Rattle.hh_counters.specs.Counters.{SummaryView}
 use Rattle.hh_saved.specs.declared.format.Version.{Version}
 use Rattle.hh_saved.specs.declared.saved.Saved.TheVariants.{Counters}
 use Rattle.hh_saved.specs.declared.layout.Place.{Place}
@@ -17,7 +17,7 @@ use Rattle.hh_saved.proofs.Fields.{wide64, wide_len}
 use Rattle.hh_saved.proofs.Values.{spelling_names}
 
 -- a file names its version
-pub version_named : (version : Version) (file : List ℕ) (s : Sketch) → Spells version file (Counters s)
+pub version_named : (version : Version) (file : List ℕ) (s : SummaryView) → Spells version file (Counters s)
     → (rest : List ℕ) × (version_at file ≡ Ok (version, rest))
 version_named version file s is = (
   _,

@@ -6,8 +6,8 @@ use Rattle.std.proofs.lemmas.List.{length-append}
 use Rattle.std.proofs.lemmas.List.Concat.{flat_map-cons}
 use Rattle.std.proofs.Math.Nat.{mul-le-mul_right, suc-mul}
 use Rattle.hh_stream.specs.Weights.{Entry, max_key_len}
-use Rattle.hh_counters.specs.Counters.{Sketch}
-use Rattle.hh_countmin.specs.Table.{Grid}
+use Rattle.hh_counters.specs.Counters.{SummaryView}
+use Rattle.hh_countmin.specs.Table.{TableView}
 use Rattle.hh_saved.specs.declared.format.Version.{Version}
 use Rattle.hh_saved.specs.declared.format.Version.TheVariants.{Two}
 use Rattle.hh_saved.specs.declared.saved.Saved.TheVariants.{Counters, Cells}
@@ -41,7 +41,7 @@ entries-length m (e ∷ es) few =
     omega (arith, parts, one, short, entries-length m es few.1, suc-mul (length es) (m + 10))
 
 -- a summary's bytes, by its longest key
-pub bounded : (bytes : List ℕ) (s : Sketch) (m : ℕ) → Spells Two bytes (Counters s)
+pub bounded : (bytes : List ℕ) (s : SummaryView) (m : ℕ) → Spells Two bytes (Counters s)
     → AllByRecursion (λ e. length e.0 ≤ m) s.counters → length bytes ≤ most_summary_bytes s.k m
 bounded bytes s m is few =
     let whole : length bytes ≡ 17 + length (flat_map (entry_bytes Two) s.counters) =
@@ -56,12 +56,12 @@ short_keys [] are = tt
 short_keys (e ∷ es) are = (are.0.few, short_keys es are.1)
 
 -- a summary's bytes, by k alone
-pub bounded_by_k : (bytes : List ℕ) (s : Sketch) → Spells Two bytes (Counters s)
+pub bounded_by_k : (bytes : List ℕ) (s : SummaryView) → Spells Two bytes (Counters s)
     → length bytes ≤ most_summary_bytes s.k max_key_len
 bounded_by_k bytes s is = bounded bytes s max_key_len is (short_keys s.counters is.saved.1)
 
 -- a table's bytes, by its rows and their width
-pub one_size : (version : Version) (bytes : List ℕ) (t : Grid) → Spells version bytes (Cells t)
+pub one_size : (version : Version) (bytes : List ℕ) (t : TableView) → Spells version bytes (Cells t)
     → length bytes ≡ table_bytes t.width (length t.family.rows)
 one_size version bytes t is =
     let rows = flat_map pair_bytes t.family.rows in

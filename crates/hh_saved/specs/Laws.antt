@@ -2,8 +2,8 @@
 use Rattle.std.specs.Prelude.{◌≡◌, ◌≤◌, ℕ, List, [], ◌++◌, length, Ok}
 use Rattle.std.specs.List.{AllByRecursion}
 use Rattle.hh_stream.specs.Weights.{max_key_len}
-use Rattle.hh_counters.specs.Counters.{Sketch}
-use Rattle.hh_countmin.specs.Table.{Grid}
+use Rattle.hh_counters.specs.Counters.{SummaryView}
+use Rattle.hh_countmin.specs.Table.{TableView}
 use Rattle.hh_saved.specs.declared.format.Version.{Version}
 use Rattle.hh_saved.specs.declared.format.Version.TheVariants.{One, Two}
 use Rattle.hh_saved.specs.declared.saved.Saved.{Saved}
@@ -35,18 +35,18 @@ VersionTwoSpellsVersionOne = (v : Saved) → IsSaved One v → IsSaved Two v
 -- a summary has a head of 17 bytes and for each of at most k counters its key's bytes and 10 more
 abbrev pub SummariesAreBounded : Type 0
 SummariesAreBounded =
-    (bytes : List ℕ) (s : Sketch) (m : ℕ)
+    (bytes : List ℕ) (s : SummaryView) (m : ℕ)
     → Spells Two bytes (Counters s) → AllByRecursion (λ e. length e.0 ≤ m) s.counters
     → length bytes ≤ most_summary_bytes s.k m
 
 -- k alone bounds a summary, since keys are bounded
 abbrev pub SummariesAreBoundedByK : Type 0
 SummariesAreBoundedByK =
-    (bytes : List ℕ) (s : Sketch)
+    (bytes : List ℕ) (s : SummaryView)
     → Spells Two bytes (Counters s) → length bytes ≤ most_summary_bytes s.k max_key_len
 
 -- rows and width decide how many bytes a table has
 abbrev pub TablesHaveOneSize : Type 0
 TablesHaveOneSize =
-    (version : Version) (bytes : List ℕ) (t : Grid)
+    (version : Version) (bytes : List ℕ) (t : TableView)
     → Spells version bytes (Cells t) → length bytes ≡ table_bytes t.width (length t.family.rows)

@@ -6,9 +6,9 @@ use Rattle.std.specs.Int.{Width, w8, w16, w32, w64, byte_len, from_be_bytes}
 use Rattle.std.specs.Ordering.{is_lt}
 use Rattle.hh_stream.specs.Weights.{Bytes, Entry, key_cmp}
 use Rattle.hh_stream.specs.Ranges.{in_range}
-use Rattle.hh_counters.specs.Counters.{Sketch}
+use Rattle.hh_counters.specs.Counters.{SummaryView}
 use Rattle.hh_countmin.specs.Family.{Coefficients, max_depth, max_width, modulus}
-use Rattle.hh_countmin.specs.Table.{Grid}
+use Rattle.hh_countmin.specs.Table.{TableView}
 use Rattle.hh_saved.specs.declared.format.Version.{Version}
 use Rattle.hh_saved.specs.declared.format.Version.TheVariants.{One, Two}
 use Rattle.hh_saved.specs.declared.saved.Saved.{Saved}
@@ -101,7 +101,7 @@ entries_at version (suc n) before left bytes = do
   Ok (first.0 ∷ others.0, others.1)
 
 -- k, the total, how many counters there are, and the entries
-unfoldable pub sketch_at : Version → List ℕ → Result (Sketch × List ℕ) SavedFault
+unfoldable pub sketch_at : Version → List ℕ → Result (SummaryView × List ℕ) SavedFault
 sketch_at version bytes = do
   k ← number_where w16 (λ n. nat_lt 0 n) faults.BadK bytes
   total ← total_at k.1
@@ -159,7 +159,7 @@ rows_at (suc n) width total bytes = do
   Ok (first.0 ++ others.0, others.1)
 
 -- width, depth, the family, the total and the rows
-unfoldable pub grid_at : List ℕ → Result (Grid × List ℕ) SavedFault
+unfoldable pub grid_at : List ℕ → Result (TableView × List ℕ) SavedFault
 grid_at bytes = do
   width ← number_where w32 (λ n. in_range n max_width) faults.BadWidth bytes
   depth ← number_where w8 (λ n. in_range n max_depth) faults.BadDepth width.1

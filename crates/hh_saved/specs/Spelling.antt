@@ -3,9 +3,9 @@ use Rattle.std.specs.Prelude.{◌≡◌, ℕ, ◌≤◌, List, ◌++◌, length}
 use Rattle.std.specs.List.{flat_map, AllByRecursion}
 use Rattle.std.specs.Int.{Width, w8, w16, w32, w64, to_be_bytes}
 use Rattle.hh_stream.specs.Weights.{Bytes, Entry, IsKey, max_key_len}
-use Rattle.hh_counters.specs.Counters.{Sketch, Fits}
+use Rattle.hh_counters.specs.Counters.{SummaryView, Fits}
 use Rattle.hh_countmin.specs.Family.{IsFamily}
-use Rattle.hh_countmin.specs.Table.{Grid, FitsTable}
+use Rattle.hh_countmin.specs.Table.{TableView, FitsTable}
 use Rattle.hh_saved.specs.declared.format.Version.{Version}
 use Rattle.hh_saved.specs.declared.format.Version.TheVariants.{One, Two}
 use Rattle.hh_saved.specs.declared.saved.Saved.{Saved}
@@ -40,7 +40,7 @@ abbrev pub entry_bytes : Version → Entry → List ℕ
 entry_bytes version e = to_be_bytes (len_width version) (length e.0) ++ (e.0 ++ to_be_bytes w64 e.1)
 
 -- k, the total, the number of counters, and the entries
-abbrev pub sketch_bytes : Version → Sketch → List ℕ
+abbrev pub sketch_bytes : Version → SummaryView → List ℕ
 sketch_bytes version s =
     to_be_bytes w16 s.k
     ++ (to_be_bytes w64 s.total ++ (to_be_bytes w16 (length s.counters) ++ flat_map (entry_bytes version) s.counters))
@@ -54,7 +54,7 @@ abbrev pub cells_bytes : List ℕ → List ℕ
 cells_bytes cells = flat_map (to_be_bytes w64) cells
 
 -- width, depth, z, the rows' coefficients, the total, and the cells
-abbrev pub grid_bytes : Grid → List ℕ
+abbrev pub grid_bytes : TableView → List ℕ
 grid_bytes t =
     to_be_bytes w32 t.width
     ++ (to_be_bytes w8 (length t.family.rows)

@@ -57,11 +57,11 @@ fn left(candidates: &Candidates, numbers: &[u64; 2], p: u64, q: u64) -> Result<u
     requires two { length candidates.now ≡ 2 }
     requires share { IsShare p q }
 {
-    Ok(candidates.thinned(numbers, 11, p, q)?.len())
+    Ok(candidates.pruned(numbers, 11, p, q)?.len())
 }
 
 #[test]
-fn candidates_are_thinned_by_their_numbers(rt: HostRuntime) -> Result<(), Fail> {
+fn candidates_are_pruned_by_their_numbers(rt: HostRuntime) -> Result<(), Fail> {
     let candidates = candidates_of(rt.alloc())?;
     assert_eq!(rt; candidates.len(), 2);
     for (p, q, count) in [(1, 4, 2), (3, 11, 1), (1, 3, 1), (6, 11, 0)] {

@@ -12,22 +12,22 @@ use Rattle.hh_counters.proofs.bucket_saving.replace_first.Goals as goal
 
 pub overflow_add-least : goal.overflow_add-least
 overflow_add-least c =
-    let y = c.requires.settled.0 in
+    let y = c.requires.fresh.0 in
     let most = weight_of-le-total_of y (tally c.args.index.now.entries) in
-    omega (arith, most, c.requires.settled.1.counter, c.requires.bounded)
+    omega (arith, most, c.requires.fresh.1.counter, c.requires.bounded)
 
 pub returns-clause-taken : goal.returns-clause-taken
-returns-clause-taken c = λ k stand full.
+returns-clause-taken c = λ k bounds full.
     let pair = c.in_ok-enter.ensures in
-    let settled = c.requires.settled in
-    let y = settled.0 in
+    let fresh = c.requires.fresh in
+    let y = fresh.0 in
     let first = first_popped _ _ c.pop_first.new.self.keys (c.args.least, y)
-    (c.args.least + c.args.weight, c.args.newcomer) c.pop_first.result settled.1.first
+    (c.args.least + c.args.weight, c.args.newcomer) c.pop_first.result fresh.1.first
     (omega (arith, c.requires.positive)) pair.sorted c.pop_first.ensures.variant.1
     c.pop_first.ensures.removal in
     let key = ap (λ (o : Option (ℕ × Bytes)). (unwrap_or o (0, [])).1) (sym c.in-Some.is ∙ first) in
     replaced k _ c.enter.new.index.entries _ _ _ _ c.args.newcomer y c.args.least c.args.weight c.requires.positive
-    stand c.requires.new full settled.1 (c.enter.ensures.distinct stand.1.distinct) pair.entered.0 pair.put
+    bounds c.requires.new full fresh.1 (c.enter.ensures.distinct bounds.1.distinct) pair.entered.0 pair.put
     c.swap_remove.ensures.unique (subst (λ z. UpdatesIndex same_key c.enter.new.index c.swap_remove.new.self z None) key
     c.swap_remove.ensures.updates).0
     (subst (λ o. IfSome o (λ r. Updates by_counter c.enter.new.buckets c.pop_first.new.self r false)) first

@@ -1,6 +1,6 @@
 use Rattle.std.proofs.Common.{◌≡◌, ◌∙◌, take, sym, ap, ◌<◌}
 use Rattle.hh_stream.specs.Weights.{Entry}
-use Rattle.hh_counters.specs.Counters.{Sketch}
+use Rattle.hh_counters.specs.Counters.{SummaryView}
 use Rattle.hh_counters.specs.SpaceSaving.{monitor_of, monitor_with}
 use Rattle.hh_counters.proofs.Monitoring.{monitor_more, monitored_all, positive_more}
 use Rattle.hh_counters.proofs.monitor.monitored_summary.Goals as goal
@@ -15,7 +15,7 @@ loop-item-preserved g c =
     let before = monitor_of k (take i c.args.items.now) in
     let positive : 0 < item.1 = rw (← c.weight.ensures.weight) c.weight.ensures.positive in (
       c.in-Ok.ensures.added
-          ∙ ap (λ (s : Sketch). monitor_with s taken) c.loop-item.invariant.0
+          ∙ ap (λ (s : SummaryView). monitor_with s taken) c.loop-item.invariant.0
           ∙ ap (monitor_with before) same
           ∙ sym (monitor_more k c.args.items.now i item c.loop-item-test.true c.item-item.is),
       positive_more c.args.items.now i item c.loop-item-test.true c.item-item.is positive c.loop-item.invariant.1,

@@ -6,7 +6,7 @@ use Rattle.hh_stream.specs.Weights.{Bytes, Entry}
 use Rattle.hh_counters.specs.Report.{is_heavy}
 use Rattle.hh_counters.proofs.Reports.{select_more, nothing_heavy}
 use Rattle.hh_counters.proofs.report.heavy_rows.Goals as goal
-use Rattle.hh_counters.proofs.report.heavy_rows.Goals.{then-is_share+in_ok-copy+in_ok-push, else-is_share}
+use Rattle.hh_counters.proofs.report.heavy_rows.Goals.{then-is_heavy+in_ok-copy+in_ok-push, else-is_heavy}
 
 push_yes : (old kept new : List Entry) (b : Bool) (y z : Entry) → old ≡ kept → new ≡ old ++ y ∷ [] → y ≡ z → b ≡ true
     → new ≡ kept ++ cond b (z ∷ []) []
@@ -22,17 +22,17 @@ loop-i-preserved c =
     let ks = c.args.keys.now in
     let ns = c.args.numbers.now in
     let number : ℕ = slice_index_or ns i 0 in
-    elim c.if-is_share.branch [
-      | then-is_share+in_ok-copy+in_ok-push w ↦
+    elim c.if-is_heavy.branch [
+      | then-is_heavy+in_ok-copy+in_ok-push w ↦
           let k : Bytes = w.index-keys-i.result in
           push_yes _ _ _ _ (w.in_ok-copy.field-0, number) (k, number) c.loop-i.invariant (ap (λ v. v.items) w.rows-is
-          ∙ w.in_ok-push.ensures.items) (λ j. (w.in_ok-copy.ensures.equal j, number)) (sym c.is_share.ensures
-          ∙ w.if-is_share.true)
+          ∙ w.in_ok-push.ensures.items) (λ j. (w.in_ok-copy.ensures.equal j, number)) (sym c.is_heavy.ensures
+          ∙ w.if-is_heavy.true)
           ∙ sym (select_more c.args.p c.args.q c.args.total ks ns i k c.requires c.loop-i-test.true w.index-keys-i.is)
-      | else-is_share w ↦
+      | else-is_heavy w ↦
           let k : Bytes = slice_index_or ks i [] in
-          push_no _ _ _ (k, number) (ap (λ v. v.items) w.rows-is ∙ c.loop-i.invariant) (sym c.is_share.ensures
-          ∙ w.if-is_share.false)
+          push_no _ _ _ (k, number) (ap (λ v. v.items) w.rows-is ∙ c.loop-i.invariant) (sym c.is_heavy.ensures
+          ∙ w.if-is_heavy.false)
           ∙ sym (select_more c.args.p c.args.q c.args.total ks ns i k c.requires c.loop-i-test.true
           (get_or_default ks i [] k c.loop-i-test.true))
     ]
@@ -45,9 +45,9 @@ returns-clause-rows c = c.loop-i.invariant ∙ ap (filter (is_heavy c.args.p c.a
 pub returns-in_err-copy-clause-none : goal.returns-in_err-copy-clause-none
 returns-in_err-copy-clause-none c = λ none.
     absurd (nothing_heavy c.args.p c.args.q c.args.total c.args.keys.now c.args.numbers.now c.loop-i.i c.requires
-    c.loop-i-test.true none (sym c.is_share.ensures ∙ c.if-is_share.true))
+    c.loop-i-test.true none (sym c.is_heavy.ensures ∙ c.if-is_heavy.true))
 
 pub returns-in_err-push-clause-none : goal.returns-in_err-push-clause-none
 returns-in_err-push-clause-none c = λ none.
     absurd (nothing_heavy c.args.p c.args.q c.args.total c.args.keys.now c.args.numbers.now c.loop-i.i c.requires
-    c.loop-i-test.true none (sym c.is_share.ensures ∙ c.if-is_share.true))
+    c.loop-i-test.true none (sym c.is_heavy.ensures ∙ c.if-is_heavy.true))

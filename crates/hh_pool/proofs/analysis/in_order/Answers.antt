@@ -4,13 +4,13 @@ use Rattle.std.proofs.lemmas.Cmp.{nat_cmp_total}
 use Rattle.std.proofs.lemmas.Fn.{always_returns_same}
 use Rattle.std.proofs.lemmas.List.{append_assoc, append-nil, nil_from_length}
 use Rattle.std.proofs.lemmas.List.MinMax.{ranks_by}
-use Rattle.hh_counters.specs.Counters.{Sketch}
+use Rattle.hh_counters.specs.Counters.{SummaryView}
 use Rattle.hh_pool.proofs.Ordered.{ordered}
 use Rattle.hh_pool.proofs.analysis.in_order.Goals as goal
 
 -- the summaries of numbered ones
-abbrev alone : List (ℕ × Sketch) → List Sketch
-alone found = map (λ (it : ℕ × Sketch). it.1) found
+abbrev alone : List (ℕ × SummaryView) → List SummaryView
+alone found = map (λ (it : ℕ × SummaryView). it.1) found
 
 pub loop-summary-init : goal.loop-summary-init
 loop-summary-init c = ap (λ taken. taken ++ alone c.into_iter-summary-iterator.result.rest.items)
@@ -22,14 +22,14 @@ loop-summary-preserved c =
     let left = c.next.new.self.rest.items in
     c.loop-summary.invariant ∙ (ap (λ found. taken ++ alone found) c.in-Some.ensures.steps.0
     ∙ (sym (append_assoc taken (c.in-Some.summary ∷ []) (alone left))
-    ∙ ap (λ (more : List Sketch). more ++ alone left) (sym c.in_ok-push.ensures.items)))
+    ∙ ap (λ (more : List SummaryView). more ++ alone left) (sym c.in_ok-push.ensures.items)))
 
 pub returns : goal.returns
 returns c f count theirs distinct all =
     let none = nil_from_length c.loop-summary.summary-iterator.rest.items
     (omega (arith, c.in-None.ensures.steps.0, c.loop-summary.summary-iterator.rest.ok)) in
     let sorted = c.sort_unstable_by.ensures.sorted (λ x y. is_lt (nat_cmp x.0 y.0))
-    (ranks_by nat_cmp_total (λ (it : ℕ × Sketch). it.0)) (always_returns_same _ _ _ (λ a r g k. search rules)) in
+    (ranks_by nat_cmp_total (λ (it : ℕ × SummaryView). it.0)) (always_returns_same _ _ _ (λ a r g k. search rules)) in
     let taken = c.loop-summary.summaries.items in
     sym (c.loop-summary.invariant ∙ (ap (λ found. taken ++ alone found) none ∙ append-nil taken))
     ∙ (ap alone c.into_iter-summary-iterator.ensures.into_iter_gives.0

@@ -2,7 +2,7 @@ use Rattle.std.proofs.Common.{◌∙◌, length, sym, ap, arith}
 use Rattle.std.specs.Prelude.{zip}
 use Rattle.std.proofs.lemmas.List.{length-map}
 use Rattle.hh_stream.specs.Cuttings.{pieces_of}
-use Rattle.hh_counters.specs.Counters.{Sketch, sketch_of}
+use Rattle.hh_counters.specs.Counters.{SummaryView, sketch_of}
 use Rattle.hh_counters.specs.Report.{rows_above}
 use Rattle.hh_countmin.specs.Table.{table_of}
 use Rattle.hh_pool.proofs.Pieces.{length-pieces_of}
@@ -38,7 +38,7 @@ unreachable-requires-in-Err-TotalTooLarge g c =
 pub weigh-requires-clause-few : goal.weigh-requires-clause-few
 weigh-requires-clause-few g c = λ _ _.
     let fits = c.summary.invariant in
-    let counters = ap (λ (s : Sketch). length s.counters) c.summary.view_is in
+    let counters = ap (λ (s : SummaryView). length s.counters) c.summary.view_is in
     omega (arith, fits.few, fits.bounded_k, c.in_ok-candidates.ensures.few)
 
 pub returns-clause-summary : goal.returns-clause-summary

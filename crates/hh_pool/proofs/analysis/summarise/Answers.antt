@@ -1,7 +1,7 @@
 use Rattle.std.proofs.Common.{◌≡◌, ◌≤◌, ◌*◌, ◌∙◌, ℕ, length, map, refl, sym, ap, subst, arith}
 use Rattle.hh_stream.specs.Weights.{total_of, max_total}
 use Rattle.hh_stream.specs.Cuttings.{pieces_of}
-use Rattle.hh_counters.specs.Counters.{Sketch, sketch_of}
+use Rattle.hh_counters.specs.Counters.{SummaryView, sketch_of}
 use Rattle.hh_shared.specs.Tally.{IsDistinctBelow, HasAllBelow}
 use Rattle.hh_pool.specs.Passes.{piece_of}
 use Rattle.hh_pool.proofs.Pieces.{all_pieces, distinct_pieces}
@@ -39,7 +39,7 @@ returns-clause-summaries g c =
     let distinct = distinct_pieces lengths stream _ _ count c.if-not-holds_all.ensures.distinct in
     let all = all_pieces lengths stream _ _ count (c.if-not-holds_all.ensures.all.0 refl) in
     let kept = c.in_ok-seat.ensures.all_done.summaries in
-    let numbers = sym (ap (map (λ (it : ℕ × Sketch). it.0)) kept ∙ numbers_at k pieces seat.claims) in
+    let numbers = sym (ap (map (λ (it : ℕ × SummaryView). it.0)) kept ∙ numbers_at k pieces seat.claims) in
     let found = found_are k pieces seat.claims c.in_ok-seat.found.items kept in
     c.in_ok-summaries.ensures (λ i. sketch_of k (piece_of pieces i)) (length pieces) found
     (subst (IsDistinctBelow (length pieces)) numbers distinct) (subst (HasAllBelow (length pieces)) numbers all)

@@ -2,7 +2,7 @@ use Rattle.std.proofs.Common.{◌≡◌, ◌+◌, ◌++◌, ◌∷◌, ◌∙◌
 use Rattle.std.proofs.lemmas.List.{take_more}
 use Rattle.std.proofs.lemmas.List.Sums.{sum_by_push}
 use Rattle.hh_stream.specs.Weights.{Entry, total_of}
-use Rattle.hh_countmin.specs.Table.{Grid, grid_with, table_of}
+use Rattle.hh_countmin.specs.Table.{TableView, grid_with, table_of}
 use Rattle.hh_pool.proofs.first.add_items.Goals as goal
 
 pub loop-item-preserved : goal.loop-item-preserved
@@ -18,9 +18,9 @@ loop-item-preserved c =
     record {
       total =
           let push = sum_by_push (λ (x : Entry). x.1) (take i items) e in
-          omega (arith, ap (λ (t : Grid). t.total) after, c.loop-item.invariant.total, ap total_of more, push);
+          omega (arith, ap (λ (t : TableView). t.total) after, c.loop-item.invariant.total, ap total_of more, push);
       table = λ family width xs was.
-          after ∙ (ap (λ (t : Grid). grid_with t e) (c.loop-item.invariant.table family width xs was)
+          after ∙ (ap (λ (t : TableView). grid_with t e) (c.loop-item.invariant.table family width xs was)
           ∙ ((c.tables_follow_items.ensures family width (xs ++ take i items) [] e).1
           ∙ ap (table_of family width) (append_assoc xs (take i items) (e ∷ []) ∙ ap (λ ys. xs ++ ys) (sym more))));
     }

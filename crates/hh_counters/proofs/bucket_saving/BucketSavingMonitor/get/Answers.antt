@@ -8,6 +8,6 @@ use Rattle.hh_counters.proofs.bucket_saving.BucketSavingMonitor.get.Goals as goa
 pub returns : goal.returns
 returns c =
     let es = c.self.inside.index.entries in
-    let finds = weight_of-view c.args.key.now es c.self.invariant.stand.1.distinct in
+    let finds = weight_of-view c.args.key.now es c.self.invariant.bounds.1.distinct in
     rw (← c.self.view_is) (c.unwrap_or.ensures ∙ ap (λ o. unwrap_or o 0) (c.copied.ensures ∙ c.get.ensures.value)
     ∙ ap (λ q. unwrap_or (lookup (same_key q) es) 0) c.bytes.ensures.bytes ∙ sym finds)

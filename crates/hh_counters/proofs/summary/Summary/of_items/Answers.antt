@@ -1,6 +1,6 @@
 use Rattle.std.proofs.Common.{◌≡◌, take, sym, ap, ◌∙◌}
 use Rattle.hh_stream.specs.Weights.{Entry}
-use Rattle.hh_counters.specs.Counters.{Sketch, sketch_with, sketch_of}
+use Rattle.hh_counters.specs.Counters.{SummaryView, sketch_with, sketch_of}
 use Rattle.hh_counters.proofs.Summaries.{sketch_more, sketch_nothing}
 use Rattle.hh_counters.proofs.summary.Summary.of_items.Goals as goal
 
@@ -15,6 +15,6 @@ loop-item-preserved c =
     let same : taken ≡ item = λ j. (c.key.ensures j, c.weight.ensures.weight j) in
     let before = sketch_of c.args.k (take i c.args.items.now) in
     c.in-Ok-add.ensures.added
-    ∙ ap (λ (s : Sketch). sketch_with s taken) c.loop-item.invariant
+    ∙ ap (λ (s : SummaryView). sketch_with s taken) c.loop-item.invariant
     ∙ ap (sketch_with before) same
     ∙ sym (sketch_more c.args.k c.args.items.now i item c.loop-item-test.true c.item-item.is)

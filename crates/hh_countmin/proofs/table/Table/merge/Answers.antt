@@ -1,6 +1,6 @@
 use Rattle.std.proofs.Common.{◌≡◌, ◌+◌, List, ℕ, length, ap, ap₂, ◌∙◌, arith}
 use Rattle.std.proofs.lemmas.List.{take_at}
-use Rattle.hh_countmin.specs.Table.{Grid, cell_at, cells_by, grid_sum}
+use Rattle.hh_countmin.specs.Table.{TableView, cell_at, cells_by, grid_sum}
 use Rattle.hh_countmin.proofs.Cells.{cell-le-total, fits_same, fits_summed, summed_cells}
 use Rattle.hh_countmin.proofs.table.Table.merge.Goals as goal
 
@@ -40,6 +40,6 @@ returns-clause-merged c =
     ∙ summed_cells (length s.family.rows) s.width c.deref_mut.result.now c.deref.result.now c.add_cells.new.cells
     (omega (arith, c.self.invariant.all_cells)) c.add_cells.ensures
     ∙ ap₂ sums c.deref_mut.ensures.value c.deref.ensures.value in
-    let grid : List ℕ → Grid =
+    let grid : List ℕ → TableView =
     λ cells. record { family = s.family; width = s.width; total = s.total + c.other.inside.total; cells = cells } in
     ap grid all ∙ ap₂ grid_sum c.self.view_is c.other.view_is

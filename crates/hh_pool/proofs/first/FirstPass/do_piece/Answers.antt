@@ -2,7 +2,7 @@ use Rattle.std.proofs.Common.{◌<◌, ◌++◌, ◌∷◌, ◌∙◌, List, [],
 use Rattle.hh_stream.specs.Weights.{Entry}
 use Rattle.hh_stream.specs.Cuttings.{whole_of}
 use Rattle.hh_counters.specs.Counters.{sketch_of}
-use Rattle.hh_countmin.specs.Table.{Grid, table_of}
+use Rattle.hh_countmin.specs.Table.{TableView, table_of}
 use Rattle.hh_pool.specs.Progress.{first_pieces}
 use Rattle.hh_pool.proofs.Pieces.{length-pieces_of}
 use Rattle.hh_pool.proofs.Alone.{total-more, alone_more}
@@ -12,7 +12,7 @@ pub add_items-requires : goal.add_items-requires
 add_items-requires g c =
     let next = c.piece-items.ensures in
     let most = total-more _ _ _ _ c.requires.piece next.piece next.whole next.stream in
-    omega (arith, most, ap (λ (t : Grid). t.total) c.requires.before.table)
+    omega (arith, most, ap (λ (t : TableView). t.total) c.requires.before.table)
 
 pub returns : goal.returns
 returns g c =

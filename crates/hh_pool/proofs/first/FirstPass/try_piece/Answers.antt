@@ -1,7 +1,7 @@
 use Rattle.std.proofs.Common.{◌++◌, ◌∷◌, ◌∙◌, List, [], ap, arith}
 use Rattle.hh_stream.specs.Weights.{Entry}
 use Rattle.hh_counters.specs.Counters.{sketch_of}
-use Rattle.hh_countmin.specs.Table.{Grid, table_of}
+use Rattle.hh_countmin.specs.Table.{TableView, table_of}
 use Rattle.hh_pool.specs.Passes.{items_at}
 use Rattle.hh_pool.specs.Progress.{first_pieces}
 use Rattle.hh_pool.proofs.Pieces.{distinct_pieces}
@@ -18,7 +18,7 @@ add_items-requires g c =
     let claim = c.if-not-claim.ensures in
     let most = next_total _ _ _ _ _ _ _ c.requires.claims claim.claimed_or_met claim.distinct next.piece next.whole
     next.stream in
-    omega (arith, most, ap (λ (t : Grid). t.total) c.requires.before.table)
+    omega (arith, most, ap (λ (t : TableView). t.total) c.requires.before.table)
 
 pub returns-clause-after : goal.returns-clause-after
 returns-clause-after g c =

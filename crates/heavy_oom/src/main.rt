@@ -1,6 +1,6 @@
 //! Runs one public call, so that a test can refuse its requests for memory one by one.
 //!
-//! `heavy_memory CRATE CALL short|long` sets a call up with ample memory, marks where it begins and
+//! `heavy_oom CRATE CALL short|long` sets a call up with ample memory, marks where it begins and
 //! where it ends, and prints what it answered and what the objects that were lent to it show before
 //! and after. After a want of memory the same call is made again. The keys have 1 byte or 40.
 #![tactic(auto)]
@@ -46,7 +46,7 @@ fn tried<R: Threads + Wait + Sync>(rt: &R, host: &HostRuntime) -> Result<(), Fai
         words.next(),
         words.next(),
     ) else {
-        return Err(Fail::new("usage: heavy_memory CRATE CALL short|long"));
+        return Err(Fail::new("usage: heavy_oom CRATE CALL short|long"));
     };
     let lab = Lab::new(host, keys.as_str() == "long");
     match call(rt, &lab, of.as_str(), name.as_str())? {

@@ -1,7 +1,7 @@
 use Rattle.std.proofs.Common.{true≢false, sym, arith}
 use Rattle.hh_counters.proofs.Linked.{absent, found, held, some_bucket}
 use Rattle.hh_counters.proofs.Gathering.{moved_on}
-use Rattle.hh_counters.proofs.bucket_saving.settle.Goals as goal
+use Rattle.hh_counters.proofs.bucket_saving.refresh_first.Goals as goal
 
 pub unreachable-requires : goal.unreachable-requires
 unreachable-requires c =
@@ -10,14 +10,14 @@ unreachable-requires c =
 
 pub unreachable-requires-in_default-get : goal.unreachable-requires-in_default-get
 unreachable-requires-in_default-get c =
-    let stand = c.loop-from.invariant.1 in
+    let bounds = c.loop-from.invariant.1 in
     let x = c.in-Some.field-0.now.1 in
-    let at = held _ _ _ _ x stand c.in-Some.ensures.member in
-    let none = absent _ x stand.distinct (sym c.in_default-get.ensures.value) in
-    omega (arith, none, at, (stand.below x).0)
+    let at = held _ _ _ _ x bounds c.in-Some.ensures.member in
+    let none = absent _ x bounds.distinct (sym c.in_default-get.ensures.value) in
+    omega (arith, none, at, (bounds.below x).0)
 
-pub returns-then-counter-from-clause-settled : goal.returns-then-counter-from-clause-settled
-returns-then-counter-from-clause-settled c =
+pub returns-then-counter-from-clause-fresh : goal.returns-then-counter-from-clause-fresh
+returns-then-counter-from-clause-fresh c =
     let x = c.in-Some.field-0.now.1 in
     let at = found c.args.index.now.entries x c.in-Some-get.counter.now c.loop-from.invariant.1.distinct
     (sym c.in-Some-get.ensures.value) in (

@@ -1,6 +1,6 @@
 use Rattle.std.proofs.lemmas.Result.{err_from_is_err_and}
 use Rattle.hh_pool.proofs.NumberFacts.{numbers-refused}
-use Rattle.hh_pool.proofs.reading.read_merge_tree.Goals as goal
+use Rattle.hh_pool.proofs.parsing.read_merge_tree.Goals as goal
 
 pub returns-in_err-check_numbers-clause-refused : goal.returns-in_err-check_numbers-clause-refused
 returns-in_err-check_numbers-clause-refused c =

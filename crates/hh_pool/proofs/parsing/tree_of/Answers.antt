@@ -1,6 +1,6 @@
 use Rattle.hh_pool.specs.Plans.{reading_of}
-use Rattle.hh_pool.proofs.ReadingFacts.{spells-end, steps-more, syntax-at, syntax-end, whole-read}
-use Rattle.hh_pool.proofs.reading.tree_of.Goals as goal
+use Rattle.hh_pool.proofs.ParsingFacts.{spells-end, steps-more, syntax-at, syntax-end, whole-read}
+use Rattle.hh_pool.proofs.parsing.tree_of.Goals as goal
 
 pub returns-in_default-clause-refused : goal.returns-in_default-clause-refused
 returns-in_default-clause-refused c =

@@ -12,8 +12,8 @@ use Rattle.hh_stream.specs.Weights.{Bytes, Entry, key_cmp, same_key}
 use Rattle.hh_counters.specs.Report.{is_heavy}
 use Rattle.hh_counters.proofs.Counting.{insert_passing, passing_stays}
 use Rattle.hh_counters.proofs.Reports.{rising-zip}
-use Rattle.hh_counters.proofs.candidates.Candidates.thinned.Goals.{then-is_share+in_ok-copy+in_ok-insert, else-is_share}
-use Rattle.hh_counters.proofs.candidates.Candidates.thinned.Goals as goal
+use Rattle.hh_counters.proofs.candidates.Candidates.pruned.Goals.{then-is_heavy+in_ok-copy+in_ok-insert, else-is_heavy}
+use Rattle.hh_counters.proofs.candidates.Candidates.pruned.Goals as goal
 
 pub loop-i-preserved : goal.loop-i-preserved
 loop-i-preserved c =
@@ -30,21 +30,21 @@ loop-i-preserved c =
     let at : (k : Bytes) → k ≡ get_or ks i k → get_or zs i (k, number) ≡ (k, number) = λ k is. get_or-zip ks ns i
     (k, number) (omega (arith, low, c.requires.lengths)) low
     ∙ (λ j. (sym is j, get_or_default ns i number 0 low j)) in
-    elim c.if-is_share.branch [
-      | then-is_share+in_ok-copy+in_ok-insert w ↦
+    elim c.if-is_heavy.branch [
+      | then-is_heavy+in_ok-copy+in_ok-insert w ↦
           let k : Bytes = w.index-as_slice-i.result in
           ap (λ keys. keys.keys) w.keys-is
           ∙ w.in_ok-insert.ensures.keys
           ∙ ap₂ (insert_key same_key) c.loop-i.invariant w.in_ok-copy.ensures.equal
           ∙ insert_passing may zs i (k, number) rising within
           (at k (w.index-as_slice-i.is ∙ ap (λ (l : List Bytes). get_or l i k) (w.as_slice.ensures.keys
-          ∙ c.self.view_is))) (sym c.is_share.ensures ∙ w.if-is_share.true)
-      | else-is_share w ↦
+          ∙ c.self.view_is))) (sym c.is_heavy.ensures ∙ w.if-is_heavy.true)
+      | else-is_heavy w ↦
           let k : Bytes = slice_index_or ks i [] in
           ap (λ keys. keys.keys) w.keys-is ∙ c.loop-i.invariant
           ∙ passing_stays may zs i (k, number) within
-          (at k (get_or_default ks i [] k (omega (arith, low, c.requires.lengths)))) (sym c.is_share.ensures
-          ∙ w.if-is_share.false)
+          (at k (get_or_default ks i [] k (omega (arith, low, c.requires.lengths)))) (sym c.is_heavy.ensures
+          ∙ w.if-is_heavy.false)
     ]
 
 pub invariant_of-result : goal.invariant_of-result

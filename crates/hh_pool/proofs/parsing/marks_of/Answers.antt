@@ -1,7 +1,7 @@
 use Rattle.std.proofs.Common.{◌≡◌, ◌+◌, ◌<◌, ◌∙◌, length, take, drop, get_or, false, true, sym, arith}
 use Rattle.std.proofs.lemmas.List.{get_or_default}
 use Rattle.hh_pool.proofs.NumberFacts.{came, numbers-more, split-at}
-use Rattle.hh_pool.proofs.reading.marks_of.Goals as goal
+use Rattle.hh_pool.proofs.parsing.marks_of.Goals as goal
 
 pub returns-then-number-pieces-clause-refused : goal.returns-then-number-pieces-clause-refused
 returns-then-number-pieces-clause-refused c =

@@ -2,7 +2,7 @@ use Rattle.std.proofs.Common.{◌≡◌, refl}
 use Rattle.hh_pool.specs.Plans.{shape}
 use Rattle.hh_pool.specs.Trees.{leaves}
 use Rattle.hh_pool.proofs.NumberFacts.{all-came, missing}
-use Rattle.hh_pool.proofs.reading.check_numbers.Goals as goal
+use Rattle.hh_pool.proofs.parsing.check_numbers.Goals as goal
 
 pub returns-in-None-clause-merges : goal.returns-in-None-clause-merges
 returns-in-None-clause-merges c =

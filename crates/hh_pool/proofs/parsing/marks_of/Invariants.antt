@@ -1,7 +1,7 @@
 use Rattle.std.proofs.Common.{take}
 use Rattle.hh_shared.specs.Tally.{IsDistinctBelow}
 use Rattle.hh_pool.specs.PlanTexts.{AreMarked}
-use Rattle.hh_pool.proofs.reading.marks_of.Given as goal
+use Rattle.hh_pool.proofs.parsing.marks_of.Given as goal
 
 abbrev pub invariant-loop-number : goal.invariant-loop-number
 invariant-loop-number l =
