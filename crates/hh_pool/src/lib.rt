@@ -21,6 +21,6 @@ pub use gate::{Gate, OpenGate};
 pub use merging::merge_by;
 pub use options::{MAX_WORKERS, Options, OptionsFault};
 pub use outcome::{Outcome, RunError};
+pub use parsing::PlanFault;
 pub use plan::Plan;
-pub use reading::PlanFault;
 pub use second::second_pass;
