@@ -9,8 +9,8 @@ use Rattle.hh_countmin.specs.Family.{drawn_family, max_depth, max_width}
 use Rattle.hh_pool.specs.PlanTexts.{PlanRefused, SpellsTree}
 use Rattle.hh_pool.specs.Settings.{Settings, max_workers}
 use Rattle.hh_pool.specs.Trees.{IsBalanced, IsMergeTree, MergeTree, chain_of}
-use Rattle.hh_pool.specs.declared.reading.PlanFault.{PlanFault}
-use Rattle.hh_pool.specs.declared.reading.PlanFault.TheVariants as plan
+use Rattle.hh_pool.specs.declared.parsing.PlanFault.{PlanFault}
+use Rattle.hh_pool.specs.declared.parsing.PlanFault.TheVariants as plan
 use Rattle.hh_stream.specs.Ranges.{in_range}
 use Rattle.hh_records.specs.Rows.{rows_of}
 use Rattle.hh_records.specs.Sinks.{TakesFirst}
