@@ -1,14 +1,11 @@
-use Rattle.std.proofs.Common.{◌∙◌, length, sym, ap, arith}
-use Rattle.std.specs.Prelude.{zip}
+use Rattle.std.proofs.Common.{◌∙◌, length, ap, arith}
 use Rattle.std.proofs.lemmas.List.{length-map}
 use Rattle.hh_stream.specs.Cuttings.{pieces_of}
-use Rattle.hh_counters.specs.Counters.{SummaryView, sketch_of}
-use Rattle.hh_counters.specs.Report.{rows_above}
-use Rattle.hh_countmin.specs.Table.{table_of}
+use Rattle.hh_counters.specs.Counters.{sketch_of}
 use Rattle.hh_pool.proofs.Pieces.{length-pieces_of}
 use Rattle.hh_pool.proofs.ValueFacts.{IsMergeOf}
-use Rattle.hh_pool.proofs.Merged.{no_refusal, merged_is, heavy_is}
-use Rattle.hh_pool.proofs.analysis.run_passes.Goals as goal
+use Rattle.hh_pool.proofs.Merged.{no_refusal, merged_is}
+use Rattle.hh_pool.proofs.analysis.merge_pieces.Goals as goal
 
 pub merge_by-requires : goal.merge_by-requires
 merge_by-requires g c =
@@ -35,14 +32,8 @@ unreachable-requires-in-Err-TotalTooLarge g c =
     no_refusal _ _ _ _ _ _ c.requires.plan whole (omega (arith, total.total, total.bounded))
     c.in_ok-summaries.ensures.summaries refused
 
-pub weigh-requires-clause-few : goal.weigh-requires-clause-few
-weigh-requires-clause-few g c = λ _ _.
-    let fits = c.summary.invariant in
-    let counters = ap (λ (s : SummaryView). length s.counters) c.summary.view_is in
-    omega (arith, fits.few, fits.bounded_k, c.in_ok-candidates.ensures.few)
-
-pub returns-clause-summary : goal.returns-clause-summary
-returns-clause-summary g c =
+pub returns-in-Ok-clause-summary : goal.returns-in-Ok-clause-summary
+returns-in-Ok-clause-summary g c =
     let by = c.in-Ok.ensures in
     let of : IsMergeOf c.args.plan.now c.in_ok-summaries.summaries.items c.in-Ok.summary =
     record { same_k = by.k; total = by.total; counters = by.counters; honest = by.honest } in
@@ -50,18 +41,3 @@ returns-clause-summary g c =
     (omega (arith, length-pieces_of c.args.cutting.now c.args.stream.now, c.requires.some))
     (c.pieces_make_the_whole.ensures.whole c.args.cutting.now c.args.stream.now c.requires.same_len)
     c.in_ok-summaries.ensures.summaries of
-
-pub returns-clause-heavy : goal.returns-clause-heavy
-returns-clause-heavy g c =
-    let stream = c.args.stream.now in
-    let keys = c.in_ok-candidates.candidates in
-    let merged = returns-clause-summary g c in
-    let asked = c.threshold-p.ensures in
-    let honest = rw (← merged.total, ← merged.same_k) at merged.honest in
-    let filled = c.in_ok-summaries.ensures.table in
-    let enough = c.in_ok-candidates.ensures.enough stream honest (rw (merged.same_k, asked.p, asked.q) asked.in_range.1)
-    (filled ∙ (λ i. table_of (sym filled i).family (sym filled i).width stream)) in
-    c.in_ok-heavy.ensures.rows
-    ∙ ((λ i. rows_above (asked.p i) (asked.q i) c.total-total.result (zip keys (c.deref.ensures.value i)))
-    ∙ heavy_is stream c.args.options.now.p c.args.options.now.q c.total-total.result keys c.in_ok-weights.weights.items
-    (rw (asked.p, asked.q) at enough) c.total-total.ensures.total c.in_ok-weights.ensures)
