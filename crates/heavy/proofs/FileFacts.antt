@@ -13,7 +13,8 @@ use Rattle.hh_saved.specs.declared.saved.Saved.TheVariants.{Cells}
 use Rattle.heavy.specs.declared.error.MergeCause.TheVariants as cause
 use Rattle.heavy.specs.declared.error.ToolError.{ToolError}
 use Rattle.heavy.specs.declared.error.ToolError.TheVariants as tool
-use Rattle.heavy.specs.Files.{Refuses, file_of, of_total, merge_saved, merged_from}
+use Rattle.heavy.specs.Files.{Refuses, file_of}
+use Rattle.heavy.specs.Merge.{merge_saved, merged_from, of_total}
 
 -- ---- two values
 

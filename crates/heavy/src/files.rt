@@ -1,9 +1,13 @@
-//! A saved file among others.
+//! A saved file among others, and the summary that it holds.
 
 ghost use Rattle.std.specs.Prelude.{◌≡◌, Ok, IfOk, IfErr};
-ghost use Rattle.heavy.specs.Files.{Refuses, file_of};
+ghost use Rattle.hh_saved.specs.Spelling.{Spells};
+ghost use Rattle.hh_saved.specs.declared.format.Version.{Version};
+ghost use Rattle.hh_saved.specs.declared.saved.Saved.TheVariants.{Counters};
+ghost use Rattle.heavy.specs.Files.{HoldsSummary, Refuses, SummaryRefused, file_of};
 
 use crate::error::ToolError;
+use hh_counters::Summary;
 use hh_saved::{Saved, SavedFault, read};
 use std::alloc::Global;
 
@@ -16,5 +20,20 @@ pub(crate) fn file_of(alloc: Global, number: u64, bytes: &[u8]) -> Result<Saved,
         Ok(saved) => Ok(saved),
         Err(SavedFault::Memory) => Err(ToolError::Memory),
         Err(fault) => Err(ToolError::BadFile { number, fault }),
+    }
+}
+
+/// The summary that a file holds.
+pub(crate) fn summary_in(alloc: Global, file: &[u8]) -> Result<Summary, ToolError>
+    ensures summary { IfOk result (HoldsSummary file.now) }
+    ensures spelled { IfOk result (λ summary.
+        (version : Version) × Spells version file.now (Counters summary)) }
+    ensures refused { IfErr result (λ fault. SummaryRefused file.now fault) }
+{
+    match read(alloc, file) {
+        Ok(Saved::Counters(summary)) => Ok(summary),
+        Ok(Saved::Cells(_)) => Err(ToolError::NotCounters),
+        Err(SavedFault::Memory) => Err(ToolError::Memory),
+        Err(fault) => Err(ToolError::BadFile { number: 1, fault }),
     }
 }
