@@ -2,8 +2,9 @@
 use Rattle.std.specs.Prelude.{◌≡◌, ℕ, List, Result, Ok, Err, ⊤}
 use Rattle.hh_counters.specs.Counters.{SummaryView}
 use Rattle.hh_countmin.specs.Table.{TableView}
-use Rattle.hh_saved.specs.Reading.{saved_of}
+use Rattle.hh_saved.specs.Reading.{head_at, saved_of}
 use Rattle.hh_saved.specs.declared.fault.SavedFault.{SavedFault}
+use Rattle.hh_saved.specs.declared.fault.SavedFault.TheVariants as saved
 use Rattle.hh_saved.specs.declared.saved.Saved.{Saved}
 use Rattle.hh_saved.specs.declared.saved.Saved.TheVariants.{Counters, Cells}
 use Rattle.heavy.specs.declared.error.ToolError.{ToolError}
@@ -27,6 +28,16 @@ in_file n (Err f) = Err (tool.BadFile n f)
 -- the value that the bytes of file n spell, or their first fault
 abbrev pub file_of : ℕ → List ℕ → Result Saved ToolError
 file_of n bytes = in_file n (saved_of bytes)
+
+-- the refusal that a fault of file n is
+abbrev pub file_fault : ℕ → SavedFault → ToolError
+file_fault n saved.Memory = tool.Memory
+file_fault n fault = tool.BadFile n fault
+
+-- where file n fails at its head, so does what read it, whatever the memory
+abbrev pub StopsAtHead : {X : Type 0} → ℕ → List ℕ → Result X ToolError → Type 0
+StopsAtHead n file (Ok x) = (f : SavedFault) → head_at file ≡ Err f → ⊥
+StopsAtHead n file (Err e) = (f : SavedFault) → head_at file ≡ Err f → e ≡ file_fault n f
 
 -- the file holds this summary
 abbrev pub HoldsSummary : List ℕ → SummaryView → Type 0

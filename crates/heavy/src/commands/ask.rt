@@ -7,7 +7,7 @@ ghost use Rattle.csv.specs.Writing.{text_written};
 ghost use Rattle.hh_stream.specs.Weights.{max_key_len};
 ghost use Rattle.hh_records.specs.Rows.{IsBetweenRows};
 ghost use Rattle.heavy.specs.Ask.{answer, answer_of, answer_row, answers, answers_of, asked_value, bad_key, key_fault};
-ghost use Rattle.heavy.specs.Files.{Refuses, file_of};
+ghost use Rattle.heavy.specs.Files.{Refuses, StopsAtHead, file_of};
 
 use crate::error::{KeyCause, ToolError};
 use crate::files::file_of;
@@ -38,6 +38,7 @@ fn asked(alloc: Global, file: &[u8], words: &[Vec<u8>]) -> Result<Saved, ToolErr
     ensures value { IfOk result (λ saved. file_of 1 file.now ≡ Ok saved) }
     ensures keys { OnOk result (bad_key 1 (map vec_items words.now) ≡ None) }
     ensures refused { IfErr result (Refuses (asked_value file.now (map vec_items words.now))) }
+    ensures early { StopsAtHead 1 file.now result }
 {
     let saved = file_of(alloc, 1, file)?;
     for i in 0..words.len() {
@@ -104,6 +105,7 @@ pub fn ask_bytes(alloc: Global, file: &[u8], keys: &[Vec<u8>]) -> Result<Vec<u8>
     ensures rows { IfOk result (λ text. answers file.now (map vec_items keys.now) ≡ Ok text.items) }
     ensures refused { IfErr result (λ fault.
         Refuses (answers file.now (map vec_items keys.now)) fault) }
+    ensures early { StopsAtHead 1 file.now result }
 {
     let saved = asked(alloc, file, keys)?;
     Ok(answers_text(alloc, &saved, keys)?)
@@ -134,6 +136,7 @@ pub fn ask_keys(alloc: Global, file: &[u8], keys: &[Vec<u8>]) -> Result<Vec<(u64
         answers_of file.now (map vec_items keys.now) ≡ Ok bounds.items) }
     ensures refused { IfErr result (λ fault.
         Refuses (answers_of file.now (map vec_items keys.now)) fault) }
+    ensures early { StopsAtHead 1 file.now result }
 {
     let saved = asked(alloc, file, keys)?;
     Ok(answers_of(alloc, &saved, keys)?)
@@ -145,6 +148,7 @@ pub fn ask_keys(alloc: Global, file: &[u8], keys: &[Vec<u8>]) -> Result<Vec<(u64
 pub fn ask_key(alloc: Global, file: &[u8], key: &[u8]) -> Result<(u64, u64), ToolError>
     ensures bounds { IfOk result (λ bounds. answer file.now key.now ≡ Ok bounds) }
     ensures refused { IfErr result (λ fault. Refuses (answer file.now key.now) fault) }
+    ensures early { StopsAtHead 1 file.now result }
 {
     let saved = file_of(alloc, 1, file)?;
     check_key(1, key)?;

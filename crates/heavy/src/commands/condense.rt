@@ -7,6 +7,7 @@ ghost use Rattle.hh_counters.specs.Condensed.{condensed, free_name, other_name};
 ghost use Rattle.hh_counters.specs.Counters.{IsCounters};
 ghost use Rattle.hh_records.specs.Streams.{ReadsAs};
 ghost use Rattle.heavy.specs.Condense.{CondenseRefused, CondensesRows};
+ghost use Rattle.heavy.specs.Files.{StopsAtHead};
 ghost use Rattle.heavy.specs.Records.{IsCountOf, RecordsRefused};
 
 use crate::counting::count_records;
@@ -118,6 +119,7 @@ pub fn condense_bytes<R: Read + Drop>(
     ensures rows { IfOk result (λ rows.
         CondensesRows file.now (R.remaining reader) rows.items) }
     ensures refused { IfErr result (λ fault. CondenseRefused file.now (R.remaining reader) fault) }
+    ensures early { StopsAtHead 1 file.now result }
 {
     let summary = summary_in(alloc, file)?;
     let rows = condense_records(alloc, &summary, reader)?;

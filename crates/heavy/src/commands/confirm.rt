@@ -5,6 +5,7 @@ ghost use Rattle.std.specs.Map.{keys_of};
 ghost use Rattle.hh_stream.specs.Weights.{Entry, total_of};
 ghost use Rattle.hh_counters.specs.Counting.{count_of};
 ghost use Rattle.hh_records.specs.Streams.{ReadsAs};
+ghost use Rattle.heavy.specs.Files.{StopsAtHead};
 ghost use Rattle.heavy.specs.Confirm.{ConfirmRefused, ConfirmsRows, CountRefused, confirm_fault, confirmed_rows};
 ghost use Rattle.heavy.specs.declared.commands.confirm.ConfirmFault.TheVariants.{Memory};
 
@@ -112,6 +113,7 @@ pub fn confirm_bytes<R: Read + Drop>(
     ensures rows { IfOk result (λ rows.
         ConfirmsRows file.now (R.remaining reader) rows.items) }
     ensures refused { IfErr result (λ fault. ConfirmRefused file.now (R.remaining reader) fault) }
+    ensures early { StopsAtHead 1 file.now result }
 {
     let summary = summary_in(alloc, file)?;
     let rows = confirm_records(alloc, &summary, reader)?;

@@ -2,7 +2,7 @@
 
 ghost use Rattle.std.specs.Prelude.{IfOk, IfErr};
 ghost use Rattle.heavy.specs.Entries.{ListsEntries};
-ghost use Rattle.heavy.specs.Files.{SummaryRefused};
+ghost use Rattle.heavy.specs.Files.{StopsAtHead, SummaryRefused};
 
 use crate::error::ToolError;
 use crate::files::summary_in;
@@ -16,6 +16,7 @@ use std::alloc::Global;
 pub fn list_entries(alloc: Global, file: &[u8]) -> Result<Vec<Place>, ToolError>
     ensures entries { IfOk result (λ places. ListsEntries file.now places.items) }
     ensures refused { IfErr result (λ fault. SummaryRefused file.now fault) }
+    ensures early { StopsAtHead 1 file.now result }
 {
     let summary = summary_in(alloc, file)?;
     Ok(places(alloc, file, &summary)?)

@@ -1,12 +1,12 @@
 //! Saved files, merged.
 
-ghost use Rattle.std.specs.Prelude.{◌≡◌, ◌<◌, Ok, Err, IfOk, IfErr, OnOk, MatchResult, map, length, vec_items};
+ghost use Rattle.std.specs.Prelude.{◌≡◌, ◌<◌, Ok, Err, IfOk, IfErr, OnOk, MatchResult, [], map, length, slice_index_or, vec_items};
 ghost use Rattle.hh_saved.specs.Spelling.{Spells};
 ghost use Rattle.hh_saved.specs.declared.format.Version.TheVariants as version;
 ghost use Rattle.hh_saved.specs.declared.saved.Saved.{Saved};
 ghost use Rattle.hh_saved.specs.declared.saved.Saved.TheVariants.{Counters, Cells};
 ghost use Rattle.heavy.specs.declared.error.ToolError.{ToolError};
-ghost use Rattle.heavy.specs.Files.{Refuses};
+ghost use Rattle.heavy.specs.Files.{Refuses, StopsAtHead};
 ghost use Rattle.heavy.specs.Merge.{merge_saved, merged_files};
 
 use crate::error::{MergeCause, ToolError};
@@ -79,6 +79,7 @@ fn merge_files(alloc: Global, files: &[Vec<u8>]) -> Result<Saved, ToolError>
     ensures merged { IfOk result (λ saved. merged_files (map vec_items files.now) ≡ Ok saved) }
     ensures refused { IfErr result (λ fault.
         Refuses (merged_files (map vec_items files.now)) fault) }
+    ensures early { StopsAtHead 1 (slice_index_or (map vec_items files.now) 0 []) result }
 {
     let mut merged = file_of(alloc, 1, &files[0])?;
     for i in 1..files.len() {
@@ -105,6 +106,7 @@ pub fn merge_bytes(alloc: Global, files: &[Vec<u8>]) -> Result<Vec<u8>, ToolErro
         × Spells version.Two bytes.items saved) }
     ensures refused { IfErr result (λ fault.
         Refuses (merged_files (map vec_items files.now)) fault) }
+    ensures early { StopsAtHead 1 (slice_index_or (map vec_items files.now) 0 []) result }
 {
     let saved = merge_files(alloc, files)?;
     Ok(write(alloc, &saved)?)
