@@ -1,12 +1,15 @@
 -- What a call leaves that gives its answer in a room.
-use Rattle.std.specs.Prelude.{◌≡◌, ◌≢◌, ◌<◌, ◌≤◌, not, ℕ, List, [], ◌∷◌, length, map, take, Option, Some, Result, Ok, IsOkAnd, if◌then◌else◌}
+use Rattle.std.specs.Prelude.{◌≡◌, ◌≢◌, ◌<◌, ◌≤◌, not, ℕ, List, [], ◌∷◌, length, map, take, Option, Some, Result, Ok, Err, IsOkAnd, if◌then◌else◌}
 use Rattle.std.specs.Global.{Vec}
+use Rattle.hh_saved.specs.Reading.{head_at}
+use Rattle.hh_saved.specs.declared.fault.SavedFault.{SavedFault}
 use Rattle.hh_saved.specs.Spelling.{Spells}
 use Rattle.hh_saved.specs.declared.format.Version.TheVariants as version
 use Rattle.hh_saved.specs.declared.saved.Saved.{Saved}
 use Rattle.hh_stream.specs.Weights.{Bytes}
 use Rattle.hh_stream.specs.Ranges.{in_range}
 use Rattle.heavy.specs.Ask.{answer, answers_of}
+use Rattle.heavy.specs.Files.{file_fault}
 use Rattle.heavy.specs.Merge.{merged_files}
 use Rattle.heavy.specs.Summarise.{bad_k}
 use Rattle.heavy.specs.declared.error.ToolError.{ToolError}
@@ -34,6 +37,10 @@ pub record IsOutcome {X : Type 0} (P : List X → Type 0) (Q : ToolError → Typ
   pub refused : status ≢ 0 → status ≢ 5 → IsRefused Q status fault
   pub unchanged : status ≢ 0 → new ≡ old
   pub no_fault : TellsNone status fault
+
+-- where a file fails at its head, the call tells so, whatever the memory
+abbrev pub TellsHead : List ℕ → ℕ → Fault → Type 0
+TellsHead file status fault = (f : SavedFault) → head_at file ≡ Err f → IsTold status fault (file_fault 1 f)
 
 -- these elements are those that came
 abbrev pub IsGiven : {X : Type 0} → Result (Vec X) ToolError → List X → Type 0

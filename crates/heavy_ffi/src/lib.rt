@@ -30,7 +30,7 @@ ghost use Rattle.heavy.specs.Records.{RefusedAfter, SavesStream};
 ghost use Rattle.heavy.specs.Table.{bad_table};
 ghost use Rattle.heavy_ffi.specs.Faults.{no_fault};
 ghost use Rattle.heavy_ffi.specs.Outcomes.{AreAnswers, IsAnswer, IsMergeOf, IsOutcome};
-ghost use Rattle.heavy_ffi.specs.Outcomes.{bad_summary, both_of};
+ghost use Rattle.heavy_ffi.specs.Outcomes.{TellsHead, bad_summary, both_of};
 
 pub use fault::Fault;
 use fault::tell;
@@ -171,6 +171,7 @@ pub extern "C" fn heavy_ask(
     ensures outcome { IsOutcome (IsAnswer file.now key.now) (Refuses (answer file.now key.now))
         result ((low.old, high.old) ∷ []) ((low.new, high.new) ∷ []) 1 fault.new }
     ensures bounds { result ≡ 0 → answer file.now key.now ≡ Ok (low.new, high.new) }
+    ensures early { TellsHead file.now result fault.new }
     ensures no_room { result ≢ 5 }
 {
     match ask_key(alloc, file, key) {
@@ -199,6 +200,7 @@ pub extern "C" fn heavy_confirm(
     ensures outcome { IsOutcome
         (ConfirmsRows file.now (Some text.now)) (ConfirmRefused file.now (Some text.now))
         result out.old out.new needed.new fault.new }
+    ensures early { TellsHead file.now result fault.new }
     ensures no_bytes { result ≢ 0 → result ≢ 5 → needed.new ≡ 0 }
 {
     let bytes = confirm_bytes(alloc, file, text);
@@ -220,6 +222,7 @@ pub extern "C" fn heavy_condense(
     ensures outcome { IsOutcome
         (CondensesRows file.now (Some text.now)) (CondenseRefused file.now (Some text.now))
         result out.old out.new needed.new fault.new }
+    ensures early { TellsHead file.now result fault.new }
     ensures no_bytes { result ≢ 0 → result ≢ 5 → needed.new ≡ 0 }
 {
     let bytes = condense_bytes(alloc, file, text);
@@ -277,6 +280,7 @@ pub extern "C" fn heavy_entries(
 ) -> u32
     ensures outcome { IsOutcome (ListsEntries file.now) (SummaryRefused file.now)
         result out.old out.new needed.new fault.new }
+    ensures early { TellsHead file.now result fault.new }
     ensures no_entries { result ≢ 0 → result ≢ 5 → needed.new ≡ 0 }
 {
     let entries = list_entries(alloc, file);
