@@ -4,10 +4,10 @@
    checks the C side, which owes what stands here.
 
    Answers. A call answers a status: HEAVY_DONE, one of the program's exit statuses 1 to 4, or HEAVY_TOO_SMALL.
-     HEAVY_DONE       the first *needed elements of room are the answer; told has zeros
-     HEAVY_TOO_SMALL  the answer has *needed elements, which are more than room_len; room is as it was; told has zeros.
+     HEAVY_DONE       the first *needed elements of out are the answer; fault has zeros
+     HEAVY_TOO_SMALL  the answer has *needed elements, which are more than out_len; out is as it was; fault has zeros.
                       The call can be made again with so much room
-     another          told says why, *needed is 0, and room is as it was
+     another          fault says why, *needed is 0, and out is as it was
    No call answers HEAVY_DEVICE today; treat it as a fault.
 
    Memory. The caller owns all that it lends, and the library keeps nothing after a call. A call takes memory by
@@ -15,7 +15,7 @@
    The three have to be of one allocator.
 
    Pointers. No pointer may be null, also where a length is 0: lend the address of any byte. Lengths are counted in
-   elements, and no slice has 2^63 bytes or more. What is written (room, *needed, *low, *high, *told) overlaps nothing
+   elements, and no slice has 2^63 bytes or more. What is written (out, *needed, *low, *high, *fault) overlaps nothing
    else that the same call is lent, and no other thread reads or writes it during the call. What is only read may be
    lent to many calls at once.
 
@@ -129,49 +129,49 @@ uint32_t heavy_version(void);
 
 /* Gives the saved summary of a text's records with k counters, k from 1 to 65535. The method is tested first, then k,
    then the records. */
-uint32_t heavy_summarise(const uint8_t *text, size_t text_len, uint64_t k, uint32_t method, uint8_t *room,
-                         size_t room_len, size_t *needed, struct heavy_fault *told);
+uint32_t heavy_summarise(const uint8_t *text, size_t text_len, uint64_t k, uint32_t method, uint8_t *out,
+                         size_t out_len, size_t *needed, struct heavy_fault *fault);
 
 /* Gives the saved Count-Min table of a text's records, with the hash family that is drawn from the seed: width from
    1 to 65536, depth from 1 to 16. The depth is tested first, then the width, then the records. */
 uint32_t heavy_table(const uint8_t *text, size_t text_len, uint64_t width, uint64_t depth, uint64_t seed,
-                     uint8_t *room, size_t room_len, size_t *needed, struct heavy_fault *told);
+                     uint8_t *out, size_t out_len, size_t *needed, struct heavy_fault *fault);
 
 /* Gives the merge of count saved files, which lie one after the other in files_len bytes: file i has lengths[i] bytes.
-   Where the bytes end before the lengths do, files are cut short. With a count of 0 it answers HEAVY_USAGE, and told
+   Where the bytes end before the lengths do, files are cut short. With a count of 0 it answers HEAVY_USAGE, and fault
    has zeros. */
-uint32_t heavy_merge(const uint8_t *files, size_t files_len, const size_t *lengths, size_t count, uint8_t *room,
-                     size_t room_len, size_t *needed, struct heavy_fault *told);
+uint32_t heavy_merge(const uint8_t *files, size_t files_len, const size_t *lengths, size_t count, uint8_t *out,
+                     size_t out_len, size_t *needed, struct heavy_fault *fault);
 
 /* Tells between which weights a key's weight is, as a saved file knows it. The file is tested first, then the key, of
    1 to 4096 bytes. At another status than HEAVY_DONE *low and *high are as they were. */
 uint32_t heavy_ask(const uint8_t *file, size_t file_len, const uint8_t *key, size_t key_len, uint64_t *low,
-                   uint64_t *high, struct heavy_fault *told);
+                   uint64_t *high, struct heavy_fault *fault);
 
-/* Tells for each of count keys what heavy_ask tells of one, and reads the file once: room[i] is that of key i. Key i is
+/* Tells for each of count keys what heavy_ask tells of one, and reads the file once: out[i] is that of key i. Key i is
    the next lengths[i] of the keys_len bytes. Where the bytes end before the lengths do, keys are cut short. The answer
    has count elements. The file is tested first, then the keys in order. */
 uint32_t heavy_ask_keys(const uint8_t *file, size_t file_len, const uint8_t *keys, size_t keys_len,
-                        const size_t *lengths, size_t count, struct heavy_bounds *room, size_t room_len,
-                        size_t *needed, struct heavy_fault *told);
+                        const size_t *lengths, size_t count, struct heavy_bounds *out, size_t out_len,
+                        size_t *needed, struct heavy_fault *fault);
 
 /* Tells the entries of a saved summary, by rising key: where each key lies in the file, and its counter. The file is
    tested first, then its kind. */
-uint32_t heavy_entries(const uint8_t *file, size_t file_len, struct heavy_entry *room, size_t room_len, size_t *needed,
-                       struct heavy_fault *told);
+uint32_t heavy_entries(const uint8_t *file, size_t file_len, struct heavy_entry *out, size_t out_len, size_t *needed,
+                       struct heavy_fault *fault);
 
 /* Gives the rows `key,weight` of a saved summary's keys that are heavy in a text's records, which have to be those that
    were summarised. The file is tested first, then its kind, then the records, then that the totals are the same. */
-uint32_t heavy_confirm(const uint8_t *file, size_t file_len, const uint8_t *text, size_t text_len, uint8_t *room,
-                       size_t room_len, size_t *needed, struct heavy_fault *told);
+uint32_t heavy_confirm(const uint8_t *file, size_t file_len, const uint8_t *text, size_t text_len, uint8_t *out,
+                       size_t out_len, size_t *needed, struct heavy_fault *fault);
 
 /* Gives records that say the same to heavy_confirm with the same file as those of a text, at most one more than the
    summary has keys: the weight of each of its keys that comes there, by rising key, and then, where other keys come,
    one record of what they weigh, named `others` or by the first of `others1`, `others2` and so on that is no key of
    the summary. So parts of a text are condensed one by one, and confirmed together. The file is tested first, then its
    kind, then the records, whose total need not be the summary's. */
-uint32_t heavy_condense(const uint8_t *file, size_t file_len, const uint8_t *text, size_t text_len, uint8_t *room,
-                        size_t room_len, size_t *needed, struct heavy_fault *told);
+uint32_t heavy_condense(const uint8_t *file, size_t file_len, const uint8_t *text, size_t text_len, uint8_t *out,
+                        size_t out_len, size_t *needed, struct heavy_fault *fault);
 
 #ifdef __cplusplus
 }

@@ -85,21 +85,21 @@ def _library() -> ctypes.CDLL:
     named = os.environ.get("LIBHEAVY")
     library = ctypes.CDLL(named or (str(beside) if beside.exists() else "libheavy.so.1"))
     read, size, number = ctypes.c_void_p, ctypes.c_size_t, ctypes.c_uint64
-    room = [ctypes.c_void_p, size, ctypes.POINTER(size), ctypes.POINTER(_Fault)]
+    out = [ctypes.c_void_p, size, ctypes.POINTER(size), ctypes.POINTER(_Fault)]
     bounds = [ctypes.POINTER(number), ctypes.POINTER(number), ctypes.POINTER(_Fault)]
     version = library.heavy_version
     version.argtypes, version.restype = [], ctypes.c_uint32
     if version() != _VERSION:
         raise ImportError(f"libheavy has interface {version()}, and this module is for {_VERSION}")
     for name, words in {
-        "heavy_summarise": [read, size, number, ctypes.c_uint32, *room],
-        "heavy_table": [read, size, number, number, number, *room],
-        "heavy_merge": [read, size, ctypes.POINTER(size), size, *room],
+        "heavy_summarise": [read, size, number, ctypes.c_uint32, *out],
+        "heavy_table": [read, size, number, number, number, *out],
+        "heavy_merge": [read, size, ctypes.POINTER(size), size, *out],
         "heavy_ask": [read, size, read, size, *bounds],
-        "heavy_ask_keys": [read, size, read, size, ctypes.POINTER(size), size, *room],
-        "heavy_entries": [read, size, *room],
-        "heavy_confirm": [read, size, read, size, *room],
-        "heavy_condense": [read, size, read, size, *room],
+        "heavy_ask_keys": [read, size, read, size, ctypes.POINTER(size), size, *out],
+        "heavy_entries": [read, size, *out],
+        "heavy_confirm": [read, size, read, size, *out],
+        "heavy_condense": [read, size, read, size, *out],
     }.items():
         getattr(library, name).argtypes = words
         getattr(library, name).restype = ctypes.c_uint32
@@ -143,21 +143,21 @@ _Element = TypeVar("_Element")
 
 def _given(call: Callable[..., int], *words: object, of: type[_Element], guess: int) -> tuple[Any, int]:
     """An array, and how much of it a call fills: in a room of this size, or else in one of the size that it says."""
-    needed, told, size = ctypes.c_size_t(), _Fault(), max(guess, 1)
+    needed, fault, size = ctypes.c_size_t(), _Fault(), max(guess, 1)
     while True:
-        room = (of * size)()
-        status = call(*words, room, size, ctypes.byref(needed), ctypes.byref(told))
+        out = (of * size)()
+        status = call(*words, out, size, ctypes.byref(needed), ctypes.byref(fault))
         if status == 0:
-            return room, needed.value
+            return out, needed.value
         if status != _TOO_SMALL:
-            raise HeavyError(status, told.kind, told.cause, told.number)
+            raise HeavyError(status, fault.kind, fault.cause, fault.number)
         size = needed.value
 
 
 def _answer(call: Callable[..., int], *words: object, guess: int) -> bytes:
     """The bytes that a call gives."""
-    room, size = _given(call, *words, of=ctypes.c_char, guess=guess)
-    return ctypes.string_at(room, size)
+    out, size = _given(call, *words, of=ctypes.c_char, guess=guess)
+    return ctypes.string_at(out, size)
 
 
 def _summary_room(k: int) -> int:
@@ -183,19 +183,19 @@ class _Saved:
 
     def ask(self, key: Key) -> tuple[int, int]:
         """The least and the most that a key's weight in the stream can be. A text is its bytes in UTF-8."""
-        low, high, told = ctypes.c_uint64(), ctypes.c_uint64(), _Fault()
+        low, high, fault = ctypes.c_uint64(), ctypes.c_uint64(), _Fault()
         status = _heavy.heavy_ask(
-            *_lent(self._saved), *_lent(_bytes_of_key(key)), ctypes.byref(low), ctypes.byref(high), ctypes.byref(told)
+            *_lent(self._saved), *_lent(_bytes_of_key(key)), ctypes.byref(low), ctypes.byref(high), ctypes.byref(fault)
         )
         if status != 0:
-            raise HeavyError(status, told.kind, told.cause, told.number)
+            raise HeavyError(status, fault.kind, fault.cause, fault.number)
         return low.value, high.value
 
     def ask_many(self, keys: Iterable[Key]) -> list[tuple[int, int]]:
         """What `ask` tells of each of these keys, in order; the file is read once. A refusal has the key's number."""
         words = _joined([_bytes_of_key(key) for key in keys])
-        room, count = _given(_heavy.heavy_ask_keys, *_lent(self._saved), *words, of=_Bounds, guess=words[-1])
-        return [(room[i].low, room[i].high) for i in range(count)]
+        out, count = _given(_heavy.heavy_ask_keys, *_lent(self._saved), *words, of=_Bounds, guess=words[-1])
+        return [(out[i].low, out[i].high) for i in range(count)]
 
 
 class Summary(_Saved):
@@ -222,8 +222,8 @@ class Summary(_Saved):
     def entries(self) -> list[tuple[bytes, int]]:
         """The keys that have a counter, by rising key, each with its counter."""
         saved = self._saved
-        room, count = _given(_heavy.heavy_entries, *_lent(saved), of=_Entry, guess=len(saved) // 16 + 1)
-        return [(saved[e.start : e.start + e.len], e.counter) for e in room[:count]]
+        out, count = _given(_heavy.heavy_entries, *_lent(saved), of=_Entry, guess=len(saved) // 16 + 1)
+        return [(saved[e.start : e.start + e.len], e.counter) for e in out[:count]]
 
 
 class Table(_Saved):

@@ -8,7 +8,7 @@ use Rattle.hh_stream.specs.Weights.{Bytes, Entry, at_key, max_key_len, max_total
 use Rattle.hh_counters.specs.Counters.{slack}
 use Rattle.heavy.proofs.FileFacts.{drop_contents}
 use Rattle.heavy.specs.declared.error.ToolError.{ToolError}
-use Rattle.heavy.specs.Files.{bad_key, key_fault, or_else}
+use Rattle.heavy.specs.Ask.{bad_key, key_fault, or_else}
 
 at_most : (b : Bool) (n : ℕ) → cond b n 0 ≤ n
 at_most true n = omega arith

@@ -18,7 +18,7 @@ use Rattle.hh_saved.specs.declared.saved.Saved.TheVariants.{Counters}
 use Rattle.heavy.specs.declared.error.MergeCause.TheVariants as cause
 use Rattle.heavy.specs.declared.error.ToolError.{ToolError}
 use Rattle.heavy.specs.declared.error.ToolError.TheVariants as tool
-use Rattle.heavy.specs.Files.{merge_saved, merged_files, merged_from}
+use Rattle.heavy.specs.Merge.{merge_saved, merged_files, merged_from}
 use Rattle.heavy.specs.Laws.{HeldTreesReport, HoldsTree, MergesHoldTrees, PartsHoldPieces}
 use Rattle.heavy.proofs.FileFacts.{ok-no_err}
 

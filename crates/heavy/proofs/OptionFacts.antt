@@ -3,8 +3,8 @@ use Rattle.std.proofs.Common.{◌≡◌, ℕ, List, Option, Some, None, refl}
 use Rattle.std.specs.Io.KnownBytes.{Keeps}
 use Rattle.heavy.specs.declared.error.ToolError.{ToolError}
 use Rattle.heavy.specs.declared.error.ToolError.TheVariants as tool
-use Rattle.heavy.specs.declared.report.ReportOptions.{ReportOptions}
-use Rattle.heavy.specs.Reports.{IsOptionFault, ReportRefused, bad_option}
+use Rattle.heavy.specs.declared.commands.report.ReportOptions.{ReportOptions}
+use Rattle.heavy.specs.Report.{IsOptionFault, ReportRefused, bad_option}
 
 keeps-same : (known : Option (List ℕ)) → Keeps known known
 keeps-same None = tt

@@ -7,13 +7,13 @@ use Rattle.hh_counters.specs.Counters.{SummaryView, IsHonest, misra_gries, sketc
 use Rattle.hh_counters.specs.Report.{heavy}
 use Rattle.hh_counters.specs.Condensed.{condensed}
 use Rattle.hh_pool.specs.Trees.{MergeTree, Piece, Merge, IsMergeTree, tree_result, tree_value}
-use Rattle.hh_saved.specs.Reading.{saved_of}
 use Rattle.hh_saved.specs.Spelling.{Spells}
 use Rattle.hh_saved.specs.declared.format.Version.{Version}
 use Rattle.hh_saved.specs.declared.saved.Saved.{Saved}
 use Rattle.hh_saved.specs.declared.saved.Saved.TheVariants.{Counters}
-use Rattle.heavy.specs.Files.{merged_files}
-use Rattle.heavy.specs.Reports.{confirmed_rows}
+use Rattle.heavy.specs.Confirm.{confirmed_rows}
+use Rattle.heavy.specs.Files.{HoldsSummary}
+use Rattle.heavy.specs.Merge.{merged_files}
 
 -- parts that are condensed one by one, and joined in any order, are confirmed as the parts are
 abbrev pub CondensedPartsConfirm : Type 0
@@ -42,7 +42,7 @@ MachinesReport =
 
 -- the file holds the summary that the tree makes of the parts' summaries
 abbrev pub HoldsTree : List SummaryView → MergeTree × List ℕ → Type 0
-HoldsTree ss f = (s : SummaryView) × (tree_result f.0 ss ≡ Ok s) × (saved_of f.1 ≡ Ok (Counters s))
+HoldsTree ss f = (s : SummaryView) × (tree_result f.0 ss ≡ Ok s) × HoldsSummary f.1 s
 
 -- a tree with each next one on its right
 abbrev pub merged_trees : MergeTree × List ℕ → List (MergeTree × List ℕ) → MergeTree
@@ -71,6 +71,6 @@ HeldTreesReport =
     (k : ℕ) (parts : List (List Entry)) (t : MergeTree) (file : List ℕ) (s : SummaryView)
     (xs ys : List Entry)
     → HoldsTree (map (sketch_of k) parts) (t, file) → IsMergeTree t (length parts)
-    → saved_of file ≡ Ok (Counters s)
+    → HoldsSummary file s
     → IsPermutation (whole_of parts) xs → IsPermutation (flat_map (condensed s.counters) parts) ys
     → (s.total ≡ total_of ys) × (confirmed_rows s ys ≡ heavy xs 1 (k + 1))

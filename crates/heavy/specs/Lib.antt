@@ -1,5 +1,12 @@
+pub mod Ask
+pub mod Condense
+pub mod Confirm
+pub mod Entries
 pub mod Files
 pub mod Laws
-pub mod Reports
-pub mod Saving
+pub mod Merge
+pub mod Records
+pub mod Report
 pub mod Status
+pub mod Summarise
+pub mod Table

@@ -1,19 +1,21 @@
 //! Exact reports of the heavy keys of large weighted streams.
 #![tactic(auto)]
 
-mod ask;
-mod condensation;
-mod confirmation;
+mod commands;
+mod counting;
 mod error;
 mod files;
 pub mod laws;
 mod limits;
-mod merge;
-mod report;
-mod saving;
 
-pub use ask::{ask_bytes, ask_key, ask_keys};
-pub use confirmation::{ConfirmFault, confirm};
+pub use commands::ask::{ask_bytes, ask_key, ask_keys};
+pub use commands::condense::condense_bytes;
+pub use commands::confirm::{ConfirmFault, confirm, confirm_bytes};
+pub use commands::entries::list_entries;
+pub use commands::merge::merge_bytes;
+pub use commands::report::{ReportOptions, Tree, run_report};
+pub use commands::summarise::{Method, summary_bytes};
+pub use commands::table::table_bytes;
 pub use error::{KeyCause, MergeCause, ToolError, TreeFault};
 pub use hh_counters::Heavy;
 pub use hh_records::{
@@ -21,6 +23,3 @@ pub use hh_records::{
     read_stream, report_text, write_report,
 };
 pub use hh_saved::Place;
-pub use merge::merge_bytes;
-pub use report::{ReportOptions, Tree, run_report};
-pub use saving::{Method, condense_bytes, confirm_bytes, list_entries, summary_bytes, table_bytes};

@@ -1,1 +1,2 @@
+pub mod OutcomeFacts
 pub mod SizeFacts

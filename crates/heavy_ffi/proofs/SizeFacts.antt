@@ -4,7 +4,7 @@ use Rattle.std.specs.Prelude.{IfOk, IfSome, IsOkAnd}
 use Rattle.std.proofs.lemmas.Bool.{cases_Bool}
 use Rattle.hh_stream.specs.Ranges.{in_range}
 use Rattle.hh_countmin.specs.Family.{max_depth}
-use Rattle.heavy.specs.Saving.{bad_table}
+use Rattle.heavy.specs.Table.{bad_table}
 use Rattle.heavy.specs.declared.error.ToolError.{ToolError}
 
 -- what holds of an answer that came, by two clauses

@@ -88,12 +88,12 @@ number_of (tool.CannotMerge n c) = n
 number_of (tool.BadKey n c) = n
 number_of _ = 0
 
--- the status and the numbers of a fault
-pub record IsTold (code : ℕ) (told : Fault) (fault : ToolError) : Type 0 where
-  pub status : code ≡ status_of fault
-  pub kind : told.kind ≡ kind_of fault
-  pub cause : told.cause ≡ cause_of fault
-  pub number : told.number ≡ number_of fault
+-- the status and the numbers of a refusal
+pub record IsTold (code : ℕ) (fault : Fault) (refusal : ToolError) : Type 0 where
+  pub status : code ≡ status_of refusal
+  pub kind : fault.kind ≡ kind_of refusal
+  pub cause : fault.cause ≡ cause_of refusal
+  pub number : fault.number ≡ number_of refusal
 
 -- the numbers that tell no fault
 abbrev pub no_fault : Fault
@@ -101,4 +101,4 @@ no_fault = record { kind = 0; cause = 0; number = 0 }
 
 -- a call that is done, or whose room is too small, tells no fault
 abbrev pub TellsNone : ℕ → Fault → Type 0
-TellsNone code told = (code ≡ 0) ⊎ (code ≡ 5) → told ≡ no_fault
+TellsNone status fault = (status ≡ 0) ⊎ (status ≡ 5) → fault ≡ no_fault

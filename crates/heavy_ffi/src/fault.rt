@@ -138,13 +138,13 @@ fn number_of(fault: &ToolError) -> u64
 }
 
 /// Tells a fault, and gives its status.
-pub(crate) fn tell(fault: &ToolError, told: &mut Fault) -> u32
-    ensures told { IsTold result told.new fault.now }
+pub(crate) fn tell(refusal: &ToolError, fault: &mut Fault) -> u32
+    ensures told { IsTold result fault.new refusal.now }
 {
-    *told = Fault {
-        kind: kind_of(fault),
-        cause: cause_of(fault),
-        number: number_of(fault),
+    *fault = Fault {
+        kind: kind_of(refusal),
+        cause: cause_of(refusal),
+        number: number_of(refusal),
     };
-    u32::from(fault.status())
+    u32::from(refusal.status())
 }

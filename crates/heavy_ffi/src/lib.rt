@@ -1,14 +1,14 @@
 //! The calls of `heavy` on bytes, for C. The header include/heavy.h says what a caller owes.
 //!
-//! Each call answers a status: 0 done, 1 to 4 as the program's exit status, 5 the room is too
-//! small, and nothing else. At 1 to 4 `told` says why; at 0 and 5 it has zeros.
+//! Each call answers a status: 0 done, 1 to 4 as the program's exit status, 5 the room `out` is too
+//! small, and nothing else. At 1 to 4 `fault` says why; at 0 and 5 it has zeros.
 #![tactic(auto)]
 
 mod fault;
 mod parts;
 mod room;
 
-ghost use Rattle.std.specs.Prelude.{◌≡◌, ◌≢◌, ◌<◌, ◌≤◌, ◌⊎◌, [], length, map, take, Ok, Some};
+ghost use Rattle.std.specs.Prelude.{◌≡◌, ◌≢◌, ◌<◌, ◌≤◌, ◌⊎◌, [], ◌∷◌, length, map, Ok, Some};
 ghost use Rattle.std.specs.Prelude.{IfErr, IfOk};
 ghost use Rattle.hh_stream.specs.Cuttings.{pieces_of};
 ghost use Rattle.hh_stream.specs.Weights.{max_key_len};
@@ -20,13 +20,17 @@ ghost use Rattle.hh_saved.specs.Spelling.{Spells};
 ghost use Rattle.hh_saved.specs.declared.format.Version.TheVariants as version;
 ghost use Rattle.hh_saved.specs.declared.saved.Saved.{Saved};
 ghost use Rattle.hh_saved.specs.declared.saved.Saved.TheVariants.{Cells, Counters};
-ghost use Rattle.heavy.specs.Files.{Refuses, answer, answers_of, merged_files};
-ghost use Rattle.heavy.specs.Saving.{CondenseRefused, CondensesRows, ConfirmRefused, ConfirmsRows};
-ghost use Rattle.heavy.specs.Saving.{ListsEntries, RefusedAfter, SavesStream, SummaryRefused};
-ghost use Rattle.heavy.specs.Saving.{bad_table};
-ghost use Rattle.heavy_ffi.specs.Faults.{TellsNone, no_fault};
-ghost use Rattle.heavy_ffi.specs.Outcomes.{AreAnswers, IsMergeOf, IsRefused, IsTooSmall};
-ghost use Rattle.heavy_ffi.specs.Outcomes.{bad_summary, both_of};
+ghost use Rattle.heavy.specs.Ask.{answer, answers_of};
+ghost use Rattle.heavy.specs.Condense.{CondenseRefused, CondensesRows};
+ghost use Rattle.heavy.specs.Confirm.{ConfirmRefused, ConfirmsRows};
+ghost use Rattle.heavy.specs.Entries.{ListsEntries};
+ghost use Rattle.heavy.specs.Files.{Refuses, SummaryRefused};
+ghost use Rattle.heavy.specs.Merge.{merged_files};
+ghost use Rattle.heavy.specs.Records.{RefusedAfter, SavesStream};
+ghost use Rattle.heavy.specs.Table.{bad_table};
+ghost use Rattle.heavy_ffi.specs.Faults.{no_fault};
+ghost use Rattle.heavy_ffi.specs.Outcomes.{AreAnswers, IsAnswer, IsMergeOf, IsOutcome};
+ghost use Rattle.heavy_ffi.specs.Outcomes.{TellsHead, bad_summary, both_of};
 
 pub use fault::Fault;
 use fault::tell;
@@ -38,7 +42,7 @@ use hh_countmin::laws::drawn_families_are_families;
 use hh_saved::laws::sizes_are_bounded;
 use parts::files_of;
 pub use room::Bounds;
-use room::{all_bounds, answer};
+use room::{DONE, all_bounds, answer};
 use std::alloc::Global;
 
 /// The number of this interface.
@@ -67,25 +71,20 @@ pub extern "C" fn heavy_summarise(
     text: &[u8],
     k: u64,
     method: u32,
-    room: &mut [u8],
+    out: &mut [u8],
     needed: &mut usize,
-    told: &mut Fault,
+    fault: &mut Fault,
 ) -> u32
-    ensures saved { result ≡ 0 → SavesStream (λ xs. Counters (sketch_of k xs)) (Some text.now)
-        (take needed.new room.new) }
-    ensures within { result ≡ 0 → needed.new ≤ length room.old }
-    ensures small { result ≡ 5 → IsTooSmall
-        (SavesStream (λ xs. Counters (sketch_of k xs)) (Some text.now)) room.old needed.new }
-    ensures refused { result ≢ 0 → result ≢ 5 → IsRefused
-        (RefusedAfter (bad_summary method k) (Some text.now)) result told.new }
+    ensures outcome { IsOutcome
+        (SavesStream (λ xs. Counters (sketch_of k xs)) (Some text.now))
+        (RefusedAfter (bad_summary method k) (Some text.now))
+        result out.old out.new needed.new fault.new }
     ensures no_bytes { result ≢ 0 → result ≢ 5 → needed.new ≡ 0 }
-    ensures no_fault { TellsNone result told.new }
-    ensures unchanged { result ≢ 0 → room.new ≡ room.old }
-    ensures enough { most_summary_bytes k max_key_len ≤ length room.old → result ≢ 5 }
+    ensures enough { most_summary_bytes k max_key_len ≤ length out.old → result ≢ 5 }
 {
     sizes_are_bounded();
     let bytes = summary_by(alloc, text, k, method);
-    answer(bytes, room, needed, told)
+    answer(bytes, out, needed, fault)
 }
 
 /// Gives the saved Count-Min table of a text's records, with the hash family that is drawn from the
@@ -97,28 +96,21 @@ pub extern "C" fn heavy_table(
     width: u64,
     depth: u64,
     seed: u64,
-    room: &mut [u8],
+    out: &mut [u8],
     needed: &mut usize,
-    told: &mut Fault,
+    fault: &mut Fault,
 ) -> u32
-    ensures saved { result ≡ 0 → SavesStream
-        (λ xs. Cells (table_of (drawn_family seed depth) width xs)) (Some text.now)
-        (take needed.new room.new) }
-    ensures within { result ≡ 0 → needed.new ≤ length room.old }
-    ensures small { result ≡ 5 → IsTooSmall (SavesStream
-        (λ xs. Cells (table_of (drawn_family seed depth) width xs)) (Some text.now))
-        room.old needed.new }
-    ensures refused { result ≢ 0 → result ≢ 5 → IsRefused
-        (RefusedAfter (bad_table depth width) (Some text.now)) result told.new }
+    ensures outcome { IsOutcome
+        (SavesStream (λ xs. Cells (table_of (drawn_family seed depth) width xs)) (Some text.now))
+        (RefusedAfter (bad_table depth width) (Some text.now))
+        result out.old out.new needed.new fault.new }
     ensures no_bytes { result ≢ 0 → result ≢ 5 → needed.new ≡ 0 }
-    ensures no_fault { TellsNone result told.new }
-    ensures unchanged { result ≢ 0 → room.new ≡ room.old }
     ensures exact { (result ≡ 0) ⊎ (result ≡ 5) → needed.new ≡ table_bytes width depth }
 {
     sizes_are_bounded();
     drawn_families_are_families();
     let bytes = table_bytes(alloc, width, depth, seed, text);
-    answer(bytes, room, needed, told)
+    answer(bytes, out, needed, fault)
 }
 
 /// The files with these lengths, merged.
@@ -134,39 +126,35 @@ fn merge_parts(alloc: Global, files: &[u8], lengths: &[usize]) -> Result<Vec<u8>
 
 /// Gives the merge of saved files, which lie one after the other and have these lengths, with the
 /// refusals of the program's `merge`. Where the bytes end before the lengths do, files are cut
-/// short. No lengths are refused with status 2 and a `told` of zeros.
+/// short. No lengths are refused with status 2 and a `fault` of zeros.
 #[unsafe(no_mangle)]
 pub extern "C" fn heavy_merge(
     alloc: Global,
     files: &[u8],
     lengths: &[usize],
-    room: &mut [u8],
+    out: &mut [u8],
     needed: &mut usize,
-    told: &mut Fault,
+    fault: &mut Fault,
 ) -> u32
-    ensures merged { result ≡ 0 → IsMergeOf (pieces_of lengths.now files.now)
-        (take needed.new room.new) }
-    ensures within { result ≡ 0 → needed.new ≤ length room.old }
-    ensures small { result ≡ 5 → IsTooSmall (IsMergeOf (pieces_of lengths.now files.now))
-        room.old needed.new }
-    ensures refused { result ≢ 0 → result ≢ 5 → 0 < length lengths.now → IsRefused
-        (Refuses (merged_files (pieces_of lengths.now files.now))) result told.new }
+    ensures outcome { 0 < length lengths.now → IsOutcome
+        (IsMergeOf (pieces_of lengths.now files.now))
+        (Refuses (merged_files (pieces_of lengths.now files.now)))
+        result out.old out.new needed.new fault.new }
+    ensures no_files { lengths.now ≡ []
+        → (result ≡ 2) × (fault.new ≡ no_fault) × (out.new ≡ out.old) }
+    ensures no_bytes { result ≢ 0 → result ≢ 5 → needed.new ≡ 0 }
     ensures enough { (s : SummaryView)
         → merged_files (pieces_of lengths.now files.now) ≡ Ok (Counters s)
-        → most_summary_bytes s.k max_key_len ≤ length room.old → result ≢ 5 }
-    ensures no_files { lengths.now ≡ [] → (result ≡ 2) × (told.new ≡ no_fault) }
-    ensures no_bytes { result ≢ 0 → result ≢ 5 → needed.new ≡ 0 }
-    ensures no_fault { TellsNone result told.new }
-    ensures unchanged { result ≢ 0 → room.new ≡ room.old }
+        → most_summary_bytes s.k max_key_len ≤ length out.old → result ≢ 5 }
 {
     if lengths.is_empty() {
         *needed = 0;
-        *told = Fault::none();
+        *fault = Fault::none();
         return 2;
     }
     sizes_are_bounded();
     let bytes = merge_parts(alloc, files, lengths);
-    answer(bytes, room, needed, told)
+    answer(bytes, out, needed, fault)
 }
 
 /// Gives the least and the most that a key's weight can be, as a saved file tells. The file is
@@ -178,21 +166,22 @@ pub extern "C" fn heavy_ask(
     key: &[u8],
     low: &mut u64,
     high: &mut u64,
-    told: &mut Fault,
+    fault: &mut Fault,
 ) -> u32
+    ensures outcome { IsOutcome (IsAnswer file.now key.now) (Refuses (answer file.now key.now))
+        result ((low.old, high.old) ∷ []) ((low.new, high.new) ∷ []) 1 fault.new }
     ensures bounds { result ≡ 0 → answer file.now key.now ≡ Ok (low.new, high.new) }
-    ensures refused { result ≢ 0 → IsRefused (Refuses (answer file.now key.now)) result told.new }
-    ensures no_fault { TellsNone result told.new }
-    ensures unchanged { result ≢ 0 → (low.new ≡ low.old) × (high.new ≡ high.old) }
+    ensures early { TellsHead file.now result fault.new }
+    ensures no_room { result ≢ 5 }
 {
     match ask_key(alloc, file, key) {
         Ok(bounds) => {
-            *told = Fault::none();
+            *fault = Fault::none();
             *low = bounds.0;
             *high = bounds.1;
-            0
+            DONE
         }
-        Err(fault) => tell(&fault, told),
+        Err(refusal) => tell(&refusal, fault),
     }
 }
 
@@ -204,22 +193,18 @@ pub extern "C" fn heavy_confirm(
     alloc: Global,
     file: &[u8],
     text: &[u8],
-    room: &mut [u8],
+    out: &mut [u8],
     needed: &mut usize,
-    told: &mut Fault,
+    fault: &mut Fault,
 ) -> u32
-    ensures rows { result ≡ 0 → ConfirmsRows file.now (Some text.now) (take needed.new room.new) }
-    ensures within { result ≡ 0 → needed.new ≤ length room.old }
-    ensures small { result ≡ 5 → IsTooSmall (ConfirmsRows file.now (Some text.now)) room.old
-        needed.new }
-    ensures refused { result ≢ 0 → result ≢ 5 → IsRefused
-        (ConfirmRefused file.now (Some text.now)) result told.new }
+    ensures outcome { IsOutcome
+        (ConfirmsRows file.now (Some text.now)) (ConfirmRefused file.now (Some text.now))
+        result out.old out.new needed.new fault.new }
+    ensures early { TellsHead file.now result fault.new }
     ensures no_bytes { result ≢ 0 → result ≢ 5 → needed.new ≡ 0 }
-    ensures no_fault { TellsNone result told.new }
-    ensures unchanged { result ≢ 0 → room.new ≡ room.old }
 {
     let bytes = confirm_bytes(alloc, file, text);
-    answer(bytes, room, needed, told)
+    answer(bytes, out, needed, fault)
 }
 
 /// Gives records that say the same to `heavy_confirm` with the same file as those of a text: the
@@ -230,22 +215,18 @@ pub extern "C" fn heavy_condense(
     alloc: Global,
     file: &[u8],
     text: &[u8],
-    room: &mut [u8],
+    out: &mut [u8],
     needed: &mut usize,
-    told: &mut Fault,
+    fault: &mut Fault,
 ) -> u32
-    ensures rows { result ≡ 0 → CondensesRows file.now (Some text.now) (take needed.new room.new) }
-    ensures within { result ≡ 0 → needed.new ≤ length room.old }
-    ensures small { result ≡ 5 → IsTooSmall (CondensesRows file.now (Some text.now)) room.old
-        needed.new }
-    ensures refused { result ≢ 0 → result ≢ 5 → IsRefused
-        (CondenseRefused file.now (Some text.now)) result told.new }
+    ensures outcome { IsOutcome
+        (CondensesRows file.now (Some text.now)) (CondenseRefused file.now (Some text.now))
+        result out.old out.new needed.new fault.new }
+    ensures early { TellsHead file.now result fault.new }
     ensures no_bytes { result ≢ 0 → result ≢ 5 → needed.new ≡ 0 }
-    ensures no_fault { TellsNone result told.new }
-    ensures unchanged { result ≢ 0 → room.new ≡ room.old }
 {
     let bytes = condense_bytes(alloc, file, text);
-    answer(bytes, room, needed, told)
+    answer(bytes, out, needed, fault)
 }
 
 /// The least and the most that each key's weight can be, where the keys have these lengths.
@@ -273,23 +254,18 @@ pub extern "C" fn heavy_ask_keys(
     file: &[u8],
     keys: &[u8],
     lengths: &[usize],
-    room: &mut [Bounds],
+    out: &mut [Bounds],
     needed: &mut usize,
-    told: &mut Fault,
+    fault: &mut Fault,
 ) -> u32
-    ensures bounds { result ≡ 0 → AreAnswers file.now (pieces_of lengths.now keys.now)
-        (map both_of (take needed.new room.new)) }
-    ensures within { result ≡ 0 → needed.new ≤ length room.old }
-    ensures small { result ≡ 5 → IsTooSmall
-        (AreAnswers file.now (pieces_of lengths.now keys.now)) room.old needed.new }
-    ensures refused { result ≢ 0 → result ≢ 5 → IsRefused
-        (Refuses (answers_of file.now (pieces_of lengths.now keys.now))) result told.new }
+    ensures outcome { IsOutcome
+        (λ all. AreAnswers file.now (pieces_of lengths.now keys.now) (map both_of all))
+        (Refuses (answers_of file.now (pieces_of lengths.now keys.now)))
+        result out.old out.new needed.new fault.new }
     ensures no_bounds { result ≢ 0 → result ≢ 5 → needed.new ≡ 0 }
-    ensures no_fault { TellsNone result told.new }
-    ensures unchanged { result ≢ 0 → room.new ≡ room.old }
 {
     let bounds = bounds_of(alloc, file, keys, lengths);
-    answer(bounds, room, needed, told)
+    answer(bounds, out, needed, fault)
 }
 
 /// Gives where the entries of a saved summary lie in its file, by rising key. The file is tested
@@ -298,21 +274,17 @@ pub extern "C" fn heavy_ask_keys(
 pub extern "C" fn heavy_entries(
     alloc: Global,
     file: &[u8],
-    room: &mut [Place],
+    out: &mut [Place],
     needed: &mut usize,
-    told: &mut Fault,
+    fault: &mut Fault,
 ) -> u32
-    ensures entries { result ≡ 0 → ListsEntries file.now (take needed.new room.new) }
-    ensures within { result ≡ 0 → needed.new ≤ length room.old }
-    ensures small { result ≡ 5 → IsTooSmall (ListsEntries file.now) room.old needed.new }
-    ensures refused { result ≢ 0 → result ≢ 5 → IsRefused
-        (SummaryRefused file.now) result told.new }
+    ensures outcome { IsOutcome (ListsEntries file.now) (SummaryRefused file.now)
+        result out.old out.new needed.new fault.new }
+    ensures early { TellsHead file.now result fault.new }
     ensures no_entries { result ≢ 0 → result ≢ 5 → needed.new ≡ 0 }
-    ensures no_fault { TellsNone result told.new }
-    ensures unchanged { result ≢ 0 → room.new ≡ room.old }
 {
     let entries = list_entries(alloc, file);
-    answer(entries, room, needed, told)
+    answer(entries, out, needed, fault)
 }
 
 /// The number of this interface, which a header or a binding has to have been written for.

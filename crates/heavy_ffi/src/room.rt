@@ -1,9 +1,8 @@
 //! What is given in a room that the caller lends.
 
 ghost use Rattle.std.specs.Prelude.{◌≡◌, ◌≢◌, ◌<◌, ◌≤◌, ◌⊎◌, length, map, take};
-ghost use Rattle.std.specs.Prelude.{IfOk, IsErrAnd, IsOkAnd};
-ghost use Rattle.heavy_ffi.specs.Faults.{IsTold, TellsNone};
-ghost use Rattle.heavy_ffi.specs.Outcomes.{both_of};
+ghost use Rattle.std.specs.Prelude.{Err, IfOk, IsOkAnd};
+ghost use Rattle.heavy_ffi.specs.Outcomes.{IsGiven, IsOutcome, both_of};
 
 use crate::fault::{Fault, tell};
 use heavy::ToolError;
@@ -24,48 +23,43 @@ pub struct Bounds {
 }
 
 /// Copies what a call gives into the room, where it has place, and tells its number.
-fn give<T: Copy>(given: &[T], room: &mut [T], needed: &mut usize) -> u32
+fn give<T: Copy>(given: &[T], out: &mut [T], needed: &mut usize) -> u32
     ensures needed { needed.new ≡ length given.now }
-    ensures given { result ≡ 0 → take needed.new room.new ≡ given.now }
-    ensures within { result ≡ 0 → needed.new ≤ length room.old }
-    ensures small { result ≡ 5 → length room.old < length given.now }
+    ensures given { result ≡ 0 → take needed.new out.new ≡ given.now }
+    ensures within { result ≡ 0 → needed.new ≤ length out.old }
+    ensures small { result ≡ 5 → length out.old < length given.now }
     ensures statuses { result ≢ 0 → result ≡ 5 }
-    ensures same_length { length room.new ≡ length room.old }
-    ensures unchanged { result ≢ 0 → room.new ≡ room.old }
+    ensures same_length { length out.new ≡ length out.old }
+    ensures unchanged { result ≢ 0 → out.new ≡ out.old }
 {
     *needed = given.len();
-    if given.len() > room.len() {
+    if given.len() > out.len() {
         return TOO_SMALL;
     }
-    room[..given.len()].copy_from_slice(given);
+    out[..given.len()].copy_from_slice(given);
     DONE
 }
 
 /// The answer of a call in the room, or its refusal.
 pub(crate) fn answer<T: Copy>(
     given: Result<Vec<T>, ToolError>,
-    room: &mut [T],
+    out: &mut [T],
     needed: &mut usize,
-    told: &mut Fault,
+    fault: &mut Fault,
 ) -> u32
-    ensures given { result ≡ 0 → IsOkAnd given (λ given. take needed.new room.new ≡ given.items) }
-    ensures within { result ≡ 0 → needed.new ≤ length room.old }
-    ensures small { result ≡ 5 → IsOkAnd given (λ given.
-        (needed.new ≡ length given.items) × (length room.old < needed.new)) }
+    ensures outcome { IsOutcome (IsGiven given) (λ refusal. given ≡ Err refusal)
+        result out.old out.new needed.new fault.new }
     ensures size { (result ≡ 0) ⊎ (result ≡ 5) → IsOkAnd given (λ given.
         needed.new ≡ length given.items) }
-    ensures refused { result ≢ 0 → result ≢ 5 → IsErrAnd given (IsTold result told.new) }
     ensures nothing { result ≢ 0 → result ≢ 5 → needed.new ≡ 0 }
-    ensures no_fault { TellsNone result told.new }
-    ensures same_length { length room.new ≡ length room.old }
-    ensures unchanged { result ≢ 0 → room.new ≡ room.old }
+    ensures same_length { length out.new ≡ length out.old }
 {
-    *told = Fault::none();
+    *fault = Fault::none();
     match given {
-        Ok(given) => give(&given, room, needed),
-        Err(fault) => {
+        Ok(given) => give(&given, out, needed),
+        Err(refusal) => {
             *needed = 0;
-            tell(&fault, told)
+            tell(&refusal, fault)
         }
     }
 }

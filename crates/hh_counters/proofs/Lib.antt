@@ -16,3 +16,4 @@ pub mod Sorting
 pub mod Monitoring
 pub mod Condensing
 pub mod CondensedCounts
+pub mod CountFacts

@@ -7,6 +7,7 @@ use Rattle.hh_stream.specs.Weights.{Bytes, Entry, IsKey, key_cmp, weight_of, tot
 use Rattle.hh_stream.specs.Cuttings.{whole_of}
 use Rattle.hh_counters.specs.Counters.{Counters, SummaryView, IsCounters, exceeds, IsLevel, level, max_k, plus, join, misra_gries, IsHonest, slack, sketch_with, sketch_of}
 use Rattle.hh_counters.specs.SpaceSaving.{least_of, translate, IsStep, IsRun, step, space_saving, monitor_of, monitor_with, translation_of}
+use Rattle.hh_counters.specs.Counting.{count_of, count_with}
 use Rattle.hh_counters.specs.Condensed.{IsFirstFree, free_name, entry_of, condensed}
 use Rattle.hh_counters.specs.Report.{contenders, keys_above, heavy, rank_cmp, rows_above, weights_at, counts_with, has_counter, IsReport}
 
@@ -112,6 +113,11 @@ CountsAddUp =
     (ks : List Bytes) (xs ys : List Entry) (ns : List ℕ)
     → (counts_with ks xs (replicate (length ks) 0) ≡ weights_at ks xs)
     × (counts_with ks (xs ++ ys) ns ≡ counts_with ks ys (counts_with ks xs ns))
+
+-- counting some more items is counting all
+abbrev pub CountsFollowItems : Type 0
+CountsFollowItems =
+    (ks : List Bytes) (xs ys : List Entry) → count_with (count_of ks xs) ys ≡ count_of ks (xs ++ ys)
 
 -- there is a number for each key still, and none grows by more than the items' total
 abbrev pub CountsStayWithin : Type 0

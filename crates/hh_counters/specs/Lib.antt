@@ -3,4 +3,5 @@ pub mod Report
 pub mod SpaceSaving
 pub mod Buckets
 pub mod Condensed
+pub mod Counting
 pub mod Laws

@@ -1,6 +1,6 @@
 //! Laws of the definitions in `specs/`. Each function does nothing: its contract is the law.
 
-ghost use Rattle.hh_counters.specs.Laws.{MisraGriesIsHonest, JoinOfHonestIsHonest, HeavyKeysHaveCounters, CountersBoundWeights, LevelIsLeast, SumIsByKey, JoinTakesTheLevel, ReportIsExact, ReportIsUnique, RowsAreExact, HonestIsNear, HonestInAnyOrder, HonestByWeights, CandidatesSuffice, ContendersSuffice, PrunedSuffice, CountsAddUp, CountsStayWithin, RunSumsToTotal, RunBoundsWeights, TranslationIsMisraGries, StepsAreARun, RunsGoOn, RunsTakeTheStep, SummariesFollowItems, MonitorsFollowItems, FreeNameIsFirst, CondensedKeepsWeights, CondensedAreItems, CondensedAreFew, FoundByWeights, CondensedPartsSuffice, CondensedPartsReport, CondensedIsCounted};
+ghost use Rattle.hh_counters.specs.Laws.{MisraGriesIsHonest, JoinOfHonestIsHonest, HeavyKeysHaveCounters, CountersBoundWeights, LevelIsLeast, SumIsByKey, JoinTakesTheLevel, ReportIsExact, ReportIsUnique, RowsAreExact, HonestIsNear, HonestInAnyOrder, HonestByWeights, CandidatesSuffice, ContendersSuffice, PrunedSuffice, CountsAddUp, CountsFollowItems, CountsStayWithin, RunSumsToTotal, RunBoundsWeights, TranslationIsMisraGries, StepsAreARun, RunsGoOn, RunsTakeTheStep, SummariesFollowItems, MonitorsFollowItems, FreeNameIsFirst, CondensedKeepsWeights, CondensedAreItems, CondensedAreFew, FoundByWeights, CondensedPartsSuffice, CondensedPartsReport, CondensedIsCounted};
 
 /// The Misra-Gries counters of a list of items are honest for it (Misra and Gries 1982).
 pub fn misra_gries_is_honest()
@@ -71,6 +71,13 @@ pub fn pruned_suffice()
 pub fn counts_add_up()
     ensures { CountsAddUp }
 {}
+
+/// The count of some items and of more, one after the other, is the count of all.
+pub fn counts_follow_items()
+    ensures { CountsFollowItems }
+{
+    counts_add_up();
+}
 
 /// Counting keeps a number for each candidate, and no number grows by more than the items' total.
 pub fn counts_stay_within()

@@ -4,6 +4,7 @@
 
 mod bucket_saving;
 mod candidates;
+mod counts;
 mod entries;
 pub mod laws;
 mod monitor;
@@ -17,6 +18,7 @@ mod tests;
 
 pub use bucket_saving::{BucketSaving, NewFault};
 pub use candidates::Candidates;
+pub use counts::Counts;
 pub use monitor::{Monitor, monitored_summary};
 pub use report::{Heavy, MAX_Q};
 pub use space_saving::SpaceSaving;

@@ -1,6 +1,6 @@
-pub mod CountFacts
 pub mod PartFacts
 pub mod ReadFacts
 pub mod RowFacts
 pub mod TakeFacts
+pub mod TakenFacts
 pub mod TextFacts

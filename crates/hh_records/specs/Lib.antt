@@ -1,4 +1,3 @@
-pub mod Counting
 pub mod Laws
 pub mod Rows
 pub mod Sinks

@@ -1,9 +1,11 @@
 -- What becomes of items that are taken one by one.
-use Rattle.std.specs.Prelude.{◌≡◌, ◌<◌, ℕ, List, All}
+use Rattle.std.specs.Prelude.{◌≡◌, ◌<◌, ℕ, List, All, Option, Ok, fold}
 use Rattle.hh_stream.specs.Weights.{Entry}
-use Rattle.hh_counters.specs.Counters.{SummaryView}
-use Rattle.hh_counters.specs.SpaceSaving.{monitor_of}
+use Rattle.hh_records.specs.Streams.{ReadsAs}
 
--- the items have weights, and a monitor of them shows this
-abbrev pub IsMonitorOf : ℕ → List Entry → SummaryView → Type 0
-IsMonitorOf k xs s = All (λ (e : Entry). 0 < e.1) xs × (s ≡ monitor_of k xs)
+-- a taker has taken, one by one, the items that all the bytes that a reader had left read as
+pub record TakesItems {A : Type 0} (with_item : A → Entry → A) (left : Option (List ℕ)) (old new : A) : Type 0 where
+  pub xs : List Entry
+  pub reads : ReadsAs left (Ok xs)
+  pub positive : All (λ (e : Entry). 0 < e.1) xs
+  pub taken : new ≡ fold with_item old xs

@@ -4,7 +4,6 @@
 //! `hh_` is heavy hitters, the frequent keys.
 #![tactic(auto)]
 
-mod counts;
 pub mod laws;
 mod records;
 mod retrying;
@@ -13,7 +12,7 @@ mod sink;
 mod taking;
 mod threshold;
 
-pub use counts::Counts;
+pub use hh_counters::Counts;
 pub use records::{BadRecordCause, ReadError, read_items, read_stream};
 pub use rows::{ReportFault, condensed_text, report_text, write_report};
 pub use sink::{Out, Sink, SinkFault, WriteFault, put};

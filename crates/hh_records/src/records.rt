@@ -5,6 +5,7 @@ ghost use Rattle.csv.specs.Reading.{stops_reader};
 ghost use Rattle.csv.specs.Records.{fields_of};
 ghost use Rattle.hh_stream.specs.Weights.{Entry, total_of, max_total};
 ghost use Rattle.hh_records.specs.Streams.{fault_of, is_number, is_weight, item_of_fields, numbered_fault, parts_of, value_of, ReadRefused, ReadsAs, RecordRefused};
+ghost use Rattle.hh_records.specs.Taking.{TakesItems};
 
 use crate::retrying::Retrying;
 use crate::taking::TakeItems;
@@ -102,9 +103,7 @@ fn take_record<T: TakeItems>(
     ensures taken { OnOk result ((item : Entry)
         × (item_of_fields (T.weight_taken taker.old) (fields_of row.now) ≡ Ok item)
         × (T.weight_taken taker.new ≡ T.weight_taken taker.old + item.1)
-        × ((first : _) (xs : List Entry)
-        → T.made first xs taker.old → T.made first (xs ++ item ∷ []) taker.new)) }
-    ensures grows { OnOk result (T.weight_taken taker.old < T.weight_taken taker.new) }
+        × (0 < item.1) × (taker.new ≡ T.with_item taker.old item)) }
     ensures bounded { OnOk result (T.weight_taken taker.new ≤ max_total) }
     ensures refused { IfErr result (λ fault.
         RecordRefused (T.weight_taken taker.old) (fields_of row.now) fault) }
@@ -170,9 +169,8 @@ fn read_records<R: Read + Drop, T: TakeItems>(
     mut taker: T,
 ) -> Result<T, ReadError>
     requires none { T.weight_taken taker ≡ 0 }
-    requires start { T.made taker [] taker }
-    ensures items { IfOk result (λ taken. (xs : List Entry)
-        × ReadsAs (R.remaining reader) (Ok xs) × T.made taker xs taken) }
+    ensures items { IfOk result (λ taken.
+        TakesItems T.with_item (R.remaining reader) taker taken) }
     ensures refused { IfErr result (λ error. ReadRefused (R.remaining reader) error) }
 {
     let mut records = ReaderBuilder::new()
@@ -196,7 +194,7 @@ fn read_records<R: Read + Drop, T: TakeItems>(
 }
 
 /// Hands the item of each record of a reader to a taker of none, in order, and returns the taker.
-/// Records and their tests are those of [`read_stream`].
+/// Records and their tests are those of [`read_stream`], so each weight is at least 1.
 ///
 /// The first record that fails a test, or that the taker has no memory for, ends the reading, as
 /// does a reader that fails. A read that a signal interrupts is tried again.
@@ -206,9 +204,8 @@ pub fn read_items<R: Read + Drop, T: TakeItems>(
     taker: T,
 ) -> Result<T, ReadError>
     requires none { T.weight_taken taker ≡ 0 }
-    requires start { T.made taker [] taker }
-    ensures items { IfOk result (λ taken. (xs : List Entry)
-        × ReadsAs (R.remaining reader) (Ok xs) × T.made taker xs taken) }
+    ensures items { IfOk result (λ taken.
+        TakesItems T.with_item (R.remaining reader) taker taken) }
     ensures refused { IfErr result (λ error. ReadRefused (R.remaining reader) error) }
 {
     read_records(alloc, Retrying::new(reader), taker)

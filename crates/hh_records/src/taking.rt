@@ -1,22 +1,21 @@
 //! What takes the items of records, one after the other.
 
-ghost use Rattle.std.specs.Prelude.{◌≡◌, ◌+◌, ◌<◌, ◌≤◌, ◌++◌, ◌∷◌, [], ℕ, List, OnOk, length};
+ghost use Rattle.std.specs.Prelude.{◌≡◌, ◌+◌, ◌<◌, ◌≤◌, ◌++◌, ◌∷◌, [], ℕ, OnErr, OnOk, length};
 ghost use Rattle.hh_stream.specs.Weights.{Entry, max_key_len, max_total, total_of};
-ghost use Rattle.hh_counters.specs.Counters.{sketch_of};
-ghost use Rattle.hh_countmin.specs.Table.{table_of};
-ghost use Rattle.hh_records.specs.Taking.{IsMonitorOf};
+ghost use Rattle.hh_counters.specs.Counters.{sketch_with};
+ghost use Rattle.hh_counters.specs.Counting.{count_with};
+ghost use Rattle.hh_counters.specs.SpaceSaving.{monitor_with};
+ghost use Rattle.hh_countmin.specs.Table.{grid_with};
 
-use hh_counters::laws::summaries_follow_items;
-use hh_counters::{AddFault, BucketSaving, Monitor, Summary};
+use hh_counters::{AddFault, BucketSaving, Counts, Monitor, Summary};
 use hh_countmin::Table;
-use hh_countmin::laws::tables_follow_items;
 use hh_stream::{Key, PushFault, Stream};
 use std::alloc::{AllocError, Global};
 
 /// What items are taken into, one after the other: a stream keeps them all, and others keep less.
 pub trait TakeItems: Drop {
-    // These items have made the second of the first, which had taken none.
-    ghost made: { Self → List Entry → Self → Type 0 };
+    // What an item more makes of a taker.
+    ghost with_item: { Self → Entry → Self };
 
     // The sum of the weights of all items.
     ghost weight_taken: { Self → ℕ };
@@ -27,19 +26,19 @@ pub trait TakeItems: Drop {
         ensures bounded { result ≤ max_total };
 
     /// Takes one more item, of the key with these bytes. An error says that the allocator had no
-    /// memory.
+    /// memory, and then nothing was taken.
     fn take(&mut self, alloc: Global, key: &[u8], weight: u64) -> Result<(), AllocError>
         requires some { 0 < length key.now }
         requires few { length key.now ≤ max_key_len }
         requires positive { 0 < weight }
         requires room { weight_taken self.old + weight ≤ max_total }
-        ensures taken { OnOk result ((first : Self) (xs : List Entry)
-            → made first xs self.old → made first (xs ++ (key.now, weight) ∷ []) self.new) }
-        ensures total { OnOk result (weight_taken self.new ≡ weight_taken self.old + weight) };
+        ensures taken { OnOk result (self.new ≡ with_item self.old (key.now, weight)) }
+        ensures total { OnOk result (weight_taken self.new ≡ weight_taken self.old + weight) }
+        ensures unchanged { OnErr result (self.new ≡ self.old) };
 }
 
 impl TakeItems for Stream {
-    ghost made = { λ _ xs stream. stream ≡ xs };
+    ghost with_item = { λ stream item. stream ++ item ∷ [] };
 
     ghost weight_taken = { total_of };
 
@@ -60,7 +59,7 @@ impl TakeItems for Stream {
 }
 
 impl TakeItems for Summary {
-    ghost made = { λ first xs summary. summary ≡ sketch_of first.k xs };
+    ghost with_item = { sketch_with };
 
     ghost weight_taken = { λ summary. summary.total };
 
@@ -69,7 +68,6 @@ impl TakeItems for Summary {
     }
 
     fn take(&mut self, _alloc: Global, key: &[u8], weight: u64) -> Result<(), AllocError> {
-        summaries_follow_items();
         match self.add_bytes(key, weight) {
             Ok(()) => Ok(()),
             Err(AddFault::TotalTooLarge) => unreachable!(),
@@ -79,7 +77,7 @@ impl TakeItems for Summary {
 }
 
 impl TakeItems for BucketSaving {
-    ghost made = { λ first xs monitor. IsMonitorOf first.k xs monitor };
+    ghost with_item = { monitor_with };
 
     ghost weight_taken = { λ monitor. monitor.total };
 
@@ -88,7 +86,6 @@ impl TakeItems for BucketSaving {
     }
 
     fn take(&mut self, _alloc: Global, key: &[u8], weight: u64) -> Result<(), AllocError> {
-        summaries_follow_items();
         match self.add_bytes(key, weight) {
             Ok(()) => Ok(()),
             Err(AddFault::TotalTooLarge) => unreachable!(),
@@ -98,7 +95,7 @@ impl TakeItems for BucketSaving {
 }
 
 impl TakeItems for Table {
-    ghost made = { λ first xs table. table ≡ table_of first.family first.width xs };
+    ghost with_item = { grid_with };
 
     ghost weight_taken = { λ table. table.total };
 
@@ -107,10 +104,24 @@ impl TakeItems for Table {
     }
 
     fn take(&mut self, _alloc: Global, key: &[u8], weight: u64) -> Result<(), AllocError> {
-        tables_follow_items();
         let Ok(()) = self.add_bytes(key, weight) else {
             unreachable!()
         };
+        Ok(())
+    }
+}
+
+impl TakeItems for Counts {
+    ghost with_item = { λ counts item. count_with counts (item ∷ []) };
+
+    ghost weight_taken = { λ counts. counts.total };
+
+    fn total(&self) -> u64 {
+        self.total()
+    }
+
+    fn take(&mut self, _alloc: Global, key: &[u8], weight: u64) -> Result<(), AllocError> {
+        self.add_bytes(key, weight);
         Ok(())
     }
 }

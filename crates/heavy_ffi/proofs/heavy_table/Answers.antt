@@ -3,7 +3,8 @@ use Rattle.hh_countmin.specs.Family.{drawn_family}
 use Rattle.hh_countmin.specs.Table.{table_of}
 use Rattle.hh_saved.specs.declared.format.Version.TheVariants as version
 use Rattle.hh_saved.specs.Sizes.{table_bytes}
-use Rattle.heavy.specs.Saving.{bad_table}
+use Rattle.heavy.specs.Table.{bad_table}
+use Rattle.heavy_ffi.proofs.OutcomeFacts.{outcome_of}
 use Rattle.heavy_ffi.proofs.SizeFacts.{came, depth_passed, passed}
 use Rattle.heavy_ffi.proofs.heavy_table.Goals as goal
 
@@ -21,3 +22,7 @@ returns-clause-exact c = λ done.
     (c.drawn_families_are_families.ensures c.args.seed c.args.depth
     (depth_passed c.args.depth c.args.width none)).1 in
     size ∙ law ∙ ap (table_bytes c.args.width) depth
+
+pub returns-clause-outcome : goal.returns-clause-outcome
+returns-clause-outcome c =
+    outcome_of _ _ c.table_bytes-bytes.result c.table_bytes-bytes.ensures.saved c.table_bytes-bytes.ensures.refused c.answer.ensures.outcome

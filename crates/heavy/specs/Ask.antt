@@ -1,0 +1,73 @@
+-- What a saved file tells of keys.
+use Rattle.std.specs.Prelude.{◌==◌, ◌+◌, nat_le, ℕ, List, [], ◌∷◌, length, map, Option, Some, None, Result, Ok, Err, if◌then◌else◌}
+use Rattle.std.specs.List.{flat_map}
+use Rattle.std.specs.Fmt.{decimal}
+use Rattle.csv.specs.Writing.{default_writer, row_text}
+use Rattle.hh_stream.specs.Weights.{Bytes, weight_of, max_key_len}
+use Rattle.hh_counters.specs.Counters.{slack}
+use Rattle.hh_countmin.specs.Table.{estimate_in}
+use Rattle.hh_saved.specs.declared.saved.Saved.{Saved}
+use Rattle.hh_saved.specs.declared.saved.Saved.TheVariants.{Counters, Cells}
+use Rattle.heavy.specs.Files.{file_of, ◌>>=◌}
+use Rattle.heavy.specs.declared.error.KeyCause.TheVariants as key
+use Rattle.heavy.specs.declared.error.ToolError.{ToolError}
+use Rattle.heavy.specs.declared.error.ToolError.TheVariants as tool
+
+-- a key's weight is at least the first number, and at most the second
+abbrev pub answer_of : Saved → Bytes → ℕ × ℕ
+answer_of (Counters s) x =
+    (weight_of x s.counters, weight_of x s.counters + slack s.counters s.total s.k)
+answer_of (Cells t) x = (0, estimate_in t x)
+
+-- the text of one row: the key and the two numbers as csv's default writer writes them, and a line
+-- feed
+abbrev pub answer_row : Saved → Bytes → List ℕ
+answer_row v x =
+    row_text default_writer (x ∷ decimal (answer_of v x).0 ∷ decimal (answer_of v x).1 ∷ [])
+
+abbrev pub answer_rows : Saved → List Bytes → List ℕ
+answer_rows v keys = flat_map (answer_row v) keys
+
+-- what is wrong with key n
+abbrev pub key_fault : ℕ → Bytes → Option ToolError
+key_fault n x =
+    if length x == 0 then Some (tool.BadKey n key.Empty)
+    else if nat_le (length x) max_key_len then None
+    else Some (tool.BadKey n key.TooLong)
+
+abbrev pub or_else : Option ToolError → Option ToolError → Option ToolError
+or_else (Some e) other = Some e
+or_else None other = other
+
+-- the first fault of the keys from number n on
+unfoldable pub bad_key : ℕ → List Bytes → Option ToolError
+bad_key n [] = None
+bad_key n (x ∷ xs) = or_else (key_fault n x) (bad_key (n + 1) xs)
+
+abbrev pub unless : {X : Type 0} → Option ToolError → X → Result X ToolError
+unless None x = Ok x
+unless (Some e) x = Err e
+
+-- the value of the file, or the first refusal: of the file, and then of the keys
+abbrev pub asked_value : List ℕ → List Bytes → Result Saved ToolError
+asked_value file keys = do
+  v ← file_of 1 file
+  unless (bad_key 1 keys) v
+
+-- the rows of all keys, or the first refusal
+abbrev pub answers : List ℕ → List Bytes → Result (List ℕ) ToolError
+answers file keys = do
+  v ← asked_value file keys
+  Ok (answer_rows v keys)
+
+-- the two numbers of each key, or the first refusal
+abbrev pub answers_of : List ℕ → List Bytes → Result (List (ℕ × ℕ)) ToolError
+answers_of file keys = do
+  v ← asked_value file keys
+  Ok (map (answer_of v) keys)
+
+-- the two numbers of one key, or the first refusal: of the file, and then of the key
+abbrev pub answer : List ℕ → Bytes → Result (ℕ × ℕ) ToolError
+answer file x = do
+  v ← file_of 1 file
+  unless (key_fault 1 x) (answer_of v x)

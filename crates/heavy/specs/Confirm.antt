@@ -1,0 +1,38 @@
+-- A summary, confirmed by the records that it is of.
+use Rattle.std.specs.Prelude.{◌≡◌, ◌≢◌, ◌+◌, ℕ, List, filter, Option, Ok}
+use Rattle.hh_stream.specs.Weights.{Entry, total_of}
+use Rattle.hh_counters.specs.Counters.{SummaryView}
+use Rattle.hh_counters.specs.Report.{has_counter, heavy}
+use Rattle.hh_records.specs.Rows.{rows_of}
+use Rattle.hh_records.specs.Streams.{ReadsAs}
+use Rattle.heavy.specs.Files.{HoldsSummary, RefusedFrom}
+use Rattle.heavy.specs.Records.{RecordsRefused}
+use Rattle.heavy.specs.declared.commands.confirm.ConfirmFault.{ConfirmFault}
+use Rattle.heavy.specs.declared.commands.confirm.ConfirmFault.TheVariants as confirm
+use Rattle.heavy.specs.declared.error.ToolError.{ToolError}
+use Rattle.heavy.specs.declared.error.ToolError.TheVariants as tool
+
+-- the heavy keys of xs that have a counter in the summary
+abbrev pub confirmed_rows : SummaryView → List Entry → List Entry
+confirmed_rows s xs = filter (has_counter s.counters) (heavy xs 1 (s.k + 1))
+
+-- the fault of a command whose summary was not confirmed
+abbrev pub confirm_fault : ConfirmFault → ToolError
+confirm_fault confirm.TotalDiffers = tool.TotalDiffers
+confirm_fault confirm.Memory = tool.Memory
+
+-- the file holds a summary, and these are the rows of its keys that are heavy in a stream of its
+-- total, that of all bytes that the reader had left
+abbrev pub ConfirmsRows : List ℕ → Option (List ℕ) → List ℕ → Type 0
+ConfirmsRows file left rows =
+    (s : SummaryView) × (xs : List Entry) × HoldsSummary file s × ReadsAs left (Ok xs)
+    × (s.total ≡ total_of xs) × (rows ≡ rows_of (confirmed_rows s xs))
+
+-- what a refusal to count a summary's keys in records tells: of the totals, or of the records
+abbrev pub CountRefused : SummaryView → Option (List ℕ) → ToolError → Type 0
+CountRefused s left tool.TotalDiffers = (xs : List Entry) × ReadsAs left (Ok xs) × (s.total ≢ total_of xs)
+CountRefused s left e = RecordsRefused left e
+
+-- what a refusal to confirm tells: of the file, of its kind, of the records, and of the totals
+abbrev pub ConfirmRefused : List ℕ → Option (List ℕ) → ToolError → Type 0
+ConfirmRefused file left e = RefusedFrom file (λ s. CountRefused s left) e

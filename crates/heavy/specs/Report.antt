@@ -1,0 +1,123 @@
+-- What a report leaves in a sink, and what its refusals tell.
+use Rattle.std.specs.Prelude.{◌≡◌, ◌-◌, not, ℕ, List, Bool, true, false, Option, Some, None, is_none, Result, Ok, Err, ⊤, if◌then◌else◌}
+use Rattle.std.specs.Io.KnownBytes.{Appends, Keeps}
+use Rattle.hh_stream.specs.Cuttings.{max_pieces}
+use Rattle.hh_stream.specs.Weights.{Entry}
+use Rattle.hh_counters.specs.Report.{heavy}
+use Rattle.hh_counters.specs.Counters.{max_k}
+use Rattle.hh_countmin.specs.Family.{drawn_family, max_depth, max_width}
+use Rattle.hh_pool.specs.PlanTexts.{PlanRefused, SpellsTree}
+use Rattle.hh_pool.specs.Settings.{Settings, max_workers}
+use Rattle.hh_pool.specs.Trees.{IsBalanced, IsMergeTree, MergeTree, chain_of}
+use Rattle.hh_pool.specs.declared.parsing.PlanFault.{PlanFault}
+use Rattle.hh_pool.specs.declared.parsing.PlanFault.TheVariants as plan
+use Rattle.hh_stream.specs.Ranges.{in_range}
+use Rattle.hh_records.specs.Rows.{rows_of}
+use Rattle.hh_records.specs.Sinks.{TakesFirst}
+use Rattle.hh_records.specs.Streams.{ReadsAs}
+use Rattle.hh_records.specs.Thresholds.{threshold_of}
+use Rattle.heavy.specs.declared.error.ToolError.{ToolError}
+use Rattle.heavy.specs.declared.error.ToolError.TheVariants as tool
+use Rattle.heavy.specs.declared.error.TreeFault.{TreeFault}
+use Rattle.heavy.specs.declared.error.TreeFault.TheVariants as bad
+use Rattle.heavy.specs.declared.commands.report.ReportOptions.{ReportOptions}
+use Rattle.heavy.specs.declared.commands.report.Tree.{Tree}
+use Rattle.heavy.specs.declared.commands.report.Tree.TheVariants as tree
+
+-- whether a command failed by its sink
+abbrev pub failed_by : {T : Type 0} → Result T ToolError → Bool
+failed_by (Err (tool.WriteFault n)) = true
+failed_by (Err _) = false
+failed_by (Ok x) = false
+
+-- the first test that options fail, before their tree
+abbrev pub bad_option : ReportOptions → Option ToolError
+bad_option o =
+    if not (in_range o.depth max_depth) then Some tool.BadDepth
+    else if not (in_range o.k max_k) then Some tool.BadK
+    else if not (in_range o.workers max_workers) then Some tool.BadWorkers
+    else if not (in_range o.width max_width) then Some tool.BadWidth
+    else if is_none (threshold_of o.k o.threshold) then Some tool.BadThreshold
+    else if not (in_range o.pieces max_pieces) then Some tool.BadPieces
+    else None
+
+-- a fault that options have, before their tree
+abbrev pub IsOptionFault : ToolError → Type 0
+IsOptionFault tool.BadDepth = ⊤
+IsOptionFault tool.BadK = ⊤
+IsOptionFault tool.BadWorkers = ⊤
+IsOptionFault tool.BadWidth = ⊤
+IsOptionFault tool.BadThreshold = ⊤
+IsOptionFault tool.BadPieces = ⊤
+IsOptionFault _ = ⊥
+
+-- the settings of an analysis for these options and the threshold p/q
+abbrev pub settings_of : ReportOptions → ℕ → ℕ → Settings
+settings_of o p q = record {
+  k = o.k;
+  p = p;
+  q = q;
+  workers = o.workers;
+  width = o.width;
+  family = drawn_family o.seed o.depth;
+}
+
+-- the merge tree that a tree names over so many pieces
+abbrev pub Names : Tree → ℕ → MergeTree → Type 0
+Names tree.Chain pieces plan = plan ≡ chain_of (pieces - 1)
+Names tree.Balanced pieces plan = IsBalanced plan 0 pieces
+Names (tree.Text t) pieces plan = SpellsTree t.items plan × IsMergeTree plan pieces
+
+-- the tree is one of so many pieces
+abbrev pub IsTree : Tree → ℕ → Type 0
+IsTree t pieces = (plan : MergeTree) × Names t pieces plan
+
+-- a fault of a plan's text as a fault of its tree
+abbrev pub plan_fault : TreeFault → PlanFault
+plan_fault (bad.Syntax n) = plan.Syntax n
+plan_fault (bad.UnknownPiece n) = plan.UnknownPiece n
+plan_fault (bad.RepeatedPiece n) = plan.RepeatedPiece n
+plan_fault (bad.MissingPiece n) = plan.MissingPiece n
+
+abbrev pub TreeRefused : Tree → ℕ → TreeFault → Type 0
+TreeRefused tree.Chain pieces f = ⊥
+TreeRefused tree.Balanced pieces f = ⊥
+TreeRefused (tree.Text t) pieces f = PlanRefused t.items pieces (plan_fault f)
+
+-- the options pass all tests
+abbrev pub AreOptions : ReportOptions → Type 0
+AreOptions o = (bad_option o ≡ None) × IsTree o.tree o.pieces
+
+-- these are the rows of the keys above the threshold p/q of the options, in the stream of all bytes
+-- that the reader had left
+abbrev pub ReportsRows : ReportOptions → Option (List ℕ) → List ℕ → Type 0
+ReportsRows o left rows =
+    (p : ℕ) × (q : ℕ) × (xs : List Entry)
+    × (threshold_of o.k o.threshold ≡ Some (p, q))
+    × ReadsAs left (Ok xs)
+    × (rows ≡ rows_of (heavy xs p q))
+
+-- a whole report was written
+abbrev pub IsReported : ReportOptions → Option (List ℕ) → Option (List ℕ) → Option (List ℕ) → Type 0
+IsReported o left old new =
+    AreOptions o × (rows : List ℕ) × ReportsRows o left rows × Appends old new rows
+
+-- what each refusal of a report tells, and what it leaves in the sink
+abbrev pub ReportRefused : ReportOptions
+    → Option (List ℕ) → Option (List ℕ) → Option (List ℕ) → ToolError → Type 0
+ReportRefused o left old new tool.BadDepth = (bad_option o ≡ Some tool.BadDepth) × Keeps old new
+ReportRefused o left old new tool.BadK = (bad_option o ≡ Some tool.BadK) × Keeps old new
+ReportRefused o left old new tool.BadWorkers = (bad_option o ≡ Some tool.BadWorkers) × Keeps old new
+ReportRefused o left old new tool.BadWidth = (bad_option o ≡ Some tool.BadWidth) × Keeps old new
+ReportRefused o left old new tool.BadThreshold =
+    (bad_option o ≡ Some tool.BadThreshold) × Keeps old new
+ReportRefused o left old new tool.BadPieces = (bad_option o ≡ Some tool.BadPieces) × Keeps old new
+ReportRefused o left old new (tool.BadTree f) =
+    (bad_option o ≡ None) × TreeRefused o.tree o.pieces f × Keeps old new
+ReportRefused o left old new tool.ReadFault = AreOptions o × Keeps old new
+ReportRefused o left old new (tool.BadRecord n c) =
+    AreOptions o × Keeps old new × ReadsAs left (Err (n, c))
+ReportRefused o left old new (tool.WriteFault n) =
+    AreOptions o × (rows : List ℕ) × ReportsRows o left rows × TakesFirst old new rows n
+ReportRefused o left old new tool.Memory = (bad_option o ≡ None) × Keeps old new
+ReportRefused o left old new _ = ⊥

@@ -1,0 +1,23 @@
+-- A summary of records.
+use Rattle.std.specs.Prelude.{◌≡◌, not, ℕ, List, codes, Option, Some, None, Ok, if◌then◌else◌}
+use Rattle.hh_stream.specs.Ranges.{in_range}
+use Rattle.hh_stream.specs.Weights.{Entry}
+use Rattle.hh_counters.specs.Counters.{SummaryView, max_k, sketch_of}
+use Rattle.hh_records.specs.Streams.{ReadsAs}
+use Rattle.heavy.specs.declared.commands.summarise.Method.{Method}
+use Rattle.heavy.specs.declared.commands.summarise.Method.TheVariants as method
+use Rattle.heavy.specs.declared.error.ToolError.{ToolError}
+use Rattle.heavy.specs.declared.error.ToolError.TheVariants as tool
+
+-- the word that names a method
+abbrev pub word_of : Method → List ℕ
+word_of method.MisraGries = codes "mg"
+word_of method.SpaceSaving = codes "ss"
+
+-- the test of a summary's k
+abbrev pub bad_k : ℕ → Option ToolError
+bad_k k = if not (in_range k max_k) then Some tool.BadK else None
+
+-- the summary that Misra and Gries make of the stream of all bytes that the reader had left
+abbrev pub IsSummaryOf : ℕ → Option (List ℕ) → SummaryView → Type 0
+IsSummaryOf k left summary = (xs : List Entry) × ReadsAs left (Ok xs) × (summary ≡ sketch_of k xs)

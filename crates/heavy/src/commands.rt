@@ -1,0 +1,10 @@
+//! The commands of the program, each the whole of its command.
+
+pub(crate) mod ask;
+pub(crate) mod condense;
+pub(crate) mod confirm;
+pub(crate) mod entries;
+pub(crate) mod merge;
+pub(crate) mod report;
+pub(crate) mod summarise;
+pub(crate) mod table;

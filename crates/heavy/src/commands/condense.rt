@@ -1,0 +1,127 @@
+//! Fewer records that say of a summary's keys what many records say.
+
+ghost use Rattle.std.specs.Prelude.{◌≡◌, ◌<◌, ◌≤◌, ◌^◌, Ok, List, IfOk, IfErr};
+ghost use Rattle.std.specs.Map.{keys_of};
+ghost use Rattle.hh_stream.specs.Weights.{Entry, total_of};
+ghost use Rattle.hh_counters.specs.Condensed.{condensed, free_name, other_name};
+ghost use Rattle.hh_counters.specs.Counters.{IsCounters};
+ghost use Rattle.hh_records.specs.Streams.{ReadsAs};
+ghost use Rattle.heavy.specs.Condense.{CondenseRefused, CondensesRows};
+ghost use Rattle.heavy.specs.Files.{StopsAtHead};
+ghost use Rattle.heavy.specs.Records.{IsCountOf, RecordsRefused};
+
+use crate::counting::count_records;
+use crate::error::ToolError;
+use crate::files::summary_in;
+use hh_counters::laws::{condensed_is_counted, free_name_is_first};
+use hh_counters::{Counts, Heavy, Summary};
+use hh_records::condensed_text;
+use hh_stream::Key;
+use itoa::Buffer;
+use std::alloc::{AllocError, Global};
+use std::io::Read;
+
+/// Name number i for the keys without a counter: `others` and the digits of i, where 0 has none.
+fn other_name(alloc: Global, number: u64) -> Result<Key, AllocError>
+    ensures { IfOk result (λ key. key ≡ other_name number) }
+{
+    let mut name = Vec::from_slice(alloc, b"others")?;
+    if number > 0 {
+        let mut digits = Buffer::new();
+        name.extend_from_slice(digits.format(number).as_bytes())?;
+    }
+    Key::of_bytes(alloc, name.as_slice())
+}
+
+/// The first of the names `others`, `others1`, `others2` and so on that has no counter.
+fn free_name(alloc: Global, summary: &Summary) -> Result<Key, AllocError>
+    ensures { IfOk result (λ key. key ≡ free_name summary.now.counters) }
+{
+    free_name_is_first();
+    for number in 0..summary.k() + 1 {
+        let name = other_name(alloc, number)?;
+        if summary.get(&name) == 0 {
+            return Ok(name);
+        }
+    }
+    unreachable!()
+}
+
+/// The sum of the weights of rows.
+fn total_of(rows: &[Heavy]) -> u64
+    requires { total_of rows.now < 2 ^ 64 }
+    ensures { result ≡ total_of rows.now }
+{
+    let mut total = 0;
+    for row in rows {
+        total += row.weight;
+    }
+    total
+}
+
+/// The rows of counted items, condensed.
+fn condensed_rows(
+    alloc: Global,
+    summary: &Summary,
+    counts: &Counts,
+) -> Result<Vec<Heavy>, AllocError>
+    requires counters { IsCounters summary.now.counters }
+    requires counted { (xs : List Entry) × IsCountOf (keys_of summary.now.counters) xs counts.now }
+    ensures { IfOk result (λ rows. (xs : List Entry)
+        → IsCountOf (keys_of summary.now.counters) xs counts.now
+        → rows.items ≡ condensed summary.now.counters xs) }
+{
+    condensed_is_counted();
+    let mut rows = counts.rows(alloc)?;
+    let others = counts.total() - total_of(&rows);
+    if others > 0 {
+        let key = free_name(alloc, summary)?;
+        rows.push(Heavy {
+            key,
+            weight: others,
+        })?;
+    }
+    Ok(rows)
+}
+
+/// The condensed items of a reader's records, in one pass that keeps no record.
+fn condense_records<R: Read + Drop>(
+    alloc: Global,
+    summary: &Summary,
+    reader: R,
+) -> Result<Vec<Heavy>, ToolError>
+    ensures rows { IfOk result (λ rows. (xs : List Entry)
+        × ReadsAs (R.remaining reader) (Ok xs)
+        × (rows.items ≡ condensed summary.now.counters xs)) }
+    ensures refused { IfErr result (λ fault. RecordsRefused (R.remaining reader) fault) }
+{
+    let counts = count_records(alloc, summary, reader)?;
+    Ok(condensed_rows(alloc, summary, &counts)?)
+}
+
+/// Records that say the same to [`confirm_bytes`] with the same file as those of the reader, at
+/// most one more than the summary has keys: each key of the summary that comes, with its weight, by
+/// rising key, and then, where other keys come, one record of what they weigh. Its key is the first
+/// of `others`, `others1`, `others2` and so on that is no key of the summary.
+///
+/// So parts of a stream may be condensed one by one by the summary of the whole, and their
+/// condensed records joined in any order. The rows are as [`report_text`](crate::report_text)
+/// writes them, but that the first key is in quotes where it begins with the three bytes of a byte
+/// order mark.
+///
+/// The file is tested first ([`ToolError::BadFile`], as file 1, and [`ToolError::NotCounters`]),
+/// and then the records, whose total need not be the summary's.
+pub fn condense_bytes<R: Read + Drop>(
+    alloc: Global,
+    file: &[u8],
+    reader: R,
+) -> Result<Vec<u8>, ToolError>
+    ensures rows { IfOk result (λ rows.
+        CondensesRows file.now (R.remaining reader) rows.items) }
+    ensures refused { IfErr result (λ fault. CondenseRefused file.now (R.remaining reader) fault) }
+    ensures early { StopsAtHead 1 file.now result }
+{
+    let summary = summary_in(alloc, file)?;
+    let rows = condense_records(alloc, &summary, reader)?;
+    Ok(condensed_text(alloc, &rows)?)
+}

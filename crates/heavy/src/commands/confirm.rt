@@ -1,0 +1,121 @@
+//! A summary confirmed: its keys that are heavy, found by a second pass over the stream.
+
+ghost use Rattle.std.specs.Prelude.{◌≡◌, ◌≢◌, ◌↔◌, Ok, List, IfOk, IfErr, IsErrOf};
+ghost use Rattle.std.specs.Map.{keys_of};
+ghost use Rattle.hh_stream.specs.Weights.{Entry, total_of};
+ghost use Rattle.hh_counters.specs.Counting.{count_of};
+ghost use Rattle.hh_records.specs.Streams.{ReadsAs};
+ghost use Rattle.heavy.specs.Files.{StopsAtHead};
+ghost use Rattle.heavy.specs.Confirm.{ConfirmRefused, ConfirmsRows, CountRefused, confirm_fault, confirmed_rows};
+ghost use Rattle.heavy.specs.declared.commands.confirm.ConfirmFault.TheVariants.{Memory};
+
+use crate::counting::count_records;
+use crate::error::ToolError;
+use crate::files::summary_in;
+use hh_counters::laws::{candidates_suffice, counts_follow_items};
+use hh_counters::{Counts, Heavy, Summary};
+use hh_records::report_text;
+use hh_stream::Stream;
+use std::alloc::{AllocError, Global};
+use std::io::Read;
+use thiserror::Error;
+
+/// Why a summary was not confirmed.
+#[derive(Clone, Copy, Debug, PartialEq, Eq, Error)]
+pub enum ConfirmFault {
+    /// The summary's total is not the stream's.
+    #[error("the summary's total is not the stream's")]
+    TotalDiffers,
+    /// The allocator had no memory.
+    #[error("out of memory")]
+    Memory,
+}
+
+impl From<AllocError> for ConfirmFault {
+    ghost from_gives = { λ _ fault. fault ≡ Memory };
+
+    fn from(_: AllocError) -> ConfirmFault {
+        ConfirmFault::Memory
+    }
+}
+
+impl From<ConfirmFault> for ToolError {
+    ghost from_gives = { λ fault error. error ≡ confirm_fault fault };
+
+    fn from(fault: ConfirmFault) -> ToolError {
+        match fault {
+            ConfirmFault::TotalDiffers => ToolError::TotalDiffers,
+            ConfirmFault::Memory => ToolError::Memory,
+        }
+    }
+}
+
+/// The keys of a summary that are heavy in a stream, with their true weights: those above the
+/// total divided by the summary's k + 1, by falling weight and then by rising key.
+///
+/// Where the summary is that of the stream, or a merge of its pieces' summaries, these are all
+/// heavy keys of the stream.
+pub fn confirm(
+    alloc: Global,
+    summary: &Summary,
+    stream: &Stream,
+) -> Result<Vec<Heavy>, ConfirmFault>
+    ensures rows { IfOk result (λ rows. rows.items ≡ confirmed_rows summary.now stream.now) }
+    ensures total_differs { IsErrOf result ConfirmFault.TotalDiffers
+        ↔ (summary.now.total ≢ total_of stream.now) }
+{
+    counts_follow_items();
+    if summary.total() != stream.total() {
+        return Err(ConfirmFault::TotalDiffers);
+    }
+    let mut counts = Counts::of(alloc, summary)?;
+    counts.add_stream(stream);
+    Ok(heavy_rows(summary, &counts)?)
+}
+
+/// The keys of a summary that are heavy among the items that were counted.
+fn heavy_rows(summary: &Summary, counts: &Counts) -> Result<Vec<Heavy>, AllocError>
+    ensures { IfOk result (λ rows. (xs : List Entry)
+        → counts.now ≡ count_of (keys_of summary.now.counters) xs
+        → rows.items ≡ confirmed_rows summary.now xs) }
+{
+    candidates_suffice();
+    let rows = counts.select(summary.k())?;
+    Ok(rows)
+}
+
+/// The keys of a summary that are heavy in the stream of a reader's records, as [`confirm`] finds
+/// them, in one pass that keeps no record.
+fn confirm_records<R: Read + Drop>(
+    alloc: Global,
+    summary: &Summary,
+    reader: R,
+) -> Result<Vec<Heavy>, ToolError>
+    ensures rows { IfOk result (λ rows. (xs : List Entry) × ReadsAs (R.remaining reader) (Ok xs)
+        × (summary.now.total ≡ total_of xs) × (rows.items ≡ confirmed_rows summary.now xs)) }
+    ensures refused { IfErr result (λ fault.
+        CountRefused summary.now (R.remaining reader) fault) }
+{
+    let counts = count_records(alloc, summary, reader)?;
+    if summary.total() != counts.total() {
+        return Err(ToolError::TotalDiffers);
+    }
+    Ok(heavy_rows(summary, &counts)?)
+}
+
+/// The report text of the saved summary's keys that are heavy in the stream of the reader's
+/// records, as [`confirm`](crate::confirm) finds them.
+pub fn confirm_bytes<R: Read + Drop>(
+    alloc: Global,
+    file: &[u8],
+    reader: R,
+) -> Result<Vec<u8>, ToolError>
+    ensures rows { IfOk result (λ rows.
+        ConfirmsRows file.now (R.remaining reader) rows.items) }
+    ensures refused { IfErr result (λ fault. ConfirmRefused file.now (R.remaining reader) fault) }
+    ensures early { StopsAtHead 1 file.now result }
+{
+    let summary = summary_in(alloc, file)?;
+    let rows = confirm_records(alloc, &summary, reader)?;
+    Ok(report_text(alloc, &rows)?)
+}

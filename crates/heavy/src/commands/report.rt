@@ -1,0 +1,205 @@
+//! A report from a reader to a sink.
+
+ghost use Rattle.std.specs.Prelude.{◌≡◌, false, true, length, IfOk, IfErr, IfSome, OnOk, MatchResult, Err, None, Some};
+ghost use Rattle.hh_stream.specs.Cuttings.{max_pieces};
+ghost use Rattle.hh_pool.specs.Trees.{leaves};
+ghost use Rattle.hh_counters.specs.Report.{heavy};
+ghost use Rattle.hh_stream.specs.Ranges.{in_range};
+ghost use Rattle.hh_records.specs.Thresholds.{threshold_of};
+ghost use Rattle.heavy.specs.Report.{IsOptionFault, IsReported, Names, ReportRefused, TreeRefused, bad_option, failed_by, settings_of};
+
+use crate::error::{ToolError, TreeFault};
+use crate::limits::in_range;
+use hh_counters::{Heavy, MAX_K};
+use hh_countmin::{DrawFault, Family, MAX_DEPTH, MAX_WIDTH};
+use hh_pool::{MAX_WORKERS, OpenGate, Options, OptionsFault, Plan, PlanFault, RunError, analyse};
+use hh_records::{ReportFault, Share, Sink, read_stream, threshold_of, write_report};
+use hh_stream::{Cutting, CuttingFault, MAX_PIECES, Stream};
+use std::alloc::{AllocError, Global};
+use std::io::Read;
+use std::sync::Wait;
+use std::thread::Threads;
+
+/// How the summaries of the pieces are merged. Every tree gives the same report.
+#[derive(Debug, Drop)]
+pub enum Tree {
+    /// One after the other.
+    Chain,
+    /// By halves.
+    Balanced,
+    /// As the text says, as `((0 1) 2)`.
+    Text(Vec<u8>),
+}
+
+/// What a report is of, and how it is made.
+#[derive(Debug, Drop)]
+pub struct ReportOptions {
+    /// The number of counters, 1 to 65,535. They find each key above 1/(k + 1) of the total weight.
+    pub k: u64,
+    /// The report has the keys above this share of the total weight.
+    pub threshold: Share,
+    /// The number of workers: 1 to 64.
+    pub workers: u64,
+    /// The number of pieces that the stream is cut into: 1 to 1,024.
+    pub pieces: u64,
+    /// How the summaries of the pieces are merged.
+    pub tree: Tree,
+    /// The width of the Count-Min table: 1 to 65,536.
+    pub width: u64,
+    /// The depth of the table: 1 to 16.
+    pub depth: u64,
+    /// The seed of the table's hash family.
+    pub seed: u64,
+}
+
+/// Tests the options, but for the tree, and gives the p and q of the threshold.
+fn check_options(options: &ReportOptions) -> Result<(u64, u64), ToolError>
+    ensures tests { MatchResult result
+        (λ _. bad_option options.now ≡ None)
+        (λ fault. bad_option options.now ≡ Some fault) }
+    ensures kind { IfErr result IsOptionFault }
+    ensures threshold { IfOk result (λ threshold.
+        threshold_of options.now.k options.now.threshold ≡ Some threshold) }
+{
+    if !in_range(options.depth, MAX_DEPTH) {
+        return Err(ToolError::BadDepth);
+    }
+    if !in_range(options.k, MAX_K) {
+        return Err(ToolError::BadK);
+    }
+    if !in_range(options.workers, MAX_WORKERS) {
+        return Err(ToolError::BadWorkers);
+    }
+    if !in_range(options.width, MAX_WIDTH) {
+        return Err(ToolError::BadWidth);
+    }
+    let Some(threshold) = threshold_of(options.k, &options.threshold) else {
+        return Err(ToolError::BadThreshold);
+    };
+    if !in_range(options.pieces, MAX_PIECES as u64) {
+        return Err(ToolError::BadPieces);
+    }
+    Ok(threshold)
+}
+
+/// Why there is no plan.
+#[derive(Drop)]
+enum NoPlan {
+    Bad(TreeFault),
+    Memory,
+}
+
+/// The plan of a tree over so many pieces.
+fn plan_of(alloc: Global, tree: &Tree, pieces: usize) -> Result<Plan, NoPlan>
+    requires { in_range pieces max_pieces ≡ true }
+    ensures pieces { IfOk result (λ plan. length (leaves plan) ≡ pieces) }
+    ensures tree { IfOk result (λ plan. Names tree.now pieces plan) }
+    ensures refused { (fault : TreeFault) → result ≡ Err (NoPlan.Bad fault)
+        → TreeRefused tree.now pieces fault }
+{
+    match tree {
+        Tree::Chain => Plan::chain(alloc, pieces).map_err(|_| NoPlan::Memory),
+        Tree::Balanced => Plan::balanced(alloc, pieces).map_err(|_| NoPlan::Memory),
+        Tree::Text(text) => match Plan::parse(alloc, text, pieces) {
+            Ok(plan) => Ok(plan),
+            Err(PlanFault::Syntax(at)) => Err(NoPlan::Bad(TreeFault::Syntax(at))),
+            Err(PlanFault::UnknownPiece(piece)) => Err(NoPlan::Bad(TreeFault::UnknownPiece(piece))),
+            Err(PlanFault::RepeatedPiece(piece)) => {
+                Err(NoPlan::Bad(TreeFault::RepeatedPiece(piece)))
+            }
+            Err(PlanFault::MissingPiece(piece)) => Err(NoPlan::Bad(TreeFault::MissingPiece(piece))),
+            Err(PlanFault::Memory) => Err(NoPlan::Memory),
+        },
+    }
+}
+
+/// The settings of an analysis with the threshold p/q, and the family drawn from the seed.
+fn settings_of(
+    alloc: Global,
+    options: &ReportOptions,
+    p: u64,
+    q: u64,
+) -> Result<Options, AllocError>
+    requires options { bad_option options.now ≡ None }
+    requires threshold { threshold_of options.now.k options.now.threshold ≡ Some (p, q) }
+    ensures { IfOk result (λ settings. settings ≡ settings_of options.now p q) }
+{
+    let family = match Family::draw(alloc, options.seed, options.depth) {
+        Ok(family) => family,
+        Err(DrawFault::BadDepth) => unreachable!(),
+        Err(DrawFault::Memory) => return Err(AllocError),
+    };
+    match Options::new(options.k, p, q, options.workers, options.width, family) {
+        Ok(settings) => Ok(settings),
+        Err(OptionsFault::BadK | OptionsFault::BadWorkers) => unreachable!(),
+        Err(OptionsFault::BadWidth | OptionsFault::BadThreshold) => unreachable!(),
+    }
+}
+
+/// The heavy keys of a stream that is cut evenly.
+fn heavy_keys<T: Threads + Wait + Sync>(
+    rt: &T,
+    alloc: Global,
+    stream: &Stream,
+    pieces: usize,
+    plan: &Plan,
+    settings: &Options,
+) -> Result<Vec<Heavy>, AllocError>
+    requires pieces { in_range pieces max_pieces ≡ true }
+    requires plan { length (leaves plan.now) ≡ pieces }
+    ensures { IfOk result (λ rows. rows.items ≡ heavy stream.now settings.now.p settings.now.q) }
+{
+    let cutting = match Cutting::even(alloc, stream.len(), pieces) {
+        Ok(cutting) => cutting,
+        Err(CuttingFault::Memory) => return Err(AllocError),
+        Err(CuttingFault::NoPieces | CuttingFault::TooManyPieces | CuttingFault::WrongSum) => {
+            unreachable!()
+        }
+    };
+    match analyse(rt, alloc, stream, &cutting, plan, settings, &OpenGate) {
+        Ok(outcome) => Ok(outcome.heavy),
+        Err(RunError::PlanMismatch) => unreachable!(),
+        Err(RunError::Memory) => Err(AllocError),
+    }
+}
+
+/// Reads records as [`read_stream`](crate::read_stream) does, and writes the report of their
+/// stream: exactly the keys whose weight is more than the threshold's share of the total, with
+/// their true weights, by falling weight and then by rising key. The stream is cut evenly and
+/// analysed by workers in threads of their own; the report is the same for all other options.
+///
+/// The options are tested before anything is read, in the order depth, k, workers, width,
+/// threshold, pieces and tree. A refusal other than [`ToolError::WriteFault`] has written nothing.
+pub fn run_report<T: Threads + Wait + Sync, R: Read + Drop, S: Sink>(
+    rt: &T,
+    alloc: Global,
+    options: &ReportOptions,
+    reader: R,
+    sink: &mut S,
+) -> Result<(), ToolError>
+    requires { S.has_failed sink.old ≡ false }
+    ensures reported { OnOk result
+        (IsReported options.now (R.remaining reader) (S.taken sink.old) (S.taken sink.new)) }
+    ensures refused { IfErr result (λ fault.
+        ReportRefused options.now (R.remaining reader)
+        (S.taken sink.old) (S.taken sink.new) fault) }
+    ensures bad_option { IfSome (bad_option options.now) (λ fault. result ≡ Err fault) }
+    ensures flushed { OnOk result (S.is_flushed sink.new ≡ true) }
+    ensures failed { S.has_failed sink.new ≡ failed_by result }
+{
+    let (p, q) = check_options(options)?;
+    let pieces = options.pieces as usize;
+    let plan = match plan_of(alloc, &options.tree, pieces) {
+        Ok(plan) => plan,
+        Err(NoPlan::Bad(fault)) => return Err(ToolError::BadTree(fault)),
+        Err(NoPlan::Memory) => return Err(ToolError::Memory),
+    };
+    let settings = settings_of(alloc, options, p, q)?;
+    let stream = read_stream(alloc, reader)?;
+    let rows = heavy_keys(rt, alloc, &stream, pieces, &plan, &settings)?;
+    match write_report(alloc, sink, &rows) {
+        Ok(()) => Ok(()),
+        Err(ReportFault::WriteFault { written }) => Err(ToolError::WriteFault { written }),
+        Err(ReportFault::Memory) => Err(ToolError::Memory),
+    }
+}

@@ -1,0 +1,119 @@
+//! Records summarised into a saved file.
+
+ghost use Rattle.std.specs.Prelude.{◌≡◌, true, IsErr, IfOk, IfErr, IfSome, Ok, Err};
+ghost use Rattle.hh_stream.specs.Ranges.{in_range};
+ghost use Rattle.hh_counters.specs.Counters.{max_k, sketch_of};
+ghost use Rattle.hh_saved.specs.declared.saved.Saved.TheVariants.{Counters};
+ghost use Rattle.heavy.specs.Records.{RecordsRefused, RefusedAfter, SavesStream};
+ghost use Rattle.heavy.specs.Summarise.{IsSummaryOf, bad_k, word_of};
+
+use crate::error::ToolError;
+use crate::limits::in_range;
+use hh_counters::laws::summaries_follow_items;
+use hh_counters::{BucketSaving, MAX_K, Monitor, NewFault, Summary};
+use hh_records::read_items;
+use hh_saved::{Saved, write};
+use std::alloc::Global;
+use std::io::Read;
+
+/// How a stream is summarised. Both ways give the same summary.
+#[derive(Clone, Copy, Debug, PartialEq, Eq)]
+pub enum Method {
+    /// As Misra and Gries do (1982).
+    MisraGries,
+    /// By Space-Saving (Metwally, Agrawal and El Abbadi 2005), translated at the end.
+    SpaceSaving,
+}
+
+impl Method {
+    /// The method of the word `mg` or `ss`.
+    pub fn of(word: &[u8]) -> Result<Method, ToolError>
+        ensures method { IfOk result (λ method. word.now ≡ word_of method) }
+        ensures bad_method { IsErr result → result ≡ Err ToolError.BadMethod }
+        ensures only { (method : Method) → word.now ≡ word_of method → result ≡ Ok method }
+    {
+        match word {
+            b"mg" => Ok(Method::MisraGries),
+            b"ss" => Ok(Method::SpaceSaving),
+            _ => Err(ToolError::BadMethod),
+        }
+    }
+}
+
+/// The summary of the records of a reader, by one method or the other.
+fn summary_of<R: Read + Drop>(
+    alloc: Global,
+    k: u64,
+    method: Method,
+    reader: R,
+) -> Result<Summary, ToolError>
+    requires { in_range k max_k ≡ true }
+    ensures summary { IfOk result (IsSummaryOf k (R.remaining reader)) }
+    ensures refused { IfErr result (λ fault. RecordsRefused (R.remaining reader) fault) }
+{
+    match method {
+        Method::MisraGries => summary_by_counting(alloc, k, reader),
+        Method::SpaceSaving => summary_by_monitoring(alloc, k, reader),
+    }
+}
+
+/// The summary of the records of a reader, whose items are added to it one by one.
+fn summary_by_counting<R: Read + Drop>(
+    alloc: Global,
+    k: u64,
+    reader: R,
+) -> Result<Summary, ToolError>
+    requires { in_range k max_k ≡ true }
+    ensures summary { IfOk result (IsSummaryOf k (R.remaining reader)) }
+    ensures refused { IfErr result (λ fault. RecordsRefused (R.remaining reader) fault) }
+{
+    summaries_follow_items();
+    let Ok(summary) = Summary::new(alloc, k) else {
+        unreachable!()
+    };
+    Ok(read_items(alloc, reader, summary)?)
+}
+
+/// The summary of the records of a reader, whose items are monitored and translated at the end.
+fn summary_by_monitoring<R: Read + Drop>(
+    alloc: Global,
+    k: u64,
+    reader: R,
+) -> Result<Summary, ToolError>
+    requires { in_range k max_k ≡ true }
+    ensures summary { IfOk result (IsSummaryOf k (R.remaining reader)) }
+    ensures refused { IfErr result (λ fault. RecordsRefused (R.remaining reader) fault) }
+{
+    summaries_follow_items();
+    let monitor = match BucketSaving::new(alloc, k) {
+        Ok(monitor) => monitor,
+        Err(NewFault::BadK) => unreachable!(),
+        Err(NewFault::Memory) => return Err(ToolError::Memory),
+    };
+    let monitor = read_items(alloc, reader, monitor)?;
+    match monitor.into_summary() {
+        Ok(summary) => Ok(summary),
+        Err(_) => Err(ToolError::Memory),
+    }
+}
+
+/// The saved summary of the records of a reader: Misra-Gries with k counters.
+///
+/// k is tested before anything is read. Both methods give the same bytes.
+pub fn summary_bytes<R: Read + Drop>(
+    alloc: Global,
+    k: u64,
+    method: Method,
+    reader: R,
+) -> Result<Vec<u8>, ToolError>
+    ensures saved { IfOk result (λ bytes.
+        SavesStream (λ xs. Counters (sketch_of k xs)) (R.remaining reader) bytes.items) }
+    ensures refused { IfErr result (λ fault. RefusedAfter (bad_k k) (R.remaining reader) fault) }
+    ensures bad_k { IfSome (bad_k k) (λ fault. result ≡ Err fault) }
+{
+    if !in_range(k, MAX_K) {
+        return Err(ToolError::BadK);
+    }
+    let summary = summary_of(alloc, k, method, reader)?;
+    Ok(write(alloc, &Saved::Counters(summary))?)
+}

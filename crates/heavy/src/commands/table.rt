@@ -1,0 +1,66 @@
+//! Records counted in a saved table.
+
+ghost use Rattle.std.specs.Prelude.{◌≡◌, true, IfOk, IfErr, IfSome, Err};
+ghost use Rattle.hh_stream.specs.Ranges.{in_range};
+ghost use Rattle.hh_countmin.specs.Family.{drawn_family, max_depth, max_width};
+ghost use Rattle.hh_countmin.specs.Table.{empty_table, table_of};
+ghost use Rattle.hh_saved.specs.declared.saved.Saved.TheVariants.{Cells};
+ghost use Rattle.heavy.specs.Records.{RefusedAfter, SavesStream};
+ghost use Rattle.heavy.specs.Table.{bad_table};
+
+use crate::error::ToolError;
+use crate::limits::in_range;
+use hh_countmin::laws::tables_follow_items;
+use hh_countmin::{DrawFault, Family, MAX_DEPTH, MAX_WIDTH, Table, TableFault};
+use hh_records::read_items;
+use hh_saved::{Saved, write};
+use std::alloc::{AllocError, Global};
+use std::io::Read;
+
+/// The table of no items, with the family that is drawn from the seed.
+fn empty_table(alloc: Global, width: u64, depth: u64, seed: u64) -> Result<Table, AllocError>
+    requires depth { in_range depth max_depth ≡ true }
+    requires width { in_range width max_width ≡ true }
+    ensures { IfOk result (λ table. table ≡ empty_table (drawn_family seed depth) width) }
+{
+    let family = match Family::draw(alloc, seed, depth) {
+        Ok(family) => family,
+        Err(DrawFault::BadDepth) => unreachable!(),
+        Err(DrawFault::Memory) => return Err(AllocError),
+    };
+    match Table::new(alloc, family, width) {
+        Ok(table) => Ok(table),
+        Err(TableFault::BadWidth) => unreachable!(),
+        Err(TableFault::Memory) => Err(AllocError),
+    }
+}
+
+/// The saved Count-Min table of the records of a reader (Cormode and Muthukrishnan 2005), with the
+/// hash family that is drawn from the seed.
+///
+/// Depth and width are tested, in this order, before anything is read.
+pub fn table_bytes<R: Read + Drop>(
+    alloc: Global,
+    width: u64,
+    depth: u64,
+    seed: u64,
+    reader: R,
+) -> Result<Vec<u8>, ToolError>
+    ensures saved { IfOk result (λ bytes.
+        SavesStream (λ xs. Cells (table_of (drawn_family seed depth) width xs))
+        (R.remaining reader) bytes.items) }
+    ensures refused { IfErr result (λ fault.
+        RefusedAfter (bad_table depth width) (R.remaining reader) fault) }
+    ensures bad_table { IfSome (bad_table depth width) (λ fault. result ≡ Err fault) }
+{
+    if !in_range(depth, MAX_DEPTH) {
+        return Err(ToolError::BadDepth);
+    }
+    if !in_range(width, MAX_WIDTH) {
+        return Err(ToolError::BadWidth);
+    }
+    tables_follow_items();
+    let table = empty_table(alloc, width, depth, seed)?;
+    let table = read_items(alloc, reader, table)?;
+    Ok(write(alloc, &Saved::Cells(table))?)
+}

@@ -1,0 +1,65 @@
+-- Counts after some more items.
+use Rattle.std.proofs.Common.{◌≡◌, ◌<◌, ◌≤◌, ◌+◌, ◌++◌, ◌∷◌, ◌∙◌, ℕ, List, [], cond, length, take, drop, get_or, true, false, append-nil, ap, sym, arith}
+use Rattle.std.specs.Prelude.{All, filter, nat_lt, replicate, zip}
+use Rattle.std.proofs.lemmas.Bool.Decides.{nat_tests}
+use Rattle.std.proofs.lemmas.List.Elements.{filter_more}
+use Rattle.std.proofs.lemmas.Slice.Zip.{get_or-zip, length-zip}
+use Rattle.std.proofs.Math.Seq.{take-append_seam}
+use Rattle.std.proofs.lemmas.List.Sums.{sum_by-append}
+use Rattle.hh_stream.specs.Weights.{Bytes, Entry, total_of}
+use Rattle.hh_counters.specs.Counters.{exceeds}
+use Rattle.hh_counters.specs.Laws.{CountsAddUp, CountsStayWithin}
+use Rattle.hh_counters.specs.Report.{counts_with}
+use Rattle.hh_counters.specs.Counting.{count_of, count_with}
+
+-- a vector holds the numbers that were written over all of it
+pub all-written : (new old : List ℕ) (len : ℕ) → len ≡ length new → take len (new ++ drop (length new) old) ≡ new
+all-written new old len e = rw e (take-append_seam new _)
+
+-- there is a number for each key still, and none is above the new total
+pub counts-within : CountsStayWithin → (ks : List Bytes) (xs : List Entry) (old new : List ℕ) (len total more : ℕ)
+    → len ≡ length old → length old ≡ length ks → All (λ n. n ≤ total) old → total_of xs ≡ more
+    → new ≡ counts_with ks xs old
+    → (take len (new ++ drop (length new) old) ≡ new) × (length new ≡ length ks) × All (λ n. n ≤ total + more) new
+counts-within law ks xs old new len total more whole lengths within weighs is =
+    let (long, bound) = law ks xs old total lengths within in
+    let same : length new ≡ length ks = ap length is ∙ long in (
+      all-written new old len (whole ∙ lengths ∙ sym same),
+      same,
+      λ i d lt. rw (← weighs, is) (bound i d (rw is at lt)),
+    )
+
+-- counting more items is counting all
+pub count-more : CountsAddUp → (ks : List Bytes) (xs ys : List Entry)
+    → count_with (count_of ks xs) ys ≡ count_of ks (xs ++ ys)
+count-more law ks xs ys =
+    let zeros = replicate (length ks) 0 in
+    let all = ap (counts_with ks ys) (sym (law ks xs ys zeros).0) ∙ sym (law ks xs ys zeros).1
+    ∙ (law ks (xs ++ ys) [] zeros).0 in
+    λ i. record { keys = ks; weights = all i; total = sym (sum_by-append (λ (e : Entry). e.1) xs ys) i }
+
+-- the keys that came among the first i, and then the next one
+module _ (ks : List Bytes) (ns : List ℕ) (i n : ℕ) (k : Bytes) (e : length ns ≡ length ks) (l : i < length ks)
+    (key : get_or ks i k ≡ k) (number : get_or ns i n ≡ n) where
+  rows-more : filter (exceeds 0) (take (i + 1) (zip ks ns))
+      ≡ filter (exceeds 0) (take i (zip ks ns)) ++ cond (nat_lt 0 n) ((k, n) ∷ []) []
+  rows-more =
+      let zs = zip ks ns in
+      let at : get_or zs i (k, n) ≡ (k, n) = get_or-zip ks ns i (k, n) l (omega (arith, e, l))
+      ∙ (λ j. (key j, number j)) in
+      filter_more (exceeds 0) zs i (k, n) (omega (arith, e, l, length-zip ks ns))
+      ∙ ap (λ (z : Entry). filter (exceeds 0) (take i zs) ++ cond (exceeds 0 z) (z ∷ []) []) at
+
+  -- the next key came
+  pub rows-came : 0 < n
+      → filter (exceeds 0) (take (i + 1) (zip ks ns)) ≡ filter (exceeds 0) (take i (zip ks ns)) ++ (k, n) ∷ []
+  rows-came some =
+      let test : nat_lt 0 n ≡ true = grind (arith, nat_tests, some) in
+      rows-more ∙ ap (λ b. filter (exceeds 0) (take i (zip ks ns)) ++ cond b ((k, n) ∷ []) []) test
+
+  -- the next key did not come
+  pub rows-absent : n ≤ 0 → filter (exceeds 0) (take (i + 1) (zip ks ns)) ≡ filter (exceeds 0) (take i (zip ks ns))
+  rows-absent none =
+      let test : nat_lt 0 n ≡ false = grind (arith, nat_tests, none) in
+      rows-more ∙ ap (λ b. filter (exceeds 0) (take i (zip ks ns)) ++ cond b ((k, n) ∷ []) []) test
+      ∙ append-nil (filter (exceeds 0) (take i (zip ks ns)))

@@ -1,0 +1,8 @@
+use Rattle.std.proofs.Common.{◌≡◌, take}
+use Rattle.std.specs.Prelude.{filter, zip}
+use Rattle.hh_counters.specs.Counters.{exceeds}
+use Rattle.hh_counters.proofs.counts.Counts.rows.Given as goal
+
+abbrev pub invariant-loop-place : goal.invariant-loop-place
+invariant-loop-place l =
+    l.rows.items ≡ filter (exceeds 0) (take l.place (zip l.self-inside.candidates l.self-inside.weights.items))

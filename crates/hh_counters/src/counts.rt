@@ -1,0 +1,114 @@
+//! The keys of a summary, counted as items come.
+
+ghost use Rattle.std.specs.Prelude.{◌≡◌, ◌+◌, ◌≤◌, ◌∷◌, [], true, IfOk, OnOk, filter, length, zip};
+ghost use Rattle.std.specs.Map.{keys_of};
+ghost use Rattle.hh_stream.specs.Weights.{max_total, total_of};
+ghost use Rattle.hh_counters.specs.Counters.{max_k, IsCounters, exceeds};
+ghost use Rattle.hh_counters.specs.Report.{rows_above};
+ghost use Rattle.hh_counters.specs.Counting.{count_of, count_with};
+ghost use Rattle.hh_stream.specs.Ranges.{in_range};
+
+use crate::candidates::Candidates;
+use crate::laws::{counts_add_up, counts_stay_within};
+use crate::report::Heavy;
+use crate::summary::Summary;
+use hh_stream::Stream;
+use std::alloc::{AllocError, Global};
+use std::marker::Model;
+
+/// The keys of a summary, each with its weight in the items that came, and the total weight of
+/// those.
+#[derive(Drop)]
+pub struct Counts {
+    candidates: Candidates,
+    weights: Vec<u64>,
+    total: u64,
+}
+
+impl Model for Counts {
+    ghost use Rattle.std.specs.Prelude.{◌≡◌, ◌≤◌, All, length};
+    ghost use Rattle.hh_stream.specs.Weights.{max_total};
+    ghost use Rattle.hh_counters.specs.Counting.{Count};
+
+    ghost Value = { Count };
+
+    ghost view = { λ counts. record {
+      keys = counts.candidates;
+      weights = counts.weights.items;
+      total = counts.total;
+    } };
+
+    ghost invariant = { λ counts. (length counts.weights.items ≡ length counts.candidates)
+        × All (λ n. n ≤ counts.total) counts.weights.items × (counts.total ≤ max_total) };
+}
+
+impl Counts {
+    /// The keys of a summary, before any item.
+    pub fn of(alloc: Global, summary: &Summary) -> Result<Counts, AllocError>
+        ensures none { IfOk result (λ counts. counts ≡ count_of (keys_of summary.now.counters) []) }
+        ensures counters { OnOk result (IsCounters summary.now.counters) }
+    {
+        counts_add_up();
+        let candidates = Candidates::of(alloc, summary)?;
+        let weights = vec![in alloc; 0u64; summary.len()]?;
+        Ok(Counts {
+            candidates,
+            weights,
+            total: 0,
+        })
+    }
+
+    /// The total weight of the items that came.
+    pub fn total(&self) -> u64
+        ensures total { result ≡ self.now.total }
+        ensures bounded { result ≤ max_total }
+    {
+        self.total
+    }
+
+    /// Counts an item, of the key with these bytes.
+    pub fn add_bytes(&mut self, key: &[u8], weight: u64)
+        requires { self.old.total + weight ≤ max_total }
+        ensures { self.new ≡ count_with self.old ((key.now, weight) ∷ []) }
+    {
+        counts_stay_within();
+        self.candidates.count_bytes(key, weight, &mut self.weights);
+        self.total += weight;
+    }
+
+    /// Counts the items of a stream.
+    pub fn add_stream(&mut self, stream: &Stream)
+        requires { self.old.total + total_of stream.now ≤ max_total }
+        ensures { self.new ≡ count_with self.old stream.now }
+    {
+        counts_stay_within();
+        self.candidates
+            .count_piece(stream.items(), &mut self.weights);
+        self.total += stream.total();
+    }
+
+    /// The keys above the total divided by k + 1, by falling weight and then by rising key.
+    pub fn select(&self, k: u64) -> Result<Vec<Heavy>, AllocError>
+        requires { in_range k max_k ≡ true }
+        ensures { IfOk result (λ rows. rows.items
+            ≡ rows_above 1 (k + 1) self.now.total (zip self.now.keys self.now.weights)) }
+    {
+        self.candidates.select(&self.weights, self.total, 1, k + 1)
+    }
+
+    /// The keys that came, each with its weight, by rising key.
+    pub fn rows(&self, alloc: Global) -> Result<Vec<Heavy>, AllocError>
+        ensures { IfOk result (λ rows. rows.items
+            ≡ filter (exceeds 0) (zip self.now.keys self.now.weights)) }
+    {
+        let mut rows = Vec::new(alloc);
+        for place in 0..self.candidates.len() {
+            let weight = self.weights[place];
+            if weight > 0 {
+                let key = self.candidates.key(place).copy()?;
+                rows.push(Heavy { key, weight })?;
+            }
+        }
+        Ok(rows)
+    }
+}
