@@ -1,7 +1,7 @@
 //! The analysis of a stream: two passes by workers, and a merge between them.
 
 ghost use Rattle.std.specs.Prelude.{◌≡◌, ◌≢◌, ◌+◌, ◌*◌, ◌≤◌, ◌<◌, ◌∷◌, ◌↔◌, true};
-ghost use Rattle.std.specs.Prelude.{ℕ, List, All, length, map, sum, IfOk, IfSome, IsErrOf};
+ghost use Rattle.std.specs.Prelude.{ℕ, List, All, length, map, sum, IfOk, IfSome, IsErr, IsErrOf, OnErr, OnOk, Err};
 ghost use Rattle.std.specs.List.{range_with_len};
 ghost use Rattle.hh_stream.specs.Weights.{Entry, total_of};
 ghost use Rattle.hh_stream.specs.Cuttings.{pieces_of};
@@ -222,15 +222,8 @@ fn heavy_keys<R: Threads + Wait + Sync, G: Gate + Sync>(
 {
     let (p, q) = options.threshold();
     let candidates = candidates(alloc, summary, table, p, q)?;
-    let weights = weigh(
-        rt,
-        alloc,
-        stream,
-        cutting,
-        &candidates,
-        options.workers(),
-        gate,
-    )?;
+    let workers = options.workers();
+    let weights = weigh(rt, alloc, stream, cutting, &candidates, workers, gate)?;
     candidates.select(&weights, stream.total(), p, q)
 }
 
@@ -263,6 +256,18 @@ fn run_passes<R: Threads + Wait + Sync, G: Gate + Sync>(
     })
 }
 
+/// Whether the plan has as many pieces as the cutting.
+fn check_counts(plan: &Plan, cutting: &Cutting) -> Result<(), RunError>
+    ensures same { OnOk result (length (leaves plan.now) ≡ length cutting.now) }
+    ensures mismatch { OnErr result (length (leaves plan.now) ≢ length cutting.now) }
+    ensures told { IsErr result → result ≡ Err RunError.PlanMismatch }
+{
+    if plan.count() != cutting.count() {
+        return Err(RunError::PlanMismatch);
+    }
+    Ok(())
+}
+
 /// Analyses a stream, with workers that share nothing but atomic sums: they summarise the pieces
 /// and fill the table, the summaries are merged as the plan says, and the workers count those of
 /// the merged summary's keys that can be above the threshold, as far as counters and table tell.
@@ -291,8 +296,6 @@ pub fn analyse<R: Threads + Wait + Sync, G: Gate + Sync>(
     ensures heavy { IfOk result (λ outcome.
         outcome.heavy.items ≡ heavy stream.now options.now.p options.now.q) }
 {
-    if plan.count() != cutting.count() {
-        return Err(RunError::PlanMismatch);
-    }
+    check_counts(plan, cutting)?;
     run_passes(rt, alloc, stream, cutting, plan, options, gate).map_err(|_| RunError::Memory)
 }
