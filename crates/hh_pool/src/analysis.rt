@@ -259,6 +259,8 @@ fn run_passes<R: Threads + Wait + Sync, G: Gate + Sync>(
 /// Whether the plan has as many pieces as the cutting.
 fn check_counts(plan: &Plan, cutting: &Cutting) -> Result<(), RunError>
     ensures same { OnOk result (length (leaves plan.now) ≡ length cutting.now) }
+    ensures plan { OnOk result (IsMergeTree plan.now (length cutting.now)) }
+    ensures some { 0 < length cutting.now }
     ensures mismatch { OnErr result (length (leaves plan.now) ≢ length cutting.now) }
     ensures told { IsErr result → result ≡ Err RunError.PlanMismatch }
 {
