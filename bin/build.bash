@@ -1,13 +1,16 @@
-# What bin/heavy, bin/install and bin/install-library share: `build_heavy` builds the program `heavy`, at "$built", where
-# its sources are newer than what was built, and tells on standard error how far it is. A build that is interrupted ends
-# its provers. `put` installs a file.
+# What bin/heavy, bin/install and bin/install-library share: `build_heavy` builds the program `heavy`, at "$built",
+# where its sources are newer than what was built, and tells on standard error how far it is. Crates of which none
+# stands on another are proved side by side. A build that is interrupted ends its provers. `put` installs a file.
 # shellcheck shell=bash
 top=$(cd "$(dirname "$(readlink -f "${BASH_SOURCE[0]}")")/.." && pwd)
 program="$top/crates/heavy_cli"
 built="$program/out/heavy_cli"
-log="$program/build.log"
-# the process group that an interrupt has to end
-prover=
+# for each crate that is being proved, the process group that does it, and its jobs
+declare -A provers=() jobs=()
+# the crates that are proved, those that were told, and the one that failed
+proved=()
+told=()
+failed=
 
 tell() { printf 'heavy: %s\n' "$*" >&2; }
 
@@ -46,13 +49,18 @@ put() {
 
 minutes_and_seconds() { printf '%d:%02d min' $(($1 / 60)) $(($1 % 60)); }
 
+# Ends all provers.
+end_provers() {
+  local name
+  for name in "${!provers[@]}"; do kill -KILL -- "-${provers[$name]}" 2> /dev/null || true; done
+  for name in "${!provers[@]}"; do wait "${provers[$name]}" 2> /dev/null || true; done
+  provers=()
+}
+
 # Ends the build with all processes of it, and this script by the status.
 end_build() {
   trap - HUP INT TERM
-  if [ -n "$prover" ]; then
-    kill -KILL -- "-$prover" 2> /dev/null || true
-    wait "$prover" 2> /dev/null || true
-  fi
+  end_provers
   tell_over "interrupted; what is proved so far is kept for the next build"
   exit "$1"
 }
@@ -63,66 +71,147 @@ tell_over() {
   tell "$1"
 }
 
-# How far the log says that a build of these crates is: the crate, its number, and its functions so far.
-read_log() {
-  awk -v names="$*" '
-    BEGIN { crates = split(names, list, " "); for (i in list) number[list[i]] = i }
-    /^rt: chose --jobs/ && $NF in number { name = $NF; far = "" }
-    /^so far: [0-9]+ of [0-9]+ functions/ { far = ", " $3 " of " $5 " functions checked" }
-    END { if (name) print "proving " name ", crate " number[name] " of " crates far }' "$log"
+# Whether a word is among others.
+is_among() { [[ " ${*:2} " == *" $1 "* ]]; }
+
+# These crates, first the one with the longest chain of crates from it upwards, by their lines of code.
+by_chain() {
+  local name
+  for name in "$@"; do
+    find "$top/crates/$name/src" -name '*.rt' -exec cat {} + | awk -v name="$name" 'END { print name, NR }'
+  done | awk '
+    function chain(name, above, longest) {
+      for (above in lines)
+        if (index(below[above] " ", " " name " ") && chain(above) > longest) longest = chain(above)
+      return lines[name] + longest
+    }
+    NR == FNR { split($0, halves, ":"); split(halves[1], head, " "); below[head[1]] = halves[2]; next }
+    { lines[$1] = $2 }
+    END { for (name in lines) print chain(name), name }' "$top/crates.txt" - | sort -k 1,1nr -k 2 | awk '{ print $2 }'
 }
 
-# Follows the build while it runs: one line that is written over on a terminal, else a line for each crate.
-follow() {
-  local start=$SECONDS far said=
-  while kill -0 "$prover" 2> /dev/null; do
-    far=$(read_log "$@")
-    if [ -t 2 ]; then
-      printf '\r\033[Kheavy: %s, %s' "${far:-starting}" "$(minutes_and_seconds $((SECONDS - start)))" >&2
-    elif [ "${far%%, [0-9]*}" != "$said" ]; then
-      said=${far%%, [0-9]*}
-      tell "$said, $(minutes_and_seconds $((SECONDS - start)))"
-    fi
-    sleep 0.5
+# How many provers memory has room for, at 2 GB each.
+room_in_memory() {
+  awk '/^MemAvailable:/ { room = int($2 / 2000000) } END { print (room > 1 ? room : 1) }' /proc/meminfo
+}
+
+# Whether all below this crate is proved, and the crate is not begun.
+is_ready() {
+  local name
+  ! is_among "$1" "${proved[@]}" "${!provers[@]}" || return 1
+  for name in $(crates_of "$1"); do is_among "$name" "$1" "${proved[@]}" || return 1; done
+}
+
+# Starts to prove a crate with so many jobs, as a process group of its own. The program is built by `rt run`.
+start_prover() {
+  local words=("$top/bin/prove-crate" "$top/crates/$1" "$2")
+  [ "$1" != heavy_cli ] || words=(rt run -- --help)
+  : > "$top/crates/$1/build.log"
+  set -m
+  (cd "$top/crates/$1" && exec "${words[@]}") > "$top/crates/$1/build.log" 2>&1 < /dev/null 9>&- &
+  set +m
+  provers[$1]=$!
+  jobs[$1]=$2
+}
+
+# Starts those of these crates that are ready, while a processor is free and memory has room. What is proved first or
+# alone has a job for each processor, what joins it half as many, and fewer where another that is ready needs the room.
+start_ready() {
+  local name most=$cores free=$room ready=()
+  for name in "$@"; do ! is_ready "$name" || ready+=("$name"); done
+  for name in "${!provers[@]}"; do free=$((free - jobs[$name])) most=$(((cores + 1) / 2)); done
+  for name in "${ready[@]}"; do
+    if [ "$free" -lt 1 ] || [ "${#provers[@]}" -ge "$cores" ]; then return; fi
+    ready=("${ready[@]:1}")
+    while [ "$most" -gt 1 ] && [ "$most" -gt $((free - ${#ready[@]})) ]; do most=$((most - 1)); done
+    start_prover "$name" "$most"
+    free=$((free - most)) most=$(((cores + 1) / 2))
   done
 }
 
-# Runs the build of these crates as a process group of its own, and gives its status.
-run_build() {
-  : > "$log"
-  set -m
-  (cd "$program" && exec rt run -- --help) > "$log" 2>&1 < /dev/null 9>&- &
-  prover=$!
-  set +m
-  follow "$@"
-  wait "$prover"
+# Notes which provers have ended, and the crate of one that failed.
+note_ended() {
+  local name
+  for name in "${!provers[@]}"; do
+    kill -0 "${provers[$name]}" 2> /dev/null && continue
+    if wait "${provers[$name]}"; then proved+=("$name"); else failed=$name; fi
+    unset "provers[$name]"
+  done
 }
 
-# Waits until no other build holds the lock. (Where there is no flock, rt itself waits, crate by crate.)
-wait_for_lock() {
-  exec 9> "$program/build.lock"
-  if command -v flock > /dev/null && ! flock --nonblock 9; then
-    tell "another build runs in $top; waiting for its end"
-    until flock --nonblock 9; do sleep 0.5; done
-  fi
+# How many functions of a crate are checked, as its log says.
+functions_in() {
+  awk '/^so far: [0-9]+ of [0-9]+ functions/ { far = " " $3 "/" $5 } END { print far }' "$top/crates/$1/build.log"
+}
+
+# Tells how far the crates are: on a terminal by one line that is written over, else by a line for each crate.
+tell_progress() {
+  local name far='' number=0 time
+  time=$(minutes_and_seconds $((SECONDS - start)))
+  for name in "${crates[@]}"; do
+    number=$((number + 1))
+    if ! is_among "$name" "${!provers[@]}" || [ ! -s "$top/crates/$name/build.log" ]; then continue; fi
+    far+=", $name$(functions_in "$name")"
+    if [ -t 2 ] || is_among "$name" "${told[@]}"; then continue; fi
+    told+=("$name")
+    tell "proving $name, crate $number of ${#crates[@]}, $time"
+  done
+  [ ! -t 2 ] || printf '\r\033[K%.79s' "heavy: $time, ${#proved[@]} of ${#crates[@]} crates proved$far" >&2
+}
+
+# Proves these crates, each after those below it, until all are proved or one fails.
+prove() {
+  local cores room all=$((${#proved[@]} + $#))
+  cores=$(nproc)
+  room=$(room_in_memory)
+  while [ -z "$failed" ] && [ "${#proved[@]}" -lt "$all" ]; do
+    start_ready "$@"
+    tell_progress
+    sleep 0.2
+    note_ended
+  done
+  end_provers
+}
+
+# Waits until this file is held by no other, if there is flock, and first tells so.
+wait_for() {
+  command -v flock > /dev/null || return 0
+  flock --nonblock "$1" || tell "$2; waiting for its end"
+  until flock --nonblock "$1"; do sleep 0.5; done
+}
+
+# Proves libraries while no rt works in their folders, which every rt holds in this order too.
+prove_libraries() {
+  local name folder held=()
+  for name in $(printf '%s\n' "$@" | LC_ALL=C sort); do
+    exec {folder}< "$top/crates/$name"
+    wait_for "$folder" "another rt works in crates/$name"
+    held+=("$folder")
+  done
+  prove "$@"
+  for folder in "${held[@]}"; do exec {folder}<&-; done
 }
 
 build_heavy() {
-  local crates status=0 start=$SECONDS
+  local crates start=$SECONDS
   mapfile -t crates < <(crates_of heavy_cli)
   is_stale "$built" "${crates[@]}" || return 0
   command -v rt > /dev/null || { tell "the toolchain's command, rt, is not on the path"; return 1; }
   trap 'end_build 129' HUP
   trap 'end_build 130' INT
   trap 'end_build 143' TERM
-  wait_for_lock
+  exec 9> "$program/build.lock"
+  wait_for 9 "another build runs in $top"
   if is_stale "$built" "${crates[@]}"; then
     tell "proving and building the program, once and after each change of its sources"
-    tell "a first build takes some 12 to 15 minutes on four cores; $log has its lines"
-    run_build "${crates[@]}" || status=$?
-    if [ "$status" -ne 0 ] || [ ! -x "$built" ]; then
-      tell_over "the build failed; the last lines of $log:"
-      tail -n 20 "$log" >&2
+    tell "a first build takes some minutes; crates/*/build.log have its lines"
+    mapfile -t crates < <(by_chain "${crates[@]}")
+    prove_libraries "${crates[@]:0:${#crates[@]}-1}"
+    [ -n "$failed" ] || prove heavy_cli
+    if [ -z "$failed" ] && [ ! -x "$built" ]; then failed=heavy_cli; fi
+    if [ -n "$failed" ]; then
+      tell_over "the build failed; the last lines of $top/crates/$failed/build.log:"
+      tail -n 20 "$top/crates/$failed/build.log" >&2
       return 1
     fi
     touch "$built"

@@ -193,12 +193,85 @@ def try_files(line: Line) -> None:
     line.refuses(["ask", b"\xff", "a"], "file 1: could not be read", 1)
 
 
+def saved_bytes(*fields: str) -> bytes:
+    """The bytes of these fields in hexadecimal."""
+    return bytes.fromhex("".join(fields))
+
+
+# A summary with a 4 and b 1, k = 2 and total 11, and the empty one, in version 1, and the first one in version 2.
+ONE = saved_bytes("48485331 01 0002 000000000000000b 0002 01 61 0000000000000004 01 62 0000000000000001")
+EMPTY = saved_bytes("48485331 01 0002 0000000000000000 0000")
+ONE_IN_2 = saved_bytes("48485332 01 0002 000000000000000b 0002 0001 61 0000000000000004 0001 62 0000000000000001")
+# A family by which the cells can be found by hand, and the cells of a 5, e 2 and b 1; the same table in version 2.
+FAMILY = "00000004 02 0000000000000100 0000000000000001 0000000000000000 0000000000000003 0000000000000001"
+CELLS = "000000000000000000000000000000000000000000000007 0000000000000001"
+OTHER_CELLS = "000000000000000000000000000000000000000000000001 0000000000000007"
+TABLE = saved_bytes("48485331 02", FAMILY, "0000000000000008", CELLS, OTHER_CELLS)
+TABLE_IN_2 = b"HHS2" + TABLE[4:]
+
+
+def table_of_one(weight: int, places: tuple[int, int]) -> bytes:
+    """The table of one item of this family, in version 1."""
+    cells = [reference.number(weight * (place == at), 8) for at in places for place in range(4)]
+    return b"".join([saved_bytes("48485331 02", FAMILY), reference.number(weight, 8), *cells])
+
+
+def try_vectors(line: Line) -> None:
+    """Files of version 1 and 2 byte by byte: what is merged, asked and confirmed of them, and what is refused."""
+    other_family = TABLE[:49] + b"\x02" + TABLE[50:]
+    files = {
+        "one": ONE, "two": ONE_IN_2, "table": TABLE, "table2": TABLE_IN_2, "other": other_family, "byte": b"H",
+        "a4b1": ONE, "b2c3": saved_bytes("48485331 01 0002 0000000000000005 0002 01 62 0000000000000002"
+                                         "01 63 0000000000000003"),
+        "k3": EMPTY[:6] + b"\x03" + EMPTY[7:], "full": EMPTY[:7] + saved_bytes("7fffffffffffffff") + EMPTY[15:],
+        "a": table_of_one(5, (2, 3)), "e": table_of_one(2, (2, 3)), "b": table_of_one(1, (3, 2)),
+    }
+    for name, data in files.items():
+        Path(line.room, name).write_bytes(data)
+    doubled = saved_bytes("48485332 01 0002 0000000000000016 0002 0001 61 0000000000000008 0001 62 0000000000000002")
+    for names, merged in [
+        (["one"], ONE_IN_2), (["two"], ONE_IN_2), (["table"], TABLE_IN_2), (["table2"], TABLE_IN_2),
+        (["one", "one"], doubled), (["one", "two"], doubled), (["a", "e", "b"], TABLE_IN_2),
+        (["a4b1", "b2c3"], saved_bytes("48485332 01 0002 0000000000000010 0001 0001 61 0000000000000001")),
+    ]:
+        line.expect(["merge", *names], (0, merged, b""))
+    Path(line.room, "doubled").write_bytes(doubled)
+    Path(line.room, "whole").write_bytes(line.run(["merge", "a", "e", "b"])[1])
+    line.expect(["ask", "doubled", "a"], (0, b"a,8,12\n", b""))
+    for name in ("one", "two"):
+        line.expect(["ask", name, "a", "z"], (0, b"a,4,6\nz,0,2\n", b""))
+        line.expect(["confirm", name], (0, b"a,6\n", b""))
+        line.refuses(["confirm", name], "file 1: its total is not the input's", 3, b"a,5\n")
+        line.refuses(["ask", name, "a", ""], "key 2: empty", 3)
+        line.refuses(["ask", name, "x" * 4097], "key 1: too long", 3)
+    for name in ("table", "table2", "whole"):
+        line.expect(["ask", name, "a", "b"], (0, b"a,0,7\nb,0,1\n", b""))
+        line.refuses(["confirm", name], "file 1: not a counter summary", 3)
+        line.refuses(["merge", "one", name], "file 2: another kind", 3)
+        line.refuses(["merge", name, "other"], "file 2: another hash family", 3)
+    line.refuses(["merge", "one", "k3"], "file 2: another k", 3)
+    line.refuses(["merge", "one", "full"], "file 2: total too large", 3)
+    line.refuses(["merge", "one", "byte"], "file 2: truncated", 3)
+
+
+def try_digits_and_bytes(line: Line) -> None:
+    """Weights of 20 and 21 digits, and keys of bytes that are no text, up to the longest."""
+    line.refuses(["report"], "record 2: bad weight", 3, b"a,1\nb,000000000000000000001\n")
+    line.expect(["report"], (0, b"a,1\n", b""), b"a,00000000000000000001\n")
+    line.refuses(["report"], "record 1: total too large", 3, b"a,99999999999999999999\n")
+    for key in (b"\xff", b"\xff" * 255, b"\xff" * 256, b"\xff" * 4096):
+        line.expect(["report"], (0, key + b",1\n", b""), key + b"\n")
+    line.refuses(["report"], "record 1: key too long", 3, b"\xff" * 4097 + b"\n")
+    line.refuses(["summarise", "--method", "x"], "method must be mg or ss")
+
+
 def try_usage(line: Line) -> None:
     """Faults of the command line are clap's, with status 2; help has status 0."""
     wrong = [
         [], ["nothing"], ["report", "--nothing"], ["report", "--k", "x"], ["report", "--k", "-1"], ["report", "--k"],
         ["report", "word"], ["report", "--k", "18446744073709551616"], ["merge"], ["ask", "0.heavy"], ["confirm"],
-        ["confirm", "0.heavy", "1.heavy"], ["condense"], ["condense", "0.heavy", "1.heavy"], ["ask", "0.heavy", "-a"], [b"\xff"], ["report", "--k", b"\xff"],
+        ["confirm", "0.heavy", "1.heavy"], ["condense"], ["condense", "0.heavy", "1.heavy"], ["ask", "0.heavy", "-a"],
+        [b"\xff"], ["report", "--k", b"\xff"],
     ]
     for words in wrong:
         status, out, err = line.run(words)
@@ -243,6 +316,8 @@ def main() -> None:
         try_refused_options(line)
         try_trees(line)
         try_files(line)
+        try_vectors(line)
+        try_digits_and_bytes(line)
         try_usage(line)
         try_help(line)
         line.tally.end("command line")

@@ -90,13 +90,14 @@ def structures() -> list[str]:
     return lines
 
 
-def parameter(kind: str) -> str:
-    """A parameter of a signature as C has it; a slice is a pointer and a length."""
+def parameter(name: str, kind: str) -> str:
+    """A parameter of a signature as C has it; a slice is a pointer and a length, and one of lengths is so many parts."""
     if kind in TYPES:
-        return TYPES[kind]
+        return f"{TYPES[kind]} {name}"
     lent, element = re.fullmatch(r"&(mut )?(\[\w+\]|\w+)", kind).groups()
-    pointer = f"{'' if lent else 'const '}{TYPES[element.strip('[]')]} *"
-    return f"{pointer}, size_t" if element.startswith("[") else pointer
+    pointer = f"{'' if lent else 'const '}{TYPES[element.strip('[]')]} *{name}"
+    length = "count" if name == "lengths" else f"{name}_len"
+    return f"{pointer}, size_t {length}" if element.startswith("[") else pointer
 
 
 def calls() -> dict[str, str]:
@@ -104,9 +105,16 @@ def calls() -> dict[str, str]:
     made = {}
     source = (FFI / "src" / "lib.rt").read_text()
     for name, words in re.findall(r'^pub extern "C" fn (\w+)\(([^)]*)\) -> u32$', source, re.M):
-        kinds = [kind for kind in re.findall(r"\w+: ([^,]+)", words) if kind != "Global"]
-        made[name] = f"uint32_t {name}({', '.join(map(parameter, kinds)) or 'void'});"
+        words = [it for it in re.findall(r"(\w+): ([^,]+)", words) if it[1] != "Global"]
+        made[name] = f"uint32_t {name}({', '.join(parameter(*it) for it in words) or 'void'});"
     return made
+
+
+def declarations(header: str) -> dict[str, str]:
+    """The declaration of each call in a header, by name, on one line."""
+    found = re.findall(r"^uint32_t (\w+)\([^;]*;", header, re.M)
+    texts = re.findall(r"^uint32_t \w+\([^;]*;", header, re.M)
+    return {name: re.sub(r"\s+", " ", text) for name, text in zip(found, texts)}
 
 
 def asserts() -> str:
@@ -117,10 +125,12 @@ def asserts() -> str:
 
 
 def compiles(header: str, room: str) -> tuple[bool, str]:
-    """Whether this header says what it has to, and else what the toolchain's clang says."""
+    """Whether this header says what it has to, with parameters of these names, and else what differs."""
     for name, text in (("heavy.h", header), ("asserts.c", asserts())):
         Path(room, name).write_text(text)
     places = ["-nostdinc", f"-I{room}", f"-I{HEADERS}"]
     words = [programs.clang(), "-std=c11", "-Wall", "-Werror", *places, "-fsyntax-only"]
     ran = subprocess.run([*words, f"{room}/asserts.c"], capture_output=True, text=True)
-    return ran.returncode == 0, ran.stderr
+    named = declarations(header)
+    others = [text for name, text in calls().items() if named.get(name) != text]
+    return ran.returncode == 0 and not others, f"{ran.stderr}{others}"

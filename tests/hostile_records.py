@@ -1,12 +1,15 @@
 #!/usr/bin/env python3
-"""Feeds mutated records to `report`, `summarise`, `confirm` and `condense`, and compares what they say with tests/reference.py:
-the same items, or the same first bad record with its number and cause.
+"""Feeds mutated records to `report`, `summarise`, `table`, `confirm` and `condense`, and compares what they say with
+tests/reference.py: the same items, or the same first bad record with its number and cause.
 
 usage: tests/hostile_records.py [CASES [SEED]]
 
 Prints the seed, how many cases ran and differed.
 """
+import functools
+
 import hostile
+import programs
 import reference
 
 FIELDS = [
@@ -46,10 +49,27 @@ def text(draw) -> bytes:
     return bytes(data)
 
 
+@functools.lru_cache
+def empty_table(options: tuple[str, ...]) -> bytes:
+    """The table of no record, whose family these options draw."""
+    return programs.run([programs.built("heavy_cli"), "table", *options]).out
+
+
+def table(text: bytes, empty: bytes) -> bytes:
+    """The table of these records by the family of an empty one."""
+    items = reference.items_of(text)
+    made = reference.read(empty)
+    made.total = reference.total_of(items)
+    for key, weight in items:
+        for row, place in zip(made.cells, reference.places(made, key)):
+            row[place] += weight
+    return reference.written(made)
+
+
 def case(draw) -> hostile.Case:
     given, k = text(draw), draw.choice([1, 2, 3, 9, 65535])
     options = ["--k", str(k)]
-    match draw.randrange(5):
+    match draw.randrange(6):
         case 0:
             method = draw.choice(["mg", "ss"])
             expected = reference.answer(reference.summarise, given, k)
@@ -62,6 +82,10 @@ def case(draw) -> hostile.Case:
             saved = reference.summarise(draw.choice(OTHER_KEYS), k)
             expected = reference.answer(reference.condense, saved, given)
             return hostile.Case(["condense"], [saved], [], given, expected)
+        case 3:
+            words = ("--width", draw.choice(["1", "5", "8"]), "--depth", draw.choice("13"), "--seed", draw.choice("07"))
+            expected = reference.answer(table, given, empty_table(words))
+            return hostile.Case(["table", *words], [], [], given, expected)
     share = draw.choice([None, None, b"1/2", b"2/3", b"1/10", b"0001/3", b"1/0", b"1/4294967296", b"x"])
     if share is not None:
         options += ["--threshold", share.decode()]

@@ -1,14 +1,16 @@
 #!/usr/bin/env python3
-"""Installs the built program and runs what was installed; and builds by a stand-in of the toolchain's command: what
-the build says, that one is enough for two that begin at once, that none runs where nothing is to be built, and that an
-interrupted one leaves no process. The library for C is installed of what the stand-in leaves, and left out where there
-is no C compiler; it is built over the crates that `rt ci` left, where they are as it left them.
+"""Installs the built program and runs what was installed; and builds by stand-ins of the toolchain: what the build
+says, which crates it proves side by side, that one build is enough for two that begin at once, that none runs where
+nothing is to be built, and that one that is interrupted or fails leaves no process. The library for C is installed of
+what the stand-in leaves, and left out where there is no C compiler; it is built over the crates that `rt ci` left,
+where they are as it left them.
 
 usage: tests/install.py
 """
 import ctypes
 import os
 import pty
+import re
 import shutil
 import signal
 import subprocess
@@ -34,10 +36,16 @@ LEFT_OUT = b"heavy: the library for C is left out: it needs a C compiler, cc or 
 # what the scripts call, besides a C compiler and ar
 TOOLS = [
     "bash", "env", "dirname", "readlink", "awk", "find", "sed", "cp", "chmod", "mv", "mkdir", "mktemp", "rm", "ln",
-    "cat", "tail", "touch", "sleep", "sh",
+    "cat", "tail", "touch", "sleep", "sh", "sort", "nproc",
 ]
-# It tells what rt tells, counts its runs, and leaves a program; in between it waits, with a process below it.
+# It tells what rt tells, notes what it does, and leaves a program. Of a slow crate it waits, with a process below it.
 STAND_IN = """#!/usr/bin/env bash
+wait_if_slow() {
+  [[ " $SLOW " == *" $1 "* ]] || return 0
+  sleep "$SECONDS_TO_RUN" &
+  echo $! >> "$CHILDREN"
+  wait
+}
 case $1 in
   doc) echo "$KIT/START-HERE.md"; exit ;;
   lib)
@@ -47,18 +55,46 @@ case $1 in
     mkdir -p out
     exec cp "$KIT/calls.a" out/libheavy_ffi.a
     ;;
+  prove)
+    echo "begin $2 ${*:3}" >> "$PROOFS"
+    echo "so far: 3 of 37 functions checked; the verdict comes last"
+    wait_if_slow "$2"
+    echo "end $2" >> "$PROOFS"
+    echo "the stand-in's last line"
+    [ "$2" != "$FAILING" ]
+    exit
+    ;;
 esac
 echo run >> "$RUNS"
-echo "rt: chose --jobs 2 for hh_stream"
-echo "so far: 3 of 37 functions checked; the verdict comes last"
-sleep "$SECONDS_TO_RUN" &
-echo $! >> "$CHILDREN"
-wait
+wait_if_slow heavy_cli
 echo "the stand-in's last line"
 [ "$OUTCOME" = 0 ] || exit "$OUTCOME"
 mkdir -p out
 printf '#!/bin/sh\\necho "built: $*"\\n' > out/heavy_cli
 chmod +x out/heavy_cli
+"""
+# What bin/prove-crate calls of the toolchain: a crate by its folder, which hands its proof to that stand-in.
+RTLIB = """import os
+import subprocess
+
+
+def guarded():
+    pass
+
+
+def root_above(folder):
+    return os.path.dirname(os.path.dirname(folder))
+
+
+class Crate:
+    def __init__(self, folder, root, known):
+        self.name = os.path.basename(folder)
+
+    def is_built(self):
+        return False
+
+    def build_rlib(self, flags, anew):
+        return subprocess.call([f"{os.path.dirname(__file__)}/rt", "prove", self.name, *flags])
 """
 # The compiler of that toolchain. It tells what it was given, and leaves a library.
 COMPILER = """#!/usr/bin/env bash
@@ -78,23 +114,28 @@ class Copy:
         shutil.copytree(programs.TOP / "bin", self.top / "bin")
         shutil.copy(programs.TOP / "crates.txt", self.top)
         for line in (self.top / "crates.txt").read_text().splitlines():
-            (self.top / "crates" / line.split(":")[0].split()[0] / "src").mkdir(parents=True)
-        source = self.top / "crates" / "heavy_cli" / "src" / "main.rt"
-        source.write_text("// a program\n")
-        self.source = source
-        self.runs, self.children = self.top / "runs", self.top / "children"
+            source = self.top / "crates" / line.split(":")[0].split()[0] / "src" / "lib.rt"
+            source.parent.mkdir(parents=True)
+            source.write_text("// a crate\n")
+        self.source = self.top / "crates" / "heavy_cli" / "src" / "lib.rt"
+        self.runs, self.children, self.proofs = (self.top / name for name in ("runs", "children", "proofs"))
         tools = self.top / "tools"
         tools.mkdir()
-        (tools / "rt").write_text(STAND_IN)
-        (tools / "rt").chmod(0o755)
+        for file, text in (("rt", STAND_IN), ("rtlib.py", RTLIB), ("nproc", "#!/bin/sh\necho $PROCESSORS\n")):
+            (tools / file).write_text(text)
+            (tools / file).chmod(0o755)
         self.path = f"{tools}:{os.environ['PATH']}"
         self.kit = self.top / "kit"
 
-    def environment(self, seconds: float = 0, outcome: int = 0, path: str | None = None) -> dict[str, str]:
-        """What the stand-in hears: how long a build takes, and how it ends."""
+    def environment(
+        self, seconds: float = 0, outcome: int = 0, path: str | None = None, slow: str = "hh_stream",
+        failing: str = "", processors: int = 4,
+    ) -> dict[str, str]:
+        """What the stand-ins hear: how long slow crates take, how the program's build ends, and which crate fails."""
         return {
             "PATH": path or self.path, "RUNS": str(self.runs), "CHILDREN": str(self.children),
-            "SECONDS_TO_RUN": str(seconds), "OUTCOME": str(outcome), "KIT": str(self.kit),
+            "PROOFS": str(self.proofs), "SECONDS_TO_RUN": str(seconds), "OUTCOME": str(outcome), "KIT": str(self.kit),
+            "SLOW": slow, "FAILING": failing, "PROCESSORS": str(processors),
         }
 
     def add_library(self) -> None:
@@ -115,10 +156,10 @@ class Copy:
         env = {**self.environment(**how), "DESTDIR": destdir}
         return programs.run([str(self.top / "bin" / "install"), prefix], env=env)
 
-    def start(self, seconds: float = 0, outcome: int = 0, path: str | None = None, **how) -> subprocess.Popen:
-        """`bin/heavy report` with a stand-in that takes so long and ends so."""
-        env = self.environment(seconds, outcome, path)
-        how = {"stdin": subprocess.DEVNULL, "stdout": subprocess.PIPE, "stderr": subprocess.PIPE, "env": env, **how}
+    def start(self, *words, stderr: int = subprocess.PIPE, preexec_fn=None, **named) -> subprocess.Popen:
+        """`bin/heavy report` in this environment."""
+        how = {"stdin": subprocess.DEVNULL, "stdout": subprocess.PIPE, "stderr": stderr, "preexec_fn": preexec_fn}
+        how["env"] = self.environment(*words, **named)
         return subprocess.Popen([self.top / "bin" / "heavy", "report"], **how)
 
     def run(self, *words, **how) -> tuple[int, bytes, bytes]:
@@ -129,11 +170,15 @@ class Copy:
     def builds(self) -> int:
         return len(self.runs.read_text().split()) if self.runs.exists() else 0
 
-    def waits_for_child(self) -> int:
-        """The process that the stand-in started, once it did."""
+    def proof_lines(self) -> list[str]:
+        """What the stand-in noted of proofs."""
+        return self.proofs.read_text().splitlines() if self.proofs.exists() else []
+
+    def waits_for_child(self, count: int = 1) -> list[int]:
+        """The processes that the stand-ins started, once there are so many."""
         for _ in range(SOON * 20):
-            if self.children.exists() and self.children.read_text().endswith("\n"):
-                return int(self.children.read_text().split()[-1])
+            if self.children.exists() and self.children.read_text().count("\n") >= count:
+                return [int(child) for child in self.children.read_text().split()]
             time.sleep(0.05)
         raise TimeoutError("the stand-in was not started")
 
@@ -171,6 +216,9 @@ def try_builds(tally: programs.Tally, room: str) -> None:
     tally.check("it says at once what it does", err.startswith(BEGIN), err)
     tally.check("it tells the crate", b"heavy: proving hh_stream, crate 1 of 9, " in err, err)
     tally.check("it has a line for each crate", b"\r" not in err and err.count(b"hh_stream") == 1, err)
+    begun = sorted(line.split()[1] for line in copy.proof_lines() if line.startswith("begin"))
+    below = sorted(set(crates_below("heavy_cli")))
+    tally.check("each crate below is proved once", begun == below, (begun, below))
     found = copy.run()
     tally.check("a built program is run without a word", found == (0, b"built: report\n", b""), found)
     tally.check("it was built once", copy.builds() == 1, copy.builds())
@@ -180,6 +228,32 @@ def try_builds(tally: programs.Tally, room: str) -> None:
     tally.check("a changed source is built", (status, copy.builds()) == (0, 2) and err.startswith(BEGIN), err)
 
 
+def crates_below(name: str) -> list[str]:
+    """The crates of the repository that this one stands on, by crates.txt."""
+    lines = (line.split(":") for line in (programs.TOP / "crates.txt").read_text().splitlines())
+    direct = {head.split()[0]: words.split() for head, words in lines}
+    return [it for dep in direct[name] if dep in direct for it in (*crates_below(dep), dep)]
+
+
+def try_order(tally: programs.Tally, room: str) -> None:
+    """Crates that don't stand on each other are proved at once, and each after those below it; one at a time on one
+    processor."""
+    slow = ["hh_counters", "hh_countmin", "hh_pool", "hh_saved", "hh_records"]
+    for processors in (4, 1):
+        copy = Copy(room, f"order{processors}")
+        status, out, err = copy.run(0.5, slow=" ".join(slow), processors=processors)
+        lines = [line.split() for line in copy.proof_lines()]
+        tally.check(f"a build on {processors}", (status, out) == (0, b"built: report\n"), (status, out, err))
+        at = {(words[0], words[1]): place for place, words in enumerate(lines)}
+        after = all(at["end", it] < at["begin", name] for _, name in at for it in crates_below(name))
+        tally.check(f"crates below come first on {processors}", after, lines)
+        met = {frozenset((a, b)) for a in slow for b in slow if at["begin", a] < at["begin", b] < at["end", a]}
+        wanted = {frozenset(pair) for pair in (slow[:2], slow[2:4], slow[3:], slow[2::2])} if processors == 4 else set()
+        tally.check(f"proved at once on {processors}", met == wanted, lines)
+        jobs = {words[1]: int(words[3]) for words in lines if words[0] == "begin"}
+        tally.check(f"jobs on {processors}", max(jobs.values()) == processors, jobs)
+
+
 def try_failures(tally: programs.Tally, room: str) -> None:
     """A build that fails shows the end of its log, and where the whole is; no toolchain is told as such."""
     copy = Copy(room, "failures")
@@ -187,22 +261,35 @@ def try_failures(tally: programs.Tally, room: str) -> None:
     log = os.fsencode(copy.top / "crates" / "heavy_cli" / "build.log")
     told = b"the build failed; the last lines of " + log in err and b"the stand-in's last line\n" in err
     tally.check("a failed build", (status, out) == (1, b"") and told, (status, out, err))
+    beside = Copy(room, "beside")
+    started = beside.start(600, slow="hh_counters hh_saved", failing="hh_countmin")
+    out, err = started.communicate(timeout=SOON)
+    log = os.fsencode(beside.top / "crates" / "hh_countmin" / "build.log")
+    told = b"the build failed; the last lines of " + log in err and b"the stand-in's last line\n" in err
+    tally.check("a crate that fails", (started.returncode, out) == (1, b"") and told, (started.returncode, out, err))
+    children = beside.waits_for_child()
+    tally.check("the crate beside it ends", len(children) == 1 and ends(children[0]), children)
+    begun = [line for line in beside.proof_lines() if line.startswith("begin hh_saved")]
+    tally.check("no crate above it is begun", begun == [] and beside.builds() == 0, begun)
     found = copy.run(path=no_compiler(copy.top / "others"))
     tally.check("no toolchain", found == (1, b"", b"heavy: the toolchain's command, rt, is not on the path\n"), found)
 
 
 def try_interrupts(tally: programs.Tally, room: str) -> None:
     """An interrupted build ends what it started, and the next one builds."""
-    for number in (signal.SIGINT, signal.SIGTERM, signal.SIGHUP):
+    for number, slow, count in (
+        (signal.SIGINT, "hh_counters hh_countmin", 2), (signal.SIGTERM, "hh_stream", 1),
+        (signal.SIGHUP, "heavy_cli", 1),
+    ):
         copy = Copy(room, number.name)
         # a process that is started in the background of a shell may have these signals ignored; not this one
-        started = copy.start(600, preexec_fn=lambda: signal.signal(number, signal.SIG_DFL))
-        child = copy.waits_for_child()
+        started = copy.start(600, slow=slow, preexec_fn=lambda: signal.signal(number, signal.SIG_DFL))
+        children = copy.waits_for_child(count)
         started.send_signal(number)
         _, err = started.communicate(timeout=SOON)
         status = started.returncode
         tally.check(f"{number.name} ends the build", status == 128 + number and b"interrupted" in err, (status, err))
-        tally.check(f"{number.name} leaves no process", ends(child), child)
+        tally.check(f"{number.name} leaves no process", all(map(ends, children)), children)
         status, out, err = copy.run()
         tally.check(f"the build after {number.name}", (status, out) == (0, b"built: report\n"), (status, out, err))
 
@@ -242,7 +329,8 @@ def try_terminal(tally: programs.Tally, room: str) -> None:
         pass  # the other side is closed
     os.close(terminal)
     said = said.replace(b"\r\n", b"\n")
-    told = said.count(b"\r\x1b[Kheavy: proving hh_stream, crate 1 of 9, 3 of 37 functions checked, 0:0")
+    line = rb"\r\x1b\[Kheavy: 0:0\d min, \d of 9 crates proved, hh_stream 3/37"
+    told = len(re.findall(line, said))
     tally.check("a terminal's line is written over", out == b"built: report\n" and told > 1, said)
     tally.check("nothing of it is left", said.count(b"\n") == 3 and b"\r\x1b[Kheavy: built in " in said, said)
 
@@ -352,6 +440,7 @@ def main() -> None:
     tally = programs.Tally()
     with tempfile.TemporaryDirectory() as room:
         try_builds(tally, room)
+        try_order(tally, room)
         try_failures(tally, room)
         try_interrupts(tally, room)
         try_two(tally, room)

@@ -36,6 +36,8 @@ DRIFTS = [
     ("    uint64_t counter;\n", "    int64_t counter;\n"),
     ("size_t text_len, uint64_t k, uint32_t method,", "size_t text_len, uint32_t method, uint64_t k,"),
     ("uint32_t heavy_ask(const uint8_t *file", "uint32_t heavy_ask(uint8_t *file"),
+    ("uint64_t width, uint64_t depth, uint64_t seed", "uint64_t depth, uint64_t width, uint64_t seed"),
+    ("const uint8_t *key, size_t key_len, uint64_t *low", "const uint8_t *key, size_t key_len, uint64_t *least"),
 ]
 
 

@@ -95,15 +95,21 @@ fn described<'a>(alloc: Global, name: &'a str, help: Help) -> Command<'a>
         .after_long_help(help.end)
 }
 
+/// The option that tells how far the input is read.
+fn progress<'a>(alloc: Global) -> Arg<'a>
+    ensures { result.global ≡ false }
+{
+    let told = "Tell on standard error how far standard input is read, about once a second";
+    option(alloc, PROGRESS, told)
+        .action(ArgAction::SetTrue)
+        .display_order(LAST)
+}
+
 /// The command with this name and help, which reads records and can tell how far it is.
 fn reader<'a>(alloc: Global, name: &'a str, help: Help) -> Result<Command<'a>, AllocError>
     ensures { IfOk result (λ c. (fields_of c).has_globals ≡ false) }
 {
-    let told = "Tell on standard error how far standard input is read, about once a second";
-    let progress = option(alloc, PROGRESS, told)
-        .action(ArgAction::SetTrue)
-        .display_order(LAST);
-    described(alloc, name, help).arg(progress)
+    described(alloc, name, help).arg(progress(alloc))
 }
 
 /// A word that has to be given.

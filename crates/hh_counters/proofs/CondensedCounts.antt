@@ -8,9 +8,10 @@ use Rattle.std.specs.Int.Digits.{digits_of}
 use Rattle.std.proofs.lemmas.Bool.{cases_lt, cond_both}
 use Rattle.std.proofs.lemmas.Bool.Decides.{nat_tests}
 use Rattle.std.proofs.lemmas.Int.Digits.{all_below_base_digits_of, length-digits_of-le}
-use Rattle.std.proofs.lemmas.List.{length-map}
+use Rattle.std.proofs.lemmas.List.{length-append, length-map}
 use Rattle.std.proofs.lemmas.List.Elements.{recursion_from_All, All-weaker, filter_passes}
 use Rattle.std.proofs.lemmas.List.Filters.{sum_by-filter_both}
+use Rattle.std.proofs.lemmas.List.Sums.{length-filter, count_by-le-length}
 use Rattle.hh_stream.specs.Weights.{Bytes, Entry, IsKey, key_cmp, weight_of, total_of}
 use Rattle.hh_counters.specs.Counters.{Counters, IsCounters, add_at, max_k, tally, exceeds}
 use Rattle.hh_counters.specs.Report.{has_counter, weights_at}
@@ -93,6 +94,26 @@ condensed_counts c xs h p =
     sym (total_of-tally (filter (has_counter c) xs)) ∙ ap total_of kept in
     let rest : other_weight c xs ≡ total_of xs - total_of counts = omega (arith, both, held) in
     (omega (arith, both, held), ap₂ (λ (es : List Entry) n. es ++ entry_of (free_name c) n) kept rest)
+
+-- there are at most as many as counters, and one more
+pub few-condensed : (c : Counters) (xs : List Entry) → IsCounters c → All (λ e. 0 < e.1) xs
+    → length (condensed c xs) ≤ length c + 1
+few-condensed c xs h p =
+    let pairs : List Entry = zip (keys_of c) (weights_at (keys_of c) xs) in
+    let counts : List Entry = filter (exceeds 0) pairs in
+    let rest : List Entry = entry_of (free_name c) (total_of xs - total_of counts) in
+    let one : length rest ≤ 1 = cond_both (nat_lt 0 (total_of xs - total_of counts)) _ _ (λ (es : List Entry). length es ≤ 1)
+    (λ _. omega arith) (λ _. omega arith) in
+    omega (
+      arith,
+      ap length (condensed_counts c xs h p).1,
+      length-append counts rest,
+      length-filter (exceeds 0) pairs,
+      count_by-le-length (exceeds 0) pairs,
+      ap length (zip-weights_at c xs),
+      length-map c (λ (e : Entry). let d : Entry = (e.0, weight_of e.0 xs) in d),
+      one,
+    )
 
 -- ---- the keys
 all_keys-add_at : (P : Bytes → Type 0) (c : Counters) (e : Entry) → AllByRecursion (λ (d : Entry). P d.0) c → P e.0

@@ -45,7 +45,7 @@ exact_share : heavy ((a, 1) ∷ (b, 1) ∷ (c, 1) ∷ []) 1 3 ≡ []
 unfolding tally by_rank
 exact_share = refl
 
--- equal weights bounds by rising key
+-- equal weights stand by rising key
 equal_weights : heavy ((b, 2) ∷ (a, 2) ∷ []) 1 4 ≡ (a, 2) ∷ (b, 2) ∷ []
 unfolding tally by_rank
 equal_weights = refl

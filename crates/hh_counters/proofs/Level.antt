@@ -166,6 +166,13 @@ total_of-lower u (e ∷ c) =
     (λ p. grind (arith, nat_tests, p, mul-one (u + 1))) (λ p. omega (arith, mul-zero (u + 1))) in
     omega arith)
 
+-- less 0 is all
+pub total_of-lower_0 : (c : Counters) → total_of (lower 0 c) ≡ total_of c
+total_of-lower_0 [] = ap total_of (lower-nil 0)
+total_of-lower_0 (e ∷ c) = by_lower (λ d. total_of d ≡ total_of (e ∷ c)) 0 e c
+    (λ l. omega (arith, total_of-cons (e.0, e.1 - 0) (lower 0 c), total_of-cons e c, total_of-lower_0 c))
+    (λ m. omega (arith, total_of-cons e c, total_of-lower_0 c, m))
+
 -- lowering adds nothing to the total
 pub total_of-lower-le : (t : ℕ) (c : Counters) → total_of (lower t c) ≤ total_of c
 total_of-lower-le t [] = omega (arith, ap total_of (lower-nil t))

@@ -1,6 +1,6 @@
 -- The report holds exactly the heavy keys, in order, and each of them has a counter in honest counters.
 use Rattle.std.proofs.Common.{◌≡◌, ℕ, suc, ◌+◌, ◌-◌, ◌*◌, ◌/◌, ◌<◌, ◌≤◌, ⊎_elim, Bool, true, false, true≢false, not, cond, List, [], ◌∷◌, length, Ordering, Less, Equal, Greater, is_lt, is_eq, nat_cmp, refl, sym, ap, ap₂, ◌∙◌, subst, mul_comm, mul_assoc, mul-le-mul_left, mul-le-mul_right, mul-zero, mul-add, arith}
-use Rattle.std.specs.Prelude.{map, fold, filter, nat_lt, zip, get_or, take, ◌++◌, Contains, IsPermutation, IsSortedBy, All}
+use Rattle.std.specs.Prelude.{map, fold, filter, nat_lt, zip, get_or, take, ◌++◌, ◌↔◌, Contains, IsPermutation, IsSortedBy, All}
 use Rattle.std.specs.List.{AllByRecursion}
 use Rattle.std.specs.List.Sorted.{IsStrictlySortedBy}
 use Rattle.std.specs.Map.{keys_of}
@@ -174,6 +174,19 @@ heavy_is_report xs p q = record {
   ranked = sorted-by_rank _ (rising-filter (is_heavy p q (total_of xs)) (tally xs) (rising-tally xs));
   exact = λ x w. (λ h. in_heavy xs p q x w h, λ h. heavy_in xs p q x w h.0 h.1);
 }
+
+-- of distinct keys the rows above a share are those that pass, in order
+pub rows_are_exact : (p q n : ℕ) (es : List Entry) → IsStrictlySortedBy key_cmp (keys_of es)
+    → IsStrictlySortedBy rank_cmp (rows_above p q n es)
+    × ((e : Entry) → Contains (rows_above p q n es) e ↔ (Contains es e × (p * n < q * e.1)))
+rows_are_exact p q n es h =
+    let test : Entry → Bool = is_heavy p q n in (
+      sorted-by_rank _ (rising-filter test es h),
+      λ e. (
+        λ i. let passed = in_filter test e es (in-by_rank e _ i) in (passed.0, grind (arith, nat_tests, passed.1)),
+        λ i. by_rank-in e _ (filter_in test e es i.0 (grind (arith, nat_tests, i.1))),
+      ),
+    )
 
 -- ---- heavy keys have counters
 near_zero : (k p q n w t : ℕ) → q ≤ p * (k + 1) → (k + 1) * w + t ≤ n → n * p < q * w → ⊥

@@ -1,5 +1,5 @@
 -- Runs of Space-Saving: their translation, and how far their counters lie from the true weights.
-use Rattle.std.proofs.Common.{◌≡◌, ℕ, ◌+◌, ◌<◌, ◌≤◌, ◌⊎◌, inl, inr, ⊎_elim, Bool, true, false, cond, suc, Less, Equal, Greater, is_gt, List, [], ◌∷◌, length, refl, sym, ap, ap₂, ◌∙◌, subst, add-zero, arith}
+use Rattle.std.proofs.Common.{◌≡◌, ℕ, ◌+◌, ◌<◌, ◌≤◌, ◌⊎◌, inl, inr, ⊎_elim, Bool, true, false, cond, suc, Less, Equal, Greater, is_gt, List, [], ◌∷◌, ◌++◌, length, refl, sym, ap, ap₂, ◌∙◌, subst, add-zero, arith}
 use Rattle.std.specs.Prelude.{All, Contains, nat_lt, nat_le, fold, ◌||◌, ◌==◌, min}
 use Rattle.std.specs.List.{AllByRecursion}
 use Rattle.std.specs.List.Sorted.{IsStrictlySortedBy}
@@ -247,3 +247,17 @@ steps_are_a_run xs k p = steps_from xs k [] (recursion_from_All (λ (e : Entry).
 pub step_kept : (s : Counters) (e : Entry) (k : ℕ) → 0 < e.1 → IsKept s k
     → IsKept (step s e k) k × (total_of (step s e k) ≡ total_of s + e.1)
 step_kept s e k p h = let d = stepped s e k (step s e k) p h (step_is_step s e k h.counters) in (d.kept, d.total)
+
+-- ---- runs go on
+-- a step after a run is a run
+pub run_more : (xs : List Entry) (e : Entry) (k : ℕ) (s t u : Counters) → IsRunFrom s xs k t → IsStep t e k u
+    → IsRunFrom s (xs ++ e ∷ []) k u
+run_more [] e k s t u r st = (u, subst (λ (c : Counters). IsStep c e k u) (sym r) st, refl)
+run_more (x ∷ xs) e k s t u r st = (r.0, r.1, run_more xs e k r.0 t u r.2 st)
+
+-- so is the product's
+pub run_step : (xs : List Entry) (e : Entry) (k : ℕ) (s : Counters) → All (λ (e : Entry). 0 < e.1) xs → IsRun xs k s
+    → IsRun (xs ++ e ∷ []) k (step s e k)
+run_step xs e k s p r =
+    let kept = (run_kept xs k [] s (recursion_from_All (λ (e : Entry). 0 < e.1) xs p) (none_kept k) r).0 in
+    run_more xs e k [] s (step s e k) r (step_is_step s e k kept.counters)

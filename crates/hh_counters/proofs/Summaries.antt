@@ -7,9 +7,9 @@ use Rattle.std.proofs.lemmas.List.Sorted.{sum_by-IsPermutation}
 use Rattle.std.proofs.lemmas.List.Sums.{fold_push}
 use Rattle.std.specs.List.Sorted.{IsStrictlySortedBy}
 use Rattle.hh_stream.specs.Weights.{Bytes, Entry, at_key, weight_of, total_of}
-use Rattle.hh_counters.specs.Counters.{Counters, IsCounters, add_at, over, IsLevel, level, lower, least_counter, plus, join, misra_gries, IsHonest, Fits, sketch_with, sketch_of}
-use Rattle.hh_counters.proofs.Weights.{by_add_at, by_key, same_counters, plus_is_fold, rising-add_at, positive-add_at, weight_of-cons, weight_of-append, total_of-append, rising-tally, weight_of-plus, total_of-plus}
-use Rattle.hh_counters.proofs.Level.{over-cons, is_level, one_level, level_one_more, level_few, lower-cons, by_lower, length-lower, weight_of-lower, total_of-lower, total_of-lower-le, counters-lower}
+use Rattle.hh_counters.specs.Counters.{Counters, IsCounters, add_at, tally, over, IsLevel, level, lower, least_counter, plus, join, misra_gries, IsHonest, Fits, sketch_with, sketch_of}
+use Rattle.hh_counters.proofs.Weights.{by_add_at, by_key, same_counters, plus_is_fold, rising-add_at, positive-add_at, weight_of-cons, weight_of-append, total_of-append, rising-tally, weight_of-tally, total_of-tally, weight_of-plus, total_of-plus}
+use Rattle.hh_counters.proofs.Level.{over-cons, is_level, one_level, level_one_more, level_few, lower-cons, by_lower, length-lower, weight_of-lower, total_of-lower, total_of-lower_0, total_of-lower-le, counters-lower}
 
 -- ---- a join
 -- a join is counters
@@ -170,18 +170,43 @@ honest_near c m xs k h x =
     (omega (arith, h.below x)) ∙ mul-add (k + 1) _ _ in
     omega (arith, parts, h.near x, honest_within c m xs k h)
 
--- only the weights matter, not the order of the items
+-- the weights make the total
+same_total : (xs ys : List Entry) → ((x : Bytes) → weight_of x xs ≡ weight_of x ys) → total_of xs ≡ total_of ys
+same_total xs ys same =
+    let one : lower 0 (tally xs) ≡ lower 0 (tally ys) =
+    same_counters _ _ (counters-lower 0 (tally xs) (rising-tally xs)) (counters-lower 0 (tally ys) (rising-tally ys))
+    (λ x. omega (
+      arith,
+      weight_of-lower 0 x (tally xs) (rising-tally xs),
+      weight_of-lower 0 x (tally ys) (rising-tally ys),
+      weight_of-tally x xs,
+      weight_of-tally x ys,
+      same x,
+    )) in
+    omega (
+      arith,
+      total_of-lower_0 (tally xs),
+      total_of-lower_0 (tally ys),
+      total_of-tally xs,
+      total_of-tally ys,
+      ap total_of one,
+    )
+
+-- only the weights matter
+pub honest_by_weights : (c : Counters) (m : ℕ) (xs ys : List Entry) (k : ℕ)
+    → ((x : Bytes) → weight_of x xs ≡ weight_of x ys) → IsHonest c m xs k → IsHonest c m ys k
+honest_by_weights c m xs ys k same h = record {
+  counters = h.counters;
+  counted = h.counted ∙ same_total xs ys same;
+  few = h.few;
+  below = λ x. omega (arith, same x, h.below x);
+  near = λ x. omega (arith, ap (λ n. (k + 1) * n) (same x), h.near x);
+}
+
+-- so not the order of the items
 pub honest_same : (c : Counters) (m : ℕ) (xs ys : List Entry) (k : ℕ) → IsPermutation xs ys → IsHonest c m xs k
     → IsHonest c m ys k
-honest_same c m xs ys k p h =
-    let same : (x : Bytes) → weight_of x ys ≡ weight_of x xs = λ x. sum_by-IsPermutation (at_key x) xs ys p in
-    record {
-      counters = h.counters;
-      counted = h.counted ∙ sym (sum_by-IsPermutation (λ (e : Entry). e.1) xs ys p);
-      few = h.few;
-      below = λ x. omega (arith, same x, h.below x);
-      near = λ x. omega (arith, ap (λ n. (k + 1) * n) (same x), h.near x);
-    }
+honest_same c m xs ys k p = honest_by_weights c m xs ys k (λ x. sym (sum_by-IsPermutation (at_key x) xs ys p))
 
 -- ---- an item for which there is room
 lower_none : (c : Counters) → IsCounters c → lower 0 c ≡ c

@@ -1,14 +1,15 @@
 -- What holds of the definitions.
-use Rattle.std.specs.Prelude.{◌≡◌, ℕ, ◌+◌, ◌-◌, ◌*◌, ◌<◌, ◌≤◌, List, [], ◌∷◌, ◌++◌, All, map, filter, zip, length, replicate, Contains, IsPermutation}
+use Rattle.std.specs.Prelude.{◌≡◌, ℕ, ◌+◌, ◌-◌, ◌*◌, ◌<◌, ◌≤◌, ◌↔◌, List, [], ◌∷◌, ◌++◌, All, map, filter, zip, length, replicate, Contains, IsPermutation}
 use Rattle.std.specs.List.{AllByRecursion, flat_map}
+use Rattle.std.specs.List.Sorted.{IsStrictlySortedBy}
 use Rattle.std.specs.Map.{keys_of}
-use Rattle.hh_stream.specs.Weights.{Bytes, Entry, IsKey, weight_of, total_of}
+use Rattle.hh_stream.specs.Weights.{Bytes, Entry, IsKey, key_cmp, weight_of, total_of}
 use Rattle.hh_stream.specs.Cuttings.{whole_of}
 use Rattle.hh_counters.specs.Counters.{Counters, SummaryView, IsCounters, exceeds, IsLevel, level, max_k, plus, join, misra_gries, IsHonest, slack, sketch_with, sketch_of}
-use Rattle.hh_counters.specs.SpaceSaving.{least_of, translate, IsRun, space_saving, monitor_of, monitor_with, translation_of}
+use Rattle.hh_counters.specs.SpaceSaving.{least_of, translate, IsStep, IsRun, step, space_saving, monitor_of, monitor_with, translation_of}
 use Rattle.hh_counters.specs.Counting.{count_of, count_with}
 use Rattle.hh_counters.specs.Condensed.{IsFirstFree, free_name, entry_of, condensed}
-use Rattle.hh_counters.specs.Report.{contenders, keys_above, heavy, rows_above, weights_at, counts_with, has_counter, IsReport}
+use Rattle.hh_counters.specs.Report.{contenders, keys_above, heavy, rank_cmp, rows_above, weights_at, counts_with, has_counter, IsReport}
 
 -- the counters of a stream are honest for it
 abbrev pub MisraGriesIsHonest : Type 0
@@ -64,9 +65,22 @@ abbrev pub HonestInAnyOrder : Type 0
 HonestInAnyOrder =
     (c : Counters) (m : ℕ) (xs ys : List Entry) (k : ℕ) → IsPermutation xs ys → IsHonest c m xs k → IsHonest c m ys k
 
+-- items of which each key weighs the same have the same honest counters
+abbrev pub HonestByWeights : Type 0
+HonestByWeights =
+    (c : Counters) (m : ℕ) (xs ys : List Entry) (k : ℕ) → ((x : Bytes) → weight_of x xs ≡ weight_of x ys)
+    → IsHonest c m xs k → IsHonest c m ys k
+
 -- two lists that say what a report must are one
 abbrev pub ReportIsUnique : Type 0
 ReportIsUnique = (xs : List Entry) (p q : ℕ) (es : List Entry) → IsReport xs p q es → es ≡ heavy xs p q
+
+-- the rows above a share are the pairs of distinct keys that are above it, strictly ranked
+abbrev pub RowsAreExact : Type 0
+RowsAreExact =
+    (p q n : ℕ) (es : List Entry) → IsStrictlySortedBy key_cmp (keys_of es)
+    → IsStrictlySortedBy rank_cmp (rows_above p q n es)
+    × ((e : Entry) → Contains (rows_above p q n es) e ↔ (Contains es e × (p * n < q * e.1)))
 
 -- a second pass over the keys of counters finds the heavy keys that have a counter, and of honest counters all of them
 abbrev pub CandidatesSuffice : Type 0
@@ -132,6 +146,17 @@ TranslationIsMisraGries =
 abbrev pub StepsAreARun : Type 0
 StepsAreARun = (xs : List Entry) (k : ℕ) → All (λ e. 0 < e.1) xs → IsRun xs k (space_saving xs k)
 
+-- a step more makes a run of the items with one more, whichever least keys were dropped before
+abbrev pub RunsGoOn : Type 0
+RunsGoOn =
+    (xs : List Entry) (e : Entry) (k : ℕ) (s t : Counters) → IsRun xs k s → IsStep s e k t → IsRun (xs ++ e ∷ []) k t
+
+-- and so does the product's step
+abbrev pub RunsTakeTheStep : Type 0
+RunsTakeTheStep =
+    (xs : List Entry) (e : Entry) (k : ℕ) (s : Counters) → All (λ e. 0 < e.1) xs → IsRun xs k s
+    → IsRun (xs ++ e ∷ []) k (step s e k)
+
 -- the summary of no items has no counters, and an item more makes the summary of all
 abbrev pub SummariesFollowItems : Type 0
 SummariesFollowItems =
@@ -166,6 +191,11 @@ CondensedAreItems =
     → (All (λ e. 0 < e.1) xs → All (λ e. 0 < e.1) (condensed c xs))
     × (length c ≤ max_k → AllByRecursion (λ e. IsKey e.0) xs
     → AllByRecursion (λ e. IsKey e.0) (condensed c xs))
+
+-- of items with weights there are at most as many condensed entries as counters, and one more
+abbrev pub CondensedAreFew : Type 0
+CondensedAreFew =
+    (c : Counters) (xs : List Entry) → IsCounters c → All (λ e. 0 < e.1) xs → length (condensed c xs) ≤ length c + 1
 
 -- which keys with counters are heavy depends on the total and their weights alone
 abbrev pub FoundByWeights : Type 0

@@ -15,7 +15,7 @@ use crate::monitor::Monitor;
 use crate::shared_key::SharedKey;
 use crate::sought::Sought;
 use crate::summary::{AddFault, MAX_K, Summary};
-use hh_stream::{Key, MAX_TOTAL};
+use hh_stream::{Key, MAX_TOTAL, in_range};
 use indexmap::IndexMap;
 use std::alloc::{AllocError, Global};
 use std::collections::BTreeSet;
@@ -78,21 +78,27 @@ impl BucketSaving {
         ensures empty { IfOk result (λ s. s ≡ record { k = k; total = 0; counters = [] }) }
         ensures bad_k { IsErrOf result NewFault.BadK ↔ (in_range k max_k ≡ false) }
     {
-        if k == 0 || k > MAX_K {
+        if !in_range(k, MAX_K) {
             return Err(NewFault::BadK);
         }
+        BucketSaving::empty(alloc, k).map_err(|_| NewFault::Memory)
+    }
+
+    /// [`new`](BucketSaving::new) for a k from 1 to [`MAX_K`], where only memory can be refused.
+    pub fn empty(alloc: Global, k: u64) -> Result<BucketSaving, AllocError>
+        requires { in_range k max_k ≡ true }
+        ensures { IfOk result (λ s. s ≡ record { k = k; total = 0; counters = [] }) }
+    {
         // a newcomer enters before the key that it replaces goes
         let most = k as usize + 2;
-        match IndexMap::with_capacity(alloc, most.min(FIRST_ROOM)) {
-            Ok(index) => Ok(BucketSaving {
-                alloc,
-                k,
-                total: 0,
-                index,
-                buckets: BTreeSet::new(alloc),
-            }),
-            Err(_) => Err(NewFault::Memory),
-        }
+        let index = IndexMap::with_capacity(alloc, most.min(FIRST_ROOM))?;
+        Ok(BucketSaving {
+            alloc,
+            k,
+            total: 0,
+            index,
+            buckets: BTreeSet::new(alloc),
+        })
     }
 
     /// [`add`](Monitor::add) of the key with these bytes, 1 to 4,096 of them.
@@ -111,20 +117,7 @@ impl BucketSaving {
         if weight > MAX_TOTAL - self.total {
             return Err(AddFault::TotalTooLarge);
         }
-        match add_item(
-            self.alloc,
-            self.k,
-            &mut self.index,
-            &mut self.buckets,
-            key,
-            weight,
-        ) {
-            Ok(()) => {
-                self.total += weight;
-                Ok(())
-            }
-            Err(_) => Err(AddFault::Memory),
-        }
+        self.add_within(key, weight).map_err(|_| AddFault::Memory)
     }
 }
 
@@ -154,8 +147,17 @@ impl Monitor for BucketSaving {
         self.index.get(Sought(key.bytes())).copied().unwrap_or(0)
     }
 
-    fn add(&mut self, key: &Key, weight: u64) -> Result<(), AddFault> {
-        self.add_bytes(key.bytes(), weight)
+    fn add_within(&mut self, key: &[u8], weight: u64) -> Result<(), AllocError> {
+        add_item(
+            self.alloc,
+            self.k,
+            &mut self.index,
+            &mut self.buckets,
+            key,
+            weight,
+        )?;
+        self.total += weight;
+        Ok(())
     }
 
     fn into_summary(self) -> Result<Summary, BucketSaving> {

@@ -1,6 +1,6 @@
 //! Laws of the definitions in `specs/`. Each function does nothing: its contract is the law.
 
-ghost use Rattle.hh_counters.specs.Laws.{MisraGriesIsHonest, JoinOfHonestIsHonest, HeavyKeysHaveCounters, CountersBoundWeights, LevelIsLeast, SumIsByKey, JoinTakesTheLevel, ReportIsExact, ReportIsUnique, HonestIsNear, HonestInAnyOrder, CandidatesSuffice, ContendersSuffice, PrunedSuffice, CountsAddUp, CountsFollowItems, CountsStayWithin, RunSumsToTotal, RunBoundsWeights, TranslationIsMisraGries, StepsAreARun, SummariesFollowItems, MonitorsFollowItems, FreeNameIsFirst, CondensedKeepsWeights, CondensedAreItems, FoundByWeights, CondensedPartsSuffice, CondensedPartsReport, CondensedIsCounted};
+ghost use Rattle.hh_counters.specs.Laws.{MisraGriesIsHonest, JoinOfHonestIsHonest, HeavyKeysHaveCounters, CountersBoundWeights, LevelIsLeast, SumIsByKey, JoinTakesTheLevel, ReportIsExact, ReportIsUnique, RowsAreExact, HonestIsNear, HonestInAnyOrder, HonestByWeights, CandidatesSuffice, ContendersSuffice, PrunedSuffice, CountsAddUp, CountsFollowItems, CountsStayWithin, RunSumsToTotal, RunBoundsWeights, TranslationIsMisraGries, StepsAreARun, RunsGoOn, RunsTakeTheStep, SummariesFollowItems, MonitorsFollowItems, FreeNameIsFirst, CondensedKeepsWeights, CondensedAreItems, CondensedAreFew, FoundByWeights, CondensedPartsSuffice, CondensedPartsReport, CondensedIsCounted};
 
 /// The Misra-Gries counters of a list of items are honest for it (Misra and Gries 1982).
 pub fn misra_gries_is_honest()
@@ -22,10 +22,12 @@ pub fn counters_bound_weights()
     ensures { CountersBoundWeights }
 {}
 
-/// Honest counters are within the total and near each weight, in whatever order the items come.
+/// Honest counters are within the total and near each weight. They are honest for any items of which
+/// each key weighs the same, so also in whatever order the items come.
 pub fn honest_is_near()
     ensures near { HonestIsNear }
     ensures order { HonestInAnyOrder }
+    ensures weights { HonestByWeights }
 {}
 
 /// The level is the least number that at most k counters exceed.
@@ -39,9 +41,11 @@ pub fn sum_is_by_key()
     ensures join { JoinTakesTheLevel }
 {}
 
-/// The report has exactly the heavy keys with their weights, in order, and no other list does.
+/// The report has exactly the heavy keys with their weights, in order, and no other list does. So it
+/// is of the rows above a share, of any keys with numbers.
 pub fn report_is_exact()
     ensures exact { ReportIsExact }
+    ensures rows { RowsAreExact }
     ensures unique { ReportIsUnique }
 {}
 
@@ -87,6 +91,13 @@ pub fn space_saving_bounds_weights()
     ensures bounds { RunBoundsWeights }
 {}
 
+/// Any run of Space-Saving goes on by a step, whichever least keys were dropped before: by the
+/// product's own, too.
+pub fn runs_go_on()
+    ensures by_any_step { RunsGoOn }
+    ensures by_the_step { RunsTakeTheStep }
+{}
+
 /// Any run of Space-Saving, whichever least keys were dropped, translates to the Misra-Gries
 /// counters (Agarwal et al., PODS 2012). The product's own steps make such a run.
 pub fn translation_is_misra_gries()
@@ -108,10 +119,11 @@ pub fn free_name_is_first()
 {}
 
 /// Condensed entries have the total of the items, and the weight of each key with a counter. They
-/// are keys with weights where the items are.
+/// are keys with weights where the items are, and at most one more than the counters.
 pub fn condensed_keeps_weights()
     ensures weights { CondensedKeepsWeights }
     ensures items { CondensedAreItems }
+    ensures few { CondensedAreFew }
 {}
 
 /// Condensed entries are what counting the keys of counters finds, and what it leaves of the total.

@@ -1,12 +1,12 @@
 //! What every form of Space-Saving keeps and promises.
 
 ghost use Rattle.std.specs.Prelude.{◌≡◌, ◌+◌, ◌<◌, ◌≤◌, ◌↔◌, ◌==◌, OnOk, OnErr, IsOk, IfOk, IfErr, IsErrOf, length, []};
-ghost use Rattle.hh_stream.specs.Weights.{max_total, weight_of, total_of};
+ghost use Rattle.hh_stream.specs.Weights.{max_key_len, max_total, weight_of, total_of};
 ghost use Rattle.hh_counters.specs.Counters.{SummaryView, sketch_of};
 ghost use Rattle.hh_counters.specs.SpaceSaving.{least_of, monitor_of, monitor_with, translation_of};
 
 use crate::summary::{AddFault, Summary};
-use hh_stream::{Item, Key};
+use hh_stream::{Item, Key, MAX_TOTAL};
 use std::alloc::AllocError;
 
 /// Space-Saving over a weighted stream: at most k + 1 monitored keys with counters (Metwally,
@@ -61,7 +61,27 @@ pub trait Monitor: Drop {
 
         // a monitored key takes no memory
         ensures known { 0 < weight_of key.now (seen self.old).counters
-            → (seen self.old).total + weight ≤ max_total → IsOk result };
+            → (seen self.old).total + weight ≤ max_total → IsOk result }
+    {
+        if weight > MAX_TOTAL - self.total() {
+            return Err(AddFault::TotalTooLarge);
+        }
+        self.add_within(key.bytes(), weight)
+            .map_err(|_| AddFault::Memory)
+    }
+
+    /// [`add`](Monitor::add) of the key with these bytes, 1 to 4,096 of them, where the total stays
+    /// at most [`MAX_TOTAL`], so that only memory can be refused.
+    fn add_within(&mut self, key: &[u8], weight: u64) -> Result<(), AllocError>
+        requires key { (0 < length key.now) × (length key.now ≤ max_key_len) }
+        requires positive { 0 < weight }
+        requires room { (seen self.old).total + weight ≤ max_total }
+        ensures added { OnOk result
+            (seen self.new ≡ monitor_with (seen self.old) (key.now, weight)) }
+        ensures unchanged { OnErr result (seen self.new ≡ seen self.old) }
+
+        // a monitored key takes no memory
+        ensures known { 0 < weight_of key.now (seen self.old).counters → IsOk result };
 
     /// The summary of Misra and Gries of the same items: each counter less the least one. Where
     /// memory is refused, the value comes back as it was.
@@ -78,11 +98,7 @@ pub fn monitored_summary<M: Monitor>(mut monitor: M, items: &[Item]) -> Result<S
     ensures { IfOk result (λ summary. summary ≡ sketch_of (M.seen monitor).k items.now) }
 {
     for item in items {
-        match monitor.add(item.key(), item.weight()) {
-            Ok(()) => {}
-            Err(AddFault::TotalTooLarge) => unreachable!(),
-            Err(AddFault::Memory) => return Err(AllocError),
-        }
+        monitor.add_within(item.key().bytes(), item.weight())?;
     }
     match monitor.into_summary() {
         Ok(summary) => Ok(summary),

@@ -1,15 +1,15 @@
 //! Space-Saving in its plain form.
 
 ghost use Rattle.std.specs.Prelude.{◌≡◌, ℕ, ◌+◌, ◌<◌, ◌≤◌, ◌^◌, ◌↔◌, ◌⊎◌, [], IfOk, IsOk, IsErr, OnOk, OnErr, IsErrOf, length, slice_index_or, false};
-ghost use Rattle.hh_stream.specs.Weights.{max_total, Entry, key_cmp, weight_of, total_of};
+ghost use Rattle.hh_stream.specs.Weights.{max_key_len, max_total, Entry, key_cmp, weight_of, total_of};
 ghost use Rattle.hh_stream.specs.Ranges.{in_range};
 ghost use Rattle.hh_counters.specs.Counters.{max_k, IsCounters, SummaryView};
 ghost use Rattle.hh_counters.specs.SpaceSaving.{IsFirstLeast, IsMonitor, monitor_with, step, taken_over, translation_of};
 
 use crate::entries::{add_entry, counter_of, least_counter, lower_all};
 use crate::monitor::Monitor;
-use crate::summary::{AddFault, BadK, MAX_K, Summary};
-use hh_stream::{Key, MAX_TOTAL};
+use crate::summary::{BadK, MAX_K, Summary};
+use hh_stream::{Key, in_range};
 use std::alloc::{AllocError, Global};
 use std::marker::Model;
 
@@ -43,7 +43,7 @@ impl SpaceSaving {
         ensures empty { IfOk result (λ s. s ≡ record { k = k; total = 0; counters = [] }) }
         ensures bad_k { IsErr result ↔ (in_range k max_k ≡ false) }
     {
-        if k == 0 || k > MAX_K {
+        if !in_range(k, MAX_K) {
             return Err(BadK);
         }
         Ok(SpaceSaving {
@@ -80,17 +80,10 @@ impl Monitor for SpaceSaving {
         counter_of(&self.entries, key.bytes())
     }
 
-    fn add(&mut self, key: &Key, weight: u64) -> Result<(), AddFault> {
-        if weight > MAX_TOTAL - self.total {
-            return Err(AddFault::TotalTooLarge);
-        }
-        match add_item(&mut self.entries, key, weight, self.k) {
-            Ok(()) => {
-                self.total += weight;
-                Ok(())
-            }
-            Err(_) => Err(AddFault::Memory),
-        }
+    fn add_within(&mut self, key: &[u8], weight: u64) -> Result<(), AllocError> {
+        add_item(&mut self.entries, key, weight, self.k)?;
+        self.total += weight;
+        Ok(())
     }
 
     fn into_summary(self) -> Result<Summary, SpaceSaving>
@@ -111,7 +104,13 @@ impl Monitor for SpaceSaving {
 }
 
 // Adds the item to the counters, or leaves them as they were.
-fn add_item(entries: &mut Vec<(Key, u64)>, key: &Key, weight: u64, k: u64) -> Result<(), AllocError>
+fn add_item(
+    entries: &mut Vec<(Key, u64)>,
+    key: &[u8],
+    weight: u64,
+    k: u64,
+) -> Result<(), AllocError>
+    requires key { (0 < length key.now) × (length key.now ≤ max_key_len) }
     requires counters { IsCounters entries.old.items }
     requires few { length entries.old.items ≤ k + 1 }
     requires positive { 0 < weight }
@@ -120,14 +119,15 @@ fn add_item(entries: &mut Vec<(Key, u64)>, key: &Key, weight: u64, k: u64) -> Re
     ensures unchanged { OnErr result (entries.new.items ≡ entries.old.items) }
     ensures known { 0 < weight_of key.now entries.old.items → IsOk result }
 {
-    if 0 < counter_of(entries, key.bytes()) || entries.len() as u64 <= k {
-        return add_entry(entries, key.bytes(), weight);
+    if 0 < counter_of(entries, key) || entries.len() as u64 <= k {
+        return add_entry(entries, key, weight);
     }
     replace_least(entries, key, weight)
 }
 
 // Gives the key the first of the least counters and the weight, and drops that counter's key.
-fn replace_least(entries: &mut Vec<(Key, u64)>, key: &Key, weight: u64) -> Result<(), AllocError>
+fn replace_least(entries: &mut Vec<(Key, u64)>, key: &[u8], weight: u64) -> Result<(), AllocError>
+    requires key { (0 < length key.now) × (length key.now ≤ max_key_len) }
     requires counters { IsCounters entries.old.items }
     requires some { 0 < length entries.old.items }
     requires absent { weight_of key.now entries.old.items ≡ 0 }
@@ -139,12 +139,12 @@ fn replace_least(entries: &mut Vec<(Key, u64)>, key: &Key, weight: u64) -> Resul
 {
     let place = least_place(entries);
     let least = entries[place].1;
-    let shifted = if entries[place].0 < *key {
+    let shifted = if entries[place].0.bytes().cmp(key).is_lt() {
         place
     } else {
         place + 1
     };
-    add_entry(entries, key.bytes(), least + weight)?;
+    add_entry(entries, key, least + weight)?;
     entries.remove(shifted);
     Ok(())
 }

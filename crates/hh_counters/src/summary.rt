@@ -6,8 +6,8 @@ ghost use Rattle.hh_stream.specs.Ranges.{in_range};
 ghost use Rattle.hh_counters.specs.Counters.{max_k, Fits, IsCounters, SummaryView, sketch_with, merge_of, sketch_of, slack};
 
 use crate::entries::{add_item, are_counters, counter_of, join, sum_of, sums_within};
-use hh_stream::{Item, Key, MAX_TOTAL};
-use std::alloc::Global;
+use hh_stream::{Item, Key, MAX_TOTAL, in_range};
+use std::alloc::{AllocError, Global};
 use std::marker::Model;
 use thiserror::Error;
 
@@ -86,14 +86,22 @@ impl Summary {
         ensures empty { IfOk result (λ s. s ≡ record { k = k; total = 0; counters = [] }) }
         ensures bad_k { IsErr result ↔ (in_range k max_k ≡ false) }
     {
-        if k == 0 || k > MAX_K {
+        if !in_range(k, MAX_K) {
             return Err(BadK);
         }
-        Ok(Summary {
+        Ok(Summary::empty(alloc, k))
+    }
+
+    /// [`new`](Summary::new) for a k from 1 to [`MAX_K`], where nothing can be refused.
+    pub fn empty(alloc: Global, k: u64) -> Summary
+        requires { in_range k max_k ≡ true }
+        ensures { result ≡ record { k = k; total = 0; counters = [] } }
+    {
+        Summary {
             k,
             total: 0,
             entries: Vec::new(alloc),
-        })
+        }
     }
 
     /// The summary of the items, added one by one.
@@ -109,11 +117,9 @@ impl Summary {
             return Err(OfItemsFault::BadK);
         };
         for item in items {
-            match summary.add(item.key(), item.weight()) {
-                Ok(()) => {}
-                Err(AddFault::TotalTooLarge) => unreachable!(),
-                Err(AddFault::Memory) => return Err(OfItemsFault::Memory),
-            }
+            let Ok(()) = summary.add_within(item.key().bytes(), item.weight()) else {
+                return Err(OfItemsFault::Memory);
+            };
         }
         Ok(summary)
     }
@@ -124,8 +130,7 @@ impl Summary {
     pub fn fits(k: u64, total: u64, entries: &[(Key, u64)]) -> bool
         ensures { IsTrue result ↔ Fits k total entries.now }
     {
-        1 <= k
-            && k <= MAX_K
+        in_range(k, MAX_K)
             && total <= MAX_TOTAL
             && entries.len() as u64 <= k
             && are_counters(entries)
@@ -240,13 +245,24 @@ impl Summary {
         if weight > MAX_TOTAL - self.total {
             return Err(AddFault::TotalTooLarge);
         }
-        match add_item(&mut self.entries, key, weight, self.k) {
-            Ok(()) => {
-                self.total += weight;
-                Ok(())
-            }
-            Err(_) => Err(AddFault::Memory),
-        }
+        self.add_within(key, weight).map_err(|_| AddFault::Memory)
+    }
+
+    /// [`add_bytes`](Summary::add_bytes) where the total stays at most [`MAX_TOTAL`], so that only
+    /// memory can be refused.
+    pub fn add_within(&mut self, key: &[u8], weight: u64) -> Result<(), AllocError>
+        requires key { (0 < length key.now) × (length key.now ≤ max_key_len) }
+        requires positive { 0 < weight }
+        requires room { self.old.total + weight ≤ max_total }
+        ensures added { OnOk result (self.new ≡ sketch_with self.old (key.now, weight)) }
+        ensures unchanged { OnErr result (self.new ≡ self.old) }
+
+        // a key that has a counter takes no memory
+        ensures known { 0 < weight_of key.now self.old.counters → IsOk result }
+    {
+        add_item(&mut self.entries, key, weight, self.k)?;
+        self.total += weight;
+        Ok(())
     }
 
     /// Merges another summary with the same k: counters are added key by key, and where more than k

@@ -11,7 +11,7 @@ use Rattle.std.proofs.lemmas.Nat.{mul-add-lt, div-mul-add, mod-mul-add, div_belo
 use Rattle.hh_stream.specs.Ranges.{in_range}
 use Rattle.hh_stream.specs.Weights.{Entry, total_of}
 use Rattle.hh_countmin.specs.Family.{Coefficients, max_width, cell_of}
-use Rattle.hh_countmin.specs.Table.{FitsTable, cell_at, row_at, cells_by, at_cell, cell_sum}
+use Rattle.hh_countmin.specs.Table.{FitsTable, cell_at, row_at, cells_by, at_cell, cell_sum, raised}
 
 -- ---- a row and a cell
 
@@ -191,8 +191,7 @@ cell-le-total family width total cells fits i lt =
 -- cells that fit, with a weight more in one cell of each row
 pub fits_raised : (family : Coefficients) (width total : ℕ) (cells : List ℕ) (weight : ℕ) (cell : ℕ → ℕ)
     → FitsTable family width total cells → total + weight < 2 ^ 63 → ((r : ℕ) → cell r < width)
-    → FitsTable family width (total + weight)
-    (cells_by (λ r c. cell_at width cells r c + cond (eqb (cell r) c) weight 0) (length family.rows) width)
+    → FitsTable family width (total + weight) (raised cell weight (length family.rows) width cells)
 fits_raised family width total cells weight cell fits small in_row =
     fits_by (λ r c. cell_at width cells r c + cond (eqb (cell r) c) weight 0) family width (total + weight)
     fits.width_in_range small

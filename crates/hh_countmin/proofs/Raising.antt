@@ -5,7 +5,7 @@ use Rattle.std.proofs.lemmas.Bool.Decides.{nat_tests}
 use Rattle.std.proofs.lemmas.List.{length-set, get_or-set_same, get_or-set_other}
 use Rattle.std.proofs.lemmas.Nat.{mul-add-lt, same_from_place}
 use Rattle.hh_countmin.specs.Family.{Coefficients, coefficients_of, cell_of_fingerprint}
-use Rattle.hh_countmin.specs.Table.{cell_at, cells_by}
+use Rattle.hh_countmin.specs.Table.{cell_at, raised}
 use Rattle.hh_countmin.proofs.Cells.{same_cells}
 
 -- the cell that a fingerprint has in row r
@@ -66,7 +66,6 @@ one_raised width weight depth cell old new r value so_far len lt in_row is =
 
 -- once all rows are done, each cell is raised by what it should be
 pub all_raised : (width weight depth : ℕ) (cell : ℕ → ℕ) (old new : List ℕ) → length old ≡ depth * width
-    → IsRaised width weight cell old new depth → new
-    ≡ cells_by (λ r c. cell_at width old r c + raise_at cell weight r c) depth width
+    → IsRaised width weight cell old new depth → new ≡ raised cell weight depth width old
 all_raised width weight depth cell old new len is =
     same_cells (λ r c. cell_at width old r c + raise_at cell weight r c) depth width new (is.len ∙ len) is.raised

@@ -53,11 +53,16 @@ abbrev pub empty_table : Coefficients → ℕ → TableView
 empty_table family width =
     record { family = family; width = width; total = 0; cells = replicate (length family.rows * width) 0 }
 
--- a table after an item: in each row the key's cell has the weight more, and no other cell
+-- cells with a weight more in one cell of each row, and in no other
+abbrev pub raised : (ℕ → ℕ) → ℕ → ℕ → ℕ → List ℕ → List ℕ
+raised cell weight depth width cells =
+    cells_by (λ r c. cell_at width cells r c + cond (cell r == c) weight 0) depth width
+
+-- a table after an item: in each row the key's cell has the weight more
 abbrev pub grid_with : TableView → Entry → TableView
 grid_with t e = record t {
   total = t.total + e.1;
-  cells = cells_by (λ r c. cell_at t.width t.cells r c + at_cell t.family t.width r c e) (length t.family.rows) t.width;
+  cells = raised (λ r. cell_of t.family r e.0 t.width) e.1 (length t.family.rows) t.width t.cells;
 }
 
 -- two tables of one family and width, cell by cell

@@ -7,7 +7,7 @@ ghost use Rattle.rand_core.specs.Steps.{first_words};
 ghost use Rattle.rand_pcg.specs.Pcg.{pcg64};
 
 use crate::modulus::{MODULUS, multiply_add, reduce, remainder};
-use hh_stream::Key;
+use hh_stream::{Key, in_range};
 use rand_core::SeedableRng;
 use rand_core::utils::NextWord;
 use rand_pcg::Pcg64;
@@ -79,19 +79,25 @@ impl Family {
         ensures bad_depth { IsErrOf result DrawFault.BadDepth
             ↔ (in_range depth max_depth ≡ false) }
     {
-        if depth == 0 || depth > MAX_DEPTH {
+        if !in_range(depth, MAX_DEPTH) {
             return Err(DrawFault::BadDepth);
         }
+        Family::of_seed(alloc, seed, depth).map_err(|_| DrawFault::Memory)
+    }
+
+    /// [`draw`](Family::draw) for a depth from 1 to [`MAX_DEPTH`], where only memory can be refused.
+    pub fn of_seed(alloc: Global, seed: u64, depth: u64) -> Result<Family, AllocError>
+        requires { in_range depth max_depth ≡ true }
+        ensures { IfOk result (λ family. family ≡ drawn_family seed depth) }
+    {
         let mut generator = Pcg64::seed_from_u64(seed);
         let z = factor(generator.next_word());
-        match draw_rows(alloc, &mut generator, depth) {
-            Ok(rows) => Ok(Family {
-                z,
-                powers: powers_of(z),
-                rows,
-            }),
-            Err(_) => Err(DrawFault::Memory),
-        }
+        let rows = draw_rows(alloc, &mut generator, depth)?;
+        Ok(Family {
+            z,
+            powers: powers_of(z),
+            rows,
+        })
     }
 
     /// The family with these coefficients: `z`, and a pair (a, b) for each row. `z` and each a are
@@ -105,19 +111,40 @@ impl Family {
             ↔ ((in_range (length rows.now) max_depth ≡ true)
             × ¬ (AreCoefficients z rows.now)) }
     {
-        if rows.is_empty() || rows.len() as u64 > MAX_DEPTH {
+        if !in_range(rows.len() as u64, MAX_DEPTH) {
             return Err(PartsFault::BadDepth);
         }
-        if !are_coefficients(z, rows) {
+        if !Family::are_coefficients(z, rows) {
             return Err(PartsFault::BadCoefficient);
         }
         match Vec::from_slice(alloc, rows) {
-            Ok(rows) => Ok(Family {
-                z,
-                powers: powers_of(z),
-                rows,
-            }),
+            Ok(rows) => Ok(Family::from_rows(z, rows)),
             Err(_) => Err(PartsFault::Memory),
+        }
+    }
+
+    /// Whether the coefficients are in their ranges: `z` and the first of each pair are 1 or more,
+    /// and all are below [`MODULUS`].
+    pub fn are_coefficients(z: u64, rows: &[(u64, u64)]) -> bool
+        ensures { IsTrue result ↔ AreCoefficients z rows.now }
+    {
+        1 <= z
+            && z < MODULUS
+            && rows
+                .iter()
+                .all(|row| 1 <= row.0 && row.0 < MODULUS && row.1 < MODULUS)
+    }
+
+    /// [`from_parts`](Family::from_parts) of 1 to [`MAX_DEPTH`] rows and coefficients in their
+    /// ranges, which takes no memory.
+    pub fn from_rows(z: u64, rows: Vec<(u64, u64)>) -> Family
+        requires { IsFamily (record { z = z; rows = rows.items }) }
+        ensures { result ≡ record { z = z; rows = rows.items } }
+    {
+        Family {
+            z,
+            powers: powers_of(z),
+            rows,
         }
     }
 
@@ -284,15 +311,4 @@ fn draw_rows(
         rows.push(draw_row(generator))?;
     }
     Ok(rows)
-}
-
-// Whether the coefficients are in their ranges.
-fn are_coefficients(z: u64, rows: &[(u64, u64)]) -> bool
-    ensures { IsTrue result ↔ AreCoefficients z rows.now }
-{
-    1 <= z
-        && z < MODULUS
-        && rows
-            .iter()
-            .all(|row| 1 <= row.0 && row.0 < MODULUS && row.1 < MODULUS)
 }

@@ -4,11 +4,11 @@ ghost use Rattle.std.specs.Prelude.{◌≡◌, ◌≢◌, ◌+◌, ◌*◌, ◌<
 ghost use Rattle.hh_stream.specs.Ranges.{in_range};
 ghost use Rattle.hh_countmin.specs.Family.{max_width, modulus, coefficients_of, cell_of_fingerprint};
 ghost use Rattle.hh_stream.specs.Weights.{max_total};
-ghost use Rattle.hh_countmin.specs.Table.{FitsTable, row_at, cell_at, cells_by, empty_table, grid_with, grid_sum, estimate_in};
+ghost use Rattle.hh_countmin.specs.Table.{FitsTable, row_at, cell_at, empty_table, grid_with, grid_sum, estimate_in, least_of_rows, raised};
 
 use crate::family::{Family, MAX_WIDTH};
-use hh_stream::{Key, MAX_TOTAL};
-use std::alloc::Global;
+use hh_stream::{Key, MAX_TOTAL, in_range};
+use std::alloc::{AllocError, Global};
 use std::marker::Model;
 use thiserror::Error;
 
@@ -78,19 +78,25 @@ impl Table {
         ensures bad_width { IsErrOf result TableFault.BadWidth
             ↔ (in_range width max_width ≡ false) }
     {
-        if width == 0 || width > MAX_WIDTH {
+        if !in_range(width, MAX_WIDTH) {
             return Err(TableFault::BadWidth);
         }
+        Table::empty(alloc, family, width).map_err(|_| TableFault::Memory)
+    }
+
+    /// [`new`](Table::new) for a width from 1 to [`MAX_WIDTH`], where only memory can be refused.
+    pub fn empty(alloc: Global, family: Family, width: u64) -> Result<Table, AllocError>
+        requires { in_range width max_width ≡ true }
+        ensures { IfOk result (λ table. table ≡ empty_table family width) }
+    {
         let len = (family.depth() * width) as usize;
-        match vec![in alloc; 0; len] {
-            Ok(cells) => Ok(Table {
-                family,
-                width,
-                total: 0,
-                cells,
-            }),
-            Err(_) => Err(TableFault::Memory),
-        }
+        let cells = vec![in alloc; 0; len]?;
+        Ok(Table {
+            family,
+            width,
+            total: 0,
+            cells,
+        })
     }
 
     /// Whether these are the parts of a table: the width is 1 to 65,536, the total is at most
@@ -99,8 +105,7 @@ impl Table {
     pub fn fits(family: &Family, width: u64, total: u64, cells: &[u64]) -> bool
         ensures { IsTrue result ↔ FitsTable family.now width total cells.now }
     {
-        1 <= width
-            && width <= MAX_WIDTH
+        in_range(width, MAX_WIDTH)
             && total <= MAX_TOTAL
             && cells.len() as u64 == family.depth() * width
             && rows_sum_to(cells, family.depth() as usize, width as usize, total)
@@ -140,6 +145,16 @@ impl Table {
         if weight > MAX_TOTAL - self.total {
             return Err(TotalTooLarge);
         }
+        self.add_within(key, weight);
+        Ok(())
+    }
+
+    /// [`add_bytes`](Table::add_bytes) where the total stays at most [`MAX_TOTAL`], so that nothing
+    /// can be refused.
+    pub fn add_within(&mut self, key: &[u8], weight: u64)
+        requires { self.old.total + weight ≤ max_total }
+        ensures { self.new ≡ grid_with self.old (key.now, weight) }
+    {
         let fingerprint = self.family.fingerprint_of(key);
         raise_cells(
             &mut self.cells,
@@ -149,7 +164,6 @@ impl Table {
             weight,
         );
         self.total += weight;
-        Ok(())
     }
 
     /// Adds the cells and the total of a table of the same family and width. After a refusal the
@@ -181,17 +195,11 @@ impl Table {
     }
 
     /// The least of the key's cells: at least the key's weight among the items added.
-    #[tactic(auto, using(crate::proofs::Estimates::some_rows))]
     pub fn estimate(&self, key: &Key) -> u64
         ensures estimate { result ≡ estimate_in self.now key.now }
     {
-        let depth = self.family.depth();
         let fingerprint = self.family.fingerprint(key);
-        let mut least = self.cell_of_fingerprint(0, fingerprint);
-        for r in 1..depth {
-            least = least.min(self.cell_of_fingerprint(r, fingerprint));
-        }
-        least
+        least_cell(&self.cells, &self.family, self.width, fingerprint)
     }
 
     /// Cell `c` of row `r`.
@@ -201,20 +209,6 @@ impl Table {
         ensures { result ≡ cell_at self.now.width self.now.cells r c }
     {
         self.cells[(r * self.width + c) as usize]
-    }
-
-    // What the cell holds that a fingerprint has in row `r`.
-    fn cell_of_fingerprint(&self, r: u64, fingerprint: u64) -> u64
-        requires row { r < length self.now.family.rows }
-        requires fingerprint { fingerprint < modulus }
-        ensures { result
-            ≡ cell_at self.now.width self.now.cells r
-            (cell_of_fingerprint (coefficients_of self.now.family r) fingerprint self.now.width) }
-    {
-        self.cell_at(
-            r,
-            self.family.cell_of_fingerprint(r, fingerprint, self.width),
-        )
     }
 
     /// The cells, row by row.
@@ -255,6 +249,26 @@ fn are_one(family: &Family, other: &Family) -> bool
     family == other
 }
 
+// The least of the cells that the fingerprint has in each row.
+#[tactic(auto, using(crate::proofs::Estimates::some_rows))]
+fn least_cell(cells: &[u64], family: &Family, width: u64, fingerprint: u64) -> u64
+    requires all_cells { length cells.now ≡ length family.now.rows * width }
+    requires width { in_range width max_width ≡ true }
+    requires fingerprint { fingerprint < modulus }
+    ensures { result
+        ≡ least_of_rows family.now
+        (λ r. cell_at width cells.now r
+        (cell_of_fingerprint (coefficients_of family.now r) fingerprint width)) }
+{
+    let depth = family.depth();
+    let mut least = cells[family.cell_of_fingerprint(0, fingerprint, width) as usize];
+    for r in 1..depth {
+        let cell = r * width + family.cell_of_fingerprint(r, fingerprint, width);
+        least = least.min(cells[cell as usize]);
+    }
+    least
+}
+
 // Adds the weight to the cell that the fingerprint has in each row.
 fn raise_cells(cells: &mut [u64], family: &Family, width: u64, fingerprint: u64, weight: u64)
     requires all_cells { length cells.old ≡ length family.now.rows * width }
@@ -262,10 +276,9 @@ fn raise_cells(cells: &mut [u64], family: &Family, width: u64, fingerprint: u64,
     requires fingerprint { fingerprint < modulus }
     requires room { EachIndex cells.old (λ i. slice_index cells.old i + weight < 2 ^ 64) }
     ensures { cells.new
-        ≡ cells_by
-        (λ r c. cell_at width cells.old r c
-        + cond (cell_of_fingerprint (coefficients_of family.now r) fingerprint width == c) weight 0)
-        (length family.now.rows) width }
+        ≡ raised
+        (λ r. cell_of_fingerprint (coefficients_of family.now r) fingerprint width) weight
+        (length family.now.rows) width cells.old }
 {
     for r in 0..family.depth() {
         let cell = r * width + family.cell_of_fingerprint(r, fingerprint, width);

@@ -1,10 +1,10 @@
 //! The analysis of a stream: two passes by workers, and a merge between them.
 
 ghost use Rattle.std.specs.Prelude.{◌≡◌, ◌≢◌, ◌+◌, ◌*◌, ◌≤◌, ◌<◌, ◌∷◌, ◌↔◌, true};
-ghost use Rattle.std.specs.Prelude.{ℕ, List, All, length, map, sum, IfOk, IfSome, IsErrOf};
+ghost use Rattle.std.specs.Prelude.{ℕ, List, All, length, map, sum, IfOk, IfSome, IsErr, IsErrOf, OnErr, OnOk, Err};
 ghost use Rattle.std.specs.List.{range_with_len};
-ghost use Rattle.hh_stream.specs.Weights.{Entry};
-ghost use Rattle.hh_stream.specs.Cuttings.{max_pieces, pieces_of};
+ghost use Rattle.hh_stream.specs.Weights.{Entry, total_of};
+ghost use Rattle.hh_stream.specs.Cuttings.{pieces_of};
 ghost use Rattle.hh_stream.specs.Ranges.{in_range};
 ghost use Rattle.hh_counters.specs.Counters.{max_k, IsHonest, SummaryView, sketch_of};
 ghost use Rattle.hh_counters.specs.Report.{IsShare, weights_at, heavy};
@@ -23,7 +23,7 @@ use crate::plan::Plan;
 use crate::second::SecondPass;
 use crate::workers::run_apart;
 use hh_counters::laws::{contenders_suffice, misra_gries_is_honest, pruned_suffice};
-use hh_counters::{Candidates, MergeFault, Summary};
+use hh_counters::{Candidates, Heavy, MergeFault, Summary};
 use hh_countmin::Table;
 use hh_countmin::laws::{cells_are_cell_sums, estimate_is_never_below, tables_fit};
 use hh_shared::SharedSums;
@@ -169,6 +169,64 @@ fn candidates(
     Ok(candidates)
 }
 
+/// The summaries of the pieces, merged as the plan says, and the table of the stream.
+fn merge_pieces<R: Threads + Wait + Sync, G: Gate + Sync>(
+    rt: &R,
+    alloc: Global,
+    stream: &Stream,
+    cutting: &Cutting,
+    plan: &Plan,
+    options: &Options,
+    gate: &G,
+) -> Result<(Summary, Table), AllocError>
+    requires same_len { sum cutting.now ≡ length stream.now }
+    requires plan { IsMergeTree plan.now (length cutting.now) }
+    requires some { 0 < length cutting.now }
+    ensures summary { let pieces = pieces_of cutting.now stream.now in IfOk result (λ merged.
+        IsMerged plan.now options.now.k pieces stream.now merged.0) }
+    ensures table { IfOk result (λ merged.
+        merged.1 ≡ table_of options.now.family options.now.width stream.now) }
+{
+    pieces_make_the_whole();
+    misra_gries_is_honest();
+    let (summaries, table) = summarise(rt, alloc, stream, cutting, options, gate)?;
+    // It bounds the sum of the summaries' totals.
+    let _total = stream.total();
+    match merge_by(alloc, plan, summaries) {
+        Ok(summary) => Ok((summary, table)),
+        Err(MergeFault::Memory) => Err(AllocError),
+        Err(MergeFault::DifferentK) => unreachable!(),
+        Err(MergeFault::TotalTooLarge) => unreachable!(),
+    }
+}
+
+/// The keys above the options' threshold, by a second pass over those that can be.
+fn heavy_keys<R: Threads + Wait + Sync, G: Gate + Sync>(
+    rt: &R,
+    alloc: Global,
+    stream: &Stream,
+    cutting: &Cutting,
+    summary: &Summary,
+    table: &Table,
+    options: &Options,
+    gate: &G,
+) -> Result<Vec<Heavy>, AllocError>
+    requires same_len { sum cutting.now ≡ length stream.now }
+    requires same_k { summary.now.k ≡ options.now.k }
+    requires total { summary.now.total ≡ total_of stream.now }
+    requires honest { let s = summary.now in IsHonest s.counters s.total stream.now s.k }
+    requires table { table.now ≡ table_of options.now.family options.now.width stream.now }
+    requires few { length summary.now.counters ≤ max_k }
+    requires rows { 1 ≤ length table.now.family.rows }
+    ensures { IfOk result (λ rows. rows.items ≡ heavy stream.now options.now.p options.now.q) }
+{
+    let (p, q) = options.threshold();
+    let candidates = candidates(alloc, summary, table, p, q)?;
+    let workers = options.workers();
+    let weights = weigh(rt, alloc, stream, cutting, &candidates, workers, gate)?;
+    candidates.select(&weights, stream.total(), p, q)
+}
+
 /// The outcome, where the plan has as many pieces as the cutting.
 fn run_passes<R: Threads + Wait + Sync, G: Gate + Sync>(
     rt: &R,
@@ -182,7 +240,6 @@ fn run_passes<R: Threads + Wait + Sync, G: Gate + Sync>(
     requires same_len { sum cutting.now ≡ length stream.now }
     requires plan { IsMergeTree plan.now (length cutting.now) }
     requires some { 0 < length cutting.now }
-    requires few { length cutting.now ≤ max_pieces }
     ensures summary { let pieces = pieces_of cutting.now stream.now in IfOk result (λ outcome.
         IsMerged plan.now options.now.k pieces stream.now outcome.summary) }
     ensures table { IfOk result (λ outcome.
@@ -190,26 +247,27 @@ fn run_passes<R: Threads + Wait + Sync, G: Gate + Sync>(
     ensures heavy { IfOk result (λ outcome.
         outcome.heavy.items ≡ heavy stream.now options.now.p options.now.q) }
 {
-    pieces_make_the_whole();
-    misra_gries_is_honest();
-    let (summaries, table) = summarise(rt, alloc, stream, cutting, options, gate)?;
-    let total = stream.total();
-    let summary = match merge_by(alloc, plan, summaries) {
-        Ok(summary) => summary,
-        Err(MergeFault::Memory) => return Err(AllocError),
-        Err(MergeFault::DifferentK) => unreachable!(),
-        Err(MergeFault::TotalTooLarge) => unreachable!(),
-    };
-    let (p, q) = options.threshold();
-    let candidates = candidates(alloc, &summary, &table, p, q)?;
-    let workers = options.workers();
-    let weights = weigh(rt, alloc, stream, cutting, &candidates, workers, gate)?;
-    let heavy = candidates.select(&weights, total, p, q)?;
+    let (summary, table) = merge_pieces(rt, alloc, stream, cutting, plan, options, gate)?;
+    let heavy = heavy_keys(rt, alloc, stream, cutting, &summary, &table, options, gate)?;
     Ok(Outcome {
         summary,
         table,
         heavy,
     })
+}
+
+/// Whether the plan has as many pieces as the cutting.
+fn check_counts(plan: &Plan, cutting: &Cutting) -> Result<(), RunError>
+    ensures same { OnOk result (length (leaves plan.now) ≡ length cutting.now) }
+    ensures plan { OnOk result (IsMergeTree plan.now (length cutting.now)) }
+    ensures some { 0 < length cutting.now }
+    ensures mismatch { OnErr result (length (leaves plan.now) ≢ length cutting.now) }
+    ensures told { IsErr result → result ≡ Err RunError.PlanMismatch }
+{
+    if plan.count() != cutting.count() {
+        return Err(RunError::PlanMismatch);
+    }
+    Ok(())
 }
 
 /// Analyses a stream, with workers that share nothing but atomic sums: they summarise the pieces
@@ -240,8 +298,6 @@ pub fn analyse<R: Threads + Wait + Sync, G: Gate + Sync>(
     ensures heavy { IfOk result (λ outcome.
         outcome.heavy.items ≡ heavy stream.now options.now.p options.now.q) }
 {
-    if plan.count() != cutting.count() {
-        return Err(RunError::PlanMismatch);
-    }
+    check_counts(plan, cutting)?;
     run_passes(rt, alloc, stream, cutting, plan, options, gate).map_err(|_| RunError::Memory)
 }

@@ -15,9 +15,9 @@ ghost use Rattle.hh_pool.specs.Progress.{HasDoneFirst, HasTriedFirst, first_piec
 use crate::gate::Gate;
 use crate::options::Options;
 use crate::pass::{Pass, add_numbers};
-use hh_counters::{BucketSaving, NewFault, Summary, monitored_summary};
+use hh_counters::{BucketSaving, Summary, monitored_summary};
+use hh_countmin::Table;
 use hh_countmin::laws::{cells_are_cell_sums, tables_follow_items};
-use hh_countmin::{Table, TableFault};
 use hh_shared::{SharedSums, SumSeat};
 use hh_stream::laws::pieces_make_the_whole;
 use hh_stream::{Cutting, Item, Stream};
@@ -75,11 +75,8 @@ pub(crate) fn summary_of(
     requires { total_of items.now ≤ max_total }
     ensures { IfOk result (λ summary. summary ≡ sketch_of options.now.k items.now) }
 {
-    match BucketSaving::new(alloc, options.k()) {
-        Ok(monitor) => monitored_summary(monitor, items),
-        Err(NewFault::BadK) => unreachable!(),
-        Err(NewFault::Memory) => Err(AllocError),
-    }
+    let monitor = BucketSaving::empty(alloc, options.k())?;
+    monitored_summary(monitor, items)
 }
 
 /// The table of no items.
@@ -87,11 +84,8 @@ pub(crate) fn empty_table(alloc: Global, options: &Options) -> Result<Table, All
     ensures { IfOk result (λ table. table ≡ table_of options.now.family options.now.width []) }
 {
     tables_follow_items();
-    match Table::new(alloc, options.family().copy()?, options.width()) {
-        Ok(table) => Ok(table),
-        Err(TableFault::BadWidth) => unreachable!(),
-        Err(TableFault::Memory) => Err(AllocError),
-    }
+    let family = options.family().copy()?;
+    Table::empty(alloc, family, options.width())
 }
 
 /// Adds each item to the table.
@@ -103,9 +97,7 @@ pub(crate) fn add_items(table: &mut Table, items: &[Item])
 {
     tables_follow_items();
     for item in items {
-        let Ok(()) = table.add(item.key(), item.weight()) else {
-            unreachable!();
-        };
+        table.add_within(item.key().bytes(), item.weight());
     }
 }
 

@@ -20,9 +20,7 @@ use std::mem;
 fn take_summary(alloc: Global, summary: &mut Summary) -> Summary
     ensures { result ≡ summary.old }
 {
-    let Ok(empty) = Summary::new(alloc, summary.k()) else {
-        unreachable!()
-    };
+    let empty = Summary::empty(alloc, summary.k());
     mem::replace(summary, empty)
 }
 

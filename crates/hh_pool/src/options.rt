@@ -9,6 +9,7 @@ ghost use Rattle.hh_pool.specs.Settings.{max_workers, IsThreshold};
 
 use hh_counters::{MAX_K, MAX_Q};
 use hh_countmin::{Family, MAX_WIDTH};
+use hh_stream::in_range;
 use std::marker::Model;
 use thiserror::Error;
 
@@ -99,26 +100,44 @@ impl Options {
             × (in_range width max_width ≡ true)
             × ((p ≡ 0) ⊎ (q < p) ⊎ (max_q < q) ⊎ (p * (k + 1) < q))) }
     {
-        if k == 0 || k > MAX_K {
+        if !in_range(k, MAX_K) {
             return Err(OptionsFault::BadK);
         }
-        if workers == 0 || workers > MAX_WORKERS {
+        if !in_range(workers, MAX_WORKERS) {
             return Err(OptionsFault::BadWorkers);
         }
-        if width == 0 || width > MAX_WIDTH {
+        if !in_range(width, MAX_WIDTH) {
             return Err(OptionsFault::BadWidth);
         }
         if p == 0 || p > q || q > MAX_Q || p * (k + 1) < q {
             return Err(OptionsFault::BadThreshold);
         }
-        Ok(Options {
+        Ok(Options::within(k, p, q, workers, width, family))
+    }
+
+    /// [`new`](Options::new) of parts in their ranges, which refuses nothing.
+    pub fn within(k: u64, p: u64, q: u64, workers: u64, width: u64, family: Family) -> Options
+        requires k { in_range k max_k ≡ true }
+        requires threshold { IsThreshold k p q }
+        requires workers { in_range workers max_workers ≡ true }
+        requires width { in_range width max_width ≡ true }
+        ensures { result ≡ record {
+          k = k;
+          p = p;
+          q = q;
+          workers = workers;
+          width = width;
+          family = family;
+        } }
+    {
+        Options {
             k,
             p,
             q,
             workers,
             width,
             family,
-        })
+        }
     }
 
     pub(crate) fn k(&self) -> u64

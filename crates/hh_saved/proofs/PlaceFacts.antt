@@ -1,8 +1,10 @@
 -- Where the entries of a saved summary lie in its bytes.
-use Rattle.std.proofs.Common.{◌≡◌, ℕ, ◌+◌, ◌<◌, ◌∙◌, List, [], ◌∷◌, ◌++◌, length, get_or, map, take, drop, Ok, ap, refl, sym, append_assoc}
+use Rattle.std.proofs.Common.{◌≡◌, ℕ, ◌+◌, ◌<◌, ◌∙◌, List, [], ◌∷◌, ◌++◌, length, length-drop, length-take, arith, get_or, map, take, drop, Ok, ap, refl, sym, append_assoc}
+use Rattle.std.specs.Prelude.{All}
 use Rattle.std.specs.List.{flat_map}
 use Rattle.std.specs.Int.{w64, byte_len, to_be_bytes}
 use Rattle.std.proofs.lemmas.List.{append-nil, drop-drop, drop_at, drop_more, map-append, take_at, take_more}
+use Rattle.std.proofs.lemmas.List.Elements.{All-push}
 use Rattle.std.proofs.lemmas.List.Concat.{flat_map-cons}
 use Rattle.std.proofs.Math.Seq.{drop-append-add}
 use Rattle.hh_stream.specs.Weights.{Entry}
@@ -11,7 +13,7 @@ use Rattle.hh_saved.specs.declared.format.Version.{Version}
 use Rattle.hh_saved.specs.declared.saved.Saved.TheVariants.{Counters}
 use Rattle.hh_saved.specs.declared.layout.Place.{Place}
 use Rattle.hh_saved.specs.Reading.{version_at}
-use Rattle.hh_saved.specs.Sizes.{entry_in}
+use Rattle.hh_saved.specs.Sizes.{LiesIn, entry_in}
 use Rattle.hh_saved.specs.Spelling.{Spells, entry_bytes, len_width, spelling_of}
 use Rattle.hh_saved.proofs.Fields.{wide64, wide_len}
 use Rattle.hh_saved.proofs.Values.{spelling_names}
@@ -55,6 +57,14 @@ place_listed file counters old new i e p lt is more lies before =
     ap (map (entry_in file)) more ∙ map-append (entry_in file) old (p ∷ [])
     ∙ ap (λ (es : List Entry). es ++ entry_in file p ∷ []) before
     ∙ ap (λ (x : Entry). take i counters ++ x ∷ []) (lies ∙ is) ∙ sym (take_more counters i e lt)
+
+-- a place whose bytes are a key lies within the file, and so do all with it
+pub place_within : (file : List ℕ) (old new : List Place) (p : Place) (key : List ℕ)
+    → take p.len (drop p.start file) ≡ key → length key ≡ p.len → 0 < length key → new ≡ old ++ p ∷ []
+    → All (LiesIn file) old → All (LiesIn file) new
+place_within file old new p key is len some more before =
+    rw more (All-push (LiesIn file) old p before
+    (omega (arith, ap length is, length-take p.len (drop p.start file), length-drop p.start file)))
 
 -- what is left begins with the next entry
 pub next_entry : (version : Version) (file : List ℕ) (counters : List Entry) (start i : ℕ) (e : Entry)

@@ -1,5 +1,5 @@
 -- How many bytes a saved value has, and where they lie.
-use Rattle.std.specs.Prelude.{ℕ, ◌+◌, ◌*◌, List, take, drop}
+use Rattle.std.specs.Prelude.{ℕ, ◌+◌, ◌*◌, ◌≤◌, List, length, take, drop}
 use Rattle.hh_stream.specs.Weights.{Entry}
 use Rattle.hh_saved.specs.declared.layout.Place.{Place}
 
@@ -10,6 +10,10 @@ most_summary_bytes k m = 17 + k * (m + 10)
 -- the bytes of a table, in each version
 abbrev pub table_bytes : ℕ → ℕ → ℕ
 table_bytes width depth = 26 + 16 * depth + 8 * (depth * width)
+
+-- the place lies within a file
+abbrev pub LiesIn : List ℕ → Place → Type 0
+LiesIn file place = place.start + place.len ≤ length file
 
 -- the entry whose key lies at this place of a file
 abbrev pub entry_in : List ℕ → Place → Entry

@@ -1,10 +1,10 @@
 //! Where the entries of a saved summary lie in its bytes.
 
-ghost use Rattle.std.specs.Prelude.{◌≡◌, IfOk, map};
+ghost use Rattle.std.specs.Prelude.{◌≡◌, All, IfOk, map};
 ghost use Rattle.std.specs.Int.{byte_len};
 ghost use Rattle.hh_saved.specs.declared.format.Version.{Version};
 ghost use Rattle.hh_saved.specs.declared.saved.Saved.TheVariants.{Counters};
-ghost use Rattle.hh_saved.specs.Sizes.{entry_in};
+ghost use Rattle.hh_saved.specs.Sizes.{LiesIn, entry_in};
 ghost use Rattle.hh_saved.specs.Spelling.{Spells, len_width};
 
 use crate::format::Version;
@@ -31,8 +31,9 @@ pub struct Place {
 /// Where the entries of a saved summary lie in the bytes that spell it, by rising key.
 pub fn places(alloc: Global, bytes: &[u8], summary: &Summary) -> Result<Vec<Place>, AllocError>
     requires { (version : Version) × Spells version bytes.now (Counters summary.now) }
-    ensures { IfOk result (λ places.
+    ensures entries { IfOk result (λ places.
         map (entry_in bytes.now) places.items ≡ summary.now.counters) }
+    ensures within { IfOk result (λ places. All (LiesIn bytes.now) places.items) }
 {
     let Ok((version, _)) = version_of(bytes) else {
         unreachable!()
@@ -58,8 +59,9 @@ fn places_in(
     summary: &Summary,
 ) -> Result<Vec<Place>, AllocError>
     requires { Spells version bytes.now (Counters summary.now) }
-    ensures { IfOk result (λ places.
+    ensures entries { IfOk result (λ places.
         map (entry_in bytes.now) places.items ≡ summary.now.counters) }
+    ensures within { IfOk result (λ places. All (LiesIn bytes.now) places.items) }
 {
     let width = len_width(version);
     let mut places = Vec::new(alloc);

@@ -14,8 +14,8 @@ use crate::fault::SavedFault;
 use crate::format::{CELLS, COUNTERS, Version};
 use crate::saved::Saved;
 use hh_counters::Summary;
-use hh_countmin::{Family, MAX_DEPTH, MAX_WIDTH, PartsFault, Table, sums_to};
-use hh_stream::{Key, MAX_TOTAL};
+use hh_countmin::{Family, MAX_DEPTH, MAX_WIDTH, Table, sums_to};
+use hh_stream::{Key, MAX_TOTAL, in_range};
 use std::alloc::{AllocError, Global};
 
 /// The summary or table that the bytes spell in some version, all of the bytes. Where they spell
@@ -330,12 +330,11 @@ fn family_of(alloc: Global, depth: usize, bytes: &[u8]) -> Result<(Family, &[u8]
     let (field, rest) = bytes_of(8 + 16 * depth, bytes)?;
     let (first, others) = field.split_at(8);
     let rows = pairs_of(alloc, depth, others)?;
-    match Family::from_parts(alloc, number_of(first), &rows) {
-        Ok(family) => Ok((family, rest)),
-        Err(PartsFault::BadCoefficient) => Err(SavedFault::BadCoefficient),
-        Err(PartsFault::Memory) => Err(SavedFault::Memory),
-        Err(PartsFault::BadDepth) => unreachable!(),
+    let z = number_of(first);
+    if !Family::are_coefficients(z, &rows) {
+        return Err(SavedFault::BadCoefficient);
     }
+    Ok((Family::from_rows(z, rows), rest))
 }
 
 // Puts the cells of a row at the end.
@@ -395,12 +394,12 @@ fn table_of(alloc: Global, bytes: &[u8]) -> Result<(Table, &[u8]), SavedFault>
 {
     let (width, rest) = u32_of(bytes)?;
     let width = u64::from(width);
-    if width == 0 || width > MAX_WIDTH {
+    if !in_range(width, MAX_WIDTH) {
         return Err(SavedFault::BadWidth);
     }
     let (depth, rest) = u8_of(rest)?;
     let depth = u64::from(depth);
-    if depth == 0 || depth > MAX_DEPTH {
+    if !in_range(depth, MAX_DEPTH) {
         return Err(SavedFault::BadDepth);
     }
     let (family, rest) = family_of(alloc, depth as usize, rest)?;

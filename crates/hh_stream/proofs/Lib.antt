@@ -1,1 +1,2 @@
 pub mod CuttingFacts
+mod ItemFacts

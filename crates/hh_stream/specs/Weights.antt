@@ -1,5 +1,6 @@
 -- Keys, items and the weights of a list of items.
-use Rattle.std.specs.Prelude.{ℕ, ◌≤◌, ◌<◌, Bool, cond, List, length, sum_by, EachIndex, slice_index}
+use Rattle.std.specs.Prelude.{ℕ, ◌≤◌, ◌<◌, Bool, cond, List, length, sum_by, All, EachIndex, slice_index}
+use Rattle.std.specs.List.{AllByRecursion}
 use Rattle.std.specs.declared.cmp.Ordering.{Ordering}
 use Rattle.std.specs.Ordering.{nat_cmp, eq_by_cmp}
 use Rattle.std.specs.Cmp.Lexicographic.{slice_cmp}
@@ -37,6 +38,10 @@ same_key x y = eq_by_cmp key_cmp x y
 -- a key and a number: an item with its weight, or a counter
 abbrev pub Entry : Type 0
 Entry = Bytes × ℕ
+
+-- the items have keys and weights
+abbrev pub AreItems : List Entry → Type 0
+AreItems xs = AllByRecursion (λ e. IsKey e.0) xs × All (λ e. 0 < e.1) xs
 
 -- what an entry adds at the key x
 abbrev pub at_key : Bytes → Entry → ℕ

@@ -2,7 +2,7 @@
 
 ghost use Rattle.std.specs.Prelude.{◌≡◌, ◌≢◌, ◌<◌, ◌≤◌, ◌^◌, ◌↔◌, [], true, false, length, sum, slice_index_or, IsTrue, OnOk, OnErr, IfOk, IsErrOf};
 ghost use Rattle.hh_stream.specs.declared.cutting.CuttingFault.TheVariants.{Memory};
-ghost use Rattle.hh_stream.specs.Weights.{max_total, total_of};
+ghost use Rattle.hh_stream.specs.Weights.{AreItems, max_total, total_of};
 ghost use Rattle.hh_stream.specs.Cuttings.{max_pieces, even_lengths, pieces_of, whole_of};
 ghost use Rattle.hh_stream.specs.Ranges.{in_range};
 
@@ -122,6 +122,16 @@ impl Cutting {
         ensures right_sum { ¬ IsErrOf result CuttingFault.WrongSum }
     {
         check_count(pieces)?;
+        Ok(Cutting::of_pieces(alloc, len, pieces)?)
+    }
+
+    /// [`even`](Cutting::even) in 1 to [`MAX_PIECES`] pieces, where only memory can be refused.
+    pub fn of_pieces(alloc: Global, len: usize, pieces: usize) -> Result<Cutting, AllocError>
+        requires { in_range pieces max_pieces ≡ true }
+        ensures even { IfOk result (λ cutting. cutting ≡ even_lengths len pieces) }
+        ensures adds_up { IfOk result (λ cutting. sum cutting ≡ len) }
+        ensures pieces { IfOk result (λ cutting. length cutting ≡ pieces) }
+    {
         let lengths = even_lengths(alloc, len, pieces)?;
         Ok(Cutting { lengths, len })
     }
@@ -174,6 +184,7 @@ impl Cutting {
         requires within { i < length self.now }
         ensures piece { result.now ≡ slice_index_or (pieces_of self.now stream.now) i [] }
         ensures whole { whole_of (pieces_of self.now stream.now) ≡ stream.now }
+        ensures lawful { AreItems result.now }
         ensures bounded { total_of result.now ≤ max_total }
         ensures stream { total_of stream.now ≤ max_total }
     {

@@ -4,10 +4,12 @@
 mod cutting;
 mod key;
 pub mod laws;
+mod ranges;
 mod stream;
 #[cfg(test)]
 mod tests;
 
 pub use cutting::{Cutting, CuttingFault, MAX_PIECES};
 pub use key::{INLINE_LEN, Key, KeyFault, MAX_KEY_LEN};
+pub use ranges::in_range;
 pub use stream::{Item, MAX_TOTAL, PushFault, PushRefused, Stream};

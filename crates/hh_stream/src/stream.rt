@@ -1,7 +1,7 @@
 //! Weighted items, and the streams that hold them in order.
 
 ghost use Rattle.std.specs.Prelude.{◌≡◌, ◌+◌, ◌<◌, ◌≤◌, ◌↔◌, ◌++◌, ◌∷◌, [], length, ◌==◌, OnOk, OnErr, IfErr, IsErrAnd};
-ghost use Rattle.hh_stream.specs.Weights.{max_total, total_of};
+ghost use Rattle.hh_stream.specs.Weights.{AreItems, max_total, total_of};
 
 use crate::key::Key;
 use std::alloc::Global;
@@ -56,14 +56,14 @@ pub struct Stream {
 
 impl Model for Stream {
     ghost use Rattle.std.specs.Prelude.{List, ◌≡◌, ◌≤◌};
-    ghost use Rattle.hh_stream.specs.Weights.{Entry, max_total, total_of};
+    ghost use Rattle.hh_stream.specs.Weights.{AreItems, Entry, max_total, total_of};
 
     ghost Value = { List Entry };
 
     ghost view = { λ stream. stream.items.items };
 
     ghost invariant = { λ stream. (stream.total ≡ total_of stream.items.items)
-        × (stream.total ≤ max_total) };
+        × (stream.total ≤ max_total) × AreItems stream.items.items };
 }
 
 /// Why an item was not pushed: the first of these that holds.
@@ -109,6 +109,8 @@ impl Stream {
         ensures too_large { IsErrAnd result (λ refused. refused.fault ≡ PushFault.TotalTooLarge)
             ↔ ((0 < weight) × (max_total < total_of self.old + weight)) }
     {
+        // It tells that the bytes are a key's.
+        let _bytes = key.bytes();
         if weight == 0 {
             return Err(PushRefused {
                 key,
@@ -161,6 +163,7 @@ impl Stream {
     /// The items, in order.
     pub fn items(&self) -> &[Item]
         ensures items { result.now ≡ self.now }
+        ensures lawful { AreItems self.now }
         ensures bounded { total_of self.now ≤ max_total }
     {
         self.items.as_slice()

@@ -12,8 +12,9 @@ loop-item-preserved c =
     let e : Entry = c.item-item.result in
     let more : take (i + 1) items ≡ take i items ++ e ∷ [] = take_more items i e c.loop-item-test.true
     ∙ ap (λ (x : Entry). take i items ++ x ∷ []) (sym c.item-item.is) in
-    let item : (c.key.result.now, c.weight.result) ≡ e = λ j. (c.key.ensures j, c.weight.ensures.weight j) in
-    let after : c.add.new.self ≡ grid_with c.loop-item.table e = c.in-Ok.ensures.added
+    let item : (c.bytes.result.now, c.weight.result) ≡ e =
+    λ j. ((c.bytes.ensures.bytes ∙ c.key.ensures) j, c.weight.ensures.weight j) in
+    let after : c.add_within.new.self ≡ grid_with c.loop-item.table e = c.add_within.ensures
     ∙ ap (grid_with c.loop-item.table) item in
     record {
       total =

@@ -1,10 +1,10 @@
-use Rattle.std.proofs.Common.{◌≡◌, ◌+◌, ◌<◌, length, take, drop, ap, arith}
+use Rattle.std.proofs.Common.{◌≡◌, ◌+◌, ◌<◌, length, take, drop, ap, sym, arith}
 use Rattle.std.specs.List.{flat_map}
 use Rattle.hh_stream.specs.Weights.{Bytes, Entry}
 use Rattle.hh_saved.specs.declared.layout.Place.{Place}
 use Rattle.hh_saved.specs.Sizes.{entry_in}
 use Rattle.hh_saved.specs.Spelling.{entry_bytes}
-use Rattle.hh_saved.proofs.PlaceFacts.{key_lies, next_begins, next_entry, place_listed}
+use Rattle.hh_saved.proofs.PlaceFacts.{key_lies, next_begins, next_entry, place_listed, place_within}
 use Rattle.hh_saved.proofs.layout.places_in.Goals as goal
 
 pub loop-i-preserved : goal.loop-i-preserved
@@ -23,5 +23,9 @@ loop-i-preserved c =
     rw (c.len_width-width.ensures, c.bytes-len.ensures.bytes) (next_begins c.args.version file rest start e here) in
     let key : take (length c.bytes-len.result.now) (drop (start + width) file) ≡ e.0 =
     rw (c.len_width-width.ensures, c.bytes-len.ensures.bytes) (key_lies c.args.version file rest start e here) in
-    let lies : entry_in file place ≡ e = ap (λ (x : Bytes). let y : Entry = (x, e.1) in y) key in
-    (next, place_listed _ _ _ _ _ _ _ lt c.entry-counter.ensures c.in_ok-push.ensures.items lies c.loop-i.invariant.1)
+    let lies : entry_in file place ≡ e = ap (λ (x : Bytes). let y : Entry = (x, e.1) in y) key in (
+      next,
+      place_listed _ _ _ _ _ _ _ lt c.entry-counter.ensures c.in_ok-push.ensures.items lies c.loop-i.invariant.1,
+      place_within file _ _ place e.0 key (ap length (sym c.bytes-len.ensures.bytes)) c.bytes-len.ensures.key.some
+          c.in_ok-push.ensures.items c.loop-i.invariant.2,
+    )

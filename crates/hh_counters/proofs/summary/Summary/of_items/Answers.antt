@@ -11,10 +11,10 @@ pub loop-item-preserved : goal.loop-item-preserved
 loop-item-preserved c =
     let i = c.loop-item.item-index in
     let item : Entry = c.item-item.result in
-    let taken : Entry = (c.key.result.now, c.weight.result) in
-    let same : taken ≡ item = λ j. (c.key.ensures j, c.weight.ensures.weight j) in
+    let taken : Entry = (c.bytes.result.now, c.weight.result) in
+    let same : taken ≡ item = λ j. ((c.bytes.ensures.bytes ∙ c.key.ensures) j, c.weight.ensures.weight j) in
     let before = sketch_of c.args.k (take i c.args.items.now) in
-    c.in-Ok-add.ensures.added
+    c.in-Ok-add_within.ensures.added
     ∙ ap (λ (s : SummaryView). sketch_with s taken) c.loop-item.invariant
     ∙ ap (sketch_with before) same
     ∙ sym (sketch_more c.args.k c.args.items.now i item c.loop-item-test.true c.item-item.is)
