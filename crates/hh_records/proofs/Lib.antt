@@ -1,3 +1,4 @@
+pub mod ByteFacts
 pub mod PartFacts
 pub mod ReadFacts
 pub mod RowFacts

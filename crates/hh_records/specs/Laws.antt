@@ -1,5 +1,5 @@
 -- What holds of texts that are joined.
-use Rattle.std.specs.Prelude.{◌≡◌, ◌<◌, ◌≤◌, List, length, All, Ok}
+use Rattle.std.specs.Prelude.{◌≡◌, ◌<◌, ◌≤◌, ℕ, List, length, All, EachIndex, Ok, slice_index}
 use Rattle.std.specs.List.{AllByRecursion, flat_map}
 use Rattle.hh_stream.specs.Weights.{Entry, IsKey, max_total, total_of}
 use Rattle.hh_stream.specs.Cuttings.{whole_of}
@@ -11,6 +11,12 @@ use Rattle.hh_records.specs.Streams.{stream_of}
 -- the items of a stream have keys and weights
 abbrev pub AreItems : List Entry → Type 0
 AreItems xs = AllByRecursion (λ e. IsKey e.0) xs × All (λ e. 0 < e.1) xs
+
+-- what a text of bytes reads as has keys and weights, and a total in range
+abbrev pub TextsAreItems : Type 0
+TextsAreItems =
+    (text : List ℕ) (xs : List Entry) → EachIndex text (λ i. slice_index text i < 256) → stream_of text ≡ Ok xs
+    → AreItems xs × (total_of xs ≤ max_total)
 
 -- condensed parts in files that are joined are read as the condensed parts
 abbrev pub CondensedFilesAreRead : Type 0

@@ -1,8 +1,14 @@
 //! Laws of the definitions in `specs/`. Each function does nothing: its contract is the law.
 
-ghost use Rattle.hh_records.specs.Laws.{CondensedFilesAreRead};
+ghost use Rattle.hh_records.specs.Laws.{CondensedFilesAreRead, TextsAreItems};
 
 use hh_counters::laws::condensed_keeps_weights;
+
+/// What a text of bytes reads as are items, with a key and a weight each, as the law on files of
+/// condensed records asks.
+pub fn texts_are_items()
+    ensures { TextsAreItems }
+{}
 
 /// Files of condensed records, joined, are read as the condensed records, one file after the other.
 pub fn condensed_files_are_read()

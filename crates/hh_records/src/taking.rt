@@ -7,7 +7,7 @@ ghost use Rattle.hh_counters.specs.Counting.{count_with};
 ghost use Rattle.hh_counters.specs.SpaceSaving.{monitor_with};
 ghost use Rattle.hh_countmin.specs.Table.{grid_with};
 
-use hh_counters::{AddFault, BucketSaving, Counts, Monitor, Summary};
+use hh_counters::{BucketSaving, Counts, Monitor, Summary};
 use hh_countmin::Table;
 use hh_stream::{Key, PushFault, Stream};
 use std::alloc::{AllocError, Global};
@@ -68,11 +68,7 @@ impl TakeItems for Summary {
     }
 
     fn take(&mut self, _alloc: Global, key: &[u8], weight: u64) -> Result<(), AllocError> {
-        match self.add_bytes(key, weight) {
-            Ok(()) => Ok(()),
-            Err(AddFault::TotalTooLarge) => unreachable!(),
-            Err(AddFault::Memory) => Err(AllocError),
-        }
+        self.add_within(key, weight)
     }
 }
 
@@ -86,11 +82,7 @@ impl TakeItems for BucketSaving {
     }
 
     fn take(&mut self, _alloc: Global, key: &[u8], weight: u64) -> Result<(), AllocError> {
-        match self.add_bytes(key, weight) {
-            Ok(()) => Ok(()),
-            Err(AddFault::TotalTooLarge) => unreachable!(),
-            Err(AddFault::Memory) => Err(AllocError),
-        }
+        self.add_within(key, weight)
     }
 }
 
@@ -104,9 +96,7 @@ impl TakeItems for Table {
     }
 
     fn take(&mut self, _alloc: Global, key: &[u8], weight: u64) -> Result<(), AllocError> {
-        let Ok(()) = self.add_bytes(key, weight) else {
-            unreachable!()
-        };
+        self.add_within(key, weight);
         Ok(())
     }
 }
