@@ -191,6 +191,49 @@ def try_files(line: Line) -> None:
     line.refuses(["condense", "--", "-four"], "record 2: zero weight", 3, b"a,5\nb,0\n")
     line.refuses(["condense", "table"], "file 1: not a counter summary", 3)
     line.refuses(["ask", b"\xff", "a"], "file 1: could not be read", 1)
+    for name in ("--k", "--help", "--progress"):
+        for command in (["condense"], ["confirm"], ["merge", "0.heavy"]):
+            place = len(command)
+            line.refuses([*command[:1], "--", *command[1:], name], f"file {place}: could not be read", 1)
+        line.save(name, ["summarise", "--k", "2"])
+        line.expect(["merge", "--", name], (0, saved, b""))
+        line.expect(["confirm", "--", name], (0, b"a,6\n", b""))
+        line.expect(["condense", "--", name], (0, b"b,9\n", b""), b"b,9\n")
+        line.expect(["ask", "--", name, name, "a"], (0, name.encode() + b",0,2\na,4,6\n", b""))
+
+
+def watched(line: Line, library: str, words: list, given: bytes) -> list[int]:
+    """What a report starts and asks for: 0 for each thread, and the bytes of each request of at least 4,096."""
+    ear, mouth = os.pipe()
+    env = {"LD_PRELOAD": library, "WATCH_FROM": "4096", "WATCH_TOLD_ON": str(mouth)}
+    ended = programs.run([line.program, "report", *words], given, env, pass_fds=(mouth,))
+    os.close(mouth)
+    with open(ear, "rb") as told:
+        numbers = sorted(map(int, told.read().split()))
+    return numbers if ended.status == 0 else []
+
+
+def try_hidden_options(line: Line) -> None:
+    """Options of a report that its rows don't show. Each of two passes starts the workers; a worker's table takes 8
+    bytes for each cell, and the shared words are those cells and a claim for each piece. By the seed keys meet in other
+    cells, and so more or fewer of them are counted in the second pass."""
+    library = programs.preloaded("watch.c", line.room)
+    for words, workers, pieces, cells in [
+        ([], 4, 4, 1024 * 4), (["--workers", "6"], 6, 4, 1024 * 4), (["--pieces", "9"], 4, 9, 1024 * 4),
+        (["--workers", "5", "--pieces", "7"], 5, 7, 1024 * 4), (["--width", "1100"], 4, 4, 1100 * 4),
+        (["--depth", "12"], 4, 4, 1024 * 12), (["--width", "1300", "--depth", "3"], 4, 4, 1300 * 3),
+        (["--workers", "4", "--pieces", "4", "--width", "1024", "--depth", "4"], 4, 4, 1024 * 4),
+    ]:
+        told = watched(line, library, words, RECORDS)
+        found = (told.count(0), 8 * cells in told, 8 * (cells + pieces) in told)
+        line.tally.check(f"report {' '.join(words)}", found == (2 * workers, True, True), told)
+    many = b"".join(b"k%d,%d\n" % (number, 1 + number % 7) for number in range(5000))
+    options = ["--k", "3000", "--workers", "1", "--width", "4096", "--depth", "1"]
+    seeds = ["0", "7", str(2**64 - 1)]
+    plain, *told = [watched(line, library, options + words, many) for words in ([], *(["--seed", it] for it in seeds))]
+    line.tally.check("the default seed of a report is 0", plain == told[0] and plain != [], (plain, told[0]))
+    differ = len({tuple(it) for it in told}) == len(seeds)
+    line.tally.check("each seed of a report has a table of its own", differ, told)
 
 
 def saved_bytes(*fields: str) -> bytes:
@@ -265,6 +308,30 @@ def try_digits_and_bytes(line: Line) -> None:
     line.refuses(["summarise", "--method", "x"], "method must be mg or ss")
 
 
+def try_kinds(line: Line) -> None:
+    """What clap says of each kind of fault."""
+    other, missing = "unexpected argument '%s' found", "the following required arguments were not provided:"
+    for words, text in [
+        ([], "'heavy' requires a subcommand but one was not provided"), (["no"], "unrecognized subcommand 'no'"),
+        (["--k", "2"], other % "--k"), (["report", "--no"], other % "--no"), (["report", "no"], other % "no"),
+        (["report", "--method", "mg"], other % "--method"), (["summarise", "--width", "2"], other % "--width"),
+        (["table", "--k", "2"], other % "--k"), (["condense", "one", "two"], other % "two"),
+        (["confirm", "one", "two"], other % "two"), (["merge", "--progress", "one"], other % "--progress"),
+        (["ask", "--progress", "one", "a"], other % "--progress"),
+        (["report", "--k"], "a value is required for '--k <N>' but none was supplied"),
+        (["report", "--k", "x"], "invalid value 'x' for '--k <N>'"),
+        (["report", "--k", str(2**64)], f"invalid value '{2**64}' for '--k <N>'"),
+        (["report", "--k", "1", "--k", "2"], "the argument '--k <N>' cannot be used multiple times"),
+        (["merge"], missing), (["ask", "file"], missing), (["condense"], missing), (["confirm"], missing),
+    ]:
+        status, out, err = line.run(words)
+        said = err.startswith(f"error: {text}".encode())
+        line.tally.check(f"clap on {words}", (status, out, said) == (2, b"", True), (status, out, err))
+    for words in (["help"], ["table", "--help"]):
+        status, out, err = line.run(words)
+        line.tally.check(f"{words}", (status, err) == (0, b"") and b"Usage: heavy" in out, (status, out, err))
+
+
 def try_usage(line: Line) -> None:
     """Faults of the command line are clap's, with status 2; help has status 0."""
     wrong = [
@@ -318,6 +385,8 @@ def main() -> None:
         try_files(line)
         try_vectors(line)
         try_digits_and_bytes(line)
+        try_hidden_options(line)
+        try_kinds(line)
         try_usage(line)
         try_help(line)
         line.tally.end("command line")

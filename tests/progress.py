@@ -40,6 +40,28 @@ def try_answers(tally: programs.Tally, program: str, commands: dict[str, list[st
                 tally.check(f"{name} tells the whole", PIPE.findall(told.err) == [(size, b"19999")], told.err)
 
 
+def try_counts(tally: programs.Tally, program: str) -> None:
+    """How many records are counted as their bytes come: a line feed in quotes ends none, an empty line is none, and one
+    that has begun is one."""
+    for text, count in [
+        (b"", b"0"), (b"a", b"1"), (b"a,1\n", b"1"), (b"a,1\nb,2", b"2"), (b"a,1\r\nb,2\r\n", b"2"),
+        (b"\n\na\n\n\nb\n\n", b"2"), (b'"a\nb",1\nc,2\n', b"2"), (b'"a""\n""b",1\nc,2\n', b"2"),
+        (b'a"b\nc"d\n', b"2"), (b'"a"b\nc\n', b"2"),
+    ]:
+        ended = programs.run([program, "table", "--progress"], text)
+        told = {found for _, found in PIPE.findall(ended.err)}
+        tally.check(f"records counted in {text}", (ended.status, told) == (0, {count}), ended.err)
+    for first, second in [(b'a,"1\n', b'"\nb,2\n'), (b",", b"\n,\n")]:
+        running = subprocess.Popen([program, "table", "--progress"], stdin=subprocess.PIPE, stdout=subprocess.PIPE,
+                                   stderr=subprocess.PIPE, env={})
+        running.stdin.write(first)
+        running.stdin.flush()
+        time.sleep(STOPPED)
+        told = running.communicate(second)[1]
+        found = {count for _, count in PIPE.findall(told)}
+        tally.check(f"records counted in {first + second}, which are refused", found == {b"2"}, told)
+
+
 def try_pipe(tally: programs.Tally, program: str, name: str, words: list[str]) -> None:
     """A slow pipe: at most a line a second and one at the end, with more bytes each time, and no share."""
     begun = time.monotonic()
@@ -98,6 +120,7 @@ def main() -> None:
         for file, text in (("part", PART), ("many", PART * 100), ("pipe", PART * STEPS)):
             Path(room, file).write_bytes(programs.run([program, "summarise"], text).out)
         try_answers(tally, program, {**commands, **by_summary(f"{room}/part")})
+        try_counts(tally, program)
         try_pipe(tally, program, "summarise", ["summarise"])
         for name, words in by_summary(f"{room}/pipe").items():
             try_pipe(tally, program, name, words)

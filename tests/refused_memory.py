@@ -27,9 +27,9 @@ CALLS = {
     ],
     "hh_counters": [
         "Summary::add", "Summary::add_bytes", "Summary::of_items", "Summary::merge", "Candidates::of",
-        "Candidates::contenders", "Candidates::select", "SpaceSaving::add", "SpaceSaving::into_summary",
-        "BucketSaving::new", "BucketSaving::add", "BucketSaving::add new bucket", "BucketSaving::add moving a key",
-        "BucketSaving::add_bytes", "BucketSaving::into_summary", "monitored_summary",
+        "Candidates::contenders", "Candidates::pruned", "Candidates::select", "SpaceSaving::add",
+        "SpaceSaving::into_summary", "BucketSaving::new", "BucketSaving::add", "BucketSaving::add new bucket",
+        "BucketSaving::add moving a key", "BucketSaving::add_bytes", "BucketSaving::into_summary", "monitored_summary",
     ],
     "hh_countmin": ["Family::draw", "Family::from_parts", "Family::copy", "Table::new"],
     "hh_saved": ["write", "write table", "read", "read table", "places"],
@@ -162,9 +162,9 @@ def try_many_keys(refusing: Refusing, program: str) -> None:
 
 
 def try_first_piece(refusing: Refusing, program: str) -> None:
-    """Of the refused runs of an analysis by one worker, most stop in the first pass over the first piece, of 2,000
-    keys: so it is done by the worker, once, after one call of the gate."""
-    words = [program, "hh_pool", "analyse many keys", "short"]
+    """Of the refused runs of an analysis by one worker, most stop in the first pass over the first piece, of 1,000 keys
+    that take memory: so it is done by the worker, once, after one call of the gate."""
+    words = [program, "hh_pool", "analyse many keys", "long"]
     ample, _ = refusing.run(words, 0, b"", MARKS)
     once = more = 0
     for at in range(1, 1_000_000):
@@ -177,7 +177,7 @@ def try_first_piece(refusing: Refusing, program: str) -> None:
             once, more = once + (calls == 1), more + (calls > 1)
         elif not same(ample, ended):
             refusing.tell(words, at, ended)
-    if not (ample.out.endswith(b"answer 4 \n") and once > more and more < 500):
+    if not (ample.out.endswith(b"answer 4 \n") and once > more and more < 250):
         refusing.tell(words, 0, f"{once} runs stopped after one call of the gate, {more} after more: {ample}")
 
 

@@ -105,11 +105,29 @@ fn progress<'a>(alloc: Global) -> Arg<'a>
         .display_order(LAST)
 }
 
+/// The same command, with an argument more.
+fn with<'a>(command: Command<'a>, argument: Arg<'a>) -> Result<Command<'a>, AllocError>
+    requires command { (fields_of command).has_globals ≡ false }
+    requires argument { argument.global ≡ false }
+    ensures { IfOk result (λ c. (fields_of c).has_globals ≡ false) }
+{
+    command.arg(argument)
+}
+
+/// The same command, with a command of its own more.
+fn with_command<'a>(all: Command<'a>, command: Command<'a>) -> Result<Command<'a>, AllocError>
+    requires all { (fields_of all).has_globals ≡ false }
+    requires command { (fields_of command).has_globals ≡ false }
+    ensures { IfOk result (λ c. (fields_of c).has_globals ≡ false) }
+{
+    all.subcommand(command)
+}
+
 /// The command with this name and help, which reads records and can tell how far it is.
 fn reader<'a>(alloc: Global, name: &'a str, help: Help) -> Result<Command<'a>, AllocError>
     ensures { IfOk result (λ c. (fields_of c).has_globals ≡ false) }
 {
-    described(alloc, name, help).arg(progress(alloc))
+    with(described(alloc, name, help), progress(alloc))
 }
 
 /// A word that has to be given.
@@ -124,40 +142,51 @@ fn word<'a>(alloc: Global, name: &'a str, help: &'a str) -> Arg<'a>
 
 /// The same command, with the options of a table.
 fn with_table<'a>(alloc: Global, command: Command<'a>) -> Result<Command<'a>, AllocError>
-    ensures { (fields_of command.entry).has_globals ≡ false
-        → IfOk result (λ c. (fields_of c).has_globals ≡ false) }
+    requires { (fields_of command).has_globals ≡ false }
+    ensures { IfOk result (λ c. (fields_of c).has_globals ≡ false) }
 {
-    command
-        .arg(WIDTH.argument(alloc))?
-        .arg(DEPTH.argument(alloc))?
-        .arg(SEED.argument(alloc))
+    let command = with(command, WIDTH.argument(alloc))?;
+    let command = with(command, DEPTH.argument(alloc))?;
+    with(command, SEED.argument(alloc))
+}
+
+/// The option that says how pieces are merged.
+fn tree<'a>(alloc: Global) -> Arg<'a>
+    ensures { result.global ≡ false }
+{
+    let shapes = "How to merge the pieces: balanced, chain or as in ((0 1) 2) [default: balanced]";
+    option(alloc, "tree", shapes).value_name("TREE")
 }
 
 /// The same command, with the options of workers.
 fn with_workers<'a>(alloc: Global, command: Command<'a>) -> Result<Command<'a>, AllocError>
-    ensures { (fields_of command.entry).has_globals ≡ false
-        → IfOk result (λ c. (fields_of c).has_globals ≡ false) }
+    requires { (fields_of command).has_globals ≡ false }
+    ensures { IfOk result (λ c. (fields_of c).has_globals ≡ false) }
 {
-    let shapes = "How to merge the pieces: balanced, chain or as in ((0 1) 2) [default: balanced]";
-    command
-        .arg(WORKERS.argument(alloc))?
-        .arg(PIECES.argument(alloc))?
-        .arg(option(alloc, "tree", shapes).value_name("TREE"))
+    let command = with(command, WORKERS.argument(alloc))?;
+    let command = with(command, PIECES.argument(alloc))?;
+    with(command, tree(alloc))
 }
 
-/// The same command, with the options that say which keys are heavy.
-fn with_share<'a>(alloc: Global, command: Command<'a>) -> Result<Command<'a>, AllocError>
-    ensures { (fields_of command.entry).has_globals ≡ false
-        → IfOk result (λ c. (fields_of c).has_globals ≡ false) }
+/// The option with a share of the total.
+fn threshold<'a>(alloc: Global) -> Arg<'a>
+    ensures { result.global ≡ false }
 {
     let share = "Keys above this share of the total are heavy, as 1/50 [default: 1/(k+1)]";
-    let threshold = option(alloc, "threshold", share)
+    option(alloc, "threshold", share)
         .value_name("P/Q")
         .long_help(
             "Keys above this share of the total weight are heavy, from 1/(k+1) to 1/1,
 with P and Q up to 4294967296 [default: 1/(k+1)]",
-        );
-    command.arg(K.argument(alloc))?.arg(threshold)
+        )
+}
+
+/// The same command, with the options that say which keys are heavy.
+fn with_share<'a>(alloc: Global, command: Command<'a>) -> Result<Command<'a>, AllocError>
+    requires { (fields_of command).has_globals ≡ false }
+    ensures { IfOk result (λ c. (fields_of c).has_globals ≡ false) }
+{
+    with(with(command, K.argument(alloc))?, threshold(alloc))
 }
 
 /// The command that prints a report.
@@ -168,14 +197,20 @@ fn report_command<'a>(alloc: Global) -> Result<Command<'a>, AllocError>
     with_table(alloc, with_workers(alloc, command)?)
 }
 
+/// The option with the name of an algorithm.
+fn method<'a>(alloc: Global) -> Arg<'a>
+    ensures { result.global ≡ false }
+{
+    let methods = "How: mg (Misra-Gries) or ss (Space-Saving), with the same result [default: mg]";
+    option(alloc, "method", methods).value_name("METHOD")
+}
+
 /// The commands that make saved files of records.
 fn summarise_command<'a>(alloc: Global) -> Result<Command<'a>, AllocError>
     ensures { IfOk result (λ c. (fields_of c).has_globals ≡ false) }
 {
-    let methods = "How: mg (Misra-Gries) or ss (Space-Saving), with the same result [default: mg]";
-    reader(alloc, "summarise", SUMMARISE)?
-        .arg(K.argument(alloc))?
-        .arg(option(alloc, "method", methods).value_name("METHOD"))
+    let command = reader(alloc, "summarise", SUMMARISE)?;
+    with(with(command, K.argument(alloc))?, method(alloc))
 }
 
 fn table_command<'a>(alloc: Global) -> Result<Command<'a>, AllocError>
@@ -220,20 +255,49 @@ fn confirm_command<'a>(alloc: Global) -> Result<Command<'a>, AllocError>
         .arg(word(alloc, "FILE", "A saved summary"))
 }
 
+/// The program, which has no command yet.
+fn program<'a>(alloc: Global) -> Result<Command<'a>, AllocError>
+    ensures { IfOk result (λ c. (fields_of c).has_globals ≡ false) }
+{
+    let program = described(alloc, "heavy", PROGRAM).bin_name("heavy")?;
+    Ok(program.version(VERSION))
+}
+
+/// The same command, with those that read records alone.
+fn with_record_commands<'a>(alloc: Global, all: Command<'a>) -> Result<Command<'a>, AllocError>
+    requires { (fields_of all).has_globals ≡ false }
+    ensures { IfOk result (λ c. (fields_of c).has_globals ≡ false) }
+{
+    let all = with_command(all, report_command(alloc)?)?;
+    let all = with_command(all, summarise_command(alloc)?)?;
+    with_command(all, table_command(alloc)?)
+}
+
+/// The same command, with those that read a saved summary and records.
+fn with_pass_commands<'a>(alloc: Global, all: Command<'a>) -> Result<Command<'a>, AllocError>
+    requires { (fields_of all).has_globals ≡ false }
+    ensures { IfOk result (λ c. (fields_of c).has_globals ≡ false) }
+{
+    let all = with_command(all, condense_command(alloc)?)?;
+    with_command(all, confirm_command(alloc)?)
+}
+
+/// The same command, with those that read saved files alone.
+fn with_file_commands<'a>(alloc: Global, all: Command<'a>) -> Result<Command<'a>, AllocError>
+    requires { (fields_of all).has_globals ≡ false }
+    ensures { IfOk result (λ c. (fields_of c).has_globals ≡ false) }
+{
+    let all = with_command(all, merge_command(alloc)?)?;
+    with_command(all, ask_command(alloc)?)
+}
+
 /// The command line that the program reads.
 pub fn command_line<'a>(alloc: Global) -> Result<Command<'a>, AllocError>
     ensures globals { IfOk result (λ c. (fields_of c).has_globals ≡ false) }
     ensures required { IfOk result (λ c. (fields_of c).subcommand_required ≡ true) }
 {
-    let all = described(alloc, "heavy", PROGRAM)
-        .bin_name("heavy")?
-        .version(VERSION)
-        .subcommand(report_command(alloc)?)?
-        .subcommand(summarise_command(alloc)?)?
-        .subcommand(table_command(alloc)?)?
-        .subcommand(merge_command(alloc)?)?
-        .subcommand(ask_command(alloc)?)?
-        .subcommand(condense_command(alloc)?)?
-        .subcommand(confirm_command(alloc)?)?;
+    let all = with_record_commands(alloc, program(alloc)?)?;
+    let all = with_file_commands(alloc, all)?;
+    let all = with_pass_commands(alloc, all)?;
     Ok(all.subcommand_required(true))
 }

@@ -7,8 +7,6 @@ mod help;
 mod progress;
 mod record_count;
 mod request;
-#[cfg(test)]
-mod tests;
 mod words;
 
 use files::{read_file, read_files};

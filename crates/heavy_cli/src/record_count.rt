@@ -17,12 +17,17 @@ enum Place {
 
 impl Place {
     fn after(self, byte: u8) -> Place {
-        match (self, byte) {
-            (Place::Quoted, b'"') => Place::Quote,
-            (Place::Quoted, _) => Place::Quoted,
-            (_, b'\r' | b'\n') => Place::Between,
-            (_, b',') => Place::FieldEnd,
-            (Place::Between | Place::FieldEnd | Place::Quote, b'"') => Place::Quoted,
+        if matches!(self, Place::Quoted) {
+            return if byte == b'"' {
+                Place::Quote
+            } else {
+                Place::Quoted
+            };
+        }
+        match byte {
+            b'\r' | b'\n' => Place::Between,
+            b',' => Place::FieldEnd,
+            b'"' if !matches!(self, Place::Plain) => Place::Quoted,
             _ => Place::Plain,
         }
     }

@@ -44,31 +44,45 @@ pub fn text_of(alloc: Global, word: &[u8]) -> Result<String, AllocError> {
     Ok(text)
 }
 
+/// Puts a character of a text behind these bytes.
+fn push_text(bytes: &mut Vec<u8>, character: char) -> Result<(), AllocError> {
+    let mut room = [0u8; 4];
+    bytes.extend_from_slice(character.encode_utf8(&mut room).as_bytes())
+}
+
 /// The bytes of the word that a text stands for.
 pub fn bytes_of(alloc: Global, text: &str) -> Result<Vec<u8>, AllocError> {
     let mut bytes = Vec::new(alloc);
     for character in text.chars() {
         match byte_in(character) {
             Some(byte) => bytes.push(byte)?,
-            None => {
-                let mut room = [0u8; 4];
-                bytes.extend_from_slice(character.encode_utf8(&mut room).as_bytes())?;
-            }
+            None => push_text(&mut bytes, character)?,
         }
     }
     Ok(bytes)
+}
+
+/// The word with this number, if it fits in so much room.
+fn word_in<E: Env>(
+    env: &E,
+    alloc: Global,
+    number: usize,
+    room: usize,
+) -> Result<Result<Vec<u8>, FillError>, AllocError> {
+    let mut word = vec![in alloc; 0u8; room]?;
+    let filled = env.arg(number, word.as_mut_slice());
+    Ok(filled.map(|len| {
+        word.truncate(len);
+        word
+    }))
 }
 
 /// The word with this number, in room that is doubled until it fits.
 fn read_word<E: Env>(env: &E, alloc: Global, number: usize) -> Result<Option<Vec<u8>>, AllocError> {
     let mut room = 256usize;
     for _ in 0..usize::BITS {
-        let mut word = vec![in alloc; 0u8; room]?;
-        match env.arg(number, word.as_mut_slice()) {
-            Ok(len) => {
-                word.truncate(len);
-                return Ok(Some(word));
-            }
+        match word_in(env, alloc, number, room)? {
+            Ok(word) => return Ok(Some(word)),
             Err(FillError::NotPresent) => return Ok(None),
             Err(FillError::TooLong) => room = room.saturating_mul(2),
         }
