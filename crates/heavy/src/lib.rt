@@ -6,7 +6,6 @@ mod counting;
 mod error;
 mod files;
 pub mod laws;
-mod limits;
 
 pub use commands::ask::{ask_bytes, ask_key, ask_keys};
 pub use commands::condense::condense_bytes;

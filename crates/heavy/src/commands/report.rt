@@ -9,12 +9,11 @@ ghost use Rattle.hh_records.specs.Thresholds.{threshold_of};
 ghost use Rattle.heavy.specs.Report.{IsOptionFault, IsReported, Names, ReportRefused, TreeRefused, bad_option, failed_by, settings_of};
 
 use crate::error::{ToolError, TreeFault};
-use crate::limits::in_range;
 use hh_counters::{Heavy, MAX_K};
-use hh_countmin::{DrawFault, Family, MAX_DEPTH, MAX_WIDTH};
+use hh_countmin::{Family, MAX_DEPTH, MAX_WIDTH};
 use hh_pool::{MAX_WORKERS, OpenGate, Options, OptionsFault, Plan, PlanFault, RunError, analyse};
 use hh_records::{ReportFault, Share, Sink, read_stream, threshold_of, write_report};
-use hh_stream::{Cutting, CuttingFault, MAX_PIECES, Stream};
+use hh_stream::{Cutting, MAX_PIECES, Stream, in_range};
 use std::alloc::{AllocError, Global};
 use std::io::Read;
 use std::sync::Wait;
@@ -124,11 +123,7 @@ fn settings_of(
     requires threshold { threshold_of options.now.k options.now.threshold ≡ Some (p, q) }
     ensures { IfOk result (λ settings. settings ≡ settings_of options.now p q) }
 {
-    let family = match Family::draw(alloc, options.seed, options.depth) {
-        Ok(family) => family,
-        Err(DrawFault::BadDepth) => unreachable!(),
-        Err(DrawFault::Memory) => return Err(AllocError),
-    };
+    let family = Family::of_seed(alloc, options.seed, options.depth)?;
     match Options::new(options.k, p, q, options.workers, options.width, family) {
         Ok(settings) => Ok(settings),
         Err(OptionsFault::BadK | OptionsFault::BadWorkers) => unreachable!(),
@@ -149,13 +144,7 @@ fn heavy_keys<T: Threads + Wait + Sync>(
     requires plan { length (leaves plan.now) ≡ pieces }
     ensures { IfOk result (λ rows. rows.items ≡ heavy stream.now settings.now.p settings.now.q) }
 {
-    let cutting = match Cutting::even(alloc, stream.len(), pieces) {
-        Ok(cutting) => cutting,
-        Err(CuttingFault::Memory) => return Err(AllocError),
-        Err(CuttingFault::NoPieces | CuttingFault::TooManyPieces | CuttingFault::WrongSum) => {
-            unreachable!()
-        }
-    };
+    let cutting = Cutting::of_pieces(alloc, stream.len(), pieces)?;
     match analyse(rt, alloc, stream, &cutting, plan, settings, &OpenGate) {
         Ok(outcome) => Ok(outcome.heavy),
         Err(RunError::PlanMismatch) => unreachable!(),

@@ -8,11 +8,11 @@ ghost use Rattle.heavy.specs.Records.{RecordsRefused, RefusedAfter, SavesStream}
 ghost use Rattle.heavy.specs.Summarise.{IsSummaryOf, bad_k, word_of};
 
 use crate::error::ToolError;
-use crate::limits::in_range;
 use hh_counters::laws::summaries_follow_items;
-use hh_counters::{BucketSaving, MAX_K, Monitor, NewFault, Summary};
+use hh_counters::{BucketSaving, MAX_K, Monitor, Summary};
 use hh_records::read_items;
 use hh_saved::{Saved, write};
+use hh_stream::in_range;
 use std::alloc::Global;
 use std::io::Read;
 
@@ -68,9 +68,7 @@ fn summary_by_counting<R: Read + Drop>(
     ensures refused { IfErr result (λ fault. RecordsRefused (R.remaining reader) fault) }
 {
     summaries_follow_items();
-    let Ok(summary) = Summary::new(alloc, k) else {
-        unreachable!()
-    };
+    let summary = Summary::empty(alloc, k);
     Ok(read_items(alloc, reader, summary)?)
 }
 
@@ -85,12 +83,8 @@ fn summary_by_monitoring<R: Read + Drop>(
     ensures refused { IfErr result (λ fault. RecordsRefused (R.remaining reader) fault) }
 {
     summaries_follow_items();
-    let monitor = match BucketSaving::new(alloc, k) {
-        Ok(monitor) => monitor,
-        Err(NewFault::BadK) => unreachable!(),
-        Err(NewFault::Memory) => return Err(ToolError::Memory),
-    };
-    let monitor = read_items(alloc, reader, monitor)?;
+    let start = BucketSaving::empty(alloc, k)?;
+    let monitor = read_items(alloc, reader, start)?;
     match monitor.into_summary() {
         Ok(summary) => Ok(summary),
         Err(_) => Err(ToolError::Memory),

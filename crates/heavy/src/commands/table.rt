@@ -9,11 +9,11 @@ ghost use Rattle.heavy.specs.Records.{RefusedAfter, SavesStream};
 ghost use Rattle.heavy.specs.Table.{bad_table};
 
 use crate::error::ToolError;
-use crate::limits::in_range;
 use hh_countmin::laws::tables_follow_items;
-use hh_countmin::{DrawFault, Family, MAX_DEPTH, MAX_WIDTH, Table, TableFault};
+use hh_countmin::{Family, MAX_DEPTH, MAX_WIDTH, Table};
 use hh_records::read_items;
 use hh_saved::{Saved, write};
+use hh_stream::in_range;
 use std::alloc::{AllocError, Global};
 use std::io::Read;
 
@@ -23,16 +23,8 @@ fn empty_table(alloc: Global, width: u64, depth: u64, seed: u64) -> Result<Table
     requires width { in_range width max_width ≡ true }
     ensures { IfOk result (λ table. table ≡ empty_table (drawn_family seed depth) width) }
 {
-    let family = match Family::draw(alloc, seed, depth) {
-        Ok(family) => family,
-        Err(DrawFault::BadDepth) => unreachable!(),
-        Err(DrawFault::Memory) => return Err(AllocError),
-    };
-    match Table::new(alloc, family, width) {
-        Ok(table) => Ok(table),
-        Err(TableFault::BadWidth) => unreachable!(),
-        Err(TableFault::Memory) => Err(AllocError),
-    }
+    let family = Family::of_seed(alloc, seed, depth)?;
+    Table::empty(alloc, family, width)
 }
 
 /// The saved Count-Min table of the records of a reader (Cormode and Muthukrishnan 2005), with the

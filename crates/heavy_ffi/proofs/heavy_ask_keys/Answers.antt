@@ -3,4 +3,5 @@ use Rattle.heavy_ffi.proofs.heavy_ask_keys.Goals as goal
 
 pub returns-clause-outcome : goal.returns-clause-outcome
 returns-clause-outcome c =
-    outcome_of _ _ c.bounds_of-bounds.result c.bounds_of-bounds.ensures.answers c.bounds_of-bounds.ensures.refused c.answer.ensures.outcome
+    outcome_of _ _ c.bounds_of-bounds.result c.bounds_of-bounds.ensures.answers c.bounds_of-bounds.ensures.refused
+    c.answer.ensures.outcome

@@ -20,4 +20,5 @@ returns-clause-enough c = λ s merged room small.
 
 pub returns-clause-outcome : goal.returns-clause-outcome
 returns-clause-outcome c = λ some.
-    outcome_of _ _ c.merge_parts-bytes.result c.merge_parts-bytes.ensures.merged c.merge_parts-bytes.ensures.refused c.answer.ensures.outcome
+    outcome_of _ _ c.merge_parts-bytes.result c.merge_parts-bytes.ensures.merged c.merge_parts-bytes.ensures.refused
+    c.answer.ensures.outcome

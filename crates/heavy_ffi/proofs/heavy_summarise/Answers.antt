@@ -13,4 +13,5 @@ returns-clause-enough c = λ room small.
 
 pub returns-clause-outcome : goal.returns-clause-outcome
 returns-clause-outcome c =
-    outcome_of _ _ c.summary_by-bytes.result c.summary_by-bytes.ensures.saved c.summary_by-bytes.ensures.refused c.answer.ensures.outcome
+    outcome_of _ _ c.summary_by-bytes.result c.summary_by-bytes.ensures.saved c.summary_by-bytes.ensures.refused
+    c.answer.ensures.outcome

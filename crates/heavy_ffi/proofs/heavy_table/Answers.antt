@@ -25,4 +25,5 @@ returns-clause-exact c = λ done.
 
 pub returns-clause-outcome : goal.returns-clause-outcome
 returns-clause-outcome c =
-    outcome_of _ _ c.table_bytes-bytes.result c.table_bytes-bytes.ensures.saved c.table_bytes-bytes.ensures.refused c.answer.ensures.outcome
+    outcome_of _ _ c.table_bytes-bytes.result c.table_bytes-bytes.ensures.saved c.table_bytes-bytes.ensures.refused
+    c.answer.ensures.outcome

@@ -8,4 +8,6 @@ returns-clause-summary g c =
     let k = c.args.k in
     let law = c.summaries_follow_items.ensures.summaries k in
     let t = c.in_ok-read_items.ensures.items in
-    (t.xs, t.reads, taken_all sketch_with (sketch_of k) (λ xs e. (law xs e).1) t (c.in-Ok.ensures.empty ∙ sym (law [] ([], 0)).0))
+    let all = taken_all sketch_with (sketch_of k) (λ xs e. (law xs e).1) t
+    (c.empty-summary.ensures ∙ sym (law [] ([], 0)).0) in
+    (t.xs, t.reads, all)
