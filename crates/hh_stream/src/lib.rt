@@ -5,8 +5,6 @@ mod cutting;
 mod key;
 pub mod laws;
 mod stream;
-#[cfg(test)]
-mod tests;
 
 pub use cutting::{Cutting, CuttingFault, MAX_PIECES};
 pub use key::{INLINE_LEN, Key, KeyFault, MAX_KEY_LEN};
