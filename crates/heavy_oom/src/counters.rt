@@ -16,6 +16,7 @@ pub fn call(lab: &Lab, name: &str) -> Result<Said, Fail> {
         "Summary::merge" => summary_merge(lab),
         "Candidates::of" => candidates_of(lab),
         "Candidates::contenders" => candidates_contenders(lab),
+        "Candidates::pruned" => candidates_pruned(lab),
         "Candidates::select" => candidates_select(lab),
         "Summary readers" => summary_readers(lab),
         "Summary::new" => summary_new(lab),
@@ -97,6 +98,15 @@ fn chosen(lab: &Lab, made: Result<Candidates, AllocError>) -> Result<Said, Fail>
         Err(AllocError) => lab.refused(),
         Ok(candidates) => lab.answer(candidates.len()),
     }
+}
+
+// Those of both candidates with numbers of more than a quarter of the total.
+fn candidates_pruned(lab: &Lab) -> Result<Said, Fail> {
+    let candidates = Candidates::of(lab.alloc, &lab.summary()?)?;
+    if candidates.len() != 2 {
+        return Err(Fail::new("not two candidates"));
+    }
+    chosen(lab, marked!(lab, candidates.pruned(&[6, 3], 11, 1, 4)))
 }
 
 // Both candidates, above a quarter of the total.

@@ -211,11 +211,13 @@ impl Gate for Counting {
     }
 }
 
-// 2,000 different keys of two bytes, and then the item a.
+// 1,000 different keys, and then the item a.
 fn many_items(lab: &Lab) -> Result<Stream, Fail> {
     let mut stream = Stream::new(lab.alloc);
-    for i in 0u16..2000 {
-        stream.push(Key::new(lab.alloc, &i.to_be_bytes())?, 1)?;
+    for i in 0u16..1000 {
+        let mut bytes = lab.bytes(b'x')?;
+        bytes.extend_from_slice(&i.to_be_bytes())?;
+        stream.push(Key::new(lab.alloc, bytes.as_slice())?, 1)?;
     }
     stream.push(lab.key(b'a')?, 1)?;
     Ok(stream)
@@ -224,7 +226,7 @@ fn many_items(lab: &Lab) -> Result<Stream, Fail> {
 // The many keys as one piece and the item a as another, for one worker.
 fn two_pieces(lab: &Lab) -> Result<Task, Fail> {
     let stream = many_items(lab)?;
-    let cutting = Cutting::by_lengths(lab.alloc, stream.len(), &[2000, 1])?;
+    let cutting = Cutting::by_lengths(lab.alloc, stream.len(), &[1000, 1])?;
     Ok(Task {
         stream,
         cutting,

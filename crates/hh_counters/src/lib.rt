@@ -13,8 +13,6 @@ mod shared_key;
 mod sought;
 mod space_saving;
 mod summary;
-#[cfg(test)]
-mod tests;
 
 pub use bucket_saving::{BucketSaving, NewFault};
 pub use candidates::Candidates;

@@ -6,8 +6,6 @@ mod family;
 pub mod laws;
 mod modulus;
 mod table;
-#[cfg(test)]
-mod tests;
 
 pub use family::{DrawFault, Family, MAX_DEPTH, MAX_WIDTH, PartsFault};
 pub use modulus::MODULUS;

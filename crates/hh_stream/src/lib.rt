@@ -6,8 +6,6 @@ mod key;
 pub mod laws;
 mod ranges;
 mod stream;
-#[cfg(test)]
-mod tests;
 
 pub use cutting::{Cutting, CuttingFault, MAX_PIECES};
 pub use key::{INLINE_LEN, Key, KeyFault, MAX_KEY_LEN};

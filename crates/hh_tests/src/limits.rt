@@ -1,6 +1,8 @@
 //! Summaries and monitors at their limits: the largest k, and keys of the most bytes.
 
-use crate::{AddFault, BucketSaving, Candidates, Monitor, SpaceSaving, Summary, monitored_summary};
+use hh_counters::{
+    AddFault, BucketSaving, Candidates, Monitor, SpaceSaving, Summary, monitored_summary,
+};
 use hh_stream::{Key, Stream};
 use std::alloc::Global;
 use std::test::Fail;

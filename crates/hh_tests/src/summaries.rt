@@ -2,8 +2,8 @@
 
 ghost use Rattle.std.specs.Prelude.{◌<◌};
 
-use super::{FOUR_RECORDS, key_of, shown, stream_of, summary_of};
-use crate::{AddFault, MergeFault, OfItemsFault, Summary};
+use crate::fixtures::{FOUR_RECORDS, key_of, shown, stream_of, summary_of};
+use hh_counters::{AddFault, MergeFault, OfItemsFault, Summary};
 use hh_stream::{Item, Key, MAX_TOTAL};
 use std::alloc::Global;
 use std::test::Fail;

@@ -1,7 +1,9 @@
 //! The forms of Space-Saving on small streams, and side by side on a longer one.
 
-use super::{FOUR_RECORDS, key_of, shown, stream_of};
-use crate::{AddFault, BucketSaving, Monitor, SpaceSaving, Summary, monitored_summary};
+use crate::fixtures::{FOUR_RECORDS, key_of, shown, stream_of};
+use hh_counters::{
+    AddFault, BadK, BucketSaving, Monitor, NewFault, SpaceSaving, Summary, monitored_summary,
+};
 use hh_stream::{Item, Key, MAX_TOTAL, Stream};
 use std::alloc::Global;
 use std::test::Fail;
@@ -103,17 +105,17 @@ fn buckets_count_keys_by_their_bytes(rt: HostRuntime) -> Result<(), Fail> {
 
 #[test]
 fn plain_form_has_k_from_1_to_65535(rt: HostRuntime) {
-    for (k, refused) in [(0, true), (1, false), (65_535, false), (65_536, true)] {
-        let monitor = SpaceSaving::new(rt.alloc(), k);
-        assert_eq!(rt; monitor.is_err(), refused);
+    let refused = Some(BadK);
+    for (k, fault) in [(0, refused), (1, None), (65_535, None), (65_536, refused)] {
+        assert_eq!(rt; SpaceSaving::new(rt.alloc(), k).err(), fault);
     }
 }
 
 #[test]
 fn buckets_have_k_from_1_to_65535(rt: HostRuntime) {
-    for (k, refused) in [(0, true), (1, false), (65_535, false), (65_536, true)] {
-        let monitor = BucketSaving::new(rt.alloc(), k);
-        assert_eq!(rt; monitor.is_err(), refused);
+    let refused = Some(NewFault::BadK);
+    for (k, fault) in [(0, refused), (1, None), (65_535, None), (65_536, refused)] {
+        assert_eq!(rt; BucketSaving::new(rt.alloc(), k).err(), fault);
     }
 }
 

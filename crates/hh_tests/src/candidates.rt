@@ -3,8 +3,8 @@
 ghost use Rattle.std.specs.Prelude.{◌≡◌, length};
 ghost use Rattle.hh_counters.specs.Report.{IsShare};
 
-use super::{FOUR_RECORDS, key_of, stream_of, summary_of};
-use crate::Candidates;
+use crate::fixtures::{FOUR_RECORDS, key_of, stream_of, summary_of};
+use hh_counters::Candidates;
 use hh_stream::Stream;
 use std::alloc::Global;
 use std::test::Fail;

@@ -1,6 +1,8 @@
 //! The worked rows on families and tables.
 
-use crate::{DrawFault, Family, MODULUS, MergeFault, PartsFault, Table, TableFault, TotalTooLarge};
+use hh_countmin::{
+    DrawFault, Family, MODULUS, MergeFault, PartsFault, Table, TableFault, TotalTooLarge,
+};
 use hh_stream::{Key, MAX_TOTAL};
 use std::test::Fail;
 

@@ -1,6 +1,6 @@
 //! The worked rows on keys, items, streams and cuttings.
 
-use crate::{Cutting, CuttingFault, Key, KeyFault, MAX_TOTAL, PushFault, Stream};
+use hh_stream::{Cutting, CuttingFault, Key, KeyFault, MAX_TOTAL, PushFault, Stream};
 use std::hash::{BuildHasher, BuildHasherDefault, FoldHasher};
 use std::process::Abort;
 use std::test::Fail;
