@@ -112,23 +112,20 @@ fn selected(
 }
 
 #[test]
-fn report_lists_heavy_candidates(rt: HostRuntime) -> Result<(), Fail> {
-    let candidates = candidates_of(rt.alloc())?;
-    assert_eq!(rt; candidates.len(), 2);
-    for (numbers, rows) in [([6, 3], "a 6 "), ([6, 6], "a 6 b 6 "), ([4, 7], "b 7 a 4 ")] {
-        let text = selected(rt.alloc(), &candidates, &numbers, 1, 3)?;
-        assert_eq!(rt; text.as_str(), rows);
-    }
-    Ok(())
-}
-
-#[test]
 fn report_lists_candidates_above_a_share(rt: HostRuntime) -> Result<(), Fail> {
     let candidates = candidates_of(rt.alloc())?;
     assert_eq!(rt; candidates.len(), 2);
-    for (p, q, rows) in [(1, 4, "a 6 b 3 "), (3, 11, "a 6 "), (6, 11, ""), (1, 1, "")] {
+    for (numbers, p, q, rows) in [
+        ([6, 3], 1, 3, "a 6 "),
+        ([6, 6], 1, 3, "a 6 b 6 "),
+        ([4, 7], 1, 3, "b 7 a 4 "),
+        ([6, 3], 1, 4, "a 6 b 3 "),
+        ([6, 3], 3, 11, "a 6 "),
+        ([6, 3], 6, 11, ""),
+        ([6, 3], 1, 1, ""),
+    ] {
         assert!(rt; 1 <= p && p <= q && q <= 11);
-        let text = selected(rt.alloc(), &candidates, &[6, 3], p, q)?;
+        let text = selected(rt.alloc(), &candidates, &numbers, p, q)?;
         assert_eq!(rt; text.as_str(), rows);
     }
     Ok(())

@@ -12,32 +12,41 @@ fn plain_family(rt: &HostRuntime) -> Result<Family, Fail> {
     Ok(Family::from_parts(rt.alloc(), 256, &[(1, 0), (3, 1)])?)
 }
 
+// The fingerprint of a key.
+fn fingerprint_of(rt: &HostRuntime, family: &Family, key: &[u8]) -> Result<u64, Fail> {
+    Ok(family.fingerprint(&Key::new(rt.alloc(), key)?))
+}
+
+// The cells of a key in two rows of width 4.
+fn cells_of(rt: &HostRuntime, family: &Family, key: &[u8]) -> Result<[u64; 2], Fail> {
+    if family.depth() != 2 {
+        return Err(Fail::new("not two rows"));
+    }
+    let key = Key::new(rt.alloc(), key)?;
+    Ok([family.cell(0, &key, 4), family.cell(1, &key, 4)])
+}
+
 #[test]
 fn short_keys_fall_on_cells(rt: HostRuntime) -> Result<(), Fail> {
     let family = plain_family(&rt)?;
-    let by_hand = [
-        (b"a".as_slice(), 98, 2, 3),
-        (b"b".as_slice(), 99, 3, 2),
-        (b"c".as_slice(), 100, 0, 1),
-        (b"e".as_slice(), 102, 2, 3),
-        (b"ab".as_slice(), 25187, 3, 2),
-    ];
-    assert!(rt; family.depth() == 2);
-    for (bytes, fingerprint, first, second) in by_hand {
-        let key = Key::new(rt.alloc(), bytes)?;
-        assert_eq!(rt; family.fingerprint(&key), fingerprint);
-        assert_eq!(rt; family.cell(0, &key, 4), first);
-        assert_eq!(rt; family.cell(1, &key, 4), second);
+    for (key, fingerprint, cells) in [
+        (b"a".as_slice(), 98, [2, 3]),
+        (b"b".as_slice(), 99, [3, 2]),
+        (b"c".as_slice(), 100, [0, 1]),
+        (b"e".as_slice(), 102, [2, 3]),
+        (b"ab".as_slice(), 25187, [3, 2]),
+    ] {
+        assert_eq!(rt; fingerprint_of(&rt, &family, key)?, fingerprint);
+        assert_eq!(rt; cells_of(&rt, &family, key)?, cells);
     }
     Ok(())
 }
 
 #[test]
 fn fingerprints_wrap_at_the_modulus(rt: HostRuntime) -> Result<(), Fail> {
-    let alloc = rt.alloc();
-    let family = Family::from_parts(alloc, MODULUS - 1, &[(1, 0)])?;
-    assert_eq!(rt; family.fingerprint(&Key::new(alloc, b"ab")?), 1);
-    assert_eq!(rt; family.fingerprint(&Key::new(alloc, b"aba")?), 97);
+    let family = Family::from_parts(rt.alloc(), MODULUS - 1, &[(1, 0)])?;
+    assert_eq!(rt; fingerprint_of(&rt, &family, b"ab")?, 1);
+    assert_eq!(rt; fingerprint_of(&rt, &family, b"aba")?, 97);
     Ok(())
 }
 
