@@ -103,7 +103,7 @@ def try_many_files(sizes: Sizes) -> None:
 
 
 def try_many_words(sizes: Sizes) -> None:
-    """5,000 keys, in another order than the file's, each with bounds of its own; keys 256, 257 and 5,000 are refused."""
+    """5,000 keys in another order, each with bounds of its own; keys 256, 257 and 5,000 are refused."""
     keys = [b"key%d" % (number * 7919 % 5000) for number in range(5000)]
     counters = {key: number + 1 for number, key in enumerate(keys)}
     name = sizes.save("many", reference.written(reference.Summary(5000, sum(counters.values()), counters)))
@@ -115,8 +115,8 @@ def try_many_words(sizes: Sizes) -> None:
 
 
 def try_all_bytes(sizes: Sizes) -> None:
-    """Each byte that a word can have, alone, behind another, before another and in a word of all; each key has a counter
-    of its own. The byte 0 stands in keys of records alone."""
+    """Each byte that a word can have, alone, behind another, before another and in a word of all; each key has a
+    counter of its own. The byte 0 stands in keys of records alone."""
     each = [bytes([byte]) for byte in range(1, 256)]
     texts = [*each, *(b"a" + text for text in each), *(text + b"\xff" for text in each), b"".join(each)]
     texts.append(b"".join(each) * 16)
