@@ -35,6 +35,24 @@ class Same(unittest.TestCase):
         self.assertGreater(len(ran.stdout), 1 << 16)
         self.assertEqual(heavy.Summary.of_csv(records, 5000).to_bytes(), ran.stdout)
 
+    def test_text_above_16_megabytes(self) -> None:
+        # of the total of 1,500,003 b has just a third
+        records = b"a,00000000000002\nb,00000000000001\n" * 500_001
+        self.assertGreater(len(records), 1 << 24)
+        summary = heavy.Summary.of_csv(records, 2)
+        self.assertEqual(summary.entries(), [(b"a", 1_000_002), (b"b", 500_001)])
+        self.assertEqual(summary.confirm(records), b"a,1000002\n")
+
+    def test_more_than_65_536_keys(self) -> None:
+        keys = [b"%d" % number for number in range(70_000)]
+        answers = heavy.Summary.of_csv(b"69999,5\n1,2\n", 2).ask_many(keys)
+        self.assertEqual(len(answers), 70_000)
+        told = {key: answer for key, answer in zip(keys, answers) if answer != (0, 0)}
+        self.assertEqual(told, {b"1": (2, 2), b"69999": (5, 5)})
+        # 70,000 keys of weight 1, and one of just more than all of them
+        records = b"\n".join(keys) + b"\nx,70001\n"
+        self.assertEqual(heavy.Summary.of_csv(records, 1, "ss").confirm(records), b"x,70001\n")
+
     def test_tables(self) -> None:
         ran = program("table", "--depth", "2", "--width", "8", "--seed", "7", given=RECORDS)
         self.assertEqual(heavy.Table.of_csv(RECORDS, 8, 2, 7).to_bytes(), ran.stdout)
