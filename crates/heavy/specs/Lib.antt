@@ -4,6 +4,7 @@ pub mod Confirm
 pub mod Entries
 pub mod Files
 pub mod Laws
+pub mod List
 pub mod Merge
 pub mod Records
 pub mod Report

@@ -4,6 +4,7 @@ pub(crate) mod ask;
 pub(crate) mod condense;
 pub(crate) mod confirm;
 pub(crate) mod entries;
+pub(crate) mod list;
 pub(crate) mod merge;
 pub(crate) mod report;
 pub(crate) mod summarise;
