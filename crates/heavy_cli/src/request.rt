@@ -48,6 +48,10 @@ pub enum Command {
         file: Vec<u8>,
         keys: Vec<Vec<u8>>,
     },
+    /// All keys of a saved summary.
+    List {
+        file: Vec<u8>,
+    },
     /// Standard input in fewer records, by a saved summary.
     Condense {
         file: Vec<u8>,
@@ -55,6 +59,7 @@ pub enum Command {
     /// The heavy keys of a saved summary in standard input.
     Confirm {
         file: Vec<u8>,
+        threshold: Share,
     },
 }
 
@@ -154,6 +159,11 @@ fn ask(alloc: Global, found: &ArgMatches) -> Result<Command, AllocError> {
     Ok(Command::Ask { file, keys })
 }
 
+fn list(alloc: Global, found: &ArgMatches) -> Result<Command, AllocError> {
+    let file = word_or(alloc, found, "FILE", "")?;
+    Ok(Command::List { file })
+}
+
 fn condense(alloc: Global, found: &ArgMatches) -> Result<Command, AllocError> {
     let file = word_or(alloc, found, "FILE", "")?;
     Ok(Command::Condense { file })
@@ -161,17 +171,19 @@ fn condense(alloc: Global, found: &ArgMatches) -> Result<Command, AllocError> {
 
 fn confirm(alloc: Global, found: &ArgMatches) -> Result<Command, AllocError> {
     let file = word_or(alloc, found, "FILE", "")?;
-    Ok(Command::Confirm { file })
+    let threshold = threshold_of(alloc, found)?;
+    Ok(Command::Confirm { file, threshold })
 }
 
-/// What a command with these words asks for. `clap` lets these seven names come: the one that is
-/// none of the other six is the report's.
+/// What a command with these words asks for. `clap` lets these eight names come: the one that is
+/// none of the other seven is the report's.
 fn request_of(alloc: Global, name: &str, found: &ArgMatches) -> Result<Request, AllocError> {
     let command = match name {
         "summarise" => summarise(alloc, found)?,
         "table" => table(found),
         "merge" => merge(alloc, found)?,
         "ask" => ask(alloc, found)?,
+        "list" => list(alloc, found)?,
         "condense" => condense(alloc, found)?,
         "confirm" => confirm(alloc, found)?,
         _ => return report(alloc, found),
