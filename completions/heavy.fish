@@ -4,13 +4,14 @@ complete -c heavy -f -n __fish_use_subcommand -a summarise -d 'Write a summary o
 complete -c heavy -f -n __fish_use_subcommand -a table -d 'Write a Count-Min table of the records'
 complete -c heavy -f -n __fish_use_subcommand -a merge -d 'Merge saved files'
 complete -c heavy -f -n __fish_use_subcommand -a ask -d 'Print what a saved file says of keys'
+complete -c heavy -f -n __fish_use_subcommand -a list -d 'Print what a saved summary says of all its keys'
 complete -c heavy -f -n __fish_use_subcommand -a condense -d 'Print fewer records that say the same to confirm'
 complete -c heavy -f -n __fish_use_subcommand -a confirm -d 'Print the heavy keys of a saved summary in the records'
 complete -c heavy -f -n __fish_use_subcommand -a help -d 'Print help'
 complete -c heavy -f -n __fish_use_subcommand -s V -l version -d 'Print the version'
 complete -c heavy -s h -l help -d 'Print help'
 complete -c heavy -n '__fish_seen_subcommand_from report summarise' -l k -x -d 'Keys above 1/(k+1) are heavy'
-complete -c heavy -n '__fish_seen_subcommand_from report' -l threshold -x -d 'Keys above this share P/Q are heavy'
+complete -c heavy -n '__fish_seen_subcommand_from report confirm' -l threshold -x -d 'Keys above this share P/Q are heavy'
 complete -c heavy -n '__fish_seen_subcommand_from report' -l workers -x -d 'Threads that work at once'
 complete -c heavy -n '__fish_seen_subcommand_from report' -l pieces -x -d 'Pieces that the records are cut into'
 complete -c heavy -n '__fish_seen_subcommand_from report' -l tree -x -a 'balanced chain' -d 'How to merge the pieces'
@@ -19,5 +20,5 @@ complete -c heavy -n '__fish_seen_subcommand_from report table' -l width -x -d '
 complete -c heavy -n '__fish_seen_subcommand_from report table' -l depth -x -d 'Depth of the Count-Min table'
 complete -c heavy -n '__fish_seen_subcommand_from report table' -l seed -x -d "Seed of the table's hash family"
 complete -c heavy -n '__fish_seen_subcommand_from report summarise table condense confirm' -l progress -d 'Tell how far input is read'
-complete -c heavy -n '__fish_seen_subcommand_from merge ask condense confirm' -F
-complete -c heavy -f -n '__fish_seen_subcommand_from help' -a 'report summarise table merge ask condense confirm'
+complete -c heavy -n '__fish_seen_subcommand_from merge ask list condense confirm' -F
+complete -c heavy -f -n '__fish_seen_subcommand_from help' -a 'report summarise table merge ask list condense confirm'

@@ -342,14 +342,23 @@ def merge(files: list[bytes]) -> bytes:
     return written(merged)
 
 
-def confirm(data: bytes, text: bytes) -> bytes:
+def list_keys(data: bytes) -> bytes:
     saved = read_file(data)
     if not isinstance(saved, Summary):
         raise Refused("file 1: not a counter summary")
+    ranked = sorted(saved.counters.items(), key=lambda entry: (-entry[1], entry[0]))
+    return b"".join(row_text(key, low, low + saved.slack()) for key, low in ranked)
+
+
+def confirm(data: bytes, text: bytes, share: bytes | None = None) -> bytes:
+    saved = read_file(data)
+    if not isinstance(saved, Summary):
+        raise Refused("file 1: not a counter summary")
+    p, q = (1, saved.k + 1) if share is None else share_of(share, saved.k)
     items = items_of(text)
     if total_of(items) != saved.total:
         raise Refused("file 1: its total is not the input's")
-    return rows_text([row for row in heavy(items, 1, saved.k + 1) if row[0] in saved.counters])
+    return rows_text([row for row in heavy(items, p, q) if row[0] in saved.counters])
 
 
 def leading_row(key: bytes, weight: int) -> bytes:
