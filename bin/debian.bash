@@ -87,7 +87,7 @@ kilobytes_in() {
 tree_of_program() {
   local tree="$1/heavy/usr"
   install -D -m 755 "$built" "$tree/bin/heavy"
-  "${STRIP:-strip}" "$tree/bin/heavy"
+  "${STRIP:-strip}" --remove-section=.comment --remove-section=.note "$tree/bin/heavy"
   mkdir -p "$tree/share/man/man1"
   gzip -n9 < "$top/man/heavy.1" > "$tree/share/man/man1/heavy.1.gz"
   install -D -m 644 "$top/completions/heavy.bash" "$tree/share/bash-completion/completions/heavy"
@@ -98,11 +98,13 @@ tree_of_program() {
 tree_of_library() {
   local tree="$1/libheavy1" name
   install -D -m 644 "$2/libheavy.so.1" "$tree/$places_of_libraries/libheavy.so.1"
+  "${STRIP:-strip}" --remove-section=.comment --remove-section=.note "$tree/$places_of_libraries/libheavy.so.1"
   mkdir -p "$tree/DEBIAN"
   echo "libheavy 1 libheavy1 (>= $version)" > "$tree/DEBIAN/shlibs"
   echo 'activate-noawait ldconfig' > "$tree/DEBIAN/triggers"
   {
     echo 'libheavy.so.1 libheavy1 #MINVER#'
+    echo '* Build-Depends-Package: libheavy-dev'
     for name in HEAVY_1 $(calls_of_library); do echo " $name@HEAVY_1 $version"; done | sort
   } > "$tree/DEBIAN/symbols"
 }

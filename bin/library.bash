@@ -96,7 +96,7 @@ make_static() {
 make_shared() {
   { echo 'HEAVY_1 { global:'; calls_of_library | sed 's/$/;/'; echo 'local: *; };'; } > "$1/heavy.map"
   "${CC:-cc}" -shared -o "$1/libheavy.so.1" -Wl,-soname,libheavy.so.1 "-Wl,--version-script=$1/heavy.map" \
-    -Wl,--whole-archive "$1/libheavy.a" -Wl,--no-whole-archive -Wl,--gc-sections -Wl,-z,defs -s
+    -Wl,--whole-archive "$1/libheavy.a" -Wl,--no-whole-archive -Wl,--gc-sections -Wl,-z,defs,-z,relro,-z,now -s
 }
 
 # What pkg-config tells, with the program's version, for a prefix and the folder of the libraries in it, lib if not given.

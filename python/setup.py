@@ -1,7 +1,7 @@
 """The name of the wheel: for any Python 3, and for the machines that run the shared library inside."""
 from pathlib import Path
 
-from setuptools import setup
+from setuptools import Distribution, setup
 from wheel.bdist_wheel import bdist_wheel
 
 versions = {
@@ -10,13 +10,14 @@ versions = {
 }
 
 
-class Wheel(bdist_wheel):
-    def finalize_options(self) -> None:
-        super().finalize_options()
-        self.root_is_pure = False
+class WithLibrary(Distribution):
+    def has_ext_modules(self) -> bool:
+        return True
 
+
+class Wheel(bdist_wheel):
     def get_tag(self) -> tuple[str, str, str]:
         return "py3", "none", "manylinux_{}_{}_x86_64".format(*max(versions)[:2])
 
 
-setup(cmdclass={"bdist_wheel": Wheel})
+setup(cmdclass={"bdist_wheel": Wheel}, distclass=WithLibrary)
