@@ -74,6 +74,11 @@ case $2 in *build_wheel*) cat VERSION heavy/__init__.py heavy/libheavy.so.1 > ..
     "rattle-link": '#!/bin/sh\ncp "$LINKED" "$6"\n',
 }
 
+# what the installing scripts call, besides a compiler and ar
+TOOLS = [
+    "bash", "sh", "env", "dirname", "readlink", "awk", "find", "sed", "cp", "chmod", "mv", "mkdir", "mktemp", "rm", "rmdir",
+    "ln", "cat",
+]
 # for a hook that is linked in: what the C library would be asked for by name
 NEXT_THREAD = """extern int __real_pthread_create(void *, const void *, void *(*)(void *), void *);
 void *next_thread(void *from, const char *name) { return (void *)__real_pthread_create; }
@@ -277,10 +282,14 @@ def try_uninstall(tally: programs.Tally, room: str) -> None:
     """What was installed of a built clone, without the toolchain, is removed, and what others have stays; an installation
     that fails leaves all as it was."""
     copy = Copy(f"{room}/uninstall")
-    tools = {it: copy.env["PATH"].split(":")[0] + f"/{it}" for it in ("rt", "cc")}
-    os.remove(tools["rt"])
     install, uninstall = (str(copy.top / "bin" / it) for it in ("install", "uninstall"))
-    env = {**copy.env, "PATH": f"{Path(tools['cc']).parent}:/usr/bin:/bin"}
+    tools = Path(room, "no_toolchain")
+    tools.mkdir()
+    for tool in TOOLS:
+        (tools / tool).symlink_to(shutil.which(tool))
+    for tool in ("cc", "ar"):
+        (tools / tool).symlink_to(Path(room, "uninstall", "tools", tool))
+    env = {"PATH": str(tools)}
     for name, before, destdir in [("new", [], ""), ("used", ["bin/other", "lib/pkgconfig/other.pc"], ""), ("below", [], room)]:
         prefix = Path(room, name)
         for it in before:
@@ -307,7 +316,19 @@ def try_uninstall(tally: programs.Tally, room: str) -> None:
     told = ended.status == 1 and ended.out == b"" and b"heavy.pc is a folder" in ended.err and b"nothing was inst" in ended.err
     same = after == before and (prefix / "bin" / "heavy").read_text() == "of before"
     tally.check("a failed installation changes nothing", told and same, (ended, after))
+    (tools / "mv").unlink()
+    (tools / "mv").write_text(f'#!/bin/sh\ncase $* in *heavy.pc.new*) exit 1 ;; esac\nexec {shutil.which("mv")} "$@"\n')
+    (tools / "mv").chmod(0o755)
+    (prefix / "lib" / "pkgconfig" / "heavy.pc").rmdir()
+    before = sorted(map(str, prefix.rglob("*")))
+    ended = programs.run([install, str(prefix)], env=env)
+    after = sorted(map(str, prefix.rglob("*")))
+    same = after == before and (prefix / "bin" / "heavy").read_text() == "of before"
+    told = (ended.status, ended.out, ended.err) == (1, b"", b"heavy: nothing was installed\n")
+    tally.check("what fails at the last file is undone", told and same, (ended, after))
     os.remove(copy.top / "crates" / "heavy_ffi" / "out" / "libheavy_ffi.a")
+    (tools / "mv").unlink()
+    (tools / "mv").symlink_to(shutil.which("mv"))
     ended = programs.run([install, f"{room}/without"], env=env)
     told = b"heavy: the library for C is left out: it is not built, and the toolchain's command, rt, is not on the path\n"
     left = {line.removeprefix(f"{room}/without/") for line in ended.out.decode().splitlines()}
