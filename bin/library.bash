@@ -1,6 +1,6 @@
-# What bin/install, bin/install-library and bin/release share, over bin/build.bash: `build_library` builds the library for
-# C where its sources are newer than what was built, and `make_library FOLDER PREFIX` makes of it there what is installed
-# below that PREFIX. CC and AR may name the compiler and ar.
+# What bin/install, bin/install-library, bin/wheel and bin/release share, over bin/build.bash: `build_library` builds
+# the library for C where its sources are newer than what was built, and `make_library FOLDER PREFIX` makes there what
+# is installed below that PREFIX. CC and AR may name the compiler and ar.
 # shellcheck shell=bash disable=SC2154
 library="$top/crates/heavy_ffi"
 archive="$library/out/libheavy_ffi.a"
@@ -99,7 +99,7 @@ make_shared() {
     -Wl,--whole-archive "$1/libheavy.a" -Wl,--no-whole-archive -Wl,--gc-sections -Wl,-z,defs,-z,relro,-z,now -s
 }
 
-# What pkg-config tells, with the program's version, for a prefix and the folder of the libraries in it, lib if not given.
+# What pkg-config tells, with the program's version, for a prefix and the folder of libraries in it, lib if not given.
 make_description() {
   cat > "$1/heavy.pc" << END
 prefix=$2

@@ -1,5 +1,5 @@
-# What bin/install, bin/install-library and bin/uninstall share, over bin/build.bash: the command line, the list of what is
-# installed, and `put_all`, which installs what `put` noted, all of it or nothing.
+# What bin/install, bin/install-library and bin/uninstall share, over bin/build.bash: the command line, the list of what
+# is installed, and `put_all`, which installs what `put` noted, all of it or nothing.
 # shellcheck shell=bash disable=SC2154
 # of each file that is to be installed its mode, where it is now, and its place below "$prefix"; of a link the mode is
 # `link`, and where it is now what it leads to

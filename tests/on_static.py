@@ -1,6 +1,6 @@
 #!/usr/bin/env python3
-"""Runs another script of this folder on a static program, which stands in place of the built one. Nothing can be preloaded
-into that, so in place of it runs a static program with the same file of C linked in.
+"""Runs another script of this folder on a static program, in place of the built one. Nothing can be preloaded into that,
+so where something is, a static program runs that has the same file of C linked in.
 
 usage: tests/on_static.py SCRIPT PROGRAM WATCHING
 """

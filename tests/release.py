@@ -1,9 +1,9 @@
 #!/usr/bin/env python3
-"""Makes a release of a copy of the scripts, with stand-ins for what is not installed everywhere (git, dpkg-deb, lintian,
-the compiler, the toolchain): what it has, that two runs give the same bytes, and what it refuses. Removes what bin/install
-and the tarball's own script installed, and finds nothing left; an installation that fails changes nothing. Compares the
-version wherever it stands. Links the program statically from the object that the build made, where a compiler is here
-that can, and runs on it the checks of the command line, of devices and of refused memory.
+"""Makes a release of a copy of the scripts, with stand-ins for what is not installed everywhere (git, dpkg-deb,
+lintian, the compiler, the toolchain): what it has, that two runs give the same bytes, and what it refuses. Removes what
+bin/install and the tarball's own script installed, and finds nothing left; an installation that fails changes nothing.
+Compares the version wherever it stands. Links the program statically from the object that the build made, where a
+compiler is here that can, and runs on it the checks of the command line, of devices and of refused memory.
 
 usage: tests/release.py
 """
@@ -23,8 +23,8 @@ import header
 import programs
 import refused_memory
 
-VERSION = re.search(r'^const VERSION: &str = "(.*)";$', (programs.TOP / "crates/heavy_cli/src/arguments.rt").read_text(),
-                    re.M)[1]
+SOURCE = "crates/heavy_cli/src/arguments.rt"
+VERSION = re.search(r'^const VERSION: &str = "(.*)";$', (programs.TOP / SOURCE).read_text(), re.M)[1]
 NAME = f"heavy-{VERSION}-x86_64-linux"
 PACKAGES = ("heavy", "libheavy1", "libheavy-dev")
 MADE = sorted([
@@ -38,6 +38,7 @@ PROGRAM = {
 LIBRARY = {"include/heavy.h", "lib/libheavy.a", "lib/libheavy.so.1", "lib/libheavy.so", "lib/pkgconfig/heavy.pc"}
 COMMIT, SECONDS = "0123456789abcdef0123456789abcdef01234567", 1_700_000_000
 TOOLCHAIN = "kit logic 0123"
+PATH = {"PATH": os.environ["PATH"]}
 BUILT = b"#!/bin/sh\necho built\n"
 # Each notes nothing and does the least that bin/release needs. What a compiler writes is a program that says so.
 STAND_INS = {
@@ -69,15 +70,17 @@ tar -C "$1" --sort=name --owner=0 --group=0 --numeric-owner -cf "$2" .
     "dpkg": "#!/bin/sh\nexit 1\n",
     # a wheel by its name alone
     "python": f"""#!/bin/sh
-case $2 in *build_wheel*) cat VERSION heavy/__init__.py heavy/libheavy.so.1 > ../made/heavy-{VERSION}-py3-none-any.whl ;; esac
+case $2 in
+  *build_wheel*) cat VERSION heavy/__init__.py heavy/libheavy.so.1 > ../made/heavy-{VERSION}-py3-none-any.whl ;;
+esac
 """,
     "rattle-link": '#!/bin/sh\ncp "$LINKED" "$6"\n',
 }
 
 # what the installing scripts call, besides a compiler and ar
 TOOLS = [
-    "bash", "sh", "env", "dirname", "readlink", "awk", "find", "sed", "cp", "chmod", "mv", "mkdir", "mktemp", "rm", "rmdir",
-    "ln", "cat",
+    "bash", "sh", "env", "dirname", "readlink", "awk", "find", "sed", "cp", "chmod", "mv", "mkdir", "mktemp", "rm",
+    "rmdir", "ln", "cat",
 ]
 # for a hook that is linked in: what the C library would be asked for by name
 NEXT_THREAD = """extern int __real_pthread_create(void *, const void *, void *(*)(void *), void *);
@@ -93,7 +96,7 @@ class Copy:
         for folder in ("bin", "completions", "include", "man", "packaging", "python"):
             shutil.copytree(programs.TOP / folder, self.top / folder)
         for file in ("CHANGELOG.md", "LICENSE-APACHE", "LICENSE-MIT", "README.md", "crates.txt", "docs/FORMATS.md",
-                     "crates/heavy_cli/src/arguments.rt"):
+                     SOURCE):
             (self.top / file).parent.mkdir(parents=True, exist_ok=True)
             shutil.copy(programs.TOP / file, self.top / file)
         ours = [line.split(":") for line in (self.top / "crates.txt").read_text().splitlines()]
@@ -109,7 +112,8 @@ class Copy:
         (kit / "rlibs" / "below.rlib" / "format").write_text("crate below\n")
         for name in ("clap", "below", "other"):
             (kit / "rattle" / name).mkdir(parents=True)
-            (kit / "rattle" / name / "LICENSE-MIT").write_text(f"Copyright (c) {name}\n\nPermission is hereby granted\n")
+            text = f"Copyright (c) {name}\n\nPermission is hereby granted\n"
+            (kit / "rattle" / name / "LICENSE-MIT").write_text(text)
         for folder, file in (("c", "libos_c.a"), ("c", "liblibc_c.a"), ("bin", "rattle-link")):
             (kit / folder).mkdir(exist_ok=True)
             (kit / folder / file).write_text("")
@@ -162,7 +166,7 @@ def try_tarball(tally: programs.Tally, file: Path, room: str) -> None:
     tally.check("what packaging/ leaves open is filled", "@" not in (tree / "README").read_text())
     for script in ("install", "uninstall"):
         lines = len((tree / script).read_text().splitlines())
-        ended = [programs.run([str(tree / script), *words], env={"PATH": os.environ["PATH"]}) for words in ([], ["usr"])]
+        ended = [programs.run([str(tree / script), *words], env=PATH) for words in ([], ["usr"])]
         right = lines <= 10 and all(it.status == 2 and b"usage: " in it.err for it in ended)
         tally.check(f"{script} has ten lines and a usage line", right, ended)
     for name, before in [("a new folder", []), ("a folder in use", ["bin/other", "share/man/man1/other.1"])]:
@@ -170,7 +174,7 @@ def try_tarball(tally: programs.Tally, file: Path, room: str) -> None:
         for it in before:
             (prefix / it).parent.mkdir(parents=True, exist_ok=True)
             (prefix / it).touch()
-        ended = [programs.run([str(tree / it), str(prefix)], env={"PATH": os.environ["PATH"]}) for it in ("install", "uninstall")]
+        ended = [programs.run([str(tree / it), str(prefix)], env=PATH) for it in ("install", "uninstall")]
         told = {line.removeprefix(f"{prefix}/") for line in ended[0].out.decode().splitlines()}
         wanted = {name for name in files if name.startswith(("bin/", "share/"))}
         tally.check(f"installed into {name}", [it.status for it in ended] == [0, 0] and told == wanted, ended)
@@ -202,12 +206,12 @@ def try_packages(tally: programs.Tally, folder: Path) -> None:
                  if it.startswith("usr/") and members[f"./{it}"].isfile()}
         tally.check(f"the sums of {name}", sums == right, sums)
         changes = gzip.decompress(text_in(packed, f"./usr/share/doc/{name}/changelog.gz")).decode()
-        entry = changes.startswith(f"{name} ({VERSION}) unstable; urgency=medium\n\n  * ") and " -- A B <a@b.example>  " in changes
+        head, end = f"{name} ({VERSION}) unstable; urgency=medium\n\n  * ", "\n -- A B <a@b.example>  "
         short = max(map(len, changes.splitlines())) <= 80
-        tally.check(f"the changelog of {name}", entry and short, changes)
+        tally.check(f"the changelog of {name}", changes.startswith(head) and end in changes and short, changes)
         text = text_in(packed, f"./usr/share/doc/{name}/copyright").decode()
-        named = "Files: toolchain/clap/*\nCopyright: clap\nLicense: Expat\n" in text and "Copyright: 2026 the heavy" in text
-        tally.check(f"the copyright of {name}", named, text)
+        ours, theirs = "Copyright: 2026 the heavy", "Files: toolchain/clap/*\nCopyright: clap\nLicense: Expat\n"
+        tally.check(f"the copyright of {name}", ours in text and theirs in text, text)
     library = (folder / f"libheavy1_{VERSION}_amd64.deb").read_bytes()
     symbols = text_in(library, "./DEBIAN/symbols").decode().splitlines()
     names = [f" {it}@HEAVY_1 {VERSION}" for it in ("HEAVY_1", *sorted(header.calls()))]
@@ -222,8 +226,8 @@ def try_release(tally: programs.Tally, room: str) -> None:
     gate = "2026-11-24 20:00 UTC, 5 passed, 0 failed"
     folders = [Path(room, it) for it in ("first", "second")]
     ended = [copy.release("--gate", gate, str(it)) for it in folders]
-    told = [f"{folders[0]}/{it}" for it in MADE]
-    tally.check("a release is told", (ended[0].status, sorted(ended[0].out.decode().splitlines())) == (0, told), ended[0])
+    told = sorted(ended[0].out.decode().splitlines()) == [f"{folders[0]}/{it}" for it in MADE]
+    tally.check("a release is told", told and ended[0].status == 0, ended[0])
     if ended[0].status != 0:
         return
     files = [{it.name: it.read_bytes() for it in folder.iterdir()} for folder in folders]
@@ -242,7 +246,8 @@ def try_release(tally: programs.Tally, room: str) -> None:
     tally.check("the objects", {"heavy_cli.o", "libos_c.a", "liblibc_c.a", "link"} <= parts, parts)
     wheel = files[0][f"heavy-{VERSION}-py3-none-any.whl"]
     module = f"{VERSION}\n".encode() + (programs.TOP / "python" / "heavy.py").read_bytes()
-    tally.check("the wheel has the module and the library", wheel.startswith(module) and b"GLIBC_2.34" in wheel[len(module):])
+    right = wheel.startswith(module) and b"GLIBC_2.34" in wheel[len(module):]
+    tally.check("the wheel has the module and the library", right)
     try_tarball(tally, folders[0] / f"{NAME}.tar.gz", room)
     try_packages(tally, folders[0])
     ended = copy.release(f"{room}/third")
@@ -279,8 +284,7 @@ def try_refusals(tally: programs.Tally, copy: Copy, room: str) -> None:
 
 
 def try_uninstall(tally: programs.Tally, room: str) -> None:
-    """What was installed of a built clone, without the toolchain, is removed, and what others have stays; an installation
-    that fails leaves all as it was."""
+    """What was installed of a built clone, without the toolchain, is removed, and what others have stays."""
     copy = Copy(f"{room}/uninstall")
     install, uninstall = (str(copy.top / "bin" / it) for it in ("install", "uninstall"))
     tools = Path(room, "no_toolchain")
@@ -290,7 +294,8 @@ def try_uninstall(tally: programs.Tally, room: str) -> None:
     for tool in ("cc", "ar"):
         (tools / tool).symlink_to(Path(room, "uninstall", "tools", tool))
     env = {"PATH": str(tools)}
-    for name, before, destdir in [("new", [], ""), ("used", ["bin/other", "lib/pkgconfig/other.pc"], ""), ("below", [], room)]:
+    others = ["bin/other", "lib/pkgconfig/other.pc"]
+    for name, before, destdir in [("new", [], ""), ("used", others, ""), ("below", [], room)]:
         prefix = Path(room, name)
         for it in before:
             (prefix / it).parent.mkdir(parents=True, exist_ok=True)
@@ -299,21 +304,28 @@ def try_uninstall(tally: programs.Tally, room: str) -> None:
         word = f"/{name}" if destdir else str(prefix)
         ended = programs.run([install, word], env=with_destdir)
         told = {line.removeprefix(f"{prefix}/") for line in ended.out.decode().splitlines()}
-        tally.check(f"{name}: installed without rt", (ended.status, told, ended.err) == (0, PROGRAM | LIBRARY, b""), ended)
+        whole = (ended.status, told, ended.err) == (0, PROGRAM | LIBRARY, b"")
+        tally.check(f"{name}: installed without rt", whole, ended)
         removed = programs.run([uninstall, word], env=with_destdir)
         right = (removed.status, removed.out, removed.err) == (0, ended.out, b"")
         left = sorted(str(it.relative_to(prefix)) for it in prefix.rglob("*") if it.is_file())
         tally.check(f"{name}: removed", right and left == before and prefix.exists() == bool(before), (removed, left))
         again = programs.run([uninstall, word], env=with_destdir)
         tally.check(f"{name}: nothing is left to remove", (again.status, again.out, again.err) == (0, b"", b""), again)
-    prefix = Path(room, "failed")
+    try_failures(tally, room, copy, tools)
+
+
+def try_failures(tally: programs.Tally, room: str, copy: Copy, tools: Path) -> None:
+    """An installation that fails leaves all as it was. A library that can't be built is left out."""
+    prefix, install, env = Path(room, "failed"), str(copy.top / "bin" / "install"), {"PATH": str(tools)}
     (prefix / "lib" / "pkgconfig" / "heavy.pc").mkdir(parents=True)
     (prefix / "bin").mkdir()
     (prefix / "bin" / "heavy").write_text("of before")
     before = sorted(map(str, prefix.rglob("*")))
     ended = programs.run([install, str(prefix)], env=env)
     after = sorted(map(str, prefix.rglob("*")))
-    told = ended.status == 1 and ended.out == b"" and b"heavy.pc is a folder" in ended.err and b"nothing was inst" in ended.err
+    said = f"heavy: {prefix}/lib/pkgconfig/heavy.pc is a folder\nheavy: nothing was installed\n".encode()
+    told = (ended.status, ended.out, ended.err) == (1, b"", said)
     same = after == before and (prefix / "bin" / "heavy").read_text() == "of before"
     tally.check("a failed installation changes nothing", told and same, (ended, after))
     (tools / "mv").unlink()
@@ -330,18 +342,19 @@ def try_uninstall(tally: programs.Tally, room: str) -> None:
     (tools / "mv").unlink()
     (tools / "mv").symlink_to(shutil.which("mv"))
     ended = programs.run([install, f"{room}/without"], env=env)
-    told = b"heavy: the library for C is left out: it is not built, and the toolchain's command, rt, is not on the path\n"
+    told = b"it is not built, and the toolchain's command, rt, is not on the path\n"
+    told = b"heavy: the library for C is left out: " + told
     left = {line.removeprefix(f"{room}/without/") for line in ended.out.decode().splitlines()}
     tally.check("a library that isn't built", (ended.status, left, ended.err) == (0, PROGRAM, told), ended)
 
 
 def try_help(tally: programs.Tally) -> None:
     for name in ("install", "install-library", "uninstall", "release", "wheel"):
-        ended = programs.run([str(programs.TOP / "bin" / name), "--help"], env={"PATH": os.environ["PATH"]})
+        ended = programs.run([str(programs.TOP / "bin" / name), "--help"], env=PATH)
         right = (ended.status, ended.err) == (0, b"") and f"\nusage: bin/{name} ".encode() in ended.out
         tally.check(f"bin/{name} --help", right and b"set -eu" not in ended.out, ended)
     for name, words in (("one_file.sh", ["2"]), ("many_machines.sh", ["2"]), ("many_machines.sh", [])):
-        ended = programs.run([str(programs.TOP / "examples" / "machines" / name), *words], env={"PATH": os.environ["PATH"]})
+        ended = programs.run([str(programs.TOP / "examples" / "machines" / name), *words], env=PATH)
         tally.check(f"{name} {words}", (ended.status, ended.out) == (2, b"") and b"usage: " in ended.err, ended)
     page = (programs.TOP / "docs" / "RELEASING.md").read_text()
     shown = [line.split() for line in re.findall(r"^    (bin/.*)$", page, re.M)]
