@@ -1,7 +1,7 @@
 # bash completion of heavy; installed as share/bash-completion/completions/heavy
 _heavy() {
   local cur=${COMP_WORDS[COMP_CWORD]} prev=${COMP_WORDS[COMP_CWORD-1]} options=
-  local commands='report summarise table merge ask list condense confirm help'
+  local commands='report summarise table merge ask list describe condense confirm help'
   COMPREPLY=()
   if ((COMP_CWORD == 1)); then
     mapfile -t COMPREPLY < <(compgen -W "$commands -h --help -V --version" -- "$cur")

@@ -5,6 +5,7 @@ complete -c heavy -f -n __fish_use_subcommand -a table -d 'Write a Count-Min tab
 complete -c heavy -f -n __fish_use_subcommand -a merge -d 'Merge saved files'
 complete -c heavy -f -n __fish_use_subcommand -a ask -d 'Print what a saved file says of keys'
 complete -c heavy -f -n __fish_use_subcommand -a list -d 'Print what a saved summary says of all its keys'
+complete -c heavy -f -n __fish_use_subcommand -a describe -d 'Print what is in a saved file'
 complete -c heavy -f -n __fish_use_subcommand -a condense -d 'Print fewer records that say the same to confirm'
 complete -c heavy -f -n __fish_use_subcommand -a confirm -d 'Print the heavy keys of a saved summary in the records'
 complete -c heavy -f -n __fish_use_subcommand -a help -d 'Print help'
@@ -20,5 +21,5 @@ complete -c heavy -n '__fish_seen_subcommand_from report table' -l width -x -d '
 complete -c heavy -n '__fish_seen_subcommand_from report table' -l depth -x -d 'Depth of the Count-Min table'
 complete -c heavy -n '__fish_seen_subcommand_from report table' -l seed -x -d "Seed of the table's hash family"
 complete -c heavy -n '__fish_seen_subcommand_from report summarise table condense confirm' -l progress -d 'Tell how far input is read'
-complete -c heavy -n '__fish_seen_subcommand_from merge ask list condense confirm' -F
-complete -c heavy -f -n '__fish_seen_subcommand_from help' -a 'report summarise table merge ask list condense confirm'
+complete -c heavy -n '__fish_seen_subcommand_from merge ask list describe condense confirm' -F
+complete -c heavy -f -n '__fish_seen_subcommand_from help' -a 'report summarise table merge ask list describe condense confirm'

@@ -1,6 +1,6 @@
 #!/usr/bin/env python3
-"""Lists saved summaries, and confirms them above shares of one's own, beside the reference: worked cases, refusals in
-their order, and random records on one machine and on several.
+"""Lists and describes saved files, and confirms summaries above shares of one's own, beside the reference: worked cases,
+refusals in their order, and random records on one machine and on several.
 
 usage: tests/answers.py [CASES [SEED]]
 """
@@ -69,6 +69,19 @@ class Answers(unittest.TestCase):
         (self.room / "short").write_bytes(b"HHS2")
         self.refuses(["list", "short"], "file 1: truncated", 3)
 
+    def test_describe_by_hand(self) -> None:
+        day = self.save("day", ["summarise", "--k", "2"], RECORDS)
+        facts = b"kind,summary\nk,2\nkeys,2\ntotal,11\ncounters,5\nslack,2\n"
+        self.assertEqual(self.run_heavy(["describe", "day"]), (0, b"version,2\n" + facts, b""))
+        (self.room / "old").write_bytes(reference.written(reference.read(day), b"HHS1"))
+        self.assertEqual(self.run_heavy(["describe", "old"]), (0, b"version,1\n" + facts, b""))
+        self.save("table", ["table", "--width", "8", "--depth", "3"], RECORDS)
+        facts = b"version,2\nkind,table\ndepth,3\nwidth,8\ntotal,11\n"
+        self.assertEqual(self.run_heavy(["describe", "table"]), (0, facts, b""))
+        self.refuses(["describe", "missing"], "file 1: could not be read", 1)
+        (self.room / "short").write_bytes(b"HHS2")
+        self.refuses(["describe", "short"], "file 1: truncated", 3)
+
     def test_confirm_above_by_hand(self) -> None:
         self.save("day", ["summarise", "--k", "9"], RECORDS)
         for given, rows in [("1/10", b"a,6\nb,3\nc,2\n"), ("1/4", b"a,6\nb,3\n"), ("6/11", b""), ("5/11", b"a,6\n")]:
@@ -93,6 +106,7 @@ class Answers(unittest.TestCase):
             with self.subTest(case=case, text=text, k=k, above=above):
                 saved = self.save("day", ["summarise", "--k", str(k)], text)
                 self.assertEqual(self.run_heavy(["list", "day"]), reference.answer(reference.list_keys, saved))
+                self.assertEqual(self.run_heavy(["describe", "day"]), reference.answer(reference.describe, saved))
                 expected = reference.answer(reference.confirm, saved, text, above)
                 self.assertEqual(self.run_heavy(["confirm", "--threshold", above, "day"], text), expected)
 

@@ -350,6 +350,19 @@ def list_keys(data: bytes) -> bytes:
     return b"".join(row_text(key, low, low + saved.slack()) for key, low in ranked)
 
 
+def describe(data: bytes) -> bytes:
+    saved = read_file(data)
+    facts: list[tuple[bytes, bytes | int]] = [(b"version", int(data[3:4])), (b"kind", b"table")]
+    if isinstance(saved, Summary):
+        sum_of_counters = sum(saved.counters.values())
+        facts[1] = (b"kind", b"summary")
+        facts += [(b"k", saved.k), (b"keys", len(saved.counters)), (b"total", saved.total)]
+        facts += [(b"counters", sum_of_counters), (b"slack", (saved.total - sum_of_counters) // (saved.k + 1))]
+    else:
+        facts += [(b"depth", len(saved.rows)), (b"width", saved.width), (b"total", saved.total)]
+    return b"".join(row_text(*fact) for fact in facts)
+
+
 def confirm(data: bytes, text: bytes, share: bytes | None = None) -> bytes:
     saved = read_file(data)
     if not isinstance(saved, Summary):

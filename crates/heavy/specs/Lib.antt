@@ -1,6 +1,7 @@
 pub mod Ask
 pub mod Condense
 pub mod Confirm
+pub mod Describe
 pub mod Entries
 pub mod Files
 pub mod Laws

@@ -3,7 +3,9 @@
 ghost use Rattle.std.specs.Prelude.{◌≡◌, false, true, IfOk};
 ghost use Rattle.clap.specs.declared.builder.command.Command.TheViews.{out-Command as fields_of};
 
-use crate::help::{ASK, CONDENSE, CONFIRM, Help, LIST, MERGE, PROGRAM, REPORT, SUMMARISE, TABLE};
+use crate::help::{
+    ASK, CONDENSE, CONFIRM, DESCRIBE, Help, LIST, MERGE, PROGRAM, REPORT, SUMMARISE, TABLE,
+};
 use clap::{Arg, ArgAction, ArgMatches, Command, value_parser};
 use std::alloc::{AllocError, Global};
 
@@ -247,6 +249,14 @@ fn list_command<'a>(alloc: Global) -> Result<Command<'a>, AllocError>
         .arg(word(alloc, "FILE", "A saved summary"))
 }
 
+fn describe_command<'a>(alloc: Global) -> Result<Command<'a>, AllocError>
+    ensures { IfOk result (λ c. (fields_of c).has_globals ≡ false) }
+{
+    described(alloc, "describe", DESCRIBE)
+        .after_help(DASHES)
+        .arg(word(alloc, "FILE", "A saved file"))
+}
+
 fn condense_command<'a>(alloc: Global) -> Result<Command<'a>, AllocError>
     ensures { IfOk result (λ c. (fields_of c).has_globals ≡ false) }
 {
@@ -297,7 +307,8 @@ fn with_file_commands<'a>(alloc: Global, all: Command<'a>) -> Result<Command<'a>
 {
     let all = with_command(all, merge_command(alloc)?)?;
     let all = with_command(all, ask_command(alloc)?)?;
-    with_command(all, list_command(alloc)?)
+    let all = with_command(all, list_command(alloc)?)?;
+    with_command(all, describe_command(alloc)?)
 }
 
 /// The command line that the program reads.

@@ -123,6 +123,28 @@ Example:
     b,1,3",
 };
 
+pub const DESCRIBE: Help = Help {
+    about: "Print what is in a saved file: name,value",
+    whole: "Print what is in a saved file, in rows name,value: its version and kind; of a summary k,
+how many keys have a counter, the total weight, the sum of the counters, and the slack,
+which is how far a counter may be below its key's weight; of a table its depth, its
+width and the total weight.
+A word that begins with - is given after --",
+    end: "Exit status: 0 all rows are written; 1 the file could not be read or output not be
+written; 2 wrong usage; 3 the file is damaged; 4 out of memory.
+
+Example:
+    $ printf 'a,5\\nb,3\\nc,2\\na,1\\n' | heavy summarise --k 2 > day.heavy
+    $ heavy describe day.heavy
+    version,2
+    kind,summary
+    k,2
+    keys,2
+    total,11
+    counters,5
+    slack,2",
+};
+
 pub const CONDENSE: Help = Help {
     about: "Print fewer records that say to `heavy confirm` what those on standard input say",
     whole: "Print fewer records that say to `heavy confirm` what those on standard input say: the

@@ -52,6 +52,10 @@ pub enum Command {
     List {
         file: Vec<u8>,
     },
+    /// What is in a saved file.
+    Describe {
+        file: Vec<u8>,
+    },
     /// Standard input in fewer records, by a saved summary.
     Condense {
         file: Vec<u8>,
@@ -164,6 +168,11 @@ fn list(alloc: Global, found: &ArgMatches) -> Result<Command, AllocError> {
     Ok(Command::List { file })
 }
 
+fn describe(alloc: Global, found: &ArgMatches) -> Result<Command, AllocError> {
+    let file = word_or(alloc, found, "FILE", "")?;
+    Ok(Command::Describe { file })
+}
+
 fn condense(alloc: Global, found: &ArgMatches) -> Result<Command, AllocError> {
     let file = word_or(alloc, found, "FILE", "")?;
     Ok(Command::Condense { file })
@@ -175,8 +184,8 @@ fn confirm(alloc: Global, found: &ArgMatches) -> Result<Command, AllocError> {
     Ok(Command::Confirm { file, threshold })
 }
 
-/// What a command with these words asks for. `clap` lets these eight names come: the one that is
-/// none of the other seven is the report's.
+/// What a command with these words asks for. `clap` lets these nine names come: the one that is
+/// none of the other eight is the report's.
 fn request_of(alloc: Global, name: &str, found: &ArgMatches) -> Result<Request, AllocError> {
     let command = match name {
         "summarise" => summarise(alloc, found)?,
@@ -184,6 +193,7 @@ fn request_of(alloc: Global, name: &str, found: &ArgMatches) -> Result<Request, 
         "merge" => merge(alloc, found)?,
         "ask" => ask(alloc, found)?,
         "list" => list(alloc, found)?,
+        "describe" => describe(alloc, found)?,
         "condense" => condense(alloc, found)?,
         "confirm" => confirm(alloc, found)?,
         _ => return report(alloc, found),

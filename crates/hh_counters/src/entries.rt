@@ -265,10 +265,7 @@ fn push_copy(entries: &mut Vec<(Key, u64)>, key: &Key, number: u64) -> Result<()
 }
 
 /// Copies of the entries, by falling number and then by rising key. They are sorted in place.
-pub(crate) fn ranked(
-    alloc: Global,
-    entries: &[(Key, u64)],
-) -> Result<Vec<(Key, u64)>, AllocError>
+pub(crate) fn ranked(alloc: Global, entries: &[(Key, u64)]) -> Result<Vec<(Key, u64)>, AllocError>
     requires { IsStrictlySortedBy key_cmp (keys_of entries.now) }
     ensures ranked { IfOk result (λ ranked. ranked.items ≡ by_rank entries.now) }
     ensures sum { IfOk result (λ ranked. total_of ranked.items ≡ total_of entries.now) }
