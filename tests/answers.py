@@ -6,8 +6,6 @@ usage: tests/answers.py [CASES [SEED]]
 """
 import random
 import sys
-import tempfile
-import unittest
 from pathlib import Path
 
 import programs
@@ -31,15 +29,12 @@ def share(draw: random.Random) -> bytes:
     return b"%d/%d" % (draw.randrange(0, q + 2), q)
 
 
-class Answers(unittest.TestCase):
-    @classmethod
-    def setUpClass(cls) -> None:
-        cls.program = programs.built("heavy_cli")
+class Answers(programs.Checks):
+    """Each check is a run of the program."""
 
     def setUp(self) -> None:
-        room = tempfile.TemporaryDirectory()
-        self.addCleanup(room.cleanup)
-        self.room = Path(room.name)
+        super().setUp()
+        self.program = programs.built("heavy_cli")
 
     def run_heavy(self, words: list, given: bytes = b"") -> tuple[int, bytes, bytes]:
         ended = programs.run([self.program, *words], given, cwd=self.room)
@@ -47,46 +42,49 @@ class Answers(unittest.TestCase):
 
     def save(self, name: str, words: list, given: bytes = b"") -> bytes:
         status, out, err = self.run_heavy(words, given)
-        self.assertEqual((status, err), (0, b""), words)
-        (self.room / name).write_bytes(out)
+        self.check(f"{words} saves", (status, err) == (0, b""), (status, err))
+        Path(self.room, name).write_bytes(out)
         return out
 
+    def expect(self, words: list, expected: tuple[int, bytes, bytes], given: bytes = b"") -> None:
+        found = self.run_heavy(words, given)
+        self.check(f"{words} on {given[:80]!r}", found == expected, (found, expected))
+
     def refuses(self, words: list, text: str, status: int, given: bytes = b"") -> None:
-        self.assertEqual(self.run_heavy(words, given), (status, b"", f"heavy: {text}\n".encode()), words)
+        self.expect(words, (status, b"", f"heavy: {text}\n".encode()), given)
 
     def test_list_by_hand(self) -> None:
         self.save("day", ["summarise", "--k", "2"], RECORDS)
-        self.assertEqual(self.run_heavy(["list", "day"]), (0, b"a,4,6\nb,1,3\n", b""))
+        self.expect(["list", "day"], (0, b"a,4,6\nb,1,3\n", b""))
         self.save("even", ["summarise", "--k", "5"], b"b,2\na,2\nc,7\n\"d,e\",2\n")
-        self.assertEqual(self.run_heavy(["list", "even"]), (0, b'c,7,7\na,2,2\nb,2,2\n"d,e",2,2\n', b""))
+        self.expect(["list", "even"], (0, b'c,7,7\na,2,2\nb,2,2\n"d,e",2,2\n', b""))
         self.save("none", ["summarise"])
-        self.assertEqual(self.run_heavy(["list", "none"]), (0, b"", b""))
+        self.expect(["list", "none"], (0, b"", b""))
 
     def test_list_refuses(self) -> None:
         self.save("table", ["table", "--width", "8"], RECORDS)
         self.refuses(["list", "table"], "file 1: not a counter summary", 3)
         self.refuses(["list", "missing"], "file 1: could not be read", 1)
-        (self.room / "short").write_bytes(b"HHS2")
+        Path(self.room, "short").write_bytes(b"HHS2")
         self.refuses(["list", "short"], "file 1: truncated", 3)
 
     def test_describe_by_hand(self) -> None:
         day = self.save("day", ["summarise", "--k", "2"], RECORDS)
         facts = b"kind,summary\nk,2\nkeys,2\ntotal,11\ncounters,5\nslack,2\n"
-        self.assertEqual(self.run_heavy(["describe", "day"]), (0, b"version,2\n" + facts, b""))
-        (self.room / "old").write_bytes(reference.written(reference.read(day), b"HHS1"))
-        self.assertEqual(self.run_heavy(["describe", "old"]), (0, b"version,1\n" + facts, b""))
+        self.expect(["describe", "day"], (0, b"version,2\n" + facts, b""))
+        Path(self.room, "old").write_bytes(reference.written(reference.read(day), b"HHS1"))
+        self.expect(["describe", "old"], (0, b"version,1\n" + facts, b""))
         self.save("table", ["table", "--width", "8", "--depth", "3"], RECORDS)
         facts = b"version,2\nkind,table\ndepth,3\nwidth,8\ntotal,11\n"
-        self.assertEqual(self.run_heavy(["describe", "table"]), (0, facts, b""))
+        self.expect(["describe", "table"], (0, facts, b""))
         self.refuses(["describe", "missing"], "file 1: could not be read", 1)
-        (self.room / "short").write_bytes(b"HHS2")
+        Path(self.room, "short").write_bytes(b"HHS2")
         self.refuses(["describe", "short"], "file 1: truncated", 3)
 
     def test_confirm_above_by_hand(self) -> None:
         self.save("day", ["summarise", "--k", "9"], RECORDS)
         for given, rows in [("1/10", b"a,6\nb,3\nc,2\n"), ("1/4", b"a,6\nb,3\n"), ("6/11", b""), ("5/11", b"a,6\n")]:
-            with self.subTest(given):
-                self.assertEqual(self.run_heavy(["confirm", "--threshold", given, "day"], RECORDS), (0, rows, b""))
+            self.expect(["confirm", "--threshold", given, "day"], (0, rows, b""), RECORDS)
 
     def test_confirm_above_refuses_in_order(self) -> None:
         self.save("day", ["summarise", "--k", "2"], RECORDS)
@@ -101,27 +99,25 @@ class Answers(unittest.TestCase):
 
     def test_random_records(self) -> None:
         draw = random.Random(SEED)
-        for case in range(CASES):
+        for _ in range(CASES):
             text, k, above = records(draw), draw.choice([1, 2, 3, 5, 100]), share(draw)
-            with self.subTest(case=case, text=text, k=k, above=above):
-                saved = self.save("day", ["summarise", "--k", str(k)], text)
-                self.assertEqual(self.run_heavy(["list", "day"]), reference.answer(reference.list_keys, saved))
-                self.assertEqual(self.run_heavy(["describe", "day"]), reference.answer(reference.describe, saved))
-                expected = reference.answer(reference.confirm, saved, text, above)
-                self.assertEqual(self.run_heavy(["confirm", "--threshold", above, "day"], text), expected)
+            saved = self.save("day", ["summarise", "--k", str(k)], text)
+            self.expect(["list", "day"], reference.answer(reference.list_keys, saved))
+            self.expect(["describe", "day"], reference.answer(reference.describe, saved))
+            confirmed = reference.answer(reference.confirm, saved, text, above)
+            self.expect(["confirm", "--threshold", above, "day"], confirmed, text)
 
     def test_random_machines(self) -> None:
         draw = random.Random(SEED + 1)
-        for case in range(CASES // 10):
+        for _ in range(CASES // 10):
             parts, k, above = [records(draw) for _ in range(3)], draw.choice([1, 2, 5]), share(draw)
-            with self.subTest(case=case, parts=parts, k=k, above=above):
-                for number, part in enumerate(parts):
-                    self.save(str(number), ["summarise", "--k", str(k)], part)
-                self.save("all", ["merge", "0", "1", "2"])
-                condensed = b"".join(self.run_heavy(["condense", "all"], part)[1] for part in parts)
-                whole = reference.answer(reference.report, b"".join(parts), k, above)
-                self.assertEqual(self.run_heavy(["confirm", "--threshold", above, "all"], condensed), whole)
+            for number, part in enumerate(parts):
+                self.save(str(number), ["summarise", "--k", str(k)], part)
+            self.save("all", ["merge", "0", "1", "2"])
+            condensed = b"".join(self.run_heavy(["condense", "all"], part)[1] for part in parts)
+            whole = reference.answer(reference.report, b"".join(parts), k, above)
+            self.expect(["confirm", "--threshold", above, "all"], whole, condensed)
 
 
 if __name__ == "__main__":
-    unittest.main(argv=sys.argv[:1])
+    programs.run_tests("answers")
