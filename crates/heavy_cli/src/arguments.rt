@@ -2,6 +2,8 @@
 
 ghost use Rattle.std.specs.Prelude.{◌≡◌, false, true, IfOk};
 ghost use Rattle.clap.specs.declared.builder.command.Command.TheViews.{out-Command as fields_of};
+ghost use Rattle.clap.specs.Words.{found_of};
+ghost use Rattle.heavy_cli.specs.Request.{IsNumberOf};
 
 use crate::help::{
     ASK, CONDENSE, CONFIRM, DESCRIBE, Help, LIST, MERGE, PROGRAM, REPORT, SUMMARISE, TABLE,
@@ -82,7 +84,9 @@ impl Number {
     }
 
     /// The number that was given, or else the default.
-    pub fn of(self, found: &ArgMatches) -> u64 {
+    pub fn of(self, found: &ArgMatches) -> u64
+        ensures { IsNumberOf (found_of found.now) self.name.now self.default result }
+    {
         found.get_one(self.name).unwrap_or(self.default)
     }
 }

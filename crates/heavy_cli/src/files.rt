@@ -1,39 +1,102 @@
 //! The files that the command line names.
 
-ghost use Rattle.std.specs.Prelude.{◌<◌, length, IfOk};
+ghost use Rattle.std.specs.Prelude.{◌≡◌, ◌⊎◌, ◌∷◌, ◌++◌, [], ⊤, List, ℕ, Option, Some, None, Err};
+ghost use Rattle.std.specs.Prelude.{IfOk, IfErr, OnOk, map};
+ghost use Rattle.heavy.specs.declared.error.ToolError.TheVariants.{FileFault, Memory as NoMemory};
+ghost use Rattle.heavy_cli.specs.Files.{AreRead, TellsFile};
 
 use heavy::ToolError;
+use std::alloc::Global;
 use std::{fs, io};
 
-/// The bytes of a file with its number, from 1 on. The standard library opens files by texts alone,
-/// so one whose name is not UTF-8 can't be read.
-pub fn read_file(rt: &HostRuntime, number: u64, path: &[u8]) -> Result<Vec<u8>, ToolError> {
-    let Ok(path) = str::from_utf8(path) else {
-        return Err(ToolError::FileFault { number });
-    };
-    match fs::read(rt, path) {
+/// Why there are no bytes of a file.
+#[derive(Clone, Copy)]
+pub enum FileError {
+    /// The file can't be read.
+    Unreadable,
+    /// The allocator had no memory.
+    Memory,
+}
+
+/// Where files come from, each by its name.
+pub trait FileSource {
+    /// The file with this name has these bytes, or it can't be read.
+    ghost gives: { Self → List ℕ → Option (List ℕ) → Type 0 };
+
+    /// The bytes of the file with this name.
+    fn bytes(&self, name: &[u8]) -> Result<Vec<u8>, FileError>
+        ensures read { IfOk result (λ bytes. gives self.now name.now (Some bytes.items)) }
+        ensures unread { result ≡ Err FileError.Unreadable → gives self.now name.now None };
+
+    /// The memory that the bytes stand in.
+    fn memory(&self) -> Global;
+}
+
+/// The files of the machine. The standard library opens files by texts alone, so one whose name is
+/// not UTF-8 can't be read. No contract says what a file has.
+impl FileSource for HostRuntime {
+    ghost gives = { λ _ _ _. ⊤ };
+
+    fn bytes(&self, name: &[u8]) -> Result<Vec<u8>, FileError> {
+        let Ok(name) = str::from_utf8(name) else {
+            return Err(FileError::Unreadable);
+        };
+        match fs::read(self, name) {
+            Ok(bytes) => Ok(bytes),
+            Err(error) if matches!(error.kind(), io::ErrorKind::OutOfMemory) => {
+                Err(FileError::Memory)
+            }
+            Err(_) => Err(FileError::Unreadable),
+        }
+    }
+
+    fn memory(&self) -> Global {
+        self.alloc()
+    }
+}
+
+/// The bytes of a file with its number, from 1 on.
+pub fn read_file<F: FileSource>(source: &F, number: u64, name: &[u8]) -> Result<Vec<u8>, ToolError>
+    ensures read { IfOk result (λ bytes. F.gives source.now name.now (Some bytes.items)) }
+    ensures fault { IfErr result (λ fault. (fault ≡ NoMemory)
+        ⊎ ((fault ≡ FileFault number) × F.gives source.now name.now None)) }
+{
+    match source.bytes(name) {
         Ok(bytes) => Ok(bytes),
-        Err(error) if matches!(error.kind(), io::ErrorKind::OutOfMemory) => Err(ToolError::Memory),
-        Err(_) => Err(ToolError::FileFault { number }),
+        Err(FileError::Unreadable) => Err(ToolError::FileFault { number }),
+        Err(FileError::Memory) => Err(ToolError::Memory),
+    }
+}
+
+/// Puts a file behind others.
+fn push_file(files: &mut Vec<Vec<u8>>, file: Vec<u8>) -> Result<(), ToolError>
+    ensures pushed { OnOk result (files.new.items ≡ files.old.items ++ file ∷ []) }
+    ensures memory { IfErr result (λ fault. fault ≡ NoMemory) }
+{
+    match files.push(file) {
+        Ok(()) => Ok(()),
+        Err(_) => Err(ToolError::Memory),
     }
 }
 
 /// The bytes of a first file and of others, in order.
-pub fn read_files(
-    rt: &HostRuntime,
+pub fn read_files<F: FileSource>(
+    source: &F,
     first: &[u8],
     others: &[Vec<u8>],
 ) -> Result<Vec<Vec<u8>>, ToolError>
-    ensures { IfOk result (λ files. 0 < length files.items) }
+    ensures read { IfOk result (λ files. AreRead (F.gives source.now)
+        (first.now ∷ map (λ w. w.items) others.now) (map (λ f. f.items) files.items)) }
+    ensures fault { IfErr result
+        (TellsFile (F.gives source.now) (first.now ∷ map (λ w. w.items) others.now)) }
 {
-    let mut files = Vec::new(rt.alloc());
-    files
-        .push(read_file(rt, 1, first)?)
-        .map_err(|_| ToolError::Memory)?;
-    for (i, path) in others.iter().enumerate() {
-        let number = (i as u64).saturating_add(2);
-        let bytes = read_file(rt, number, path)?;
-        files.push(bytes).map_err(|_| ToolError::Memory)?;
+    let mut files = Vec::new(source.memory());
+    push_file(&mut files, read_file(source, 1, first)?)?;
+    for (i, name) in others.iter().enumerate() {
+        match read_file(source, i as u64 + 2, name) {
+            Ok(file) => push_file(&mut files, file)?,
+            Err(fault) => return Err(fault),
+        }
     }
     Ok(files)
 }

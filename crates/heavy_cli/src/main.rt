@@ -67,7 +67,7 @@ fn status_told(rt: &HostRuntime, error: clap::Error) -> ExitCode {
 }
 
 fn main(rt: HostRuntime) -> ExitCode {
-    let outcome = match read_request(&rt) {
+    let outcome = match read_request(&rt, rt.alloc()) {
         Ok(asked) => {
             let input = Metered::new(&rt, rt.stdin(), asked.tells_progress);
             match asked.request {

@@ -1,7 +1,12 @@
 //! What a command line asks for.
 
+ghost use Rattle.std.specs.Prelude.{◌≡◌, IfOk, codes, map};
+ghost use Rattle.clap.specs.Words.{first_value, found_of};
+ghost use Rattle.heavy_cli.specs.Request.{Answers, AreOptions, AsksFor, GivesShare};
+ghost use Rattle.heavy_cli.specs.Request.{IsAskedBy, IsAskedFrom, NamesTree, all_words, first_word};
+
 use crate::arguments::{DEPTH, K, PIECES, PROGRESS, SEED, WIDTH, WORKERS, command_line};
-use crate::words::{bytes_of, read_words};
+use crate::words::{WordSource, bytes_of, read_words, texts_of};
 use clap::error::ErrorKind;
 use clap::{ArgMatches, Error};
 use heavy::{ReportOptions, Share, Tree};
@@ -88,21 +93,32 @@ fn word_or(
     found: &ArgMatches,
     name: &str,
     other: &str,
-) -> Result<Vec<u8>, AllocError> {
+) -> Result<Vec<u8>, AllocError>
+    ensures { IfOk result (λ word.
+        word.items ≡ first_word other.now (found_of found.now) name.now) }
+{
     bytes_of(alloc, found.get_str(name).unwrap_or(other))
 }
 
 /// The bytes of all words of this name.
-fn words(alloc: Global, found: &ArgMatches, name: &str) -> Result<Vec<Vec<u8>>, AllocError> {
+fn words(alloc: Global, found: &ArgMatches, name: &str) -> Result<Vec<Vec<u8>>, AllocError>
+    ensures { IfOk result (λ words.
+        map (λ w. w.items) words.items ≡ all_words (found_of found.now) name.now) }
+{
     let mut words = Vec::new(alloc);
-    for text in found.get_strs(name).unwrap_or(&[]) {
+    let Some(texts) = found.get_strs(name) else {
+        return Ok(words);
+    };
+    for text in texts {
         words.push(bytes_of(alloc, text)?)?;
     }
     Ok(words)
 }
 
 /// The tree that a word names.
-fn tree_of(word: Vec<u8>) -> Tree {
+fn tree_of(word: Vec<u8>) -> Tree
+    ensures { NamesTree word.items result }
+{
     match word.as_slice() {
         b"balanced" => Tree::Balanced,
         b"chain" => Tree::Chain,
@@ -111,15 +127,20 @@ fn tree_of(word: Vec<u8>) -> Tree {
 }
 
 /// The threshold that is asked for, if one is.
-fn threshold_of(alloc: Global, found: &ArgMatches) -> Result<Share, AllocError> {
+fn threshold_of(alloc: Global, found: &ArgMatches) -> Result<Share, AllocError>
+    ensures { IfOk result
+        (GivesShare (first_value (found_of found.now) (codes "threshold"))) }
+{
     match found.get_str("threshold") {
         Some(text) => Ok(Share::Text(bytes_of(alloc, text)?)),
         None => Ok(Share::OfCounters),
     }
 }
 
-fn report(alloc: Global, found: &ArgMatches) -> Result<Request, AllocError> {
-    Ok(Request::Report(ReportOptions {
+fn report(alloc: Global, found: &ArgMatches) -> Result<ReportOptions, AllocError>
+    ensures { IfOk result (AreOptions (found_of found.now)) }
+{
+    Ok(ReportOptions {
         k: K.of(found),
         threshold: threshold_of(alloc, found)?,
         workers: WORKERS.of(found),
@@ -128,10 +149,12 @@ fn report(alloc: Global, found: &ArgMatches) -> Result<Request, AllocError> {
         width: WIDTH.of(found),
         depth: DEPTH.of(found),
         seed: SEED.of(found),
-    }))
+    })
 }
 
-fn summarise(alloc: Global, found: &ArgMatches) -> Result<Command, AllocError> {
+fn summarise(alloc: Global, found: &ArgMatches) -> Result<Command, AllocError>
+    ensures { IfOk result (Answers (codes "summarise") (found_of found.now)) }
+{
     let method = word_or(alloc, found, "method", "mg")?;
     Ok(Command::Summarise {
         k: K.of(found),
@@ -139,7 +162,9 @@ fn summarise(alloc: Global, found: &ArgMatches) -> Result<Command, AllocError> {
     })
 }
 
-fn table(found: &ArgMatches) -> Command {
+fn table(found: &ArgMatches) -> Command
+    ensures { Answers (codes "table") (found_of found.now) result }
+{
     Command::Table {
         width: WIDTH.of(found),
         depth: DEPTH.of(found),
@@ -148,7 +173,9 @@ fn table(found: &ArgMatches) -> Command {
 }
 
 /// A file that is not named, which `clap` lets not come, is one without a name: it can't be read.
-fn merge(alloc: Global, found: &ArgMatches) -> Result<Command, AllocError> {
+fn merge(alloc: Global, found: &ArgMatches) -> Result<Command, AllocError>
+    ensures { IfOk result (Answers (codes "merge") (found_of found.now)) }
+{
     let first = word_or(alloc, found, "FILE", "")?;
     let mut others = words(alloc, found, "FILE")?;
     if !others.is_empty() {
@@ -157,28 +184,38 @@ fn merge(alloc: Global, found: &ArgMatches) -> Result<Command, AllocError> {
     Ok(Command::Merge { first, others })
 }
 
-fn ask(alloc: Global, found: &ArgMatches) -> Result<Command, AllocError> {
+fn ask(alloc: Global, found: &ArgMatches) -> Result<Command, AllocError>
+    ensures { IfOk result (Answers (codes "ask") (found_of found.now)) }
+{
     let file = word_or(alloc, found, "FILE", "")?;
     let keys = words(alloc, found, "KEY")?;
     Ok(Command::Ask { file, keys })
 }
 
-fn list(alloc: Global, found: &ArgMatches) -> Result<Command, AllocError> {
+fn list(alloc: Global, found: &ArgMatches) -> Result<Command, AllocError>
+    ensures { IfOk result (Answers (codes "list") (found_of found.now)) }
+{
     let file = word_or(alloc, found, "FILE", "")?;
     Ok(Command::List { file })
 }
 
-fn describe(alloc: Global, found: &ArgMatches) -> Result<Command, AllocError> {
+fn describe(alloc: Global, found: &ArgMatches) -> Result<Command, AllocError>
+    ensures { IfOk result (Answers (codes "describe") (found_of found.now)) }
+{
     let file = word_or(alloc, found, "FILE", "")?;
     Ok(Command::Describe { file })
 }
 
-fn condense(alloc: Global, found: &ArgMatches) -> Result<Command, AllocError> {
+fn condense(alloc: Global, found: &ArgMatches) -> Result<Command, AllocError>
+    ensures { IfOk result (Answers (codes "condense") (found_of found.now)) }
+{
     let file = word_or(alloc, found, "FILE", "")?;
     Ok(Command::Condense { file })
 }
 
-fn confirm(alloc: Global, found: &ArgMatches) -> Result<Command, AllocError> {
+fn confirm(alloc: Global, found: &ArgMatches) -> Result<Command, AllocError>
+    ensures { IfOk result (Answers (codes "confirm") (found_of found.now)) }
+{
     let file = word_or(alloc, found, "FILE", "")?;
     let threshold = threshold_of(alloc, found)?;
     Ok(Command::Confirm { file, threshold })
@@ -186,7 +223,9 @@ fn confirm(alloc: Global, found: &ArgMatches) -> Result<Command, AllocError> {
 
 /// What a command with these words asks for. `clap` lets these nine names come: the one that is
 /// none of the other eight is the report's.
-fn request_of(alloc: Global, name: &str, found: &ArgMatches) -> Result<Request, AllocError> {
+fn request_of(alloc: Global, name: &str, found: &ArgMatches) -> Result<Request, AllocError>
+    ensures { IfOk result (AsksFor name.now (found_of found.now)) }
+{
     let command = match name {
         "summarise" => summarise(alloc, found)?,
         "table" => table(found),
@@ -196,14 +235,17 @@ fn request_of(alloc: Global, name: &str, found: &ArgMatches) -> Result<Request, 
         "describe" => describe(alloc, found)?,
         "condense" => condense(alloc, found)?,
         "confirm" => confirm(alloc, found)?,
-        _ => return report(alloc, found),
+        _ => return Ok(Request::Report(report(alloc, found)?)),
     };
     Ok(Request::Answer(command))
 }
 
 /// What these words ask for, the first of which is the program's name.
-pub fn request_in(alloc: Global, words: &[String]) -> Result<Invocation, UsageError> {
-    let matches = match command_line(alloc)?.try_get_matches_from(words) {
+fn request_in(alloc: Global, words: &[Vec<u8>]) -> Result<Invocation, UsageError>
+    ensures { IfOk result (IsAskedBy (map (λ w. w.items) words.now)) }
+{
+    let texts = texts_of(alloc, words)?;
+    let matches = match command_line(alloc)?.try_get_matches_from(texts.as_slice()) {
         Ok(matches) => matches,
         Err(error) if matches!(error.kind(), ErrorKind::OutOfMemory) => {
             return Err(UsageError::Memory);
@@ -219,8 +261,10 @@ pub fn request_in(alloc: Global, words: &[String]) -> Result<Invocation, UsageEr
     })
 }
 
-/// What the command line asks for.
-pub fn read_request(rt: &HostRuntime) -> Result<Invocation, UsageError> {
-    let words = read_words(rt, rt.alloc())?;
-    request_in(rt.alloc(), words.as_slice())
+/// What the words of a source ask for.
+pub fn read_request<W: WordSource>(source: &W, alloc: Global) -> Result<Invocation, UsageError>
+    ensures { IfOk result (IsAskedFrom (W.gives source.now)) }
+{
+    let words = read_words(source, alloc)?;
+    request_in(alloc, &words)
 }

@@ -4,6 +4,14 @@
 //! [`bytes_of`] takes the word's bytes back: each byte above 127 is spelled by a character of its
 //! own.
 
+ghost use Rattle.std.specs.Prelude.{◌≡◌, [], ◌∷◌, ◌++◌, ℕ, Option, List, ⊤, IfOk, OnOk, is_none};
+ghost use Rattle.std.specs.Prelude.{map, option_map};
+ghost use Rattle.std.specs.Char.{IsScalar};
+ghost use Rattle.std.specs.List.{list_all};
+ghost use Rattle.std.specs.Str.{chars};
+ghost use Rattle.std.specs.String.{string_bytes};
+ghost use Rattle.heavy_cli.specs.Words.{AreAllWords, byte_of, spelled_bytes, word_of};
+
 use std::alloc::{AllocError, Global};
 use std::env::{Env, FillError};
 
@@ -12,7 +20,10 @@ use std::env::{Env, FillError};
 const SPELLED: u32 = 0x10_FF00;
 
 /// The character that spells a byte.
-fn spelled(byte: u8) -> char {
+fn spelled(byte: u8) -> char
+    ensures byte { spelled_bytes result ≡ byte ∷ [] }
+    ensures character { IsScalar result }
+{
     if byte.is_ascii() {
         return char::from(byte);
     }
@@ -23,17 +34,28 @@ fn spelled(byte: u8) -> char {
 }
 
 /// The byte that a character spells, if it spells one.
-fn byte_in(character: char) -> Option<u8> {
+fn byte_in(character: char) -> Option<u8>
+    ensures { result ≡ byte_of character }
+{
     match u32::from(character).checked_sub(SPELLED) {
         Some(byte) if byte <= 255 => Some(byte as u8),
         _ => None,
     }
 }
 
+/// Whether no character of a text spells a byte.
+fn spells_no_byte(text: &str) -> bool
+    ensures { result ≡ list_all (λ c. is_none (byte_of c)) (chars text.now) }
+{
+    text.chars().all(|character| byte_in(character).is_none())
+}
+
 /// A word as a text, from which [`bytes_of`] takes it back.
-pub fn text_of(alloc: Global, word: &[u8]) -> Result<String, AllocError> {
+fn text_of(alloc: Global, word: &[u8]) -> Result<String, AllocError>
+    ensures { IfOk result (λ text. word_of (string_bytes text) ≡ word.now) }
+{
     if let Ok(text) = str::from_utf8(word) {
-        if text.chars().all(|character| byte_in(character).is_none()) {
+        if spells_no_byte(text) {
             return String::from_str(alloc, text);
         }
     }
@@ -44,22 +66,49 @@ pub fn text_of(alloc: Global, word: &[u8]) -> Result<String, AllocError> {
     Ok(text)
 }
 
-/// Puts a character of a text behind these bytes.
-fn push_text(bytes: &mut Vec<u8>, character: char) -> Result<(), AllocError> {
+/// Words as texts, in their order.
+pub fn texts_of(alloc: Global, words: &[Vec<u8>]) -> Result<Vec<String>, AllocError>
+    ensures { IfOk result (λ texts. map (λ t. word_of (string_bytes t)) texts.items
+        ≡ map (λ w. w.items) words.now) }
+{
+    let mut texts = Vec::new(alloc);
+    for word in words {
+        texts.push(text_of(alloc, word)?)?;
+    }
+    Ok(texts)
+}
+
+/// Puts the bytes that a character stands for behind these.
+fn push_bytes(bytes: &mut Vec<u8>, character: char) -> Result<(), AllocError>
+    ensures { OnOk result (bytes.new.items ≡ bytes.old.items ++ spelled_bytes character) }
+{
+    if let Some(byte) = byte_in(character) {
+        bytes.push(byte)?;
+        return Ok(());
+    }
     let mut room = [0u8; 4];
     bytes.extend_from_slice(character.encode_utf8(&mut room).as_bytes())
 }
 
 /// The bytes of the word that a text stands for.
-pub fn bytes_of(alloc: Global, text: &str) -> Result<Vec<u8>, AllocError> {
+pub fn bytes_of(alloc: Global, text: &str) -> Result<Vec<u8>, AllocError>
+    ensures { IfOk result (λ word. word.items ≡ word_of text.now) }
+{
     let mut bytes = Vec::new(alloc);
     for character in text.chars() {
-        match byte_in(character) {
-            Some(byte) => bytes.push(byte)?,
-            None => push_text(&mut bytes, character)?,
-        }
+        push_bytes(&mut bytes, character)?;
     }
     Ok(bytes)
+}
+
+/// Where words come from, each by its number.
+pub trait WordSource {
+    /// The source has this word at this number, or none.
+    ghost gives: { Self → ℕ → Option (List ℕ) → Type 0 };
+
+    /// The word with this number, if there is one.
+    fn word(&self, alloc: Global, number: usize) -> Result<Option<Vec<u8>>, AllocError>
+        ensures { IfOk result (λ w. gives self.now number (option_map (λ v. v.items) w)) };
 }
 
 /// The word with this number, if it fits in so much room.
@@ -77,27 +126,35 @@ fn word_in<E: Env>(
     }))
 }
 
-/// The word with this number, in room that is doubled until it fits.
-fn read_word<E: Env>(env: &E, alloc: Global, number: usize) -> Result<Option<Vec<u8>>, AllocError> {
-    let mut room = 256usize;
-    for _ in 0..usize::BITS {
-        match word_in(env, alloc, number, room)? {
-            Ok(word) => return Ok(Some(word)),
-            Err(FillError::NotPresent) => return Ok(None),
-            Err(FillError::TooLong) => room = room.saturating_mul(2),
+/// The words that the process was started with. No contract says which these are.
+impl WordSource for HostRuntime {
+    ghost gives = { λ _ _ _. ⊤ };
+
+    /// The room is doubled until the word fits.
+    fn word(&self, alloc: Global, number: usize) -> Result<Option<Vec<u8>>, AllocError> {
+        let mut room = 256usize;
+        for _ in 0..usize::BITS {
+            match word_in(self, alloc, number, room)? {
+                Ok(word) => return Ok(Some(word)),
+                Err(FillError::NotPresent) => return Ok(None),
+                Err(FillError::TooLong) => room = room.saturating_mul(2),
+            }
+        }
+        Err(AllocError)
+    }
+}
+
+/// All words of a source, in their order.
+pub fn read_words<W: WordSource>(source: &W, alloc: Global) -> Result<Vec<Vec<u8>>, AllocError>
+    ensures { IfOk result (λ words.
+        AreAllWords (W.gives source.now) (map (λ w. w.items) words.items)) }
+{
+    let mut words = Vec::new(alloc);
+    for number in 0..usize::MAX {
+        match source.word(alloc, number)? {
+            Some(word) => words.push(word)?,
+            None => return Ok(words),
         }
     }
     Err(AllocError)
-}
-
-/// The words of the command line as texts, the program's name first.
-pub fn read_words<E: Env>(env: &E, alloc: Global) -> Result<Vec<String>, AllocError> {
-    let mut words = Vec::new(alloc);
-    for number in 0..usize::MAX {
-        match read_word(env, alloc, number)? {
-            Some(word) => words.push(text_of(alloc, &word)?)?,
-            None => break,
-        }
-    }
-    Ok(words)
 }

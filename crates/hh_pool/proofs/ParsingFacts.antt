@@ -359,3 +359,12 @@ whole-read text n s low high h = let all : n ≡ length text = omega (arith, low
 pub spells-end : (text : List ℕ) (s : Reading) (t : MergeTree) → steps first_reading text ≡ Some s
     → Some t ≡ read_tree s → SpellsTree text t
 spells-end text s t h e = let sofar = read-so-far text s h in rw sofar.0 at (read-spells s t sofar.1 (sym e))
+
+-- a text is that of one tree
+pub spells-one : (text : List ℕ) (s t : MergeTree) → SpellsTree text s → SpellsTree text t → s ≡ t
+spells-one text s t one other =
+    let first = ap (steps first_reading) one.bytes ∙ text-read s one.tree in
+    let second = ap (steps first_reading) other.bytes ∙ text-read t other.tree in
+    let same = some-eq _ _ (sym first ∙ second) in
+    let tree : ◌≡◌ {A = Option MergeTree} (Some s) (Some t) = sym (end-read s) ∙ ap read_tree same ∙ end-read t in
+    cc

@@ -7,6 +7,7 @@ use Rattle.hh_counters.specs.Counters.{Counters, IsHonest, SummaryView, misra_gr
 use Rattle.hh_counters.specs.Report.{has_counter, heavy}
 use Rattle.hh_counters.specs.Condensed.{condensed}
 use Rattle.hh_pool.specs.Outcomes.{IsMerged}
+use Rattle.hh_pool.specs.PlanTexts.{SpellsTree}
 use Rattle.hh_pool.specs.Trees.{MergeTree, IsMergeTree, tree_result, tree_value}
 
 -- what any tree makes of counters that are each honest for its part is honest for the whole
@@ -34,3 +35,8 @@ TreesMergeSummaries =
     (t : MergeTree) (k : ℕ) (parts : List (List Entry)) (s : SummaryView)
     → IsMergeTree t (length parts) → tree_result t (map (sketch_of k) parts) ≡ Ok s
     → IsMerged t k parts (whole_of parts) s
+
+-- a text is that of one tree
+abbrev pub TextsSpellOneTree : Type 0
+TextsSpellOneTree =
+    (text : List ℕ) (s t : MergeTree) → SpellsTree text s → SpellsTree text t → s ≡ t

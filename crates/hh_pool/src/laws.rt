@@ -1,6 +1,7 @@
 //! Laws of the definitions in `specs/`. Each function does nothing: its contract is the law.
 
-ghost use Rattle.hh_pool.specs.Laws.{PartsReportByAnyTree, TreesAreHonest, TreesMergeSummaries};
+ghost use Rattle.hh_pool.specs.Laws.{PartsReportByAnyTree, TextsSpellOneTree, TreesAreHonest};
+ghost use Rattle.hh_pool.specs.Laws.{TreesMergeSummaries};
 
 use hh_counters::laws::{
     condensed_parts_suffice, honest_is_near, join_of_honest_is_honest, misra_gries_is_honest,
@@ -33,3 +34,8 @@ pub fn parts_report_by_any_tree()
     honest_is_near();
     condensed_parts_suffice();
 }
+
+/// A plan's text is that of one tree.
+pub fn texts_spell_one_tree()
+    ensures { TextsSpellOneTree }
+{}

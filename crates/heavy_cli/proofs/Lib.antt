@@ -1,0 +1,3 @@
+pub mod FileLemmas
+pub mod RequestLemmas
+pub mod WordLemmas

@@ -1,0 +1,5 @@
+use Rattle.hh_pool.proofs.ParsingFacts.{spells-one}
+use Rattle.hh_pool.proofs.laws.texts_spell_one_tree.Goals as goal
+
+pub returns : goal.returns
+returns c = spells-one
