@@ -2,9 +2,10 @@
 """Processor time and peak memory of `heavy summarise`, `table` and `confirm`, beside plain Rust that keeps no record
 either, and beside mawk (or awk), which groups by key.
 
-usage: bench/passes.py [RUNS]
+usage: bench/passes.py [RUNS] [--write]
 
-On 10^6 and 10^7 records, by Zipf's law and with all keys different. Prints medians, and ratios to plain Rust.
+On 10^6 and 10^7 records, by Zipf's law and with all keys different. Prints medians, and ratios to plain Rust. --write
+also writes bench/results/passes.csv, of 10^6 records.
 """
 import os
 import shutil
@@ -15,6 +16,7 @@ import tempfile
 import time
 from pathlib import Path
 
+import measured
 import programs
 
 GROUP_BY = "{ w[$1] += $2; n += $2 } END { for (x in w) if (101 * w[x] > n) print x \",\" w[x] }"
@@ -82,7 +84,8 @@ def commands(room: Path, path: Path) -> dict[str, list[str]]:
     return found
 
 
-def compare(room: Path, path: Path, runs: int) -> None:
+def compare(room: Path, path: Path, runs: int) -> dict[str, list[float]]:
+    """Prints what each command takes, and returns the times of its runs."""
     all_commands = commands(room, path)
     times: dict[str, list[float]] = {name: [] for name in all_commands}
     for _ in range(runs):
@@ -94,16 +97,32 @@ def compare(room: Path, path: Path, runs: int) -> None:
         if f"plain {name}" in medians:
             line += f"   {median / medians[f'plain {name}']:5.2f} of plain"
         print(line, flush=True)
+    return times
+
+
+def ratios_of(records: str, times: dict[str, list[float]]) -> list[tuple[str, str, str, list[float]]]:
+    """The ratios of each command's runs to those beside it."""
+    found = []
+    for command in ("summarise", "summarise ss", "table", "confirm"):
+        name = f"`{command.replace(' ss', ' --method ss')}`"
+        for other, beside in ((f"plain {command}", "plain Rust"), ("awk", "mawk")):
+            if other in times:
+                found.append((records, name, beside, [one / two for one, two in zip(times[command], times[other])]))
+    return found
 
 
 def main() -> None:
-    runs = int(sys.argv[1]) if len(sys.argv) > 1 else 5
+    words = [word for word in sys.argv[1:] if word != "--write"]
+    runs, ratios = int(words[0]) if words else 5, []
     with tempfile.TemporaryDirectory() as folder:
         room = Path(folder)
-        for shape in ("zipf", "different"):
-            for path in (programs.records(room, shape), many(room, shape)):
-                print(path.name)
-                compare(room, path, runs)
+        for shape, name in (("zipf", "Zipf"), ("different", "all different")):
+            print(shape)
+            ratios += ratios_of(name, compare(room, programs.records(room, shape), runs))
+            print(many(room, shape).name)
+            compare(room, many(room, shape), runs)
+    if "--write" in sys.argv:
+        measured.write("passes", ratios)
 
 
 main()

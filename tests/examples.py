@@ -168,6 +168,11 @@ class Examples(programs.Checks):
         for line in ("rt chekc", "rt check --onyl PATH", "tests/run --onyl", "tests/runs", "over_dask.py --schedluer A"):
             self.check(f"{line!r} is not found to be there", command_faults(line))
 
+    def test_measurements(self) -> None:
+        """The tables of bench/README.md are those of the files in bench/results."""
+        ended = programs.run([sys.executable, "-B", str(programs.TOP / "bench" / "measured.py")], env=dict(os.environ))
+        self.check("the tables of bench/README.md", ended.status == 0, ended)
+
     def test_rattle(self) -> None:
         """The README's Rattle stands in the sources."""
         shown = FENCED.findall((programs.TOP / "README.md").read_text())

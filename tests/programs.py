@@ -117,8 +117,8 @@ class Counted(unittest.TextTestResult):
 
 def run_tests(name: str) -> None:
     """Runs the tests of the script. Its last line tells how many checks passed and failed, and how many tests were skipped;
-    the lines above it tell why. The status is 1 where one failed, and SKIPPED where no check was made for want of what the
-    tests need."""
+    the lines above it tell why. The status is 1 where one failed or none was made, and SKIPPED where none was made for want
+    of what the tests need."""
     suite = unittest.defaultTestLoader.loadTestsFromModule(sys.modules["__main__"])
     with open(os.devnull, "w") as nowhere:
         result = unittest.TextTestRunner(nowhere, resultclass=Counted).run(suite)
@@ -128,4 +128,6 @@ def run_tests(name: str) -> None:
         print(f"SKIPPED: {test}: {why}", flush=True)
     failed, skipped = len(result.failures) + len(result.errors), len(result.skipped)
     print(f"{name}: {result.passed} passed, {failed} failed, {skipped} skipped", flush=True)
-    sys.exit(1 if failed else SKIPPED if skipped and not result.passed else 0)
+    if result.passed == 0:
+        sys.exit(SKIPPED if skipped and not failed else 1)
+    sys.exit(1 if failed else 0)

@@ -2,6 +2,8 @@
 //! counters, and one of them merges both and tells of each address the least and the most it sent.
 #![tactic(auto)]
 
+mod callers;
+
 use hh_counters::Summary;
 use hh_stream::Key;
 use std::alloc::Global;

@@ -1,0 +1,108 @@
+//! A caller of each library, as its page CALLING.md shows it.
+
+ghost use Rattle.std.specs.Prelude.{◌≡◌, ◌<◌, ◌≤◌, ◌↔◌, ◌∷◌, [], List, Ok, Some, IsTrue, IfOk, IfSome};
+ghost use Rattle.hh_stream.specs.Weights.{Entry, total_of, weight_of};
+ghost use Rattle.hh_counters.specs.Counters.{IsHonest, sketch_of};
+ghost use Rattle.hh_counters.specs.Report.{heavy};
+ghost use Rattle.hh_countmin.specs.Table.{estimate_in};
+ghost use Rattle.hh_saved.specs.Reading.{saved_of};
+ghost use Rattle.hh_saved.specs.declared.saved.Saved.TheVariants.{Counters};
+ghost use Rattle.hh_records.specs.Streams.{ReadsAs};
+ghost use Rattle.heavy.specs.Records.{SavesStream};
+
+use heavy::{Method, ToolError, summary_bytes};
+use hh_counters::laws::counters_bound_weights;
+use hh_counters::{Heavy, Summary};
+use hh_countmin::Table;
+use hh_pool::{OpenGate, Options, Plan, RunError, analyse};
+use hh_records::{ReadError, read_stream};
+use hh_saved::{Saved, SavedFault, read};
+use hh_shared::{SharedSums, SumSeat};
+use hh_stream::{Cutting, Key, PushRefused, Stream};
+use std::alloc::{AllocError, Global};
+use std::io::Read;
+use std::sync::Wait;
+use std::thread::Threads;
+
+/// The stream of one item.
+pub fn stream_of_one(alloc: Global, key: Key, weight: u64) -> Result<Stream, PushRefused>
+    ensures { IfOk result (λ stream. stream ≡ (key, weight) ∷ []) }
+{
+    let mut stream = Stream::new(alloc);
+    stream.push(key, weight)?;
+    Ok(stream)
+}
+
+/// The least and the most that a key weighs, as far as a summary tells.
+pub fn bounds_of(summary: &Summary, key: &Key) -> (u64, u64)
+    ensures least { (xs : List Entry)
+        → IsHonest summary.now.counters (total_of xs) xs summary.now.k
+        → result.0 ≤ weight_of key.now xs }
+{
+    counters_bound_weights();
+    (summary.get(key), summary.slack())
+}
+
+/// Whether a key is estimated to weigh at most so much. It weighs no more than its estimate.
+pub fn is_rare(table: &Table, key: &Key, most: u64) -> bool
+    ensures { IsTrue result ↔ (estimate_in table.now key.now ≤ most) }
+{
+    table.estimate(key) <= most
+}
+
+/// The summary that a saved file holds; a file with a table holds none.
+pub fn summary_in(alloc: Global, file: &[u8]) -> Result<Option<Summary>, SavedFault>
+    ensures { IfOk result (λ found. IfSome found (λ summary.
+        saved_of file.now ≡ Ok (Counters summary))) }
+{
+    match read(alloc, file)? {
+        Saved::Counters(summary) => Ok(Some(summary)),
+        Saved::Cells(_) => Ok(None),
+    }
+}
+
+/// The total weight of the records of a reader.
+pub fn total_of_records<R: Read + Drop>(alloc: Global, reader: R) -> Result<u64, ReadError>
+    ensures { IfOk result (λ total. (xs : List Entry) × ReadsAs (R.remaining reader) (Ok xs)
+        × (total ≡ total_of xs)) }
+{
+    let stream = read_stream(alloc, reader)?;
+    Ok(stream.total())
+}
+
+/// Adds to the first cell, if nobody else has claimed to do so.
+pub fn add_once(sums: &SharedSums, seat: &mut SumSeat, amount: u64)
+    requires seat { seat.old.sums ≡ sums.now }
+    requires some { (0 < sums.now.claims) × (0 < sums.now.cells) }
+    ensures { seat.new.sums ≡ sums.now }
+{
+    if sums.claim(seat, 0) {
+        sums.add(seat, 0, amount);
+    }
+}
+
+/// The heavy keys of a stream, by workers over four pieces.
+pub fn heavy_keys<R: Threads + Wait + Sync>(
+    rt: &R,
+    alloc: Global,
+    stream: &Stream,
+    options: &Options,
+) -> Result<Vec<Heavy>, AllocError>
+    ensures { IfOk result (λ rows.
+        rows.items ≡ heavy stream.now options.now.p options.now.q) }
+{
+    let cutting = Cutting::of_pieces(alloc, stream.len(), 4)?;
+    let plan = Plan::chain(alloc, 4)?;
+    match analyse(rt, alloc, stream, &cutting, &plan, options, &OpenGate) {
+        Ok(outcome) => Ok(outcome.heavy),
+        Err(RunError::PlanMismatch | RunError::Memory) => Err(AllocError),
+    }
+}
+
+/// The saved summary of a reader's records, with 100 counters.
+pub fn saved_summary<R: Read + Drop>(alloc: Global, reader: R) -> Result<Vec<u8>, ToolError>
+    ensures { IfOk result (λ bytes. SavesStream (λ xs. Counters (sketch_of 100 xs))
+        (R.remaining reader) bytes.items) }
+{
+    summary_bytes(alloc, 100, Method::MisraGries, reader)
+}

@@ -1,0 +1,102 @@
+#!/usr/bin/env python3
+"""Each library has a page CALLING.md for its callers in Rattle: a caller, which is a function of
+crates/heavy_example/src/callers.rt, and what the library offers, with its contracts. Both are made of the sources. Compares the
+pages with these, or writes what is made.
+
+usage: tests/calling.py [--write]
+"""
+import re
+import sys
+
+import programs
+
+CRATES = programs.TOP / "crates"
+CALLERS = CRATES / "heavy_example" / "src" / "callers.rt"
+# each library with the function that calls it
+LIBRARIES = {
+    "hh_stream": "stream_of_one", "hh_counters": "bounds_of", "hh_countmin": "is_rare", "hh_saved": "summary_in",
+    "hh_records": "total_of_records", "hh_shared": "add_once", "hh_pool": "heavy_keys", "heavy": "saved_summary",
+}
+MADE = re.compile(r"^## A caller\n.*", re.MULTILINE | re.DOTALL)
+OWNER = re.compile(r"^(?P<shown>pub trait|impl)(?:<[^{]*?>)? (?P<name>\w+)[^{]*\{$")
+CLAUSE = re.compile(r" *(?:requires|ensures)\b")
+
+
+def declaration_at(lines: list[str], at: int) -> list[str]:
+    """The signature and the clauses of the function that begins in this line."""
+    indent, depth, has_clause, found = len(lines[at]) - len(lines[at].lstrip()), 0, False, []
+    for line in (it[indent:].rstrip() for it in lines[at:]):
+        if found and line in ("{", "{}"):
+            break
+        has_clause = has_clause or CLAUSE.match(line) is not None
+        depth += (line.count("{") - line.count("}")) * has_clause
+        ends = line.endswith((" {", "{}")) if not has_clause else depth == 0 and line.endswith(";")
+        if line and not line.lstrip().startswith("//"):
+            found.append(re.sub(r"(?: \{\}?|;)$", "", line) if ends else line)
+        if ends or (not has_clause and line.endswith(";")):
+            break
+    return found
+
+
+def declarations_of(text: str, offered: set[str]) -> list[str]:
+    """The functions of a file that the crate offers, those of its types and traits under their names."""
+    found, owner, in_trait = [], "", False
+    lines = text.splitlines()
+    for at, line in enumerate(lines):
+        if head := OWNER.match(line):
+            owner, in_trait = "" if " for " in line else head["name"], head["shown"] == "pub trait"
+        elif line == "}":
+            owner, in_trait = "", False
+        name = re.match(r"(?:pub fn|    pub fn|    fn) (\w+)", line)
+        if not name or (line.startswith("    fn") and not in_trait):
+            continue
+        if (owner if line.startswith(" ") else name[1]) in offered:
+            shown = declaration_at(lines, at)
+            shown[0] = re.sub(r"^(?:pub )?fn ", f"fn {owner}::" if owner else "fn ", shown[0])
+            found.append("\n".join(shown))
+    return found
+
+
+def offered_by(crate: str) -> set[str]:
+    """The names that a crate offers: what its root hands on, and its laws."""
+    source = CRATES / crate / "src"
+    names = re.findall(r"\w+", " ".join(re.findall(r"^pub use ([^;]*);", (source / "lib.rt").read_text(), re.MULTILINE)))
+    laws = source / "laws.rt"
+    return {*names, *(re.findall(r"^pub fn (\w+)", laws.read_text(), re.MULTILINE) if laws.exists() else [])}
+
+
+def caller_of(name: str) -> str:
+    """A caller, with the comment above it."""
+    text = CALLERS.read_text()
+    at = text.index(f"pub fn {name}")
+    return text[text.rindex("\n\n", 0, at) + 2 : text.index("\n}\n", at) + 3]
+
+
+def made_of(crate: str) -> str:
+    """The parts of a page that are made: the caller, and the contracts file by file."""
+    parts = [f"## A caller\n\n```rust\n{caller_of(LIBRARIES[crate])}```\n\n## Contracts\n"]
+    for path in sorted((CRATES / crate / "src").rglob("*.rt")):
+        if shown := declarations_of(path.read_text(), offered_by(crate)):
+            parts.append(f"\n`{path.relative_to(CRATES / crate)}`\n\n```text\n" + "\n".join(shown) + "\n```\n")
+    return "".join(parts)
+
+
+class Calling(programs.Checks):
+    """The pages beside the sources."""
+
+    def test_pages(self) -> None:
+        for crate in LIBRARIES:
+            text = (CRATES / crate / "CALLING.md").read_text()
+            same = MADE.findall(text) == [made_of(crate)]
+            self.check(f"{crate}/CALLING.md is as tests/calling.py --write makes it", same, "not so")
+            self.check(f"a drift in {crate}/CALLING.md", MADE.findall(text.replace("ensures", "ensure", 1)) != [made_of(crate)])
+            self.check(f"{crate}/CALLING.md has contracts", made_of(crate).count("\nfn ") > 1)
+
+
+if __name__ == "__main__":
+    if sys.argv[1:] == ["--write"]:
+        for name in LIBRARIES:
+            page = CRATES / name / "CALLING.md"
+            page.write_text(page.read_text()[: page.read_text().index("## A caller")] + made_of(name))
+    else:
+        programs.run_tests("calling")
