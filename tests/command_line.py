@@ -25,66 +25,6 @@ RANGE = re.compile(rb"(--[a-z]+) <N>\n +.* from (\d+) to (\d+) \[default: (\d+)\
 LONGEST_NAME = 120
 
 
-class Line:
-    """Runs command lines in a folder with saved files."""
-
-    def __init__(self, room: str) -> None:
-        self.room = room
-        self.program = programs.built("heavy_cli")
-        self.tally = programs.Tally()
-
-    def run(self, words: list, given: bytes = RECORDS) -> tuple[int, bytes, bytes]:
-        ended = programs.run([self.program, *words], given, cwd=self.room)
-        return ended.status, ended.out, ended.err
-
-    def save(self, name: str | bytes, words: list, given: bytes = RECORDS) -> bytes:
-        data = self.run(words, given)[1]
-        Path(self.room, os.fsdecode(name)).write_bytes(data)
-        return data
-
-    def expect(self, words: list, expected: tuple[int, bytes, bytes], given: bytes = RECORDS) -> None:
-        found = self.run(words, given)
-        name = " ".join(os.fsdecode(word) for word in words)
-        self.tally.check(name[:LONGEST_NAME], found == expected, (found, expected))
-
-    def refuses(self, words: list, text: str, status: int = 2, given: bytes = RECORDS) -> None:
-        self.expect(words, (status, b"", f"heavy: {text}\n".encode()), given)
-
-
-def try_records(line: Line) -> None:
-    """The commands that read records, by their defaults and their options."""
-    line.expect(["report"], reference.answer(reference.report, SKEWED, 100), SKEWED)
-    line.expect(["report", "--k", "2"], (0, b"a,6\n", b""))
-    line.expect(["report", "--k", "9"], (0, b"a,6\nb,3\nc,2\n", b""))
-    line.expect(["report", "--k=2"], (0, b"a,6\n", b""))
-    line.expect(["report", "--k", "2"], (0, b"", b""), b"")
-    for words in (["--workers", "1"], ["--pieces", "7"], ["--tree", "chain"], ["--seed", "9"], ["--depth", "16"]):
-        line.expect(["report", "--k", "2", *words], (0, b"a,6\n", b""))
-    for method in ([], ["--method", "mg"], ["--method", "ss"]):
-        expected = reference.answer(reference.summarise, MANY, 100)
-        line.expect(["summarise", *method], expected, MANY)
-        line.expect(["summarise", "--k", "2", *method], reference.answer(reference.summarise, RECORDS, 2))
-
-
-def try_thresholds(line: Line) -> None:
-    """A share of one's own, what lies at exactly that share, and texts that name none."""
-    rows = [
-        (2, RECORDS, ["1/2", "01/02", "1/3"], b"a,6\n"),
-        (2, RECORDS, ["2/3", "1/1", "4294967296/4294967296", "6/11"], b""),
-        (9, RECORDS, ["1/10"], b"a,6\nb,3\nc,2\n"),
-        (9, RECORDS, ["1/4", "3/12"], b"a,6\nb,3\n"),
-        (2, b"a\nb\n", ["1/2"], b""),
-    ]
-    for k, given, shares, report in rows:
-        for share in shares:
-            line.expect(["report", "--k", str(k), "--threshold", share], (0, report, b""), given)
-    text = "threshold must be P/Q with 1 <= P <= Q <= 4294967296 and P*(K+1) >= Q"
-    wrong = ["0/0", "3/2", "4294967297/4294967297", "00000000001/1", "1", "1/", "1/2/3", "", "/", "/2", "1/4", "0.01"]
-    for share in [*wrong, "1%", " 1/2", "1/2 ", "+1/2", "1/+2", b"\xff/1"]:
-        line.refuses(["report", "--k", "2", "--threshold", share], text)
-    line.refuses(["report", "--k", "9", "--threshold", "1/11"], text)
-
-
 def table_in(ended: tuple[int, bytes, bytes]) -> reference.Table | None:
     """The table that a run wrote, if it wrote one."""
     status, data, _ = ended
@@ -106,134 +46,15 @@ def cells_of(table: reference.Table, items: list[reference.Item]) -> list[list[i
     return cells
 
 
-def try_tables(line: Line) -> None:
-    """A table's width, depth and seed stand in its file; its cells are those of the records."""
-    shapes = [
-        ([], 1024, 4), (["--width", "8"], 8, 4), (["--depth", "2"], 1024, 2), (["--seed", "7"], 1024, 4),
-        (["--width", "1", "--depth", "16"], 1, 16),
-    ]
-    for words, width, depth in shapes:
-        ended = line.run(["table", *words])
-        table = table_in(ended)
-        shape = table and (table.width, len(table.rows))
-        items = reference.items_of(RECORDS)
-        holds = shape == (width, depth) and (table.total, table.cells) == (11, cells_of(table, items))
-        line.tally.check(f"table {' '.join(words)}", holds, f"status {ended[0]}, width and depth {shape}, {ended[2]}")
-    ended = [line.run(["table", *words]) for words in ([], ["--seed", "0"], ["--seed", "7"])]
-    tables = [table_in(one) for one in ended]
-    is_0 = all(tables) and ended[0] == ended[1] and tables[0].z != tables[2].z
-    line.tally.check("the default seed is 0", is_0, [one[0] for one in ended])
-
-
-def try_refused_options(line: Line) -> None:
-    """Each option out of range, and the order in which they are tested."""
-    faults = [
-        ("--depth", ["0", "17"], "depth must be 1 to 16"),
-        ("--k", ["0", "65536", "18446744073709551615"], "k must be 1 to 65535"),
-        ("--workers", ["0", "65"], "workers must be 1 to 64"),
-        ("--width", ["0", "65537"], "width must be 1 to 65536"),
-        ("--threshold", ["1/0"], "threshold must be P/Q with 1 <= P <= Q <= 4294967296 and P*(K+1) >= Q"),
-        ("--pieces", ["0", "1025"], "pieces must be 1 to 1024"),
-    ]
-    for option, numbers, text in faults:
-        for number in numbers:
-            line.refuses(["report", option, number], text, given=b"bad,record,here\n")
-    for i in range(len(faults)):
-        words = [word for option, numbers, _ in reversed(faults[i:]) for word in (option, numbers[0])]
-        line.refuses(["report", *words, "--tree", "("], faults[i][2])
-    line.refuses(["summarise", "--k", "0"], faults[1][2])
-    line.refuses(["summarise", "--k", "0", "--method", "MG"], "method must be mg or ss")
-    line.refuses(["table", "--width", "0", "--depth", "0"], faults[0][2])
-    line.refuses(["table", "--width", "0"], faults[3][2])
-
-
-def try_trees(line: Line) -> None:
-    """Plans, also the longest and the deepest, and one that is no text."""
-    chain = "0"
-    for piece in range(1, 1024):
-        chain = f"({chain} {piece})"
-    most = ["report", "--k", "2", "--pieces", "1024"]
-    line.expect([*most, "--tree", chain], (0, b"a,6\n", b""))
-    line.refuses([*most, "--tree", "(" * 1024], "tree: syntax at byte 1023")
-    three = ["report", "--k", "2", "--pieces", "3", "--tree"]
-    for tree in ("((0 1) 2)", "(0 (2 1))", "chain", "balanced"):
-        line.expect([*three, tree], (0, b"a,6\n", b""))
-    line.refuses([*three, "(0 (1 1))"], "tree: piece 1 twice")
-    line.refuses([*three, "(0 1)"], "tree: piece 2 missing")
-    line.refuses([*three, "(0 3)"], "tree: no piece 3")
-    for tree, at in [("(0", 2), ("(0 1))", 5), ("(0  1)", 3), ("", 0), ("Chain", 0), (b"\xff", 0)]:
-        line.refuses([*three, tree], f"tree: syntax at byte {at}")
-
-
-def try_files(line: Line) -> None:
-    """The commands on files, in their order, and with words that are no text or begin with a dash."""
-    files = [line.save(f"{i}.heavy", ["summarise", "--k", "2"], b"%c,%d\nq,1\n" % (97 + i, i + 3)) for i in range(3)]
-    names = ["0.heavy", "1.heavy", "2.heavy"]
-    for order in ([0], [0, 1], [1, 0], [2, 0, 1], [0, 0, 0]):
-        expected = reference.answer(reference.merge, [files[i] for i in order])
-        line.expect(["merge", *(names[i] for i in order)], expected)
-    line.save("k3", ["summarise", "--k", "3"])
-    line.save("table", ["table", "--width", "8"])
-    line.refuses(["merge", "0.heavy", "1.heavy", "k3"], "file 3: another k", 3)
-    line.refuses(["merge", "0.heavy", "table"], "file 2: another kind", 3)
-    line.refuses(["merge", "0.heavy", "none"], "file 2: could not be read", 1)
-    keys = [b"c", b"a", b"", b"x" * 4097, b"\xff", b"-a", b"a,b", "ä".encode(), b"\xf4\x8f\xbc\x80"]
-    for given in ([keys[0], keys[1]], keys[4:], keys[2:4], [keys[1], keys[3], keys[2]]):
-        line.expect(["ask", "2.heavy", "--", *given], reference.answer(reference.ask, files[2], given))
-    saved = line.save("-four", ["summarise", "--k", "2"])
-    line.expect(["ask", "--", "-four", "-a"], reference.answer(reference.ask, saved, [b"-a"]))
-    line.expect(["confirm", "--", "-four"], (0, b"a,6\n", b""))
-    line.expect(["merge", "--", "-four", "0.heavy"], reference.answer(reference.merge, [saved, files[0]]))
-    line.refuses(["confirm", "--", "-four"], "file 1: its total is not the input's", 3, b"a,5\n")
-    line.refuses(["confirm", "table"], "file 1: not a counter summary", 3)
-    line.expect(["condense", "--", "-four"], (0, b"b,9\nothers,1\n", b""), b"x\nb,9\n")
-    line.expect(["condense", "--", "-four"], (0, b"", b""), b"")
-    line.refuses(["condense", "--", "-four"], "record 2: zero weight", 3, b"a,5\nb,0\n")
-    line.refuses(["condense", "table"], "file 1: not a counter summary", 3)
-    line.refuses(["ask", b"\xff", "a"], "file 1: could not be read", 1)
-    for name in ("--k", "--help", "--progress"):
-        for command in (["condense"], ["confirm"], ["merge", "0.heavy"]):
-            place = len(command)
-            line.refuses([*command[:1], "--", *command[1:], name], f"file {place}: could not be read", 1)
-        line.save(name, ["summarise", "--k", "2"])
-        line.expect(["merge", "--", name], (0, saved, b""))
-        line.expect(["confirm", "--", name], (0, b"a,6\n", b""))
-        line.expect(["condense", "--", name], (0, b"b,9\n", b""), b"b,9\n")
-        line.expect(["ask", "--", name, name, "a"], (0, name.encode() + b",0,2\na,4,6\n", b""))
-
-
-def watched(line: Line, library: str, words: list, given: bytes) -> list[int]:
+def watched(program: str, library: str, words: list, given: bytes) -> list[int]:
     """What a report starts and asks for: 0 for each thread, and the bytes of each request of at least 4,096."""
     ear, mouth = os.pipe()
     env = {"LD_PRELOAD": library, "WATCH_FROM": "4096", "WATCH_TOLD_ON": str(mouth)}
-    ended = programs.run([line.program, "report", *words], given, env, pass_fds=(mouth,))
+    ended = programs.run([program, "report", *words], given, env, pass_fds=(mouth,))
     os.close(mouth)
     with open(ear, "rb") as told:
         numbers = sorted(map(int, told.read().split()))
     return numbers if ended.status == 0 else []
-
-
-def try_hidden_options(line: Line) -> None:
-    """Options of a report that its rows don't show. Each of two passes starts the workers; a worker's table takes 8
-    bytes for each cell, and the shared words are those cells and a claim for each piece. By the seed keys meet in other
-    cells, and so more or fewer of them are counted in the second pass."""
-    library = programs.preloaded("watch.c", line.room)
-    for words, workers, pieces, cells in [
-        ([], 4, 4, 1024 * 4), (["--workers", "6"], 6, 4, 1024 * 4), (["--pieces", "9"], 4, 9, 1024 * 4),
-        (["--workers", "5", "--pieces", "7"], 5, 7, 1024 * 4), (["--width", "1100"], 4, 4, 1100 * 4),
-        (["--depth", "12"], 4, 4, 1024 * 12), (["--width", "1300", "--depth", "3"], 4, 4, 1300 * 3),
-        (["--workers", "4", "--pieces", "4", "--width", "1024", "--depth", "4"], 4, 4, 1024 * 4),
-    ]:
-        told = watched(line, library, words, RECORDS)
-        found = (told.count(0), 8 * cells in told, 8 * (cells + pieces) in told)
-        line.tally.check(f"report {' '.join(words)}", found == (2 * workers, True, True), told)
-    many = b"".join(b"k%d,%d\n" % (number, 1 + number % 7) for number in range(5000))
-    options = ["--k", "3000", "--workers", "1", "--width", "4096", "--depth", "1"]
-    seeds = ["0", "7", str(2**64 - 1)]
-    plain, *told = [watched(line, library, options + words, many) for words in ([], *(["--seed", it] for it in seeds))]
-    line.tally.check("the default seed of a report is 0", plain == told[0] and plain != [], (plain, told[0]))
-    differ = len({tuple(it) for it in told}) == len(seeds)
-    line.tally.check("each seed of a report has a table of its own", differ, told)
 
 
 def saved_bytes(*fields: str) -> bytes:
@@ -259,138 +80,286 @@ def table_of_one(weight: int, places: tuple[int, int]) -> bytes:
     return b"".join([saved_bytes("48485331 02", FAMILY), reference.number(weight, 8), *cells])
 
 
-def try_vectors(line: Line) -> None:
-    """Files of version 1 and 2 byte by byte: what is merged, asked and confirmed of them, and what is refused."""
-    other_family = TABLE[:49] + b"\x02" + TABLE[50:]
-    files = {
-        "one": ONE, "two": ONE_IN_2, "table": TABLE, "table2": TABLE_IN_2, "other": other_family, "byte": b"H",
-        "a4b1": ONE, "b2c3": saved_bytes("48485331 01 0002 0000000000000005 0002 01 62 0000000000000002"
-                                         "01 63 0000000000000003"),
-        "k3": EMPTY[:6] + b"\x03" + EMPTY[7:], "full": EMPTY[:7] + saved_bytes("7fffffffffffffff") + EMPTY[15:],
-        "a": table_of_one(5, (2, 3)), "e": table_of_one(2, (2, 3)), "b": table_of_one(1, (3, 2)),
-    }
-    for name, data in files.items():
-        Path(line.room, name).write_bytes(data)
-    doubled = saved_bytes("48485332 01 0002 0000000000000016 0002 0001 61 0000000000000008 0001 62 0000000000000002")
-    for names, merged in [
-        (["one"], ONE_IN_2), (["two"], ONE_IN_2), (["table"], TABLE_IN_2), (["table2"], TABLE_IN_2),
-        (["one", "one"], doubled), (["one", "two"], doubled), (["a", "e", "b"], TABLE_IN_2),
-        (["a4b1", "b2c3"], saved_bytes("48485332 01 0002 0000000000000010 0001 0001 61 0000000000000001")),
-    ]:
-        line.expect(["merge", *names], (0, merged, b""))
-    Path(line.room, "doubled").write_bytes(doubled)
-    Path(line.room, "whole").write_bytes(line.run(["merge", "a", "e", "b"])[1])
-    line.expect(["ask", "doubled", "a"], (0, b"a,8,12\n", b""))
-    for name in ("one", "two"):
-        line.expect(["ask", name, "a", "z"], (0, b"a,4,6\nz,0,2\n", b""))
-        line.expect(["confirm", name], (0, b"a,6\n", b""))
-        line.refuses(["confirm", name], "file 1: its total is not the input's", 3, b"a,5\n")
-        line.refuses(["ask", name, "a", ""], "key 2: empty", 3)
-        line.refuses(["ask", name, "x" * 4097], "key 1: too long", 3)
-    for name in ("table", "table2", "whole"):
-        line.expect(["ask", name, "a", "b"], (0, b"a,0,7\nb,0,1\n", b""))
-        line.refuses(["confirm", name], "file 1: not a counter summary", 3)
-        line.refuses(["merge", "one", name], "file 2: another kind", 3)
-        line.refuses(["merge", name, "other"], "file 2: another hash family", 3)
-    line.refuses(["merge", "one", "k3"], "file 2: another k", 3)
-    line.refuses(["merge", "one", "full"], "file 2: total too large", 3)
-    line.refuses(["merge", "one", "byte"], "file 2: truncated", 3)
+class CommandLine(programs.Checks):
+    """Runs command lines in a folder with saved files."""
 
+    def setUp(self) -> None:
+        super().setUp()
+        self.program = programs.built("heavy_cli")
 
-def try_digits_and_bytes(line: Line) -> None:
-    """Weights of 20 and 21 digits, and keys of bytes that are no text, up to the longest."""
-    line.refuses(["report"], "record 2: bad weight", 3, b"a,1\nb,000000000000000000001\n")
-    line.expect(["report"], (0, b"a,1\n", b""), b"a,00000000000000000001\n")
-    line.refuses(["report"], "record 1: total too large", 3, b"a,99999999999999999999\n")
-    for key in (b"\xff", b"\xff" * 255, b"\xff" * 256, b"\xff" * 4096):
-        line.expect(["report"], (0, key + b",1\n", b""), key + b"\n")
-    line.refuses(["report"], "record 1: key too long", 3, b"\xff" * 4097 + b"\n")
-    line.refuses(["summarise", "--method", "x"], "method must be mg or ss")
+    def heavy(self, words: list, given: bytes = RECORDS) -> tuple[int, bytes, bytes]:
+        ended = programs.run([self.program, *words], given, cwd=self.room)
+        return ended.status, ended.out, ended.err
 
+    def save(self, name: str | bytes, words: list, given: bytes = RECORDS) -> bytes:
+        data = self.heavy(words, given)[1]
+        Path(self.room, os.fsdecode(name)).write_bytes(data)
+        return data
 
-def try_kinds(line: Line) -> None:
-    """What clap says of each kind of fault."""
-    other, missing = "unexpected argument '%s' found", "the following required arguments were not provided:"
-    for words, text in [
-        ([], "'heavy' requires a subcommand but one was not provided"), (["no"], "unrecognized subcommand 'no'"),
-        (["--k", "2"], other % "--k"), (["report", "--no"], other % "--no"), (["report", "no"], other % "no"),
-        (["report", "--method", "mg"], other % "--method"), (["summarise", "--width", "2"], other % "--width"),
-        (["table", "--k", "2"], other % "--k"), (["condense", "one", "two"], other % "two"),
-        (["confirm", "one", "two"], other % "two"), (["merge", "--progress", "one"], other % "--progress"),
-        (["ask", "--progress", "one", "a"], other % "--progress"),
-        (["report", "--k"], "a value is required for '--k <N>' but none was supplied"),
-        (["report", "--k", "x"], "invalid value 'x' for '--k <N>'"),
-        (["report", "--k", str(2**64)], f"invalid value '{2**64}' for '--k <N>'"),
-        (["report", "--k", "1", "--k", "2"], "the argument '--k <N>' cannot be used multiple times"),
-        (["merge"], missing), (["ask", "file"], missing), (["condense"], missing), (["confirm"], missing),
-    ]:
-        status, out, err = line.run(words)
-        said = err.startswith(f"error: {text}".encode())
-        line.tally.check(f"clap on {words}", (status, out, said) == (2, b"", True), (status, out, err))
-    for words in (["help"], ["table", "--help"]):
-        status, out, err = line.run(words)
-        line.tally.check(f"{words}", (status, err) == (0, b"") and b"Usage: heavy" in out, (status, out, err))
+    def expect(self, words: list, expected: tuple[int, bytes, bytes], given: bytes = RECORDS) -> None:
+        found = self.heavy(words, given)
+        name = " ".join(os.fsdecode(word) for word in words)
+        self.check(name[:LONGEST_NAME], found == expected, (found, expected))
 
+    def refuses(self, words: list, text: str, status: int = 2, given: bytes = RECORDS) -> None:
+        self.expect(words, (status, b"", f"heavy: {text}\n".encode()), given)
 
-def try_usage(line: Line) -> None:
-    """Faults of the command line are clap's, with status 2; help has status 0."""
-    wrong = [
-        [], ["nothing"], ["report", "--nothing"], ["report", "--k", "x"], ["report", "--k", "-1"], ["report", "--k"],
-        ["report", "word"], ["report", "--k", "18446744073709551616"], ["merge"], ["ask", "0.heavy"], ["confirm"],
-        ["confirm", "0.heavy", "1.heavy"], ["condense"], ["condense", "0.heavy", "1.heavy"], ["ask", "0.heavy", "-a"],
-        [b"\xff"], ["report", "--k", b"\xff"],
-    ]
-    for words in wrong:
-        status, out, err = line.run(words)
-        line.tally.check(f"usage: {words}", (status, out) == (2, b"") and err != b"", (status, out, err))
-    for words in ([], ["report"], ["summarise"], ["table"], ["merge"], ["ask"], ["condense"], ["confirm"]):
-        status, out, err = line.run([*words, "--help"])
-        line.tally.check(f"help: {words}", (status, err) == (0, b"") and b"Usage: heavy" in out, (status, err))
+    def test_records(self) -> None:
+        """The commands that read records, by their defaults and their options."""
+        self.expect(["report"], reference.answer(reference.report, SKEWED, 100), SKEWED)
+        self.expect(["report", "--k", "2"], (0, b"a,6\n", b""))
+        self.expect(["report", "--k", "9"], (0, b"a,6\nb,3\nc,2\n", b""))
+        self.expect(["report", "--k=2"], (0, b"a,6\n", b""))
+        self.expect(["report", "--k", "2"], (0, b"", b""), b"")
+        for words in (["--workers", "1"], ["--pieces", "7"], ["--tree", "chain"], ["--seed", "9"], ["--depth", "16"]):
+            self.expect(["report", "--k", "2", *words], (0, b"a,6\n", b""))
+        for method in ([], ["--method", "mg"], ["--method", "ss"]):
+            expected = reference.answer(reference.summarise, MANY, 100)
+            self.expect(["summarise", *method], expected, MANY)
+            self.expect(["summarise", "--k", "2", *method], reference.answer(reference.summarise, RECORDS, 2))
 
+    def test_thresholds(self) -> None:
+        """A share of one's own, what lies at exactly that share, and texts that name none."""
+        rows = [
+            (2, RECORDS, ["1/2", "01/02", "1/3"], b"a,6\n"),
+            (2, RECORDS, ["2/3", "1/1", "4294967296/4294967296", "6/11"], b""),
+            (9, RECORDS, ["1/10"], b"a,6\nb,3\nc,2\n"),
+            (9, RECORDS, ["1/4", "3/12"], b"a,6\nb,3\n"),
+            (2, b"a\nb\n", ["1/2"], b""),
+        ]
+        for k, given, shares, report in rows:
+            for share in shares:
+                self.expect(["report", "--k", str(k), "--threshold", share], (0, report, b""), given)
+        text = "threshold must be P/Q with 1 <= P <= Q <= 4294967296 and P*(K+1) >= Q"
+        wrong = ["0/0", "3/2", "4294967297/4294967297", "00000000001/1", "1", "1/", "1/2/3", "", "/", "/2", "1/4", "0.01"]
+        for share in [*wrong, "1%", " 1/2", "1/2 ", "+1/2", "1/+2", b"\xff/1"]:
+            self.refuses(["report", "--k", "2", "--threshold", share], text)
+        self.refuses(["report", "--k", "9", "--threshold", "1/11"], text)
 
-def try_help(line: Line) -> None:
-    """What help tells: statuses and an example everywhere, ranges and defaults as they are, and the version."""
-    for words in ([], ["report"], ["summarise"], ["table"], ["merge"], ["ask"], ["condense"], ["confirm"]):
-        out = line.run([*words, "--help"])[1]
-        tells = all(text in out for text in (b"Exit status: 0 ", b"\nExample:\n    $ "))
-        tells = tells and all(b"%d " % status in out.split(b"Exit status:")[1] for status in range(5))
-        line.tally.check(f"{words} --help tells statuses and an example", tells, out)
-        line.tally.check(f"{words} -h is shorter", len(line.run([*words, "-h"])[1]) < len(out))
-    for words in (["--version"], ["-V"]):
-        status, out, err = line.run(words)
-        said = (status, err) == (0, b"") and re.fullmatch(rb"heavy \d+\.\d+\.\d+\n", out)
-        line.tally.check(f"{words}", said, (status, out, err))
-    for command, count in (("report", 6), ("summarise", 1), ("table", 3)):
-        ranges = RANGE.findall(line.run([command, "--help"])[1])
-        line.tally.check(f"{command} --help has ranges", len(ranges) == count, ranges)
-        plain = line.run([command])
-        for option, *numbers in ranges:
-            least, most, default = map(int, numbers)
-            taken = [line.run([command, option, str(number)])[0] for number in (least, most)]
-            refused = [line.run([command, option, str(number)])[0] for number in (least - 1, most + 1)]
-            line.tally.check(f"{command} {option} is taken in its range", taken == [0, 0], taken)
-            line.tally.check(f"{command} {option} is refused beyond it", refused == [2, 2], refused)
-            same = line.run([command, option, str(default)]) == plain
-            line.tally.check(f"{command} {option} has the default that help tells", same and plain[0] == 0, plain)
+    def test_tables(self) -> None:
+        """A table's width, depth and seed stand in its file; its cells are those of the records."""
+        shapes = [
+            ([], 1024, 4), (["--width", "8"], 8, 4), (["--depth", "2"], 1024, 2), (["--seed", "7"], 1024, 4),
+            (["--width", "1", "--depth", "16"], 1, 16),
+        ]
+        for words, width, depth in shapes:
+            ended = self.heavy(["table", *words])
+            table = table_in(ended)
+            shape = table and (table.width, len(table.rows))
+            items = reference.items_of(RECORDS)
+            holds = shape == (width, depth) and (table.total, table.cells) == (11, cells_of(table, items))
+            self.check(f"table {' '.join(words)}", holds, f"status {ended[0]}, width and depth {shape}, {ended[2]}")
+        ended = [self.heavy(["table", *words]) for words in ([], ["--seed", "0"], ["--seed", "7"])]
+        tables = [table_in(one) for one in ended]
+        is_0 = all(tables) and ended[0] == ended[1] and tables[0].z != tables[2].z
+        self.check("the default seed is 0", is_0, [one[0] for one in ended])
 
+    def test_refused_options(self) -> None:
+        """Each option out of range, and the order in which they are tested."""
+        faults = [
+            ("--depth", ["0", "17"], "depth must be 1 to 16"),
+            ("--k", ["0", "65536", "18446744073709551615"], "k must be 1 to 65535"),
+            ("--workers", ["0", "65"], "workers must be 1 to 64"),
+            ("--width", ["0", "65537"], "width must be 1 to 65536"),
+            ("--threshold", ["1/0"], "threshold must be P/Q with 1 <= P <= Q <= 4294967296 and P*(K+1) >= Q"),
+            ("--pieces", ["0", "1025"], "pieces must be 1 to 1024"),
+        ]
+        for option, numbers, text in faults:
+            for number in numbers:
+                self.refuses(["report", option, number], text, given=b"bad,record,here\n")
+        for i in range(len(faults)):
+            words = [word for option, numbers, _ in reversed(faults[i:]) for word in (option, numbers[0])]
+            self.refuses(["report", *words, "--tree", "("], faults[i][2])
+        self.refuses(["summarise", "--k", "0"], faults[1][2])
+        self.refuses(["summarise", "--k", "0", "--method", "MG"], "method must be mg or ss")
+        self.refuses(["table", "--width", "0", "--depth", "0"], faults[0][2])
+        self.refuses(["table", "--width", "0"], faults[3][2])
 
-def main() -> None:
-    with tempfile.TemporaryDirectory() as room:
-        line = Line(room)
-        try_records(line)
-        try_thresholds(line)
-        try_tables(line)
-        try_refused_options(line)
-        try_trees(line)
-        try_files(line)
-        try_vectors(line)
-        try_digits_and_bytes(line)
-        try_hidden_options(line)
-        try_kinds(line)
-        try_usage(line)
-        try_help(line)
-        line.tally.end("command line")
+    def test_trees(self) -> None:
+        """Plans, also the longest and the deepest, and one that is no text."""
+        chain = "0"
+        for piece in range(1, 1024):
+            chain = f"({chain} {piece})"
+        most = ["report", "--k", "2", "--pieces", "1024"]
+        self.expect([*most, "--tree", chain], (0, b"a,6\n", b""))
+        self.refuses([*most, "--tree", "(" * 1024], "tree: syntax at byte 1023")
+        three = ["report", "--k", "2", "--pieces", "3", "--tree"]
+        for tree in ("((0 1) 2)", "(0 (2 1))", "chain", "balanced"):
+            self.expect([*three, tree], (0, b"a,6\n", b""))
+        self.refuses([*three, "(0 (1 1))"], "tree: piece 1 twice")
+        self.refuses([*three, "(0 1)"], "tree: piece 2 missing")
+        self.refuses([*three, "(0 3)"], "tree: no piece 3")
+        for tree, at in [("(0", 2), ("(0 1))", 5), ("(0  1)", 3), ("", 0), ("Chain", 0), (b"\xff", 0)]:
+            self.refuses([*three, tree], f"tree: syntax at byte {at}")
+
+    def test_files(self) -> None:
+        """The commands on files, in their order, and with words that are no text or begin with a dash."""
+        files = [self.save(f"{i}.heavy", ["summarise", "--k", "2"], b"%c,%d\nq,1\n" % (97 + i, i + 3)) for i in range(3)]
+        names = ["0.heavy", "1.heavy", "2.heavy"]
+        for order in ([0], [0, 1], [1, 0], [2, 0, 1], [0, 0, 0]):
+            expected = reference.answer(reference.merge, [files[i] for i in order])
+            self.expect(["merge", *(names[i] for i in order)], expected)
+        self.save("k3", ["summarise", "--k", "3"])
+        self.save("table", ["table", "--width", "8"])
+        self.refuses(["merge", "0.heavy", "1.heavy", "k3"], "file 3: another k", 3)
+        self.refuses(["merge", "0.heavy", "table"], "file 2: another kind", 3)
+        self.refuses(["merge", "0.heavy", "none"], "file 2: could not be read", 1)
+        keys = [b"c", b"a", b"", b"x" * 4097, b"\xff", b"-a", b"a,b", "ä".encode(), b"\xf4\x8f\xbc\x80"]
+        for given in ([keys[0], keys[1]], keys[4:], keys[2:4], [keys[1], keys[3], keys[2]]):
+            self.expect(["ask", "2.heavy", "--", *given], reference.answer(reference.ask, files[2], given))
+        saved = self.save("-four", ["summarise", "--k", "2"])
+        self.expect(["ask", "--", "-four", "-a"], reference.answer(reference.ask, saved, [b"-a"]))
+        self.expect(["confirm", "--", "-four"], (0, b"a,6\n", b""))
+        self.expect(["merge", "--", "-four", "0.heavy"], reference.answer(reference.merge, [saved, files[0]]))
+        self.refuses(["confirm", "--", "-four"], "file 1: its total is not the input's", 3, b"a,5\n")
+        self.refuses(["confirm", "table"], "file 1: not a counter summary", 3)
+        self.expect(["condense", "--", "-four"], (0, b"b,9\nothers,1\n", b""), b"x\nb,9\n")
+        self.expect(["condense", "--", "-four"], (0, b"", b""), b"")
+        self.refuses(["condense", "--", "-four"], "record 2: zero weight", 3, b"a,5\nb,0\n")
+        self.refuses(["condense", "table"], "file 1: not a counter summary", 3)
+        self.refuses(["ask", b"\xff", "a"], "file 1: could not be read", 1)
+        for name in ("--k", "--help", "--progress"):
+            for command in (["condense"], ["confirm"], ["merge", "0.heavy"]):
+                place = len(command)
+                self.refuses([*command[:1], "--", *command[1:], name], f"file {place}: could not be read", 1)
+            self.save(name, ["summarise", "--k", "2"])
+            self.expect(["merge", "--", name], (0, saved, b""))
+            self.expect(["confirm", "--", name], (0, b"a,6\n", b""))
+            self.expect(["condense", "--", name], (0, b"b,9\n", b""), b"b,9\n")
+            self.expect(["ask", "--", name, name, "a"], (0, name.encode() + b",0,2\na,4,6\n", b""))
+
+    def test_hidden_options(self) -> None:
+        """Options of a report that its rows don't show. Each of two passes starts the workers; a worker's table takes 8
+        bytes for each cell, and the shared words are those cells and a claim for each piece. By the seed keys meet in other
+        cells, and so more or fewer of them are counted in the second pass."""
+        library = programs.preloaded("watch.c", self.room)
+        for words, workers, pieces, cells in [
+            ([], 4, 4, 1024 * 4), (["--workers", "6"], 6, 4, 1024 * 4), (["--pieces", "9"], 4, 9, 1024 * 4),
+            (["--workers", "5", "--pieces", "7"], 5, 7, 1024 * 4), (["--width", "1100"], 4, 4, 1100 * 4),
+            (["--depth", "12"], 4, 4, 1024 * 12), (["--width", "1300", "--depth", "3"], 4, 4, 1300 * 3),
+            (["--workers", "4", "--pieces", "4", "--width", "1024", "--depth", "4"], 4, 4, 1024 * 4),
+        ]:
+            told = watched(self.program, library, words, RECORDS)
+            found = (told.count(0), 8 * cells in told, 8 * (cells + pieces) in told)
+            self.check(f"report {' '.join(words)}", found == (2 * workers, True, True), told)
+        many = b"".join(b"k%d,%d\n" % (number, 1 + number % 7) for number in range(5000))
+        options = ["--k", "3000", "--workers", "1", "--width", "4096", "--depth", "1"]
+        seeds = ["0", "7", str(2**64 - 1)]
+        plain, *told = [watched(self.program, library, options + words, many) for words in ([], *(["--seed", it] for it in seeds))]
+        self.check("the default seed of a report is 0", plain == told[0] and plain != [], (plain, told[0]))
+        differ = len({tuple(it) for it in told}) == len(seeds)
+        self.check("each seed of a report has a table of its own", differ, told)
+
+    def test_vectors(self) -> None:
+        """Files of version 1 and 2 byte by byte: what is merged, asked and confirmed of them, and what is refused."""
+        other_family = TABLE[:49] + b"\x02" + TABLE[50:]
+        files = {
+            "one": ONE, "two": ONE_IN_2, "table": TABLE, "table2": TABLE_IN_2, "other": other_family, "byte": b"H",
+            "a4b1": ONE, "b2c3": saved_bytes("48485331 01 0002 0000000000000005 0002 01 62 0000000000000002"
+                                             "01 63 0000000000000003"),
+            "k3": EMPTY[:6] + b"\x03" + EMPTY[7:], "full": EMPTY[:7] + saved_bytes("7fffffffffffffff") + EMPTY[15:],
+            "a": table_of_one(5, (2, 3)), "e": table_of_one(2, (2, 3)), "b": table_of_one(1, (3, 2)),
+        }
+        for name, data in files.items():
+            Path(self.room, name).write_bytes(data)
+        doubled = saved_bytes("48485332 01 0002 0000000000000016 0002 0001 61 0000000000000008 0001 62 0000000000000002")
+        for names, merged in [
+            (["one"], ONE_IN_2), (["two"], ONE_IN_2), (["table"], TABLE_IN_2), (["table2"], TABLE_IN_2),
+            (["one", "one"], doubled), (["one", "two"], doubled), (["a", "e", "b"], TABLE_IN_2),
+            (["a4b1", "b2c3"], saved_bytes("48485332 01 0002 0000000000000010 0001 0001 61 0000000000000001")),
+        ]:
+            self.expect(["merge", *names], (0, merged, b""))
+        Path(self.room, "doubled").write_bytes(doubled)
+        Path(self.room, "whole").write_bytes(self.heavy(["merge", "a", "e", "b"])[1])
+        self.expect(["ask", "doubled", "a"], (0, b"a,8,12\n", b""))
+        for name in ("one", "two"):
+            self.expect(["ask", name, "a", "z"], (0, b"a,4,6\nz,0,2\n", b""))
+            self.expect(["confirm", name], (0, b"a,6\n", b""))
+            self.refuses(["confirm", name], "file 1: its total is not the input's", 3, b"a,5\n")
+            self.refuses(["ask", name, "a", ""], "key 2: empty", 3)
+            self.refuses(["ask", name, "x" * 4097], "key 1: too long", 3)
+        for name in ("table", "table2", "whole"):
+            self.expect(["ask", name, "a", "b"], (0, b"a,0,7\nb,0,1\n", b""))
+            self.refuses(["confirm", name], "file 1: not a counter summary", 3)
+            self.refuses(["merge", "one", name], "file 2: another kind", 3)
+            self.refuses(["merge", name, "other"], "file 2: another hash family", 3)
+        self.refuses(["merge", "one", "k3"], "file 2: another k", 3)
+        self.refuses(["merge", "one", "full"], "file 2: total too large", 3)
+        self.refuses(["merge", "one", "byte"], "file 2: truncated", 3)
+
+    def test_digits_and_bytes(self) -> None:
+        """Weights of 20 and 21 digits, and keys of bytes that are no text, up to the longest."""
+        self.refuses(["report"], "record 2: bad weight", 3, b"a,1\nb,000000000000000000001\n")
+        self.expect(["report"], (0, b"a,1\n", b""), b"a,00000000000000000001\n")
+        self.refuses(["report"], "record 1: total too large", 3, b"a,99999999999999999999\n")
+        for key in (b"\xff", b"\xff" * 255, b"\xff" * 256, b"\xff" * 4096):
+            self.expect(["report"], (0, key + b",1\n", b""), key + b"\n")
+        self.refuses(["report"], "record 1: key too long", 3, b"\xff" * 4097 + b"\n")
+        self.refuses(["summarise", "--method", "x"], "method must be mg or ss")
+
+    def test_kinds(self) -> None:
+        """What clap says of each kind of fault."""
+        other, missing = "unexpected argument '%s' found", "the following required arguments were not provided:"
+        for words, text in [
+            ([], "'heavy' requires a subcommand but one was not provided"), (["no"], "unrecognized subcommand 'no'"),
+            (["--k", "2"], other % "--k"), (["report", "--no"], other % "--no"), (["report", "no"], other % "no"),
+            (["report", "--method", "mg"], other % "--method"), (["summarise", "--width", "2"], other % "--width"),
+            (["table", "--k", "2"], other % "--k"), (["condense", "one", "two"], other % "two"),
+            (["confirm", "one", "two"], other % "two"), (["merge", "--progress", "one"], other % "--progress"),
+            (["ask", "--progress", "one", "a"], other % "--progress"),
+            (["report", "--k"], "a value is required for '--k <N>' but none was supplied"),
+            (["report", "--k", "x"], "invalid value 'x' for '--k <N>'"),
+            (["report", "--k", str(2**64)], f"invalid value '{2**64}' for '--k <N>'"),
+            (["report", "--k", "1", "--k", "2"], "the argument '--k <N>' cannot be used multiple times"),
+            (["merge"], missing), (["ask", "file"], missing), (["condense"], missing), (["confirm"], missing),
+        ]:
+            status, out, err = self.heavy(words)
+            said = err.startswith(f"error: {text}".encode())
+            self.check(f"clap on {words}", (status, out, said) == (2, b"", True), (status, out, err))
+        for words in (["help"], ["table", "--help"]):
+            status, out, err = self.heavy(words)
+            self.check(f"{words}", (status, err) == (0, b"") and b"Usage: heavy" in out, (status, out, err))
+
+    def test_usage(self) -> None:
+        """Faults of the command line are clap's, with status 2; help has status 0."""
+        wrong = [
+            [], ["nothing"], ["report", "--nothing"], ["report", "--k", "x"], ["report", "--k", "-1"], ["report", "--k"],
+            ["report", "word"], ["report", "--k", "18446744073709551616"], ["merge"], ["ask", "0.heavy"], ["confirm"],
+            ["confirm", "0.heavy", "1.heavy"], ["condense"], ["condense", "0.heavy", "1.heavy"], ["ask", "0.heavy", "-a"],
+            [b"\xff"], ["report", "--k", b"\xff"],
+        ]
+        for words in wrong:
+            status, out, err = self.heavy(words)
+            self.check(f"usage: {words}", (status, out) == (2, b"") and err != b"", (status, out, err))
+        for words in ([], ["report"], ["summarise"], ["table"], ["merge"], ["ask"], ["condense"], ["confirm"]):
+            status, out, err = self.heavy([*words, "--help"])
+            self.check(f"help: {words}", (status, err) == (0, b"") and b"Usage: heavy" in out, (status, err))
+
+    def test_help(self) -> None:
+        """What help tells: statuses and an example everywhere, ranges and defaults as they are, and the version."""
+        for words in ([], ["report"], ["summarise"], ["table"], ["merge"], ["ask"], ["condense"], ["confirm"]):
+            out = self.heavy([*words, "--help"])[1]
+            tells = all(text in out for text in (b"Exit status: 0 ", b"\nExample:\n    $ "))
+            tells = tells and all(b"%d " % status in out.split(b"Exit status:")[1] for status in range(5))
+            self.check(f"{words} --help tells statuses and an example", tells, out)
+            self.check(f"{words} -h is shorter", len(self.heavy([*words, "-h"])[1]) < len(out))
+        for words in (["--version"], ["-V"]):
+            status, out, err = self.heavy(words)
+            said = (status, err) == (0, b"") and re.fullmatch(rb"heavy \d+\.\d+\.\d+\n", out)
+            self.check(f"{words}", said, (status, out, err))
+        for command, count in (("report", 6), ("summarise", 1), ("table", 3)):
+            ranges = RANGE.findall(self.heavy([command, "--help"])[1])
+            self.check(f"{command} --help has ranges", len(ranges) == count, ranges)
+            plain = self.heavy([command])
+            for option, *numbers in ranges:
+                least, most, default = map(int, numbers)
+                taken = [self.heavy([command, option, str(number)])[0] for number in (least, most)]
+                refused = [self.heavy([command, option, str(number)])[0] for number in (least - 1, most + 1)]
+                self.check(f"{command} {option} is taken in its range", taken == [0, 0], taken)
+                self.check(f"{command} {option} is refused beyond it", refused == [2, 2], refused)
+                same = self.heavy([command, option, str(default)]) == plain
+                self.check(f"{command} {option} has the default that help tells", same and plain[0] == 0, plain)
 
 
 if __name__ == "__main__":
-    main()
+    programs.run_tests("command line")

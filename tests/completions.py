@@ -11,6 +11,7 @@ import re
 import shutil
 import subprocess
 import tempfile
+import unittest
 from dataclasses import dataclass
 from pathlib import Path
 
@@ -165,63 +166,64 @@ def differ(name: str, found: object, wanted: object) -> list[str]:
 CHECKS = {MAN: man_faults, BASH: bash_faults, ZSH: zsh_faults, FISH: fish_faults}
 
 
-def try_formatter(tally: programs.Tally) -> None:
-    """The man page is set without a warning."""
-    if not shutil.which("man"):
-        print("completions: the page's layout is left out, for want of man", flush=True)
-        return
-    env = {**os.environ, "LC_ALL": "C.UTF-8", "MANROFFSEQ": "", "MANWIDTH": "80"}
-    words = ["man", "--warnings", "-E", "UTF-8", "-l", "-Tutf8", "-Z", str(programs.TOP / MAN)]
-    ended = subprocess.run(words, env=env, stdin=subprocess.DEVNULL, stdout=subprocess.DEVNULL, stderr=subprocess.PIPE)
-    tally.check("man warns of nothing", (ended.returncode, ended.stderr) == (0, b""), ended.stderr)
+class Completions(programs.Checks):
+    """The man page and the completions, beside the help."""
 
+    def setUp(self) -> None:
+        super().setUp()
+        self.told = told_by(programs.built("heavy_cli"))
 
-def try_shells(tally: programs.Tally) -> None:
-    """The shells that are here read their files."""
-    for shell, file in (("bash", BASH), ("zsh", ZSH), ("fish", FISH)):
-        if not shutil.which(shell):
-            print(f"completions: {shell} is not here, so {file} is compared by its text alone", flush=True)
-            continue
-        ended = subprocess.run([shell, "-n", programs.TOP / file], capture_output=True)
-        tally.check(f"{shell} reads {file}", (ended.returncode, ended.stderr) == (0, b""), ended.stderr)
+    def test_help(self) -> None:
+        """The help has what it is asked for below."""
+        told = self.told
+        self.check("help has commands", len(told.commands) > 1, told)
+        self.check("help has options", all(told.options[name] for name in told.commands - {"help"}), told)
+        self.check("help has ranges", len(told.numbers) > 1, told)
 
+    def test_files(self) -> None:
+        """Each file has what the help has, and a drift in it is found."""
+        texts = {file: (programs.TOP / file).read_text() for file in CHECKS}
+        for file, faults in CHECKS.items():
+            found = faults(texts[file], self.told)
+            self.check(file, not found, found)
+        for file, old, new in DRIFTS:
+            drifted = texts[file].replace(old, new, 1)
+            found = drifted != texts[file] and CHECKS[file](drifted, self.told)
+            self.check(f"a drift in {file}: {old!r}", found, "not found")
 
-def try_fish(tally: programs.Tally, told: Told) -> None:
-    """What fish offers, where it is here."""
-    if not shutil.which("fish"):
-        return
-    script = f"source {programs.TOP / FISH}; complete -C $argv[1]"
+    @unittest.skipUnless(shutil.which("man"), "the page's layout wants man")
+    def test_formatter(self) -> None:
+        """The man page is set without a warning."""
+        env = {**os.environ, "LC_ALL": "C.UTF-8", "MANROFFSEQ": "", "MANWIDTH": "80"}
+        words = ["man", "--warnings", "-E", "UTF-8", "-l", "-Tutf8", "-Z", str(programs.TOP / MAN)]
+        ended = subprocess.run(words, env=env, stdin=subprocess.DEVNULL, stdout=subprocess.DEVNULL, stderr=subprocess.PIPE)
+        self.check("man warns of nothing", (ended.returncode, ended.stderr) == (0, b""), ended.stderr)
 
-    def offered(line: str) -> set[str]:
-        ended = subprocess.run(["fish", "--no-config", "-c", script, line], capture_output=True, text=True, check=True)
-        return {row.split("\t")[0] for row in ended.stdout.splitlines()}
+    def test_shells(self) -> None:
+        """The shells that are here read their files."""
+        for shell, file in (("bash", BASH), ("zsh", ZSH), ("fish", FISH)):
+            with self.subTest(shell):
+                if not shutil.which(shell):
+                    self.skipTest(f"{shell} is not here, so {file} is compared by its text alone")
+                ended = subprocess.run([shell, "-n", programs.TOP / file], capture_output=True)
+                self.check(f"{shell} reads {file}", (ended.returncode, ended.stderr) == (0, b""), ended.stderr)
 
-    tally.check("fish: commands", offered("heavy ") == told.commands, offered("heavy "))
-    for name in told.commands:
-        line = f"heavy {name} -".replace(" help ", " ")
-        wanted = told.options["" if name == "help" else name]
-        tally.check(f"fish: {line}", offered(line) == wanted, offered(line))
-    tally.check("fish: methods", offered("heavy summarise --method ") == {"mg", "ss"})
+    @unittest.skipUnless(shutil.which("fish"), "what fish offers wants fish")
+    def test_fish(self) -> None:
+        """What fish offers, where it is here."""
+        script = f"source {programs.TOP / FISH}; complete -C $argv[1]"
 
+        def offered(line: str) -> set[str]:
+            ended = subprocess.run(["fish", "--no-config", "-c", script, line], capture_output=True, text=True, check=True)
+            return {row.split("\t")[0] for row in ended.stdout.splitlines()}
 
-def main() -> None:
-    tally = programs.Tally()
-    told = told_by(programs.built("heavy_cli"))
-    tally.check("help has commands", len(told.commands) > 1, told)
-    tally.check("help has options", all(told.options[name] for name in told.commands - {"help"}), told)
-    tally.check("help has ranges", len(told.numbers) > 1, told)
-    texts = {file: (programs.TOP / file).read_text() for file in CHECKS}
-    for file, faults in CHECKS.items():
-        found = faults(texts[file], told)
-        tally.check(file, not found, found)
-    for file, old, new in DRIFTS:
-        drifted = texts[file].replace(old, new, 1)
-        tally.check(f"a drift in {file}: {old!r}", drifted != texts[file] and CHECKS[file](drifted, told), "not found")
-    try_formatter(tally)
-    try_shells(tally)
-    try_fish(tally, told)
-    tally.end("completions")
+        self.check("fish: commands", offered("heavy ") == self.told.commands, offered("heavy "))
+        for name in self.told.commands:
+            line = f"heavy {name} -".replace(" help ", " ")
+            wanted = self.told.options["" if name == "help" else name]
+            self.check(f"fish: {line}", offered(line) == wanted, offered(line))
+        self.check("fish: methods", offered("heavy summarise --method ") == {"mg", "ss"})
 
 
 if __name__ == "__main__":
-    main()
+    programs.run_tests("completions")

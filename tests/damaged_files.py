@@ -116,34 +116,36 @@ def damaged() -> list[tuple[bytes, str]]:
     return files
 
 
-def undamaged(tally: programs.Tally, program: str, path: str) -> None:
-    """Whole files of both versions: each merges to the spelling of version 2 and answers alike."""
-    answers = [b"a,4,6\nz,0,2\n", b"a,0,7\nz,0,1\n", b"a,1,6\nz,0,5\n", b"a,0,0\nz,0,0\n"]
-    for first, second, answer in zip(WORKED[::2], WORKED[1::2], answers):
-        for text in (first, second):
-            Path(path).write_bytes(bytes.fromhex(text))
-            for words, out in [(["merge", path], bytes.fromhex(second)), (["ask", path, "a", "z"], answer)]:
-                ended = programs.run([program, *words])
-                tally.check(f"{words[0]} of {text}", (ended.status, ended.out, ended.err) == (0, out, b""), ended)
+class DamagedFiles(programs.Checks):
+    """Damaged files, each refused with its fault."""
 
+    def setUp(self) -> None:
+        super().setUp()
+        self.program, self.path = programs.built("heavy_cli"), f"{self.room}/file"
 
-def main() -> None:
-    tally = programs.Tally()
-    program = programs.built("heavy_cli")
-    with tempfile.TemporaryDirectory() as room:
-        path, good = f"{room}/file", f"{room}/good"
+    def test_damaged(self) -> None:
+        """Each damaged file, by each command that reads one."""
+        good = f"{self.room}/good"
         Path(good).write_bytes(bytes.fromhex(SUMMARY_1))
         for data, fault in damaged():
-            Path(path).write_bytes(data)
-            commands = [["ask", path, "a"], ["merge", path], ["condense", path], ["confirm", path]]
-            for words, place in [*((words, 1) for words in commands), (["merge", good, path], 2)]:
-                ended = programs.run([program, *words], RECORDS)
+            Path(self.path).write_bytes(data)
+            commands = [["ask", self.path, "a"], ["merge", self.path], ["condense", self.path], ["confirm", self.path]]
+            for words, place in [*((words, 1) for words in commands), (["merge", good, self.path], 2)]:
+                ended = programs.run([self.program, *words], RECORDS)
                 expected = (3, b"", f"heavy: file {place}: {fault}\n".encode())
                 found = (ended.status, ended.out, ended.err)
-                tally.check(f"{words[0]} of {data.hex()}", found == expected, (found, expected))
-        undamaged(tally, program, path)
-    tally.end("damaged files")
+                self.check(f"{words[0]} of {data.hex()}", found == expected, (found, expected))
+
+    def test_undamaged(self) -> None:
+        """Whole files of both versions: each merges to the spelling of version 2 and answers alike."""
+        answers = [b"a,4,6\nz,0,2\n", b"a,0,7\nz,0,1\n", b"a,1,6\nz,0,5\n", b"a,0,0\nz,0,0\n"]
+        for first, second, answer in zip(WORKED[::2], WORKED[1::2], answers):
+            for text in (first, second):
+                Path(self.path).write_bytes(bytes.fromhex(text))
+                for words, out in [(["merge", self.path], bytes.fromhex(second)), (["ask", self.path, "a", "z"], answer)]:
+                    ended = programs.run([self.program, *words])
+                    self.check(f"{words[0]} of {text}", (ended.status, ended.out, ended.err) == (0, out, b""), ended)
 
 
 if __name__ == "__main__":
-    main()
+    programs.run_tests("damaged files")

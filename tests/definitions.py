@@ -85,20 +85,25 @@ def texts_now() -> dict[str, dict[str, str]]:
     return found
 
 
-def main() -> None:
-    texts = texts_now()
-    if sys.argv[1:] == ["--write"]:
-        PAGE.write_text(page_of(texts))
-        return
-    tally = programs.Tally()
-    tally.check("docs/DEFINITIONS.md is as tests/definitions.py --write makes it", PAGE.read_text() == page_of(texts), "not so")
-    weights = texts["hh_stream"]["Weights"]
-    for old, new in DRIFTS:
-        tally.check(f"{old!r} stands once", weights.count(old) == 1, weights.count(old))
-        drifted = {**texts, "hh_stream": {**texts["hh_stream"], "Weights": weights.replace(old, new)}}
-        tally.check(f"{new!r} is found", page_of(drifted) != PAGE.read_text(), "not found")
-    tally.end("definitions")
+class Definitions(programs.Checks):
+    """The page beside the definitions."""
+
+    def test_page(self) -> None:
+        texts = texts_now()
+        same = PAGE.read_text() == page_of(texts)
+        self.check("docs/DEFINITIONS.md is as tests/definitions.py --write makes it", same, "not so")
+
+    def test_drifts(self) -> None:
+        texts = texts_now()
+        weights = texts["hh_stream"]["Weights"]
+        for old, new in DRIFTS:
+            self.check(f"{old!r} stands once", weights.count(old) == 1, weights.count(old))
+            drifted = {**texts, "hh_stream": {**texts["hh_stream"], "Weights": weights.replace(old, new)}}
+            self.check(f"{new!r} is found", page_of(drifted) != PAGE.read_text(), "not found")
 
 
 if __name__ == "__main__":
-    main()
+    if sys.argv[1:] == ["--write"]:
+        PAGE.write_text(page_of(texts_now()))
+    else:
+        programs.run_tests("definitions")

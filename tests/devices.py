@@ -31,78 +31,72 @@ def shell(script: str, words: list[str], given: bytes = RECORDS, **how) -> tuple
     return said(programs.run(["sh", "-c", script, "", *words], given, **how))
 
 
-def try_inputs(tally: programs.Tally, program: str, summary: str) -> None:
-    """Every command that reads records, where they can't be read."""
-    by_file = [["condense", summary], ["confirm", summary]]
-    commands = [REPORT, ["summarise"], ["summarise", "--method", "ss"], ["table"], *by_file]
-    for command in commands:
-        for name, redirection in [("closed", "<&-"), ("a directory", "< /"), ("an I/O error", "< /proc/self/mem")]:
-            found = shell(f'"$@" {redirection}', [program, *command])
-            tally.check(f"{command[0]} with {name} as standard input", found == NOT_READ, found)
+class Devices(programs.Checks):
+    """Devices that fail, and threads and address space that run out."""
 
+    def setUp(self) -> None:
+        super().setUp()
+        # some runs are nobody's, who has to reach the program
+        os.chmod(self.room, 0o755)
+        self.program = shutil.copy(programs.built("heavy_cli"), f"{self.room}/heavy")
+        os.chmod(self.program, stat.S_IRWXU | stat.S_IXOTH | stat.S_IROTH)
+        self.summary = f"{self.room}/summary"
+        Path(self.summary).write_bytes(programs.run([self.program, "summarise", "--k", "2"], RECORDS).out)
 
-def try_outputs(tally: programs.Tally, program: str, summary: str) -> None:
-    """Every command, where its answer can't be written."""
-    by_file = [["merge", summary], ["ask", summary, "a"], ["condense", summary], ["confirm", summary]]
-    commands = [REPORT, ["summarise"], ["table"], *by_file]
-    for command in [*commands, ["--help"], ["report", "--help"]]:
-        for name, redirection in [("closed", ">&-"), ("full", "> /dev/full")]:
-            found = shell(f'"$@" {redirection}', [program, *command])
-            tally.check(f"{command[0]} with standard output {name}", found == NOT_WRITTEN, found)
-        ear, mouth = os.pipe()
-        os.close(ear)
-        found = said(programs.run([program, *command], RECORDS, stdout=mouth, restore_signals=False))
-        os.close(mouth)
-        tally.check(f"{command[0]} into a closed pipe", found == NOT_WRITTEN, found)
+    def test_inputs(self) -> None:
+        """Every command that reads records, where they can't be read."""
+        by_file = [["condense", self.summary], ["confirm", self.summary]]
+        commands = [REPORT, ["summarise"], ["summarise", "--method", "ss"], ["table"], *by_file]
+        for command in commands:
+            for name, redirection in [("closed", "<&-"), ("a directory", "< /"), ("an I/O error", "< /proc/self/mem")]:
+                found = shell(f'"$@" {redirection}', [self.program, *command])
+                self.check(f"{command[0]} with {name} as standard input", found == NOT_READ, found)
 
+    def test_outputs(self) -> None:
+        """Every command, where its answer can't be written."""
+        by_file = [["merge", self.summary], ["ask", self.summary, "a"], ["condense", self.summary], ["confirm", self.summary]]
+        commands = [REPORT, ["summarise"], ["table"], *by_file]
+        for command in [*commands, ["--help"], ["report", "--help"]]:
+            for name, redirection in [("closed", ">&-"), ("full", "> /dev/full")]:
+                found = shell(f'"$@" {redirection}', [self.program, *command])
+                self.check(f"{command[0]} with standard output {name}", found == NOT_WRITTEN, found)
+            ear, mouth = os.pipe()
+            os.close(ear)
+            found = said(programs.run([self.program, *command], RECORDS, stdout=mouth, restore_signals=False))
+            os.close(mouth)
+            self.check(f"{command[0]} into a closed pipe", found == NOT_WRITTEN, found)
 
-def try_files(tally: programs.Tally, program: str, room: str, summary: str) -> None:
-    """Saved files that can't be read, and one that comes through a pipe."""
-    for command in (["merge"], ["ask"], ["condense"], ["confirm"]):
-        for path in (f"{room}/none", room, f"{summary}/below"):
-            words = [program, *command, path] + ["a"] * (command == ["ask"])
-            found = said(programs.run(words, RECORDS))
-            tally.check(f"{command[0]} of {path}", found == FILE_1, found)
-    found = said(programs.run([program, "merge", summary, f"{room}/none"]))
-    tally.check("merge with a second file missing", found == (1, b"", FILE_1[2].replace(b"1", b"2")), found)
-    pipe = f"{room}/pipe"
-    os.mkfifo(pipe)
-    feeder = subprocess.Popen(["cp", summary, pipe])
-    found = said(programs.run([program, "ask", pipe, "a"]))
-    feeder.wait()
-    tally.check("ask of a pipe", found == (0, b"a,4,6\n", b""), found)
+    def test_files(self) -> None:
+        """Saved files that can't be read, and one that comes through a pipe."""
+        for command in (["merge"], ["ask"], ["condense"], ["confirm"]):
+            for path in (f"{self.room}/none", self.room, f"{self.summary}/below"):
+                words = [self.program, *command, path] + ["a"] * (command == ["ask"])
+                found = said(programs.run(words, RECORDS))
+                self.check(f"{command[0]} of {path}", found == FILE_1, found)
+        found = said(programs.run([self.program, "merge", self.summary, f"{self.room}/none"]))
+        self.check("merge with a second file missing", found == (1, b"", FILE_1[2].replace(b"1", b"2")), found)
+        pipe = f"{self.room}/pipe"
+        os.mkfifo(pipe)
+        feeder = subprocess.Popen(["cp", self.summary, pipe])
+        found = said(programs.run([self.program, "ask", pipe, "a"]))
+        feeder.wait()
+        self.check("ask of a pipe", found == (0, b"a,4,6\n", b""), found)
 
-
-def try_threads(tally: programs.Tally, program: str) -> None:
-    """Threads and address space that the system refuses: the report, or out of memory."""
-    words = [program, *REPORT, "--workers", "64", "--pieces", "64"]
-    refused = 0
-    for kilobytes in range(4_000, 600_000, 12_000):
-        found = shell(f'ulimit -v {kilobytes}; exec "$@"', words)
-        refused += found == NO_MEMORY
-        tally.check(f"64 workers in {kilobytes} kB", found in ((0, b"a,6\n", b""), NO_MEMORY), found)
-    tally.check("some limit refuses 64 workers", refused > 0)
-    # no limit on threads holds for root
-    nobody = {"user": 65534, "group": 65534, "extra_groups": []} if os.geteuid() == 0 else {}
-    alone = {"preexec_fn": lambda: resource.setrlimit(resource.RLIMIT_NPROC, (1, 1)), **nobody}
-    found = said(programs.run(words, RECORDS, **alone))
-    tally.check("64 workers, and no thread to be had", found == NO_MEMORY, found)
-
-
-def main() -> None:
-    tally = programs.Tally()
-    with tempfile.TemporaryDirectory() as room:
-        os.chmod(room, 0o755)
-        program = shutil.copy(programs.built("heavy_cli"), f"{room}/heavy")
-        os.chmod(program, stat.S_IRWXU | stat.S_IXOTH | stat.S_IROTH)
-        summary = f"{room}/summary"
-        Path(summary).write_bytes(programs.run([program, "summarise", "--k", "2"], RECORDS).out)
-        try_inputs(tally, program, summary)
-        try_outputs(tally, program, summary)
-        try_files(tally, program, room, summary)
-        try_threads(tally, program)
-    tally.end("devices")
+    def test_threads(self) -> None:
+        """Threads and address space that the system refuses: the report, or out of memory."""
+        words = [self.program, *REPORT, "--workers", "64", "--pieces", "64"]
+        refused = 0
+        for kilobytes in range(4_000, 600_000, 12_000):
+            found = shell(f'ulimit -v {kilobytes}; exec "$@"', words)
+            refused += found == NO_MEMORY
+            self.check(f"64 workers in {kilobytes} kB", found in ((0, b"a,6\n", b""), NO_MEMORY), found)
+        self.check("some limit refuses 64 workers", refused > 0)
+        # no limit on threads holds for root
+        nobody = {"user": 65534, "group": 65534, "extra_groups": []} if os.geteuid() == 0 else {}
+        alone = {"preexec_fn": lambda: resource.setrlimit(resource.RLIMIT_NPROC, (1, 1)), **nobody}
+        found = said(programs.run(words, RECORDS, **alone))
+        self.check("64 workers, and no thread to be had", found == NO_MEMORY, found)
 
 
 if __name__ == "__main__":
-    main()
+    programs.run_tests("devices")

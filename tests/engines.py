@@ -6,7 +6,7 @@ of the two rounds; and the program fails in each way, to see what is tried again
 
 usage: tests/engines.py [SEED]
 
-Where an engine isn't installed its scripts are left out, and this script says so.
+Where an engine isn't installed its test is skipped.
 """
 import json
 import os
@@ -14,8 +14,8 @@ import random
 import shutil
 import subprocess
 import sys
-import tempfile
 import time
+import unittest
 from collections.abc import Callable, Iterator
 from contextlib import contextmanager
 from pathlib import Path
@@ -151,49 +151,49 @@ def gave(ended: subprocess.CompletedProcess) -> tuple[int, bytes]:
     return ended.returncode, ended.stdout
 
 
-def tried(tally: programs.Tally, room: Room, name: str, case: Callable[[], None]) -> None:
+def tried(test: programs.Checks, room: Room, name: str, case: Callable[[], None]) -> None:
     """Tries a case. What stops it is a failed check, told with the last lines of what Dask said."""
     try:
         case()
     except Exception as error:
         last = [line for log in ("scheduler.log", "workers.log") for line in room.lines(log)[-20:]]
-        tally.check(name, False, "\n".join([repr(error), *last]))
+        test.check(name, False, "\n".join([repr(error), *last]))
 
 
-def try_parallel(tally: programs.Tally, room: Room) -> None:
+def try_parallel(test: programs.Checks, room: Room) -> None:
     """The scripts over GNU parallel."""
     bad = room.path / "bad.csv"
     bad.write_bytes(b"a,0\n")
     one_file, machines = EXAMPLES / "one_file.sh", EXAMPLES / "many_machines.sh"
     ended = room.run([one_file, str(K), room.whole])
-    tally.check("one file", gave(ended) == room.expected == room.report, ended)
+    test.check("one file", gave(ended) == room.expected == room.report, ended)
     cores = len(os.sched_getaffinity(0))
-    tally.check("one file in parts", room.times("summarise") == room.times("condense") >= cores, room.lines("log"))
+    test.check("one file in parts", room.times("summarise") == room.times("condense") >= cores, room.lines("log"))
     ended = room.run([one_file, str(K), bad])
-    tally.check("a bad file", gave(ended) == (3, b"") and b"record 1: zero weight" in ended.stderr, ended)
+    test.check("a bad file", gave(ended) == (3, b"") and b"record 1: zero weight" in ended.stderr, ended)
     (room.path / "empty").touch()
     ended = room.run([one_file, str(K), room.path / "empty"])
-    tally.check("an empty file", gave(ended) == (0, b""), ended)
+    test.check("an empty file", gave(ended) == (0, b""), ended)
     places = [f"{'two' if i % 2 else 'one'}:{part}" for i, part in enumerate(room.parts)]
     room.forget()
     ended = room.run([machines, str(K), *places])
-    tally.check("many machines", gave(ended) == room.expected == room.report, ended)
+    test.check("many machines", gave(ended) == room.expected == room.report, ended)
     hosts = sorted(["one", "two"] * PARTS)
-    tally.check("each part on its machine, twice", sorted(room.lines("hosts")) == hosts, room.lines("hosts"))
+    test.check("each part on its machine, twice", sorted(room.lines("hosts")) == hosts, room.lines("hosts"))
     ended = room.run([machines, str(K), *places, f"one:{room.fed}"])
-    tally.check("a line feed in a key, a colon in a path", gave(ended) == room.expected_fed, ended)
+    test.check("a line feed in a key, a colon in a path", gave(ended) == room.expected_fed, ended)
     ended = room.run([machines, str(K), *places, f"two:{bad}"])
     told = b"record 1: zero weight" in ended.stderr and b"bad.csv" in ended.stderr
-    tally.check("a bad part", gave(ended) == (3, b"") and told, ended)
+    test.check("a bad part", gave(ended) == (3, b"") and told, ended)
     room.forget(f'fails="condense {quoted(room.parts[2])}" status=3')
     ended = room.run([machines, str(K), *places])
-    tally.check("a fault in the second round", gave(ended) == (3, b""), ended)
+    test.check("a fault in the second round", gave(ended) == (3, b""), ended)
     other = room.path / "other"
     other.write_bytes(programs.run([room.env["HEAVY"], "summarise", "--k", str(K)], b"a,1\n").out)
     room.forget(f'swapped="{other}"')
     ended = room.run([machines, str(K), *places])
-    tally.check("another summary on a machine", ended.returncode != 0 and ended.stdout == b"", ended)
-    tally.check("is not condensed by there", room.times("summarise") == PARTS and room.times("condense") == 0, room.lines("log"))
+    test.check("another summary on a machine", ended.returncode != 0 and ended.stdout == b"", ended)
+    test.check("is not condensed by there", room.times("summarise") == PARTS and room.times("condense") == 0, room.lines("log"))
 
 
 def quoted(part: Path) -> str:
@@ -246,7 +246,7 @@ class Dask:
         return [self.python, script, "--scheduler", self.address, str(K), *[str(part) for part in parts]]
 
 
-def kill_a_worker(tally: programs.Tally, dask: Dask, held: str) -> None:
+def kill_a_worker(test: programs.Checks, dask: Dask, held: str) -> None:
     """A worker is killed while it runs this command on a part."""
     room = dask.room
     room.forget(f"held={held}")
@@ -256,7 +256,7 @@ def kill_a_worker(tally: programs.Tally, dask: Dask, held: str) -> None:
             waited(f"a worker that runs heavy {held}", (room.path / "holder").exists)
             holder = int(*room.lines("holder"))
             victims = [worker for worker in workers if worker.pid == holder]
-            tally.check("a worker runs the program", len(victims) == 1, (holder, workers))
+            test.check("a worker runs the program", len(victims) == 1, (holder, workers))
             for victim in victims:
                 victim.kill()
                 victim.wait(SECONDS)
@@ -266,11 +266,11 @@ def kill_a_worker(tally: programs.Tally, dask: Dask, held: str) -> None:
             example.kill()
             example.wait()
     printed = (room.path / "out").read_bytes()
-    tally.check(f"a worker killed in {held}", (status, printed) == room.expected == room.report, (status, printed))
-    tally.check("its part is done again", room.times(held) > PARTS, room.lines("log"))
+    test.check(f"a worker killed in {held}", (status, printed) == room.expected == room.report, (status, printed))
+    test.check("its part is done again", room.times(held) > PARTS, room.lines("log"))
 
 
-def try_faults(tally: programs.Tally, dask: Dask) -> None:
+def try_faults(test: programs.Checks, dask: Dask) -> None:
     """What is tried again, and what is told, where the program fails on a part."""
     room = dask.room
     part = room.parts[3]
@@ -282,64 +282,64 @@ def try_faults(tally: programs.Tally, dask: Dask) -> None:
         ended = room.run(dask.example(room.parts))
         case = f"status {status} of {command}, {'once' if once else 'each time'}"
         if once:
-            tally.check(case, gave(ended) == room.expected == room.report, ended)
+            test.check(case, gave(ended) == room.expected == room.report, ended)
         else:
             told = f"over_dask: {part}: status {status}: heavy: planted\n".encode()
-            tally.check(case, gave(ended) == (status, b"") and told in ended.stderr, ended)
-        tally.check(f"{case}: tried {times} times", room.times(command, part) == times, room.lines("log"))
+            test.check(case, gave(ended) == (status, b"") and told in ended.stderr, ended)
+        test.check(f"{case}: tried {times} times", room.times(command, part) == times, room.lines("log"))
 
 
-def try_places(tally: programs.Tally, dask: Dask) -> None:
+def try_places(test: programs.Checks, dask: Dask) -> None:
     """Parts that no worker has, and that some have."""
     room = dask.room
     room.forget()
     ended = room.run(dask.example([*room.parts, "/nowhere/part.csv"]))
     told = b"over_dask: /nowhere/part.csv: status 1: [Errno 2]" in ended.stderr
-    tally.check("a part that isn't there", gave(ended) == (1, b"") and told, ended)
+    test.check("a part that isn't there", gave(ended) == (1, b"") and told, ended)
     places = [f"127.0.0.1:{part}" for part in room.parts]
     ended = room.run(dask.example(places))
-    tally.check("parts at an address", gave(ended) == room.expected == room.report, ended)
+    test.check("parts at an address", gave(ended) == room.expected == room.report, ended)
     room.forget()
     example = subprocess.Popen(dask.example([*room.parts[1:], f"10.0.0.9:{room.parts[0]}"]), env=room.env, cwd=room.path)
     try:
         waited("the other parts", lambda: room.times("summarise") == PARTS - 1)
         time.sleep(0.5)
         waits = example.poll() is None and room.times("summarise", room.parts[0]) == 0
-        tally.check("a part waits for a worker at its address", waits, room.lines("log"))
+        test.check("a part waits for a worker at its address", waits, room.lines("log"))
     finally:
         example.kill()
         example.wait()
 
 
-def try_alone(tally: programs.Tally, python: str, room: Room) -> None:
+def try_alone(test: programs.Checks, python: str, room: Room) -> None:
     """The example without a scheduler, and a summary that isn't the one of all parts."""
     room.forget()
     script = EXAMPLES / "over_dask.py"
     ended = room.run([python, script, str(K), *room.parts, room.fed])
-    tally.check("over Dask on one machine", gave(ended) == room.expected_fed, ended)
+    test.check("over Dask on one machine", gave(ended) == room.expected_fed, ended)
     asked = f"import over_dask\nover_dask.condense('p', {str(room.parts[0])!r}, b'this', over_dask.checksum(b'that'))"
     ended = room.run([python, "-c", asked], EXAMPLES)
     told = b"Fault: p: status 3: the merged summary is another" in ended.stderr
-    tally.check("another summary", ended.returncode != 0 and told, ended)
-    tally.check("is not condensed by", room.times("condense") == PARTS + 1, room.lines("log"))
+    test.check("another summary", ended.returncode != 0 and told, ended)
+    test.check("is not condensed by", room.times("condense") == PARTS + 1, room.lines("log"))
 
 
-def try_dask(tally: programs.Tally, python: str, room: Room) -> None:
+def try_dask(test: programs.Checks, python: str, room: Room) -> None:
     """The example over Dask, case by case."""
-    tried(tally, room, "Dask alone", lambda: try_alone(tally, python, room))
+    tried(test, room, "Dask alone", lambda: try_alone(test, python, room))
     dask = Dask(python, room)
 
-    def on_two_workers(case: Callable[[programs.Tally, Dask], None]) -> None:
+    def on_two_workers(case: Callable[[programs.Checks, Dask], None]) -> None:
         with dask.two_workers():
-            case(tally, dask)
+            case(test, dask)
 
     try:
-        tried(tally, room, "Dask's scheduler", dask.wait)
+        tried(test, room, "Dask's scheduler", dask.wait)
         if dask.address:
-            tried(tally, room, "a worker killed in summarise", lambda: kill_a_worker(tally, dask, "summarise"))
-            tried(tally, room, "a worker killed in condense", lambda: kill_a_worker(tally, dask, "condense"))
-            tried(tally, room, "faults over Dask", lambda: on_two_workers(try_faults))
-            tried(tally, room, "places over Dask", lambda: on_two_workers(try_places))
+            tried(test, room, "a worker killed in summarise", lambda: kill_a_worker(test, dask, "summarise"))
+            tried(test, room, "a worker killed in condense", lambda: kill_a_worker(test, dask, "condense"))
+            tried(test, room, "faults over Dask", lambda: on_two_workers(try_faults))
+            tried(test, room, "places over Dask", lambda: on_two_workers(try_places))
     finally:
         stop([dask.scheduler])
 
@@ -352,23 +352,24 @@ def with_dask() -> str | None:
     return None
 
 
-def main() -> None:
-    seed = int(sys.argv[1]) if len(sys.argv) > 1 else random.randrange(2**30)
-    print(f"engines: seed {seed}", flush=True)
-    tally, python = programs.Tally(), with_dask()
-    with tempfile.TemporaryDirectory() as folder:
-        room = Room(folder, seed)
-        tally.check("the report", room.report == room.expected != room.expected_fed, room.report)
-        if shutil.which("parallel"):
-            tried(tally, room, "parallel", lambda: try_parallel(tally, room))
-        else:
-            print("engines: the scripts over GNU parallel are left out, for want of parallel", flush=True)
-        if python:
-            try_dask(tally, python, room)
-        else:
-            print("engines: the script over Dask is left out, for want of python3-distributed", flush=True)
-    tally.end("engines")
+class Engines(programs.Checks):
+    """The scripts of examples/machines, over random records."""
+
+    def setUp(self) -> None:
+        super().setUp()
+        seed = int(sys.argv[1]) if len(sys.argv) > 1 else random.randrange(2**30)
+        print(f"engines: seed {seed}", flush=True)
+        self.records = Room(self.room, seed)
+        self.check("the report", self.records.report == self.records.expected != self.records.expected_fed, self.records.report)
+
+    @unittest.skipUnless(shutil.which("parallel"), "the scripts over GNU parallel want parallel")
+    def test_parallel(self) -> None:
+        tried(self, self.records, "parallel", lambda: try_parallel(self, self.records))
+
+    @unittest.skipUnless(with_dask(), "the script over Dask wants python3-distributed")
+    def test_dask(self) -> None:
+        try_dask(self, with_dask(), self.records)
 
 
 if __name__ == "__main__":
-    main()
+    programs.run_tests("engines")

@@ -40,6 +40,11 @@ def installed(tool: str) -> bool:
     return shutil.which(tool) is not None
 
 
+def wanting(command: str) -> set[str]:
+    """What a command uses that is not installed."""
+    return {tool for word, tool in TOOLS.items() if re.search(word, command) and not installed(tool)}
+
+
 def blocks_of(text: str) -> list[list[str]]:
     """The blocks of a text that have a line to type, without the indentation."""
     blocks = re.findall(r"(?:^    .*\n?)+", FENCED.sub("", text), re.MULTILINE)
@@ -83,8 +88,7 @@ def faults_of(blocks: list[list[str]]) -> list[str]:
         shutil.copytree(programs.TOP / "examples", folder / "examples")
         env = {"PATH": f"{room}/bin:{os.environ['PATH']}", "HOME": room, "LC_ALL": "C"}
         for command, printed in (step for block in blocks for step in steps_of(block)):
-            if absent := {tool for word, tool in TOOLS.items() if re.search(word, command) and not installed(tool)}:
-                print(f"examples: left out, for want of {', '.join(absent)}: {command}", flush=True)
+            if wanting(command):
                 continue
             ended = programs.run(["bash", "-c", command], env=env, cwd=room)
             if (ended.status, ended.out.decode(), ended.err) != (0, printed, b""):
@@ -130,77 +134,75 @@ def command_faults(line: str) -> list[str]:
     return [word for word in wanted if not re.search(rf"(?<![\w-]){re.escape(word)}(?![\w-])", text)]
 
 
-def try_commands(tally: programs.Tally) -> None:
-    """What the pages show beside examples."""
-    for page in ["CONTRIBUTING.md", *PAGES]:
-        for block in others_of((programs.TOP / page).read_text()):
-            if any("──" in line for line in block):
-                continue
-            for line in block:
-                tally.check(f"{page}: {line}", not command_faults(line), command_faults(line))
-    for line in ("rt chekc", "rt check --onyl PATH", "tests/run --onyl", "tests/runs", "over_dask.py --schedluer A"):
-        tally.check(f"{line!r} is not found to be there", command_faults(line))
-
-
 def without_spaces(text: str) -> str:
     return re.sub(r",?\s+|,(?=\))", "", text)
 
 
-def try_rattle(tally: programs.Tally) -> None:
-    """The README's Rattle stands in the sources."""
-    shown = FENCED.findall((programs.TOP / "README.md").read_text())
-    sources = "".join(without_spaces(path.read_text()) for path in sorted(programs.TOP.glob("crates/*/src/**/*.rt")))
-    tally.check("the README has Rattle", len(shown) == 1, shown)
-    for text in shown:
-        tally.check("the README's Rattle is in the sources", without_spaces(text) in sources, text)
-        drifted = text.replace("≢", "≡")
-        tally.check("Rattle that is not in the sources", without_spaces(drifted) not in sources, drifted)
+class Examples(programs.Checks):
+    """The examples of the help, of the man page and of the pages."""
 
+    def test_pages(self) -> None:
+        """Each example prints what its page shows; one that shows too much or too little is found."""
+        found = pages(programs.built("heavy_cli"))
+        self.check("help names commands", len(found) > 3, list(found))
+        for page, blocks in found.items():
+            self.check(f"{page} has examples", bool(blocks) and all(steps_of(block) for block in blocks), blocks)
+            faults = faults_of(blocks)
+            self.check(f"the examples of {page}", not faults, "; ".join(faults))
+            for command in (step[0] for block in blocks for step in steps_of(block) if wanting(step[0])):
+                with self.subTest(command):
+                    self.skipTest(f"wants {', '.join(wanting(command))}")
+        drifted = [[*block, "one line more"] for block in found["heavy --help"]]
+        self.check("an example that shows too much", faults_of(drifted), "not found")
+        drifted = [block[:1] for block in found["heavy --help"]]
+        self.check("an example that shows too little", faults_of(drifted), "not found")
 
-def try_python(tally: programs.Tally) -> None:
-    """The lines of Python of python/README.md, each with what it gives."""
-    blocks = [block for block in others_of((programs.TOP / "python" / "README.md").read_text()) if "import heavy" in block]
-    tally.check("python/README.md has lines of Python", len(blocks) == 1, blocks)
-    if not programs.has_library():
-        print("examples: the lines of Python are left out, for want of the library for C", flush=True)
-        return
-    with tempfile.TemporaryDirectory() as room:
-        ended = programs.install_library(f"{room}/usr", programs.compilers()[0])
-        tally.check("the library for C is there", ended.status == 0, ended)
-        for name, text in DAYS.items():
-            Path(room, name).write_bytes(text)
-        saved = programs.run([programs.built("heavy_cli"), "summarise", "--k", "100"], DAYS["tuesday.csv"]).out
-        Path(room, "tuesday.heavy").write_bytes(saved)
-        shown = "\n".join(blocks[0])
-        values = [ast.unparse(step) for step in ast.parse(shown).body if isinstance(step, ast.Expr)]
-        told = [f"print(repr(({value})))" for value in values]
-        steps = [ast.unparse(step) for step in ast.parse(shown).body if not isinstance(step, ast.Expr)]
-        program = "\n".join([f"records = {b''.join(DAYS.values())!r}", *steps, *told])
-        env = {**os.environ, "LIBHEAVY": f"{room}/usr/lib/libheavy.so.1", "PYTHONPATH": str(programs.TOP / "python")}
-        ended = programs.run([sys.executable, "-B", "-c", program], env=env, cwd=room)
-        printed = dict(zip(values, ended.out.decode().splitlines()))
-        tally.check("the lines of Python", ended.status == 0, ended)
-        for value, given in GIVEN.items():
-            tally.check(f"{value} of python/README.md", printed.get(value) == repr(given), ended)
+    def test_commands(self) -> None:
+        """What the pages show beside examples."""
+        for page in ["CONTRIBUTING.md", *PAGES]:
+            for block in others_of((programs.TOP / page).read_text()):
+                if any("──" in line for line in block):
+                    continue
+                for line in block:
+                    self.check(f"{page}: {line}", not command_faults(line), command_faults(line))
+        for line in ("rt chekc", "rt check --onyl PATH", "tests/run --onyl", "tests/runs", "over_dask.py --schedluer A"):
+            self.check(f"{line!r} is not found to be there", command_faults(line))
 
+    def test_rattle(self) -> None:
+        """The README's Rattle stands in the sources."""
+        shown = FENCED.findall((programs.TOP / "README.md").read_text())
+        sources = "".join(without_spaces(path.read_text()) for path in sorted(programs.TOP.glob("crates/*/src/**/*.rt")))
+        self.check("the README has Rattle", len(shown) == 1, shown)
+        for text in shown:
+            self.check("the README's Rattle is in the sources", without_spaces(text) in sources, text)
+            drifted = text.replace("≢", "≡")
+            self.check("Rattle that is not in the sources", without_spaces(drifted) not in sources, drifted)
 
-def main() -> None:
-    tally = programs.Tally()
-    found = pages(programs.built("heavy_cli"))
-    tally.check("help names commands", len(found) > 3, list(found))
-    for page, blocks in found.items():
-        tally.check(f"{page} has examples", bool(blocks) and all(steps_of(block) for block in blocks), blocks)
-        faults = faults_of(blocks)
-        tally.check(f"the examples of {page}", not faults, "; ".join(faults))
-    try_commands(tally)
-    try_rattle(tally)
-    try_python(tally)
-    drifted = [[*block, "one line more"] for block in found["heavy --help"]]
-    tally.check("an example that shows too much", faults_of(drifted), "not found")
-    drifted = [block[:1] for block in found["heavy --help"]]
-    tally.check("an example that shows too little", faults_of(drifted), "not found")
-    tally.end("examples")
+    def test_python(self) -> None:
+        """The lines of Python of python/README.md, each with what it gives."""
+        blocks = [block for block in others_of((programs.TOP / "python" / "README.md").read_text()) if "import heavy" in block]
+        self.check("python/README.md has lines of Python", len(blocks) == 1, blocks)
+        if not programs.has_library():
+            self.skipTest("the lines of Python want the library for C")
+        with tempfile.TemporaryDirectory() as room:
+            ended = programs.install_library(f"{room}/usr", programs.compilers()[0])
+            self.check("the library for C is there", ended.status == 0, ended)
+            for name, text in DAYS.items():
+                Path(room, name).write_bytes(text)
+            saved = programs.run([programs.built("heavy_cli"), "summarise", "--k", "100"], DAYS["tuesday.csv"]).out
+            Path(room, "tuesday.heavy").write_bytes(saved)
+            shown = "\n".join(blocks[0])
+            values = [ast.unparse(step) for step in ast.parse(shown).body if isinstance(step, ast.Expr)]
+            told = [f"print(repr(({value})))" for value in values]
+            steps = [ast.unparse(step) for step in ast.parse(shown).body if not isinstance(step, ast.Expr)]
+            program = "\n".join([f"records = {b''.join(DAYS.values())!r}", *steps, *told])
+            env = {**os.environ, "LIBHEAVY": f"{room}/usr/lib/libheavy.so.1", "PYTHONPATH": str(programs.TOP / "python")}
+            ended = programs.run([sys.executable, "-B", "-c", program], env=env, cwd=room)
+            printed = dict(zip(values, ended.out.decode().splitlines()))
+            self.check("the lines of Python", ended.status == 0, ended)
+            for value, given in GIVEN.items():
+                self.check(f"{value} of python/README.md", printed.get(value) == repr(given), ended)
 
 
 if __name__ == "__main__":
-    main()
+    programs.run_tests("examples")

@@ -1,9 +1,8 @@
 """How hostile input is made, and how what the program says of it is compared."""
 import os
-import random
 import sys
-import tempfile
 import time
+from collections.abc import Callable
 from concurrent.futures import ThreadPoolExecutor
 from dataclasses import dataclass
 from random import Random
@@ -67,21 +66,19 @@ def ran(program: str, room: str, number: int, case: Case) -> str | None:
     return None
 
 
-def main(name: str, make) -> None:
-    """Runs so many cases of a seed, and ends with status 1 where one was wrong."""
-    cases = int(sys.argv[1]) if len(sys.argv) > 1 else 2_000
-    seed = int(sys.argv[2]) if len(sys.argv) > 2 else time.time_ns() % 1_000_000_007
-    program = programs.built("heavy_cli")
-    differed = 0
-    with tempfile.TemporaryDirectory() as room, ThreadPoolExecutor() as pool:
+class Hostile(programs.Checks):
+    """So many cases of a seed, as `case` makes them; a script takes them as its first two words."""
 
-        def one(number: int) -> bool:
-            case = make(random.Random(f"{seed}/{number}"))
-            wrong = ran(program, room, number, case)
-            if wrong:
-                print(f"DIFFERED: case {number} of seed {seed}: {case}: {wrong}", flush=True)
-            return wrong is not None
+    def try_cases(self, case: Callable[[Random], Case]) -> None:
+        cases = int(sys.argv[1]) if len(sys.argv) > 1 else 2_000
+        seed = int(sys.argv[2]) if len(sys.argv) > 2 else time.time_ns() % 1_000_000_007
+        print(f"{cases} cases of seed {seed}", flush=True)
+        program = programs.built("heavy_cli")
 
-        differed = sum(pool.map(one, range(cases)))
-    print(f"{name}: seed {seed}, {cases} cases, {differed} differed")
-    sys.exit(1 if differed else 0)
+        def one(number: int) -> tuple[Case, str | None]:
+            made = case(Random(f"{seed}/{number}"))
+            return made, ran(program, self.room, number, made)
+
+        with ThreadPoolExecutor() as pool:
+            for number, (made, wrong) in enumerate(pool.map(one, range(cases))):
+                self.check(f"case {number} of seed {seed}", wrong is None, f"{made}: {wrong}")

@@ -8,6 +8,7 @@ usage: tests/hostile_files.py [CASES [SEED]]
 Prints the seed, how many cases ran and differed.
 """
 import hostile
+import programs
 import reference
 from reference import PRIME, Summary, Table
 
@@ -71,4 +72,10 @@ def case(draw) -> hostile.Case:
     return hostile.Case(["ask"], [data], keys, b"", reference.answer(reference.ask, data, keys))
 
 
-hostile.main("hostile files", case)
+class HostileFiles(hostile.Hostile):
+    def test_cases(self) -> None:
+        self.try_cases(case)
+
+
+if __name__ == "__main__":
+    programs.run_tests("hostile files")

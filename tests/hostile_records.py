@@ -93,4 +93,10 @@ def case(draw) -> hostile.Case:
     return hostile.Case(["report", *options], [], [], given, reference.answer(reference.report, given, k, share))
 
 
-hostile.main("hostile records", case)
+class HostileRecords(hostile.Hostile):
+    def test_cases(self) -> None:
+        self.try_cases(case)
+
+
+if __name__ == "__main__":
+    programs.run_tests("hostile records")

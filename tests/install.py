@@ -208,26 +208,6 @@ def no_compiler(tools: Path) -> str:
     return str(tools)
 
 
-def try_builds(tally: programs.Tally, room: str) -> None:
-    """A first build says what it does; the next run builds nothing and says nothing; a changed source is built."""
-    copy = Copy(room, "builds")
-    status, out, err = copy.run(1)
-    tally.check("a first build runs the program", (status, out) == (0, b"built: report\n"), (status, out, err))
-    tally.check("it says at once what it does", err.startswith(BEGIN), err)
-    tally.check("it tells the crate", b"heavy: proving hh_stream, crate 1 of 9, " in err, err)
-    tally.check("it has a line for each crate", b"\r" not in err and err.count(b"hh_stream") == 1, err)
-    begun = sorted(line.split()[1] for line in copy.proof_lines() if line.startswith("begin"))
-    below = sorted(set(crates_below("heavy_cli")))
-    tally.check("each crate below is proved once", begun == below, (begun, below))
-    found = copy.run()
-    tally.check("a built program is run without a word", found == (0, b"built: report\n", b""), found)
-    tally.check("it was built once", copy.builds() == 1, copy.builds())
-    later = time.time() + 5
-    os.utime(copy.source, (later, later))
-    status, out, err = copy.run()
-    tally.check("a changed source is built", (status, copy.builds()) == (0, 2) and err.startswith(BEGIN), err)
-
-
 def crates_below(name: str) -> list[str]:
     """The crates of the repository that this one stands on, by crates.txt."""
     lines = (line.split(":") for line in (programs.TOP / "crates.txt").read_text().splitlines())
@@ -235,223 +215,223 @@ def crates_below(name: str) -> list[str]:
     return [it for dep in direct[name] if dep in direct for it in (*crates_below(dep), dep)]
 
 
-def try_order(tally: programs.Tally, room: str) -> None:
-    """Crates that don't stand on each other are proved at once, and each after those below it; one at a time on one
-    processor."""
-    slow = ["hh_counters", "hh_countmin", "hh_pool", "hh_saved", "hh_records"]
-    for processors in (4, 1):
-        copy = Copy(room, f"order{processors}")
-        status, out, err = copy.run(0.5, slow=" ".join(slow), processors=processors)
-        lines = [line.split() for line in copy.proof_lines()]
-        tally.check(f"a build on {processors}", (status, out) == (0, b"built: report\n"), (status, out, err))
-        at = {(words[0], words[1]): place for place, words in enumerate(lines)}
-        after = all(at["end", it] < at["begin", name] for _, name in at for it in crates_below(name))
-        tally.check(f"crates below come first on {processors}", after, lines)
-        met = {frozenset((a, b)) for a in slow for b in slow if at["begin", a] < at["begin", b] < at["end", a]}
-        wanted = {frozenset(pair) for pair in (slow[:2], slow[2:4], slow[3:], slow[2::2])} if processors == 4 else set()
-        tally.check(f"proved at once on {processors}", met == wanted, lines)
-        jobs = {words[1]: int(words[3]) for words in lines if words[0] == "begin"}
-        tally.check(f"jobs on {processors}", max(jobs.values()) == processors, jobs)
+class Install(programs.Checks):
+    """The first build, and what is installed."""
 
-
-def try_failures(tally: programs.Tally, room: str) -> None:
-    """A build that fails shows the end of its log, and where the whole is; no toolchain is told as such."""
-    copy = Copy(room, "failures")
-    status, out, err = copy.run(0, 3)
-    log = os.fsencode(copy.top / "crates" / "heavy_cli" / "build.log")
-    told = b"the build failed; the last lines of " + log in err and b"the stand-in's last line\n" in err
-    tally.check("a failed build", (status, out) == (1, b"") and told, (status, out, err))
-    beside = Copy(room, "beside")
-    started = beside.start(600, slow="hh_counters hh_saved", failing="hh_countmin")
-    out, err = started.communicate(timeout=SOON)
-    log = os.fsencode(beside.top / "crates" / "hh_countmin" / "build.log")
-    told = b"the build failed; the last lines of " + log in err and b"the stand-in's last line\n" in err
-    tally.check("a crate that fails", (started.returncode, out) == (1, b"") and told, (started.returncode, out, err))
-    children = beside.waits_for_child()
-    tally.check("the crate beside it ends", len(children) == 1 and ends(children[0]), children)
-    begun = [line for line in beside.proof_lines() if line.startswith("begin hh_saved")]
-    tally.check("no crate above it is begun", begun == [] and beside.builds() == 0, begun)
-    found = copy.run(path=no_compiler(copy.top / "others"))
-    tally.check("no toolchain", found == (1, b"", b"heavy: the toolchain's command, rt, is not on the path\n"), found)
-
-
-def try_interrupts(tally: programs.Tally, room: str) -> None:
-    """An interrupted build ends what it started, and the next one builds."""
-    for number, slow, count in (
-        (signal.SIGINT, "hh_counters hh_countmin", 2), (signal.SIGTERM, "hh_stream", 1),
-        (signal.SIGHUP, "heavy_cli", 1),
-    ):
-        copy = Copy(room, number.name)
-        # a process that is started in the background of a shell may have these signals ignored; not this one
-        started = copy.start(600, slow=slow, preexec_fn=lambda: signal.signal(number, signal.SIG_DFL))
-        children = copy.waits_for_child(count)
-        started.send_signal(number)
-        _, err = started.communicate(timeout=SOON)
-        status = started.returncode
-        tally.check(f"{number.name} ends the build", status == 128 + number and b"interrupted" in err, (status, err))
-        tally.check(f"{number.name} leaves no process", all(map(ends, children)), children)
+    def test_builds(self) -> None:
+        """A first build says what it does; the next run builds nothing and says nothing; a changed source is built."""
+        copy = Copy(self.room, "builds")
+        status, out, err = copy.run(1)
+        self.check("a first build runs the program", (status, out) == (0, b"built: report\n"), (status, out, err))
+        self.check("it says at once what it does", err.startswith(BEGIN), err)
+        self.check("it tells the crate", b"heavy: proving hh_stream, crate 1 of 9, " in err, err)
+        self.check("it has a line for each crate", b"\r" not in err and err.count(b"hh_stream") == 1, err)
+        begun = sorted(line.split()[1] for line in copy.proof_lines() if line.startswith("begin"))
+        below = sorted(set(crates_below("heavy_cli")))
+        self.check("each crate below is proved once", begun == below, (begun, below))
+        found = copy.run()
+        self.check("a built program is run without a word", found == (0, b"built: report\n", b""), found)
+        self.check("it was built once", copy.builds() == 1, copy.builds())
+        later = time.time() + 5
+        os.utime(copy.source, (later, later))
         status, out, err = copy.run()
-        tally.check(f"the build after {number.name}", (status, out) == (0, b"built: report\n"), (status, out, err))
+        self.check("a changed source is built", (status, copy.builds()) == (0, 2) and err.startswith(BEGIN), err)
 
+    def test_order(self) -> None:
+        """Crates that don't stand on each other are proved at once, and each after those below it; one at a time on one
+        processor."""
+        slow = ["hh_counters", "hh_countmin", "hh_pool", "hh_saved", "hh_records"]
+        for processors in (4, 1):
+            copy = Copy(self.room, f"order{processors}")
+            status, out, err = copy.run(0.5, slow=" ".join(slow), processors=processors)
+            lines = [line.split() for line in copy.proof_lines()]
+            self.check(f"a build on {processors}", (status, out) == (0, b"built: report\n"), (status, out, err))
+            at = {(words[0], words[1]): place for place, words in enumerate(lines)}
+            after = all(at["end", it] < at["begin", name] for _, name in at for it in crates_below(name))
+            self.check(f"crates below come first on {processors}", after, lines)
+            met = {frozenset((a, b)) for a in slow for b in slow if at["begin", a] < at["begin", b] < at["end", a]}
+            wanted = {frozenset(pair) for pair in (slow[:2], slow[2:4], slow[3:], slow[2::2])} if processors == 4 else set()
+            self.check(f"proved at once on {processors}", met == wanted, lines)
+            jobs = {words[1]: int(words[3]) for words in lines if words[0] == "begin"}
+            self.check(f"jobs on {processors}", max(jobs.values()) == processors, jobs)
 
-def try_two(tally: programs.Tally, room: str) -> None:
-    """Two that begin at once build once, and one that waits can be interrupted."""
-    if not shutil.which("flock"):
-        print("install: two builds at once are left out, for want of flock", flush=True)
-        return
-    copy = Copy(room, "two")
-    first = copy.start(3)
-    copy.waits_for_child()
-    said = b"heavy: another build runs in " + os.fsencode(copy.top) + b"; waiting for its end\n"
-    waits = copy.start()
-    heard = waits.stderr.readline()
-    waits.terminate()
-    waits.communicate(timeout=SOON)
-    tally.check("the wait is interrupted", (heard, waits.returncode) == (said, 143), (heard, waits.returncode))
-    status, out, err = copy.run()
-    tally.check("the second waits", (status, out, err) == (0, b"built: report\n", said), (status, out, err))
-    out = first.communicate(timeout=SOON)[0]
-    tally.check("both run one build", (out, copy.builds()) == (b"built: report\n", 1), (out, copy.builds()))
+    def test_failures(self) -> None:
+        """A build that fails shows the end of its log, and where the whole is; no toolchain is told as such."""
+        copy = Copy(self.room, "failures")
+        status, out, err = copy.run(0, 3)
+        log = os.fsencode(copy.top / "crates" / "heavy_cli" / "build.log")
+        told = b"the build failed; the last lines of " + log in err and b"the stand-in's last line\n" in err
+        self.check("a failed build", (status, out) == (1, b"") and told, (status, out, err))
+        beside = Copy(self.room, "beside")
+        started = beside.start(600, slow="hh_counters hh_saved", failing="hh_countmin")
+        out, err = started.communicate(timeout=SOON)
+        log = os.fsencode(beside.top / "crates" / "hh_countmin" / "build.log")
+        told = b"the build failed; the last lines of " + log in err and b"the stand-in's last line\n" in err
+        self.check("a crate that fails", (started.returncode, out) == (1, b"") and told, (started.returncode, out, err))
+        children = beside.waits_for_child()
+        self.check("the crate beside it ends", len(children) == 1 and ends(children[0]), children)
+        begun = [line for line in beside.proof_lines() if line.startswith("begin hh_saved")]
+        self.check("no crate above it is begun", begun == [] and beside.builds() == 0, begun)
+        found = copy.run(path=no_compiler(copy.top / "others"))
+        self.check("no toolchain", found == (1, b"", b"heavy: the toolchain's command, rt, is not on the path\n"), found)
 
+    def test_interrupts(self) -> None:
+        """An interrupted build ends what it started, and the next one builds."""
+        for number, slow, count in (
+            (signal.SIGINT, "hh_counters hh_countmin", 2), (signal.SIGTERM, "hh_stream", 1),
+            (signal.SIGHUP, "heavy_cli", 1),
+        ):
+            copy = Copy(self.room, number.name)
+            # a process that is started in the background of a shell may have these signals ignored; not this one
+            started = copy.start(600, slow=slow, preexec_fn=lambda: signal.signal(number, signal.SIG_DFL))
+            children = copy.waits_for_child(count)
+            started.send_signal(number)
+            _, err = started.communicate(timeout=SOON)
+            status = started.returncode
+            self.check(f"{number.name} ends the build", status == 128 + number and b"interrupted" in err, (status, err))
+            self.check(f"{number.name} leaves no process", all(map(ends, children)), children)
+            status, out, err = copy.run()
+            self.check(f"the build after {number.name}", (status, out) == (0, b"built: report\n"), (status, out, err))
 
-def try_terminal(tally: programs.Tally, room: str) -> None:
-    """On a terminal one line tells how far the build is, and is written over."""
-    copy = Copy(room, "terminal")
-    terminal, side = pty.openpty()
-    started = copy.start(2, stderr=side)
-    os.close(side)
-    out = started.communicate(timeout=SOON)[0]
-    said = b""
-    try:
-        while part := os.read(terminal, 4096):
-            said += part
-    except OSError:
-        pass  # the other side is closed
-    os.close(terminal)
-    said = said.replace(b"\r\n", b"\n")
-    line = rb"\r\x1b\[Kheavy: 0:0\d min, \d of 9 crates proved, hh_stream 3/37"
-    told = len(re.findall(line, said))
-    tally.check("a terminal's line is written over", out == b"built: report\n" and told > 1, said)
-    tally.check("nothing of it is left", said.count(b"\n") == 3 and b"\r\x1b[Kheavy: built in " in said, said)
+    def test_two(self) -> None:
+        """Two that begin at once build once, and one that waits can be interrupted."""
+        if not shutil.which("flock"):
+            print("install: two builds at once are left out, for want of flock", flush=True)
+            return
+        copy = Copy(self.room, "two")
+        first = copy.start(3)
+        copy.waits_for_child()
+        said = b"heavy: another build runs in " + os.fsencode(copy.top) + b"; waiting for its end\n"
+        waits = copy.start()
+        heard = waits.stderr.readline()
+        waits.terminate()
+        waits.communicate(timeout=SOON)
+        self.check("the wait is interrupted", (heard, waits.returncode) == (said, 143), (heard, waits.returncode))
+        status, out, err = copy.run()
+        self.check("the second waits", (status, out, err) == (0, b"built: report\n", said), (status, out, err))
+        out = first.communicate(timeout=SOON)[0]
+        self.check("both run one build", (out, copy.builds()) == (b"built: report\n", 1), (out, copy.builds()))
 
+    def test_terminal(self) -> None:
+        """On a terminal one line tells how far the build is, and is written over."""
+        copy = Copy(self.room, "terminal")
+        terminal, side = pty.openpty()
+        started = copy.start(2, stderr=side)
+        os.close(side)
+        out = started.communicate(timeout=SOON)[0]
+        said = b""
+        try:
+            while part := os.read(terminal, 4096):
+                said += part
+        except OSError:
+            pass  # the other side is closed
+        os.close(terminal)
+        said = said.replace(b"\r\n", b"\n")
+        line = rb"\r\x1b\[Kheavy: 0:0\d min, \d of 9 crates proved, hh_stream 3/37"
+        told = len(re.findall(line, said))
+        self.check("a terminal's line is written over", out == b"built: report\n" and told > 1, said)
+        self.check("nothing of it is left", said.count(b"\n") == 3 and b"\r\x1b[Kheavy: built in " in said, said)
 
-def try_library(tally: programs.Tally, room: str) -> None:
-    """The library is built and installed beside the program, with the program's version; a failed build is told; where
-    there is no compiler, it is left out, and that is told."""
-    if not shutil.which("cc") or not shutil.which("ar"):
-        print("install: the library is left out, for want of cc and ar", flush=True)
-        return
-    copy = Copy(room, "library")
-    copy.add_library()
-    files = [*INSTALLED, *LIBRARY]
-    ended = copy.install("/usr/", destdir=f"{room}/all")
-    told = b"".join(os.fsencode(f"{room}/all/usr/{file}\n") for file in files)
-    tally.check("program and library are told", (ended.status, ended.out) == (0, told), ended)
-    there = [file for file in files if Path(room, "all", "usr", file).exists()]
-    tally.check("program and library are there", there == files, there)
-    version = programs.run([programs.built("heavy_cli"), "--version"]).out.split()[-1]
-    described = Path(room, "all", "usr", LIBRARY[-1]).read_bytes().splitlines()
-    tally.check("the program's version", b"Version: " + version in described, described)
-    tally.check("no DESTDIR in what pkg-config tells", described[0] == b"prefix=/usr", described)
-    same = Path(room, "all", "usr", LIBRARY[0]).read_bytes() == (programs.TOP / LIBRARY[0]).read_bytes()
-    tally.check("the header is installed", same)
-    shared = ctypes.CDLL(f"{room}/all/usr/lib/libheavy.so.1")
-    shown = [name for name in (*header.calls(), "hidden", "helper") if hasattr(shared, name)]
-    tally.check("the shared library shows the calls and nothing else", shown == [*header.calls()], shown)
-    ended = copy.install(f"{room}/again")
-    runs = copy.runs.read_text().split()
-    tally.check("what was built is not built again", (ended.status, runs) == (0, ["run", "lib"]), (ended, runs))
-    later = time.time() + 5
-    os.utime(copy.source, (later, later))
-    ended = copy.install(f"{room}/newer")
-    runs = copy.runs.read_text().split()
-    tally.check("a source of the program alone", (ended.status, runs) == (0, ["run", "lib", "run"]), (ended, runs))
-    copy.top.joinpath("crates", "heavy_ffi", "out", "libheavy_ffi.a").unlink()
-    os.utime(copy.top / "crates" / "heavy_cli" / "out" / "heavy_cli", (later + 5, later + 5))
-    ended = copy.install(f"{room}/failed", outcome=3)
-    told = b"the stand-in's last line\n" in ended.err
-    tally.check("a failed build of the library", ended.status == 1 and told, ended)
-    ended = copy.install(f"{room}/without", path=no_compiler(copy.top / "others"))
-    told = b"".join(os.fsencode(f"{room}/without/{file}\n") for file in INSTALLED)
-    tally.check("no compiler", (ended.status, ended.out, ended.err) == (0, told, LEFT_OUT), ended)
+    def test_library(self) -> None:
+        """The library is built and installed beside the program, with the program's version; a failed build is told; where
+        there is no compiler, it is left out, and that is told."""
+        if not shutil.which("cc") or not shutil.which("ar"):
+            print("install: the library is left out, for want of cc and ar", flush=True)
+            return
+        copy = Copy(self.room, "library")
+        copy.add_library()
+        files = [*INSTALLED, *LIBRARY]
+        ended = copy.install("/usr/", destdir=f"{self.room}/all")
+        told = b"".join(os.fsencode(f"{self.room}/all/usr/{file}\n") for file in files)
+        self.check("program and library are told", (ended.status, ended.out) == (0, told), ended)
+        there = [file for file in files if Path(self.room, "all", "usr", file).exists()]
+        self.check("program and library are there", there == files, there)
+        version = programs.run([programs.built("heavy_cli"), "--version"]).out.split()[-1]
+        described = Path(self.room, "all", "usr", LIBRARY[-1]).read_bytes().splitlines()
+        self.check("the program's version", b"Version: " + version in described, described)
+        self.check("no DESTDIR in what pkg-config tells", described[0] == b"prefix=/usr", described)
+        same = Path(self.room, "all", "usr", LIBRARY[0]).read_bytes() == (programs.TOP / LIBRARY[0]).read_bytes()
+        self.check("the header is installed", same)
+        shared = ctypes.CDLL(f"{self.room}/all/usr/lib/libheavy.so.1")
+        shown = [name for name in (*header.calls(), "hidden", "helper") if hasattr(shared, name)]
+        self.check("the shared library shows the calls and nothing else", shown == [*header.calls()], shown)
+        ended = copy.install(f"{self.room}/again")
+        runs = copy.runs.read_text().split()
+        self.check("what was built is not built again", (ended.status, runs) == (0, ["run", "lib"]), (ended, runs))
+        later = time.time() + 5
+        os.utime(copy.source, (later, later))
+        ended = copy.install(f"{self.room}/newer")
+        runs = copy.runs.read_text().split()
+        self.check("a source of the program alone", (ended.status, runs) == (0, ["run", "lib", "run"]), (ended, runs))
+        copy.top.joinpath("crates", "heavy_ffi", "out", "libheavy_ffi.a").unlink()
+        os.utime(copy.top / "crates" / "heavy_cli" / "out" / "heavy_cli", (later + 5, later + 5))
+        ended = copy.install(f"{self.room}/failed", outcome=3)
+        told = b"the stand-in's last line\n" in ended.err
+        self.check("a failed build of the library", ended.status == 1 and told, ended)
+        ended = copy.install(f"{self.room}/without", path=no_compiler(copy.top / "others"))
+        told = b"".join(os.fsencode(f"{self.room}/without/{file}\n") for file in INSTALLED)
+        self.check("no compiler", (ended.status, ended.out, ended.err) == (0, told, LEFT_OUT), ended)
 
+    def test_over_gate(self) -> None:
+        """The library is built over the crates that `rt ci` left; by `rt lib` where one has a stamp or a newer source."""
+        copy = Copy(self.room, "gate")
+        (copy.kit / "bin").mkdir(parents=True)
+        (copy.kit / "bin" / "rattle").write_text(COMPILER)
+        (copy.kit / "bin" / "rattle").chmod(0o755)
+        (copy.kit / "calls.a").touch()
+        (copy.kit / "c").mkdir()
+        (copy.kit / "c" / "liblibc_c.a").touch()
+        scripts = "".join(f". {copy.top}/bin/{name}.bash; " for name in ("build", "library"))
+        crates = copy.top / "crates"
+        listed = programs.run(["bash", "-c", f"{scripts} crates_of heavy_ffi"], env=copy.environment())
+        below = listed.out.decode().split()[:-1]
+        places = {name: crates / name / "out" / "rlib" for name in below}
+        # a source that is older than what was made of it
+        (crates / "hh_saved" / "src" / "lib.rt").touch()
+        for name, place in places.items():
+            (place / f"{name}.rlib").mkdir(parents=True)
+            (place / f"{name}.rlib" / "format").touch()
+        stamp, built = places["hh_saved"] / "stamp", places["hh_saved"] / "hh_saved.rlib" / "format"
+        for name, change, wanted in [
+            ("as the gate left them", lambda: None, "build"),
+            ("with a stamp", stamp.touch, "lib"),
+            ("as the gate left them again", stamp.unlink, "build"),
+            ("with a newer source", lambda: os.utime(built, (0, 0)), "lib"),
+        ]:
+            change()
+            ended = [programs.run(["bash", "-c", f"{scripts} build_library"], env=copy.environment()) for _ in range(2)]
+            runs = copy.runs.read_text().splitlines()
+            well = [it.status for it in ended] == [0, 0]
+            self.check(f"crates {name}", well and [it.split()[0] for it in runs] == [wanted], (ended, runs))
+            if wanted == "build":
+                words = [f"dependency={place}" for place in places.values()]
+                words += [f"heavy={places['heavy']}/heavy.rlib", f"std={copy.kit}/rlibs/std.rlib"]
+                self.check("what it is built over", not {*words} - {*runs[0].split()}, runs)
+            copy.runs.unlink()
+            (crates / "heavy_ffi" / "out" / "libheavy_ffi.a").unlink()
 
-def try_over_gate(tally: programs.Tally, room: str) -> None:
-    """The library is built over the crates that `rt ci` left; by `rt lib` where one has a stamp or a newer source."""
-    copy = Copy(room, "gate")
-    (copy.kit / "bin").mkdir(parents=True)
-    (copy.kit / "bin" / "rattle").write_text(COMPILER)
-    (copy.kit / "bin" / "rattle").chmod(0o755)
-    (copy.kit / "c").mkdir()
-    (copy.kit / "c" / "liblibc_c.a").touch()
-    (copy.kit / "calls.a").touch()
-    scripts = "".join(f". {copy.top}/bin/{name}.bash; " for name in ("build", "library"))
-    crates = copy.top / "crates"
-    listed = programs.run(["bash", "-c", f"{scripts} crates_of heavy_ffi"], env=copy.environment())
-    below = listed.out.decode().split()[:-1]
-    places = {name: crates / name / "out" / "rlib" for name in below}
-    # a source that is older than what was made of it
-    (crates / "hh_saved" / "src" / "lib.rt").touch()
-    for name, place in places.items():
-        (place / f"{name}.rlib").mkdir(parents=True)
-        (place / f"{name}.rlib" / "format").touch()
-    stamp, built = places["hh_saved"] / "stamp", places["hh_saved"] / "hh_saved.rlib" / "format"
-    for name, change, wanted in [
-        ("as the gate left them", lambda: None, "build"),
-        ("with a stamp", stamp.touch, "lib"),
-        ("as the gate left them again", stamp.unlink, "build"),
-        ("with a newer source", lambda: os.utime(built, (0, 0)), "lib"),
-    ]:
-        change()
-        ended = [programs.run(["bash", "-c", f"{scripts} build_library"], env=copy.environment()) for _ in range(2)]
-        runs = copy.runs.read_text().splitlines()
-        well = [it.status for it in ended] == [0, 0]
-        tally.check(f"crates {name}", well and [it.split()[0] for it in runs] == [wanted], (ended, runs))
-        if wanted == "build":
-            words = [f"dependency={place}" for place in places.values()]
-            words += [f"heavy={places['heavy']}/heavy.rlib", f"std={copy.kit}/rlibs/std.rlib"]
-            tally.check("what it is built over", not {*words} - {*runs[0].split()}, runs)
-        copy.runs.unlink()
-        (crates / "heavy_ffi" / "out" / "libheavy_ffi.a").unlink()
-
-
-def try_install(tally: programs.Tally, room: str) -> None:
-    """All files are where Debian has them, and the installed program answers. The library is left out, which takes long
-    to build."""
-    programs.built("heavy_cli")
-    install = str(programs.TOP / "bin" / "install")
-    path = {"PATH": no_compiler(Path(room, "no_compiler"))}
-    for name, env, prefix, root in [
-        ("a prefix", path, f"{room}/usr", f"{room}/usr"),
-        ("a prefix with a slash", path, f"{room}/slash/", f"{room}/slash"),
-        ("a prefix below DESTDIR", {**path, "DESTDIR": f"{room}/destdir"}, "/usr", f"{room}/destdir/usr"),
-    ]:
-        ended = programs.run([install, prefix], env=env)
-        told = b"".join(os.fsencode(f"{root}/{file}\n") for file in INSTALLED)
-        tally.check(f"{name} is told", (ended.status, ended.out, ended.err) == (0, told, LEFT_OUT), ended)
-        modes = {file: Path(root, file).stat().st_mode & 0o777 for file in INSTALLED if Path(root, file).exists()}
-        tally.check(f"{name} has all files", modes == INSTALLED, modes)
-        found = programs.run([f"{root}/bin/heavy", "report", "--k", "2"], RECORDS)
-        tally.check(f"the program in {name}", (found.status, found.out) == (0, b"a,6\n"), found)
-    for words in ([], ["usr"], ["/usr", "/opt"]):
-        ended = programs.run([install, *words], env=path)
-        tally.check(f"usage: {words}", ended.status == 2 and b"usage: bin/install PREFIX" in ended.err, ended)
-
-
-def main() -> None:
-    tally = programs.Tally()
-    with tempfile.TemporaryDirectory() as room:
-        try_builds(tally, room)
-        try_order(tally, room)
-        try_failures(tally, room)
-        try_interrupts(tally, room)
-        try_two(tally, room)
-        try_terminal(tally, room)
-        try_library(tally, room)
-        try_over_gate(tally, room)
-        try_install(tally, room)
-    tally.end("install")
+    def test_install(self) -> None:
+        """All files are where Debian has them, and the installed program answers. The library is left out, which takes long
+        to build."""
+        programs.built("heavy_cli")
+        install = str(programs.TOP / "bin" / "install")
+        path = {"PATH": no_compiler(Path(self.room, "no_compiler"))}
+        for name, env, prefix, root in [
+            ("a prefix", path, f"{self.room}/usr", f"{self.room}/usr"),
+            ("a prefix with a slash", path, f"{self.room}/slash/", f"{self.room}/slash"),
+            ("a prefix below DESTDIR", {**path, "DESTDIR": f"{self.room}/destdir"}, "/usr", f"{self.room}/destdir/usr"),
+        ]:
+            ended = programs.run([install, prefix], env=env)
+            told = b"".join(os.fsencode(f"{root}/{file}\n") for file in INSTALLED)
+            self.check(f"{name} is told", (ended.status, ended.out, ended.err) == (0, told, LEFT_OUT), ended)
+            modes = {file: Path(root, file).stat().st_mode & 0o777 for file in INSTALLED if Path(root, file).exists()}
+            self.check(f"{name} has all files", modes == INSTALLED, modes)
+            found = programs.run([f"{root}/bin/heavy", "report", "--k", "2"], RECORDS)
+            self.check(f"the program in {name}", (found.status, found.out) == (0, b"a,6\n"), found)
+        for words in ([], ["usr"], ["/usr", "/opt"]):
+            ended = programs.run([install, *words], env=path)
+            self.check(f"usage: {words}", ended.status == 2 and b"usage: bin/install PREFIX" in ended.err, ended)
 
 
 if __name__ == "__main__":
-    main()
+    programs.run_tests("install")

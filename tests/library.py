@@ -14,6 +14,7 @@ import os
 import re
 import subprocess
 import sys
+import unittest
 import tempfile
 from pathlib import Path
 
@@ -41,22 +42,6 @@ DRIFTS = [
 ]
 
 
-def try_header(tally: programs.Tally, room: str) -> None:
-    """Each number, structure and call of the header is the library's, and it has no others; drifts are found."""
-    text = (programs.TOP / "include" / "heavy.h").read_text()
-    holds, said = header.compiles(text, room)
-    tally.check("the header says what the library is", holds, said)
-    named = set(re.findall(r"^#define (HEAVY_\w+) \d+u", text, re.M))
-    others = named ^ set(header.numbers())
-    tally.check("the header has these numbers and no others", not others, others)
-    declared = sorted(re.findall(r"^uint32_t (heavy_\w+)\(", text, re.M))
-    tally.check("the header has these calls and no others", declared == sorted(header.calls()), declared)
-    for old, new in DRIFTS:
-        drifted = text.replace(old, new)
-        tally.check(f"a header with {new!r} in place of {old!r} is found",
-                    drifted != text and not header.compiles(drifted, room)[0])
-
-
 def compiled(compiler: str, source: str, prefix: str, room: str, *words: str) -> str | None:
     """The program of a file of C, or None where this compiler can't make it."""
     program = f"{room}/{Path(source).stem}"
@@ -70,85 +55,95 @@ def compiled(compiler: str, source: str, prefix: str, room: str, *words: str) ->
     return program if made.returncode == 0 else None
 
 
-def try_c(tally: programs.Tally, compiler: str, prefix: str, room: str) -> None:
-    """The calls, and the calls without memory."""
-    program = compiled(compiler, "calls.c", prefix, room, "-fsanitize=address,undefined", "-fno-sanitize-recover=all")
-    if program is None:
-        print(f"library: {compiler} has no sanitizers; the calls are tried without", flush=True)
-        program = compiled(compiler, "calls.c", prefix, room)
-    for name, made in [
-        ("calls", program),
-        ("calls without memory", compiled(compiler, "memory.c", prefix, room, "-fno-builtin")),
-    ]:
-        ended = programs.run([made]) if made else None
-        tally.check(f"{name}, by {compiler}", ended is not None and (ended.status, ended.err) == (0, b""), ended)
+class Library(programs.Checks):
+    """The library for C, and its callers."""
 
+    def test_usage(self) -> None:
+        """What bin/install-library says of other words."""
+        for words in ([], ["usr"], ["/usr", "/opt"]):
+            ended = programs.run([str(programs.TOP / "bin" / "install-library"), *words], env=dict(os.environ))
+            self.check(f"usage: {words}", ended.status == 2 and b"usage: bin/install-library" in ended.err, ended)
 
-def try_python(tally: programs.Tally, prefix: str) -> None:
-    """The module's own tests."""
-    env = {**os.environ, "HEAVY": programs.built("heavy_cli"), "LIBHEAVY": f"{prefix}/lib/libheavy.so.1"}
-    words = [sys.executable, "-B", "-m", "unittest", "test_heavy"]
-    ran = subprocess.run(words, cwd=programs.TOP / "python", env=env, capture_output=True, text=True)
-    tally.check("the Python module", ran.returncode == 0, ran.stderr)
+    @unittest.skipUnless(programs.has_library(), "the library is not built, nor what it stands on")
+    def test_compilers(self) -> None:
+        """The library by each compiler of C that is here."""
+        compilers = programs.compilers()
+        print(f"library: tried by {', '.join(compilers)}", flush=True)
+        for compiler in compilers:
+            self.try_library(compiler)
 
+    def test_header(self) -> None:
+        """Each number, structure and call of the header is the library's, and it has no others; drifts are found."""
+        text = (programs.TOP / "include" / "heavy.h").read_text()
+        holds, said = header.compiles(text, self.room)
+        self.check("the header says what the library is", holds, said)
+        named = set(re.findall(r"^#define (HEAVY_\w+) \d+u", text, re.M))
+        others = named ^ set(header.numbers())
+        self.check("the header has these numbers and no others", not others, others)
+        declared = sorted(re.findall(r"^uint32_t (heavy_\w+)\(", text, re.M))
+        self.check("the header has these calls and no others", declared == sorted(header.calls()), declared)
+        for old, new in DRIFTS:
+            drifted = text.replace(old, new)
+            self.check(f"a header with {new!r} in place of {old!r} is found",
+                        drifted != text and not header.compiles(drifted, self.room)[0])
 
-def try_pool(tally: programs.Tally, prefix: str, room: str) -> None:
-    """The example of a pool of processes prints the program's report, in any number of parts, and its refusals."""
-    env = {**os.environ, "LIBHEAVY": f"{prefix}/lib/libheavy.so.1"}
-    words = [sys.executable, "-B", str(programs.TOP / "examples" / "pool.py")]
-    records = b"".join(b"key%d,%d\n" % (i * i % 13, i % 7 + 1) for i in range(5000))
-    for name, text in (("records", records), ("bad", records + b"a,0\n")):
-        Path(room, name).write_bytes(text)
-    wanted = programs.run([programs.built("heavy_cli"), "report", "--k", "20"], records).out
-    for processes in ("1", "4"):
-        ended = programs.run([*words, f"{room}/records", "20", processes], env=env)
-        right = (ended.status, ended.out) == (0, wanted) and wanted.count(b"\n") > 3
-        tally.check(f"a pool of {processes}", right, ended)
-    ended = programs.run([*words, f"{room}/bad", "20", "1"], env=env)
-    told = b"heavy: record 5001: zero weight\n"
-    tally.check("a pool's refusal", (ended.status, ended.out, ended.err) == (3, b"", told), ended)
+    def try_c(self, compiler: str, prefix: str) -> None:
+        """The calls, and the calls without memory."""
+        program = compiled(compiler, "calls.c", prefix, self.room, "-fsanitize=address,undefined", "-fno-sanitize-recover=all")
+        if program is None:
+            print(f"library: {compiler} has no sanitizers; the calls are tried without", flush=True)
+            program = compiled(compiler, "calls.c", prefix, self.room)
+        for name, made in [
+            ("calls", program),
+            ("calls without memory", compiled(compiler, "memory.c", prefix, self.room, "-fno-builtin")),
+        ]:
+            ended = programs.run([made]) if made else None
+            self.check(f"{name}, by {compiler}", ended is not None and (ended.status, ended.err) == (0, b""), ended)
 
+    def try_python(self, prefix: str) -> None:
+        """The module's own tests."""
+        env = {**os.environ, "HEAVY": programs.built("heavy_cli"), "LIBHEAVY": f"{prefix}/lib/libheavy.so.1"}
+        words = [sys.executable, "-B", "-m", "unittest", "test_heavy"]
+        ran = subprocess.run(words, cwd=programs.TOP / "python", env=env, capture_output=True, text=True)
+        self.check("the Python module", ran.returncode == 0, ran.stderr)
 
-def try_symbols(tally: programs.Tally, prefix: str) -> None:
-    """The shared library shows its calls alone."""
-    words = ["llvm-nm", "-D", "--defined-only", "--format=posix", f"{prefix}/lib/libheavy.so.1"]
-    shown = subprocess.run(words, executable=programs.clang(), capture_output=True, text=True, check=True).stdout
-    names = sorted(line.split("@")[0] for line in shown.splitlines() if " T " in line)
-    tally.check("the shared library's names", names == sorted(header.calls()), names)
+    def try_pool(self, prefix: str) -> None:
+        """The example of a pool of processes prints the program's report, in any number of parts, and its refusals."""
+        env = {**os.environ, "LIBHEAVY": f"{prefix}/lib/libheavy.so.1"}
+        words = [sys.executable, "-B", str(programs.TOP / "examples" / "pool.py")]
+        records = b"".join(b"key%d,%d\n" % (i * i % 13, i % 7 + 1) for i in range(5000))
+        for name, text in (("records", records), ("bad", records + b"a,0\n")):
+            Path(self.room, name).write_bytes(text)
+        wanted = programs.run([programs.built("heavy_cli"), "report", "--k", "20"], records).out
+        for processes in ("1", "4"):
+            ended = programs.run([*words, f"{self.room}/records", "20", processes], env=env)
+            right = (ended.status, ended.out) == (0, wanted) and wanted.count(b"\n") > 3
+            self.check(f"a pool of {processes}", right, ended)
+        ended = programs.run([*words, f"{self.room}/bad", "20", "1"], env=env)
+        told = b"heavy: record 5001: zero weight\n"
+        self.check("a pool's refusal", (ended.status, ended.out, ended.err) == (3, b"", told), ended)
 
+    def try_symbols(self, prefix: str) -> None:
+        """The shared library shows its calls alone."""
+        words = ["llvm-nm", "-D", "--defined-only", "--format=posix", f"{prefix}/lib/libheavy.so.1"]
+        shown = subprocess.run(words, executable=programs.clang(), capture_output=True, text=True, check=True).stdout
+        names = sorted(line.split("@")[0] for line in shown.splitlines() if " T " in line)
+        self.check("the shared library's names", names == sorted(header.calls()), names)
 
-def try_library(tally: programs.Tally, compiler: str, room: str) -> None:
-    """The library as this compiler makes it, and its callers."""
-    prefix = f"{room}/usr"
-    ended = programs.install_library(prefix, compiler)
-    told = "".join(f"{prefix}/{file}\n" for file in INSTALLED).encode()
-    tally.check(f"what is installed by {compiler} is told", (ended.status, ended.out) == (0, told), ended)
-    if ended.status != 0:
-        return
-    tally.check("all is there", all(Path(prefix, file).exists() for file in INSTALLED))
-    try_symbols(tally, prefix)
-    try_c(tally, compiler, prefix, room)
-    try_python(tally, prefix)
-    try_pool(tally, prefix, room)
-
-
-def main() -> None:
-    tally = programs.Tally()
-    with tempfile.TemporaryDirectory() as room:
-        try_header(tally, room)
-    for words in ([], ["usr"], ["/usr", "/opt"]):
-        ended = programs.run([str(programs.TOP / "bin" / "install-library"), *words], env=dict(os.environ))
-        tally.check(f"usage: {words}", ended.status == 2 and b"usage: bin/install-library" in ended.err, ended)
-    if not programs.has_library():
-        print("library: neither built, nor what it stands on, so that all but the header is left out", flush=True)
-        tally.end("library")
-    compilers = programs.compilers()
-    print(f"library: tried by {', '.join(compilers)}", flush=True)
-    for compiler in compilers:
-        with tempfile.TemporaryDirectory() as room:
-            try_library(tally, compiler, room)
-    tally.end("library")
+    def try_library(self, compiler: str) -> None:
+        """The library as this compiler makes it, and its callers."""
+        prefix = f"{self.room}/{Path(compiler).name}/usr"
+        ended = programs.install_library(prefix, compiler)
+        told = "".join(f"{prefix}/{file}\n" for file in INSTALLED).encode()
+        self.check(f"what is installed by {compiler} is told", (ended.status, ended.out) == (0, told), ended)
+        if ended.status != 0:
+            return
+        self.check("all is there", all(Path(prefix, file).exists() for file in INSTALLED))
+        self.try_symbols(prefix)
+        self.try_c(compiler, prefix)
+        self.try_python(prefix)
+        self.try_pool(prefix)
 
 
 if __name__ == "__main__":
-    main()
+    programs.run_tests("library")

@@ -92,28 +92,33 @@ def tried(program: str, seed: int) -> str | None:
     return None
 
 
-def unnoticed(tally: programs.Tally, program: str) -> None:
-    """What the total can't tell: a part that another summary condensed, and one part lost and another doubled."""
-    with tempfile.TemporaryDirectory() as room:
-        machines = Machines(program, room, [b"a,6\n", b"b,6\n"], 3)
+class SeveralMachines(programs.Checks):
+    """Parts of records on several machines."""
+
+    def setUp(self) -> None:
+        super().setUp()
+        self.program = programs.built("heavy_cli")
+
+    def test_cases(self) -> None:
+        """So many cases, each of a seed."""
+        cases = int(sys.argv[1]) if len(sys.argv) > 1 else 100
+        first = int(sys.argv[2]) if len(sys.argv) > 2 else random.randrange(2**30)
+        print(f"machines: seed {first}", flush=True)
+        seeds = range(first, first + cases)
+        with ThreadPoolExecutor(os.cpu_count()) as pool:
+            for seed, wrong in zip(seeds, pool.map(lambda seed: tried(self.program, seed), seeds)):
+                self.check(f"case of seed {seed}", wrong is None, wrong)
+
+    def test_unnoticed(self) -> None:
+        """What the total can't tell: a part that another summary condensed, and one part lost and another doubled."""
+        machines = Machines(self.program, self.room, [b"a,6\n", b"b,6\n"], 3)
         other = machines.saved("other", machines.made(["summarise", "--k", "3"], b"b,1\n"))
         summary = machines.merged(random.Random(0))
         one, two = [machines.made(["condense", summary], text) for text in machines.parts]
         strange = machines.made(["condense", other], machines.parts[0])
-        tally.check("a part by another summary", machines.confirmed(summary, [strange, two]) == (0, b"b,6\n", b""))
-        tally.check("one part lost and one doubled", machines.confirmed(summary, [one, one]) == (0, b"a,12\n", b""))
+        self.check("a part by another summary", machines.confirmed(summary, [strange, two]) == (0, b"b,6\n", b""))
+        self.check("one part lost and one doubled", machines.confirmed(summary, [one, one]) == (0, b"a,12\n", b""))
 
 
-def main() -> None:
-    cases = int(sys.argv[1]) if len(sys.argv) > 1 else 100
-    first = int(sys.argv[2]) if len(sys.argv) > 2 else random.randrange(2**30)
-    print(f"machines: seed {first}", flush=True)
-    program, tally = programs.built("heavy_cli"), programs.Tally()
-    with ThreadPoolExecutor(os.cpu_count()) as pool:
-        for seed, wrong in zip(range(first, first + cases), pool.map(lambda seed: tried(program, seed), range(first, first + cases))):
-            tally.check(f"case of seed {seed}", wrong is None, wrong)
-    unnoticed(tally, program)
-    tally.end("machines")
-
-
-main()
+if __name__ == "__main__":
+    programs.run_tests("machines")

@@ -5,7 +5,6 @@ more for many records than for few. What `condense` and `confirm` answer is chec
 usage: tests/one_pass.py
 """
 import resource
-import tempfile
 from functools import partial
 
 import programs
@@ -26,35 +25,38 @@ def within(words: list[str], text: bytes, kilobytes: int) -> programs.Ended:
     return programs.run(words, text, preexec_fn=limit)
 
 
-def main() -> None:
-    program, tally = programs.built("heavy_cli"), programs.Tally()
-    few, many = records(FEW), records(MANY)
-    with tempfile.TemporaryDirectory() as room:
+class OnePass(programs.Checks):
+    """Commands that keep no record."""
+
+    def test_bounded_memory(self) -> None:
+        """Many records take what few take, and answers are the same."""
+        program = programs.built("heavy_cli")
+        few, many = records(FEW), records(MANY)
         for name, text in (("few", few), ("many", many)):
-            with open(f"{room}/{name}", "wb") as out:
+            with open(f"{self.room}/{name}", "wb") as out:
                 out.write(programs.run([program, "summarise", "--k", "100"], text).out)
         commands = {
             "summarise": lambda of: ["summarise", "--k", "100"],
             "summarise by ss": lambda of: ["summarise", "--k", "100", "--method", "ss"],
             "table": lambda of: ["table"],
-            "condense": lambda of: ["condense", f"{room}/{of}"],
-            "confirm": lambda of: ["confirm", f"{room}/{of}"],
+            "condense": lambda of: ["condense", f"{self.room}/{of}"],
+            "confirm": lambda of: ["confirm", f"{self.room}/{of}"],
         }
         for name, words in commands.items():
             ample = programs.run([program, *words("many")], many)
-            tally.check(f"{name} of many records", ample.status == 0, ample.err)
+            self.check(f"{name} of many records", ample.status == 0, ample.err)
             enough = range(STEP, MOST, STEP)
             least = next((size for size in enough if within([program, *words("few")], few, size).status == 0), MOST)
             limited = within([program, *words("many")], many, least + MORE)
             said = f"{least} KB are enough for few records, and 1 MB more was not for many: {limited.err!r}"
-            tally.check(f"{name} in bounded memory", least < MOST and limited.out == ample.out, said)
+            self.check(f"{name} in bounded memory", least < MOST and limited.out == ample.out, said)
         rows = programs.run([program, *commands["confirm"]("many")], many).out
-        tally.check("the heavy key", rows == b"heavy,%d\n" % (MANY // 100 * 7), rows)
+        self.check("the heavy key", rows == b"heavy,%d\n" % (MANY // 100 * 7), rows)
         fewer = programs.run([program, *commands["condense"]("many")], many).out
-        tally.check("at most a row more than counters", 0 < fewer.count(b"\n") <= 101, fewer)
+        self.check("at most a row more than counters", 0 < fewer.count(b"\n") <= 101, fewer)
         rows = programs.run([program, *commands["confirm"]("many")], fewer).out
-        tally.check("the heavy key in condensed records", rows == b"heavy,%d\n" % (MANY // 100 * 7), rows)
-    tally.end("one_pass")
+        self.check("the heavy key in condensed records", rows == b"heavy,%d\n" % (MANY // 100 * 7), rows)
 
 
-main()
+if __name__ == "__main__":
+    programs.run_tests("one pass")

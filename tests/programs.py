@@ -4,12 +4,15 @@ import shutil
 import subprocess
 import sys
 import tempfile
+import unittest
 from dataclasses import dataclass
 from pathlib import Path
 
 TOP = Path(__file__).resolve().parent.parent
 # The toolchain's clang as a compiler of C, which is there where no other is.
 CC = TOP / "tests" / "c" / "cc"
+# the status of a script all of whose tests were skipped
+SKIPPED = 77
 
 
 def built(crate: str) -> str:
@@ -90,21 +93,39 @@ def install_library(prefix: str, compiler: str) -> Ended:
     return run([str(TOP / "bin" / "install-library"), prefix], env={**os.environ, "CC": compiler, "AR": ar})
 
 
-class Tally:
-    """Counts what passed, and tells what failed."""
+class Checks(unittest.TestCase):
+    """Tests of the built programs, each in a folder of its own. Each check is a subtest, so that those behind one that fails
+    are made too."""
 
-    def __init__(self) -> None:
-        self.passed = 0
-        self.failed = 0
+    def setUp(self) -> None:
+        self.room = self.enterContext(tempfile.TemporaryDirectory())
 
-    def check(self, name: str, holds: bool, said: object = "") -> None:
-        if holds:
-            self.passed += 1
-        else:
-            self.failed += 1
-            print(f"FAILED: {name}: {said}", flush=True)
+    def check(self, name: str, holds: object, said: object = "") -> None:
+        with self.subTest(name):
+            self.assertTrue(holds, said)
 
-    def end(self, name: str) -> None:
-        """Prints the closing line, and ends with the status that it says."""
-        print(f"{name}: {self.passed} passed, {self.failed} failed", flush=True)
-        sys.exit(1 if self.failed else 0)
+
+class Counted(unittest.TextTestResult):
+    """Counts the checks that passed."""
+
+    passed = 0
+
+    def addSubTest(self, test, subtest, err) -> None:
+        super().addSubTest(test, subtest, err)
+        self.passed += err is None
+
+
+def run_tests(name: str) -> None:
+    """Runs the tests of the script. Its last line tells how many checks passed and failed, and how many tests were skipped;
+    the lines above it tell why. The status is 1 where one failed, and SKIPPED where no check was made for want of what the
+    tests need."""
+    suite = unittest.defaultTestLoader.loadTestsFromModule(sys.modules["__main__"])
+    with open(os.devnull, "w") as nowhere:
+        result = unittest.TextTestRunner(nowhere, resultclass=Counted).run(suite)
+    for test, why in result.failures + result.errors:
+        print(f"FAILED: {test}: {why}", flush=True)
+    for test, why in result.skipped:
+        print(f"SKIPPED: {test}: {why}", flush=True)
+    failed, skipped = len(result.failures) + len(result.errors), len(result.skipped)
+    print(f"{name}: {result.passed} passed, {failed} failed, {skipped} skipped", flush=True)
+    sys.exit(1 if failed else SKIPPED if skipped and not result.passed else 0)

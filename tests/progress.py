@@ -24,62 +24,6 @@ STOPPED = 1.3  # seconds, more than the pause between two lines
 TRIES = 5
 
 
-def try_answers(tally: programs.Tally, program: str, commands: dict[str, list[str]]) -> None:
-    """The same answer with the option and without it, also for records that are refused; one line at the end."""
-    for text in (PART, PART + b"bad,record,here\n", b""):
-        for name, words in commands.items():
-            plain = programs.run([program, *words], text)
-            told = programs.run([program, *words, "--progress"], text)
-            same = (plain.status, plain.out) == (told.status, told.out)
-            tally.check(f"{name} answers the same", same, (plain.status, told.status))
-            rest = PIPE.sub(b"", told.err)
-            tally.check(f"{name} tells faults the same", rest == plain.err, (told.err, plain.err))
-            tally.check(f"{name} tells nothing unasked", (plain.err == b"") == (plain.status == 0), plain.err)
-            if text == PART:
-                size = b"%d.%d" % (len(text) // 1_000_000, len(text) % 1_000_000 // 100_000)
-                tally.check(f"{name} tells the whole", PIPE.findall(told.err) == [(size, b"19999")], told.err)
-
-
-def try_counts(tally: programs.Tally, program: str) -> None:
-    """How many records are counted as their bytes come: a line feed in quotes ends none, an empty line is none, and one
-    that has begun is one."""
-    for text, count in [
-        (b"", b"0"), (b"a", b"1"), (b"a,1\n", b"1"), (b"a,1\nb,2", b"2"), (b"a,1\r\nb,2\r\n", b"2"),
-        (b"\n\na\n\n\nb\n\n", b"2"), (b'"a\nb",1\nc,2\n', b"2"), (b'"a""\n""b",1\nc,2\n', b"2"),
-        (b'a"b\nc"d\n', b"2"), (b'"a"b\nc\n', b"2"),
-    ]:
-        ended = programs.run([program, "table", "--progress"], text)
-        told = {found for _, found in PIPE.findall(ended.err)}
-        tally.check(f"records counted in {text}", (ended.status, told) == (0, {count}), ended.err)
-    for first, second in [(b'a,"1\n', b'"\nb,2\n'), (b",", b"\n,\n")]:
-        running = subprocess.Popen([program, "table", "--progress"], stdin=subprocess.PIPE, stdout=subprocess.PIPE,
-                                   stderr=subprocess.PIPE, env={})
-        running.stdin.write(first)
-        running.stdin.flush()
-        time.sleep(STOPPED)
-        told = running.communicate(second)[1]
-        found = {count for _, count in PIPE.findall(told)}
-        tally.check(f"records counted in {first + second}, which are refused", found == {b"2"}, told)
-
-
-def try_pipe(tally: programs.Tally, program: str, name: str, words: list[str]) -> None:
-    """A slow pipe: at most a line a second and one at the end, with more bytes each time, and no share."""
-    begun = time.monotonic()
-    running = subprocess.Popen([program, *words, "--progress"], stdin=subprocess.PIPE, stdout=subprocess.DEVNULL,
-                               stderr=subprocess.PIPE, env={})
-    for _ in range(STEPS):
-        running.stdin.write(PART)
-        running.stdin.flush()
-        time.sleep(SECONDS)
-    told = running.communicate()[1].splitlines(keepends=True)
-    seconds = time.monotonic() - begun
-    read = [(float(found[1]), int(found[2])) for line in told if (found := PIPE.fullmatch(line))]
-    tally.check(f"{name} tells of a pipe", len(read) == len(told) > 1, told)
-    tally.check(f"{name} tells once a second", len(told) - 1 <= seconds, (told, seconds))
-    grows = read == sorted(read) and read[-1] == (len(PART) * STEPS // 100_000 / 10, 19_999 * STEPS)
-    tally.check(f"{name} tells more each time", grows, read)
-
-
 def stopped_in_file(words: list[str], path: Path) -> list[bytes]:
     """What a run over a file tells that is stopped for more than a second after its first read."""
     with open(path, "rb") as records:
@@ -93,41 +37,100 @@ def stopped_in_file(words: list[str], path: Path) -> list[bytes]:
         return running.communicate()[1].splitlines(keepends=True)
 
 
-def try_file(tally: programs.Tally, program: str, name: str, words: list[str], path: Path) -> None:
-    """A file: the share that is read, and the time left."""
-    size = b"%d.%d" % (path.stat().st_size // 1_000_000, path.stat().st_size % 1_000_000 // 100_000)
-    for _ in range(TRIES):  # on a busy machine a run may be over before it is stopped
-        told = stopped_in_file([program, *words, "--progress"], path)
-        shares = [(found[3], found[4]) for line in told if (found := FILE.fullmatch(line))]
-        if shares:
-            break
-    holds = shares and all(int(share) < 100 and of == size for share, of in shares)
-    tally.check(f"{name} tells a file's share", holds and PIPE.fullmatch(told[-1]), told)
-    tally.check(f"{name} has shares alone before the end", len(shares) == len(told) - 1, told)
+# the commands that read records and no saved file
+COMMANDS = {"report": ["report"], "summarise": ["summarise"], "table": ["table"]}
 
 
-def by_summary(file: str) -> dict[str, list[str]]:
-    """The commands that read records by a saved summary."""
-    return {name: [name, file] for name in ("condense", "confirm")}
+class Progress(programs.Checks):
+    """What `--progress` tells."""
 
+    def setUp(self) -> None:
+        super().setUp()
+        self.program = programs.built("heavy_cli")
 
-def main() -> None:
-    program, tally = programs.built("heavy_cli"), programs.Tally()
-    with tempfile.TemporaryDirectory() as room:
-        many = Path(room, "many.csv")
+    def by_summary(self, text: bytes) -> dict[str, list[str]]:
+        """The commands that read records by a saved summary, which is of this text."""
+        file = f"{self.room}/summary"
+        Path(file).write_bytes(programs.run([self.program, "summarise"], text).out)
+        return {name: [name, file] for name in ("condense", "confirm")}
+
+    def test_answers(self) -> None:
+        """The same answer with the option and without it, also for records that are refused; one line at the end."""
+        for text in (PART, PART + b"bad,record,here\n", b""):
+            for name, words in {**COMMANDS, **self.by_summary(PART)}.items():
+                plain = programs.run([self.program, *words], text)
+                told = programs.run([self.program, *words, "--progress"], text)
+                same = (plain.status, plain.out) == (told.status, told.out)
+                self.check(f"{name} answers the same", same, (plain.status, told.status))
+                rest = PIPE.sub(b"", told.err)
+                self.check(f"{name} tells faults the same", rest == plain.err, (told.err, plain.err))
+                self.check(f"{name} tells nothing unasked", (plain.err == b"") == (plain.status == 0), plain.err)
+                if text == PART:
+                    size = b"%d.%d" % (len(text) // 1_000_000, len(text) % 1_000_000 // 100_000)
+                    self.check(f"{name} tells the whole", PIPE.findall(told.err) == [(size, b"19999")], told.err)
+
+    def test_counts(self) -> None:
+        """How many records are counted as their bytes come: a line feed in quotes ends none, an empty line is none, and one
+        that has begun is one."""
+        for text, count in [
+            (b"", b"0"), (b"a", b"1"), (b"a,1\n", b"1"), (b"a,1\nb,2", b"2"), (b"a,1\r\nb,2\r\n", b"2"),
+            (b"\n\na\n\n\nb\n\n", b"2"), (b'"a\nb",1\nc,2\n', b"2"), (b'"a""\n""b",1\nc,2\n', b"2"),
+            (b'a"b\nc"d\n', b"2"), (b'"a"b\nc\n', b"2"),
+        ]:
+            ended = programs.run([self.program, "table", "--progress"], text)
+            told = {found for _, found in PIPE.findall(ended.err)}
+            self.check(f"records counted in {text}", (ended.status, told) == (0, {count}), ended.err)
+        for first, second in [(b'a,"1\n', b'"\nb,2\n'), (b",", b"\n,\n")]:
+            running = subprocess.Popen([self.program, "table", "--progress"], stdin=subprocess.PIPE, stdout=subprocess.PIPE,
+                                       stderr=subprocess.PIPE, env={})
+            running.stdin.write(first)
+            running.stdin.flush()
+            time.sleep(STOPPED)
+            told = running.communicate(second)[1]
+            found = {count for _, count in PIPE.findall(told)}
+            self.check(f"records counted in {first + second}, which are refused", found == {b"2"}, told)
+
+    def try_pipe(self, name: str, words: list[str]) -> None:
+        """A slow pipe: at most a line a second and one at the end, with more bytes each time, and no share."""
+        begun = time.monotonic()
+        running = subprocess.Popen([self.program, *words, "--progress"], stdin=subprocess.PIPE, stdout=subprocess.DEVNULL,
+                                   stderr=subprocess.PIPE, env={})
+        for _ in range(STEPS):
+            running.stdin.write(PART)
+            running.stdin.flush()
+            time.sleep(SECONDS)
+        told = running.communicate()[1].splitlines(keepends=True)
+        seconds = time.monotonic() - begun
+        read = [(float(found[1]), int(found[2])) for line in told if (found := PIPE.fullmatch(line))]
+        self.check(f"{name} tells of a pipe", len(read) == len(told) > 1, told)
+        self.check(f"{name} tells once a second", len(told) - 1 <= seconds, (told, seconds))
+        grows = read == sorted(read) and read[-1] == (len(PART) * STEPS // 100_000 / 10, 19_999 * STEPS)
+        self.check(f"{name} tells more each time", grows, read)
+
+    def test_pipes(self) -> None:
+        """A slow pipe, into each command that reads records once."""
+        for name, words in {"summarise": ["summarise"], **self.by_summary(PART * STEPS)}.items():
+            self.try_pipe(name, words)
+
+    def test_file(self) -> None:
+        """A file, as the standard input of each command."""
+        many = Path(self.room, "many.csv")
         many.write_bytes(PART * 100)
-        commands = {"report": ["report"], "summarise": ["summarise"], "table": ["table"]}
-        for file, text in (("part", PART), ("many", PART * 100), ("pipe", PART * STEPS)):
-            Path(room, file).write_bytes(programs.run([program, "summarise"], text).out)
-        try_answers(tally, program, {**commands, **by_summary(f"{room}/part")})
-        try_counts(tally, program)
-        try_pipe(tally, program, "summarise", ["summarise"])
-        for name, words in by_summary(f"{room}/pipe").items():
-            try_pipe(tally, program, name, words)
-        for name, words in {**commands, **by_summary(f"{room}/many")}.items():
-            try_file(tally, program, name, words, many)
-    tally.end("progress")
+        for name, words in {**COMMANDS, **self.by_summary(PART * 100)}.items():
+            self.try_file(name, words, many)
+
+    def try_file(self, name: str, words: list[str], path: Path) -> None:
+        """A file: the share that is read, and the time left."""
+        size = b"%d.%d" % (path.stat().st_size // 1_000_000, path.stat().st_size % 1_000_000 // 100_000)
+        for _ in range(TRIES):  # on a busy machine a run may be over before it is stopped
+            told = stopped_in_file([self.program, *words, "--progress"], path)
+            shares = [(found[3], found[4]) for line in told if (found := FILE.fullmatch(line))]
+            if shares:
+                break
+        holds = shares and all(int(share) < 100 and of == size for share, of in shares)
+        self.check(f"{name} tells a file's share", holds and PIPE.fullmatch(told[-1]), told)
+        self.check(f"{name} has shares alone before the end", len(shares) == len(told) - 1, told)
 
 
 if __name__ == "__main__":
-    main()
+    programs.run_tests("progress")

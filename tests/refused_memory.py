@@ -5,12 +5,10 @@ second, and so on until a run meets no refusal.
 usage: tests/refused_memory.py
 
 Each run has to answer as with ample memory, or to answer Memory and leave everything as it was, after which the
-same call answers as ever. The calls that take no memory have to meet no refusal at all. Prints one line: how
-many calls, runs and wrong answers there were.
+same call answers as ever. The calls that take no memory have to meet no refusal at all.
 """
 import os
-import sys
-import tempfile
+from collections.abc import Iterable
 from concurrent.futures import ThreadPoolExecutor
 from functools import partial
 from pathlib import Path
@@ -74,12 +72,12 @@ PROGRESS = b"heavy: 0.0 MB and 4 records read, 0.0 MB/s\n"
 
 
 class Refusing:
-    """Runs programs under the library that refuses, and counts."""
+    """Runs programs under the library that refuses, and keeps what was wrong."""
 
     def __init__(self, library: str) -> None:
         self.library = library
         self.runs = 0
-        self.wrong = 0
+        self.wrong: dict[str, list[str]] = {}
 
     def run(self, words: list[str], at: int, given: bytes, marks: dict[str, str]) -> tuple[programs.Ended, bool]:
         """The run in which request number `at` is refused, none for 0, and whether one was."""
@@ -95,8 +93,7 @@ class Refusing:
         return ended, told != b""
 
     def tell(self, words: list[str], at: int, said: object) -> None:
-        self.wrong += 1
-        print(f"WRONG: {' '.join(words[1:])}, request {at} refused: {said}", flush=True)
+        self.wrong.setdefault(" ".join(words[1:]), []).append(f"request {at} refused: {said}")
 
     def in_turn(self, words: list[str], given: bytes, marks: dict[str, str], is_lawful) -> int:
         """Refuses request 1, 2, and so on; the number of requests that a run makes."""
@@ -132,101 +129,102 @@ def is_lawful_run(ample: programs.Ended, ended: programs.Ended) -> bool:
     return same(ample, ended) or (ended.status, ended.out) == (4, b"") and ended.err in memory
 
 
-def try_calls(refusing: Refusing, program: str) -> int:
-    """All calls with short and with long keys; how many there are."""
-    can = [(of, name) for of, names in CALLS.items() for name in names]
-    none = [(of, name) for of, names in TAKE_NONE.items() for name in names]
-    rows = [(of, name, length) for of, name in can + none for length in ("short", "long")]
+class RefusedMemory(programs.Checks):
+    """Calls and command lines, with each request for memory refused in turn."""
 
-    def requests(row: tuple[str, str, str]) -> int:
-        return refusing.in_turn([program, *row], b"", MARKS, partial(is_lawful_call, row[1]))
+    def setUp(self) -> None:
+        super().setUp()
+        self.refusing = Refusing(programs.preloaded("refuse.c", self.room))
+        self.memory, self.program = programs.built("heavy_oom"), programs.built("heavy_cli")
 
-    with ThreadPoolExecutor() as pool:
-        made = dict(zip(rows, pool.map(requests, rows)))
-    for of, name, length in rows:
-        has_short_key = length == "short" and name in ("Key::new", "Key::of_bytes", "Key::copy")
-        if made[of, name, length] > 0 and (has_short_key or (of, name) in none):
-            refusing.tell([program, of, name, length], 0, "it took memory")
-        if made[of, name, "long"] == 0 and (of, name) in can and name != "SpaceSaving::into_summary":
-            refusing.tell([program, of, name, length], 0, "it took no memory, so nothing was tried")
-    return len(can) + len(none)
+    def check_all(self, rows: Iterable[Iterable[str]]) -> None:
+        """That nothing was wrong with any of these rows of words."""
+        for name in map(" ".join, rows):
+            self.check(name, name not in self.refusing.wrong, self.refusing.wrong.get(name))
+        print(f"refused memory: {self.refusing.runs} runs", flush=True)
 
+    def test_calls(self) -> None:
+        """All calls with short and with long keys."""
+        can = [(of, name) for of, names in CALLS.items() for name in names]
+        none = [(of, name) for of, names in TAKE_NONE.items() for name in names]
+        rows = [(of, name, length) for of, name in can + none for length in ("short", "long")]
 
-def try_many_keys(refusing: Refusing, program: str) -> None:
-    """Confirming the summary of 20,000 long keys makes no request for each key."""
-    words = [program, "heavy", "confirm many keys", "long"]
-    ample, _ = refusing.run(words, 0, b"", MARKS)
-    ended, was_refused = refusing.run(words, 41, b"", MARKS)
-    if ample.out != b"answer \n" or not same(ample, ended) or was_refused:
-        refusing.tell(words, 41, ended)
+        def requests(row: tuple[str, str, str]) -> int:
+            return self.refusing.in_turn([self.memory, *row], b"", MARKS, partial(is_lawful_call, row[1]))
 
+        with ThreadPoolExecutor() as pool:
+            made = dict(zip(rows, pool.map(requests, rows)))
+        for of, name, length in rows:
+            has_short_key = length == "short" and name in ("Key::new", "Key::of_bytes", "Key::copy")
+            if made[of, name, length] > 0 and (has_short_key or (of, name) in none):
+                self.refusing.tell([self.memory, of, name, length], 0, "it took memory")
+            if made[of, name, "long"] == 0 and (of, name) in can and name != "SpaceSaving::into_summary":
+                self.refusing.tell([self.memory, of, name, length], 0, "it took no memory, so nothing was tried")
+        self.check_all(rows)
 
-def try_first_piece(refusing: Refusing, program: str) -> None:
-    """Of the refused runs of an analysis by one worker, most stop in the first pass over the first piece, of 1,000 keys
-    that take memory: so it is done by the worker, once, after one call of the gate."""
-    words = [program, "hh_pool", "analyse many keys", "long"]
-    ample, _ = refusing.run(words, 0, b"", MARKS)
-    once = more = 0
-    for at in range(1, 1_000_000):
-        ended, was_refused = refusing.run(words, at, b"", MARKS)
-        if not was_refused:
-            break
-        first, _, rest = ended.out.partition(b"\n")
-        if first.startswith(b"memory after ") and rest == ample.out:
-            calls = int(first.split()[2])
-            once, more = once + (calls == 1), more + (calls > 1)
-        elif not same(ample, ended):
-            refusing.tell(words, at, ended)
-    if not (ample.out.endswith(b"answer 4 \n") and once > more and more < 250):
-        refusing.tell(words, 0, f"{once} runs stopped after one call of the gate, {more} after more: {ample}")
+    def test_many_keys(self) -> None:
+        """Confirming the summary of 20,000 long keys makes no request for each key."""
+        words = [self.memory, "heavy", "confirm many keys", "long"]
+        ample, _ = self.refusing.run(words, 0, b"", MARKS)
+        ended, was_refused = self.refusing.run(words, 41, b"", MARKS)
+        if ample.out != b"answer \n" or not same(ample, ended) or was_refused:
+            self.refusing.tell(words, 41, ended)
+        self.check_all([words[1:]])
 
+    def test_first_piece(self) -> None:
+        """Of the refused runs of an analysis by one worker, most stop in the first pass over the first piece, of 1,000 keys
+        that take memory: so it is done by the worker, once, after one call of the gate."""
+        words = [self.memory, "hh_pool", "analyse many keys", "long"]
+        ample, _ = self.refusing.run(words, 0, b"", MARKS)
+        once = more = 0
+        for at in range(1, 1_000_000):
+            ended, was_refused = self.refusing.run(words, at, b"", MARKS)
+            if not was_refused:
+                break
+            first, _, rest = ended.out.partition(b"\n")
+            if first.startswith(b"memory after ") and rest == ample.out:
+                calls = int(first.split()[2])
+                once, more = once + (calls == 1), more + (calls > 1)
+            elif not same(ample, ended):
+                self.refusing.tell(words, at, ended)
+        if not (ample.out.endswith(b"answer 4 \n") and once > more and more < 250):
+            self.refusing.tell(words, 0, f"{once} runs stopped after one call of the gate, {more} after more: {ample}")
+        self.check_all([words[1:]])
 
-def try_commands(refusing: Refusing, program: str, room: str) -> int:
-    """All commands, from the first request of the process on; how many there are."""
-    saved, table = f"{room}/summary", f"{room}/table"
-    Path(saved).write_bytes(programs.run([program, "summarise", "--k", "2"], RECORDS).out)
-    Path(table).write_bytes(programs.run([program, "table", "--depth", "2", "--width", "4"], RECORDS).out)
-    rows = [
-        (["report", "--k", "2"], RECORDS),
-        (["report", "--k", "2", "--workers", "2", "--tree", "((0 1) (2 3))"], LONG_RECORDS),
-        (["report", "--k", "0"], RECORDS),
-        (["report", "--k", "2"], b"a,0\n"),
-        (["summarise", "--k", "2"], LONG_RECORDS),
-        (["summarise", "--k", "2", "--method", "ss"], LONG_RECORDS),
-        (["summarise", "--method", "no"], RECORDS),
-        (["table", "--depth", "2", "--width", "4"], LONG_RECORDS),
-        (["report", "--k", "2", "--progress"], RECORDS),
-        (["summarise", "--k", "2", "--progress"], RECORDS),
-        (["merge", saved, saved], b""),
-        (["merge", table, table], b""),
-        (["merge", saved, table], b""),
-        (["merge", f"{room}/none"], b""),
-        (["ask", saved, "a", "z" * 40], b""),
-        (["condense", saved], RECORDS),
-        (["confirm", saved], RECORDS),
-        (["--help"], b""),
-        (["--version"], b""),
-        (["report", "--help"], b""),
-        (["report", "--nothing"], b""),
-        (["ask", saved], b""),
-        ([], b""),
-    ]
-    with ThreadPoolExecutor() as pool:
-        list(pool.map(lambda row: refusing.in_turn([program, *row[0]], row[1], {}, is_lawful_run), rows))
-    return len(rows)
-
-
-def main() -> None:
-    with tempfile.TemporaryDirectory() as room:
-        refusing = Refusing(programs.preloaded("refuse.c", room))
-        memory = programs.built("heavy_oom")
-        calls = try_calls(refusing, memory)
-        try_many_keys(refusing, memory)
-        try_first_piece(refusing, memory)
-        commands = try_commands(refusing, programs.built("heavy_cli"), room)
-    print(f"refused memory: {calls + 2} calls, {commands} command lines, {refusing.runs} runs, {refusing.wrong} wrong")
-    sys.exit(1 if refusing.wrong else 0)
+    def test_commands(self) -> None:
+        """All commands, from the first request of the process on."""
+        saved, table = f"{self.room}/summary", f"{self.room}/table"
+        Path(saved).write_bytes(programs.run([self.program, "summarise", "--k", "2"], RECORDS).out)
+        Path(table).write_bytes(programs.run([self.program, "table", "--depth", "2", "--width", "4"], RECORDS).out)
+        rows = [
+            (["report", "--k", "2"], RECORDS),
+            (["report", "--k", "2", "--workers", "2", "--tree", "((0 1) (2 3))"], LONG_RECORDS),
+            (["report", "--k", "0"], RECORDS),
+            (["report", "--k", "2"], b"a,0\n"),
+            (["summarise", "--k", "2"], LONG_RECORDS),
+            (["summarise", "--k", "2", "--method", "ss"], LONG_RECORDS),
+            (["summarise", "--method", "no"], RECORDS),
+            (["table", "--depth", "2", "--width", "4"], LONG_RECORDS),
+            (["report", "--k", "2", "--progress"], RECORDS),
+            (["summarise", "--k", "2", "--progress"], RECORDS),
+            (["merge", saved, saved], b""),
+            (["merge", table, table], b""),
+            (["merge", saved, table], b""),
+            (["merge", f"{self.room}/none"], b""),
+            (["ask", saved, "a", "z" * 40], b""),
+            (["condense", saved], RECORDS),
+            (["confirm", saved], RECORDS),
+            (["--help"], b""),
+            (["--version"], b""),
+            (["report", "--help"], b""),
+            (["report", "--nothing"], b""),
+            (["ask", saved], b""),
+            ([], b""),
+        ]
+        with ThreadPoolExecutor() as pool:
+            list(pool.map(lambda row: self.refusing.in_turn([self.program, *row[0]], row[1], {}, is_lawful_run), rows))
+        self.check_all(words for words, _ in rows)
 
 
 if __name__ == "__main__":
-    main()
+    programs.run_tests("refused memory")

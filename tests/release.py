@@ -21,7 +21,6 @@ from pathlib import Path
 
 import header
 import programs
-import refused_memory
 
 SOURCE = "crates/heavy_cli/src/arguments.rt"
 VERSION = re.search(r'^const VERSION: &str = "(.*)";$', (programs.TOP / SOURCE).read_text(), re.M)[1]
@@ -148,27 +147,27 @@ def text_in(archive: bytes, name: str) -> bytes:
         return tar.extractfile(name).read()
 
 
-def try_tarball(tally: programs.Tally, file: Path, room: str) -> None:
+def try_tarball(checks: programs.Checks, file: Path, room: str) -> None:
     """What the tarball has, and that its scripts install that and remove it."""
     members = names_in(file.read_bytes())
     files = {name.removeprefix(f"{NAME}/") for name, member in members.items() if member.isfile()}
     others = {"LICENSE-APACHE", "LICENSE-MIT", "README", "README.md", "docs/FORMATS.md", "install", "uninstall"}
-    tally.check("the tarball has the program", PROGRAM | others <= files, files)
+    checks.check("the tarball has the program", PROGRAM | others <= files, files)
     licences = {name for name in files if name.startswith("share/doc/heavy/licences/")}
     wanted = {"clap/LICENSE-MIT", "below/LICENSE-MIT"}
-    tally.check("and the licences of what is linked in", {f"share/doc/heavy/licences/{it}" for it in wanted} <= licences
+    checks.check("and the licences of what is linked in", {f"share/doc/heavy/licences/{it}" for it in wanted} <= licences
                 and not any("other" in it for it in licences), licences)
     same = {(member.uid, member.gid, member.mtime) for member in members.values()} == {(0, 0, SECONDS)}
-    tally.check("nothing of the machine is in it", same, members)
+    checks.check("nothing of the machine is in it", same, members)
     with tarfile.open(file) as tar:
         tar.extractall(room)
     tree = Path(room, NAME)
-    tally.check("what packaging/ leaves open is filled", "@" not in (tree / "README").read_text())
+    checks.check("what packaging/ leaves open is filled", "@" not in (tree / "README").read_text())
     for script in ("install", "uninstall"):
         lines = len((tree / script).read_text().splitlines())
         ended = [programs.run([str(tree / script), *words], env=PATH) for words in ([], ["usr"])]
         right = lines <= 10 and all(it.status == 2 and b"usage: " in it.err for it in ended)
-        tally.check(f"{script} has ten lines and a usage line", right, ended)
+        checks.check(f"{script} has ten lines and a usage line", right, ended)
     for name, before in [("a new folder", []), ("a folder in use", ["bin/other", "share/man/man1/other.1"])]:
         prefix = Path(room, name)
         for it in before:
@@ -177,12 +176,12 @@ def try_tarball(tally: programs.Tally, file: Path, room: str) -> None:
         ended = [programs.run([str(tree / it), str(prefix)], env=PATH) for it in ("install", "uninstall")]
         told = {line.removeprefix(f"{prefix}/") for line in ended[0].out.decode().splitlines()}
         wanted = {name for name in files if name.startswith(("bin/", "share/"))}
-        tally.check(f"installed into {name}", [it.status for it in ended] == [0, 0] and told == wanted, ended)
+        checks.check(f"installed into {name}", [it.status for it in ended] == [0, 0] and told == wanted, ended)
         left = [str(it.relative_to(prefix)) for it in prefix.rglob("*") if it.is_file()]
-        tally.check(f"removed from {name}", sorted(left) == before and prefix.exists() == bool(before), left)
+        checks.check(f"removed from {name}", sorted(left) == before and prefix.exists() == bool(before), left)
 
 
-def try_packages(tally: programs.Tally, folder: Path) -> None:
+def try_packages(checks: programs.Checks, folder: Path) -> None:
     """What Debian's tool is given to pack."""
     wanted = {
         "heavy": {f"usr/{it}" + ".gz" * it.endswith(".1") for it in PROGRAM},
@@ -195,68 +194,68 @@ def try_packages(tally: programs.Tally, folder: Path) -> None:
         members = names_in(packed)
         there = {it.removeprefix("./") for it, member in members.items() if not member.isdir()}
         papers = {f"usr/share/doc/{name}/{it}" for it in ("changelog.gz", "copyright")}
-        tally.check(f"what {name} has", there == files | papers | {"DEBIAN/control", "DEBIAN/md5sums"}, there)
+        checks.check(f"what {name} has", there == files | papers | {"DEBIAN/control", "DEBIAN/md5sums"}, there)
         times = {member.mtime for member in members.values()}
-        tally.check(f"no time of the machine is in {name}", times == {SECONDS}, times)
+        checks.check(f"no time of the machine is in {name}", times == {SECONDS}, times)
         control = text_in(packed, "./DEBIAN/control").decode()
         filled = f"Version: {VERSION}\n" in control and "Maintainer: A B <a@b.example>\n" in control
-        tally.check(f"the control of {name}", filled and "@V" not in control and "(>= )" not in control, control)
+        checks.check(f"the control of {name}", filled and "@V" not in control and "(>= )" not in control, control)
         sums = dict(reversed(line.split("  ")) for line in text_in(packed, "./DEBIAN/md5sums").decode().splitlines())
         right = {it: hashlib.md5(text_in(packed, f"./{it}")).hexdigest() for it in there
                  if it.startswith("usr/") and members[f"./{it}"].isfile()}
-        tally.check(f"the sums of {name}", sums == right, sums)
+        checks.check(f"the sums of {name}", sums == right, sums)
         changes = gzip.decompress(text_in(packed, f"./usr/share/doc/{name}/changelog.gz")).decode()
         head, end = f"{name} ({VERSION}) unstable; urgency=medium\n\n  * ", "\n -- A B <a@b.example>  "
         short = max(map(len, changes.splitlines())) <= 80
-        tally.check(f"the changelog of {name}", changes.startswith(head) and end in changes and short, changes)
+        checks.check(f"the changelog of {name}", changes.startswith(head) and end in changes and short, changes)
         text = text_in(packed, f"./usr/share/doc/{name}/copyright").decode()
         ours, theirs = "Copyright: 2026 the heavy", "Files: toolchain/clap/*\nCopyright: clap\nLicense: Expat\n"
-        tally.check(f"the copyright of {name}", ours in text and theirs in text, text)
+        checks.check(f"the copyright of {name}", ours in text and theirs in text, text)
     library = (folder / f"libheavy1_{VERSION}_amd64.deb").read_bytes()
     symbols = text_in(library, "./DEBIAN/symbols").decode().splitlines()
     names = [f" {it}@HEAVY_1 {VERSION}" for it in ("HEAVY_1", *sorted(header.calls()))]
-    tally.check("the symbols", symbols[2:] == names and symbols[0] == "libheavy.so.1 libheavy1 #MINVER#", symbols)
+    checks.check("the symbols", symbols[2:] == names and symbols[0] == "libheavy.so.1 libheavy1 #MINVER#", symbols)
     depends = "Depends: libc6 (>= 2.34)\n".encode()
-    tally.check("the C library that is asked for", depends in text_in(library, "./DEBIAN/control"))
+    checks.check("the C library that is asked for", depends in text_in(library, "./DEBIAN/control"))
 
 
-def try_release(tally: programs.Tally, room: str) -> None:
+def try_release(checks: programs.Checks, room: str) -> None:
     """A release, twice; and what is refused, with nothing made."""
     copy = Copy(room)
     gate = "2026-11-24 20:00 UTC, 5 passed, 0 failed"
     folders = [Path(room, it) for it in ("first", "second")]
     ended = [copy.release("--gate", gate, str(it)) for it in folders]
     told = sorted(ended[0].out.decode().splitlines()) == [f"{folders[0]}/{it}" for it in MADE]
-    tally.check("a release is told", told and ended[0].status == 0, ended[0])
+    checks.check("a release is told", told and ended[0].status == 0, ended[0])
     if ended[0].status != 0:
         return
     files = [{it.name: it.read_bytes() for it in folder.iterdir()} for folder in folders]
     differ = [name for name in files[0] if files[0][name] != files[1].get(name)]
-    tally.check("two runs are equal", ended[1].status == 0 and not differ, differ)
+    checks.check("two runs are equal", ended[1].status == 0 and not differ, differ)
     sums = dict(reversed(line.split("  ")) for line in files[0]["SHA256SUMS"].decode().splitlines())
     right = {name: hashlib.sha256(text).hexdigest() for name, text in files[0].items() if name != "SHA256SUMS"}
-    tally.check("the checksums", sums == right, sums)
+    checks.check("the checksums", sums == right, sums)
     said = dict(line.split(": ", 1) for line in files[0]["MANIFEST"].decode().splitlines())
     wanted = {"version": VERSION, "commit": COMMIT, "toolchain": TOOLCHAIN, "logic": "0123", "gate": gate}
-    tally.check("the manifest", wanted.items() <= said.items() and "no errors" in said["lintian"], said)
+    checks.check("the manifest", wanted.items() <= said.items() and "no errors" in said["lintian"], said)
     text = files[0]["Containerfile"].decode()
     filled = f"ADD {NAME}.tar.gz /\n" in text and f'ENTRYPOINT ["/{NAME}/bin/heavy"]\n' in text and "@" not in text
-    tally.check("the Containerfile", filled, text)
+    checks.check("the Containerfile", filled, text)
     parts = {name.removeprefix(f"{NAME}-objects/") for name in names_in(files[0][f"{NAME}-objects.tar.gz"])}
-    tally.check("the objects", {"heavy_cli.o", "libos_c.a", "liblibc_c.a", "link"} <= parts, parts)
+    checks.check("the objects", {"heavy_cli.o", "libos_c.a", "liblibc_c.a", "link"} <= parts, parts)
     wheel = files[0][f"heavy-{VERSION}-py3-none-any.whl"]
     module = f"{VERSION}\n".encode() + (programs.TOP / "python" / "heavy.py").read_bytes()
     right = wheel.startswith(module) and b"GLIBC_2.34" in wheel[len(module):]
-    tally.check("the wheel has the module and the library", right)
-    try_tarball(tally, folders[0] / f"{NAME}.tar.gz", room)
-    try_packages(tally, folders[0])
+    checks.check("the wheel has the module and the library", right)
+    try_tarball(checks, folders[0] / f"{NAME}.tar.gz", room)
+    try_packages(checks, folders[0])
     ended = copy.release(f"{room}/third")
     said = Path(room, "third", "MANIFEST").read_text() if ended.status == 0 else ended
-    tally.check("no word of the gate", "gate: not told to bin/release\n" in said, said)
-    try_refusals(tally, copy, room)
+    checks.check("no word of the gate", "gate: not told to bin/release\n" in said, said)
+    try_refusals(checks, copy, room)
 
 
-def try_refusals(tally: programs.Tally, copy: Copy, room: str) -> None:
+def try_refusals(checks: programs.Checks, copy: Copy, room: str) -> None:
     target = f"{room}/refused"
     bare = Path(room, "bare")
     bare.mkdir()
@@ -277,13 +276,13 @@ def try_refusals(tally: programs.Tally, copy: Copy, room: str) -> None:
         ("no setuptools", [target], {"PYTHON": "/bin/false"}, b"python3-setuptools"),
     ]:
         ended = copy.release(*words, **env)
-        tally.check(f"refused: {name}", ended.status == 1 and text in ended.err and not Path(target).exists(), ended)
+        checks.check(f"refused: {name}", ended.status == 1 and text in ended.err and not Path(target).exists(), ended)
     for words in ([], ["--gate", target], ["--nothing", target], [target, target], [""]):
         ended = copy.release(*words)
-        tally.check(f"usage: {words}", ended.status == 2 and b"usage: bin/release" in ended.err, ended)
+        checks.check(f"usage: {words}", ended.status == 2 and b"usage: bin/release" in ended.err, ended)
 
 
-def try_uninstall(tally: programs.Tally, room: str) -> None:
+def try_uninstall(checks: programs.Checks, room: str) -> None:
     """What was installed of a built clone, without the toolchain, is removed, and what others have stays."""
     copy = Copy(f"{room}/uninstall")
     install, uninstall = (str(copy.top / "bin" / it) for it in ("install", "uninstall"))
@@ -305,17 +304,17 @@ def try_uninstall(tally: programs.Tally, room: str) -> None:
         ended = programs.run([install, word], env=with_destdir)
         told = {line.removeprefix(f"{prefix}/") for line in ended.out.decode().splitlines()}
         whole = (ended.status, told, ended.err) == (0, PROGRAM | LIBRARY, b"")
-        tally.check(f"{name}: installed without rt", whole, ended)
+        checks.check(f"{name}: installed without rt", whole, ended)
         removed = programs.run([uninstall, word], env=with_destdir)
         right = (removed.status, removed.out, removed.err) == (0, ended.out, b"")
         left = sorted(str(it.relative_to(prefix)) for it in prefix.rglob("*") if it.is_file())
-        tally.check(f"{name}: removed", right and left == before and prefix.exists() == bool(before), (removed, left))
+        checks.check(f"{name}: removed", right and left == before and prefix.exists() == bool(before), (removed, left))
         again = programs.run([uninstall, word], env=with_destdir)
-        tally.check(f"{name}: nothing is left to remove", (again.status, again.out, again.err) == (0, b"", b""), again)
-    try_failures(tally, room, copy, tools)
+        checks.check(f"{name}: nothing is left to remove", (again.status, again.out, again.err) == (0, b"", b""), again)
+    try_failures(checks, room, copy, tools)
 
 
-def try_failures(tally: programs.Tally, room: str, copy: Copy, tools: Path) -> None:
+def try_failures(checks: programs.Checks, room: str, copy: Copy, tools: Path) -> None:
     """An installation that fails leaves all as it was. A library that can't be built is left out."""
     prefix, install, env = Path(room, "failed"), str(copy.top / "bin" / "install"), {"PATH": str(tools)}
     (prefix / "lib" / "pkgconfig" / "heavy.pc").mkdir(parents=True)
@@ -327,7 +326,7 @@ def try_failures(tally: programs.Tally, room: str, copy: Copy, tools: Path) -> N
     said = f"heavy: {prefix}/lib/pkgconfig/heavy.pc is a folder\nheavy: nothing was installed\n".encode()
     told = (ended.status, ended.out, ended.err) == (1, b"", said)
     same = after == before and (prefix / "bin" / "heavy").read_text() == "of before"
-    tally.check("a failed installation changes nothing", told and same, (ended, after))
+    checks.check("a failed installation changes nothing", told and same, (ended, after))
     (tools / "mv").unlink()
     (tools / "mv").write_text(f'#!/bin/sh\ncase $* in *heavy.pc.new*) exit 1 ;; esac\nexec {shutil.which("mv")} "$@"\n')
     (tools / "mv").chmod(0o755)
@@ -337,7 +336,7 @@ def try_failures(tally: programs.Tally, room: str, copy: Copy, tools: Path) -> N
     after = sorted(map(str, prefix.rglob("*")))
     same = after == before and (prefix / "bin" / "heavy").read_text() == "of before"
     told = (ended.status, ended.out, ended.err) == (1, b"", b"heavy: nothing was installed\n")
-    tally.check("what fails at the last file is undone", told and same, (ended, after))
+    checks.check("what fails at the last file is undone", told and same, (ended, after))
     os.remove(copy.top / "crates" / "heavy_ffi" / "out" / "libheavy_ffi.a")
     (tools / "mv").unlink()
     (tools / "mv").symlink_to(shutil.which("mv"))
@@ -345,27 +344,27 @@ def try_failures(tally: programs.Tally, room: str, copy: Copy, tools: Path) -> N
     told = b"it is not built, and the toolchain's command, rt, is not on the path\n"
     told = b"heavy: the library for C is left out: " + told
     left = {line.removeprefix(f"{room}/without/") for line in ended.out.decode().splitlines()}
-    tally.check("a library that isn't built", (ended.status, left, ended.err) == (0, PROGRAM, told), ended)
+    checks.check("a library that isn't built", (ended.status, left, ended.err) == (0, PROGRAM, told), ended)
 
 
-def try_help(tally: programs.Tally) -> None:
+def try_help(checks: programs.Checks) -> None:
     for name in ("install", "install-library", "uninstall", "release", "wheel"):
         ended = programs.run([str(programs.TOP / "bin" / name), "--help"], env=PATH)
         right = (ended.status, ended.err) == (0, b"") and f"\nusage: bin/{name} ".encode() in ended.out
-        tally.check(f"bin/{name} --help", right and b"set -eu" not in ended.out, ended)
+        checks.check(f"bin/{name} --help", right and b"set -eu" not in ended.out, ended)
     for name, words in (("one_file.sh", ["2"]), ("many_machines.sh", ["2"]), ("many_machines.sh", [])):
         ended = programs.run([str(programs.TOP / "examples" / "machines" / name), *words], env=PATH)
-        tally.check(f"{name} {words}", (ended.status, ended.out) == (2, b"") and b"usage: " in ended.err, ended)
+        checks.check(f"{name} {words}", (ended.status, ended.out) == (2, b"") and b"usage: " in ended.err, ended)
     page = (programs.TOP / "docs" / "RELEASING.md").read_text()
     shown = [line.split() for line in re.findall(r"^    (bin/.*)$", page, re.M)]
-    tally.check("docs/RELEASING.md shows commands", len(shown) > 2, shown)
+    checks.check("docs/RELEASING.md shows commands", len(shown) > 2, shown)
     for name, *words in shown:
         text = (programs.TOP / name).read_text() if (programs.TOP / name).is_file() else ""
         absent = [word for word in words if word.startswith("--") and word not in text]
-        tally.check(f"docs/RELEASING.md: {name}", text and not absent, absent)
+        checks.check(f"docs/RELEASING.md: {name}", text and not absent, absent)
 
 
-def try_versions(tally: programs.Tally) -> None:
+def try_versions(checks: programs.Checks) -> None:
     """The version stands in the program's sources, and wherever else it stands it is the same."""
     def found(file: str, pattern: str) -> str | None:
         match = re.search(pattern, (programs.TOP / file).read_text(), re.M)
@@ -380,10 +379,10 @@ def try_versions(tally: programs.Tally) -> None:
         "examples/machines, of Debian": found("examples/machines/README.md", r"heavy_(\d+\.\d+\.\d+)_amd64\.deb"),
     }
     for name, version in told.items():
-        tally.check(f"the version of {name}", version == VERSION, version)
+        checks.check(f"the version of {name}", version == VERSION, version)
     numbers = [str(file.relative_to(programs.TOP)) for folder in ("packaging", "python", "bin")
                for file in (programs.TOP / folder).rglob("*") if file.is_file() and VERSION in file.read_text()]
-    tally.check("what is filled in has no version of its own", not numbers, numbers)
+    checks.check("what is filled in has no version of its own", not numbers, numbers)
 
 
 def script(words: str) -> list[str]:
@@ -410,42 +409,45 @@ def link_hooked(program: str, source: str, room: str) -> programs.Ended:
     return link_static(program, f"{program}.o", *after, "-Wl,-z,muldefs")
 
 
-def try_static(tally: programs.Tally, room: str) -> None:
-    """The static program, from the object that the build made, in the checks of the program."""
-    programs.built("heavy_cli")
-    for wanted, what in [
-        ("has_object", "the object that the built program was linked of"),
-        ("links_static", "a compiler that links statically"),
-    ]:
-        if programs.run(script(wanted), env=dict(os.environ)).status != 0:
-            print(f"release: the static program is left out, for want of {what}", flush=True)
-            return
-    program, refusing, watching = (f"{room}/{name}" for name in ("heavy", "refusing", "watching"))
-    made = [link_static(program), link_hooked(refusing, "refuse.c", room), link_hooked(watching, "watch.c", room)]
-    tally.check("the static program is linked", [it.status for it in made] == [0, 0, 0], made)
-    asks = [sorted(set(re.findall(rb"NEEDED|INTERP", subprocess.run(
-        ["llvm-objdump", "--private-headers", file], executable=programs.clang(), capture_output=True).stdout)))
-        for file in (programs.built("heavy_cli"), program)]
-    tally.check("it asks for no library and no loader", asks == [[b"INTERP", b"NEEDED"], []], asks)
-    for name in ("command_line.py", "devices.py"):
-        words = [sys.executable, "-B", "on_static.py", name, program, watching]
-        ran = subprocess.run(words, cwd=programs.TOP / "tests", capture_output=True, text=True)
-        tally.check(f"{name} of the static program", ran.returncode == 0, ran.stdout + ran.stderr)
-    refused = refused_memory.Refusing("")
-    lines = refused_memory.try_commands(refused, refusing, room)
-    tally.check("refused memory", refused.wrong == 0 and refused.runs > 5 * lines, (refused.runs, refused.wrong))
+class Release(programs.Checks):
+    def test_release(self) -> None:
+        try_release(self, f"{self.room}/release")
 
+    def test_uninstall(self) -> None:
+        try_uninstall(self, self.room)
 
-def main() -> None:
-    tally = programs.Tally()
-    with tempfile.TemporaryDirectory() as room:
-        try_release(tally, f"{room}/release")
-        try_uninstall(tally, room)
-        try_help(tally)
-        try_versions(tally)
-        try_static(tally, room)
-    tally.end("release")
+    def test_help(self) -> None:
+        try_help(self)
+
+    def test_versions(self) -> None:
+        try_versions(self)
+
+    def test_static(self) -> None:
+        """The static program, from the object that the build made, in the checks of the program."""
+        built = programs.built("heavy_cli")
+        for wanted, what in [
+            ("has_object", "the object that the built program was linked of"),
+            ("links_static", "a compiler that links statically"),
+        ]:
+            if programs.run(script(wanted), env=dict(os.environ)).status != 0:
+                self.skipTest(f"for want of {what}")
+        program, refusing, watching = (f"{self.room}/{name}" for name in ("heavy", "refusing", "watching"))
+        made = [link_static(program)]
+        made += [link_hooked(file, hook, self.room) for file, hook in ((refusing, "refuse.c"), (watching, "watch.c"))]
+        self.check("the static program is linked", [it.status for it in made] == [0, 0, 0], made)
+        asks = [sorted(set(re.findall(rb"NEEDED|INTERP", subprocess.run(
+            ["llvm-objdump", "--private-headers", file], executable=programs.clang(), capture_output=True).stdout)))
+            for file in (built, program)]
+        self.check("it asks for no library and no loader", asks == [[b"INTERP", b"NEEDED"], []], asks)
+        for name, *more in [
+            ("command_line.py", watching), ("devices.py", watching), ("refused_memory.py", refusing, "test_commands"),
+        ]:
+            words = [sys.executable, "-B", "on_static.py", name, program, *more]
+            ran = subprocess.run(words, cwd=programs.TOP / "tests", capture_output=True, text=True)
+            passed = re.search(r"^.*: (\d+) passed, 0 failed, 0 skipped$", ran.stdout, re.M)
+            right = ran.returncode == 0 and passed and int(passed[1]) > 20
+            self.check(f"{name} of the static program", right, ran.stdout + ran.stderr)
 
 
 if __name__ == "__main__":
-    main()
+    programs.run_tests("release")

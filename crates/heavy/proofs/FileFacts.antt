@@ -8,7 +8,7 @@ use Rattle.std.proofs.lemmas.List.{drop_more, drop_all, length-map}
 use Rattle.hh_stream.specs.Weights.{max_total}
 use Rattle.hh_countmin.specs.Family.{same_family}
 use Rattle.hh_countmin.specs.Table.{TableView, grid_sum as merged_cells}
-use Rattle.hh_saved.specs.Reading.{Fails, saved_of}
+use Rattle.hh_saved.specs.Reading.{Refuses as FileRefuses, saved_of}
 use Rattle.hh_saved.specs.declared.fault.SavedFault.{SavedFault}
 use Rattle.hh_saved.specs.declared.fault.SavedFault.TheVariants as saved
 use Rattle.hh_saved.specs.declared.saved.Saved.{Saved}
@@ -82,13 +82,13 @@ module _ (n : ℕ) (s t : TableView) (one : Decides (same_family s.family t.fami
 -- ---- one file
 
 -- a fault of a file is the refusal that is defined
-pub file_refused : (n : ℕ) (file : List ℕ) (f : SavedFault) → Fails f (saved_of file)
+pub file_refused : (n : ℕ) (file : List ℕ) (f : SavedFault) → FileRefuses (saved_of file) f
     → Refuses (file_of n file) (file_fault n f)
 file_refused n file saved.Memory fails = tt
 file_refused n file f fails = rw fails refl
 
 -- and so is one of a file that is to hold a summary
-pub summary_refused : (file : List ℕ) (f : SavedFault) → Fails f (saved_of file) → SummaryRefused file (file_fault 1 f)
+pub summary_refused : (file : List ℕ) (f : SavedFault) → FileRefuses (saved_of file) f → SummaryRefused file (file_fault 1 f)
 summary_refused file saved.Memory fails = tt
 summary_refused file f fails = (refl, fails)
 

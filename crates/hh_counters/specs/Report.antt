@@ -1,5 +1,5 @@
 -- The heavy keys, in the order of the report.
-use Rattle.std.specs.Prelude.{◌≡◌, ℕ, ◌+◌, ◌*◌, ◌<◌, ◌≤◌, Bool, cond, nat_lt, List, [], ◌∷◌, map, filter, fold, zip, Contains, ◌↔◌}
+use Rattle.std.specs.Prelude.{◌≡◌, ℕ, ◌+◌, ◌*◌, ◌<◌, ◌≤◌, Bool, ◌&&◌, cond, nat_lt, nat_le, List, [], ◌∷◌, map, filter, fold, zip, Contains, ◌↔◌}
 use Rattle.std.specs.List.Sorted.{IsStrictlySortedBy}
 use Rattle.std.specs.Map.{keys_of}
 use Rattle.std.specs.declared.cmp.Ordering.{Ordering}
@@ -26,6 +26,10 @@ max_q = 4294967296
 -- p/q is more than nothing and at most the whole, and its terms are at most 2^32
 abbrev pub IsShare : ℕ → ℕ → Type 0
 IsShare p q = (1 ≤ p) × (p ≤ q) × (q ≤ max_q)
+
+-- p/q is a share of at least 1/(k + 1), so that k counters miss no key above it
+abbrev pub is_threshold : ℕ → ℕ → ℕ → Bool
+is_threshold k p q = nat_le 1 p && nat_le p q && nat_le q max_q && nat_le q (p * (k + 1))
 
 -- more than p/q of n
 abbrev pub is_heavy : ℕ → ℕ → ℕ → Entry → Bool

@@ -1,6 +1,6 @@
 //! Space-Saving in buckets, which are put right only before a key is dropped.
 
-ghost use Rattle.std.specs.Prelude.{◌≡◌, ℕ, true, ◌+◌, ◌-◌, ◌^◌, ◌<◌, ◌≤◌, ◌↔◌, ◌⊎◌, [], ◌∷◌, ◌++◌, IfSome, IsOk, IfOk, IsErrOf, OnOk, OnErr, None, Some, length, false};
+ghost use Rattle.std.specs.Prelude.{◌≡◌, ℕ, true, ◌+◌, ◌-◌, ◌^◌, ◌<◌, ◌≤◌, ◌↔◌, [], IfSome, IsOk, IfOk, IsErrOf, OnOk, OnErr, None, Some, length, false};
 ghost use Rattle.std.specs.Map.{keys_of, lookup};
 ghost use Rattle.std.specs.List.{IsDistinct};
 ghost use Rattle.indexmap.specs.IndexMap.{get as index_get, index_of, keys, IsUnique, Updates};

@@ -18,6 +18,6 @@ pub use bucket_saving::{BucketSaving, NewFault};
 pub use candidates::Candidates;
 pub use counts::Counts;
 pub use monitor::{Monitor, monitored_summary};
-pub use report::{Heavy, MAX_Q};
+pub use report::{Heavy, MAX_Q, is_threshold};
 pub use space_saving::SpaceSaving;
 pub use summary::{AddFault, BadK, MAX_K, MergeFault, OfItemsFault, Summary};

@@ -1,9 +1,11 @@
 //! The rows of a report, and their choice among candidates.
 
-ghost use Rattle.std.specs.Prelude.{◌≡◌, ◌*◌, nat_lt, [], IsOk, IfOk, filter, length, zip};
+ghost use Rattle.std.specs.Prelude.{◌≡◌, ◌*◌, nat_lt, true, [], IsOk, IfOk, filter, length, zip};
 ghost use Rattle.std.specs.List.Sorted.{IsStrictlySortedBy};
+ghost use Rattle.hh_stream.specs.Ranges.{in_range};
 ghost use Rattle.hh_stream.specs.Weights.{key_cmp};
-ghost use Rattle.hh_counters.specs.Report.{is_heavy, rows_above};
+ghost use Rattle.hh_counters.specs.Counters.{max_k};
+ghost use Rattle.hh_counters.specs.Report.{is_heavy, is_threshold, rows_above};
 
 use hh_stream::Key;
 use std::alloc::{AllocError, Global};
@@ -80,4 +82,12 @@ pub fn is_heavy(number: u64, p: u64, q: u64, total: u64) -> bool
     ensures { result ≡ nat_lt (p * total) (q * number) }
 {
     u128::from(p) * u128::from(total) < u128::from(q) * u128::from(number)
+}
+
+/// Whether p/q is a share of at least 1/(k + 1), with 1 <= p <= q <= [`MAX_Q`].
+pub fn is_threshold(k: u64, p: u64, q: u64) -> bool
+    requires { in_range k max_k ≡ true }
+    ensures { result ≡ is_threshold k p q }
+{
+    1 <= p && p <= q && q <= MAX_Q && q <= p * (k + 1)
 }

@@ -1,10 +1,10 @@
 //! Space-Saving in its plain form.
 
-ghost use Rattle.std.specs.Prelude.{◌≡◌, ℕ, ◌+◌, ◌<◌, ◌≤◌, ◌^◌, ◌↔◌, ◌⊎◌, [], IfOk, IsOk, IsErr, OnOk, OnErr, IsErrOf, length, slice_index_or, false};
-ghost use Rattle.hh_stream.specs.Weights.{max_key_len, max_total, Entry, key_cmp, weight_of, total_of};
+ghost use Rattle.std.specs.Prelude.{◌≡◌, ◌+◌, ◌<◌, ◌≤◌, ◌^◌, ◌↔◌, [], IfOk, IsOk, IsErr, OnOk, OnErr, length, false};
+ghost use Rattle.hh_stream.specs.Weights.{max_key_len, weight_of, total_of};
 ghost use Rattle.hh_stream.specs.Ranges.{in_range};
 ghost use Rattle.hh_counters.specs.Counters.{max_k, IsCounters, SummaryView};
-ghost use Rattle.hh_counters.specs.SpaceSaving.{IsFirstLeast, IsMonitor, monitor_with, step, taken_over, translation_of};
+ghost use Rattle.hh_counters.specs.SpaceSaving.{IsFirstLeast, IsMonitor, step, taken_over, translation_of};
 
 use crate::entries::{add_entry, counter_of, least_counter, lower_all};
 use crate::monitor::Monitor;

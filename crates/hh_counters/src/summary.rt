@@ -1,6 +1,6 @@
 //! Misra-Gries summaries.
 
-ghost use Rattle.std.specs.Prelude.{◌≡◌, ℕ, ◌+◌, ◌<◌, ◌≤◌, ◌^◌, ◌↔◌, ◌⊎◌, [], ◌≢◌, ◌==◌, IsTrue, IsOk, IsErr, IsErrOf, IfOk, OnOk, OnErr, length, slice_index_or, false, true};
+ghost use Rattle.std.specs.Prelude.{◌≡◌, ◌+◌, ◌<◌, ◌≤◌, ◌^◌, ◌↔◌, [], ◌≢◌, ◌==◌, IsTrue, IsOk, IsErr, IsErrOf, IfOk, OnOk, OnErr, length, slice_index_or, false, true};
 ghost use Rattle.hh_stream.specs.Weights.{max_total, weight_of, total_of, max_key_len};
 ghost use Rattle.hh_stream.specs.Ranges.{in_range};
 ghost use Rattle.hh_counters.specs.Counters.{max_k, Fits, IsCounters, SummaryView, sketch_with, merge_of, sketch_of, slack};

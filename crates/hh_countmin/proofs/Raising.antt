@@ -1,20 +1,16 @@
 -- Raising one cell of each row, row by row.
-use Rattle.std.proofs.Common.{◌≡◌, ◌≢◌, ℕ, ◌+◌, ◌*◌, ◌<◌, ◌≤◌, cond, eqb, List, length, get_or, set, refl, sym, ap, ◌∙◌, inl, inr, arith}
+use Rattle.std.proofs.Common.{◌≡◌, ◌≢◌, ℕ, ◌+◌, ◌*◌, ◌<◌, ◌≤◌, List, length, get_or, set, refl, sym, ap, ◌∙◌, inl, inr, arith}
 use Rattle.std.proofs.lemmas.Bool.{cases_eq}
 use Rattle.std.proofs.lemmas.Bool.Decides.{nat_tests}
 use Rattle.std.proofs.lemmas.List.{length-set, get_or-set_same, get_or-set_other}
 use Rattle.std.proofs.lemmas.Nat.{mul-add-lt, same_from_place}
 use Rattle.hh_countmin.specs.Family.{Coefficients, coefficients_of, cell_of_fingerprint}
-use Rattle.hh_countmin.specs.Table.{cell_at, raised}
+use Rattle.hh_countmin.specs.Table.{cell_at, raise_at, raised}
 use Rattle.hh_countmin.proofs.Cells.{same_cells}
 
 -- the cell that a fingerprint has in row r
 abbrev pub cell_in_row : Coefficients → ℕ → ℕ → ℕ → ℕ
 cell_in_row family fingerprint width r = cell_of_fingerprint (coefficients_of family r) fingerprint width
-
--- what is added to cell c of row q, where the cell of row q is cell q
-abbrev pub raise_at : (ℕ → ℕ) → ℕ → ℕ → ℕ → ℕ
-raise_at cell weight q c = cond (eqb (cell q) c) weight 0
 
 -- the rows below r are raised, and the others are as they were
 pub record IsRaised (width weight : ℕ) (cell : ℕ → ℕ) (old new : List ℕ) (r : ℕ) : Type 0 where

@@ -31,9 +31,13 @@ pub record FitsTable (family : Coefficients) (width total : ℕ) (cells : List �
 abbrev pub cells_by : (ℕ → ℕ → ℕ) → ℕ → ℕ → List ℕ
 cells_by f depth width = map (λ i. f (i / width) (i % width)) (range_with_len 0 (depth * width))
 
+-- what a weight adds to cell c of row r, where it falls on one cell of each row, of row r on `cell r`
+abbrev pub raise_at : (ℕ → ℕ) → ℕ → ℕ → ℕ → ℕ
+raise_at cell weight r c = cond (cell r == c) weight 0
+
 -- what an item adds to cell c of row r: its weight where its key falls on the cell
 abbrev pub at_cell : Coefficients → ℕ → ℕ → ℕ → Entry → ℕ
-at_cell family width r c e = cond (cell_of family r e.0 width == c) e.1 0
+at_cell family width r c e = raise_at (λ r. cell_of family r e.0 width) e.1 r c
 
 -- the sum of the weights of the items whose key falls on cell c of row r
 abbrev pub cell_sum : Coefficients → ℕ → ℕ → ℕ → List Entry → ℕ
@@ -56,7 +60,7 @@ empty_table family width =
 -- cells with a weight more in one cell of each row, and in no other
 abbrev pub raised : (ℕ → ℕ) → ℕ → ℕ → ℕ → List ℕ → List ℕ
 raised cell weight depth width cells =
-    cells_by (λ r c. cell_at width cells r c + cond (cell r == c) weight 0) depth width
+    cells_by (λ r c. cell_at width cells r c + raise_at cell weight r c) depth width
 
 -- a table after an item: in each row the key's cell has the weight more
 abbrev pub grid_with : TableView → Entry → TableView

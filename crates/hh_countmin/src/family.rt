@@ -1,6 +1,6 @@
 //! Hash families.
 
-ghost use Rattle.std.specs.Prelude.{◌≡◌, ◌+◌, ◌*◌, ◌<◌, ◌≤◌, ◌↔◌, ◌⊎◌, length, IfOk, IsErrOf, IsTrue, true, false};
+ghost use Rattle.std.specs.Prelude.{◌≡◌, ◌+◌, ◌*◌, ◌<◌, ◌≤◌, ◌↔◌, length, IfOk, IsErrOf, IsTrue, true, false};
 ghost use Rattle.hh_stream.specs.Ranges.{in_range};
 ghost use Rattle.hh_countmin.specs.Family.{max_depth, max_width, modulus, IsFamily, AreCoefficients, IsRow, coefficients_of, fingerprint_of, ArePowers, cell_of, cell_of_fingerprint, drawn_family, factor_of, addend_of, rows_of_words};
 ghost use Rattle.rand_core.specs.Steps.{first_words};

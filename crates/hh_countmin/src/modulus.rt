@@ -1,6 +1,6 @@
 //! Arithmetic modulo 2^61 - 1, and modulo a width.
 
-ghost use Rattle.std.specs.Prelude.{◌≡◌, ◌+◌, ◌*◌, ◌<◌, ◌≤◌, ◌%◌, ◌^◌};
+ghost use Rattle.std.specs.Prelude.{◌≡◌, ◌+◌, ◌*◌, ◌<◌, ◌%◌, ◌^◌};
 ghost use Rattle.hh_countmin.specs.Family.{modulus};
 
 /// Fingerprints and cells are computed modulo 2^61 - 1.

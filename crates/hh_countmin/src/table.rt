@@ -1,6 +1,6 @@
 //! Count-Min tables.
 
-ghost use Rattle.std.specs.Prelude.{◌≡◌, ◌≢◌, ◌+◌, ◌*◌, ◌<◌, ◌≤◌, ◌^◌, ◌↔◌, ◌⊎◌, ◌==◌, ℕ, cond, sum, length, slice_index, IfOk, OnOk, OnErr, IsErr, IsErrOf, IsTrue, EachIndex, true, false};
+ghost use Rattle.std.specs.Prelude.{◌≡◌, ◌≢◌, ◌+◌, ◌*◌, ◌<◌, ◌≤◌, ◌^◌, ◌↔◌, ◌==◌, ℕ, sum, length, slice_index, IfOk, OnOk, OnErr, IsErr, IsErrOf, IsTrue, EachIndex, true, false};
 ghost use Rattle.hh_stream.specs.Ranges.{in_range};
 ghost use Rattle.hh_countmin.specs.Family.{max_width, modulus, coefficients_of, cell_of_fingerprint};
 ghost use Rattle.hh_stream.specs.Weights.{max_total};

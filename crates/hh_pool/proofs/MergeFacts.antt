@@ -1,11 +1,12 @@
 -- The leaves of a tree, and what its parts need and give where its summaries are merged.
-use Rattle.std.proofs.Common.{◌≡◌, ◌+◌, ◌<◌, ◌∙◌, ℕ, List, [], length, Result, Ok, refl, sym, arith}
+use Rattle.std.proofs.Common.{◌≡◌, ◌+◌, ◌<◌, ◌∙◌, ℕ, List, [], length, Result, Ok, Err, refl, sym, arith}
 use Rattle.std.specs.Prelude.{slice_index_or, sum_by}
 use Rattle.hh_counters.specs.Counters.{SummaryView}
 use Rattle.hh_counters.specs.declared.summary.MergeFault.{MergeFault}
+use Rattle.hh_counters.specs.declared.summary.MergeFault.TheVariants as fault
 use Rattle.hh_shared.specs.Tally.{times, IsDistinctBelow, HasAllBelow}
 use Rattle.hh_shared.proofs.Tallies.{all-length, sum_by-all, times-append, times-here}
-use Rattle.hh_pool.specs.Trees.{IsMergeTree, MergeTree, Piece, Merge, leaves, merge_both, no_sketch, tree_result}
+use Rattle.hh_pool.specs.Trees.{IsMergeTree, MergeTree, Piece, Merge, Refuses, leaves, merge_both, no_sketch, tree_result}
 
 -- how many merges a tree has
 abbrev pub merges : MergeTree → ℕ
@@ -81,3 +82,10 @@ pub node-result : (l r : MergeTree) (n : ℕ) (xs ys : List SummaryView) (s : Su
     → IsDistinctBelow n (leaves (Merge l r)) → AreOutside l xs ys
     → tree_result l xs ≡ Ok s → tree_result r ys ≡ right → tree_result (Merge l r) xs ≡ merge_both (Ok s) right
 node-result l r n xs ys s right h others left is = rw (left, sym (right-same l r n xs ys h others) ∙ is) refl
+
+-- a refusal of the right tree is one of the node
+pub node-refusal : (l r : MergeTree) (n : ℕ) (xs ys : List SummaryView) (s : SummaryView) (e : MergeFault)
+    → IsDistinctBelow n (leaves (Merge l r)) → AreOutside l xs ys
+    → tree_result l xs ≡ Ok s → Refuses (tree_result r ys) e → Refuses (tree_result (Merge l r) xs) e
+node-refusal l r n xs ys s fault.Memory h others left is = tt
+node-refusal l r n xs ys s e h others left is = node-result l r n xs ys s (Err e) h others left is

@@ -8,7 +8,8 @@ use Rattle.std.proofs.lemmas.Fmt.{decimal_by_steps, decimal_digit, decimal_step}
 use Rattle.std.proofs.Math.Seq.{take-length}
 use Rattle.std.proofs.lemmas.List.{append-nil, take-append-drop, take_more}
 use Rattle.hh_pool.specs.Trees.{MergeTree, Piece, Merge}
-use Rattle.hh_pool.specs.PlanTexts.{Begins, Done, HasText, IsSyntaxFault, Left, Now, Number, Open, Reading, Right, SpellsTree, Start, after_tree, at_start, first_reading, has_short_numbers, is_digit, nesting, read_tree, step, steps, text_of}
+use Rattle.hh_stream.specs.Digits.{is_digit}
+use Rattle.hh_pool.specs.PlanTexts.{Begins, Done, HasText, IsSyntaxFault, Left, Now, Number, Open, Reading, Right, SpellsTree, Start, after_tree, at_start, first_reading, has_short_numbers, nesting, read_tree, step, steps, text_of}
 
 -- ---- what was read
 -- the text before the place that is read

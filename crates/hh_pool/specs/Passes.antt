@@ -1,12 +1,14 @@
 -- What the workers of a pass bring back.
-use Rattle.std.specs.Prelude.{◌≡◌, ℕ, ◌+◌, ◌*◌, ◌<◌, List, [], length, map, slice_get, slice_index_or, Some}
+use Rattle.std.specs.Prelude.{◌≡◌, ℕ, ◌+◌, ◌*◌, ◌^◌, ◌<◌, All, List, [], length, map, slice_get, slice_index_or, Some, Result, IfOk}
+use Rattle.std.specs.Borrow.{RattleType}
 use Rattle.std.specs.List.{flat_map}
 use Rattle.std.specs.List.Sorted.{IsStrictlyIncreasing}
+use Rattle.std.specs.Thread.{IsSend, IsSync}
 use Rattle.hh_stream.specs.Weights.{Bytes, Entry, weight_of}
 use Rattle.hh_counters.specs.Counters.{SummaryView, sketch_of}
 use Rattle.hh_countmin.specs.Table.{cell_sum}
-use Rattle.hh_shared.specs.Tally.{times, cell_total}
-use Rattle.hh_shared.specs.Seats.{Holding}
+use Rattle.hh_shared.specs.Tally.{HasAllBelow, IsDistinctBelow, times, cell_total}
+use Rattle.hh_shared.specs.Seats.{Holding, Sums, fresh}
 use Rattle.hh_pool.specs.Settings.{Settings}
 
 -- the items of piece i
@@ -25,6 +27,12 @@ summaries_at k pieces numbers = map (λ i. (i, sketch_of k (piece_of pieces i)))
 abbrev pub HasTried : ℕ → Holding → Type 0
 HasTried n seat = (i : ℕ) → i < n → 0 < times i seat.claims + times i seat.met
 
+-- these are the summaries of all pieces, each with its piece's number, in any order
+pub record AreSummaries (k : ℕ) (pieces : List (List Entry)) (found : List (ℕ × SummaryView)) : Type 0 where
+  pub theirs : All (λ it. it.1 ≡ sketch_of k (piece_of pieces it.0)) found
+  pub distinct : IsDistinctBelow (length pieces) (map (λ it. it.0) found)
+  pub all : HasAllBelow (length pieces) (map (λ it. it.0) found)
+
 -- What workers of the first pass bring back together. Each piece was claimed or met. The additions to the cell that
 -- has row r, cell c of the table sum up to the table's cell over the claimed pieces, and the summaries are exactly
 -- those of the claimed pieces
@@ -42,6 +50,22 @@ pub record AreSecondPasses (pieces : List (List Entry)) (keys : List Bytes) (sea
   pub tried : HasTried (length pieces) seat
   pub adds : (i : ℕ) (key : Bytes) → slice_get keys i ≡ Some key
       → cell_total i seat.adds ≡ weight_of key (items_at pieces seat.claims)
+
+-- What is asked where a thread of so many workers, numbered from `first` on, is started: the runtime and the pass may be
+-- shared with it, what the workers keep may be sent, and the pass fits the sums, of which they have a fresh seat
+pub record CanRun (runtime pass kept : RattleType) (fits : Type 0) (sums : Sums) (seat : Holding) (first count : ℕ)
+    : Type 0 where
+  pub runtime_shared : IsSync runtime
+  pub pass_shared : IsSync pass
+  pub kept_sent : IsSend kept
+  pub pass_fits : fits
+  pub seat_fresh : seat ≡ fresh sums
+  pub some : 0 < count
+  pub numbers : first + count < 2 ^ 64
+
+-- what workers bring back, where memory was enough: a seat of these sums, of which the pass says all that it does
+abbrev pub BringBack : {K E : Type 0} → (Holding → K → Type 0) → Sums → Result (Holding × K) E → Type 0
+BringBack all_done sums result = IfOk result (λ r. (r.0.sums ≡ sums) × all_done r.0 r.1)
 
 -- One worker takes the lowest piece that it finds unclaimed: each piece that it claims is above those that it claimed
 -- before

@@ -2,6 +2,7 @@
 use Rattle.std.specs.Prelude.{◌≡◌, ℕ, ◌+◌, ◌-◌, ◌*◌, ◌<◌, ◌≤◌, ◌==◌, ◌&&◌, max, nat_lt, nat_le, Bool, true, false, slice_index_or, List, [], ◌∷◌, ◌++◌, length, take, Option, Some, None, ⊤, if◌then◌else◌}
 use Rattle.std.specs.Option.{option_and_then}
 use Rattle.std.specs.Fmt.{decimal}
+use Rattle.hh_stream.specs.Digits.{is_digit}
 use Rattle.hh_shared.specs.Tally.{times, IsDistinctBelow}
 use Rattle.hh_pool.specs.Trees.{MergeTree, Piece, Merge, leaves}
 use Rattle.hh_pool.specs.declared.parsing.PlanFault.{PlanFault}
@@ -89,10 +90,6 @@ pub data Now : Type 0 where
 pub record Reading : Type 0 where
   pub now : Now
   pub outer : List Open
-
--- an ASCII digit
-abbrev pub is_digit : ℕ → Bool
-is_digit c = nat_le 48 c && nat_le c 57
 
 -- after a tree comes a space or a closing parenthesis
 abbrev pub after_tree : MergeTree → List Open → ℕ → Option Reading

@@ -1,5 +1,5 @@
 -- Merge trees over numbered pieces, and what they make of the pieces' summaries.
-use Rattle.std.specs.Prelude.{◌≡◌, ℕ, zero, suc, ◌+◌, ◌-◌, ◌/◌, ◌<◌, ◌≤◌, ◌==◌, nat_le, List, [], ◌∷◌, ◌++◌, length, slice_index_or, Result, Ok, Err, refl, if◌then◌else◌}
+use Rattle.std.specs.Prelude.{◌≡◌, ℕ, zero, suc, ◌+◌, ◌-◌, ◌/◌, ◌<◌, ◌≤◌, ◌==◌, nat_le, List, [], ◌∷◌, ◌++◌, length, slice_index_or, Result, Ok, Err, ⊤, refl, if◌then◌else◌}
 use Rattle.std.proofs.Common.{sym, ap, ◌∙◌}
 use base.Stored.{Coded, Gv, gnil, gnum, gcons}
 use Rattle.hh_stream.specs.Weights.{Entry, max_total}
@@ -82,6 +82,11 @@ no_sketch = record { k = 0; total = 0; counters = [] }
 abbrev pub tree_result : MergeTree → List SummaryView → Result SummaryView MergeFault
 tree_result (Piece i) ss = Ok (slice_index_or ss i no_sketch)
 tree_result (Merge l r) ss = merge_both (tree_result l ss) (tree_result r ss)
+
+-- a refusal is the one that is defined, unless memory ran out
+abbrev pub Refuses : {X : Type 0} → Result X MergeFault → MergeFault → Type 0
+Refuses defined fault.Memory = ⊤
+Refuses defined e = defined ≡ Err e
 
 -- the items of a tree's pieces, from left to right
 abbrev pub items_of : MergeTree → List (List Entry) → List Entry

@@ -1,7 +1,7 @@
 //! The analysis of a stream: two passes by workers, and a merge between them.
 
-ghost use Rattle.std.specs.Prelude.{◌≡◌, ◌≢◌, ◌+◌, ◌*◌, ◌≤◌, ◌<◌, ◌∷◌, ◌↔◌, true};
-ghost use Rattle.std.specs.Prelude.{ℕ, List, All, length, map, sum, IfOk, IfSome, IsErr, IsErrOf, OnErr, OnOk, Err};
+ghost use Rattle.std.specs.Prelude.{◌≡◌, ◌≢◌, ◌+◌, ◌*◌, ◌≤◌, ◌<◌, ◌↔◌, true};
+ghost use Rattle.std.specs.Prelude.{ℕ, List, All, length, map, sum, IfOk, IsErr, IsErrOf, OnErr, OnOk, Err};
 ghost use Rattle.std.specs.List.{range_with_len};
 ghost use Rattle.hh_stream.specs.Weights.{Entry, total_of};
 ghost use Rattle.hh_stream.specs.Cuttings.{pieces_of};
@@ -32,21 +32,6 @@ use hh_stream::{Cutting, Stream};
 use std::alloc::{AllocError, Global};
 use std::sync::Wait;
 use std::thread::Threads;
-
-/// The summaries in the order of their numbers.
-fn in_order(alloc: Global, mut found: Vec<(usize, Summary)>) -> Result<Vec<Summary>, AllocError>
-    ensures { (f : ℕ → SummaryView) (count : ℕ) → All (λ it. it.1 ≡ f it.0) found.items
-        → IsDistinctBelow count (map (λ it. it.0) found.items)
-        → HasAllBelow count (map (λ it. it.0) found.items)
-        → IfOk result (λ summaries. summaries.items ≡ map f (range_with_len 0 count)) }
-{
-    found.sort_unstable_by(|a, b| a.0.cmp(&b.0));
-    let mut summaries = Vec::new(alloc);
-    for (_, summary) in found {
-        summaries.push(summary)?;
-    }
-    Ok(summaries)
-}
 
 /// The table of the stream, whose cells these are.
 fn table_of_cells(stream: &Stream, options: &Options, cells: Vec<u64>) -> Result<Table, AllocError>
@@ -89,7 +74,7 @@ fn summarise<R: Threads + Wait + Sync, G: Gate + Sync>(
     if !sums.holds_all(&seat) {
         return pass.alone();
     }
-    let summaries = in_order(alloc, found)?;
+    let summaries = pass.in_order(found)?;
     // It bounds the sums.
     let _total = stream.total();
     let cells = sums.close(seat)?;

@@ -1,15 +1,14 @@
 //! The first pass: each piece is summarised, and its items are added to the cells of one table.
 
-ghost use Rattle.std.specs.Prelude.{◌≡◌, ◌+◌, ◌*◌, ◌<◌, ◌≤◌, ◌++◌, ◌∷◌};
-ghost use Rattle.std.specs.Prelude.{[], ℕ, List, length, map, slice_index, sum, IfOk, OnOk};
+ghost use Rattle.std.specs.Prelude.{◌≡◌, ◌+◌, ◌*◌, ◌<◌, ◌≤◌, ◌++◌};
+ghost use Rattle.std.specs.Prelude.{[], ℕ, List, length, map, sum, IfOk, OnOk};
 ghost use Rattle.hh_stream.specs.Weights.{max_total, Entry, total_of};
 ghost use Rattle.hh_stream.specs.Cuttings.{pieces_of};
 ghost use Rattle.hh_counters.specs.Counters.{sketch_of};
 ghost use Rattle.hh_countmin.specs.Family.{Coefficients};
 ghost use Rattle.hh_countmin.specs.Table.{table_of};
-ghost use Rattle.hh_shared.specs.Tally.{cell_total};
 ghost use Rattle.hh_shared.specs.Seats.{fresh};
-ghost use Rattle.hh_pool.specs.Passes.{IsFirstPass};
+ghost use Rattle.hh_pool.specs.Passes.{AreSummaries, IsFirstPass};
 ghost use Rattle.hh_pool.specs.Progress.{HasDoneFirst, HasTriedFirst, first_pieces};
 
 use crate::gate::Gate;
@@ -135,6 +134,23 @@ impl<'a, G: Gate> FirstPass<'a, G> {
         made.summaries.push((piece, summary))?;
         add_items(&mut made.table, items);
         Ok(())
+    }
+
+    /// The summaries that all workers kept, in the order of the pieces.
+    pub(crate) fn in_order(
+        &self,
+        mut found: Vec<(usize, Summary)>,
+    ) -> Result<Vec<Summary>, AllocError>
+        requires { AreSummaries self.now.options.now.k (first_pieces self.now) found.items }
+        ensures { IfOk result (λ summaries.
+            summaries.items ≡ map (sketch_of self.now.options.now.k) (first_pieces self.now)) }
+    {
+        found.sort_unstable_by(|a, b| a.0.cmp(&b.0));
+        let mut summaries = Vec::new(self.alloc);
+        for (_, summary) in found {
+            summaries.push(summary)?;
+        }
+        Ok(summaries)
     }
 
     /// The same by the calling thread, without sums: the summaries of the pieces, in order, and the

@@ -1,13 +1,11 @@
 //! Summaries merged by a plan.
 
-ghost use Rattle.std.specs.Prelude.{◌≡◌, ◌≢◌, ◌≤◌, ℕ, List, length, map, sum_by, slice_index_or};
-ghost use Rattle.std.specs.Prelude.{All, Ok, Err, IfOk, IfErr};
-ghost use Rattle.hh_stream.specs.Weights.{Entry};
-ghost use Rattle.hh_stream.specs.Cuttings.{max_pieces, whole_of};
-ghost use Rattle.hh_counters.specs.Counters.{IsHonest, SummaryView};
+ghost use Rattle.std.specs.Prelude.{◌≡◌, ◌≤◌, ℕ, length, map, sum_by, slice_index_or};
+ghost use Rattle.std.specs.Prelude.{All, Ok, IfOk, IfErr};
+ghost use Rattle.hh_stream.specs.Cuttings.{max_pieces};
 ghost use Rattle.hh_shared.specs.Tally.{times, IsDistinctBelow};
 ghost use Rattle.hh_pool.specs.Plans.{shape};
-ghost use Rattle.hh_pool.specs.Trees.{IsMergeTree, MergesHonestly};
+ghost use Rattle.hh_pool.specs.Trees.{IsMergeTree, MergesHonestly, Refuses};
 ghost use Rattle.hh_pool.specs.Trees.{leaves, merge_result, no_sketch, tree_result, tree_value};
 
 use crate::plan::{Plan, Tree};
@@ -27,8 +25,7 @@ fn take_summary(alloc: Global, summary: &mut Summary) -> Summary
 /// One summary merged with another.
 fn merge_two(mut left: Summary, right: &Summary) -> Result<Summary, MergeFault>
     ensures merged { IfOk result (λ s. merge_result left right.now ≡ Ok s) }
-    ensures refused { IfErr result (λ e.
-        e ≢ MergeFault.Memory → merge_result left right.now ≡ Err e) }
+    ensures refused { IfErr result (Refuses (merge_result left right.now)) }
 {
     left.merge(right)?;
     Ok(left)
@@ -39,8 +36,7 @@ fn merge_tree(alloc: Global, tree: &Tree, summaries: &mut [Summary]) -> Result<S
     requires places { IsDistinctBelow (length summaries.old) (leaves (shape tree.now)) }
     requires fits { length summaries.old ≤ max_pieces }
     ensures merged { IfOk result (λ s. tree_result (shape tree.now) summaries.old ≡ Ok s) }
-    ensures refused { IfErr result (λ e.
-        e ≢ MergeFault.Memory → tree_result (shape tree.now) summaries.old ≡ Err e) }
+    ensures refused { IfErr result (Refuses (tree_result (shape tree.now) summaries.old)) }
     ensures others { (i : ℕ) → times i (leaves (shape tree.now)) ≡ 0
         → slice_index_or summaries.new i no_sketch ≡ slice_index_or summaries.old i no_sketch }
 {
@@ -67,8 +63,7 @@ pub fn merge_by(
 ) -> Result<Summary, MergeFault>
     requires { IsMergeTree plan.now (length summaries.items) }
     ensures merged { IfOk result (λ s. tree_result plan.now summaries.items ≡ Ok s) }
-    ensures refused { IfErr result (λ e.
-        e ≢ MergeFault.Memory → tree_result plan.now summaries.items ≡ Err e) }
+    ensures refused { IfErr result (Refuses (tree_result plan.now summaries.items)) }
 
     ensures k { IfOk result (λ s. All (λ piece. piece.k ≡ s.k) summaries.items) }
     ensures total { IfOk result (λ s. s.total ≡ sum_by (λ piece. piece.total) summaries.items) }

@@ -1,13 +1,13 @@
 //! What an analysis is asked for.
 
-ghost use Rattle.std.specs.Prelude.{◌≡◌, ◌+◌, ◌*◌, ◌<◌, ◌≤◌, ◌↔◌, ◌⊎◌, length, IfOk, IsErrOf, true, false};
+ghost use Rattle.std.specs.Prelude.{◌≡◌, ◌+◌, ◌*◌, ◌<◌, ◌≤◌, ◌↔◌, IfOk, IsErrOf, true, false};
 ghost use Rattle.hh_stream.specs.Ranges.{in_range};
 ghost use Rattle.hh_counters.specs.Counters.{max_k};
-ghost use Rattle.hh_counters.specs.Report.{max_q};
+ghost use Rattle.hh_counters.specs.Report.{is_threshold, IsShare};
 ghost use Rattle.hh_countmin.specs.Family.{max_width, IsFamily};
-ghost use Rattle.hh_pool.specs.Settings.{max_workers, IsThreshold};
+ghost use Rattle.hh_pool.specs.Settings.{max_workers};
 
-use hh_counters::{MAX_K, MAX_Q};
+use hh_counters::{MAX_K, is_threshold};
 use hh_countmin::{Family, MAX_WIDTH};
 use hh_stream::in_range;
 use std::marker::Model;
@@ -33,7 +33,8 @@ impl Model for Options {
     ghost use Rattle.hh_stream.specs.Ranges.{in_range};
     ghost use Rattle.hh_counters.specs.Counters.{max_k};
     ghost use Rattle.hh_countmin.specs.Family.{max_width};
-    ghost use Rattle.hh_pool.specs.Settings.{Settings, IsThreshold, max_workers};
+    ghost use Rattle.hh_counters.specs.Report.{is_threshold};
+    ghost use Rattle.hh_pool.specs.Settings.{Settings, max_workers};
 
     ghost Value = { Settings };
 
@@ -47,7 +48,7 @@ impl Model for Options {
     } };
 
     ghost invariant = { λ o.
-        (in_range o.k max_k ≡ true) × IsThreshold o.k o.p o.q
+        (in_range o.k max_k ≡ true) × (is_threshold o.k o.p o.q ≡ true)
         × (in_range o.workers max_workers ≡ true) × (in_range o.width max_width ≡ true) };
 }
 
@@ -63,7 +64,7 @@ pub enum OptionsFault {
     /// The width is not 1 to 65,536.
     #[error("width must be 1 to 65536")]
     BadWidth,
-    /// The threshold is not p/q with 1 <= p <= q <= [`MAX_Q`], or it is below 1/(k + 1).
+    /// The threshold is not p/q with 1 <= p <= q <= [`MAX_Q`](hh_counters::MAX_Q), or it is below 1/(k + 1).
     #[error("threshold must be p/q with 1 <= p <= q <= 4294967296 and p*(k+1) >= q")]
     BadThreshold,
 }
@@ -98,7 +99,7 @@ impl Options {
         ensures bad_threshold { IsErrOf result OptionsFault.BadThreshold
             ↔ ((in_range k max_k ≡ true) × (in_range workers max_workers ≡ true)
             × (in_range width max_width ≡ true)
-            × ((p ≡ 0) ⊎ (q < p) ⊎ (max_q < q) ⊎ (p * (k + 1) < q))) }
+            × (is_threshold k p q ≡ false)) }
     {
         if !in_range(k, MAX_K) {
             return Err(OptionsFault::BadK);
@@ -109,7 +110,7 @@ impl Options {
         if !in_range(width, MAX_WIDTH) {
             return Err(OptionsFault::BadWidth);
         }
-        if p == 0 || p > q || q > MAX_Q || p * (k + 1) < q {
+        if !is_threshold(k, p, q) {
             return Err(OptionsFault::BadThreshold);
         }
         Ok(Options::within(k, p, q, workers, width, family))
@@ -118,7 +119,7 @@ impl Options {
     /// [`new`](Options::new) of parts in their ranges, which refuses nothing.
     pub fn within(k: u64, p: u64, q: u64, workers: u64, width: u64, family: Family) -> Options
         requires k { in_range k max_k ≡ true }
-        requires threshold { IsThreshold k p q }
+        requires threshold { is_threshold k p q ≡ true }
         requires workers { in_range workers max_workers ≡ true }
         requires width { in_range width max_width ≡ true }
         ensures { result ≡ record {
@@ -151,7 +152,8 @@ impl Options {
     pub(crate) fn threshold(&self) -> (u64, u64)
         ensures p { result.0 ≡ self.now.p }
         ensures q { result.1 ≡ self.now.q }
-        ensures in_range { IsThreshold self.now.k self.now.p self.now.q }
+        ensures share { IsShare self.now.p self.now.q }
+        ensures enough { self.now.q ≤ self.now.p * (self.now.k + 1) }
     {
         (self.p, self.q)
     }

@@ -1,6 +1,6 @@
 //! The second pass: the candidates' exact weights are counted.
 
-ghost use Rattle.std.specs.Prelude.{◌≡◌, ◌+◌, ◌<◌, ◌≤◌, length, sum, IfOk};
+ghost use Rattle.std.specs.Prelude.{◌≡◌, ◌+◌, ◌<◌, length, sum, IfOk};
 ghost use Rattle.hh_stream.specs.Cuttings.{pieces_of};
 ghost use Rattle.hh_counters.specs.Report.{weights_at};
 ghost use Rattle.hh_shared.specs.Seats.{fresh};

@@ -1,8 +1,8 @@
 //! Workers by halves: half of them run in a thread of their own.
 
 ghost use Rattle.std.specs.Prelude.{◌≡◌, ◌+◌, ◌^◌, ◌<◌, ◌≤◌, IfOk};
-ghost use Rattle.std.specs.Thread.{IsSync, IsSend};
 ghost use Rattle.hh_shared.specs.Seats.{fresh};
+ghost use Rattle.hh_pool.specs.Passes.{BringBack, CanRun};
 ghost use Rattle.hh_pool.specs.Settings.{max_workers};
 
 use crate::pass::Pass;
@@ -21,8 +21,7 @@ pub(crate) struct Promised<P: Pass> {
 }
 
 impl<P: Pass> Promise<Result<(SumSeat, P::Kept), AllocError>> for Promised<P> {
-    ghost kept_by = { λ p r. IfOk r (λ x. (x.0.sums ≡ p.sums.value)
-        × P.all_done p.pass.value x.0 x.1) };
+    ghost kept_by = { λ p r. BringBack (P.all_done p.pass.value) p.sums.value r };
 }
 
 /// Runs so many workers with one seat, numbered from `first` on: where they are more than one, half
@@ -61,22 +60,20 @@ fn run_workers<R: Threads + Wait + Sync, P: Pass + Sync>(
             ),
             AllocError,
         >
-            requires { IsSync R.row × IsSync P.row × IsSend P.Kept.row × (0 < low)
-                × (first + low < 2 ^ 64) × (0 < high) × (next + high < 2 ^ 64)
-                × P.fits pass.now sums.now × (seat ≡ fresh sums.now) × (half ≡ fresh sums.now) }
-            ensures { IfOk result (λ b.
-                IfOk b.0 (λ r. (r.0.sums ≡ sums.entry.now) × P.all_done pass.entry.now r.0 r.1)
-                × IfOk b.1 (λ r. (r.0.sums ≡ sums.entry.now) × P.all_done pass.entry.now r.0 r.1)) }
+            requires { let can = CanRun R.row P.row P.Kept.row (P.fits pass.now sums.now) sums.now in
+                can seat first low × can half next high }
+            ensures { IfOk result (λ both.
+                let brings = BringBack (P.all_done pass.entry.now) sums.entry.now in
+                brings both.0 × brings both.1) }
         {
             let promise = Promised {
                 sums: Snapshot::of(sums),
                 pass: Snapshot::of(pass),
             };
             let front = move || -> Result<(SumSeat, P::Kept), AllocError>
-                requires { IsSync R.row × IsSync P.row × IsSend P.Kept.row × (0 < low)
-                    × (first + low < 2 ^ 64) × P.fits pass.now sums.now × (seat ≡ fresh sums.now) }
-                ensures { IfOk result (λ r. (r.0.sums ≡ sums.entry.now)
-                    × P.all_done pass.entry.now r.0 r.1) }
+                requires { CanRun R.row P.row P.Kept.row (P.fits pass.now sums.now)
+                    sums.now seat first low }
+                ensures { BringBack (P.all_done pass.entry.now) sums.entry.now result }
             { run_workers(rt, sums, seat, pass, first, low) };
             let child = scope.spawn_with(promise, front)?;
             let other = run_workers(rt, sums, half, pass, next, high);
@@ -110,20 +107,18 @@ pub(crate) fn run_apart<R: Threads + Wait + Sync, P: Pass + Sync>(
         thread::scope_env(),
         rt,
         |scope| -> Result<(SumSeat, P::Kept), AllocError>
-            requires { IsSync R.row × IsSync P.row × IsSend P.Kept.row × (0 < workers)
-                × (workers ≤ max_workers) × P.fits pass.now sums.now × (seat ≡ fresh sums.now) }
-            ensures { IfOk result (λ r. (r.0.sums ≡ sums.entry.now)
-                × P.all_done pass.entry.now r.0 r.1) }
+            requires { CanRun R.row P.row P.Kept.row (P.fits pass.now sums.now)
+                sums.now seat 0 workers }
+            ensures { BringBack (P.all_done pass.entry.now) sums.entry.now result }
         {
             let promise = Promised {
                 sums: Snapshot::of(sums),
                 pass: Snapshot::of(pass),
             };
             let all = move || -> Result<(SumSeat, P::Kept), AllocError>
-                requires { IsSync R.row × IsSync P.row × IsSend P.Kept.row × (0 < workers)
-                    × (workers ≤ max_workers) × P.fits pass.now sums.now × (seat ≡ fresh sums.now) }
-                ensures { IfOk result (λ r. (r.0.sums ≡ sums.entry.now)
-                    × P.all_done pass.entry.now r.0 r.1) }
+                requires { CanRun R.row P.row P.Kept.row (P.fits pass.now sums.now)
+                    sums.now seat 0 workers }
+                ensures { BringBack (P.all_done pass.entry.now) sums.entry.now result }
             { run_workers(rt, sums, seat, pass, 0, workers) };
             let child = scope.spawn_with(promise, all)?;
             child.join(rt)

@@ -11,9 +11,10 @@ use Rattle.csv.specs.declared.parser.Action.TheVariants as act
 use Rattle.csv.specs.declared.parser.Config.{Config}
 use Rattle.csv.specs.declared.parser.State.{State}
 use Rattle.csv.specs.declared.parser.State.TheVariants as st
-use Rattle.hh_stream.specs.Weights.{Entry, IsKey, max_key_len, max_total, total_of}
-use Rattle.hh_records.specs.Laws.{AreItems, TextsAreItems}
-use Rattle.hh_records.specs.Streams.{Fields, is_weight, item_of_fields, item_of_pair, item_of_parts, items_from, reading_next, value_of, weight_after, weight_or_cause}
+use Rattle.hh_stream.specs.Weights.{AreItems, Entry, IsKey, max_key_len, max_total, total_of}
+use Rattle.hh_records.specs.Laws.{TextsAreItems}
+use Rattle.hh_stream.specs.Digits.{value_of}
+use Rattle.hh_records.specs.Streams.{Fields, is_weight, item_of_fields, item_of_pair, item_of_parts, items_from, reading_next, weight_after, weight_or_cause}
 use Rattle.hh_records.specs.declared.records.BadRecordCause.{BadRecordCause}
 use Rattle.hh_records.specs.declared.records.BadRecordCause.TheVariants as cause
 

@@ -17,14 +17,15 @@ use Rattle.csv.specs.Reading.{default_config, is_bom, records, records_from, str
 use Rattle.csv.specs.Writing.{default_writer, escaped, field_text, fields_text, is_blank, needs_byte}
 use Rattle.csv.specs.declared.parser.State.TheVariants as st
 use Rattle.csv.proofs.RoundTrip.{after-quote-same, quoted-run, read-write-many, rest-run}
-use Rattle.hh_stream.specs.Weights.{Bytes, Entry, IsKey, max_key_len, max_total, total_of}
+use Rattle.hh_stream.specs.Weights.{AreItems, Bytes, Entry, IsKey, max_key_len, max_total, total_of}
 use Rattle.hh_stream.specs.Cuttings.{whole_of}
 use Rattle.hh_counters.specs.Condensed.{condensed}
 use Rattle.hh_counters.specs.Counters.{Counters, max_k}
 use Rattle.hh_counters.specs.Laws.{CondensedAreItems, CondensedKeepsWeights}
-use Rattle.hh_records.specs.Laws.{AreItems, CondensedFilesAreRead}
+use Rattle.hh_records.specs.Laws.{CondensedFilesAreRead}
 use Rattle.hh_records.specs.Rows.{begins_with_mark, condensed_text, first_row_of, quoted_row_of, row_of, rows_of}
-use Rattle.hh_records.specs.Streams.{Fields, is_digit, is_weight, items_from, item_of_fields, reading_next, stream_of, value_of}
+use Rattle.hh_stream.specs.Digits.{is_digit, value_of}
+use Rattle.hh_records.specs.Streams.{Fields, is_weight, items_from, item_of_fields, reading_next, stream_of}
 
 -- ---- the digits of a weight
 plain_digit : (d : ℕ) → d < 10 → needs_byte default_writer (48 + d) ≡ false

@@ -1,16 +1,12 @@
 -- What holds of texts that are joined.
-use Rattle.std.specs.Prelude.{◌≡◌, ◌<◌, ◌≤◌, ℕ, List, length, All, EachIndex, Ok, slice_index}
+use Rattle.std.specs.Prelude.{◌≡◌, ◌<◌, ◌≤◌, ℕ, List, length, EachIndex, Ok, slice_index}
 use Rattle.std.specs.List.{AllByRecursion, flat_map}
-use Rattle.hh_stream.specs.Weights.{Entry, IsKey, max_total, total_of}
+use Rattle.hh_stream.specs.Weights.{AreItems, Entry, max_total, total_of}
 use Rattle.hh_stream.specs.Cuttings.{whole_of}
 use Rattle.hh_counters.specs.Counters.{SummaryView, max_k}
 use Rattle.hh_counters.specs.Condensed.{condensed}
 use Rattle.hh_records.specs.Rows.{condensed_text}
 use Rattle.hh_records.specs.Streams.{stream_of}
-
--- the items of a stream have keys and weights
-abbrev pub AreItems : List Entry → Type 0
-AreItems xs = AllByRecursion (λ e. IsKey e.0) xs × All (λ e. 0 < e.1) xs
 
 -- what a text of bytes reads as has keys and weights, and a total in range
 abbrev pub TextsAreItems : Type 0

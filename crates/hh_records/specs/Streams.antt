@@ -1,9 +1,9 @@
 -- The stream that a text of records writes.
-use Rattle.std.specs.Prelude.{◌≡◌, ◌==◌, ◌&&◌, ◌+◌, ◌-◌, ◌*◌, not, nat_le, ℕ, Bool, List, [], ◌∷◌, ◌++◌, length, fold, Option, Some, None, IfSome, Result, Ok, Err, ⊤, if◌then◌else◌}
-use Rattle.std.specs.List.{list_all}
+use Rattle.std.specs.Prelude.{◌≡◌, ◌==◌, ◌+◌, nat_le, ℕ, Bool, List, [], ◌∷◌, ◌++◌, length, Option, Some, None, IfSome, Result, Ok, Err, ⊤, if◌then◌else◌}
 use Rattle.csv.specs.Reading.{default_config, records, strip_bom}
 use Rattle.csv.specs.declared.error.ErrorKind.{ErrorKind}
 use Rattle.csv.specs.declared.error.ErrorKind.TheVariants as kind
+use Rattle.hh_stream.specs.Digits.{is_number, value_of}
 use Rattle.hh_stream.specs.Weights.{Bytes, Entry, total_of, max_total, max_key_len}
 use Rattle.hh_records.specs.declared.records.BadRecordCause.{BadRecordCause}
 use Rattle.hh_records.specs.declared.records.BadRecordCause.TheVariants as cause
@@ -16,20 +16,9 @@ use Rattle.hh_records.specs.declared.records.RecordFault.TheVariants as fault
 abbrev pub Fields : Type 0
 Fields = List (List ℕ)
 
-abbrev pub is_digit : ℕ → Bool
-is_digit b = nat_le 48 b && nat_le b 57
-
--- a field of 1 to so many digits
-abbrev pub is_number : ℕ → List ℕ → Bool
-is_number most f = not (length f == 0) && nat_le (length f) most && list_all is_digit f
-
 -- a weight's field has 1 to 20 digits
 abbrev pub is_weight : List ℕ → Bool
 is_weight f = is_number 20 f
-
--- the number that digits write
-abbrev pub value_of : List ℕ → ℕ
-value_of f = fold (λ a d. a * 10 + (d - 48)) 0 f
 
 -- a weight after a total of t, or why it can't be added
 abbrev pub weight_or_cause : ℕ → ℕ → Result ℕ BadRecordCause

@@ -1,8 +1,8 @@
 -- The shares of the total above which a report lists keys.
-use Rattle.std.specs.Prelude.{◌+◌, ◌*◌, ◌==◌, ◌&&◌, nat_le, ℕ, Bool, List, take, drop, Option, Some, None, if◌then◌else◌}
+use Rattle.std.specs.Prelude.{◌+◌, ◌==◌, ℕ, Bool, List, take, drop, Option, Some, None, if◌then◌else◌}
 use Rattle.std.specs.List.{position_from}
-use Rattle.hh_counters.specs.Report.{max_q}
-use Rattle.hh_records.specs.Streams.{is_number, value_of}
+use Rattle.hh_stream.specs.Digits.{is_number, value_of}
+use Rattle.hh_counters.specs.Report.{is_threshold}
 use Rattle.hh_records.specs.declared.threshold.Share.{Share}
 use Rattle.hh_records.specs.declared.threshold.Share.TheVariants as share
 
@@ -27,10 +27,7 @@ numbers_at text (Some at) = both (number_of (take at text)) (number_of (drop (at
 abbrev pub numbers_of : List ℕ → Option (ℕ × ℕ)
 numbers_of text = numbers_at text (position_from is_slash 0 text)
 
--- p/q is a share of at least 1/(k + 1)
-abbrev pub is_threshold : ℕ → ℕ → ℕ → Bool
-is_threshold k p q = nat_le 1 p && nat_le p q && nat_le q max_q && nat_le q (p * (k + 1))
-
+-- two numbers, where they are a threshold for k counters
 abbrev pub threshold_for : ℕ → Option (ℕ × ℕ) → Option (ℕ × ℕ)
 threshold_for k None = None
 threshold_for k (Some t) = if is_threshold k t.0 t.1 then Some t else None

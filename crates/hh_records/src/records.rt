@@ -1,10 +1,11 @@
 //! Records of keys and weights, read one by one.
 
-ghost use Rattle.std.specs.Prelude.{◌≡◌, ◌+◌, ◌<◌, ◌≤◌, ◌^◌, ◌++◌, ◌∷◌, [], List, false, true, min, Ok, MatchOption, IfSome, IfOk, IfErr, OnOk, option_map};
+ghost use Rattle.std.specs.Prelude.{◌≡◌, ◌+◌, ◌<◌, ◌≤◌, ◌^◌, false, true, min, Ok, MatchOption, IfSome, IfOk, IfErr, OnOk, option_map};
 ghost use Rattle.csv.specs.Reading.{stops_reader};
 ghost use Rattle.csv.specs.Records.{fields_of};
-ghost use Rattle.hh_stream.specs.Weights.{Entry, total_of, max_total};
-ghost use Rattle.hh_records.specs.Streams.{fault_of, is_number, is_weight, item_of_fields, numbered_fault, parts_of, value_of, ReadRefused, ReadsAs, RecordRefused};
+ghost use Rattle.hh_stream.specs.Weights.{Entry, max_total};
+ghost use Rattle.hh_stream.specs.Digits.{is_number, value_of};
+ghost use Rattle.hh_records.specs.Streams.{fault_of, item_of_fields, numbered_fault, parts_of, ReadRefused, ReadsAs, RecordRefused};
 ghost use Rattle.hh_records.specs.Taking.{TakesItems};
 
 use crate::retrying::Retrying;
@@ -155,10 +156,10 @@ fn fault_of(fault: &ErrorKind) -> ReadError
     match fault {
         ErrorKind::Io(_) => ReadError::ReadFault,
         ErrorKind::OutOfMemory => ReadError::Memory,
-        ErrorKind::UnequalLengths { .. } => unreachable!(),
-        ErrorKind::Utf8 { .. } => unreachable!(),
-        ErrorKind::Serialize(_) => unreachable!(),
-        ErrorKind::Deserialize { .. } => unreachable!(),
+        ErrorKind::UnequalLengths { .. }
+        | ErrorKind::Utf8 { .. }
+        | ErrorKind::Serialize(_)
+        | ErrorKind::Deserialize { .. } => unreachable!(),
     }
 }
 

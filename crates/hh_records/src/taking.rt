@@ -9,7 +9,7 @@ ghost use Rattle.hh_countmin.specs.Table.{grid_with};
 
 use hh_counters::{BucketSaving, Counts, Monitor, Summary};
 use hh_countmin::Table;
-use hh_stream::{Key, PushFault, Stream};
+use hh_stream::{Key, Stream};
 use std::alloc::{AllocError, Global};
 
 /// What items are taken into, one after the other: a stream keeps them all, and others keep less.
@@ -47,14 +47,8 @@ impl TakeItems for Stream {
     }
 
     fn take(&mut self, alloc: Global, key: &[u8], weight: u64) -> Result<(), AllocError> {
-        match self.push(Key::of_bytes(alloc, key)?, weight) {
-            Ok(()) => Ok(()),
-            Err(refused) => match refused.fault {
-                PushFault::ZeroWeight => unreachable!(),
-                PushFault::TotalTooLarge => unreachable!(),
-                PushFault::Memory => Err(AllocError),
-            },
-        }
+        self.push_within(Key::of_bytes(alloc, key)?, weight)
+            .map_err(|_| AllocError)
     }
 }
 

@@ -4,10 +4,10 @@ ghost use Rattle.std.specs.Prelude.{◌≡◌, ◌<◌, true, length, IfSome};
 ghost use Rattle.std.specs.List.{position_from};
 ghost use Rattle.hh_counters.specs.Counters.{max_k};
 ghost use Rattle.hh_stream.specs.Ranges.{in_range};
-ghost use Rattle.hh_records.specs.Thresholds.{is_slash, is_threshold, number_of, numbers_of, threshold_of};
+ghost use Rattle.hh_records.specs.Thresholds.{is_slash, number_of, numbers_of, threshold_of};
 
 use crate::records::number_in;
-use hh_counters::MAX_Q;
+use hh_counters::is_threshold;
 
 /// The share of the total weight above which a report lists keys.
 #[derive(Debug, Drop)]
@@ -43,14 +43,6 @@ fn numbers_of(text: &[u8]) -> Option<(u64, u64)>
     let p = number_of(&text[..slash])?;
     let q = number_of(&text[slash + 1..])?;
     Some((p, q))
-}
-
-/// Whether p/q is a share of at least 1/(k + 1).
-fn is_threshold(k: u64, p: u64, q: u64) -> bool
-    requires { in_range k max_k ≡ true }
-    ensures { result ≡ is_threshold k p q }
-{
-    1 <= p && p <= q && q <= MAX_Q && q <= p * (k + 1)
 }
 
 /// The p and q of the threshold for k counters. There are none where the share is a text that is no

@@ -6,13 +6,13 @@ use Rattle.hh_saved.specs.declared.format.Version.{Version}
 use Rattle.hh_saved.specs.declared.fault.SavedFault.{SavedFault}
 use Rattle.hh_saved.specs.declared.fault.SavedFault.TheVariants as faults
 use Rattle.hh_saved.proofs.Fields.{ok_is}
-use Rattle.hh_saved.specs.Reading.{◌>>=◌, Fails, with_front, last_key_of, entry_at, entries_at, row_at, rows_at}
+use Rattle.hh_saved.specs.Reading.{◌>>=◌, Refuses, with_front, last_key_of, entry_at, entries_at, row_at, rows_at}
 
 -- a failure of a part is one of the whole, and so of what equals it
-Fails-along : {X Y : Type 0} (e : SavedFault) (part : Result X SavedFault) (whole all : Result Y SavedFault)
-    → (part ≡ Err e → whole ≡ Err e) → whole ≡ all → Fails e part → Fails e all
-Fails-along faults.Memory part whole all so same fails = tt
-Fails-along e part whole all so same fails = sym same ∙ so fails
+refused-along : {X Y : Type 0} (e : SavedFault) (part : Result X SavedFault) (whole all : Result Y SavedFault)
+    → (part ≡ Err e → whole ≡ Err e) → whole ≡ all → Refuses part e → Refuses all e
+refused-along faults.Memory part whole all so same fails = tt
+refused-along e part whole all so same fails = sym same ∙ so fails
 
 -- ---- entries
 
@@ -44,12 +44,12 @@ entries_go_on version front count i left bytes e after all lt read so_far =
 -- an entry that fails
 pub entries_fail : (version : Version) (fault : SavedFault) (front : List Entry) (count i left : ℕ) (bytes : List ℕ)
     (all : Result (List Entry × List ℕ) SavedFault) → i < count
-    → Fails fault (entry_at version (last_key_of front) left bytes)
-    → with_front front (entries_at version (count - i) (last_key_of front) left bytes) ≡ all → Fails fault all
+    → Refuses (entry_at version (last_key_of front) left bytes) fault
+    → with_front front (entries_at version (count - i) (last_key_of front) left bytes) ≡ all → Refuses all fault
 unfolding entries_at
 entries_fail version fault front count i left bytes all lt fails so_far =
     let k : count - i ≡ suc (count - (i + 1)) = omega arith in
-    Fails-along fault (entry_at version (last_key_of front) left bytes) _ all (λ h. rw (k, h) refl) so_far fails
+    refused-along fault (entry_at version (last_key_of front) left bytes) _ all (λ h. rw (k, h) refl) so_far fails
 
 -- no entry is left
 pub entries_end : (version : Version) (front : List Entry) (count i left : ℕ) (bytes : List ℕ)
@@ -98,12 +98,12 @@ rows_stop front n width total (Err f) fault e = e
 -- a row that fails
 pub rows_fail : (fault : SavedFault) (front : List ℕ) (depth i width total : ℕ) (bytes : List ℕ)
     (all : Result (List ℕ × List ℕ) SavedFault) → i < depth
-    → Fails fault (with_front front (row_at width total bytes))
-    → with_front front (rows_at (depth - i) width total bytes) ≡ all → Fails fault all
+    → Refuses (with_front front (row_at width total bytes)) fault
+    → with_front front (rows_at (depth - i) width total bytes) ≡ all → Refuses all fault
 unfolding rows_at
 rows_fail fault front depth i width total bytes all lt fails so_far =
     let k : depth - i ≡ suc (depth - (i + 1)) = omega arith in
-    Fails-along fault (with_front front (row_at width total bytes)) _ all
+    refused-along fault (with_front front (row_at width total bytes)) _ all
     (λ h. rw k (rows_stop front (depth - (i + 1)) width total (row_at width total bytes) fault h)) so_far fails
 
 -- no row is left

@@ -1,5 +1,5 @@
 -- Reading from left to right, field by field, with the first fault that is met.
-use Rattle.std.specs.Prelude.{◌≡◌, ℕ, zero, suc, ◌+◌, ◌*◌, ◌-◌, ◌^◌, Bool, ◌&&◌, List, [], ◌∷◌, ◌++◌, length, take, drop, sum, Option, Result, Ok, Err, nat_lt, nat_le, slice_index_or, ◌==◌, if◌then◌else◌}
+use Rattle.std.specs.Prelude.{◌≡◌, ℕ, zero, suc, ◌+◌, ◌*◌, ◌-◌, ◌^◌, Bool, ◌&&◌, List, [], ◌∷◌, ◌++◌, length, take, drop, sum, Option, Result, Ok, Err, ⊤, nat_lt, nat_le, slice_index_or, ◌==◌, if◌then◌else◌}
 use Rattle.std.specs.List.{list_all}
 use Rattle.std.specs.Result.{result_err}
 use Rattle.std.specs.Int.{Width, w8, w16, w32, w64, byte_len, from_be_bytes}
@@ -22,15 +22,15 @@ abbrev pub ◌>>=◌ : {A B : Type 0} → Result A SavedFault → (A → Result 
 (Ok x) >>= f = f x
 (Err e) >>= f = Err e
 
--- a function that reads fails as reading does, unless memory ran out
-abbrev pub Fails : {Y : Type 0} → SavedFault → Result Y SavedFault → Type 0
-Fails faults.Memory read = Unit {0}
-Fails fault read = read ≡ Err fault
+-- a refusal is the one that is defined, unless memory ran out
+abbrev pub Refuses : {Y : Type 0} → Result Y SavedFault → SavedFault → Type 0
+Refuses defined faults.Memory = ⊤
+Refuses defined fault = defined ≡ Err fault
 
 -- what a function returned, seen by view, is what reading gives, unless memory ran out
 abbrev pub Gives : {X Y : Type 0} → (X → Y) → Result X SavedFault → Result Y SavedFault → Type 0
 Gives view (Ok x) read = read ≡ Ok (view x)
-Gives view (Err e) read = Fails e read
+Gives view (Err e) read = Refuses read e
 
 -- what a function that takes no memory returned, seen by view, is what reading gives
 abbrev pub Reads : {X Y : Type 0} → (X → Y) → Result X SavedFault → Result Y SavedFault → Type 0
@@ -39,7 +39,7 @@ Reads view (Err e) read = read ≡ Err e
 
 -- where reading the head fails, so did the function, with the same fault
 abbrev pub StopsAt : {X Y : Type 0} → Result X SavedFault → Result Y SavedFault → Type 0
-StopsAt result (Ok y) = Unit {0}
+StopsAt result (Ok y) = ⊤
 StopsAt result (Err e) = result ≡ Err e
 
 -- a number, and the bytes after it

@@ -1,6 +1,6 @@
 //! Keys: 1 to 4,096 bytes.
 
-ghost use Rattle.std.specs.Prelude.{◌≡◌, ◌<◌, ◌≤◌, ◌↔◌, ◌∷◌, [], ℕ, length, IsOk, IfOk, IsErrOf, EachIndex, slice_index, refl};
+ghost use Rattle.std.specs.Prelude.{◌≡◌, ◌<◌, ◌≤◌, ◌↔◌, ◌∷◌, [], length, IsOk, IfOk, IsErrOf, refl};
 ghost use Rattle.std.proofs.Common.{ap};
 ghost use Rattle.std.specs.FinMap.{nat_cmp-IsAntisymmetric, slice_cmp-IsAntisymmetric};
 ghost use Rattle.std.specs.Cmp.{partial_equiv_from_equiv, partial_order_from_total, eq_by_cmp_equiv, Equal-is};

@@ -109,8 +109,6 @@ impl Stream {
         ensures too_large { IsErrAnd result (λ refused. refused.fault ≡ PushFault.TotalTooLarge)
             ↔ ((0 < weight) × (max_total < total_of self.old + weight)) }
     {
-        // It tells that the bytes are a key's.
-        let _bytes = key.bytes();
         if weight == 0 {
             return Err(PushRefused {
                 key,
@@ -123,6 +121,23 @@ impl Stream {
                 fault: PushFault::TotalTooLarge,
             });
         }
+        self.push_within(key, weight).map_err(|key| PushRefused {
+            key,
+            fault: PushFault::Memory,
+        })
+    }
+
+    /// [`push`](Stream::push) of a weight that fits, where only memory can be refused. A refusal is
+    /// the key, handed back, and the stream is as it was.
+    pub fn push_within(&mut self, key: Key, weight: u64) -> Result<(), Key>
+        requires positive { 0 < weight }
+        requires room { total_of self.old + weight ≤ max_total }
+        ensures pushed { OnOk result (self.new ≡ self.old ++ (key, weight) ∷ []) }
+        ensures unchanged { OnErr result (self.new ≡ self.old) }
+        ensures handed_back { IfErr result (λ back. back ≡ key) }
+    {
+        // It tells that the bytes are a key's.
+        let _bytes = key.bytes();
         match self.items.push(Item { key, weight }) {
             Ok(()) => {
                 self.total += weight;
@@ -130,10 +145,7 @@ impl Stream {
             }
             Err(failed) => {
                 let Item { key, weight: _ } = failed.value;
-                Err(PushRefused {
-                    key,
-                    fault: PushFault::Memory,
-                })
+                Err(key)
             }
         }
     }

@@ -11,7 +11,7 @@ ghost use Rattle.heavy.specs.Report.{IsOptionFault, IsReported, Names, ReportRef
 use crate::error::{ToolError, TreeFault};
 use hh_counters::{Heavy, MAX_K};
 use hh_countmin::{Family, MAX_DEPTH, MAX_WIDTH};
-use hh_pool::{MAX_WORKERS, OpenGate, Options, OptionsFault, Plan, PlanFault, RunError, analyse};
+use hh_pool::{MAX_WORKERS, OpenGate, Options, Plan, PlanFault, RunError, analyse};
 use hh_records::{ReportFault, Share, Sink, read_stream, threshold_of, write_report};
 use hh_stream::{Cutting, MAX_PIECES, Stream, in_range};
 use std::alloc::{AllocError, Global};
@@ -124,11 +124,7 @@ fn settings_of(
     ensures { IfOk result (λ settings. settings ≡ settings_of options.now p q) }
 {
     let family = Family::of_seed(alloc, options.seed, options.depth)?;
-    match Options::new(options.k, p, q, options.workers, options.width, family) {
-        Ok(settings) => Ok(settings),
-        Err(OptionsFault::BadK | OptionsFault::BadWorkers) => unreachable!(),
-        Err(OptionsFault::BadWidth | OptionsFault::BadThreshold) => unreachable!(),
-    }
+    Ok(Options::within(options.k, p, q, options.workers, options.width, family))
 }
 
 /// The heavy keys of a stream that is cut evenly.

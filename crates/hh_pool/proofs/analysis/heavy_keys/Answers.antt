@@ -12,7 +12,7 @@ returns g c =
     let keys = c.in_ok-candidates.candidates in
     let asked = c.threshold-p.ensures in
     let filled = c.requires.table in
-    let enough = c.in_ok-candidates.ensures.enough stream c.requires.honest (rw (c.requires.same_k, asked.p, asked.q) asked.in_range.1)
+    let enough = c.in_ok-candidates.ensures.enough stream c.requires.honest (rw (c.requires.same_k, asked.p, asked.q) asked.enough)
     (filled ∙ (λ i. table_of (sym filled i).family (sym filled i).width stream)) in
     let report = (λ i. rows_above (asked.p i) (asked.q i) c.total.result (zip keys (c.deref.ensures.value i)))
     ∙ heavy_is stream c.args.options.now.p c.args.options.now.q c.total.result keys c.in_ok-weights.weights.items

@@ -17,8 +17,7 @@ merge_by-requires g c =
 pub unreachable-requires : goal.unreachable-requires
 unreachable-requires g c =
     let whole = c.pieces_make_the_whole.ensures.whole c.args.cutting.now c.args.stream.now c.requires.same_len in
-    let kind = c.in-Err-DifferentK.field-0-is in
-    let refused = c.in-Err-DifferentK.ensures.refused (λ memory. cc) in
+    let refused = rw c.in-Err-DifferentK.field-0-is at c.in-Err-DifferentK.ensures.refused in
     let total = c.total-total.ensures in
     no_refusal _ _ _ _ _ _ c.requires.plan whole (omega (arith, total.total, total.bounded))
     c.in_ok-summaries.ensures.summaries refused
@@ -26,8 +25,7 @@ unreachable-requires g c =
 pub unreachable-requires-in-Err-TotalTooLarge : goal.unreachable-requires-in-Err-TotalTooLarge
 unreachable-requires-in-Err-TotalTooLarge g c =
     let whole = c.pieces_make_the_whole.ensures.whole c.args.cutting.now c.args.stream.now c.requires.same_len in
-    let kind = c.in-Err-TotalTooLarge.field-0-is in
-    let refused = c.in-Err-TotalTooLarge.ensures.refused (λ memory. cc) in
+    let refused = rw c.in-Err-TotalTooLarge.field-0-is at c.in-Err-TotalTooLarge.ensures.refused in
     let total = c.total-total.ensures in
     no_refusal _ _ _ _ _ _ c.requires.plan whole (omega (arith, total.total, total.bounded))
     c.in_ok-summaries.ensures.summaries refused

@@ -1,11 +1,10 @@
 use Rattle.std.proofs.Common.{◌≡◌, ◌≤◌, ◌*◌, ◌∙◌, ℕ, length, map, refl, sym, ap, subst, arith}
 use Rattle.hh_stream.specs.Weights.{total_of, max_total}
 use Rattle.hh_stream.specs.Cuttings.{pieces_of}
-use Rattle.hh_counters.specs.Counters.{SummaryView, sketch_of}
+use Rattle.hh_counters.specs.Counters.{SummaryView}
 use Rattle.hh_shared.specs.Tally.{IsDistinctBelow, HasAllBelow}
-use Rattle.hh_pool.specs.Passes.{piece_of}
 use Rattle.hh_pool.proofs.Pieces.{all_pieces, distinct_pieces}
-use Rattle.hh_pool.proofs.Closed.{closed_cells, found_are, by_number, numbers_at}
+use Rattle.hh_pool.proofs.Closed.{closed_cells, found_are, numbers_at}
 use Rattle.hh_pool.proofs.analysis.summarise.Goals as goal
 
 pub table_of_cells-requires : goal.table_of_cells-requires
@@ -28,8 +27,8 @@ table_of_cells-requires g c =
     (omega (arith, closed.len, c.in_ok-cells.cells.ok))
     (λ cell inside. closed.sums cell (omega arith))
 
-pub returns-clause-summaries : goal.returns-clause-summaries
-returns-clause-summaries g c =
+pub in_order-requires : goal.in_order-requires
+in_order-requires g c =
     let lengths = c.args.cutting.now in
     let stream = c.args.stream.now in
     let pieces = pieces_of lengths stream in
@@ -40,7 +39,8 @@ returns-clause-summaries g c =
     let all = all_pieces lengths stream _ _ count (c.if-not-holds_all.ensures.all.0 refl) in
     let kept = c.in_ok-seat.ensures.all_done.summaries in
     let numbers = sym (ap (map (λ (it : ℕ × SummaryView). it.0)) kept ∙ numbers_at k pieces seat.claims) in
-    let found = found_are k pieces seat.claims c.in_ok-seat.found.items kept in
-    c.in_ok-summaries.ensures (λ i. sketch_of k (piece_of pieces i)) (length pieces) found
-    (subst (IsDistinctBelow (length pieces)) numbers distinct) (subst (HasAllBelow (length pieces)) numbers all)
-    ∙ by_number k pieces
+    record {
+      theirs = found_are k pieces seat.claims c.in_ok-seat.found.items kept;
+      distinct = subst (IsDistinctBelow (length pieces)) numbers distinct;
+      all = subst (HasAllBelow (length pieces)) numbers all;
+    }

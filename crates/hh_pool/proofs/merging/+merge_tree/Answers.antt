@@ -3,7 +3,7 @@ use Rattle.std.proofs.lemmas.List.{get_or_default}
 use Rattle.std.proofs.lemmas.Result.{err_from_is_err_and}
 use Rattle.hh_pool.specs.Plans.{shape}
 use Rattle.hh_pool.specs.Trees.{merge_result, no_sketch, tree_result}
-use Rattle.hh_pool.proofs.MergeFacts.{left-places, merges, node-result, piece-place, right-places}
+use Rattle.hh_pool.proofs.MergeFacts.{left-places, merges, node-refusal, node-result, piece-place, right-places}
 use Rattle.hh_pool.proofs.merging.+merge_tree.Goals as goal
 
 pub bounds-summaries-i : goal.bounds-summaries-i
@@ -61,7 +61,7 @@ returns-in_err-other-in-Node-clause-refused t c =
     let handed = c.from_residual-in_err-other-in-Node in
     let is = err_from_is_err_and handed.result handed.ensures.1 in
     let places = rw c.in-Node.is at c.requires.places in
-    rw (is.1, is.2, c.in-Node.is) (λ other. node-result (shape c.in-Node.left.value) (shape c.in-Node.right.value) _ _
+    rw (is.1, is.2, c.in-Node.is) (node-refusal (shape c.in-Node.left.value) (shape c.in-Node.right.value) _ _
     c.merge_tree.new.summaries _ _ places (rw c.deref.ensures at c.in_ok-merged-in-Node.ensures.others)
     (rw c.deref.ensures at c.in_ok-merged-in-Node.ensures.merged)
-    (rw c.deref-in-Node.ensures at (c.in_err-other-in-Node.ensures.refused other)))
+    (rw c.deref-in-Node.ensures at c.in_err-other-in-Node.ensures.refused))

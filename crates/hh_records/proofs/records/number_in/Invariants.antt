@@ -1,6 +1,6 @@
 use Rattle.std.proofs.Common.{◌≡◌, ◌<◌, ◌^◌, min, take, true}
 use Rattle.std.specs.List.{list_all}
-use Rattle.hh_records.specs.Streams.{is_digit, value_of}
+use Rattle.hh_stream.specs.Digits.{is_digit, value_of}
 use Rattle.hh_records.proofs.records.number_in.Given as goal
 
 abbrev pub invariant-loop-digit : goal.invariant-loop-digit

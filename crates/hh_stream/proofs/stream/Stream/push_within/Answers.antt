@@ -1,8 +1,8 @@
-use Rattle.std.proofs.Common.{arith}
+use Rattle.std.proofs.Common.{ap, arith}
 use Rattle.std.proofs.lemmas.List.Sums.{sum_by_push}
-use Rattle.hh_stream.specs.Weights.{Entry}
+use Rattle.hh_stream.specs.Weights.{Entry, total_of}
 use Rattle.hh_stream.proofs.ItemFacts.{items-push}
-use Rattle.hh_stream.proofs.stream.Stream.push.Goals as goal
+use Rattle.hh_stream.proofs.stream.Stream.push_within.Goals as goal
 
 pub invariant_of-self : goal.invariant_of-self
 invariant_of-self c =
@@ -10,6 +10,6 @@ invariant_of-self c =
     let item : Entry = (c.args.key, c.args.weight) in
     rw c.in-Ok.ensures.items (
       omega (arith, sum_by_push (λ (e : Entry). e.1) items item),
-      omega arith,
+      omega (arith, ap total_of c.self.view_is),
       items-push items item c.self.invariant.2 c.bytes-bytes.ensures.key (omega arith),
     )
