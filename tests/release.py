@@ -91,7 +91,7 @@ class Copy:
     """What a release is made of, in a folder of its own, and the stand-ins on the path."""
 
     def __init__(self, room: str) -> None:
-        self.top, tools, kit = Path(room, "clone"), Path(room, "tools"), Path(room, "kit")
+        self.top, tools, kit, share = (Path(room, name) for name in ("clone", "tools", "kit", "share"))
         for folder in ("bin", "completions", "include", "man", "packaging", "python"):
             shutil.copytree(programs.TOP / folder, self.top / folder)
         for file in ("CHANGELOG.md", "LICENSE-APACHE", "LICENSE-MIT", "README.md", "crates.txt", "docs/FORMATS.md",
@@ -116,6 +116,9 @@ class Copy:
         for folder, file in (("c", "libos_c.a"), ("c", "liblibc_c.a"), ("bin", "rattle-link")):
             (kit / folder).mkdir(exist_ok=True)
             (kit / folder / file).write_text("")
+        for file in ("doc/libc6-dev/copyright", "common-licenses/LGPL-2.1", "doc/libgcc-12-dev/copyright"):
+            (share / file).parent.mkdir(parents=True)
+            (share / file).write_text("a licence\n")
         tools.mkdir()
         for name, text in STAND_INS.items():
             place = kit / "bin" / name if name == "rattle-link" else tools / name
@@ -130,7 +133,7 @@ class Copy:
             (self.top / "crates" / "heavy_ffi" / "out" / name).write_bytes(b"archive")
         self.env = {
             "PATH": f"{tools}:{os.environ['PATH']}", "KIT": str(kit), "PYTHON": str(tools / "python"), "CHANGES": "",
-            "TAG": f"v{VERSION}", "LINTIAN": "0", "LINKED": str(self.built),
+            "TAG": f"v{VERSION}", "LINTIAN": "0", "LINKED": str(self.built), "SHARE": str(share),
         }
 
     def release(self, *words: str, **env: str) -> programs.Ended:
@@ -154,9 +157,9 @@ def try_tarball(checks: programs.Checks, file: Path, room: str) -> None:
     others = {"LICENSE-APACHE", "LICENSE-MIT", "README", "README.md", "docs/FORMATS.md", "install", "uninstall"}
     checks.check("the tarball has the program", PROGRAM | others <= files, files)
     licences = {name for name in files if name.startswith("share/doc/heavy/licences/")}
-    wanted = {"clap/LICENSE-MIT", "below/LICENSE-MIT"}
-    checks.check("and the licences of what is linked in", {f"share/doc/heavy/licences/{it}" for it in wanted} <= licences
-                and not any("other" in it for it in licences), licences)
+    wanted = {"clap/LICENSE-MIT", "below/LICENSE-MIT", "libc/LGPL-2.1", "libc/copyright", "libgcc/copyright"}
+    right = {f"share/doc/heavy/licences/{it}" for it in wanted} <= licences and not any("other" in it for it in licences)
+    checks.check("and the licences of what is linked in", right, licences)
     same = {(member.uid, member.gid, member.mtime) for member in members.values()} == {(0, 0, SECONDS)}
     checks.check("nothing of the machine is in it", same, members)
     with tarfile.open(file) as tar:
