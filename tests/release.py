@@ -414,6 +414,8 @@ def link_hooked(program: str, source: str, room: str) -> programs.Ended:
 
 
 class Release(programs.Checks):
+    """A release, and what installs and removes what is in it."""
+
     def test_release(self) -> None:
         try_release(self, f"{self.room}/release")
 
