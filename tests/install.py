@@ -381,6 +381,8 @@ class Install(programs.Checks):
         (copy.kit / "c").mkdir()
         (copy.kit / "c" / "liblibc_c.a").touch()
         (copy.kit / "calls.a").touch()
+        (copy.kit / "c").mkdir()
+        (copy.kit / "c" / "liblibc_c.a").touch()
         scripts = "".join(f". {copy.top}/bin/{name}.bash; " for name in ("build", "library"))
         crates = copy.top / "crates"
         listed = programs.run(["bash", "-c", f"{scripts} crates_of heavy_ffi"], env=copy.environment())
