@@ -1,5 +1,5 @@
 -- What a call leaves that gives its answer in a room.
-use Rattle.std.specs.Prelude.{◌≡◌, ◌≢◌, ◌<◌, ◌≤◌, not, ℕ, List, [], ◌∷◌, length, map, take, Option, Some, Result, Ok, Err, IsOkAnd, if◌then◌else◌}
+use Rattle.std.specs.Prelude.{◌≡◌, ◌≢◌, ◌<◌, ◌≤◌, not, ℕ, List, [], ◌∷◌, length, map, take, slice_index_or, Option, Some, Result, Ok, Err, IsOkAnd, if◌then◌else◌}
 use Rattle.std.specs.Global.{Vec}
 use Rattle.hh_saved.specs.Reading.{head_at}
 use Rattle.hh_saved.specs.declared.fault.SavedFault.{SavedFault}
@@ -37,6 +37,14 @@ pub record IsOutcome {X : Type 0} (P : List X → Type 0) (Q : ToolError → Typ
   pub refused : status ≢ 0 → status ≢ 5 → IsRefused Q status fault
   pub unchanged : status ≢ 0 → new ≡ old
   pub no_fault : TellsNone status fault
+
+-- where a file fails at its head, this is the refusal
+abbrev pub TellsFault : List ℕ → ToolError → Type 0
+TellsFault file refusal = (f : SavedFault) → head_at file ≡ Err f → refusal ≡ file_fault 1 f
+
+-- the first of the files, or no bytes where there is none
+abbrev pub first_of : List (List ℕ) → List ℕ
+first_of files = slice_index_or files 0 []
 
 -- where a file fails at its head, the call tells so, whatever the memory
 abbrev pub TellsHead : List ℕ → ℕ → Fault → Type 0

@@ -24,13 +24,13 @@ ghost use Rattle.heavy.specs.Ask.{answer, answers_of};
 ghost use Rattle.heavy.specs.Condense.{CondenseRefused, CondensesRows};
 ghost use Rattle.heavy.specs.Confirm.{ConfirmRefused, ConfirmsRows};
 ghost use Rattle.heavy.specs.Entries.{ListsEntries};
-ghost use Rattle.heavy.specs.Files.{Refuses, SummaryRefused};
+ghost use Rattle.heavy.specs.Files.{Refuses, StopsAtHead, SummaryRefused, file_of};
 ghost use Rattle.heavy.specs.Merge.{merged_files};
 ghost use Rattle.heavy.specs.Records.{RefusedAfter, SavesStream};
 ghost use Rattle.heavy.specs.Table.{bad_table};
 ghost use Rattle.heavy_ffi.specs.Faults.{no_fault};
 ghost use Rattle.heavy_ffi.specs.Outcomes.{AreAnswers, IsAnswer, IsMergeOf, IsOutcome};
-ghost use Rattle.heavy_ffi.specs.Outcomes.{TellsHead, bad_summary, both_of};
+ghost use Rattle.heavy_ffi.specs.Outcomes.{TellsFault, TellsHead, bad_summary, both_of, first_of};
 
 pub use fault::Fault;
 use fault::tell;
@@ -40,6 +40,7 @@ use heavy::{
 };
 use hh_countmin::laws::drawn_families_are_families;
 use hh_saved::laws::sizes_are_bounded;
+use hh_saved::{SavedFault, read};
 use parts::files_of;
 pub use room::Bounds;
 use room::{DONE, all_bounds, answer};
@@ -113,15 +114,30 @@ pub extern "C" fn heavy_table(
     answer(bytes, out, needed, fault)
 }
 
+/// Why a file is refused, where memory ran out before it was read: what it fails at, if it fails
+/// before any memory is taken.
+fn refusal_of(alloc: Global, file: &[u8]) -> ToolError
+    ensures refused { Refuses (file_of 1 file.now) result }
+    ensures early { TellsFault file.now result }
+{
+    match read(alloc, file) {
+        Ok(_) | Err(SavedFault::Memory) => ToolError::Memory,
+        Err(fault) => ToolError::BadFile { number: 1, fault },
+    }
+}
+
 /// The files with these lengths, merged.
 fn merge_parts(alloc: Global, files: &[u8], lengths: &[usize]) -> Result<Vec<u8>, ToolError>
     requires { 0 < length lengths.now }
     ensures merged { IfOk result (λ bytes.
         IsMergeOf (pieces_of lengths.now files.now) bytes.items) }
     ensures refused { IfErr result (Refuses (merged_files (pieces_of lengths.now files.now))) }
+    ensures early { StopsAtHead 1 (first_of (pieces_of lengths.now files.now)) result }
 {
-    let files = files_of(alloc, files, lengths)?;
-    merge_bytes(alloc, &files)
+    match files_of(alloc, files, lengths) {
+        Ok(files) => merge_bytes(alloc, &files),
+        Err(_) => Err(refusal_of(alloc, &files[..lengths[0].min(files.len())])),
+    }
 }
 
 /// Gives the merge of saved files, which lie one after the other and have these lengths, with the
@@ -140,6 +156,8 @@ pub extern "C" fn heavy_merge(
         (IsMergeOf (pieces_of lengths.now files.now))
         (Refuses (merged_files (pieces_of lengths.now files.now)))
         result out.old out.new needed.new fault.new }
+    ensures early { 0 < length lengths.now
+        → TellsHead (first_of (pieces_of lengths.now files.now)) result fault.new }
     ensures no_files { lengths.now ≡ []
         → (result ≡ 2) × (fault.new ≡ no_fault) × (out.new ≡ out.old) }
     ensures no_bytes { result ≢ 0 → result ≢ 5 → needed.new ≡ 0 }
@@ -240,8 +258,12 @@ fn bounds_of(
         (pieces_of lengths.now keys.now) (map both_of all.items)) }
     ensures refused { IfErr result
         (Refuses (answers_of file.now (pieces_of lengths.now keys.now))) }
+    ensures early { StopsAtHead 1 file.now result }
 {
-    let keys = files_of(alloc, keys, lengths)?;
+    let keys = match files_of(alloc, keys, lengths) {
+        Ok(keys) => keys,
+        Err(_) => return Err(refusal_of(alloc, file)),
+    };
     let pairs = ask_keys(alloc, file, &keys)?;
     Ok(all_bounds(alloc, &pairs)?)
 }
@@ -262,6 +284,7 @@ pub extern "C" fn heavy_ask_keys(
         (λ all. AreAnswers file.now (pieces_of lengths.now keys.now) (map both_of all))
         (Refuses (answers_of file.now (pieces_of lengths.now keys.now)))
         result out.old out.new needed.new fault.new }
+    ensures early { TellsHead file.now result fault.new }
     ensures no_bounds { result ≢ 0 → result ≢ 5 → needed.new ≡ 0 }
 {
     let bounds = bounds_of(alloc, file, keys, lengths);
