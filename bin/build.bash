@@ -1,6 +1,6 @@
 # What bin/heavy, bin/install and bin/install-library share: `build_heavy` builds the program `heavy`, at "$built",
 # where its sources are newer than what was built, and tells on standard error how far it is. Crates of which none
-# stands on another are proved side by side. A build that is interrupted ends its provers. `put` installs a file.
+# stands on another are proved side by side. A build that is interrupted ends its provers.
 # shellcheck shell=bash
 top=$(cd "$(dirname "$(readlink -f "${BASH_SOURCE[0]}")")/.." && pwd)
 program="$top/crates/heavy_cli"
@@ -37,14 +37,11 @@ is_stale() {
     \( -name '*.rt' -o -name '*.antt' -o -name crates.txt \) -print -quit)" ]
 }
 
-# Installs a file with this mode at a place below "$prefix", which the caller sets, and tells it.
-# shellcheck disable=SC2154
-put() {
-  mkdir -p "$(dirname "$prefix/$3")"
-  cp "$2" "$prefix/$3.new"
-  chmod "$1" "$prefix/$3.new"
-  mv "$prefix/$3.new" "$prefix/$3"
-  printf '%s\n' "$prefix/$3"
+# The version, which stands in the program's sources alone.
+version_of_program() {
+  local version
+  version=$(sed -n 's/^const VERSION: &str = "\(.*\)";$/\1/p' "$top/crates/heavy_cli/src/arguments.rt")
+  printf '%s\n' "${version:?the program has no version}"
 }
 
 minutes_and_seconds() { printf '%d:%02d min' $(($1 / 60)) $(($1 % 60)); }

@@ -1,12 +1,17 @@
-# What bin/install and bin/install-library share, over bin/build.bash: `build_library` builds the library for C where
-# its sources are newer than what was built, and `put_library PREFIX` installs it below "$prefix", for that PREFIX. CC
-# and AR may name the compiler and ar.
+# What bin/install, bin/install-library, bin/wheel and bin/release share, over bin/build.bash: `build_library` builds
+# the library for C where its sources are newer than what was built, and `make_library FOLDER PREFIX` makes there what
+# is installed below that PREFIX. CC and AR may name the compiler and ar.
 # shellcheck shell=bash disable=SC2154
 library="$top/crates/heavy_ffi"
 archive="$library/out/libheavy_ffi.a"
+# the toolchain's own few functions of C that the library calls, kept so that an installation needs no toolchain
+functions="$library/out/liblibc_c.a"
 
 # Whether there is what the libraries are made with: a C compiler and ar.
 has_compiler() { command -v "${CC:-cc}" > /dev/null && command -v "${AR:-ar}" > /dev/null; }
+
+# Whether there is what proves and builds.
+has_toolchain() { command -v rt > /dev/null; }
 
 # The folder of the toolchain.
 toolchain() { dirname "$(rt doc | awk 'END { print $NF }')"; }
@@ -50,13 +55,26 @@ build_archive() {
   fi
 }
 
+# Whether the library is there, as its sources are.
+is_library_built() {
+  local crates
+  mapfile -t crates < <(crates_of heavy_ffi)
+  ! is_stale "$archive" "${crates[@]}" && [ -f "$functions" ]
+}
+
 build_library() {
   local crates
   mapfile -t crates < <(crates_of heavy_ffi)
-  is_stale "$archive" "${crates[@]}" || return 0
-  command -v rt > /dev/null || { tell "the toolchain's command, rt, is not on the path"; return 1; }
+  ! is_library_built || return 0
+  has_toolchain || { tell "the toolchain's command, rt, is not on the path"; return 1; }
+  if is_stale "$archive" "${crates[@]}"; then prove_and_build "${crates[@]}" || return 1; fi
+  cp "$(toolchain)/c/liblibc_c.a" "$functions"
+}
+
+# Proves the library over these crates and builds it.
+prove_and_build() {
   tell "proving and building the library for C; $library/build.log has its lines"
-  if ! build_archive "${crates[@]}" > "$library/build.log" 2>&1 < /dev/null || [ ! -f "$archive" ]; then
+  if ! build_archive "$@" > "$library/build.log" 2>&1 < /dev/null || [ ! -f "$archive" ]; then
     tell "the build of the library failed; the last lines of $library/build.log:"
     tail -n 20 "$library/build.log" >&2
     return 1
@@ -69,45 +87,32 @@ calls_of_library() { sed -n 's/^uint32_t \(heavy_[a-z_]*\)(.*/\1/p' "$top/includ
 
 # The static library in this folder, with the toolchain's own few functions of C.
 make_static() {
-  local kit
-  kit=$(toolchain)
   cp "$archive" "$1/libheavy.a"
   chmod u+w "$1/libheavy.a"
-  (cd "$1" && "${AR:-ar}" x "$kit/c/liblibc_c.a" && "${AR:-ar}" rs libheavy.a ./*.o 2> /dev/null)
+  (cd "$1" && "${AR:-ar}" x "$functions" && "${AR:-ar}" rs libheavy.a ./*.o 2> /dev/null)
 }
 
 # The shared library beside it, which shows the calls of the header and nothing else.
 make_shared() {
   { echo 'HEAVY_1 { global:'; calls_of_library | sed 's/$/;/'; echo 'local: *; };'; } > "$1/heavy.map"
   "${CC:-cc}" -shared -o "$1/libheavy.so.1" -Wl,-soname,libheavy.so.1 "-Wl,--version-script=$1/heavy.map" \
-    -Wl,--whole-archive "$1/libheavy.a" -Wl,--no-whole-archive -Wl,--gc-sections -Wl,-z,defs -s
+    -Wl,--whole-archive "$1/libheavy.a" -Wl,--no-whole-archive -Wl,--gc-sections -Wl,-z,defs,-z,relro,-z,now -s
 }
 
-# What pkg-config tells, with the program's version.
+# What pkg-config tells, with the program's version, for a prefix and the folder of libraries in it, lib if not given.
 make_description() {
-  local version
-  version=$(sed -n 's/^const VERSION: &str = "\(.*\)";$/\1/p' "$top/crates/heavy_cli/src/arguments.rt")
   cat > "$1/heavy.pc" << END
 prefix=$2
 includedir=\${prefix}/include
-libdir=\${prefix}/lib
+libdir=\${prefix}/${3:-lib}
 
 Name: heavy
 Description: Proved summaries of the heavy keys of weighted records
-Version: ${version:?}
+Version: $(version_of_program)
 Cflags: -I\${includedir}
 Libs: -L\${libdir} -lheavy
 END
 }
 
-put_library() (
-  room=$(mktemp -d)
-  trap 'rm -rf "$room"' EXIT
-  make_static "$room" && make_shared "$room" && make_description "$room" "${1%/}" || return 1
-  put 644 "$top/include/heavy.h" include/heavy.h
-  put 644 "$room/libheavy.a" lib/libheavy.a
-  put 755 "$room/libheavy.so.1" lib/libheavy.so.1
-  ln -sf libheavy.so.1 "$prefix/lib/libheavy.so"
-  printf '%s\n' "$prefix/lib/libheavy.so"
-  put 644 "$room/heavy.pc" lib/pkgconfig/heavy.pc
-)
+# What is installed of the library, in this folder, for that prefix.
+make_library() { make_static "$1" && make_shared "$1" && make_description "$1" "$2"; }

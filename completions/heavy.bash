@@ -1,7 +1,7 @@
 # bash completion of heavy; installed as share/bash-completion/completions/heavy
 _heavy() {
   local cur=${COMP_WORDS[COMP_CWORD]} prev=${COMP_WORDS[COMP_CWORD-1]} options=
-  local commands='report summarise table merge ask condense confirm help'
+  local commands='report summarise table merge ask list describe condense confirm help'
   COMPREPLY=()
   if ((COMP_CWORD == 1)); then
     mapfile -t COMPREPLY < <(compgen -W "$commands -h --help -V --version" -- "$cur")
@@ -16,7 +16,8 @@ _heavy() {
     report) options='--k --threshold --workers --pieces --tree --width --depth --seed --progress' ;;
     summarise) options='--k --method --progress' ;;
     table) options='--width --depth --seed --progress' ;;
-    condense | confirm) options='--progress' ;;
+    condense) options='--progress' ;;
+    confirm) options='--threshold --progress' ;;
     help) mapfile -t COMPREPLY < <(compgen -W "$commands" -- "$cur"); return ;;
   esac
   case $cur in

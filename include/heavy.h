@@ -37,6 +37,9 @@ extern "C" {
 /* The number of this interface, as heavy_version() tells it. It grows where a call changes. */
 #define HEAVY_VERSION 1u
 
+/* The version of the program that this header came with. */
+#define HEAVY_RELEASE "1.0.0"
+
 /* Statuses. */
 #define HEAVY_DONE 0u
 #define HEAVY_DEVICE 1u

@@ -18,6 +18,8 @@ MANY = b"".join(b"k%d,%d\n" % (i, i) for i in range(1, 151))
 # two keys above a hundred-and-first part of the total, one of them above a third
 SKEWED = b"big,600\nmiddle,50\n" + b"".join(b"s%d,2\n" % i for i in range(150))
 
+COMMANDS = ["report", "summarise", "table", "merge", "ask", "list", "describe", "condense", "confirm"]
+
 # in a command's help: an option with a number, its range and its default
 RANGE = re.compile(rb"(--[a-z]+) <N>\n +.* from (\d+) to (\d+) \[default: (\d+)\]\n")
 
@@ -331,13 +333,13 @@ class CommandLine(programs.Checks):
         for words in wrong:
             status, out, err = self.heavy(words)
             self.check(f"usage: {words}", (status, out) == (2, b"") and err != b"", (status, out, err))
-        for words in ([], ["report"], ["summarise"], ["table"], ["merge"], ["ask"], ["condense"], ["confirm"]):
+        for words in ([], *([name] for name in COMMANDS)):
             status, out, err = self.heavy([*words, "--help"])
             self.check(f"help: {words}", (status, err) == (0, b"") and b"Usage: heavy" in out, (status, err))
 
     def test_help(self) -> None:
         """What help tells: statuses and an example everywhere, ranges and defaults as they are, and the version."""
-        for words in ([], ["report"], ["summarise"], ["table"], ["merge"], ["ask"], ["condense"], ["confirm"]):
+        for words in ([], *([name] for name in COMMANDS)):
             out = self.heavy([*words, "--help"])[1]
             tells = all(text in out for text in (b"Exit status: 0 ", b"\nExample:\n    $ "))
             tells = tells and all(b"%d " % status in out.split(b"Exit status:")[1] for status in range(5))

@@ -31,7 +31,7 @@ DRIFTS = [
     (MAN, '"heavy ', '"heavy 0.'),
     (MAN, ".TP\n.B heavy ask\n", ".TP\n.B heavy tell\n"),
     (BASH, "--workers --pieces", "--pieces"),
-    (BASH, "merge ask condense confirm", "merge ask condense"),
+    (BASH, "merge ask list describe condense", "merge ask describe condense"),
     (BASH, "-h --help -V --version", "-h --help"),
     (BASH, "'balanced chain'", "'balanced'"),
     (ZSH, "'merge:", "'join:"),

@@ -378,6 +378,8 @@ class Install(programs.Checks):
         (copy.kit / "bin").mkdir(parents=True)
         (copy.kit / "bin" / "rattle").write_text(COMPILER)
         (copy.kit / "bin" / "rattle").chmod(0o755)
+        (copy.kit / "c").mkdir()
+        (copy.kit / "c" / "liblibc_c.a").touch()
         (copy.kit / "calls.a").touch()
         scripts = "".join(f". {copy.top}/bin/{name}.bash; " for name in ("build", "library"))
         crates = copy.top / "crates"

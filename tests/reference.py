@@ -342,14 +342,36 @@ def merge(files: list[bytes]) -> bytes:
     return written(merged)
 
 
-def confirm(data: bytes, text: bytes) -> bytes:
+def list_keys(data: bytes) -> bytes:
     saved = read_file(data)
     if not isinstance(saved, Summary):
         raise Refused("file 1: not a counter summary")
+    ranked = sorted(saved.counters.items(), key=lambda entry: (-entry[1], entry[0]))
+    return b"".join(row_text(key, low, low + saved.slack()) for key, low in ranked)
+
+
+def describe(data: bytes) -> bytes:
+    saved = read_file(data)
+    facts: list[tuple[bytes, bytes | int]] = [(b"version", int(data[3:4])), (b"kind", b"table")]
+    if isinstance(saved, Summary):
+        sum_of_counters = sum(saved.counters.values())
+        facts[1] = (b"kind", b"summary")
+        facts += [(b"k", saved.k), (b"keys", len(saved.counters)), (b"total", saved.total)]
+        facts += [(b"counters", sum_of_counters), (b"slack", (saved.total - sum_of_counters) // (saved.k + 1))]
+    else:
+        facts += [(b"depth", len(saved.rows)), (b"width", saved.width), (b"total", saved.total)]
+    return b"".join(row_text(*fact) for fact in facts)
+
+
+def confirm(data: bytes, text: bytes, share: bytes | None = None) -> bytes:
+    saved = read_file(data)
+    if not isinstance(saved, Summary):
+        raise Refused("file 1: not a counter summary")
+    p, q = (1, saved.k + 1) if share is None else share_of(share, saved.k)
     items = items_of(text)
     if total_of(items) != saved.total:
         raise Refused("file 1: its total is not the input's")
-    return rows_text([row for row in heavy(items, 1, saved.k + 1) if row[0] in saved.counters])
+    return rows_text([row for row in heavy(items, p, q) if row[0] in saved.counters])
 
 
 def leading_row(key: bytes, weight: int) -> bytes:

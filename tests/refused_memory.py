@@ -129,6 +129,46 @@ def is_lawful_run(ample: programs.Ended, ended: programs.Ended) -> bool:
     return same(ample, ended) or (ended.status, ended.out) == (4, b"") and ended.err in memory
 
 
+def refuse_commands(refusing: Refusing, program: str, room: str) -> list[list[str]]:
+    """Runs all commands of a program with each request for memory refused in turn, from the first one of the process on,
+    and gives their words."""
+    saved, table = f"{room}/summary", f"{room}/table"
+    Path(saved).write_bytes(programs.run([program, "summarise", "--k", "2"], RECORDS).out)
+    Path(table).write_bytes(programs.run([program, "table", "--depth", "2", "--width", "4"], RECORDS).out)
+    rows = [
+        (["report", "--k", "2"], RECORDS),
+        (["report", "--k", "2", "--workers", "2", "--tree", "((0 1) (2 3))"], LONG_RECORDS),
+        (["report", "--k", "0"], RECORDS),
+        (["report", "--k", "2"], b"a,0\n"),
+        (["summarise", "--k", "2"], LONG_RECORDS),
+        (["summarise", "--k", "2", "--method", "ss"], LONG_RECORDS),
+        (["summarise", "--method", "no"], RECORDS),
+        (["table", "--depth", "2", "--width", "4"], LONG_RECORDS),
+        (["report", "--k", "2", "--progress"], RECORDS),
+        (["summarise", "--k", "2", "--progress"], RECORDS),
+        (["merge", saved, saved], b""),
+        (["merge", table, table], b""),
+        (["merge", saved, table], b""),
+        (["merge", f"{room}/none"], b""),
+        (["ask", saved, "a", "z" * 40], b""),
+        (["list", saved], b""),
+        (["describe", saved], b""),
+        (["describe", table], b""),
+        (["condense", saved], RECORDS),
+        (["confirm", saved], RECORDS),
+        (["confirm", "--threshold", "1/2", saved], RECORDS),
+        (["--help"], b""),
+        (["--version"], b""),
+        (["report", "--help"], b""),
+        (["report", "--nothing"], b""),
+        (["ask", saved], b""),
+        ([], b""),
+    ]
+    with ThreadPoolExecutor() as pool:
+        list(pool.map(lambda row: refusing.in_turn([program, *row[0]], row[1], {}, is_lawful_run), rows))
+    return [words for words, _ in rows]
+
+
 class RefusedMemory(programs.Checks):
     """Calls and command lines, with each request for memory refused in turn."""
 
@@ -193,37 +233,7 @@ class RefusedMemory(programs.Checks):
 
     def test_commands(self) -> None:
         """All commands, from the first request of the process on."""
-        saved, table = f"{self.room}/summary", f"{self.room}/table"
-        Path(saved).write_bytes(programs.run([self.program, "summarise", "--k", "2"], RECORDS).out)
-        Path(table).write_bytes(programs.run([self.program, "table", "--depth", "2", "--width", "4"], RECORDS).out)
-        rows = [
-            (["report", "--k", "2"], RECORDS),
-            (["report", "--k", "2", "--workers", "2", "--tree", "((0 1) (2 3))"], LONG_RECORDS),
-            (["report", "--k", "0"], RECORDS),
-            (["report", "--k", "2"], b"a,0\n"),
-            (["summarise", "--k", "2"], LONG_RECORDS),
-            (["summarise", "--k", "2", "--method", "ss"], LONG_RECORDS),
-            (["summarise", "--method", "no"], RECORDS),
-            (["table", "--depth", "2", "--width", "4"], LONG_RECORDS),
-            (["report", "--k", "2", "--progress"], RECORDS),
-            (["summarise", "--k", "2", "--progress"], RECORDS),
-            (["merge", saved, saved], b""),
-            (["merge", table, table], b""),
-            (["merge", saved, table], b""),
-            (["merge", f"{self.room}/none"], b""),
-            (["ask", saved, "a", "z" * 40], b""),
-            (["condense", saved], RECORDS),
-            (["confirm", saved], RECORDS),
-            (["--help"], b""),
-            (["--version"], b""),
-            (["report", "--help"], b""),
-            (["report", "--nothing"], b""),
-            (["ask", saved], b""),
-            ([], b""),
-        ]
-        with ThreadPoolExecutor() as pool:
-            list(pool.map(lambda row: self.refusing.in_turn([self.program, *row[0]], row[1], {}, is_lawful_run), rows))
-        self.check_all(words for words, _ in rows)
+        self.check_all(refuse_commands(self.refusing, self.program, self.room))
 
 
 if __name__ == "__main__":

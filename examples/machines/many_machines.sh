@@ -4,6 +4,7 @@
 #
 # usage: many_machines.sh K HOST:PATH...
 set -eu
+[ $# -ge 2 ] || { echo "usage: many_machines.sh K HOST:PATH..." >&2; exit 2; }
 k=$1
 shift
 room=$(mktemp -d)

@@ -6,6 +6,7 @@
 #
 # parallel cuts at line feeds, so no field of FILE may hold one.
 set -eu
+[ $# -eq 2 ] || { echo "usage: one_file.sh K FILE" >&2; exit 2; }
 k=$1
 file=$2
 # of an empty file parallel makes no part

@@ -74,9 +74,9 @@ merges_hold_trees law ss f fs saved version file ((u, made, read), holds) all sp
 
 -- by the law of trees the summary has the total and the counters of the whole, and so confirms the parts
 pub held_trees_report : TreesMergeSummaries → CondensedPartsSuffice → PartsReportByAnyTree → HeldTreesReport
-held_trees_report law suffice report k parts t file s xs ys (u, made, read) tree held whole perm =
+held_trees_report law suffice report k parts t file s xs ys p q (u, made, read) tree held whole perm share =
     let one : Counters u ≡ Counters s = cc (sym read ∙ held) in
     let is = law t k parts s tree (made ∙ ap Ok (cc one)) in (
       is.total ∙ sym (suffice s.counters parts ys perm).0,
-      rw is.same_k (report t parts s.counters xs ys k tree is.counters whole perm),
+      report t parts s.counters xs ys k p q tree is.counters whole perm share,
     )

@@ -19,11 +19,13 @@ answer_of (Counters s) x =
     (weight_of x s.counters, weight_of x s.counters + slack s.counters s.total s.k)
 answer_of (Cells t) x = (0, estimate_in t x)
 
--- the text of one row: the key and the two numbers as csv's default writer writes them, and a line
--- feed
+-- the text of one row: a key and the two numbers as csv's default writer writes them, and a line feed
+abbrev pub bounds_row : Bytes → ℕ × ℕ → List ℕ
+bounds_row x bounds = row_text default_writer (x ∷ decimal bounds.0 ∷ decimal bounds.1 ∷ [])
+
+-- the row of a key that is asked
 abbrev pub answer_row : Saved → Bytes → List ℕ
-answer_row v x =
-    row_text default_writer (x ∷ decimal (answer_of v x).0 ∷ decimal (answer_of v x).1 ∷ [])
+answer_row v x = bounds_row x (answer_of v x)
 
 abbrev pub answer_rows : Saved → List Bytes → List ℕ
 answer_rows v keys = flat_map (answer_row v) keys

@@ -1,10 +1,12 @@
 -- A summary, confirmed by the records that it is of.
-use Rattle.std.specs.Prelude.{◌≡◌, ◌≢◌, ◌+◌, ℕ, List, filter, Option, Ok}
+use Rattle.std.specs.Prelude.{◌≡◌, ◌≢◌, ◌+◌, ℕ, List, filter, Option, Some, None, Ok}
 use Rattle.hh_stream.specs.Weights.{Entry, total_of}
 use Rattle.hh_counters.specs.Counters.{SummaryView}
 use Rattle.hh_counters.specs.Report.{has_counter, heavy}
 use Rattle.hh_records.specs.Rows.{rows_of}
 use Rattle.hh_records.specs.Streams.{ReadsAs}
+use Rattle.hh_records.specs.Thresholds.{threshold_of}
+use Rattle.hh_records.specs.declared.threshold.Share.{Share}
 use Rattle.heavy.specs.Files.{HoldsSummary, RefusedFrom}
 use Rattle.heavy.specs.Records.{RecordsRefused}
 use Rattle.heavy.specs.declared.commands.confirm.ConfirmFault.{ConfirmFault}
@@ -12,9 +14,13 @@ use Rattle.heavy.specs.declared.commands.confirm.ConfirmFault.TheVariants as con
 use Rattle.heavy.specs.declared.error.ToolError.{ToolError}
 use Rattle.heavy.specs.declared.error.ToolError.TheVariants as tool
 
--- the heavy keys of xs that have a counter in the summary
+-- the keys of xs above p/q of its total that have a counter in the summary
+abbrev pub confirmed_above : ℕ → ℕ → SummaryView → List Entry → List Entry
+confirmed_above p q s xs = filter (has_counter s.counters) (heavy xs p q)
+
+-- those above the least share for which the summary has counters enough
 abbrev pub confirmed_rows : SummaryView → List Entry → List Entry
-confirmed_rows s xs = filter (has_counter s.counters) (heavy xs 1 (s.k + 1))
+confirmed_rows s xs = confirmed_above 1 (s.k + 1) s xs
 
 -- the fault of a command whose summary was not confirmed
 abbrev pub confirm_fault : ConfirmFault → ToolError
@@ -36,3 +42,21 @@ CountRefused s left e = RecordsRefused left e
 -- what a refusal to confirm tells: of the file, of its kind, of the records, and of the totals
 abbrev pub ConfirmRefused : List ℕ → Option (List ℕ) → ToolError → Type 0
 ConfirmRefused file left e = RefusedFrom file (λ s. CountRefused s left) e
+
+-- the same above a share of one's own, which has to be a threshold for the summary's k
+abbrev pub ConfirmsAbove : Share → List ℕ → Option (List ℕ) → List ℕ → Type 0
+ConfirmsAbove share file left rows =
+    (s : SummaryView) × (p : ℕ) × (q : ℕ) × (xs : List Entry) × HoldsSummary file s
+    × (threshold_of s.k share ≡ Some (p, q)) × ReadsAs left (Ok xs)
+    × (s.total ≡ total_of xs) × (rows ≡ rows_of (confirmed_above p q s xs))
+
+-- what a refusal tells where a share may be no threshold: that first, and then of the records
+abbrev pub CountAboveRefused : Option (ℕ × ℕ) → SummaryView → Option (List ℕ) → ToolError → Type 0
+CountAboveRefused None s left e = e ≡ tool.BadThreshold
+CountAboveRefused (Some t) s left e = CountRefused s left e
+
+-- what a refusal to confirm above a share tells: of the file, of its kind, of the share, of the
+-- records, and of the totals
+abbrev pub ConfirmAboveRefused : Share → List ℕ → Option (List ℕ) → ToolError → Type 0
+ConfirmAboveRefused share file left e =
+    RefusedFrom file (λ s. CountAboveRefused (threshold_of s.k share) s left) e

@@ -1,5 +1,5 @@
 -- What holds of reports over several machines.
-use Rattle.std.specs.Prelude.{◌≡◌, ℕ, ◌+◌, ◌<◌, List, [], ◌∷◌, length, map, fold, slice_index_or, IsPermutation, Ok}
+use Rattle.std.specs.Prelude.{◌≡◌, ℕ, ◌+◌, ◌*◌, ◌<◌, ◌≤◌, List, [], ◌∷◌, length, map, fold, slice_index_or, IsPermutation, Ok}
 use Rattle.std.specs.List.{AllByRecursion, flat_map}
 use Rattle.hh_stream.specs.Weights.{Entry, total_of}
 use Rattle.hh_stream.specs.Cuttings.{whole_of}
@@ -11,7 +11,7 @@ use Rattle.hh_saved.specs.Spelling.{Spells}
 use Rattle.hh_saved.specs.declared.format.Version.{Version}
 use Rattle.hh_saved.specs.declared.saved.Saved.{Saved}
 use Rattle.hh_saved.specs.declared.saved.Saved.TheVariants.{Counters}
-use Rattle.heavy.specs.Confirm.{confirmed_rows}
+use Rattle.heavy.specs.Confirm.{confirmed_above}
 use Rattle.heavy.specs.Files.{HoldsSummary}
 use Rattle.heavy.specs.Merge.{merged_files}
 
@@ -20,25 +20,28 @@ abbrev pub CondensedPartsConfirm : Type 0
 CondensedPartsConfirm =
     (s : SummaryView) (parts : List (List Entry)) (ys : List Entry)
     → IsPermutation (flat_map (condensed s.counters) parts) ys
-    → (total_of ys ≡ total_of (whole_of parts)) × (confirmed_rows s ys ≡ confirmed_rows s (whole_of parts))
+    → (total_of ys ≡ total_of (whole_of parts))
+    × ((p q : ℕ) → confirmed_above p q s ys ≡ confirmed_above p q s (whole_of parts))
 
--- by a summary that is honest for the whole, however it was made, that is the whole's report
+-- by a summary that is honest for the whole, however it was made, that is the whole's report above
+-- each share p/q of at least 1/(k + 1)
 abbrev pub HonestSummaryReports : Type 0
 HonestSummaryReports =
-    (s : SummaryView) (parts : List (List Entry)) (xs ys : List Entry)
+    (s : SummaryView) (parts : List (List Entry)) (xs ys : List Entry) (p q : ℕ)
     → IsHonest s.counters (total_of xs) xs s.k
     → IsPermutation (whole_of parts) xs → IsPermutation (flat_map (condensed s.counters) parts) ys
-    → confirmed_rows s ys ≡ heavy xs 1 (s.k + 1)
+    → q ≤ p * (s.k + 1) → confirmed_above p q s ys ≡ heavy xs p q
 
 -- a stream in any parts, summarised one by one, merged by any tree, condensed one by one by what
--- was merged, joined in any order and confirmed: its heavy keys, with their weights
+-- was merged, joined in any order and confirmed above such a share: its heavy keys, with their
+-- weights
 abbrev pub MachinesReport : Type 0
 MachinesReport =
-    (t : MergeTree) (s : SummaryView) (parts : List (List Entry)) (xs ys : List Entry)
+    (t : MergeTree) (s : SummaryView) (parts : List (List Entry)) (xs ys : List Entry) (p q : ℕ)
     → IsPermutation (whole_of parts) xs → IsMergeTree t (length parts)
     → s.counters ≡ tree_value t (map (λ part. misra_gries part s.k) parts) s.k
-    → IsPermutation (flat_map (condensed s.counters) parts) ys
-    → (total_of ys ≡ total_of xs) × (confirmed_rows s ys ≡ heavy xs 1 (s.k + 1))
+    → IsPermutation (flat_map (condensed s.counters) parts) ys → q ≤ p * (s.k + 1)
+    → (total_of ys ≡ total_of xs) × (confirmed_above p q s ys ≡ heavy xs p q)
 
 -- the file holds the summary that the tree makes of the parts' summaries
 abbrev pub HoldsTree : List SummaryView → MergeTree × List ℕ → Type 0
@@ -65,12 +68,12 @@ MergesHoldTrees =
     → HoldsTree ss (merged_trees f fs, file)
 
 -- by the summary of a file with a tree that has each part once, the condensed parts have its total,
--- and are confirmed as the heavy keys of the whole
+-- and are confirmed above such a share as the heavy keys of the whole
 abbrev pub HeldTreesReport : Type 0
 HeldTreesReport =
     (k : ℕ) (parts : List (List Entry)) (t : MergeTree) (file : List ℕ) (s : SummaryView)
-    (xs ys : List Entry)
+    (xs ys : List Entry) (p q : ℕ)
     → HoldsTree (map (sketch_of k) parts) (t, file) → IsMergeTree t (length parts)
     → HoldsSummary file s
     → IsPermutation (whole_of parts) xs → IsPermutation (flat_map (condensed s.counters) parts) ys
-    → (s.total ≡ total_of ys) × (confirmed_rows s ys ≡ heavy xs 1 (k + 1))
+    → q ≤ p * (k + 1) → (s.total ≡ total_of ys) × (confirmed_above p q s ys ≡ heavy xs p q)

@@ -1,9 +1,11 @@
 pub mod Ask
 pub mod Condense
 pub mod Confirm
+pub mod Describe
 pub mod Entries
 pub mod Files
 pub mod Laws
+pub mod List
 pub mod Merge
 pub mod Records
 pub mod Report

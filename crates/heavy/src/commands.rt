@@ -3,7 +3,9 @@
 pub(crate) mod ask;
 pub(crate) mod condense;
 pub(crate) mod confirm;
+pub(crate) mod describe;
 pub(crate) mod entries;
+pub(crate) mod list;
 pub(crate) mod merge;
 pub(crate) mod report;
 pub(crate) mod summarise;

@@ -9,8 +9,10 @@ pub mod laws;
 
 pub use commands::ask::{ask_bytes, ask_key, ask_keys};
 pub use commands::condense::condense_bytes;
-pub use commands::confirm::{ConfirmFault, confirm, confirm_bytes};
+pub use commands::confirm::{ConfirmFault, confirm, confirm_above, confirm_bytes};
+pub use commands::describe::describe_file;
 pub use commands::entries::list_entries;
+pub use commands::list::list_keys;
 pub use commands::merge::merge_bytes;
 pub use commands::report::{ReportOptions, Tree, run_report};
 pub use commands::summarise::{Method, summary_bytes};

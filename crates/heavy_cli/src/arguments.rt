@@ -3,7 +3,9 @@
 ghost use Rattle.std.specs.Prelude.{◌≡◌, false, true, IfOk};
 ghost use Rattle.clap.specs.declared.builder.command.Command.TheViews.{out-Command as fields_of};
 
-use crate::help::{ASK, CONDENSE, CONFIRM, Help, MERGE, PROGRAM, REPORT, SUMMARISE, TABLE};
+use crate::help::{
+    ASK, CONDENSE, CONFIRM, DESCRIBE, Help, LIST, MERGE, PROGRAM, REPORT, SUMMARISE, TABLE,
+};
 use clap::{Arg, ArgAction, ArgMatches, Command, value_parser};
 use std::alloc::{AllocError, Global};
 
@@ -177,7 +179,7 @@ fn threshold<'a>(alloc: Global) -> Arg<'a>
         .value_name("P/Q")
         .long_help(
             "Keys above this share of the total weight are heavy, from 1/(k+1) to 1/1,
-with P and Q up to 4294967296 [default: 1/(k+1)]",
+with P and Q up to 4294967296; k is the number of counters [default: 1/(k+1)]",
         )
 }
 
@@ -239,6 +241,22 @@ fn ask_command<'a>(alloc: Global) -> Result<Command<'a>, AllocError>
         .arg(keys.num_args(1..))
 }
 
+fn list_command<'a>(alloc: Global) -> Result<Command<'a>, AllocError>
+    ensures { IfOk result (λ c. (fields_of c).has_globals ≡ false) }
+{
+    described(alloc, "list", LIST)
+        .after_help(DASHES)
+        .arg(word(alloc, "FILE", "A saved summary"))
+}
+
+fn describe_command<'a>(alloc: Global) -> Result<Command<'a>, AllocError>
+    ensures { IfOk result (λ c. (fields_of c).has_globals ≡ false) }
+{
+    described(alloc, "describe", DESCRIBE)
+        .after_help(DASHES)
+        .arg(word(alloc, "FILE", "A saved file"))
+}
+
 fn condense_command<'a>(alloc: Global) -> Result<Command<'a>, AllocError>
     ensures { IfOk result (λ c. (fields_of c).has_globals ≡ false) }
 {
@@ -250,9 +268,9 @@ fn condense_command<'a>(alloc: Global) -> Result<Command<'a>, AllocError>
 fn confirm_command<'a>(alloc: Global) -> Result<Command<'a>, AllocError>
     ensures { IfOk result (λ c. (fields_of c).has_globals ≡ false) }
 {
-    reader(alloc, "confirm", CONFIRM)?
-        .after_help(DASHES)
-        .arg(word(alloc, "FILE", "A saved summary"))
+    let command = reader(alloc, "confirm", CONFIRM)?.after_help(DASHES);
+    let command = with(command, threshold(alloc))?;
+    with(command, word(alloc, "FILE", "A saved summary"))
 }
 
 /// The program, which has no command yet.
@@ -288,7 +306,9 @@ fn with_file_commands<'a>(alloc: Global, all: Command<'a>) -> Result<Command<'a>
     ensures { IfOk result (λ c. (fields_of c).has_globals ≡ false) }
 {
     let all = with_command(all, merge_command(alloc)?)?;
-    with_command(all, ask_command(alloc)?)
+    let all = with_command(all, ask_command(alloc)?)?;
+    let all = with_command(all, list_command(alloc)?)?;
+    with_command(all, describe_command(alloc)?)
 }
 
 /// The command line that the program reads.

@@ -107,6 +107,44 @@ Example:
     z,0,0",
 };
 
+pub const LIST: Help = Help {
+    about: "Print what a saved summary says of all its keys: key,low,high",
+    whole: "Print what a saved summary says of all its keys: a row key,low,high for each key with
+a counter, by falling low and then by key. The key's weight lies between the two, as
+`heavy ask` tells it. A key that isn't listed weighs at most what high has above low.
+A word that begins with - is given after --",
+    end: "Exit status: 0 all rows are written; 1 the file could not be read or output not be
+written; 2 wrong usage; 3 the file is damaged or no summary; 4 out of memory.
+
+Example:
+    $ printf 'a,5\\nb,3\\nc,2\\na,1\\n' | heavy summarise --k 2 > day.heavy
+    $ heavy list day.heavy
+    a,4,6
+    b,1,3",
+};
+
+pub const DESCRIBE: Help = Help {
+    about: "Print what is in a saved file: name,value",
+    whole: "Print what is in a saved file, in rows name,value: its version and kind; of a summary k,
+how many keys have a counter, the total weight, the sum of the counters, and the slack,
+which is how far a counter may be below its key's weight; of a table its depth, its
+width and the total weight.
+A word that begins with - is given after --",
+    end: "Exit status: 0 all rows are written; 1 the file could not be read or output not be
+written; 2 wrong usage; 3 the file is damaged; 4 out of memory.
+
+Example:
+    $ printf 'a,5\\nb,3\\nc,2\\na,1\\n' | heavy summarise --k 2 > day.heavy
+    $ heavy describe day.heavy
+    version,2
+    kind,summary
+    k,2
+    keys,2
+    total,11
+    counters,5
+    slack,2",
+};
+
 pub const CONDENSE: Help = Help {
     about: "Print fewer records that say to `heavy confirm` what those on standard input say",
     whole: "Print fewer records that say to `heavy confirm` what those on standard input say: the
@@ -133,17 +171,19 @@ pub const CONFIRM: Help = Help {
     about: "Print the heavy keys of a saved summary in the records on standard input",
     whole: "Print the heavy keys of a saved summary in the records on standard input, which are
 those that it was made of, in any order: rows key,weight, by falling weight and
-then by key. The weights are exact, and no heavy key is missing. It holds one
-record at a time.
+then by key. The weights are exact, and no heavy key is missing. Keys are heavy above
+1/(k+1) of the total for the k of the summary, or above a larger share of your own. It
+holds one record at a time.
 A word that begins with - is given after --",
     end: "Exit status: 0 all rows are written; 1 the file or input could not be read or
-output not be written; 2 wrong usage; 3 the file is damaged or no summary, a
-record is refused, or the weights do not sum up to the summary's total; 4 out
-of memory.
+output not be written; 2 wrong usage, or a threshold is refused; 3 the file is
+damaged or no summary, a record is refused, or the weights do not sum up to the
+summary's total; 4 out of memory.
 
 Example:
     $ printf 'a,5\\nb,3\\nc,2\\na,1\\n' > day.csv
     $ heavy summarise --k 2 < day.csv > day.heavy
     $ heavy confirm day.heavy < day.csv
-    a,6",
+    a,6
+    $ heavy confirm --threshold 3/5 day.heavy < day.csv",
 };

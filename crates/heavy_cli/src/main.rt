@@ -11,8 +11,8 @@ mod words;
 
 use files::{read_file, read_files};
 use heavy::{
-    Method, Out, ToolError, ask_bytes, condense_bytes, confirm_bytes, merge_bytes, put, run_report,
-    summary_bytes, table_bytes,
+    Method, Out, ToolError, ask_bytes, condense_bytes, confirm_above, describe_file, list_keys,
+    merge_bytes, put, run_report, summary_bytes, table_bytes,
 };
 use progress::Metered;
 use request::{Command, Request, UsageError, read_request};
@@ -33,8 +33,12 @@ fn answer(rt: &HostRuntime, command: Command, input: Input<'_>) -> Result<Vec<u8
         Command::Table { width, depth, seed } => table_bytes(alloc, width, depth, seed, input),
         Command::Merge { first, others } => merge_bytes(alloc, &read_files(rt, &first, &others)?),
         Command::Ask { file, keys } => ask_bytes(alloc, &read_file(rt, 1, &file)?, &keys),
+        Command::List { file } => list_keys(alloc, &read_file(rt, 1, &file)?),
+        Command::Describe { file } => describe_file(alloc, &read_file(rt, 1, &file)?),
         Command::Condense { file } => condense_bytes(alloc, &read_file(rt, 1, &file)?, input),
-        Command::Confirm { file } => confirm_bytes(alloc, &read_file(rt, 1, &file)?, input),
+        Command::Confirm { file, threshold } => {
+            confirm_above(alloc, &read_file(rt, 1, &file)?, &threshold, input)
+        }
     }
 }
 

@@ -48,6 +48,14 @@ pub enum Command {
         file: Vec<u8>,
         keys: Vec<Vec<u8>>,
     },
+    /// All keys of a saved summary.
+    List {
+        file: Vec<u8>,
+    },
+    /// What is in a saved file.
+    Describe {
+        file: Vec<u8>,
+    },
     /// Standard input in fewer records, by a saved summary.
     Condense {
         file: Vec<u8>,
@@ -55,6 +63,7 @@ pub enum Command {
     /// The heavy keys of a saved summary in standard input.
     Confirm {
         file: Vec<u8>,
+        threshold: Share,
     },
 }
 
@@ -154,6 +163,16 @@ fn ask(alloc: Global, found: &ArgMatches) -> Result<Command, AllocError> {
     Ok(Command::Ask { file, keys })
 }
 
+fn list(alloc: Global, found: &ArgMatches) -> Result<Command, AllocError> {
+    let file = word_or(alloc, found, "FILE", "")?;
+    Ok(Command::List { file })
+}
+
+fn describe(alloc: Global, found: &ArgMatches) -> Result<Command, AllocError> {
+    let file = word_or(alloc, found, "FILE", "")?;
+    Ok(Command::Describe { file })
+}
+
 fn condense(alloc: Global, found: &ArgMatches) -> Result<Command, AllocError> {
     let file = word_or(alloc, found, "FILE", "")?;
     Ok(Command::Condense { file })
@@ -161,17 +180,20 @@ fn condense(alloc: Global, found: &ArgMatches) -> Result<Command, AllocError> {
 
 fn confirm(alloc: Global, found: &ArgMatches) -> Result<Command, AllocError> {
     let file = word_or(alloc, found, "FILE", "")?;
-    Ok(Command::Confirm { file })
+    let threshold = threshold_of(alloc, found)?;
+    Ok(Command::Confirm { file, threshold })
 }
 
-/// What a command with these words asks for. `clap` lets these seven names come: the one that is
-/// none of the other six is the report's.
+/// What a command with these words asks for. `clap` lets these nine names come: the one that is
+/// none of the other eight is the report's.
 fn request_of(alloc: Global, name: &str, found: &ArgMatches) -> Result<Request, AllocError> {
     let command = match name {
         "summarise" => summarise(alloc, found)?,
         "table" => table(found),
         "merge" => merge(alloc, found)?,
         "ask" => ask(alloc, found)?,
+        "list" => list(alloc, found)?,
+        "describe" => describe(alloc, found)?,
         "condense" => condense(alloc, found)?,
         "confirm" => confirm(alloc, found)?,
         _ => return report(alloc, found),

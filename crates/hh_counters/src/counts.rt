@@ -4,7 +4,7 @@ ghost use Rattle.std.specs.Prelude.{◌≡◌, ◌+◌, ◌≤◌, ◌∷◌, []
 ghost use Rattle.std.specs.Map.{keys_of};
 ghost use Rattle.hh_stream.specs.Weights.{max_total, total_of};
 ghost use Rattle.hh_counters.specs.Counters.{max_k, IsCounters, exceeds};
-ghost use Rattle.hh_counters.specs.Report.{rows_above};
+ghost use Rattle.hh_counters.specs.Report.{IsShare, rows_above};
 ghost use Rattle.hh_counters.specs.Counting.{count_of, count_with};
 ghost use Rattle.hh_stream.specs.Ranges.{in_range};
 
@@ -93,7 +93,17 @@ impl Counts {
         ensures { IfOk result (λ rows. rows.items
             ≡ rows_above 1 (k + 1) self.now.total (zip self.now.keys self.now.weights)) }
     {
-        self.candidates.select(&self.weights, self.total, 1, k + 1)
+        self.select_above(1, k + 1)
+    }
+
+    /// The keys above p/q of the total, by falling weight and then by rising key. p/q is at most 1,
+    /// and q at most [`MAX_Q`](crate::MAX_Q).
+    pub fn select_above(&self, p: u64, q: u64) -> Result<Vec<Heavy>, AllocError>
+        requires { IsShare p q }
+        ensures { IfOk result (λ rows. rows.items
+            ≡ rows_above p q self.now.total (zip self.now.keys self.now.weights)) }
+    {
+        self.candidates.select(&self.weights, self.total, p, q)
     }
 
     /// The keys that came, each with its weight, by rising key.

@@ -7,6 +7,7 @@ ghost use Rattle.std.specs.Map.{keys_of};
 ghost use Rattle.std.specs.declared.cmp.Ordering.TheVariants.{Less, Equal, Greater};
 ghost use Rattle.hh_stream.specs.Weights.{Bytes, Entry, key_cmp, max_key_len, weight_of, total_of};
 ghost use Rattle.hh_counters.specs.Counters.{IsCounters, lower, level, least_counter as least_counter_of, add_at, plus, join};
+ghost use Rattle.hh_counters.specs.Report.{by_rank};
 
 use hh_stream::Key;
 use std::alloc::{AllocError, Global};
@@ -261,6 +262,18 @@ fn push_copy(entries: &mut Vec<(Key, u64)>, key: &Key, number: u64) -> Result<()
 {
     entries.push((key.copy()?, number))?;
     Ok(())
+}
+
+/// Copies of the entries, by falling number and then by rising key. They are sorted in place.
+pub(crate) fn ranked(alloc: Global, entries: &[(Key, u64)]) -> Result<Vec<(Key, u64)>, AllocError>
+    requires { IsStrictlySortedBy key_cmp (keys_of entries.now) }
+    ensures ranked { IfOk result (λ ranked. ranked.items ≡ by_rank entries.now) }
+    ensures sum { IfOk result (λ ranked. total_of ranked.items ≡ total_of entries.now) }
+{
+    let mut ranked = Vec::new(alloc);
+    push_copies(&mut ranked, entries)?;
+    ranked.sort_unstable_by(|a, b| b.1.cmp(&a.1).then(a.0.cmp(&b.0)));
+    Ok(ranked)
 }
 
 // Puts copies of the entries last.

@@ -4,8 +4,9 @@ ghost use Rattle.std.specs.Prelude.{◌≡◌, ◌+◌, ◌<◌, ◌≤◌, ◌^
 ghost use Rattle.hh_stream.specs.Weights.{max_total, weight_of, total_of, max_key_len};
 ghost use Rattle.hh_stream.specs.Ranges.{in_range};
 ghost use Rattle.hh_counters.specs.Counters.{max_k, Fits, IsCounters, SummaryView, sketch_with, merge_of, sketch_of, slack};
+ghost use Rattle.hh_counters.specs.Report.{by_rank};
 
-use crate::entries::{add_item, are_counters, counter_of, join, sum_of, sums_within};
+use crate::entries::{add_item, are_counters, counter_of, join, ranked, sum_of, sums_within};
 use hh_stream::{Item, Key, MAX_TOTAL, in_range};
 use std::alloc::{AllocError, Global};
 use std::marker::Model;
@@ -210,6 +211,14 @@ impl Summary {
     {
         let entry = &self.entries[i];
         (&entry.0, entry.1)
+    }
+
+    /// The keys with their counters, by falling counter and then by rising key.
+    pub fn ranked(&self) -> Result<Vec<(Key, u64)>, AllocError>
+        ensures ranked { IfOk result (λ ranked. ranked.items ≡ by_rank self.now.counters) }
+        ensures sum { IfOk result (λ ranked. total_of ranked.items ≡ total_of self.now.counters) }
+    {
+        ranked(*self.entries.allocator(), &self.entries)
     }
 
     /// Adds an item: its key's counter grows by the weight, and where k + 1 keys then have

@@ -43,7 +43,7 @@ honest-tree law t cs parts k tree each =
 -- and condensed by them, the parts have the report of the whole
 pub report-by-tree : TreesAreHonest → MisraGriesIsHonest → HonestInAnyOrder → CondensedPartsReport
     → PartsReportByAnyTree
-report-by-tree trees own order report t parts c xs ys k tree is whole perm =
+report-by-tree trees own order report t parts c xs ys k p q tree is whole perm share =
     let cs : List Counters = map (λ part. misra_gries part k) parts in
     let each : (i : ℕ) → i < length parts → let part = slice_index_or parts i [] in
     IsHonest (slice_index_or cs i []) (total_of part) part k = λ i low.
@@ -53,4 +53,4 @@ report-by-tree trees own order report t parts c xs ys k tree is whole perm =
     rw is (trees t cs parts k tree each) in
     let again = order c (total_of (whole_of parts)) (whole_of parts) xs k whole value in
     let honest : IsHonest c (total_of xs) xs k = subst (λ m. IsHonest c m xs k) again.counted again in
-    report c parts xs ys k 1 (k + 1) whole perm honest (omega arith)
+    report c parts xs ys k p q whole perm honest share

@@ -1,5 +1,5 @@
 -- What holds of merge trees.
-use Rattle.std.specs.Prelude.{◌≡◌, ℕ, ◌+◌, ◌<◌, List, [], length, map, filter, slice_index_or, IsPermutation, Ok}
+use Rattle.std.specs.Prelude.{◌≡◌, ℕ, ◌+◌, ◌*◌, ◌<◌, ◌≤◌, List, [], length, map, filter, slice_index_or, IsPermutation, Ok}
 use Rattle.std.specs.List.{flat_map}
 use Rattle.hh_stream.specs.Weights.{Entry, total_of}
 use Rattle.hh_stream.specs.Cuttings.{whole_of}
@@ -19,13 +19,14 @@ TreesAreHonest =
     → IsHonest (tree_value t cs k) (total_of (whole_of parts)) (whole_of parts) k
 
 -- where c is what any tree makes of the parts' own counters, the parts that are condensed by c one
--- by one, and joined in whatever order, have the report of the whole, in whatever order that was read
+-- by one, and joined in whatever order, have the report of the whole, in whatever order that was
+-- read, above each share p/q of at least 1/(k + 1)
 abbrev pub PartsReportByAnyTree : Type 0
 PartsReportByAnyTree =
-    (t : MergeTree) (parts : List (List Entry)) (c : Counters) (xs ys : List Entry) (k : ℕ)
+    (t : MergeTree) (parts : List (List Entry)) (c : Counters) (xs ys : List Entry) (k p q : ℕ)
     → IsMergeTree t (length parts) → c ≡ tree_value t (map (λ part. misra_gries part k) parts) k
     → IsPermutation (whole_of parts) xs → IsPermutation (flat_map (condensed c) parts) ys
-    → filter (has_counter c) (heavy ys 1 (k + 1)) ≡ heavy xs 1 (k + 1)
+    → q ≤ p * (k + 1) → filter (has_counter c) (heavy ys p q) ≡ heavy xs p q
 
 -- the summary that any tree makes of the parts' summaries is the merged summary of the whole
 abbrev pub TreesMergeSummaries : Type 0

@@ -6,7 +6,7 @@ ghost use Rattle.std.specs.Io.KnownBytes.{Appends};
 ghost use Rattle.csv.specs.Writing.{text_written};
 ghost use Rattle.hh_stream.specs.Weights.{max_key_len};
 ghost use Rattle.hh_records.specs.Rows.{IsBetweenRows};
-ghost use Rattle.heavy.specs.Ask.{answer, answer_of, answer_row, answers, answers_of, asked_value, bad_key, key_fault};
+ghost use Rattle.heavy.specs.Ask.{answer, answer_of, answer_row, answers, answers_of, asked_value, bad_key, bounds_row, key_fault};
 ghost use Rattle.heavy.specs.Files.{Refuses, StopsAtHead, file_of};
 
 use crate::error::{KeyCause, ToolError};
@@ -61,20 +61,23 @@ fn answer_of(saved: &Saved, key: &Key) -> (u64, u64)
     }
 }
 
-/// Writes the row of a key after the others.
-fn write_answer(writer: &mut Writer<Vec<u8>>, saved: &Saved, key: &Key) -> Result<(), AllocError>
+/// Writes the row of a key and its two numbers after the others.
+pub(crate) fn write_bounds(
+    writer: &mut Writer<Vec<u8>>,
+    key: &Key,
+    bounds: (u64, u64),
+) -> Result<(), AllocError>
     requires { IsBetweenRows writer.old }
     ensures between { OnOk result (IsBetweenRows writer.new) }
     ensures text { OnOk result (Appends
         (text_written (λ text. Some text.items) writer.old)
         (text_written (λ text. Some text.items) writer.new)
-        (answer_row saved.now key.now)) }
+        (bounds_row key.now bounds)) }
 {
-    let (low, high) = answer_of(saved, key);
     let mut low_digits = Buffer::new();
-    let low = low_digits.format(low).as_bytes();
+    let low = low_digits.format(bounds.0).as_bytes();
     let mut high_digits = Buffer::new();
-    let high = high_digits.format(high).as_bytes();
+    let high = high_digits.format(bounds.1).as_bytes();
     writer
         .write_fields(&[key.bytes(), low, high])
         .map_err(|_| AllocError)
@@ -89,7 +92,7 @@ fn answers_text(alloc: Global, saved: &Saved, words: &[Vec<u8>]) -> Result<Vec<u
     let mut writer = WriterBuilder::new().from_writer(Vec::new(alloc));
     for word in words {
         let key = Key::of_bytes(alloc, word)?;
-        write_answer(&mut writer, saved, &key)?;
+        write_bounds(&mut writer, &key, answer_of(saved, &key))?;
     }
     writer.into_inner().map_err(|_| AllocError)
 }

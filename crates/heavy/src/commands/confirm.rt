@@ -4,9 +4,10 @@ ghost use Rattle.std.specs.Prelude.{◌≡◌, ◌≢◌, ◌↔◌, Ok, List, I
 ghost use Rattle.std.specs.Map.{keys_of};
 ghost use Rattle.hh_stream.specs.Weights.{Entry, total_of};
 ghost use Rattle.hh_counters.specs.Counting.{count_of};
+ghost use Rattle.hh_counters.specs.Report.{IsShare};
 ghost use Rattle.hh_records.specs.Streams.{ReadsAs};
 ghost use Rattle.heavy.specs.Files.{StopsAtHead};
-ghost use Rattle.heavy.specs.Confirm.{ConfirmRefused, ConfirmsRows, CountRefused, confirm_fault, confirmed_rows};
+ghost use Rattle.heavy.specs.Confirm.{ConfirmAboveRefused, ConfirmRefused, ConfirmsAbove, ConfirmsRows, CountRefused, confirm_fault, confirmed_above, confirmed_rows};
 ghost use Rattle.heavy.specs.declared.commands.confirm.ConfirmFault.TheVariants.{Memory};
 
 use crate::counting::count_records;
@@ -14,7 +15,7 @@ use crate::error::ToolError;
 use crate::files::summary_in;
 use hh_counters::laws::{candidates_suffice, counts_follow_items};
 use hh_counters::{Counts, Heavy, Summary};
-use hh_records::report_text;
+use hh_records::{Share, report_text, threshold_of};
 use hh_stream::Stream;
 use std::alloc::{AllocError, Global};
 use std::io::Read;
@@ -70,29 +71,35 @@ pub fn confirm(
     }
     let mut counts = Counts::of(alloc, summary)?;
     counts.add_stream(stream);
-    Ok(heavy_rows(summary, &counts)?)
+    Ok(rows_above(summary, &counts, 1, summary.k() + 1)?)
 }
 
-/// The keys of a summary that are heavy among the items that were counted.
-fn heavy_rows(summary: &Summary, counts: &Counts) -> Result<Vec<Heavy>, AllocError>
+/// The keys of a summary above p/q of the total of the items that were counted.
+fn rows_above(summary: &Summary, counts: &Counts, p: u64, q: u64) -> Result<Vec<Heavy>, AllocError>
+    requires { IsShare p q }
     ensures { IfOk result (λ rows. (xs : List Entry)
         → counts.now ≡ count_of (keys_of summary.now.counters) xs
-        → rows.items ≡ confirmed_rows summary.now xs) }
+        → rows.items ≡ confirmed_above p q summary.now xs) }
 {
     candidates_suffice();
-    let rows = counts.select(summary.k())?;
+    // the counters of a summary are by rising key
+    let _rising = summary.len();
+    let rows = counts.select_above(p, q)?;
     Ok(rows)
 }
 
-/// The keys of a summary that are heavy in the stream of a reader's records, as [`confirm`] finds
-/// them, in one pass that keeps no record.
+/// The keys of a summary above p/q of the total of a reader's records, in one pass that keeps no
+/// record.
 fn confirm_records<R: Read + Drop>(
     alloc: Global,
     summary: &Summary,
+    p: u64,
+    q: u64,
     reader: R,
 ) -> Result<Vec<Heavy>, ToolError>
+    requires { IsShare p q }
     ensures rows { IfOk result (λ rows. (xs : List Entry) × ReadsAs (R.remaining reader) (Ok xs)
-        × (summary.now.total ≡ total_of xs) × (rows.items ≡ confirmed_rows summary.now xs)) }
+        × (summary.now.total ≡ total_of xs) × (rows.items ≡ confirmed_above p q summary.now xs)) }
     ensures refused { IfErr result (λ fault.
         CountRefused summary.now (R.remaining reader) fault) }
 {
@@ -100,7 +107,7 @@ fn confirm_records<R: Read + Drop>(
     if summary.total() != counts.total() {
         return Err(ToolError::TotalDiffers);
     }
-    Ok(heavy_rows(summary, &counts)?)
+    Ok(rows_above(summary, &counts, p, q)?)
 }
 
 /// The report text of the saved summary's keys that are heavy in the stream of the reader's
@@ -116,6 +123,28 @@ pub fn confirm_bytes<R: Read + Drop>(
     ensures early { StopsAtHead 1 file.now result }
 {
     let summary = summary_in(alloc, file)?;
-    let rows = confirm_records(alloc, &summary, reader)?;
+    let rows = confirm_records(alloc, &summary, 1, summary.k() + 1, reader)?;
+    Ok(report_text(alloc, &rows)?)
+}
+
+/// [`confirm_bytes`] above a share of the total of one's own, which is at least 1/(k + 1) for the
+/// summary's k. Another one is refused ([`ToolError::BadThreshold`]) before any record is read.
+pub fn confirm_above<R: Read + Drop>(
+    alloc: Global,
+    file: &[u8],
+    share: &Share,
+    reader: R,
+) -> Result<Vec<u8>, ToolError>
+    ensures rows { IfOk result (λ rows.
+        ConfirmsAbove share.now file.now (R.remaining reader) rows.items) }
+    ensures refused { IfErr result (λ fault.
+        ConfirmAboveRefused share.now file.now (R.remaining reader) fault) }
+    ensures early { StopsAtHead 1 file.now result }
+{
+    let summary = summary_in(alloc, file)?;
+    let Some((p, q)) = threshold_of(summary.k(), share) else {
+        return Err(ToolError::BadThreshold);
+    };
+    let rows = confirm_records(alloc, &summary, p, q, reader)?;
     Ok(report_text(alloc, &rows)?)
 }

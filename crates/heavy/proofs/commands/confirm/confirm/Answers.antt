@@ -7,6 +7,6 @@ use Rattle.heavy.proofs.commands.confirm.confirm.Goals as goal
 pub returns-clause-rows : goal.returns-clause-rows
 returns-clause-rows c =
     let xs = c.args.stream.now in
-    c.in_ok-heavy_rows.ensures xs
+    rw c.k.ensures.k at (c.in_ok-rows_above.ensures xs
     (c.add_stream.ensures ∙ ap (λ (n : Count). count_with n xs) c.in_ok-counts.ensures.none
-    ∙ c.counts_follow_items.ensures (keys_of c.args.summary.now.counters) [] xs)
+    ∙ c.counts_follow_items.ensures (keys_of c.args.summary.now.counters) [] xs))
