@@ -378,8 +378,6 @@ class Install(programs.Checks):
         (copy.kit / "bin").mkdir(parents=True)
         (copy.kit / "bin" / "rattle").write_text(COMPILER)
         (copy.kit / "bin" / "rattle").chmod(0o755)
-        (copy.kit / "c").mkdir()
-        (copy.kit / "c" / "liblibc_c.a").touch()
         (copy.kit / "calls.a").touch()
         (copy.kit / "c").mkdir()
         (copy.kit / "c" / "liblibc_c.a").touch()
