@@ -18,6 +18,37 @@ MANY = b"".join(b"k%d,%d\n" % (i, i) for i in range(1, 151))
 # two keys above a hundred-and-first part of the total, one of them above a third
 SKEWED = b"big,600\nmiddle,50\n" + b"".join(b"s%d,2\n" % i for i in range(150))
 
+# Texts, k, and their reports. A k of 65,535 lists each key of a small total.
+REPORTS = [
+    (b"a\nb\nc\n", 2, b""), (b"a\nb\nb\n", 2, b"b,2\n"), (b"x,9223372036854775807\n", 2, b"x,9223372036854775807\n"),
+    (b'"a,b",3\n', 1, b'"a,b",3\n'), (b"b,2\na,2\n", 3, b"a,2\nb,2\n"), (b"a\nb\na\n", 1, b"a,2\n"),
+    (b"a,5\r\nb,3\r\n", 2, b"a,5\nb,3\n"), (b"a,5\nb,3\na,1\n", 65_535, b"a,6\nb,3\n"),
+    (b"a,5\rb,3\r", 65_535, b"a,5\nb,3\n"), (b"a,5\nb,3", 65_535, b"a,5\nb,3\n"), (b"\xef\xbb\xbfa,5\n", 65_535, b"a,5\n"),
+    (b"\n\r\na,5\n\n\r\rb,3\n\n", 65_535, b"a,5\nb,3\n"), (b" a ,5\n", 65_535, b" a ,5\n"),
+    (b'"a,b",5\n"c""d",3\n', 65_535, b'"a,b",5\n"c""d",3\n'), (b"\xff", 65_535, b"\xff,1\n"),
+    (b'"e\nf",2\n"g\r\nh"\n', 65_535, b'"e\nf",2\n"g\r\nh",1\n'),
+    (b"\0,2\na\0b\n\0\0\n", 65_535, b"\0,2\n\0\0,1\na\0b,1\n"),
+    (b"\n" * 10_000_000 + b"a,5", 65_535, b"a,5\n"), (b"a\n" * 70_000, 1, b"a,70000\n"),
+]
+# Texts that have no report, the number of the first bad record, and why it is bad.
+BAD_RECORDS = [
+    (b"a,0\n", 1, "zero weight"), (b",4\n", 1, "empty key"), (b"a,1,2\n", 1, "wrong number of fields"),
+    (b"a,-1\n", 1, "bad weight"), (b"a,\n", 1, "bad weight"), (b",x\n", 1, "empty key"),
+    (b",,\n", 1, "wrong number of fields"), (b"x" * 4097 + b"\n", 1, "key too long"),
+    (b"a,99999999999999999999\n", 1, "total too large"), (b"a,9223372036854775808\n", 1, "total too large"),
+    (b"a,1\nb,000000000000000000001\n", 2, "bad weight"), (b"x,9223372036854775807\ny,1\n", 2, "total too large"),
+    (b"a\nb,2\nc,1x\n,\n", 3, "bad weight"), (b"a\n" * 70_000 + b"a,0\n", 70_001, "zero weight"),
+    (b"x" * 10_000_000, 1, "key too long"), (b"," * 10_000_000, 1, "wrong number of fields"),
+    (b'"' * 10_000_000, 1, "key too long"), (b"a," + b"0" * 10_000_000, 1, "bad weight"),
+]
+# The records of a summary with one key, other records, and these condensed.
+CONDENSED = [
+    (b"a", b"", b""), (b"a", RECORDS, b"a,6\nothers,5\n"), (b"a", b"a\na", b"a,2\n"), (b"a", b"b,3\nc", b"others,4\n"),
+    (b"others", b"others,2\na,3", b"others,2\nothers1,3\n"), (b'"a,b"', b'"a,b",2', b'"a,b",2\n'),
+    (b"\xef\xbb\xbf\xef\xbb\xbfa", b"b\n\xef\xbb\xbfa,2\n", b'"\xef\xbb\xbfa",2\nothers,1\n'),
+    (b"a", b"a,9223372036854775807", b"a,9223372036854775807\n"),
+]
+
 COMMANDS = ["report", "summarise", "table", "merge", "ask", "list", "describe", "condense", "confirm"]
 
 # in a command's help: an option with a number, its range and its default
@@ -74,6 +105,8 @@ CELLS = "000000000000000000000000000000000000000000000007 0000000000000001"
 OTHER_CELLS = "000000000000000000000000000000000000000000000001 0000000000000007"
 TABLE = saved_bytes("48485331 02", FAMILY, "0000000000000008", CELLS, OTHER_CELLS)
 TABLE_IN_2 = b"HHS2" + TABLE[4:]
+# What the first makes of a summary with b 2 and c 3.
+MERGED = saved_bytes("48485332 01 0002 0000000000000010 0001 0001 61 0000000000000001")
 
 
 def table_of_one(weight: int, places: tuple[int, int]) -> bytes:
@@ -120,10 +153,20 @@ class CommandLine(programs.Checks):
             self.expect(["summarise", *method], expected, MANY)
             self.expect(["summarise", "--k", "2", *method], reference.answer(reference.summarise, RECORDS, 2))
 
+    def test_texts(self) -> None:
+        """Texts with their reports, with the first record that is bad, and condensed, each written by hand."""
+        for text, k, rows in REPORTS:
+            self.expect(["report", "--k", str(k)], (0, rows, b""), text)
+        for text, number, cause in BAD_RECORDS:
+            self.refuses(["report", "--k", "2"], f"record {number}: {cause}", 3, text)
+        for key, text, condensed in CONDENSED:
+            self.save("one", ["summarise", "--k", "2"], key)
+            self.expect(["condense", "one"], (0, condensed, b""), text)
+
     def test_thresholds(self) -> None:
         """A share of one's own, what lies at exactly that share, and texts that name none."""
         rows = [
-            (2, RECORDS, ["1/2", "01/02", "1/3"], b"a,6\n"),
+            (2, RECORDS, ["1/2", "01/02", "0000000001/0000000002", "1/3", "5/11"], b"a,6\n"),
             (2, RECORDS, ["2/3", "1/1", "4294967296/4294967296", "6/11"], b""),
             (9, RECORDS, ["1/10"], b"a,6\nb,3\nc,2\n"),
             (9, RECORDS, ["1/4", "3/12"], b"a,6\nb,3\n"),
@@ -134,7 +177,8 @@ class CommandLine(programs.Checks):
                 self.expect(["report", "--k", str(k), "--threshold", share], (0, report, b""), given)
         text = "threshold must be P/Q with 1 <= P <= Q <= 4294967296 and P*(K+1) >= Q"
         wrong = ["0/0", "3/2", "4294967297/4294967297", "00000000001/1", "1", "1/", "1/2/3", "", "/", "/2", "1/4", "0.01"]
-        for share in [*wrong, "1%", " 1/2", "1/2 ", "+1/2", "1/+2", b"\xff/1"]:
+        wrong += ["0/1", "1/0", "9999999999/9999999999", "1/00000000001", "50%", " 1/2", "1/2 ", "+1/2", "1/+2"]
+        for share in [*wrong, b"\xff/1"]:
             self.refuses(["report", "--k", "2", "--threshold", share], text)
         self.refuses(["report", "--k", "9", "--threshold", "1/11"], text)
 
@@ -183,7 +227,8 @@ class CommandLine(programs.Checks):
         for piece in range(1, 1024):
             chain = f"({chain} {piece})"
         most = ["report", "--k", "2", "--pieces", "1024"]
-        self.expect([*most, "--tree", chain], (0, b"a,6\n", b""))
+        for tree in (chain, "chain", "balanced"):
+            self.expect([*most, "--tree", tree], (0, b"a,6\n", b""))
         self.refuses([*most, "--tree", "(" * 1024], "tree: syntax at byte 1023")
         three = ["report", "--k", "2", "--pieces", "3", "--tree"]
         for tree in ("((0 1) 2)", "(0 (2 1))", "chain", "balanced"):
@@ -191,7 +236,11 @@ class CommandLine(programs.Checks):
         self.refuses([*three, "(0 (1 1))"], "tree: piece 1 twice")
         self.refuses([*three, "(0 1)"], "tree: piece 2 missing")
         self.refuses([*three, "(0 3)"], "tree: no piece 3")
-        for tree, at in [("(0", 2), ("(0 1))", 5), ("(0  1)", 3), ("", 0), ("Chain", 0), (b"\xff", 0)]:
+        self.refuses([*three, "(2 (3 2))"], "tree: no piece 3")
+        self.refuses([*three, "(2 (2 3))"], "tree: piece 2 twice")
+        self.refuses([*three, "(0 0)"], "tree: piece 0 twice")
+        wrong = [("(0", 2), ("(0 1))", 5), ("(0  1)", 3), ("", 0), ("Chain", 0), (b"\xff", 0), ("01", 1), ("12345", 4), ("x", 0)]
+        for tree, at in wrong:
             self.refuses([*three, tree], f"tree: syntax at byte {at}")
 
     def test_files(self) -> None:
@@ -260,6 +309,7 @@ class CommandLine(programs.Checks):
             "a4b1": ONE, "b2c3": saved_bytes("48485331 01 0002 0000000000000005 0002 01 62 0000000000000002"
                                              "01 63 0000000000000003"),
             "k3": EMPTY[:6] + b"\x03" + EMPTY[7:], "full": EMPTY[:7] + saved_bytes("7fffffffffffffff") + EMPTY[15:],
+            "empty": EMPTY, "magic": b"HHS3", "kind": b"HHS1\x03",
             "a": table_of_one(5, (2, 3)), "e": table_of_one(2, (2, 3)), "b": table_of_one(1, (3, 2)),
         }
         for name, data in files.items():
@@ -268,7 +318,7 @@ class CommandLine(programs.Checks):
         for names, merged in [
             (["one"], ONE_IN_2), (["two"], ONE_IN_2), (["table"], TABLE_IN_2), (["table2"], TABLE_IN_2),
             (["one", "one"], doubled), (["one", "two"], doubled), (["a", "e", "b"], TABLE_IN_2),
-            (["a4b1", "b2c3"], saved_bytes("48485332 01 0002 0000000000000010 0001 0001 61 0000000000000001")),
+            (["empty"], b"HHS2" + EMPTY[4:]), (["a4b1", "empty", "b2c3"], MERGED), (["a4b1", "b2c3"], MERGED),
         ]:
             self.expect(["merge", *names], (0, merged, b""))
         Path(self.room, "doubled").write_bytes(doubled)
@@ -276,6 +326,7 @@ class CommandLine(programs.Checks):
         self.expect(["ask", "doubled", "a"], (0, b"a,8,12\n", b""))
         for name in ("one", "two"):
             self.expect(["ask", name, "a", "z"], (0, b"a,4,6\nz,0,2\n", b""))
+            self.expect(["ask", name, '"', "a"], (0, b'"""",0,2\na,4,6\n', b""))
             self.expect(["confirm", name], (0, b"a,6\n", b""))
             self.refuses(["confirm", name], "file 1: its total is not the input's", 3, b"a,5\n")
             self.refuses(["ask", name, "a", ""], "key 2: empty", 3)
@@ -288,12 +339,48 @@ class CommandLine(programs.Checks):
         self.refuses(["merge", "one", "k3"], "file 2: another k", 3)
         self.refuses(["merge", "one", "full"], "file 2: total too large", 3)
         self.refuses(["merge", "one", "byte"], "file 2: truncated", 3)
+        self.refuses(["merge", "one", "table", "byte"], "file 2: another kind", 3)
+        self.refuses(["merge", "table", "table", "one"], "file 3: another kind", 3)
+        self.refuses(["merge", "magic", "table", "byte"], "file 1: bad magic", 3)
+        self.refuses(["ask", "kind", ""], "file 1: bad kind", 3)
+        self.refuses(["ask", "table", "x" * 4097, ""], "key 1: too long", 3)
+
+    def test_tables_by_hand(self) -> None:
+        """A table of a seed, whose family is known, and tables of one row, which merge or don't."""
+        self.save("drawn", ["table", "--width", "4", "--depth", "2", "--seed", "7"], b"a,5\ne,2\nb,1\n")
+        data = Path(self.room, "drawn").read_bytes()
+        table = reference.read(data)
+        rows = [(1961435785107874384, 490517405503193563), (1568216229337355262, 2152610774340793925)]
+        holds = (data[:4], len(data), table.z, table.rows, table.total) == (b"HHS2", 122, 9351779398707216, rows, 8)
+        self.check("the table of seed 7", holds, table)
+        asked = self.heavy(["ask", "drawn", "a", "e", "b"])[1].split()
+        estimates = [int(row.split(b",")[2]) for row in asked]
+        self.check("estimates of the table of seed 7", all(map(int.__ge__, estimates, (5, 2, 1))), asked)
+        for name, width, cells in (("one", 1, [1]), ("wide", 2, [1, 0]), ("most", 1, [2**63 - 1])):
+            saved = reference.Table(width, 256, [(1, 0)], sum(cells), [cells])
+            Path(self.room, name).write_bytes(reference.written(saved))
+        two = reference.written(reference.Table(1, 256, [(1, 0)], 2, [[2]]))
+        self.expect(["merge", "one", "one"], (0, two, b""))
+        self.refuses(["merge", "one", "wide"], "file 2: another width", 3)
+        self.refuses(["merge", "one", "most"], "file 2: total too large", 3)
+
+    def test_longest_keys(self) -> None:
+        """Keys of one byte up to the most, in summaries of both methods and in both versions, and keys of one byte more."""
+        for size in (1, 24, 25, 255, 256, 4096):
+            key = b"x" * size
+            summary = reference.Summary(1, 9, {key: 9})
+            for method in ("mg", "ss"):
+                words = ["summarise", "--k", "1", "--method", method]
+                self.expect(words, (0, reference.written(summary), b""), key + b",9\n")
+            self.check(f"a key of {size} bytes takes as many", len(reference.written(summary)) == 17 + 2 + size + 8)
+            for magic, (_, longest) in reference.VERSIONS.items():
+                if size <= longest:
+                    Path(self.room, "key").write_bytes(reference.written(summary, magic))
+                    self.expect(["ask", "key", key], (0, key + b",9,9\n", b""))
 
     def test_digits_and_bytes(self) -> None:
-        """Weights of 20 and 21 digits, and keys of bytes that are no text, up to the longest."""
-        self.refuses(["report"], "record 2: bad weight", 3, b"a,1\nb,000000000000000000001\n")
+        """A weight of 20 digits, and keys of bytes that are no text, up to the longest."""
         self.expect(["report"], (0, b"a,1\n", b""), b"a,00000000000000000001\n")
-        self.refuses(["report"], "record 1: total too large", 3, b"a,99999999999999999999\n")
         for key in (b"\xff", b"\xff" * 255, b"\xff" * 256, b"\xff" * 4096):
             self.expect(["report"], (0, key + b",1\n", b""), key + b"\n")
         self.refuses(["report"], "record 1: key too long", 3, b"\xff" * 4097 + b"\n")

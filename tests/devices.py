@@ -52,6 +52,24 @@ class Devices(programs.Checks):
                 found = shell(f'"$@" {redirection}', [self.program, *command])
                 self.check(f"{command[0]} with {name} as standard input", found == NOT_READ, found)
 
+    def test_unread_inputs(self) -> None:
+        """What is tested before the records are read, where they can't be."""
+        wrong = f"{self.room}/wrong"
+        Path(wrong).write_bytes(b"HHS1\x03")
+        for words, status, text in [
+            (["report", "--depth", "17"], 2, "depth must be 1 to 16"), (["report", "--k", "0"], 2, "k must be 1 to 65535"),
+            (["report", "--workers", "65"], 2, "workers must be 1 to 64"),
+            (["report", "--width", "0"], 2, "width must be 1 to 65536"), (["report", "--pieces", "0"], 2, "pieces must be 1 to 1024"),
+            (["report", "--threshold", "1/4", "--k", "2"], 2, "threshold must be P/Q with 1 <= P <= Q <= 4294967296 and P*(K+1) >= Q"),
+            (["report", "--tree", "(0 1)"], 2, "tree: piece 2 missing"), (["summarise", "--k", "65536"], 2, "k must be 1 to 65535"),
+            (["summarise", "--k", "0", "--method", "ss"], 2, "k must be 1 to 65535"),
+            (["table", "--depth", "0", "--width", "0"], 2, "depth must be 1 to 16"),
+            (["table", "--depth", "16", "--width", "65537"], 2, "width must be 1 to 65536"),
+            (["condense", wrong], 3, "file 1: bad kind"), (["confirm", wrong], 3, "file 1: bad kind"),
+        ]:
+            found = shell('"$@" < /', [self.program, *words])
+            self.check(" ".join(words), found == (status, b"", f"heavy: {text}\n".encode()), found)
+
     def test_outputs(self) -> None:
         """Every command, where its answer can't be written."""
         by_file = [["merge", self.summary], ["ask", self.summary, "a"], ["condense", self.summary], ["confirm", self.summary]]

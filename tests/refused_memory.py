@@ -18,50 +18,35 @@ import programs
 # The program heavy_oom marks a call by requests of these sizes.
 MARKS = {"REFUSE_FROM": "100003", "REFUSE_TO": "100019"}
 
-# The public calls that can answer Memory, by crate.
+# The public calls that can answer Memory, by crate, but for those that a command of the program makes, or a call for C.
 CALLS = {
     "hh_stream": [
         "Key::new", "Key::of_bytes", "Key::copy", "Stream::push", "Cutting::even", "Cutting::by_lengths",
     ],
     "hh_counters": [
-        "Summary::add", "Summary::add_bytes", "Summary::of_items", "Summary::merge", "Candidates::of",
-        "Candidates::contenders", "Candidates::pruned", "Candidates::select", "SpaceSaving::add",
-        "SpaceSaving::into_summary", "BucketSaving::new", "BucketSaving::add", "BucketSaving::add new bucket",
-        "BucketSaving::add moving a key", "BucketSaving::add_bytes", "BucketSaving::into_summary", "monitored_summary",
+        "Summary::add", "Summary::of_items", "Summary::merge", "SpaceSaving::add", "SpaceSaving::into_summary",
+        "BucketSaving::add", "BucketSaving::add new bucket", "BucketSaving::add moving a key", "BucketSaving::into_summary",
     ],
-    "hh_countmin": ["Family::draw", "Family::from_parts", "Family::copy", "Table::new"],
-    "hh_saved": ["write", "write table", "read", "read table", "places"],
-    "hh_shared": ["SharedSums::new", "SharedSums::close"],
-    "hh_pool": [
-        "Plan::chain", "Plan::balanced", "Plan::parse", "merge_by", "first_pass", "second_pass", "analyse",
-    ],
-    "heavy": [
-        "read_stream", "report_text", "write_report", "confirm", "summary_bytes mg", "summary_bytes ss",
-        "table_bytes", "merge_bytes", "merge_bytes tables", "ask_bytes", "ask_key", "ask_keys", "list_entries",
-        "condense_bytes", "confirm_bytes", "run_report",
-    ],
+    "hh_countmin": ["Family::from_parts"],
+    "hh_pool": ["analyse"],
+    "heavy": ["confirm"],
 }
 
-# Calls that take no memory, many in one run, and calls whose answer comes before any growth.
+# Calls that take no memory, many in one run.
 TAKE_NONE = {
-    "hh_stream": ["readers"],
     "hh_counters": [
-        "Summary::new", "Summary readers", "Candidates readers", "SpaceSaving::new", "SpaceSaving readers",
-        "BucketSaving readers", "SpaceSaving::add monitored", "BucketSaving::add monitored",
+        "Summary::new", "SpaceSaving::new", "SpaceSaving readers", "BucketSaving readers", "SpaceSaving::add monitored",
+        "BucketSaving::add monitored",
     ],
-    "hh_countmin": ["Table readers", "Table::from_cells", "Family readers"],
-    "hh_saved": ["read truncated summary", "read truncated table"],
-    "hh_shared": ["steps"],
-    "hh_pool": ["readers"],
     "heavy": ["put"],
 }
 
 # How many lines tell what was lent to a call before it is made.
 LENT = {
-    "Stream::push": 2, "Summary::add": 1, "Summary::add_bytes": 1, "Summary::merge": 2, "SpaceSaving::add": 1,
+    "Stream::push": 2, "Summary::add": 1, "Summary::merge": 2, "SpaceSaving::add": 1,
     "SpaceSaving::into_summary": 1, "SpaceSaving::add monitored": 1, "BucketSaving::add": 1,
     "BucketSaving::add new bucket": 1, "BucketSaving::add moving a key": 1, "BucketSaving::add monitored": 1,
-    "BucketSaving::add_bytes": 1, "BucketSaving::into_summary": 1,
+    "BucketSaving::into_summary": 1,
 }
 
 RECORDS = b"a,5\nb,3\nc,2\na,1\n"
@@ -116,8 +101,6 @@ def is_lawful_call(name: str, ample: programs.Ended, ended: programs.Ended) -> b
     if ample.status != 0 or b"answer " not in ample.out:
         return False
     lent = b"".join(ample.out.splitlines(keepends=True)[: LENT.get(name, 0)])
-    if name == "run_report":
-        lent = b"shows \n"  # nothing was written
     again = lent + b"memory\n" + ample.out
     return same(ample, ended) or (ended.status, ended.out, ended.err) == (0, again, b"")
 
@@ -132,12 +115,14 @@ def is_lawful_run(ample: programs.Ended, ended: programs.Ended) -> bool:
 def refuse_commands(refusing: Refusing, program: str, room: str) -> list[list[str]]:
     """Runs all commands of a program with each request for memory refused in turn, from the first one of the process on,
     and gives their words."""
-    saved, table = f"{room}/summary", f"{room}/table"
+    saved, long, table = f"{room}/summary", f"{room}/long", f"{room}/table"
     Path(saved).write_bytes(programs.run([program, "summarise", "--k", "2"], RECORDS).out)
+    Path(long).write_bytes(programs.run([program, "summarise", "--k", "2"], LONG_RECORDS).out)
     Path(table).write_bytes(programs.run([program, "table", "--depth", "2", "--width", "4"], RECORDS).out)
     rows = [
         (["report", "--k", "2"], RECORDS),
         (["report", "--k", "2", "--workers", "2", "--tree", "((0 1) (2 3))"], LONG_RECORDS),
+        (["report", "--k", "2", "--tree", "chain"], LONG_RECORDS),
         (["report", "--k", "0"], RECORDS),
         (["report", "--k", "2"], b"a,0\n"),
         (["summarise", "--k", "2"], LONG_RECORDS),
@@ -147,15 +132,21 @@ def refuse_commands(refusing: Refusing, program: str, room: str) -> list[list[st
         (["report", "--k", "2", "--progress"], RECORDS),
         (["summarise", "--k", "2", "--progress"], RECORDS),
         (["merge", saved, saved], b""),
+        (["merge", long, long], b""),
         (["merge", table, table], b""),
         (["merge", saved, table], b""),
         (["merge", f"{room}/none"], b""),
         (["ask", saved, "a", "z" * 40], b""),
+        (["ask", long, "a" * 40], b""),
+        (["ask", table, "a"], b""),
         (["list", saved], b""),
+        (["list", long], b""),
         (["describe", saved], b""),
         (["describe", table], b""),
         (["condense", saved], RECORDS),
+        (["condense", long], LONG_RECORDS),
         (["confirm", saved], RECORDS),
+        (["confirm", long], LONG_RECORDS),
         (["confirm", "--threshold", "1/2", saved], RECORDS),
         (["--help"], b""),
         (["--version"], b""),

@@ -80,6 +80,15 @@ static int refusals_of(int which) {
     return -1;
 }
 
+/* Whether a head that promises far more than follows is told as cut short, where there is no memory at all. */
+static int is_cut_short(const char *head, size_t size) {
+    left = 0;
+    uint32_t status = heavy_ask((const uint8_t *)head, size, (const uint8_t *)"a", 1, &low, &high, &told);
+    int was_refused = left < 0;
+    left = -1;
+    return !was_refused && status == HEAVY_REFUSED && told.kind == HEAVY_BAD_FILE && told.cause == HEAVY_FILE_TRUNCATED;
+}
+
 int main(void) {
     char line[80];
     int wrong = 0, refusals = 0;
@@ -93,6 +102,8 @@ int main(void) {
         wrong += met <= 0;
         refusals += met > 0 ? met : 0;
     }
+    static const char SUMMARY[] = "HHS1\1\xff\xff\0\0\0\0\0\0\0\0\xff\xff", TABLE[] = "HHS1\2\0\1\0\0\20";
+    wrong += !is_cut_short(SUMMARY, sizeof SUMMARY - 1) + !is_cut_short(TABLE, sizeof TABLE - 1);
     snprintf(line, sizeof line, "%d refusals, %d wrong\n", refusals, wrong);
     fputs(line, stdout);
     return wrong != 0;

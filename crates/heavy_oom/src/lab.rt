@@ -120,16 +120,6 @@ impl<'a> Lab<'a> {
         Ok(stream)
     }
 
-    /// The same as a text of records.
-    pub fn text(&self) -> Result<Vec<u8>, Fail> {
-        let mut text = Vec::new(self.alloc);
-        for (letter, weight) in [(b'a', b'5'), (b'b', b'3'), (b'c', b'2'), (b'a', b'1')] {
-            text.extend_from_slice(self.bytes(letter)?.as_slice())?;
-            text.extend_from_slice(&[b',', weight, b'\n'])?;
-        }
-        Ok(text)
-    }
-
     /// The summary of the items for k = 2: a 4, b 1.
     pub fn summary(&self) -> Result<Summary, Fail> {
         Ok(Summary::of_items(self.alloc, 2, self.stream()?.items())?)

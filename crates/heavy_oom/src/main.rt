@@ -11,9 +11,6 @@ mod countmin;
 mod lab;
 mod monitors;
 mod pool;
-mod records;
-mod saved;
-mod shared;
 mod show;
 mod stream;
 
@@ -29,10 +26,8 @@ fn call<R: Threads + Wait + Sync>(rt: &R, lab: &Lab, of: &str, name: &str) -> Re
         "hh_stream" => stream::call(lab, name),
         "hh_counters" => counters::call(lab, name),
         "hh_countmin" => countmin::call(lab, name),
-        "hh_saved" => saved::call(lab, name),
-        "hh_shared" => shared::call(lab, name),
         "hh_pool" => pool::call(rt, lab, name),
-        "heavy" => commands::call(rt, lab, name),
+        "heavy" => commands::call(lab, name),
         _ => Err(lab::no_such_call(name)),
     }
 }

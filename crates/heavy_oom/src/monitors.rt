@@ -4,9 +4,8 @@ ghost use Rattle.std.specs.Prelude.{◌<◌};
 
 use crate::lab::{Lab, Said, marked, no_such_call};
 use crate::show::{Counters, Numbers};
-use hh_counters::{AddFault, BucketSaving, Monitor, NewFault, SpaceSaving, monitored_summary};
+use hh_counters::{AddFault, BucketSaving, Monitor, SpaceSaving};
 use hh_stream::{Item, Key};
-use std::alloc::AllocError;
 use std::fmt;
 use std::test::Fail;
 
@@ -17,7 +16,6 @@ pub fn call(lab: &Lab, name: &str) -> Result<Said, Fail> {
         "SpaceSaving::into_summary" => translated(lab, SpaceSaving::new(lab.alloc, 2)?),
         "SpaceSaving readers" => readers(lab, SpaceSaving::new(lab.alloc, 2)?),
         "SpaceSaving::new" => space_saving_new(lab),
-        "monitored_summary" => summarised(lab),
         _ => bucketed(lab, name),
     }
 }
@@ -26,12 +24,10 @@ pub fn call(lab: &Lab, name: &str) -> Result<Said, Fail> {
 // bucket of 5: with 3 more than c a newcomer goes into that bucket, and with 4 more into a new one.
 fn bucketed(lab: &Lab, name: &str) -> Result<Said, Fail> {
     match name {
-        "BucketSaving::new" => bucket_saving_new(lab),
         "BucketSaving::add" => added(lab, BucketSaving::new(lab.alloc, 2)?, b'd', 3),
         "BucketSaving::add new bucket" => added(lab, BucketSaving::new(lab.alloc, 2)?, b'd', 4),
         "BucketSaving::add moving a key" => added(lab, waiting(lab)?, b'd', 4),
         "BucketSaving::add monitored" => added(lab, BucketSaving::new(lab.alloc, 2)?, b'c', 4),
-        "BucketSaving::add_bytes" => bytes_added(lab),
         "BucketSaving::into_summary" => translated(lab, BucketSaving::new(lab.alloc, 2)?),
         "BucketSaving readers" => readers(lab, BucketSaving::new(lab.alloc, 2)?),
         _ => Err(no_such_call(name)),
@@ -104,40 +100,7 @@ fn added_once<M: Monitor>(
     requires { 0 < weight }
 {
     show(lab, monitor, keys)?;
-    let added = marked!(lab, monitor.add(key, weight));
-    told(lab, monitor, keys, added)
-}
-
-// The same by the bytes of the key.
-fn bytes_added(lab: &Lab) -> Result<Said, Fail> {
-    let keys = keys(lab)?;
-    let key = lab.key(b'd')?;
-    let mut monitor = BucketSaving::new(lab.alloc, 2)?;
-    add_all(&mut monitor, lab.stream()?.items())?;
-    match bytes_added_once(lab, &mut monitor, keys.as_slice(), &key)? {
-        Said::Answer => Ok(Said::Answer),
-        Said::Memory => bytes_added_once(lab, &mut monitor, keys.as_slice(), &key),
-    }
-}
-
-fn bytes_added_once(
-    lab: &Lab,
-    monitor: &mut BucketSaving,
-    keys: &[Key],
-    key: &Key,
-) -> Result<Said, Fail> {
-    show(lab, monitor, keys)?;
-    let added = marked!(lab, monitor.add_bytes(key.bytes(), 4));
-    told(lab, monitor, keys, added)
-}
-
-fn told<M: Monitor>(
-    lab: &Lab,
-    monitor: &M,
-    keys: &[Key],
-    added: Result<(), AddFault>,
-) -> Result<Said, Fail> {
-    match added {
+    match marked!(lab, monitor.add(key, weight)) {
         Ok(()) => lab.answer(Monitored { monitor, keys }),
         Err(AddFault::Memory) => lab.refused(),
         Err(fault) => Err(fault.into()),
@@ -173,22 +136,6 @@ fn translated_once<M: Monitor>(lab: &Lab, monitor: M, keys: &[Key]) -> Result<Op
             let _said = lab.refused()?;
             Ok(Some(back))
         }
-    }
-}
-
-fn bucket_saving_new(lab: &Lab) -> Result<Said, Fail> {
-    match marked!(lab, BucketSaving::new(lab.alloc, 2)) {
-        Err(NewFault::Memory) => lab.refused(),
-        made => lab.answer(made?.total()),
-    }
-}
-
-fn summarised(lab: &Lab) -> Result<Said, Fail> {
-    let stream = lab.stream()?;
-    let monitor = BucketSaving::new(lab.alloc, 2)?;
-    match marked!(lab, monitored_summary(monitor, stream.items())) {
-        Err(AllocError) => lab.refused(),
-        Ok(summary) => lab.answer(Counters(&summary)),
     }
 }
 

@@ -1,15 +1,9 @@
-//! The calls of `hh_pool`.
+//! The analyses of `hh_pool`.
 
 use crate::lab::{Lab, Said, marked, no_such_call};
 use crate::show::{Cells, Counters, Numbers, Report};
-use hh_counters::{Candidates, MergeFault, Summary};
-use hh_pool::{
-    Gate, OpenGate, Options, Outcome, Plan, PlanFault, RunError, analyse, first_pass, merge_by,
-    second_pass,
-};
-use hh_shared::SharedSums;
+use hh_pool::{Gate, OpenGate, Options, Outcome, Plan, RunError, analyse};
 use hh_stream::{Cutting, Key, Stream};
-use std::alloc::AllocError;
 use std::sync::Wait;
 use std::sync::atomic::AtomicU64;
 use std::sync::atomic::Ordering::SeqCst;
@@ -18,127 +12,14 @@ use std::thread::Threads;
 
 pub fn call<R: Threads + Wait + Sync>(rt: &R, lab: &Lab, name: &str) -> Result<Said, Fail> {
     match name {
-        "Plan::chain" => planned(lab, marked!(lab, Plan::chain(lab.alloc, 4))),
-        "Plan::balanced" => planned(lab, marked!(lab, Plan::balanced(lab.alloc, 4))),
-        "Plan::parse" => plan_parse(lab),
-        "merge_by" => merged(lab),
-        "first_pass" => first(lab),
-        "second_pass" => second(lab),
         "analyse" => analysed(rt, lab),
         "analyse many keys" => analysed_many(rt, lab),
-        "readers" => readers(lab),
         _ => Err(no_such_call(name)),
-    }
-}
-
-fn planned(lab: &Lab, made: Result<Plan, AllocError>) -> Result<Said, Fail> {
-    match made {
-        Err(AllocError) => lab.refused(),
-        Ok(plan) => lab.answer(plan.count()),
-    }
-}
-
-fn plan_parse(lab: &Lab) -> Result<Said, Fail> {
-    match marked!(lab, Plan::parse(lab.alloc, b"((0 3) (1 2))", 4)) {
-        Err(PlanFault::Memory) => lab.refused(),
-        made => lab.answer(made?.count()),
-    }
-}
-
-// The summaries of the four items in two pieces.
-fn summaries(lab: &Lab) -> Result<Vec<Summary>, Fail> {
-    let stream = lab.stream()?;
-    let cutting = Cutting::even(lab.alloc, stream.len(), 2)?;
-    if cutting.len() != stream.len() {
-        return Err(Fail::new("not the stream's cutting"));
-    }
-    let mut summaries = Vec::new(lab.alloc);
-    for i in 0..cutting.count() {
-        let piece = cutting.piece(&stream, i);
-        summaries.push(Summary::of_items(lab.alloc, 2, piece)?)?;
-    }
-    Ok(summaries)
-}
-
-fn merged(lab: &Lab) -> Result<Said, Fail> {
-    let plan = Plan::chain(lab.alloc, 2)?;
-    let summaries = summaries(lab)?;
-    if summaries.len() != plan.count() {
-        return Err(Fail::new("not two summaries"));
-    }
-    match marked!(lab, merge_by(lab.alloc, &plan, summaries)) {
-        Err(MergeFault::Memory) => lab.refused(),
-        made => lab.answer(Counters(&made?)),
     }
 }
 
 fn options(lab: &Lab, workers: u64) -> Result<Options, Fail> {
     Ok(Options::new(2, 1, 3, workers, 4, lab.family()?)?)
-}
-
-// A worker of the first pass over two pieces.
-fn first(lab: &Lab) -> Result<Said, Fail> {
-    let stream = lab.stream()?;
-    let cutting = Cutting::even(lab.alloc, stream.len(), 2)?;
-    first_by(lab, &stream, &cutting)
-}
-
-fn first_by(lab: &Lab, stream: &Stream, cutting: &Cutting) -> Result<Said, Fail> {
-    if cutting.len() != stream.len() {
-        return Err(Fail::new("not the stream's cutting"));
-    }
-    let family = lab.family()?;
-    let cells = (family.depth() * 4) as usize;
-    let options = Options::new(2, 1, 3, 1, 4, family)?;
-    let (sums, seat) = SharedSums::new(lab.alloc, cutting.count(), cells)?;
-    lab.begin();
-    let done = first_pass(
-        lab.alloc, &sums, seat, stream, cutting, &options, &OpenGate, 0,
-    );
-    lab.end();
-    match done {
-        Err(AllocError) => lab.refused(),
-        Ok((seat, found)) => {
-            show_found(lab, found.as_slice())?;
-            lab.answer(sums.holds_all(&seat))
-        }
-    }
-}
-
-fn show_found(lab: &Lab, found: &[(usize, Summary)]) -> Result<(), Fail> {
-    for (_, summary) in found {
-        lab.show(Counters(summary))?;
-    }
-    Ok(())
-}
-
-// A worker of the second pass over two pieces.
-fn second(lab: &Lab) -> Result<Said, Fail> {
-    let stream = lab.stream()?;
-    let cutting = Cutting::even(lab.alloc, stream.len(), 2)?;
-    let candidates = Candidates::of(lab.alloc, &lab.summary()?)?;
-    second_by(lab, &stream, &cutting, &candidates)
-}
-
-fn second_by(
-    lab: &Lab,
-    stream: &Stream,
-    cutting: &Cutting,
-    candidates: &Candidates,
-) -> Result<Said, Fail> {
-    if cutting.len() != stream.len() || candidates.len() != 2 {
-        return Err(Fail::new("not the stream's cutting"));
-    }
-    let (sums, seat) = SharedSums::new(lab.alloc, cutting.count(), candidates.len())?;
-    lab.begin();
-    let done = second_pass(
-        lab.alloc, &sums, seat, stream, cutting, candidates, &OpenGate, 0,
-    );
-    lab.end();
-    match done {
-        Err(AllocError) => lab.refused(),
-        Ok(seat) => lab.answer(sums.holds_all(&seat)),
-    }
 }
 
 /// A stream in pieces, and how it is analysed.
@@ -251,16 +132,4 @@ fn analysed_many<R: Threads + Wait + Sync>(rt: &R, lab: &Lab) -> Result<Said, Fa
             lab.answer(Numbers(&[calls]))
         }
     }
-}
-
-// The calls that take no memory.
-fn readers(lab: &Lab) -> Result<Said, Fail> {
-    let plan = Plan::balanced(lab.alloc, 4)?;
-    let family = lab.family()?;
-    lab.begin();
-    OpenGate.before(1, 0, 0);
-    let pieces = plan.count() as u64;
-    let made = Options::new(2, 1, 3, 1, 4, family).is_ok();
-    lab.end();
-    lab.answer(Numbers(&[pieces, u64::from(made)]))
 }

@@ -2,7 +2,7 @@
 
 use crate::lab::{Lab, Said, marked, no_such_call};
 use crate::show::{Hex, Items};
-use hh_stream::{Cutting, CuttingFault, Item, Key, KeyFault, PushFault, PushRefused, Stream};
+use hh_stream::{Cutting, CuttingFault, Key, KeyFault, PushFault, PushRefused, Stream};
 use std::alloc::AllocError;
 use std::test::Fail;
 
@@ -19,7 +19,6 @@ pub fn call(lab: &Lab, name: &str) -> Result<Said, Fail> {
                 marked!(lab, Cutting::by_lengths(lab.alloc, 10, &[3, 0, 7])),
             )
         }
-        "readers" => readers(lab),
         _ => Err(no_such_call(name)),
     }
 }
@@ -89,39 +88,4 @@ fn cut(lab: &Lab, made: Result<Cutting, CuttingFault>) -> Result<Said, Fail> {
         Err(CuttingFault::Memory) => lab.refused(),
         made => lab.answer(made?.count()),
     }
-}
-
-// The calls that take no memory.
-fn readers(lab: &Lab) -> Result<Said, Fail> {
-    let stream = lab.stream()?;
-    let cutting = Cutting::even(lab.alloc, stream.len(), 3)?;
-    let a = lab.key(b'a')?;
-    lab.begin();
-    let empty = Stream::new(lab.alloc).len();
-    let piece = first_piece(&stream, &cutting);
-    let largest = largest(stream.items(), &a);
-    let total = stream.total();
-    lab.end();
-    lab.answer(format_args!("{empty} {piece} {largest} {total}"))
-}
-
-// How many items the first of three pieces has.
-fn first_piece(stream: &Stream, cutting: &Cutting) -> usize {
-    if cutting.len() == stream.len() && cutting.count() == 3 {
-        cutting.piece(stream, 0).len()
-    } else {
-        0
-    }
-}
-
-// The largest weight or length of a key that does not stand before the least.
-fn largest(items: &[Item], least: &Key) -> u64 {
-    let mut largest = 0u64;
-    for item in items {
-        let len = item.key().bytes().len() as u64;
-        if item.key() == least || item.key() > least {
-            largest = largest.max(item.weight()).max(len);
-        }
-    }
-    largest
 }

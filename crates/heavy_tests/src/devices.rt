@@ -1,4 +1,4 @@
-//! Readers and writers that fail, or that a signal interrupts.
+//! Readers that fail, and writers that fail or that a signal interrupts.
 
 use std::io;
 use std::io::{Error, ErrorKind, Read, Write};
@@ -10,21 +10,14 @@ pub(crate) struct Source<'a> {
     bytes: &'a [u8],
     reads: &'a mut u64,
     fails_at: u64,
-    fault: ErrorKind,
 }
 
 impl<'a> Source<'a> {
-    pub(crate) fn new(
-        bytes: &'a [u8],
-        reads: &'a mut u64,
-        fails_at: u64,
-        fault: ErrorKind,
-    ) -> Source<'a> {
+    pub(crate) fn new(bytes: &'a [u8], reads: &'a mut u64, fails_at: u64) -> Source<'a> {
         Source {
             bytes,
             reads,
             fails_at,
-            fault,
         }
     }
 }
@@ -33,7 +26,7 @@ impl Read for Source<'_> {
     fn read(&mut self, buf: &mut [u8]) -> io::Result<usize> {
         *self.reads = self.reads.saturating_add(1);
         if *self.reads == self.fails_at {
-            return Err(Error::from(self.fault));
+            return Err(Error::from(ErrorKind::BrokenPipe));
         }
         let count = self.bytes.len().min(4).min(buf.len());
         buf[..count].copy_from_slice(&self.bytes[..count]);

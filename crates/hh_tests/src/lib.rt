@@ -7,8 +7,6 @@ mod candidates;
 #[cfg(test)]
 mod fixtures;
 #[cfg(test)]
-mod limits;
-#[cfg(test)]
 mod monitors;
 #[cfg(test)]
 mod streams;

@@ -1,10 +1,10 @@
 //! The forms of Space-Saving on small streams, and side by side on a longer one.
 
-use crate::fixtures::{FOUR_RECORDS, key_of, shown, stream_of};
+use crate::fixtures::{FOUR_RECORDS, shown, stream_of};
 use hh_counters::{
     AddFault, BadK, BucketSaving, Monitor, NewFault, SpaceSaving, Summary, monitored_summary,
 };
-use hh_stream::{Item, Key, MAX_TOTAL, Stream};
+use hh_stream::{Item, Key, Stream};
 use std::alloc::Global;
 use std::test::Fail;
 
@@ -89,64 +89,13 @@ fn each_form_counts_small_streams(rt: HostRuntime) -> Result<(), Fail> {
 }
 
 #[test]
-fn buckets_count_keys_by_their_bytes(rt: HostRuntime) -> Result<(), Fail> {
-    let long = "a key of more than 24 bytes";
-    let items = [("a", 5), (long, 3), ("a", 1), (long, 4), ("b", 2)];
-    let stream = stream_of(rt.alloc(), &items)?;
-    let mut monitor = BucketSaving::new(rt.alloc(), 1)?;
-    for item in stream.items() {
-        monitor.add_bytes(item.key().bytes(), item.weight())?;
+fn k_is_1_to_65535(rt: HostRuntime) {
+    for (k, refused) in [(0, true), (1, false), (65_535, false), (65_536, true)] {
+        let plain = SpaceSaving::new(rt.alloc(), k).err();
+        assert_eq!(rt; plain, refused.then_some(BadK));
+        let buckets = BucketSaving::new(rt.alloc(), k).err();
+        assert_eq!(rt; buckets, refused.then_some(NewFault::BadK));
     }
-    let text = counters(rt.alloc(), &monitor)?;
-    assert_eq!(rt; text.as_str(), "b 8 of 15, least 7");
-    assert_eq!(rt; monitor.get(&key_of(rt.alloc(), long)?), 7);
-    Ok(())
-}
-
-#[test]
-fn plain_form_has_k_from_1_to_65535(rt: HostRuntime) {
-    let refused = Some(BadK);
-    for (k, fault) in [(0, refused), (1, None), (65_535, None), (65_536, refused)] {
-        assert_eq!(rt; SpaceSaving::new(rt.alloc(), k).err(), fault);
-    }
-}
-
-#[test]
-fn buckets_have_k_from_1_to_65535(rt: HostRuntime) {
-    let refused = Some(NewFault::BadK);
-    for (k, fault) in [(0, refused), (1, None), (65_535, None), (65_536, refused)] {
-        assert_eq!(rt; BucketSaving::new(rt.alloc(), k).err(), fault);
-    }
-}
-
-#[test]
-fn new_plain_form_is_empty(rt: HostRuntime) -> Result<(), Fail> {
-    let monitor = SpaceSaving::new(rt.alloc(), 2)?;
-    assert!(rt; monitor.k() == 2 && monitor.is_empty());
-    Ok(())
-}
-
-#[test]
-fn new_buckets_are_empty(rt: HostRuntime) -> Result<(), Fail> {
-    let monitor = BucketSaving::new(rt.alloc(), 2)?;
-    assert!(rt; monitor.k() == 2 && monitor.is_empty());
-    Ok(())
-}
-
-// What comes of the key with the largest total, and then with 1 more, and its counter.
-fn filled<M: Monitor>(mut monitor: M, key: &Key) -> Result<(Option<AddFault>, u64), AddFault> {
-    monitor.add(key, MAX_TOTAL)?;
-    let fault = monitor.add(key, 1).err();
-    Ok((fault, monitor.get(key)))
-}
-
-#[test]
-fn monitored_total_has_a_largest_value(rt: HostRuntime) -> Result<(), Fail> {
-    let key = key_of(rt.alloc(), "a")?;
-    let full = (Some(AddFault::TotalTooLarge), MAX_TOTAL);
-    assert_eq!(rt; filled(SpaceSaving::new(rt.alloc(), 1)?, &key)?, full);
-    assert_eq!(rt; filled(BucketSaving::new(rt.alloc(), 1)?, &key)?, full);
-    Ok(())
 }
 
 // The one-byte keys 0 to 40.
@@ -208,30 +157,17 @@ const LONG_SUMMARY: &str =
     "\u{2} 6 \u{8} 2 \u{a} 5 \u{12} 4 \u{15} 2 \u{19} 4 $ 3 % 6 ' 4 ( 6 of 39994, slack 3632";
 
 #[test]
-fn summary_of_10000_items(rt: HostRuntime) -> Result<(), Fail> {
-    let stream = long_stream(rt.alloc())?;
-    let summary = Summary::of_items(rt.alloc(), 10, stream.items())?;
-    let text = shown(rt.alloc(), &summary)?;
-    assert_eq!(rt; text.as_str(), LONG_SUMMARY);
-    Ok(())
-}
-
-#[test]
-fn plain_form_translates_10000_items(rt: HostRuntime) -> Result<(), Fail> {
-    let stream = long_stream(rt.alloc())?;
-    let monitor = SpaceSaving::new(rt.alloc(), 10)?;
-    let summary = monitored_summary(monitor, stream.items())?;
-    let text = shown(rt.alloc(), &summary)?;
-    assert_eq!(rt; text.as_str(), LONG_SUMMARY);
-    Ok(())
-}
-
-#[test]
-fn buckets_translate_10000_items(rt: HostRuntime) -> Result<(), Fail> {
-    let stream = long_stream(rt.alloc())?;
-    let monitor = BucketSaving::new(rt.alloc(), 10)?;
-    let summary = monitored_summary(monitor, stream.items())?;
-    let text = shown(rt.alloc(), &summary)?;
-    assert_eq!(rt; text.as_str(), LONG_SUMMARY);
+fn each_form_translates_10000_items(rt: HostRuntime) -> Result<(), Fail> {
+    let alloc = rt.alloc();
+    let stream = long_stream(alloc)?;
+    let items = stream.items();
+    for summary in [
+        Summary::of_items(alloc, 10, items)?,
+        monitored_summary(SpaceSaving::new(alloc, 10)?, items)?,
+        monitored_summary(BucketSaving::new(alloc, 10)?, items)?,
+    ] {
+        let text = shown(alloc, &summary)?;
+        assert_eq!(rt; text.as_str(), LONG_SUMMARY);
+    }
     Ok(())
 }

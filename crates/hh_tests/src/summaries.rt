@@ -3,7 +3,7 @@
 ghost use Rattle.std.specs.Prelude.{◌<◌};
 
 use crate::fixtures::{FOUR_RECORDS, key_of, shown, stream_of, summary_of};
-use hh_counters::{AddFault, MergeFault, OfItemsFault, Summary};
+use hh_counters::{AddFault, MergeFault, Summary};
 use hh_stream::{Item, Key, MAX_TOTAL};
 use std::alloc::Global;
 use std::test::Fail;
@@ -52,34 +52,11 @@ fn items_are_added_one_by_one(rt: HostRuntime) -> Result<(), Fail> {
 }
 
 #[test]
-fn counters_are_found_by_key(rt: HostRuntime) -> Result<(), Fail> {
-    let summary = summary_of(rt.alloc(), 2, &FOUR_RECORDS)?;
-    for (text, counter) in [("a", 4), ("b", 1), ("c", 0)] {
-        let key = key_of(rt.alloc(), text)?;
-        assert_eq!(rt; summary.get(&key), counter);
-    }
-    Ok(())
-}
-
-#[test]
-fn summary_tells_its_numbers(rt: HostRuntime) -> Result<(), Fail> {
-    let summary = summary_of(rt.alloc(), 2, &FOUR_RECORDS)?;
-    assert!(rt; summary.k() == 2 && summary.sum() == 5 && !summary.is_empty());
-    Ok(())
-}
-
-#[test]
 fn k_is_1_to_65535(rt: HostRuntime) {
     for (k, refused) in [(0, true), (1, false), (65_535, false), (65_536, true)] {
         let summary = Summary::new(rt.alloc(), k);
         assert_eq!(rt; summary.is_err(), refused);
     }
-}
-
-#[test]
-fn items_have_no_summary_for_k_of_0(rt: HostRuntime) {
-    let fault = Summary::of_items(rt.alloc(), 0, &[]).err();
-    assert_eq!(rt; fault, Some(OfItemsFault::BadK));
 }
 
 // What comes of one more item a with this weight after the four records.
@@ -93,30 +70,16 @@ fn raised(alloc: Global, weight: u64) -> Result<(Option<AddFault>, String), Fail
 }
 
 #[test]
-fn total_above_the_largest_is_refused(rt: HostRuntime) -> Result<(), Fail> {
-    let (fault, text) = raised(rt.alloc(), MAX_TOTAL - 10)?;
-    assert_eq!(rt; fault, Some(AddFault::TotalTooLarge));
-    assert_eq!(rt; text.as_str(), "a 4 b 1 of 11, slack 2");
-    Ok(())
-}
-
-#[test]
 fn total_has_a_largest_value(rt: HostRuntime) -> Result<(), Fail> {
-    let (fault, text) = raised(rt.alloc(), MAX_TOTAL - 11)?;
-    assert_eq!(rt; fault, None);
-    assert_eq!(rt;
-        text.as_str(),
-        "a 9223372036854775800 b 1 of 9223372036854775807, slack 2"
-    );
-    Ok(())
-}
-
-#[test]
-fn merges_two_summaries(rt: HostRuntime) -> Result<(), Fail> {
-    let mut summary = summary_of(rt.alloc(), 2, &FOUR_RECORDS)?;
-    summary.merge(&summary_of(rt.alloc(), 2, &[("b", 2), ("c", 3)])?)?;
-    let text = shown(rt.alloc(), &summary)?;
-    assert_eq!(rt; text.as_str(), "a 1 of 16, slack 5");
+    let full = "a 9223372036854775800 b 1 of 9223372036854775807, slack 2";
+    for (less, fault, expected) in [
+        (10, Some(AddFault::TotalTooLarge), "a 4 b 1 of 11, slack 2"),
+        (11, None, full),
+    ] {
+        let (found, text) = raised(rt.alloc(), MAX_TOTAL - less)?;
+        assert_eq!(rt; found, fault);
+        assert_eq!(rt; text.as_str(), expected);
+    }
     Ok(())
 }
 
@@ -132,25 +95,6 @@ fn summaries_with_different_k_do_not_merge(rt: HostRuntime) -> Result<(), Fail> 
     Ok(())
 }
 
-// The summary with k = 1 of two items, merged into that of a third, which weighs 2.
-fn merged(alloc: Global, pair: &[(&str, u64)], last: &str) -> Result<String, Fail> {
-    let mut summary = summary_of(alloc, 1, &[(last, 2)])?;
-    summary.merge(&summary_of(alloc, 1, pair)?)?;
-    shown(alloc, &summary)
-}
-
-#[test]
-fn merge_keeps_what_is_above_the_level(rt: HostRuntime) -> Result<(), Fail> {
-    for (pair, last, expected) in [
-        ([("b", 1), ("c", 1)], "a", "a 2 of 4, slack 1"),
-        ([("a", 1), ("a", 1)], "b", "of 4, slack 2"),
-    ] {
-        let text = merged(rt.alloc(), &pair, last)?;
-        assert_eq!(rt; text.as_str(), expected);
-    }
-    Ok(())
-}
-
 // Keys with counters, in this order.
 fn entries_of(alloc: Global, items: &[(&str, u64)]) -> Result<Vec<(Key, u64)>, Fail> {
     let mut entries = Vec::new(alloc);
@@ -161,27 +105,18 @@ fn entries_of(alloc: Global, items: &[(&str, u64)]) -> Result<Vec<(Key, u64)>, F
 }
 
 #[test]
-fn summary_is_made_of_entries(rt: HostRuntime) -> Result<(), Fail> {
-    let entries = entries_of(rt.alloc(), &[("a", 4), ("b", 1)])?;
-    assert!(rt; Summary::fits(2, 11, &entries));
-    let summary = Summary::from_entries(2, 11, entries);
-    let text = shown(rt.alloc(), &summary)?;
-    assert_eq!(rt; text.as_str(), "a 4 b 1 of 11, slack 2");
-    Ok(())
-}
-
-#[test]
-fn fits_refuses_what_is_no_summary(rt: HostRuntime) -> Result<(), Fail> {
-    for (k, total, items) in [
-        (2, 11, [("b", 1), ("a", 4)].as_slice()),
-        (2, 11, [("a", 4), ("b", 0)].as_slice()),
-        (2, 11, [("a", 4), ("b", 1), ("c", 1)].as_slice()),
-        (2, 4, [("a", 4), ("b", 1)].as_slice()),
-        (2, MAX_TOTAL + 1, [("a", 4), ("b", 1)].as_slice()),
-        (0, 11, [].as_slice()),
+fn entries_that_fit_a_summary(rt: HostRuntime) -> Result<(), Fail> {
+    for (k, total, items, fits) in [
+        (2, 11, [("a", 4), ("b", 1)].as_slice(), true),
+        (2, 11, [("b", 1), ("a", 4)].as_slice(), false),
+        (2, 11, [("a", 4), ("b", 0)].as_slice(), false),
+        (2, 11, [("a", 4), ("b", 1), ("c", 1)].as_slice(), false),
+        (2, 4, [("a", 4), ("b", 1)].as_slice(), false),
+        (2, MAX_TOTAL + 1, [("a", 4), ("b", 1)].as_slice(), false),
+        (0, 11, [].as_slice(), false),
     ] {
         let entries = entries_of(rt.alloc(), items)?;
-        assert!(rt; !Summary::fits(k, total, &entries));
+        assert_eq!(rt; Summary::fits(k, total, &entries), fits);
     }
     Ok(())
 }

@@ -178,13 +178,3 @@ fn cells_make_tables_where_rows_sum_to_the_total(rt: HostRuntime) -> Result<(), 
     assert_eq!(rt; estimate_of(&rt, &table, b"a")?, 7);
     Ok(())
 }
-
-#[test]
-fn largest_table_counts_the_longest_key(rt: HostRuntime) -> Result<(), Fail> {
-    let longest = Key::new(rt.alloc(), &[0xff; 4096])?;
-    let family = Family::draw(rt.alloc(), 7, 16)?;
-    let mut table = Table::new(rt.alloc(), family, 65_536)?;
-    table.add(&longest, 9)?;
-    assert_eq!(rt; (table.estimate(&longest), table.total()), (9, 9));
-    Ok(())
-}
