@@ -145,9 +145,12 @@ class FullSize(programs.Checks):
     def test_readers(self) -> None:
         """A reader that is interrupted 100,000 times reads on; one that would block is a fault, at once."""
         library = programs.preloaded("interrupt.c", self.room)
+        counters = self.save("four.heavy", reference.summarise(RECORDS, 2))
         for words, out in [
             (["report", "--k", "2"], b"a,6\n"),
             (["summarise", "--k", "2"], reference.summarise(RECORDS, 2)),
+            (["condense", counters], b"a,6\nb,3\nothers,2\n"),
+            (["confirm", counters], b"a,6\n"),
         ]:
             ear, mouth = os.pipe()
             env = {"LD_PRELOAD": library, "INTERRUPTS": "100000", "INTERRUPTS_TOLD_ON": str(mouth)}
