@@ -1,6 +1,6 @@
 //! What neither a clause nor a run of the program shows: devices that fail in mid-stream, a summary
-//! confirmed over a stream in memory, and the texts of the libraries' own faults. They are a crate of
-//! their own, since a crate with tests is proved twice.
+//! confirmed over a stream in memory, and the texts of the libraries' own faults. They are a crate
+//! of their own, since a crate with tests is proved twice.
 #![tactic(auto)]
 
 #[cfg(test)]

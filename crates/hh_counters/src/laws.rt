@@ -22,8 +22,8 @@ pub fn counters_bound_weights()
     ensures { CountersBoundWeights }
 {}
 
-/// Honest counters are within the total and near each weight. They are honest for any items of which
-/// each key weighs the same, so also in whatever order the items come.
+/// Honest counters are within the total and near each weight. They are honest for any items of
+/// which each key weighs the same, so also in whatever order the items come.
 pub fn honest_is_near()
     ensures near { HonestIsNear }
     ensures order { HonestInAnyOrder }
@@ -41,8 +41,8 @@ pub fn sum_is_by_key()
     ensures join { JoinTakesTheLevel }
 {}
 
-/// The report has exactly the heavy keys with their weights, in order, and no other list does. So it
-/// is of the rows above a share, of any keys with numbers.
+/// The report has exactly the heavy keys with their weights, in order, and no other list does. So
+/// it is of the rows above a share, of any keys with numbers.
 pub fn report_is_exact()
     ensures exact { ReportIsExact }
     ensures rows { RowsAreExact }

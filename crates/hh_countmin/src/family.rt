@@ -85,7 +85,8 @@ impl Family {
         Family::of_seed(alloc, seed, depth).map_err(|_| DrawFault::Memory)
     }
 
-    /// [`draw`](Family::draw) for a depth from 1 to [`MAX_DEPTH`], where only memory can be refused.
+    /// [`draw`](Family::draw) for a depth from 1 to [`MAX_DEPTH`], where only memory can be
+    /// refused.
     pub fn of_seed(alloc: Global, seed: u64, depth: u64) -> Result<Family, AllocError>
         requires { in_range depth max_depth ≡ true }
         ensures { IfOk result (λ family. family ≡ drawn_family seed depth) }

@@ -64,7 +64,8 @@ pub enum OptionsFault {
     /// The width is not 1 to 65,536.
     #[error("width must be 1 to 65536")]
     BadWidth,
-    /// The threshold is not p/q with 1 <= p <= q <= [`MAX_Q`](hh_counters::MAX_Q), or it is below 1/(k + 1).
+    /// The threshold is not p/q with 1 <= p <= q <= [`MAX_Q`](hh_counters::MAX_Q), or it is below
+    /// 1/(k + 1).
     #[error("threshold must be p/q with 1 <= p <= q <= 4294967296 and p*(k+1) >= q")]
     BadThreshold,
 }

@@ -1,5 +1,5 @@
-//! The worked rows on keys, streams and cuttings, on summaries, monitors and candidates, and on tables.
-//! They are a crate of their own, since a crate with tests is proved twice.
+//! The worked rows on keys, streams and cuttings, on summaries, monitors and candidates, and on
+//! tables. They are a crate of their own, since a crate with tests is proved twice.
 #![tactic(auto)]
 
 #[cfg(test)]
