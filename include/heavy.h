@@ -57,7 +57,7 @@ extern "C" {
 #define HEAVY_BAD_K 2u
 #define HEAVY_BAD_WIDTH 4u
 #define HEAVY_BAD_METHOD 7u
-#define HEAVY_BAD_RECORD 9u    /* number of the record; cause HEAVY_RECORD_.. */
+#define HEAVY_BAD_RECORD 9u    /* number of the record or item; cause HEAVY_RECORD_.. */
 #define HEAVY_BAD_FILE 10u     /* number of the file; cause HEAVY_FILE_.. */
 #define HEAVY_MIXED_KINDS 11u  /* number of the file */
 #define HEAVY_CANNOT_MERGE 12u /* number of the file; cause HEAVY_MERGE_.. */
@@ -65,6 +65,9 @@ extern "C" {
 #define HEAVY_NOT_COUNTERS 14u
 #define HEAVY_TOTAL_DIFFERS 15u
 #define HEAVY_NO_MEMORY 18u
+#define HEAVY_BAD_THRESHOLD 19u
+#define HEAVY_BAD_END 20u /* number of the item */
+#define HEAVY_BAD_WEIGHT_COUNT 21u
 
 #define HEAVY_RECORD_FIELD_COUNT 1u
 #define HEAVY_RECORD_EMPTY_KEY 2u
@@ -97,7 +100,7 @@ extern "C" {
 #define HEAVY_KEY_EMPTY 1u
 #define HEAVY_KEY_TOO_LONG 2u
 
-/* Why a call refused. Records, files and keys are numbered from 1. */
+/* Why a call refused. Records, items, files and keys are numbered from 1. */
 struct heavy_fault {
     uint32_t kind;
     uint32_t cause;
@@ -135,6 +138,21 @@ uint32_t heavy_version(void);
 uint32_t heavy_summarise(const uint8_t *text, size_t text_len, uint64_t k, uint32_t method, uint8_t *out,
                          size_t out_len, size_t *needed, struct heavy_fault *fault);
 
+/* Gives the saved summary of no items with k counters, k from 1 to 65535: 17 bytes, HEAVY_SUMMARY_ROOM(0, 0). */
+uint32_t heavy_empty(uint64_t k, uint8_t *out, size_t out_len, size_t *needed, struct heavy_fault *fault);
+
+/* Gives the saved summary of a saved file with count items added, in order. So what heavy_empty gives, or
+   heavy_summarise, becomes the summary of its stream followed by these items, and no more is kept of the stream.
+   Key i is the bytes of keys from ends[i - 1], or from 0, to ends[i]. Its weight is weights[i], or 1 where weights_len
+   is 0. First each end has to be at least the end before it and at most keys_len, else the call answers HEAVY_USAGE
+   and HEAVY_BAD_END with the number of the first other one. Then weights_len has to be 0 or count, else it answers
+   HEAVY_USAGE and HEAVY_BAD_WEIGHT_COUNT. Then the file is tested, then its kind, and then the items in order, which are
+   refused as records are: HEAVY_BAD_RECORD with the item's number, and the causes HEAVY_RECORD_EMPTY_KEY, _KEY_TOO_LONG,
+   _ZERO_WEIGHT and _TOTAL_TOO_LARGE. A room of HEAVY_SUMMARY_ROOM(k, HEAVY_MAX_KEY) is enough for the file's k. */
+uint32_t heavy_add(const uint8_t *file, size_t file_len, const uint8_t *keys, size_t keys_len, const uint64_t *ends,
+                   size_t count, const uint64_t *weights, size_t weights_len, uint8_t *out, size_t out_len,
+                   size_t *needed, struct heavy_fault *fault);
+
 /* Gives the saved Count-Min table of a text's records, with the hash family that is drawn from the seed: width from
    1 to 65536, depth from 1 to 16. The depth is tested first, then the width, then the records. */
 uint32_t heavy_table(const uint8_t *text, size_t text_len, uint64_t width, uint64_t depth, uint64_t seed,
@@ -163,10 +181,26 @@ uint32_t heavy_ask_keys(const uint8_t *file, size_t file_len, const uint8_t *key
 uint32_t heavy_entries(const uint8_t *file, size_t file_len, struct heavy_entry *out, size_t out_len, size_t *needed,
                        struct heavy_fault *fault);
 
+/* Gives the rows `key,low,high` of all keys of a saved summary that have a counter, by falling low and then by rising
+   key: between which weights each key's weight is. The file is tested first, then its kind. */
+uint32_t heavy_list(const uint8_t *file, size_t file_len, uint8_t *out, size_t out_len, size_t *needed,
+                    struct heavy_fault *fault);
+
+/* Gives the rows `name,value` of what is in a saved file: version, kind, and of a summary k, keys, total, counters and
+   slack, of a table depth, width and total. */
+uint32_t heavy_describe(const uint8_t *file, size_t file_len, uint8_t *out, size_t out_len, size_t *needed,
+                        struct heavy_fault *fault);
+
 /* Gives the rows `key,weight` of a saved summary's keys that are heavy in a text's records, which have to be those that
    were summarised. The file is tested first, then its kind, then the records, then that the totals are the same. */
 uint32_t heavy_confirm(const uint8_t *file, size_t file_len, const uint8_t *text, size_t text_len, uint8_t *out,
                        size_t out_len, size_t *needed, struct heavy_fault *fault);
+
+/* Gives the rows of heavy_confirm above the share p/q of the total: 1 <= p <= q <= 2^32, and p/q at least 1/(k + 1) for
+   the summary's k. Another share is refused with HEAVY_USAGE and HEAVY_BAD_THRESHOLD. The file is tested first, then
+   its kind, then the share, then the records, then that the totals are the same. */
+uint32_t heavy_confirm_above(const uint8_t *file, size_t file_len, const uint8_t *text, size_t text_len, uint64_t p,
+                             uint64_t q, uint8_t *out, size_t out_len, size_t *needed, struct heavy_fault *fault);
 
 /* Gives records that say the same to heavy_confirm with the same file as those of a text, at most one more than the
    summary has keys: the weight of each of its keys that comes there, by rising key, and then, where other keys come,

@@ -1,11 +1,18 @@
 """The module against the program, whose path HEAVY has: the same bytes, and the same texts of refusals."""
+import array
+import copy
+import ctypes
+import doctest
 import io
+import itertools
 import os
 import pickle
+import random
 import subprocess
 import tempfile
 import unittest
 from pathlib import Path
+from unittest import mock
 
 import heavy
 
@@ -15,6 +22,200 @@ OTHERS = b'"x,y",7\n\xff,2\na\n'
 
 def program(*words: str, given: bytes = b"") -> subprocess.CompletedProcess:
     return subprocess.run([os.environ["HEAVY"], *words], input=given, capture_output=True)
+
+
+class Examples(unittest.TestCase):
+    def test_examples(self) -> None:
+        """The examples of the docstrings give what they show."""
+        failed, tried = doctest.testmod(heavy)
+        self.assertEqual((failed, tried > 0), (0, True))
+
+
+def added(keys: bytes, ends: list[int], weights: list[int]) -> list[tuple[bytes, int]] | tuple[int, int]:
+    """What heavy_add makes of no items with k 5: the entries, or else the fault's kind and number."""
+    empty = heavy.Summary(k=5).to_bytes()
+    out, needed, fault = ctypes.create_string_buffer(4096), ctypes.c_size_t(), heavy._Fault()
+    lent = [(ctypes.c_uint64 * max(len(numbers), 1))(*numbers) for numbers in (ends, weights)]
+    status = heavy._heavy.heavy_add(
+        *heavy._lent(empty), *heavy._lent(keys), lent[0], len(ends), lent[1], len(weights),
+        out, 4096, ctypes.byref(needed), ctypes.byref(fault),
+    )
+    return heavy.Summary(out.raw[: needed.value]).entries() if status == 0 else (fault.kind, fault.number)
+
+
+class Index:
+    """An integer of another kind, as numpy's are."""
+
+    def __init__(self, number: int) -> None:
+        self.number = number
+
+    def __index__(self) -> int:
+        return self.number
+
+
+class Growing(unittest.TestCase):
+    """Summaries that begin empty and grow by items."""
+
+    def test_library_adds_what_is_lent(self) -> None:
+        # an end, a weight, and the last item: each changes what comes out
+        self.assertEqual(added(b"abcabc", [2, 3, 6], [5, 3, 2]), [(b"ab", 5), (b"abc", 2), (b"c", 3)])
+        self.assertEqual(added(b"abcabc", [1, 3, 6], [5, 3, 2]), [(b"a", 5), (b"abc", 2), (b"bc", 3)])
+        self.assertEqual(added(b"abcabc", [2, 3, 6], [5, 4, 2]), [(b"ab", 5), (b"abc", 2), (b"c", 4)])
+        self.assertEqual(added(b"abcabc", [2, 3], [5, 3]), [(b"ab", 5), (b"c", 3)])
+        self.assertEqual(added(b"abcabc", [2, 3, 6], []), [(b"ab", 1), (b"abc", 1), (b"c", 1)])
+        self.assertEqual(added(b"abcabc", [2, 1, 6], [5, 3, 2]), (20, 2))
+        self.assertEqual(added(b"abcabc", [2, 3, 7], [5, 3, 2]), (20, 3))
+        self.assertEqual(added(b"abcabc", [2, 3, 6], [5, 3]), (21, 0))
+        summary = heavy.Summary(k=5)
+        summary.update_many([b"ab", "c", bytearray(b"abc")], [5, 3, 2])
+        self.assertEqual(summary.entries(), [(b"ab", 5), (b"abc", 2), (b"c", 3)])
+
+    def test_empty(self) -> None:
+        for summary, k in ((heavy.Summary(), 100), (heavy.Summary(k=7), 7), (heavy.Summary(k=65535), 65535)):
+            self.assertEqual((summary.k, summary.total, summary.slack, len(summary)), (k, 0, 0, 0))
+            self.assertEqual(summary.to_bytes(), program("summarise", "--k", str(k)).stdout)
+            self.assertEqual((list(summary), bool(summary), summary.ask("a")), ([], True, (0, 0)))
+        for k in (0, 65536):
+            with self.assertRaisesRegex(heavy.HeavyError, "k must be 1 to 65535"):
+                heavy.Summary(k=k)
+        for words, named in (((), {"k": 2.0}), ((None,), {}), ((5,), {}), ((b"",), {"k": 5})):
+            self.assertRaises(TypeError, heavy.Summary, *words, **named)
+
+    def test_items(self) -> None:
+        # the records of RECORDS: 2 is taken from each of three counters at c, which a total of 11 and a slack of 2 tell
+        summary = heavy.Summary(k=2)
+        summary.update("a", 5)
+        summary.update_many(iter(["b", b"c"]), (Index(3), Index(2)))
+        summary.update(memoryview(b"a"))
+        self.assertEqual((summary.total, summary.slack, len(summary)), (11, 2, 2))
+        self.assertEqual(list(summary), [(b"a", 4, 6), (b"b", 1, 3)])
+        self.assertEqual(summary, heavy.Summary.of_csv(RECORDS, 2))
+        self.assertEqual(repr(summary), "<heavy.Summary k=2 total=11 keys=2 slack=2>")
+        summary.update_many(["é", "é"])
+        # 1 is taken at the first: b has 0 and goes, a has 3, and the first é leaves nothing; the second stays
+        self.assertEqual(list(summary), [(b"a", 3, 6), ("é".encode(), 1, 4)])
+        summary.update_many([])
+        self.assertEqual(summary.total, 13)
+
+    def test_refused_items(self) -> None:
+        long, largest = b"x" * 4097, 2**63 - 1
+        for keys, weights, kind, text in (
+            (["a", 5], None, TypeError, r"^keys\[1\]: .*'int'"), (["a", "b", None], None, TypeError, r"^keys\[2\]"),
+            (b"ab", None, TypeError, "'bytes'"), ("ab", None, TypeError, "'str'"), (5, None, TypeError, "iterable"),
+            (["a", ""], None, ValueError, r"^keys\[1\]: .* not 0$"), ([long], None, ValueError, r"^keys\[0\]: .* not 4097$"),
+            (["a", "\ud800"], None, ValueError, r"^keys\[1\]: .*UTF-8"), ("ab", [1, 1], TypeError, "'str'"),
+            (["a", "b"], [1, True], TypeError, r"^weights\[1\]: .*'bool'"), (["a"], [1.0], TypeError, r"^weights\[0\]"),
+            (["a", "b"], [1, float("nan")], TypeError, r"^weights\[1\]: .*'float'"),
+            (["a"], ["1"], TypeError, r"^weights\[0\]"),
+            (["a", "b"], [1, 0], ValueError, r"^weights\[1\]: .* not 0$"), (["a"], [-1], ValueError, r"^weights\[0\]"),
+            (["a", "b"], [1, 2**63], ValueError, r"^weights\[1\]"), (["a", "b"], [1], ValueError, "fewer weights .* 2$"),
+            (["a", "b"], itertools.repeat(1), ValueError, "more weights .* 2$"),
+            (["a", "b", "c"], [1, largest, 1], heavy.HeavyError, "^record 2: total too large$"),
+            (["a", "b"], [largest - 11, 1], heavy.HeavyError, "^record 2: total too large$"),
+        ):
+            for many in (1, 8192):  # what was gathered, and what the library has
+                with self.subTest(text), mock.patch.object(heavy, "_BATCH", many):
+                    summary = heavy.Summary.of_csv(RECORDS, 2)
+                    self.assertRaisesRegex(kind, text, summary.update_many, keys, weights)
+                    self.assertEqual((summary, summary.total), (heavy.Summary.of_csv(RECORDS, 2), 11))
+
+    def test_refused_item(self) -> None:
+        summary = heavy.Summary.of_csv(RECORDS, 2)
+        for key, weight, kind in (
+            (5, 1, TypeError), ("", 1, ValueError), (b"x" * 4097, 1, ValueError), ("a", True, TypeError), ("a", 1.0, TypeError),
+            ("a", 0, ValueError), ("a", 2**63, ValueError), ("a", 2**63 - 11, heavy.HeavyError),
+        ):
+            self.assertRaises(kind, summary.update, key, weight)
+        self.assertEqual((summary, summary.total), (heavy.Summary.of_csv(RECORDS, 2), 11))
+        summary.update(b"x" * 4096, 2**63 - 12)
+        self.assertEqual((summary.total, summary.slack), (2**63 - 1, 3))
+
+    def test_other_files_are_refused(self) -> None:
+        table = heavy.Summary(heavy.Table.of_csv(RECORDS).to_bytes())
+        for file, text in ((table, "file 1: not a counter summary"), (heavy.Summary(b"HHS"), "file 1: truncated")):
+            calls = [lambda: file.update("a"), lambda: file.update_many([]), lambda: list(file), lambda: len(file)]
+            for call in [*calls, lambda: file.k, lambda: file.total, lambda: file.slack]:
+                with self.assertRaises(heavy.HeavyError) as caught:
+                    call()
+                self.assertEqual((str(caught.exception), caught.exception.status), (text, 3))
+            self.assertEqual(repr(file), f"<heavy.Summary {text}>")
+
+    def test_merged_in_place(self) -> None:
+        summary, other = heavy.Summary(k=3), heavy.Summary(k=3)
+        summary.update_many("a b a".split())
+        other.update("a", 7)
+        same = summary
+        summary += other
+        self.assertIs(summary, same)
+        self.assertEqual((list(summary), summary.total), ([(b"a", 9, 9), (b"b", 1, 1)], 10))
+        summary += summary
+        self.assertEqual(summary.entries(), [(b"a", 18), (b"b", 2)])
+        with self.assertRaisesRegex(heavy.HeavyError, "file 2: another k"):
+            summary += heavy.Summary(k=4)
+        for wrong in (heavy.Table.of_csv(RECORDS), b"", 5):
+            with self.assertRaises(TypeError):
+                summary += wrong
+        self.assertEqual((summary.entries(), summary.total), ([(b"a", 18), (b"b", 2)], 20))
+
+    def test_copies_and_equals(self) -> None:
+        summary = heavy.Summary(k=3)
+        summary.update("a")
+        for copied in (copy.copy, copy.deepcopy, lambda given: pickle.loads(pickle.dumps(given))):
+            again = copied(summary)
+            self.assertEqual(again, summary)
+            again.update("b")
+            self.assertNotEqual(again, summary)
+            summary.update("b")
+            self.assertEqual((again, again.total), (summary, summary.total))
+        self.assertEqual(summary.entries(), [(b"a", 1), (b"b", 3)])
+        self.assertNotEqual(summary, summary.to_bytes())
+        self.assertRaises(TypeError, hash, summary)
+
+    def test_many_items(self) -> None:
+        keys = [b"%d" % (i * i % 997) for i in range(20_000)]
+        whole = heavy.Summary.of_csv(b"\n".join(keys), 50)
+        one, many = heavy.Summary(k=50), heavy.Summary(k=50)
+        many.update_many(keys)
+        for key in keys:
+            one.update(key)
+        self.assertEqual((one, many), (whole, whole))
+
+    def test_beside_a_dictionary(self) -> None:
+        """300 random sequences of calls: each estimate is right for the exact weight, and the totals are the same."""
+        for seed in range(300):
+            drawn = random.Random(seed)
+            with self.subTest(seed), mock.patch.object(heavy, "_BATCH", drawn.choice([1, 2, 7, 8192])):
+                summary, exact = heavy.Summary(k=drawn.choice([1, 2, 3, 10])), {}
+                for _ in range(drawn.randint(1, 30)):
+                    summary = self.grown(summary, exact, drawn)
+                self.assertEqual(summary.total, sum(exact.values()))
+                slack, keys = summary.slack, [*exact, b"nobody"]
+                for key, (low, high) in zip(keys, summary.ask_many(keys)):
+                    weight = exact.get(key, 0)
+                    self.assertTrue(weight - slack <= low <= weight <= high, (seed, key))
+
+    def grown(self, summary: heavy.Summary, exact: dict[bytes, int], drawn: random.Random) -> heavy.Summary:
+        """The summary after a random call, and the dictionary after the same."""
+        items = [(b"%d" % int(drawn.expovariate(0.2)), drawn.randint(1, 9)) for _ in range(drawn.randint(0, 20))]
+        keys, weights = [key for key, _ in items], [weight for _, weight in items]
+        call = drawn.randrange(5)
+        if call == 0:
+            for key, weight in items:
+                summary.update(key, weight)
+        elif call == 1:
+            summary.update_many(iter(keys), weights)
+        elif call == 2:
+            other = heavy.Summary(k=summary.k)
+            other.update_many([key.decode() for key in keys], weights)
+            summary = heavy.merge([summary, other])
+        elif call == 3:
+            records = b"".join(b"%s,%d\n" % item for item in items)
+            summary += heavy.Summary.of_csv(records, summary.k)
+        else:
+            return heavy.Summary(io.BytesIO(summary.to_bytes()))
+        for key, weight in items:
+            exact[key] = exact.get(key, 0) + weight
+        return summary
 
 
 class Same(unittest.TestCase):
@@ -118,6 +319,24 @@ class Same(unittest.TestCase):
                 ran = program("confirm", self.saved(summary, room, "file"), given=records)
                 self.assertEqual((summary.confirm(records), ran.returncode), (ran.stdout, 0))
 
+    def test_lists_and_descriptions(self) -> None:
+        with tempfile.TemporaryDirectory() as room:
+            for file in (heavy.Summary.of_csv(RECORDS, 2), heavy.Table.of_csv(RECORDS, 2, 2)):
+                self.assertEqual(file.describe(), program("describe", self.saved(file, room, "file")).stdout)
+            summary = heavy.Summary.of_csv(OTHERS, 3)
+            self.assertEqual(summary.list(), program("list", self.saved(summary, room, "file")).stdout)
+
+    def test_thresholds(self) -> None:
+        summary = heavy.Summary.of_csv(RECORDS, 2)
+        with tempfile.TemporaryDirectory() as room:
+            path = self.saved(summary, room, "file")
+            for p, q in ((1, 3), (1, 2), (6, 11), (1, 1)):
+                ran = program("confirm", "--threshold", f"{p}/{q}", path, given=RECORDS)
+                self.assertEqual((summary.confirm(RECORDS, threshold=(p, q)), ran.returncode), (ran.stdout, 0))
+            for p, q in ((1, 4), (0, 1), (2, 1)):
+                ran = program("confirm", "--threshold", f"{p}/{q}", path, given=RECORDS)
+                self.refused(lambda: summary.confirm(RECORDS, (p, q)), ran)
+
     def refused(self, call, ran: subprocess.CompletedProcess) -> None:
         with self.assertRaises(heavy.HeavyError) as caught:
             call()
@@ -179,6 +398,33 @@ class Same(unittest.TestCase):
             for file in (heavy.Summary(table.to_bytes()), good):
                 ran = program("confirm", self.saved(file, room, "1"), given=b"a\n")
                 self.refused(lambda: file.confirm(b"a\n"), ran)
+
+    def test_merge_of_a_list(self) -> None:
+        files = [heavy.Summary.of_csv(RECORDS, 3), heavy.Summary.of_csv(OTHERS, 3)]
+        whole = heavy.merge(*files).to_bytes()
+        for given in (files, tuple(files), iter(files)):
+            self.assertEqual(heavy.merge(given).to_bytes(), whole)
+        self.assertIsInstance(heavy.merge([heavy.Table.of_csv(RECORDS)]), heavy.Table)
+        self.assertRaisesRegex(ValueError, "no file", heavy.merge, [])
+        self.assertRaisesRegex(TypeError, r"files\[1\]", heavy.merge, [files[0], b""])
+        self.assertRaisesRegex(TypeError, r"files\[0\]", heavy.merge, files, files[0])
+
+    def test_arguments_of_other_types(self) -> None:
+        class Named:
+            def __bytes__(self) -> bytes:
+                return b"a,1\n"
+
+        good = heavy.Summary.of_csv(RECORDS)
+        for given in (5, "a,1\n", None, [97], Named(), io.StringIO("a,1\n")):
+            for call in (heavy.Summary.of_csv, heavy.Table.of_csv, heavy.Summary, good.confirm, good.condense):
+                self.assertRaises(TypeError, call, given)
+        self.assertEqual(heavy.Summary.of_csv(array.array("b", b"a,1\n")).entries(), [(b"a", 1)])
+        for key in (5, None, [97], Named()):
+            self.assertRaises(TypeError, good.ask, key)
+            self.assertRaises(TypeError, good.ask_many, ["a", key])
+        for number in (2.0, "2", None):
+            self.assertRaises(TypeError, heavy.Summary.of_csv, RECORDS, number)
+            self.assertRaises(TypeError, heavy.Table.of_csv, RECORDS, number)
 
 
 if __name__ == "__main__":

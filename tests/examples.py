@@ -30,7 +30,14 @@ FENCED = re.compile(r"^```rust\n(.*?)^```$", re.MULTILINE | re.DOTALL)
 SSH = '#!/bin/sh\nshift\nexec sh -c "$*"\n'
 DAYS = {"monday.csv": b"10.0.0.1,5\n10.0.0.2,1\n", "tuesday.csv": b"10.0.0.1,2\n"}
 # what the lines of Python over these days give
-GIVEN = {"week.ask('10.0.0.1')": (7, 7), "week.confirm(records)": b"10.0.0.1,7\n10.0.0.2,1\n"}
+GIVEN = {
+    "week.ask('10.0.0.1')": (7, 7),
+    "week.list()": b"10.0.0.1,7,7\n10.0.0.2,1,1\n",
+    "week.confirm(records)": b"10.0.0.1,7\n10.0.0.2,1\n",
+    "week.confirm(records, threshold=(1, 4))": b"10.0.0.1,7\n",
+    "(len(visits), visits.total, visits.slack)": (3, 11, 0),
+    "list(visits)": [(b"10.0.0.1", 5, 5), (b"10.0.0.2", 5, 5), (b"10.0.0.3", 1, 1)],
+}
 
 
 def installed(tool: str) -> bool:
@@ -186,7 +193,7 @@ class Examples(programs.Checks):
     def test_python(self) -> None:
         """The lines of Python of python/README.md, each with what it gives."""
         blocks = [block for block in others_of((programs.TOP / "python" / "README.md").read_text()) if "import heavy" in block]
-        self.check("python/README.md has lines of Python", len(blocks) == 1, blocks)
+        self.check("python/README.md has lines of Python", len(blocks) == 2, blocks)
         if not programs.has_library():
             self.skipTest("the lines of Python want the library for C")
         with tempfile.TemporaryDirectory() as room:
@@ -196,11 +203,10 @@ class Examples(programs.Checks):
                 Path(room, name).write_bytes(text)
             saved = programs.run([programs.built("heavy_cli"), "summarise", "--k", "100"], DAYS["tuesday.csv"]).out
             Path(room, "tuesday.heavy").write_bytes(saved)
-            shown = "\n".join(blocks[0])
-            values = [ast.unparse(step) for step in ast.parse(shown).body if isinstance(step, ast.Expr)]
-            told = [f"print(repr(({value})))" for value in values]
-            steps = [ast.unparse(step) for step in ast.parse(shown).body if not isinstance(step, ast.Expr)]
-            program = "\n".join([f"records = {b''.join(DAYS.values())!r}", *steps, *told])
+            shown = ast.parse("\n".join(line for block in blocks for line in block)).body
+            values = [ast.unparse(step) for step in shown if isinstance(step, ast.Expr)]
+            steps = [f"print(repr({ast.unparse(s)}))" if isinstance(s, ast.Expr) else ast.unparse(s) for s in shown]
+            program = "\n".join([f"records = {b''.join(DAYS.values())!r}", *steps])
             env = {**os.environ, "LIBHEAVY": f"{room}/usr/lib/libheavy.so.1", "PYTHONPATH": str(programs.TOP / "python")}
             ended = programs.run([sys.executable, "-B", "-c", program], env=env, cwd=room)
             printed = dict(zip(values, ended.out.decode().splitlines()))

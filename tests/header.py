@@ -12,8 +12,8 @@ FFI = CRATES / "heavy_ffi"
 GROUPS = {"kind_of": "", "record_cause": "RECORD_", "file_cause": "FILE_", "merge_cause": "MERGE_", "key_cause": "KEY_"}
 # Faults that no call has: of options that only the program's `report` has, and of devices; and want of memory has a kind.
 NOT_FOR_C = {
-    "HEAVY_BAD_WORKERS", "HEAVY_BAD_PIECES", "HEAVY_BAD_TREE", "HEAVY_BAD_THRESHOLD", "HEAVY_READ_FAULT",
-    "HEAVY_WRITE_FAULT", "HEAVY_FILE_FAULT", "HEAVY_FILE_MEMORY",
+    "HEAVY_BAD_WORKERS", "HEAVY_BAD_PIECES", "HEAVY_BAD_TREE", "HEAVY_READ_FAULT", "HEAVY_WRITE_FAULT",
+    "HEAVY_FILE_FAULT", "HEAVY_FILE_MEMORY",
 }
 # The faults whose statuses have names.
 STATUSES = {"DEVICE": "ReadFault", "USAGE": "BadK", "REFUSED": "BadRecord", "MEMORY": "Memory"}
@@ -48,6 +48,9 @@ def numbers() -> dict[str, int]:
         if group in GROUPS:
             name = "NO_MEMORY" if (group, variant) == ("kind_of", "Memory") else words_of(variant)
             made[f"HEAVY_{GROUPS[group]}{name}"] = int(number)
+    items = (FFI / "specs" / "Items.antt").read_text()
+    for name, number in re.findall(r"^(\w+)_kind = (\d+)$", items, re.M):
+        made[f"HEAVY_{name.upper()}"] = int(number)
     for name, fault in STATUSES.items():
         status = found(rf"^status_of \(?tool\.{fault}\b[^=\n]*= (\d)$", CRATES / "heavy" / "specs" / "Status.antt")
         made[f"HEAVY_{name}"] = int(status)
@@ -96,7 +99,7 @@ def parameter(name: str, kind: str) -> str:
         return f"{TYPES[kind]} {name}"
     lent, element = re.fullmatch(r"&(mut )?(\[\w+\]|\w+)", kind).groups()
     pointer = f"{'' if lent else 'const '}{TYPES[element.strip('[]')]} *{name}"
-    length = "count" if name == "lengths" else f"{name}_len"
+    length = "count" if name in ("lengths", "ends") else f"{name}_len"
     return f"{pointer}, size_t {length}" if element.startswith("[") else pointer
 
 

@@ -38,6 +38,9 @@ DRIFTS = [
     ("size_t text_len, uint64_t k, uint32_t method,", "size_t text_len, uint32_t method, uint64_t k,"),
     ("uint32_t heavy_ask(const uint8_t *file", "uint32_t heavy_ask(uint8_t *file"),
     ("uint64_t width, uint64_t depth, uint64_t seed", "uint64_t depth, uint64_t width, uint64_t seed"),
+    ("#define HEAVY_BAD_END 20u", "#define HEAVY_BAD_END 21u"),
+    ("uint64_t p,\n                             uint64_t q", "uint64_t q,\n                             uint64_t p"),
+    ("const uint64_t *ends,", "const size_t *ends,"),
     ("const uint8_t *key, size_t key_len, uint64_t *low", "const uint8_t *key, size_t key_len, uint64_t *least"),
 ]
 

@@ -105,6 +105,53 @@ static struct answer entries(const void *file, size_t size, size_t room) {
     return a;
 }
 
+static struct answer list(const void *file, size_t size, size_t room) {
+    struct answer a = room_of(room);
+    uint8_t *held = block(file, size);
+    a.status = heavy_list(held, size, a.room, room, &a.needed, &a.told);
+    free(held);
+    return a;
+}
+
+static struct answer describe(const void *file, size_t size, size_t room) {
+    struct answer a = room_of(room);
+    uint8_t *held = block(file, size);
+    a.status = heavy_describe(held, size, a.room, room, &a.needed, &a.told);
+    free(held);
+    return a;
+}
+
+static struct answer confirm_above(const void *file, size_t size, const char *text, uint64_t p, uint64_t q,
+                                   size_t room) {
+    struct answer a = room_of(room);
+    uint8_t *lent = block(text, strlen(text)), *held = block(file, size);
+    a.status = heavy_confirm_above(held, size, lent, strlen(text), p, q, a.room, room, &a.needed, &a.told);
+    free(held);
+    free(lent);
+    return a;
+}
+
+static struct answer empty(uint64_t k, size_t room) {
+    struct answer a = room_of(room);
+    a.status = heavy_empty(k, a.room, room, &a.needed, &a.told);
+    return a;
+}
+
+/* The weights may be none. */
+static struct answer add(const void *file, size_t size, const char *keys, const uint64_t *ends, size_t count,
+                         const uint64_t *weights, size_t weighed, size_t room) {
+    struct answer a = room_of(room);
+    uint8_t *lent = block(keys, strlen(keys)), *held = block(file, size);
+    uint8_t *places = block(ends, count * sizeof *ends), *numbers = block(weights, weighed * sizeof *weights);
+    a.status = heavy_add(held, size, lent, strlen(keys), (uint64_t *)places, count, (uint64_t *)numbers, weighed, a.room,
+                         room, &a.needed, &a.told);
+    free(held);
+    free(lent);
+    free(places);
+    free(numbers);
+    return a;
+}
+
 static int told(const struct answer *a, uint32_t status, uint32_t kind, uint32_t cause, uint64_t number) {
     return a->status == status && a->needed == 0 && a->told.kind == kind && a->told.cause == cause
         && a->told.number == number && a->room[0] == 0xAA;
@@ -338,6 +385,146 @@ static void try_condensed(void) {
     free(a.room);
 }
 
+static void try_lists(void) {
+    /* of BOTH's total of 14 the counters have 5, so that each key may weigh 3 more */
+    struct answer a = list(BYTES(BOTH), 12);
+    check("a list", gave(&a, BYTES("a,4,7\nc,1,4\n")));
+    free(a.room);
+    a = list(BYTES(BOTH), 11);
+    check("a list in a small room", small(&a, 12));
+    free(a.room);
+    a = list(BYTES(BOTH) - 1, 64);
+    check("no list of a damaged file", told(&a, HEAVY_REFUSED, HEAVY_BAD_FILE, HEAVY_FILE_TRUNCATED, 1));
+    free(a.room);
+    a = describe(BYTES(BOTH), 71);
+    check("a description", gave(&a, BYTES("version,2\nkind,summary\nk,2\nkeys,2\ntotal,14\ncounters,5\nslack,3\n")));
+    free(a.room);
+    a = describe(BYTES(BOTH), 1);
+    check("a description in a small room", a.status == HEAVY_TOO_SMALL && a.room[0] == 0xAA);
+    free(a.room);
+    a = describe("HHS3", 4, 64);
+    check("no description of another file", told(&a, HEAVY_REFUSED, HEAVY_BAD_FILE, HEAVY_FILE_BAD_MAGIC, 1));
+    free(a.room);
+    struct answer file = table("a,5\n", 3, 1, 128);
+    a = describe(file.room, file.needed, 64);
+    check("a table's description", gave(&a, BYTES("version,2\nkind,table\ndepth,1\nwidth,3\ntotal,5\n")));
+    free(a.room);
+    a = list(file.room, file.needed, 64);
+    check("no list of a table", told(&a, HEAVY_REFUSED, HEAVY_NOT_COUNTERS, 0, 0));
+    free(a.room);
+    free(file.room);
+}
+
+static void try_thresholds(void) {
+    /* of the total of 8 a has 5 and b 3: above a third both, above 3/8 a alone */
+    struct answer a = confirm_above(BYTES(ONE), "a,5\nb,3\n", 1, 3, 8);
+    check("the least share", gave(&a, BYTES("a,5\nb,3\n")));
+    free(a.room);
+    a = confirm_above(BYTES(ONE), "a,5\nb,3\n", 3, 8, 4);
+    check("a larger share", gave(&a, BYTES("a,5\n")));
+    free(a.room);
+    a = confirm_above(BYTES(ONE), "a,5\nb,3\n", 3, 8, 3);
+    check("a larger share in a small room", small(&a, 4));
+    free(a.room);
+    static const uint64_t BAD[][2] = {{1, 4}, {0, 1}, {2, 1}, {4294967297, 4294967297}, {18446744073709551615u, 18446744073709551615u}};
+    for (size_t i = 0; i < sizeof BAD / sizeof *BAD; i++) {
+        a = confirm_above(BYTES(ONE), "a,0\n", BAD[i][0], BAD[i][1], 64);
+        check("no share, before the records", told(&a, HEAVY_USAGE, HEAVY_BAD_THRESHOLD, 0, 0));
+        free(a.room);
+    }
+    a = confirm_above(BYTES(ONE), "a,5\n", 1, 1, 64);
+    check("another total, above a share", told(&a, HEAVY_REFUSED, HEAVY_TOTAL_DIFFERS, 0, 0));
+    free(a.room);
+    a = confirm_above(BYTES(ONE) - 1, "a,5\n", 0, 1, 64);
+    check("the file before the share", told(&a, HEAVY_REFUSED, HEAVY_BAD_FILE, HEAVY_FILE_TRUNCATED, 1));
+    free(a.room);
+}
+
+static void try_items(void) {
+    struct answer none = empty(2, 17);
+    check("no items", none.status == HEAVY_DONE && none.needed == 17 && HEAVY_SUMMARY_ROOM(0, 0) == 17);
+    struct answer a = empty(2, 16);
+    check("no items in a small room", small(&a, 17));
+    free(a.room);
+    a = empty(0, 17);
+    check("no k", told(&a, HEAVY_USAGE, HEAVY_BAD_K, 0, 0));
+    free(a.room);
+    a = empty(65536, 17);
+    check("a k too large", told(&a, HEAVY_USAGE, HEAVY_BAD_K, 0, 0));
+    free(a.room);
+    static const uint64_t ENDS[] = {1, 2, 3, 4}, FIVE[] = {5, 3};
+    a = add(none.room, 17, "ab", ENDS, 2, FIVE, 2, sizeof ONE - 1);
+    check("two items", gave(&a, BYTES(ONE)));
+    free(a.room);
+    a = add(none.room, 17, "ab", ENDS, 2, FIVE, 2, sizeof ONE - 2);
+    check("two items in a small room", small(&a, sizeof ONE - 1));
+    free(a.room);
+    /* a 5, b 3 and c 2 are three keys; 2 is taken from each; and then a comes again: a 4, b 1 */
+    a = add(BYTES(ONE), "cca", ENDS, 3, NULL, 0, 64);
+    struct answer b = summarise("a,5\nb,3\nc\nc\na\n", 2, 1, 64);
+    check("items of weight 1 behind a stream", a.status == HEAVY_DONE && gave(&b, a.room, a.needed));
+    free(b.room);
+    b = list(a.room, a.needed, 12);
+    /* 1 is taken from each of the three counters at each c: a 3 + 1, b 1, and of the total of 11 at most 2 for each */
+    check("their counters", gave(&b, BYTES("a,4,6\nb,1,3\n")));
+    free(b.room);
+    free(a.room);
+    a = add(BYTES(ONE), "", NULL, 0, NULL, 0, sizeof ONE - 1);
+    check("no items more", gave(&a, BYTES(ONE)));
+    free(a.room);
+    static const uint64_t GAPS[] = {1, 1}, FALLS[] = {2, 1}, ZERO[] = {5, 0}, MANY[] = {9223372036854775807u, 1};
+    static const uint64_t BEHIND[] = {1, 3};
+    struct {
+        const uint64_t *ends, *weights;
+        size_t weighed;
+        uint32_t status, kind, cause;
+        uint64_t number;
+    } rows[] = {
+        {FALLS, FIVE, 1, HEAVY_USAGE, HEAVY_BAD_END, 0, 2},
+        {BEHIND, FIVE, 1, HEAVY_USAGE, HEAVY_BAD_END, 0, 2},
+        {ENDS + 2, FIVE, 1, HEAVY_USAGE, HEAVY_BAD_END, 0, 1},
+        {ENDS, FIVE, 1, HEAVY_USAGE, HEAVY_BAD_WEIGHT_COUNT, 0, 0},
+        {GAPS, ZERO, 2, HEAVY_REFUSED, HEAVY_BAD_RECORD, HEAVY_RECORD_EMPTY_KEY, 2},
+        {ENDS, ZERO, 2, HEAVY_REFUSED, HEAVY_BAD_RECORD, HEAVY_RECORD_ZERO_WEIGHT, 2},
+        {ENDS, MANY, 2, HEAVY_REFUSED, HEAVY_BAD_RECORD, HEAVY_RECORD_TOTAL_TOO_LARGE, 2},
+    };
+    for (size_t i = 0; i < sizeof rows / sizeof *rows; i++) {
+        a = add(none.room, 17, "ab", rows[i].ends, 2, rows[i].weights, rows[i].weighed, 64);
+        check("items that are refused", told(&a, rows[i].status, rows[i].kind, rows[i].cause, rows[i].number));
+        free(a.room);
+    }
+    a = add(none.room, 16, "ab", FALLS, 2, FIVE, 2, 64);
+    check("the ends before the file", told(&a, HEAVY_USAGE, HEAVY_BAD_END, 0, 2));
+    free(a.room);
+    a = add(none.room, 16, "ab", GAPS, 2, FIVE, 2, 64);
+    check("the file before the items", told(&a, HEAVY_REFUSED, HEAVY_BAD_FILE, HEAVY_FILE_TRUNCATED, 1));
+    free(a.room);
+    struct answer cells = table("a,5\n", 1, 1, 64);
+    a = add(cells.room, cells.needed, "ab", GAPS, 2, FIVE, 2, 64);
+    check("no items for a table", told(&a, HEAVY_REFUSED, HEAVY_NOT_COUNTERS, 0, 0));
+    free(a.room);
+    free(cells.room);
+    free(none.room);
+}
+
+static void try_long_items(void) {
+    struct answer none = empty(1, 17);
+    char *longest = malloc(4098);
+    if (!longest)
+        abort();
+    memset(longest, 'x', 4097);
+    longest[4097] = 0;
+    static const uint64_t MOST[] = {4096, 4097}, MORE[] = {4097};
+    struct answer a = add(none.room, 17, longest, MOST, 1, NULL, 0, HEAVY_SUMMARY_ROOM(1, HEAVY_MAX_KEY));
+    check("an item of the longest key", a.status == HEAVY_DONE && a.needed == HEAVY_SUMMARY_ROOM(1, HEAVY_MAX_KEY));
+    free(a.room);
+    a = add(none.room, 17, longest, MORE, 1, NULL, 0, 64);
+    check("an item of a longer key", told(&a, HEAVY_REFUSED, HEAVY_BAD_RECORD, HEAVY_RECORD_KEY_TOO_LONG, 1));
+    free(a.room);
+    free(longest);
+    free(none.room);
+}
+
 /* The most that the header says is needed is needed, and no more. */
 static void try_rooms(void) {
     struct answer a = summarise("ab\ncd\nef\n", 3, 1, HEAVY_SUMMARY_ROOM(3, 2));
@@ -362,6 +549,11 @@ static void *many(void *unused) {
         right = right && gave(&rows, BYTES("a,5\nb,3\n"));
         struct answer fewer = condense(a.room, a.needed, "c\nb,3\n", 64);
         right = right && gave(&fewer, BYTES("b,3\nothers,1\n"));
+        static const uint64_t ENDS[] = {1, 2}, FIVE[] = {5, 3};
+        struct answer none = empty(2, 17), sum = add(none.room, 17, "ab", ENDS, 2, FIVE, 2, sizeof ONE - 1);
+        right = right && gave(&sum, BYTES(ONE));
+        free(none.room);
+        free(sum.room);
         struct answer both = entries(a.room, a.needed, 2);
         right = right && both.needed == 2 && is_entry(&both, 0, ONE, "a", 5) && is_entry(&both, 1, ONE, "b", 3);
         free(a.room);
@@ -382,6 +574,10 @@ int main(void) {
     try_many_keys();
     try_entries();
     try_condensed();
+    try_lists();
+    try_thresholds();
+    try_items();
+    try_long_items();
     try_rooms();
     check("the version", heavy_version() == HEAVY_VERSION);
     pthread_t threads[2];

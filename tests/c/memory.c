@@ -31,16 +31,19 @@ void free(void *old) {
 }
 
 static const uint8_t TEXT[] = "a,5\nb,3\nc,2\na,1\n";
-static uint8_t summary[128], room[256];
+static uint8_t summary[128], room[256], empty[17];
 static size_t summary_len, needed;
 static uint64_t low, high;
 static struct heavy_fault told;
 static struct heavy_bounds bounds[3];
 static struct heavy_entry entries[3];
 
+enum { CALLS = 14 };
+
 static uint32_t call(int which) {
     const size_t lengths[] = {summary_len / 2, summary_len / 2}, ones[] = {1, 1, 30};
     static const uint8_t KEYS[] = "abzzzzzzzzzzzzzzzzzzzzzzzzzzzzzz";
+    static const uint64_t ENDS[] = {1, 2, 32}, WEIGHTS[] = {5, 3, 2};
     switch (which) {
     case 0: return heavy_summarise(TEXT, 16, 2, 1, room, sizeof room, &needed, &told);
     case 1: return heavy_summarise(TEXT, 16, 2, 2, room, sizeof room, &needed, &told);
@@ -50,7 +53,12 @@ static uint32_t call(int which) {
     case 5: return heavy_confirm(summary, summary_len / 2, TEXT, 16, room, sizeof room, &needed, &told);
     case 6: return heavy_condense(summary, summary_len / 2, TEXT, 16, room, sizeof room, &needed, &told);
     case 7: return heavy_ask_keys(summary, summary_len / 2, KEYS, 32, ones, 3, bounds, 3, &needed, &told);
-    default: return heavy_entries(summary, summary_len / 2, entries, 3, &needed, &told);
+    case 8: return heavy_entries(summary, summary_len / 2, entries, 3, &needed, &told);
+    case 9: return heavy_list(summary, summary_len / 2, room, sizeof room, &needed, &told);
+    case 10: return heavy_describe(summary, summary_len / 2, room, sizeof room, &needed, &told);
+    case 11: return heavy_confirm_above(summary, summary_len / 2, TEXT, 16, 1, 3, room, sizeof room, &needed, &told);
+    case 12: return heavy_empty(2, room, sizeof room, &needed, &told);
+    default: return heavy_add(empty, sizeof empty, KEYS, 32, ENDS, 3, WEIGHTS, 3, room, sizeof room, &needed, &told);
     }
 }
 
@@ -89,6 +97,16 @@ static int is_cut_short(const char *head, size_t size) {
     return !was_refused && status == HEAVY_REFUSED && told.kind == HEAVY_BAD_FILE && told.cause == HEAVY_FILE_TRUNCATED;
 }
 
+/* The same where items are added, for which there is no memory either. */
+static int is_added_to_cut_short(const char *head, size_t size) {
+    static const uint64_t END = 1;
+    left = 0;
+    uint32_t status =
+        heavy_add((const uint8_t *)head, size, (const uint8_t *)"a", 1, &END, 1, &END, 1, room, 9, &needed, &told);
+    left = -1;
+    return status == HEAVY_REFUSED && told.kind == HEAVY_BAD_FILE && told.cause == HEAVY_FILE_TRUNCATED;
+}
+
 int main(void) {
     char line[80];
     int wrong = 0, refusals = 0;
@@ -97,13 +115,15 @@ int main(void) {
     heavy_summarise(TEXT, 16, 2, 1, summary, sizeof summary / 2, &summary_len, &told);
     memcpy(summary + summary_len, summary, summary_len);
     summary_len *= 2;
-    for (int which = 0; which < 9; which++) {
+    wrong += heavy_empty(2, empty, sizeof empty, &needed, &told) != HEAVY_DONE;
+    for (int which = 0; which < CALLS; which++) {
         int met = refusals_of(which);
         wrong += met <= 0;
         refusals += met > 0 ? met : 0;
     }
     static const char SUMMARY[] = "HHS1\1\xff\xff\0\0\0\0\0\0\0\0\xff\xff", TABLE[] = "HHS1\2\0\1\0\0\20";
     wrong += !is_cut_short(SUMMARY, sizeof SUMMARY - 1) + !is_cut_short(TABLE, sizeof TABLE - 1);
+    wrong += !is_added_to_cut_short(SUMMARY, sizeof SUMMARY - 1);
     snprintf(line, sizeof line, "%d refusals, %d wrong\n", refusals, wrong);
     fputs(line, stdout);
     return wrong != 0;

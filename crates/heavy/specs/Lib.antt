@@ -1,6 +1,8 @@
+pub mod Add
 pub mod Ask
 pub mod Condense
 pub mod Confirm
+pub mod ConfirmShare
 pub mod Describe
 pub mod Entries
 pub mod Files

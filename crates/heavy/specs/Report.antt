@@ -16,6 +16,7 @@ use Rattle.hh_records.specs.Rows.{rows_of}
 use Rattle.hh_records.specs.Sinks.{TakesFirst}
 use Rattle.hh_records.specs.Streams.{ReadsAs}
 use Rattle.hh_records.specs.Thresholds.{threshold_of}
+use Rattle.heavy.specs.Records.{RecordsRefused}
 use Rattle.heavy.specs.declared.error.ToolError.{ToolError}
 use Rattle.heavy.specs.declared.error.ToolError.TheVariants as tool
 use Rattle.heavy.specs.declared.error.TreeFault.{TreeFault}
@@ -88,36 +89,38 @@ TreeRefused (tree.Text t) pieces f = PlanRefused t.items pieces (plan_fault f)
 abbrev pub AreOptions : ReportOptions → Type 0
 AreOptions o = (bad_option o ≡ None) × IsTree o.tree o.pieces
 
--- these are the rows of the keys above the threshold p/q of the options, in the stream of all bytes
--- that the reader had left
+-- the bytes that the reader had left are the stream xs, and these are its keys above the threshold
+-- p/q of the options
+abbrev pub ReportsKeys : ReportOptions → Option (List ℕ) → List Entry → List Entry → Type 0
+ReportsKeys o left xs keys =
+    (p : ℕ) × (q : ℕ) × (threshold_of o.k o.threshold ≡ Some (p, q))
+    × ReadsAs left (Ok xs) × (keys ≡ heavy xs p q)
+
+-- these are the rows of the keys of a report
 abbrev pub ReportsRows : ReportOptions → Option (List ℕ) → List ℕ → Type 0
 ReportsRows o left rows =
-    (p : ℕ) × (q : ℕ) × (xs : List Entry)
-    × (threshold_of o.k o.threshold ≡ Some (p, q))
-    × ReadsAs left (Ok xs)
-    × (rows ≡ rows_of (heavy xs p q))
+    (xs : List Entry) × (keys : List Entry) × ReportsKeys o left xs keys × (rows ≡ rows_of keys)
 
 -- a whole report was written
 abbrev pub IsReported : ReportOptions → Option (List ℕ) → Option (List ℕ) → Option (List ℕ) → Type 0
 IsReported o left old new =
     AreOptions o × (rows : List ℕ) × ReportsRows o left rows × Appends old new rows
 
+-- what a refusal of the options tells: the first test that they fail, the tree's last
+abbrev pub OptionsRefused : ReportOptions → ToolError → Type 0
+OptionsRefused o (tool.BadTree f) = (bad_option o ≡ None) × TreeRefused o.tree o.pieces f
+OptionsRefused o e = IsOptionFault e × (bad_option o ≡ Some e)
+
+-- what a refusal before anything is written tells: of the options, or of the records behind them
+abbrev pub StartRefused : ReportOptions → Option (List ℕ) → ToolError → Type 0
+StartRefused o left tool.ReadFault = AreOptions o × RecordsRefused left tool.ReadFault
+StartRefused o left (tool.BadRecord n c) = AreOptions o × RecordsRefused left (tool.BadRecord n c)
+StartRefused o left tool.Memory = bad_option o ≡ None
+StartRefused o left e = OptionsRefused o e
+
 -- what each refusal of a report tells, and what it leaves in the sink
 abbrev pub ReportRefused : ReportOptions
     → Option (List ℕ) → Option (List ℕ) → Option (List ℕ) → ToolError → Type 0
-ReportRefused o left old new tool.BadDepth = (bad_option o ≡ Some tool.BadDepth) × Keeps old new
-ReportRefused o left old new tool.BadK = (bad_option o ≡ Some tool.BadK) × Keeps old new
-ReportRefused o left old new tool.BadWorkers = (bad_option o ≡ Some tool.BadWorkers) × Keeps old new
-ReportRefused o left old new tool.BadWidth = (bad_option o ≡ Some tool.BadWidth) × Keeps old new
-ReportRefused o left old new tool.BadThreshold =
-    (bad_option o ≡ Some tool.BadThreshold) × Keeps old new
-ReportRefused o left old new tool.BadPieces = (bad_option o ≡ Some tool.BadPieces) × Keeps old new
-ReportRefused o left old new (tool.BadTree f) =
-    (bad_option o ≡ None) × TreeRefused o.tree o.pieces f × Keeps old new
-ReportRefused o left old new tool.ReadFault = AreOptions o × Keeps old new
-ReportRefused o left old new (tool.BadRecord n c) =
-    AreOptions o × Keeps old new × ReadsAs left (Err (n, c))
 ReportRefused o left old new (tool.WriteFault n) =
     AreOptions o × (rows : List ℕ) × ReportsRows o left rows × TakesFirst old new rows n
-ReportRefused o left old new tool.Memory = (bad_option o ≡ None) × Keeps old new
-ReportRefused o left old new _ = ⊥
+ReportRefused o left old new e = StartRefused o left e × Keeps old new

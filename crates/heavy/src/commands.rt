@@ -1,8 +1,10 @@
 //! The commands of the program, each the whole of its command.
 
+pub(crate) mod add;
 pub(crate) mod ask;
 pub(crate) mod condense;
 pub(crate) mod confirm;
+pub(crate) mod confirm_share;
 pub(crate) mod describe;
 pub(crate) mod entries;
 pub(crate) mod list;

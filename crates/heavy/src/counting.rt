@@ -1,6 +1,6 @@
 //! The keys of a summary, counted in records.
 
-ghost use Rattle.std.specs.Prelude.{◌≡◌, Ok, List, IfOk, IfErr};
+ghost use Rattle.std.specs.Prelude.{Ok, List, IfOk, IfErr};
 ghost use Rattle.std.specs.Map.{keys_of};
 ghost use Rattle.hh_stream.specs.Weights.{Entry};
 ghost use Rattle.hh_counters.specs.Counters.{IsCounters};

@@ -1,10 +1,12 @@
 //! What stops a command, with its text and its exit status.
 
 ghost use Rattle.std.specs.Prelude.{◌≡◌};
+ghost use Rattle.heavy.specs.Confirm.{confirm_fault};
 ghost use Rattle.heavy.specs.Records.{read_fault};
 ghost use Rattle.heavy.specs.Status.{status_of};
 ghost use Rattle.heavy.specs.declared.error.ToolError.TheVariants.{Memory, WriteFault as NotWritten};
 
+use crate::commands::confirm::ConfirmFault;
 use hh_records::{BadRecordCause, ReadError, WriteFault};
 use hh_saved::SavedFault;
 use std::alloc::AllocError;
@@ -149,6 +151,17 @@ impl From<WriteFault> for ToolError {
     fn from(fault: WriteFault) -> ToolError {
         ToolError::WriteFault {
             written: fault.written,
+        }
+    }
+}
+
+impl From<ConfirmFault> for ToolError {
+    ghost from_gives = { λ fault error. error ≡ confirm_fault fault };
+
+    fn from(fault: ConfirmFault) -> ToolError {
+        match fault {
+            ConfirmFault::TotalDiffers => ToolError::TotalDiffers,
+            ConfirmFault::Memory => ToolError::Memory,
         }
     }
 }

@@ -7,9 +7,11 @@ mod error;
 mod files;
 pub mod laws;
 
+pub use commands::add::{add_items, empty_summary};
 pub use commands::ask::{ask_bytes, ask_key, ask_keys};
 pub use commands::condense::condense_bytes;
 pub use commands::confirm::{ConfirmFault, confirm, confirm_above, confirm_bytes};
+pub use commands::confirm_share::confirm_share;
 pub use commands::describe::describe_file;
 pub use commands::entries::list_entries;
 pub use commands::list::list_keys;

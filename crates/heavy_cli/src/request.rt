@@ -1,6 +1,6 @@
 //! What a command line asks for.
 
-ghost use Rattle.std.specs.Prelude.{◌≡◌, IfOk, codes, map};
+ghost use Rattle.std.specs.Prelude.{◌≡◌, [], IfOk, codes, map};
 ghost use Rattle.clap.specs.Words.{first_value, found_of};
 ghost use Rattle.heavy_cli.specs.Request.{Answers, AreOptions, AsksFor, GivesShare};
 ghost use Rattle.heavy_cli.specs.Request.{IsAskedBy, IsAskedFrom, NamesTree, all_words, first_word};
@@ -137,6 +137,15 @@ fn threshold_of(alloc: Global, found: &ArgMatches) -> Result<Share, AllocError>
     }
 }
 
+/// The file that is named. One that is not, which `clap` lets not come, is one without a name: it
+/// can't be read.
+fn file_named(alloc: Global, found: &ArgMatches) -> Result<Vec<u8>, AllocError>
+    ensures { IfOk result (λ word.
+        word.items ≡ first_word [] (found_of found.now) (codes "FILE")) }
+{
+    word_or(alloc, found, "FILE", "")
+}
+
 fn report(alloc: Global, found: &ArgMatches) -> Result<ReportOptions, AllocError>
     ensures { IfOk result (AreOptions (found_of found.now)) }
 {
@@ -172,11 +181,10 @@ fn table(found: &ArgMatches) -> Command
     }
 }
 
-/// A file that is not named, which `clap` lets not come, is one without a name: it can't be read.
 fn merge(alloc: Global, found: &ArgMatches) -> Result<Command, AllocError>
     ensures { IfOk result (Answers (codes "merge") (found_of found.now)) }
 {
-    let first = word_or(alloc, found, "FILE", "")?;
+    let first = file_named(alloc, found)?;
     let mut others = words(alloc, found, "FILE")?;
     if !others.is_empty() {
         others.remove(0);
@@ -187,36 +195,15 @@ fn merge(alloc: Global, found: &ArgMatches) -> Result<Command, AllocError>
 fn ask(alloc: Global, found: &ArgMatches) -> Result<Command, AllocError>
     ensures { IfOk result (Answers (codes "ask") (found_of found.now)) }
 {
-    let file = word_or(alloc, found, "FILE", "")?;
+    let file = file_named(alloc, found)?;
     let keys = words(alloc, found, "KEY")?;
     Ok(Command::Ask { file, keys })
-}
-
-fn list(alloc: Global, found: &ArgMatches) -> Result<Command, AllocError>
-    ensures { IfOk result (Answers (codes "list") (found_of found.now)) }
-{
-    let file = word_or(alloc, found, "FILE", "")?;
-    Ok(Command::List { file })
-}
-
-fn describe(alloc: Global, found: &ArgMatches) -> Result<Command, AllocError>
-    ensures { IfOk result (Answers (codes "describe") (found_of found.now)) }
-{
-    let file = word_or(alloc, found, "FILE", "")?;
-    Ok(Command::Describe { file })
-}
-
-fn condense(alloc: Global, found: &ArgMatches) -> Result<Command, AllocError>
-    ensures { IfOk result (Answers (codes "condense") (found_of found.now)) }
-{
-    let file = word_or(alloc, found, "FILE", "")?;
-    Ok(Command::Condense { file })
 }
 
 fn confirm(alloc: Global, found: &ArgMatches) -> Result<Command, AllocError>
     ensures { IfOk result (Answers (codes "confirm") (found_of found.now)) }
 {
-    let file = word_or(alloc, found, "FILE", "")?;
+    let file = file_named(alloc, found)?;
     let threshold = threshold_of(alloc, found)?;
     Ok(Command::Confirm { file, threshold })
 }
@@ -231,9 +218,15 @@ fn request_of(alloc: Global, name: &str, found: &ArgMatches) -> Result<Request, 
         "table" => table(found),
         "merge" => merge(alloc, found)?,
         "ask" => ask(alloc, found)?,
-        "list" => list(alloc, found)?,
-        "describe" => describe(alloc, found)?,
-        "condense" => condense(alloc, found)?,
+        "list" => Command::List {
+            file: file_named(alloc, found)?,
+        },
+        "describe" => Command::Describe {
+            file: file_named(alloc, found)?,
+        },
+        "condense" => Command::Condense {
+            file: file_named(alloc, found)?,
+        },
         "confirm" => confirm(alloc, found)?,
         _ => return Ok(Request::Report(report(alloc, found)?)),
     };

@@ -1,10 +1,18 @@
 -- Answers that come, and the tests before them.
-use Rattle.std.proofs.Common.{◌≡◌, ℕ, true, Option, Some, None, Result, Ok, Err, inl, inr, refl}
+use Rattle.std.proofs.Common.{◌≡◌, ◌∙◌, ℕ, true, List, [], length, Option, Some, None, Result, Ok, Err, ap, arith, inl, inr, refl, subst, sym}
 use Rattle.std.specs.Prelude.{IfOk, IfSome, IsOkAnd}
 use Rattle.std.proofs.lemmas.Bool.{cases_Bool}
 use Rattle.hh_stream.specs.Ranges.{in_range}
 use Rattle.hh_countmin.specs.Family.{max_depth}
+use Rattle.hh_counters.specs.Counters.{SummaryView, sketch_of}
+use Rattle.hh_counters.specs.Laws.{SummariesFollowItems}
+use Rattle.hh_saved.specs.declared.format.Version.TheVariants as version
+use Rattle.hh_saved.specs.declared.saved.Saved.TheVariants.{Counters}
+use Rattle.hh_saved.specs.Spelling.{Spells}
+use Rattle.heavy.specs.Add.{IsEmpty}
+use Rattle.heavy.specs.Summarise.{bad_k}
 use Rattle.heavy.specs.Table.{bad_table}
+use Rattle.heavy.proofs.AddFacts.{came_of}
 use Rattle.heavy.specs.declared.error.ToolError.{ToolError}
 
 -- what holds of an answer that came, by two clauses
@@ -25,3 +33,9 @@ depth_passed depth width none = elim (cases_Bool (in_range depth max_depth)) [
   | inl passes ↦ passes
   | inr fails ↦ absurd (cc (rw fails at none))
 ]
+
+-- the summary of no items has 17 bytes
+pub empty_size : SummariesFollowItems → (k : ℕ) (bytes : List ℕ) → IsEmpty k bytes → length bytes ≡ 17
+empty_size law k bytes (s, is, spells) =
+    let none = sym (came_of (bad_k k) (sketch_of k []) s is) ∙ (law k [] ([], 0)).0 in
+    omega (arith, ap length (subst (λ (v : SummaryView). Spells version.Two bytes (Counters v)) none spells).spelled)

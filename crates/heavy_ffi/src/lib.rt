@@ -5,45 +5,52 @@
 #![tactic(auto)]
 
 mod fault;
+mod items;
 mod parts;
 mod room;
 
-ghost use Rattle.std.specs.Prelude.{◌≡◌, ◌≢◌, ◌<◌, ◌≤◌, ◌⊎◌, [], ◌∷◌, length, map, Ok, Some};
-ghost use Rattle.std.specs.Prelude.{IfErr, IfOk};
+ghost use Rattle.std.specs.Prelude.{◌≡◌, ◌≢◌, ◌<◌, ◌≤◌, ◌⊎◌, [], ◌∷◌, length, map, Ok, Some, None};
+ghost use Rattle.std.specs.Prelude.{IfErr, IfOk, IfSome};
 ghost use Rattle.hh_stream.specs.Cuttings.{pieces_of};
 ghost use Rattle.hh_stream.specs.Weights.{max_key_len};
 ghost use Rattle.hh_counters.specs.Counters.{SummaryView, sketch_of};
 ghost use Rattle.hh_countmin.specs.Family.{drawn_family};
 ghost use Rattle.hh_countmin.specs.Table.{table_of};
 ghost use Rattle.hh_saved.specs.Sizes.{most_summary_bytes, table_bytes};
-ghost use Rattle.hh_saved.specs.Spelling.{Spells};
-ghost use Rattle.hh_saved.specs.declared.format.Version.TheVariants as version;
-ghost use Rattle.hh_saved.specs.declared.saved.Saved.{Saved};
 ghost use Rattle.hh_saved.specs.declared.saved.Saved.TheVariants.{Cells, Counters};
+ghost use Rattle.heavy.specs.Add.{IsEmpty, added, empty_of};
 ghost use Rattle.heavy.specs.Ask.{answer, answers_of};
 ghost use Rattle.heavy.specs.Condense.{CondenseRefused, CondensesRows};
 ghost use Rattle.heavy.specs.Confirm.{ConfirmRefused, ConfirmsRows};
+ghost use Rattle.heavy.specs.ConfirmShare.{ConfirmShareRefused, ConfirmsShare};
+ghost use Rattle.heavy.specs.Describe.{description};
 ghost use Rattle.heavy.specs.Entries.{ListsEntries};
-ghost use Rattle.heavy.specs.Files.{Refuses, StopsAtHead, SummaryRefused, file_of};
+ghost use Rattle.heavy.specs.Files.{HoldsSummary, Refuses, StopsAtHead, SummaryRefused, file_of};
+ghost use Rattle.heavy.specs.List.{ListsKeys};
 ghost use Rattle.heavy.specs.Merge.{merged_files};
 ghost use Rattle.heavy.specs.Records.{RefusedAfter, SavesStream};
+ghost use Rattle.heavy.specs.Summarise.{bad_k};
 ghost use Rattle.heavy.specs.Table.{bad_table};
-ghost use Rattle.heavy_ffi.specs.Faults.{no_fault};
+ghost use Rattle.heavy_ffi.specs.Faults.{IsTold, no_fault};
+ghost use Rattle.heavy_ffi.specs.Items.{AddsItems, items_of, shape_fault};
 ghost use Rattle.heavy_ffi.specs.Outcomes.{AreAnswers, IsAnswer, IsMergeOf, IsOutcome};
 ghost use Rattle.heavy_ffi.specs.Outcomes.{TellsFault, TellsHead, bad_summary, both_of, first_of};
 
 pub use fault::Fault;
 use fault::tell;
 use heavy::{
-    Method, Place, ToolError, ask_key, ask_keys, condense_bytes, confirm_bytes, list_entries,
-    merge_bytes, summary_bytes, table_bytes,
+    Method, Place, ToolError, add_items, ask_key, ask_keys, condense_bytes, confirm_bytes,
+    confirm_share, describe_file, empty_summary, list_entries, list_keys, merge_bytes,
+    summary_bytes, table_bytes,
 };
+use hh_counters::laws::summaries_follow_items;
 use hh_countmin::laws::drawn_families_are_families;
 use hh_saved::laws::sizes_are_bounded;
 use hh_saved::{SavedFault, read};
+use items::{items_of, shape_fault};
 use parts::files_of;
 pub use room::Bounds;
-use room::{DONE, all_bounds, answer};
+use room::{DONE, USAGE, all_bounds, answer};
 use std::alloc::Global;
 
 /// The number of this interface.
@@ -85,6 +92,83 @@ pub extern "C" fn heavy_summarise(
 {
     sizes_are_bounded();
     let bytes = summary_by(alloc, text, k, method);
+    answer(bytes, out, needed, fault)
+}
+
+/// Gives the saved summary of no items, with k counters.
+#[unsafe(no_mangle)]
+pub extern "C" fn heavy_empty(
+    alloc: Global,
+    k: u64,
+    out: &mut [u8],
+    needed: &mut usize,
+    fault: &mut Fault,
+) -> u32
+    ensures outcome { IsOutcome (IsEmpty k) (Refuses (empty_of k))
+        result out.old out.new needed.new fault.new }
+    ensures bad_k { IfSome (bad_k k) (IsTold result fault.new) }
+    ensures no_bytes { result ≢ 0 → result ≢ 5 → needed.new ≡ 0 }
+    ensures exact { (result ≡ 0) ⊎ (result ≡ 5) → needed.new ≡ 17 }
+{
+    summaries_follow_items();
+    let bytes = empty_summary(alloc, k);
+    answer(bytes, out, needed, fault)
+}
+
+/// A saved summary with items added, whose keys end there.
+fn sum_of(
+    alloc: Global,
+    file: &[u8],
+    keys: &[u8],
+    ends: &[u64],
+    weights: &[u64],
+) -> Result<Vec<u8>, ToolError>
+    ensures added { IfOk result (λ bytes.
+        AddsItems file.now (items_of keys.now ends.now weights.now) bytes.items) }
+    ensures refused { IfErr result
+        (Refuses (added file.now (items_of keys.now ends.now weights.now))) }
+    ensures early { StopsAtHead 1 file.now result }
+{
+    match items_of(alloc, keys, ends, weights) {
+        Ok(items) => add_items(alloc, file, &items),
+        Err(_) => Err(refusal_of(alloc, file)),
+    }
+}
+
+/// Gives the saved summary of a saved file with items added, in order. Their keys lie one behind the
+/// other, each from the end of the one before it to its own; their weights are these, or 1 each
+/// where there are none. The ends are tested first, then the number of the weights, then the file,
+/// then its kind, then the items in order.
+#[unsafe(no_mangle)]
+pub extern "C" fn heavy_add(
+    alloc: Global,
+    file: &[u8],
+    keys: &[u8],
+    ends: &[u64],
+    weights: &[u64],
+    out: &mut [u8],
+    needed: &mut usize,
+    fault: &mut Fault,
+) -> u32
+    ensures outcome { shape_fault (length keys.now) ends.now weights.now ≡ None → IsOutcome
+        (AddsItems file.now (items_of keys.now ends.now weights.now))
+        (Refuses (added file.now (items_of keys.now ends.now weights.now)))
+        result out.old out.new needed.new fault.new }
+    ensures shape { IfSome (shape_fault (length keys.now) ends.now weights.now) (λ shape.
+        (result ≡ 2) × (fault.new ≡ shape) × (out.new ≡ out.old)) }
+    ensures early { shape_fault (length keys.now) ends.now weights.now ≡ None
+        → TellsHead file.now result fault.new }
+    ensures no_bytes { result ≢ 0 → result ≢ 5 → needed.new ≡ 0 }
+    ensures enough { (s : SummaryView) → HoldsSummary file.now s
+        → most_summary_bytes s.k max_key_len ≤ length out.old → result ≢ 5 }
+{
+    if let Some(shape) = shape_fault(keys.len(), ends, weights) {
+        *needed = 0;
+        *fault = shape;
+        return USAGE;
+    }
+    sizes_are_bounded();
+    let bytes = sum_of(alloc, file, keys, ends, weights);
     answer(bytes, out, needed, fault)
 }
 
@@ -168,7 +252,7 @@ pub extern "C" fn heavy_merge(
     if lengths.is_empty() {
         *needed = 0;
         *fault = Fault::none();
-        return 2;
+        return USAGE;
     }
     sizes_are_bounded();
     let bytes = merge_parts(alloc, files, lengths);
@@ -222,6 +306,30 @@ pub extern "C" fn heavy_confirm(
     ensures no_bytes { result ≢ 0 → result ≢ 5 → needed.new ≡ 0 }
 {
     let bytes = confirm_bytes(alloc, file, text);
+    answer(bytes, out, needed, fault)
+}
+
+/// Gives the rows of a saved summary's keys that are above p/q of the total of a text's records,
+/// which are those that were summarised. The file is tested first, then its kind, then p/q, then the
+/// records, then the totals.
+#[unsafe(no_mangle)]
+pub extern "C" fn heavy_confirm_above(
+    alloc: Global,
+    file: &[u8],
+    text: &[u8],
+    p: u64,
+    q: u64,
+    out: &mut [u8],
+    needed: &mut usize,
+    fault: &mut Fault,
+) -> u32
+    ensures outcome { IsOutcome (ConfirmsShare p q file.now (Some text.now))
+        (ConfirmShareRefused p q file.now (Some text.now))
+        result out.old out.new needed.new fault.new }
+    ensures early { TellsHead file.now result fault.new }
+    ensures no_bytes { result ≢ 0 → result ≢ 5 → needed.new ≡ 0 }
+{
+    let bytes = confirm_share(alloc, file, p, q, text);
     answer(bytes, out, needed, fault)
 }
 
@@ -308,6 +416,44 @@ pub extern "C" fn heavy_entries(
 {
     let entries = list_entries(alloc, file);
     answer(entries, out, needed, fault)
+}
+
+/// Gives the rows `key,low,high` of all keys of a saved summary that have a counter, by falling low
+/// and then by rising key. The file is tested first, then its kind.
+#[unsafe(no_mangle)]
+pub extern "C" fn heavy_list(
+    alloc: Global,
+    file: &[u8],
+    out: &mut [u8],
+    needed: &mut usize,
+    fault: &mut Fault,
+) -> u32
+    ensures outcome { IsOutcome (ListsKeys file.now) (SummaryRefused file.now)
+        result out.old out.new needed.new fault.new }
+    ensures early { TellsHead file.now result fault.new }
+    ensures no_bytes { result ≢ 0 → result ≢ 5 → needed.new ≡ 0 }
+{
+    let bytes = list_keys(alloc, file);
+    answer(bytes, out, needed, fault)
+}
+
+/// Gives the rows `name,value` of what is in a saved file.
+#[unsafe(no_mangle)]
+pub extern "C" fn heavy_describe(
+    alloc: Global,
+    file: &[u8],
+    out: &mut [u8],
+    needed: &mut usize,
+    fault: &mut Fault,
+) -> u32
+    ensures outcome { IsOutcome
+        (λ rows. description file.now ≡ Ok rows) (Refuses (description file.now))
+        result out.old out.new needed.new fault.new }
+    ensures early { TellsHead file.now result fault.new }
+    ensures no_bytes { result ≢ 0 → result ≢ 5 → needed.new ≡ 0 }
+{
+    let bytes = describe_file(alloc, file);
+    answer(bytes, out, needed, fault)
 }
 
 /// The number of this interface, which a header or a binding has to have been written for.

@@ -1,6 +1,6 @@
 //! Files that lie in one slice, one after the other.
 
-ghost use Rattle.std.specs.Prelude.{◌≡◌, ◌++◌, IfOk, drop, length, map, vec_items};
+ghost use Rattle.std.specs.Prelude.{◌≡◌, IfOk, length, map, vec_items};
 ghost use Rattle.hh_stream.specs.Cuttings.{pieces_of};
 
 use std::alloc::{AllocError, Global};

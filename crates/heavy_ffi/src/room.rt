@@ -11,6 +11,9 @@ use std::alloc::{AllocError, Global};
 /// The status of a call that is done.
 pub(crate) const DONE: u32 = 0;
 
+/// The status of a call whose words are wrong.
+pub(crate) const USAGE: u32 = 2;
+
 /// The status of a call whose answer has no place in the room.
 pub(crate) const TOO_SMALL: u32 = 5;
 

@@ -1,5 +1,5 @@
 -- The report holds exactly the heavy keys, in order, and each of them has a counter in honest counters.
-use Rattle.std.proofs.Common.{◌≡◌, ℕ, suc, ◌+◌, ◌-◌, ◌*◌, ◌/◌, ◌<◌, ◌≤◌, ⊎_elim, Bool, true, false, true≢false, not, cond, List, [], ◌∷◌, length, Ordering, Less, Equal, Greater, is_lt, is_eq, nat_cmp, refl, sym, ap, ap₂, ◌∙◌, subst, mul_comm, mul_assoc, mul-le-mul_left, mul-le-mul_right, mul-zero, mul-add, arith}
+use Rattle.std.proofs.Common.{◌≡◌, ℕ, suc, ◌+◌, ◌*◌, ◌<◌, ◌≤◌, ⊎_elim, Bool, true, false, true≢false, not, cond, List, [], ◌∷◌, length, Ordering, Less, Equal, Greater, is_lt, is_eq, nat_cmp, refl, sym, ap, ap₂, ◌∙◌, subst, mul_comm, mul_assoc, mul-le-mul_left, mul-le-mul_right, mul-zero, arith}
 use Rattle.std.specs.Prelude.{map, fold, filter, nat_lt, zip, get_or, take, ◌++◌, ◌↔◌, Contains, IsPermutation, IsSortedBy, All}
 use Rattle.std.specs.List.{AllByRecursion}
 use Rattle.std.specs.List.Sorted.{IsStrictlySortedBy}
@@ -17,9 +17,8 @@ use Rattle.std.proofs.lemmas.List.Sorted.{IsPermutation-refl, IsPermutation-tran
 use Rattle.std.proofs.lemmas.List.Elements.{filter_more, filter_passes, All-filter, All-map, All-weaker, All-contains, All-contains_itself, All-from_recursion, recursion_from_All, Contains-append_cases, Contains-get_or}
 use Rattle.std.proofs.lemmas.List.Kept.{IsStrictlySortedBy-filter}
 use Rattle.std.proofs.lemmas.Slice.Zip.{get_or-zip, length-zip}
-use Rattle.std.proofs.Math.Nat.{le-div_iff_mul-le}
 use Rattle.hh_stream.specs.Weights.{Bytes, Entry, key_cmp, same_key, weight_of, total_of}
-use Rattle.hh_counters.specs.Counters.{Counters, SummaryView, IsCounters, tally, IsHonest, slack}
+use Rattle.hh_counters.specs.Counters.{Counters, SummaryView, IsCounters, tally, IsHonest}
 use Rattle.hh_counters.specs.Report.{rank_cmp, ranked_in, by_rank, is_heavy, rows_above, heavy, weights_at, can_be_heavy, contenders, keys_above, has_counter, IsReport}
 use Rattle.hh_counters.proofs.Weights.{Distinct, same_sym, key_total, rising-tally, weight_of-tally, flipped, number_from_in, positive_in, in_from_number, same_rising}
 
@@ -209,20 +208,6 @@ heavy_has_counter c xs k p q h le e i =
     absurd (near_zero k p q (total_of xs) e.1 (total_of c) le (omega (arith, h.near e.0))
     (omega (arith, at.1, mul_comm (total_of xs) p))))
     (cases_lt 0 (weight_of e.0 c))
-
--- an honest counter is at most the slack below its key's weight
-pub within_slack : (c : Counters) (xs : List Entry) (k : ℕ) → IsHonest c (total_of xs) xs k → (x : Bytes)
-    → weight_of x xs ≤ weight_of x c + slack c (total_of xs) k
-within_slack c xs k h x =
-    let near = h.near x in
-    let below = h.below x in
-    let apart : (k + 1) * weight_of x xs ≡ (k + 1) * weight_of x c + (k + 1) * (weight_of x xs - weight_of x c) =
-    ap (λ n. (k + 1) * n) (omega arith) ∙ mul-add (k + 1) (weight_of x c) (weight_of x xs - weight_of x c) in
-    let room : (weight_of x xs - weight_of x c) * (k + 1) ≤ total_of xs - total_of c =
-    omega (arith, apart, near, mul_comm (weight_of x xs - weight_of x c) (k + 1)) in
-    let quotient : weight_of x xs - weight_of x c ≤ (total_of xs - total_of c) / (k + 1) =
-    (le-div_iff_mul-le {k = k + 1} (omega arith)).1 room in
-    omega (arith, quotient)
 
 -- two lists in the order of the report with the same entries are one
 pub same_ranked : (c d : List Entry) → IsStrictlySortedBy rank_cmp c → IsStrictlySortedBy rank_cmp d

@@ -72,3 +72,19 @@ pub(crate) fn is_of_four_items(alloc: Global, outcome: &Outcome) -> Result<bool,
     let counters = (summary.len(), a, b) == (2, 4, 1);
     Ok(counters && has_cells(&outcome.table) && lists_a(&outcome.heavy))
 }
+
+// Whether the outcome of the four items is as ever with so many pieces and workers, this plan and
+// this gate.
+pub(crate) fn is_as_ever<R: Threads + Wait + Abort + Sync, G: Gate + Sync>(
+    rt: &R,
+    alloc: Global,
+    plan: &Plan,
+    workers: u64,
+    gate: &G,
+) -> Result<bool, Fail> {
+    let stream = four_items(alloc)?;
+    let cutting = Cutting::even(alloc, stream.len(), plan.count())?;
+    let options = options(alloc, 2, workers)?;
+    let outcome = analyse_stream(rt, alloc, &stream, &cutting, plan, &options, gate)?;
+    is_of_four_items(alloc, &outcome)
+}

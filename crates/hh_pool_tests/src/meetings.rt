@@ -2,9 +2,8 @@
 
 ghost use Rattle.std.specs.Prelude.{◌≤◌};
 
-use crate::fixtures::{analyse_stream, four_items, is_of_four_items, options};
+use crate::fixtures::is_as_ever;
 use hh_pool::{Gate, Plan};
-use hh_stream::Cutting;
 use std::alloc::Global;
 use std::process::Abort;
 use std::sync::Wait;
@@ -55,6 +54,11 @@ impl Calls {
             pieces: AtomicU64::new(0),
             workers: AtomicU64::new(0),
         }
+    }
+
+    // The digits of the workers and of the pieces.
+    pub(crate) fn heard(&self) -> (u64, u64) {
+        (self.workers.load(SeqCst), self.pieces.load(SeqCst))
     }
 }
 
@@ -126,12 +130,8 @@ fn meets<R: Threads + Wait + Abort + Sync>(
 ) -> Result<bool, Fail>
     requires { (1 ≤ pieces) × (pieces ≤ 8) }
 {
-    let stream = four_items(alloc)?;
-    let cutting = Cutting::even(alloc, stream.len(), pieces)?;
     let plan = Plan::chain(alloc, pieces)?;
-    let options = options(alloc, 2, workers)?;
-    let outcome = analyse_stream(rt, alloc, &stream, &cutting, &plan, &options, gate)?;
-    Ok(is_of_four_items(alloc, &outcome)? && gate.is_exact())
+    Ok(is_as_ever(rt, alloc, &plan, workers, gate)? && gate.is_exact())
 }
 
 // Each of eight workers has one piece in hand, so each one's number comes.

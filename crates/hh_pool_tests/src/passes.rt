@@ -11,7 +11,6 @@ use hh_shared::{SharedSums, SumSeat};
 use hh_stream::{Cutting, Key, Stream};
 use std::alloc::Global;
 use std::process::Abort;
-use std::sync::atomic::Ordering::SeqCst;
 use std::test::Fail;
 
 fn counter_of(alloc: Global, summary: &Summary, key: &[u8]) -> Result<u64, Fail> {
@@ -67,16 +66,24 @@ fn first_of_both(
     Ok((found, none, close_both(rt, sums, one, other)?))
 }
 
-#[test]
-fn first_of_two_seats_summarises_all_pieces(rt: HostRuntime) -> Result<(), Fail> {
-    let alloc = rt.alloc();
+// The same of the four items in two pieces.
+fn first_of_two_pieces(
+    rt: &impl Abort,
+    alloc: Global,
+    gate: &Meeting,
+) -> Result<(Vec<(usize, Summary)>, Vec<(usize, Summary)>, Vec<u64>), Fail> {
     let stream = four_items(alloc)?;
     let cutting = Cutting::even(alloc, stream.len(), 2)?;
     assert_eq!(rt; cutting.len(), stream.len());
+    first_of_both(rt, alloc, &stream, &cutting, gate)
+}
+
+#[test]
+fn first_of_two_seats_summarises_all_pieces(rt: HostRuntime) -> Result<(), Fail> {
+    let alloc = rt.alloc();
     let gate = Meeting::new(6, 0, 0, 0);
-    let (found, none, cells) = first_of_both(&rt, alloc, &stream, &cutting, &gate)?;
-    assert_eq!(rt; gate.first.workers.load(SeqCst), 2 << 40);
-    assert_eq!(rt; gate.first.pieces.load(SeqCst), 0x0101);
+    let (found, none, cells) = first_of_two_pieces(&rt, alloc, &gate)?;
+    assert_eq!(rt; gate.first.heard(), (2 << 40, 0x0101));
     assert_eq!(rt; (found.len(), none.len()), (2, 0));
     assert!(rt; has_counters(alloc, &found[0], 0, (b"a", 5), (b"b", 3))?);
     assert!(rt; has_counters(alloc, &found[1], 1, (b"a", 1), (b"c", 2))?);
@@ -104,18 +111,35 @@ fn second_of_both(
     close_both(rt, sums, one, two)
 }
 
-#[test]
-fn first_of_two_seats_counts_all_candidates(rt: HostRuntime) -> Result<(), Fail> {
-    let alloc = rt.alloc();
+// The same of the four items in two pieces.
+fn second_of_two_pieces(
+    rt: &impl Abort,
+    alloc: Global,
+    candidates: &Candidates,
+    gate: &Meeting,
+) -> Result<Vec<u64>, Fail>
+    requires two { length candidates.now ≡ 2 }
+{
     let stream = four_items(alloc)?;
     let cutting = Cutting::even(alloc, stream.len(), 2)?;
     assert_eq!(rt; cutting.len(), stream.len());
-    let candidates = Candidates::of(alloc, &Summary::of_items(alloc, 2, stream.items())?)?;
+    second_of_both(rt, alloc, &stream, &cutting, candidates, gate)
+}
+
+// The candidates a and b of the four items.
+fn two_candidates(alloc: Global) -> Result<Candidates, Fail> {
+    let stream = four_items(alloc)?;
+    let summary = Summary::of_items(alloc, 2, stream.items())?;
+    Ok(Candidates::of(alloc, &summary)?)
+}
+
+#[test]
+fn first_of_two_seats_counts_all_candidates(rt: HostRuntime) -> Result<(), Fail> {
+    let candidates = two_candidates(rt.alloc())?;
     assert_eq!(rt; candidates.len(), 2);
     let gate = Meeting::new(7, 0, 0, 0);
-    let counts = second_of_both(&rt, alloc, &stream, &cutting, &candidates, &gate)?;
-    assert_eq!(rt; gate.second.workers.load(SeqCst), 2 << 48);
-    assert_eq!(rt; gate.second.pieces.load(SeqCst), 0x0101);
+    let counts = second_of_two_pieces(&rt, rt.alloc(), &candidates, &gate)?;
+    assert_eq!(rt; gate.second.heard(), (2 << 48, 0x0101));
     assert_eq!(rt; counts.as_slice(), [6, 3].as_slice());
     Ok(())
 }

@@ -13,10 +13,8 @@ use Rattle.csv.specs.declared.parser.State.{State}
 use Rattle.csv.specs.declared.parser.State.TheVariants as st
 use Rattle.hh_stream.specs.Weights.{AreItems, Entry, IsKey, max_key_len, max_total, total_of}
 use Rattle.hh_records.specs.Laws.{TextsAreItems}
-use Rattle.hh_stream.specs.Digits.{value_of}
-use Rattle.hh_records.specs.Streams.{Fields, is_weight, item_of_fields, item_of_pair, item_of_parts, items_from, reading_next, weight_after, weight_or_cause}
+use Rattle.hh_records.specs.Streams.{Fields, item_of_fields, item_of_pair, item_of_parts, items_from, reading_next, weight_after, weight_of, weight_or_cause}
 use Rattle.hh_records.specs.declared.records.BadRecordCause.{BadRecordCause}
-use Rattle.hh_records.specs.declared.records.BadRecordCause.TheVariants as cause
 
 -- ---- records of bytes
 abbrev IsByte : ℕ → Type 0
@@ -106,13 +104,9 @@ weight_fits t w v is = elim (eqb_tells w 0) [
   ]
 ]
 
-after_fits : (t : ℕ) (o : Option (List ℕ)) (v : ℕ) → weight_after t o ≡ Ok v → Fits t v
-after_fits t None v is = weight_fits t 1 v is
-after_fits t (Some f) v is = by (is_weight f) is
-  where
-    by : (b : Bool) → (if b then weight_or_cause t (value_of f) else Err cause.BadWeight) ≡ Ok v → Fits t v
-    by true is = weight_fits t (value_of f) v is
-    by false is = absurd (cc is)
+after_fits : (t : ℕ) (o : Option ℕ) (v : ℕ) → weight_after t o ≡ Ok v → Fits t v
+after_fits t None v is = absurd (cc is)
+after_fits t (Some w) v is = weight_fits t w v is
 
 pair_is : (k : List ℕ) (r : Result ℕ BadRecordCause) (e : Entry) → item_of_pair k r ≡ Ok e → (k ≡ e.0) × (r ≡ Ok e.1)
 pair_is k (Ok w) e is = let same : ◌≡◌ {A = Entry} (k, w) e = cc is in (ap (λ p. p.0) same, ap (λ p. Ok p.1) same)
@@ -128,13 +122,13 @@ parts_give t k o e bytes is = elim (eqb_tells (length k) 0) [
   | inl (empty, _) ↦ absurd (cc (rw empty at is))
   | inr (empty, some) ↦ elim (leb_tells (length k) max_key_len) [
     | inl (short, few) ↦
-        let (key, weight) = pair_is k (weight_after t o) e (rw (empty, short) at is) in
+        let (key, weight) = pair_is k (weight_after t (weight_of o)) e (rw (empty, short) at is) in
         let lawful : IsKey k = record {
           some = omega (arith, some);
           few = few;
           bytes = λ i lt. All-get_or IsByte k i 0 lt bytes;
         } in
-        (subst IsKey key lawful, after_fits t o e.1 weight)
+        (subst IsKey key lawful, after_fits t (weight_of o) e.1 weight)
     | inr (short, _) ↦ absurd (cc (rw (empty, short) at is))
   ]
 ]

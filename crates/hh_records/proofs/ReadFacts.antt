@@ -1,11 +1,12 @@
 -- How a stream follows the records read so far.
-use Rattle.std.proofs.Common.{◌≡◌, ◌≤◌, ◌<◌, ◌+◌, ◌-◌, ◌∷◌, ◌++◌, ◌∙◌, ℕ, suc, zero, List, [], length, Bool, true, false, Option, Some, None, Result, Ok, Err, refl, sym, ap, arith, append_assoc}
+use Rattle.std.proofs.Common.{◌≡◌, ◌≤◌, ◌<◌, ◌+◌, ◌-◌, ◌∷◌, ◌++◌, ◌∙◌, ℕ, suc, zero, List, [], length, map, Bool, true, false, Option, Some, None, Result, Ok, Err, refl, sym, ap, arith, append_assoc}
 use Rattle.std.specs.Prelude.{⊤, IfSome, option_map, ◌==◌, if◌then◌else◌}
 use Rattle.std.proofs.lemmas.Bool.{false≢true}
-use Rattle.std.proofs.lemmas.List.{append-nil}
+use Rattle.std.proofs.lemmas.List.{append-nil, length-map, map-append}
+use Rattle.std.proofs.lemmas.List.Sums.{sum_by-append}
 use Rattle.std.proofs.Common.{length-append}
 use Rattle.csv.specs.Machine.{next_record, ends_at_end, is_end, step, after_end, in_field, start_field, start_record, Read, carriage_return}
-use Rattle.csv.specs.Reading.{Reached, ReadRecord, default_config, records, records_from, source_of, strip_bom}
+use Rattle.csv.specs.Reading.{Reached, ReadRecord, default_config, records, records_from, records_next, source_of, strip_bom}
 use Rattle.csv.specs.declared.parser.Config.{Config}
 use Rattle.csv.specs.declared.parser.Terminator.{Terminator}
 use Rattle.csv.specs.declared.parser.Terminator.TheVariants as term
@@ -17,16 +18,19 @@ use Rattle.csv.specs.declared.reader.Reader.{Reader}
 use Rattle.csv.proofs.ReadFacts.{rows-end, rows-more}
 use Rattle.hh_stream.specs.Weights.{Entry, total_of}
 use Rattle.hh_records.specs.declared.records.BadRecordCause.{BadRecordCause}
+use Rattle.hh_records.specs.declared.records.BadRecordCause.TheVariants as cause
+use Rattle.hh_records.specs.declared.records.ReadError.{ReadError}
+use Rattle.hh_records.specs.declared.records.ReadError.TheVariants as read
 use Rattle.hh_records.specs.declared.records.RecordFault.{RecordFault}
 use Rattle.hh_records.specs.declared.records.RecordFault.TheVariants as fault
-use Rattle.hh_records.specs.Streams.{Fields, ReadRefused, Reading, RecordRefused, items_from, item_of_fields, reading_next, stream_of, numbered_fault}
-
--- what was read of a text: these records, whose items are the stream's
-abbrev pub ReadSoFar : Option (List ℕ) → Option (List ℕ) → State → List Entry → ℕ → Type 0
-ReadSoFar None now s xs n = ⊤
-ReadSoFar (Some text) now s xs n = (y : List ℕ) × (now ≡ Some y) × (rows : List Fields)
-    × Reached default_config st.StartRecord (strip_bom text) rows s y
-    × (items_from 1 [] rows ≡ Ok xs) × (length rows ≡ n)
+use Rattle.hh_records.specs.Layouts.{ChoiceRefused, IsStart, OpenRefused, OpensAs, PartsRefused, RowsRefused, added, adding_next, adds, between, choice_fault, chosen_places, delimited, headed_parts, items_after, joined, parts_at, places_in, stream_with, text_parts, weight_read}
+use Rattle.hh_records.specs.declared.layout.ChoiceFault.{ChoiceFault}
+use Rattle.hh_records.specs.declared.layout.ChoiceFault.TheVariants as choice
+use Rattle.hh_records.specs.declared.layout.Chosen.{Chosen}
+use Rattle.hh_records.specs.declared.layout.Layout.{Layout}
+use Rattle.hh_records.specs.declared.retrying.Retrying.{Retrying}
+use Rattle.hh_records.specs.Laws.{PlainLayoutsReadStreams}
+use Rattle.hh_records.specs.Streams.{Fields, Parts, ReadRefused, Reading, item_of_parts, items_from, numbered_fault, parts_of, reading_next, stream_of}
 
 -- a state where the text may end with no record
 Quiet : State × Action → Type 0
@@ -142,13 +146,32 @@ no-records cfg s ys zero e = refl
 no-records cfg s ys (suc n) e = rw e refl
 
 -- all records of a text, by those that were reached
-records-reached : (s2 : State) (xs ys : List ℕ) (rows : List Fields)
-    → Reached default_config st.StartRecord xs rows s2 ys
-    → (n : ℕ) × (records default_config xs ≡ rows ++ records_from default_config n s2 ys)
-records-reached s2 xs ys rows h =
-    let room = reached-length default_config st.StartRecord s2 xs ys rows refl h in
+records-reached : (cfg : Config) (s s2 : State) (xs ys : List ℕ) (rows : List Fields) → ends_at_end s ≡ false
+    → Reached cfg s xs rows s2 ys
+    → (n : ℕ) × (records_from cfg (length xs + 1) s xs ≡ rows ++ records_from cfg n s2 ys)
+records-reached cfg s s2 xs ys rows q h =
+    let room = reached-length cfg s s2 xs ys rows q h in
     let n : ℕ = length xs + 1 - length rows in
-    (n, reached-records default_config st.StartRecord s2 xs ys rows (length xs + 1) n (omega (arith, room)) h)
+    (n, reached-records cfg s s2 xs ys rows (length xs + 1) n (omega (arith, room)) h)
+
+-- as many records as a text has bytes are all, and so are more
+pub enough : (cfg : Config) (s : State) (ys : List ℕ) (m n : ℕ) → ends_at_end s ≡ false → length ys < m → length ys < n
+    → records_from cfg m s ys ≡ records_from cfg n s ys
+unfolding records_from
+enough cfg s ys zero n q a b = absurd (omega (arith, a))
+enough cfg s ys (suc m) zero q a b = absurd (omega (arith, b))
+enough cfg s ys (suc m) (suc n) q a b =
+    by (next_record cfg s [] [] ys) refl (λ p. enough cfg p.1 p.2 m n)
+  where
+    by : (o : Option Read) → next_record cfg s [] [] ys ≡ o
+        → ((p : Read) → ends_at_end p.1 ≡ false → length p.2 < m → length p.2 < n
+        → records_from cfg m p.1 p.2 ≡ records_from cfg n p.1 p.2)
+        → records_next (records_from cfg m) o ≡ records_next (records_from cfg n) o
+    by None e more = refl
+    by (Some p) e more =
+        let after = record-quiet cfg s [] [] ys p e in
+        let less = after.2 q in
+        ap (λ (rs : List Fields). p.0 ∷ rs) (more p after.0 (omega (arith, a, less)) (omega (arith, b, less)))
 
 reading-or : List Entry → Reading → List Entry
 reading-or d (Ok z) = z
@@ -158,66 +181,291 @@ ok-eq : (x y : List Entry) → ◌≡◌ {A = Reading} (Ok x) (Ok y) → x ≡ y
 unfolding reading-or
 ok-eq x y e = ap (reading-or x) e
 
--- the items of some records, and then those of the others
-items-more : (n : ℕ) (xs ys : List Entry) (rows rest : List Fields) → items_from n xs rows ≡ Ok ys
-    → items_from n xs (rows ++ rest) ≡ items_from (n + length rows) ys rest
-unfolding items_from
-items-more n xs ys [] rest e =
-    let same : xs ≡ ys = ok-eq xs ys e in
-    let none : n + length {A = Fields} [] ≡ n = omega arith in
-    rw (none, same) refl
-items-more n xs ys (r ∷ rows) rest e =
-    by (item_of_fields (total_of xs) r) e (λ p. items-more (n + 1) (xs ++ p ∷ []) ys rows rest)
+pub joined-none : (r : Reading) → joined [] r ≡ r
+joined-none (Ok xs) = refl
+joined-none (Err e) = refl
+
+pub joined-twice : (xs ys : List Entry) (r : Reading) → joined xs (joined ys r) ≡ joined (xs ++ ys) r
+joined-twice xs ys (Ok zs) = ap Ok (sym (append_assoc xs ys zs))
+joined-twice xs ys (Err e) = refl
+
+-- what some records add, and then what the others do
+pub items-more : (allow : Bool) (n t : ℕ) (xs : List Entry) (ps qs : List Parts) → items_after allow n t ps ≡ Ok xs
+    → items_after allow n t (ps ++ qs) ≡ joined xs (items_after allow (n + length ps) (t + total_of xs) qs)
+unfolding items_after
+items-more allow n t xs [] qs e =
+    let same : [] ≡ xs = ok-eq [] xs e in
+    let none : n + length {A = Parts} [] ≡ n = omega arith in
+    let zero : t + 0 ≡ t = omega arith in
+    rw (← same, none, zero) (sym (joined-none (items_after allow n t qs)))
+items-more allow n t xs (p ∷ ps) qs e =
+    by (adds allow t p) e (λ es ys. items-more allow (n + 1) (t + total_of es) ys ps qs)
   where
-    by : (o : Result Entry BadRecordCause) → reading_next o n (λ p. items_from (n + 1) (xs ++ p ∷ []) rows) ≡ Ok ys
-        → ((p : Entry) → items_from (n + 1) (xs ++ p ∷ []) rows ≡ Ok ys
-        → items_from (n + 1) (xs ++ p ∷ []) (rows ++ rest) ≡ items_from (n + 1 + length rows) ys rest)
-        → reading_next o n (λ p. items_from (n + 1) (xs ++ p ∷ []) (rows ++ rest))
-        ≡ items_from (n + suc (length rows)) ys rest
-    by (Ok p) e more =
-        let same : n + suc (length rows) ≡ n + 1 + length rows = omega arith in
-        rw same (more p e)
+    More : Type 0
+    More = (es ys : List Entry) → items_after allow (n + 1) (t + total_of es) ps ≡ Ok ys
+        → items_after allow (n + 1) (t + total_of es) (ps ++ qs)
+        ≡ joined ys (items_after allow (n + 1 + length ps) (t + total_of es + total_of ys) qs)
+
+    go : (es : List Entry) (r : Reading) → items_after allow (n + 1) (t + total_of es) ps ≡ r → joined es r ≡ Ok xs
+        → More
+        → joined es (items_after allow (n + 1) (t + total_of es) (ps ++ qs))
+        ≡ joined xs (items_after allow (n + suc (length ps)) (t + total_of xs) qs)
+    go es (Err x) f e more = cc e
+    go es (Ok ys) f e more =
+        let both : es ++ ys ≡ xs = ok-eq (es ++ ys) xs e in
+        let sum = sum_by-append (λ (e : Entry). e.1) es ys in
+        let number : n + 1 + length ps ≡ n + suc (length ps) = omega arith in
+        let total : t + total_of es + total_of ys ≡ t + total_of (es ++ ys) = omega (arith, sum) in
+        rw (← both, ← number, ← total) (ap (joined es) (more es ys f)
+        ∙ joined-twice es ys (items_after allow (n + 1 + length ps) (t + total_of es + total_of ys) qs))
+
+    by : (o : Result (List Entry) BadRecordCause)
+        → adding_next o n (λ es. items_after allow (n + 1) (t + total_of es) ps) ≡ Ok xs
+        → More
+        → adding_next o n (λ es. items_after allow (n + 1) (t + total_of es) (ps ++ qs))
+        ≡ joined xs (items_after allow (n + suc (length ps)) (t + total_of xs) qs)
+    by (Ok es) e more = go es (items_after allow (n + 1) (t + total_of es) ps) refl e more
     by (Err x) e more = cc e
 
--- before the first record
-pub read-start : (known now : Option (List ℕ)) (s : State) (xs : List Entry) → now ≡ option_map strip_bom known
-    → s ≡ st.StartRecord → xs ≡ [] → ReadSoFar known now s xs 0
-unfolding Reached items_from
-read-start None now s xs e f g = tt
-read-start (Some text) now s xs e f g = (strip_bom text, e, [], (sym f, refl), rw g refl, refl)
+-- what was read of a text from a state on, where so many records and a total of t came before: these
+-- records, which add these items
+abbrev pub ReadSoFar : Config → (Fields → Parts) → Bool → State → ℕ → ℕ → Option (List ℕ) → Option (List ℕ) → State
+    → List Entry → ℕ → Type 0
+ReadSoFar cfg f allow s0 before t None now s xs n = ⊤
+ReadSoFar cfg f allow s0 before t (Some text) now s xs n =
+    (y : List ℕ) × (now ≡ Some y) × (rows : List Fields)
+    × Reached cfg s0 text rows s y
+    × (items_after allow (before + 1) t (map f rows) ≡ Ok xs) × (before + length rows ≡ n)
 
--- after n records, whose items are xs, the reader a reads to b
-module _ {R : Type 0} (rem : R → Option (List ℕ)) (a b : Reader R) (f : Fields) (xs : List Entry) (n : ℕ)
-    (config : a.config ≡ default_config) where
-  -- one more record
-  pub read-more : (known : Option (List ℕ)) (p : Entry) → ReadSoFar known (source_of rem a) a.state xs n
-      → ReadRecord rem a b true f → item_of_fields (total_of xs) f ≡ Ok p
-      → ReadSoFar known (source_of rem b) b.state (xs ++ p ∷ []) (n + 1)
-  unfolding items_from
-  read-more None p h r j = tt
-  read-more (Some text) p (y, source, rows, reached, items, count) r j =
-      let (z, at, more) = rows-more rem a b f default_config _ (strip_bom text) y rows config source reached r in
-      let size = length-append rows (f ∷ []) in
-      (z, at, rows ++ f ∷ [], more, rw (items-more 1 [] xs rows (f ∷ []) items, j) refl, omega (arith, size, count))
+-- where bytes between two records are known, the state is one there
+pub between-known : (s : State) (o : Option (List ℕ)) → IfSome (between s o) (λ bytes. ends_at_end s ≡ false)
+between-known s o = by (ends_at_end s) refl o
+  where
+    by : (b : Bool) → ends_at_end s ≡ b → (o : Option (List ℕ))
+        → IfSome (if b then None else o) (λ bytes. ends_at_end s ≡ false)
+    by true e o = tt
+    by false e None = tt
+    by false e (Some bytes) = e
 
-  -- no more records
-  pub read-end : (known : Option (List ℕ)) → ReadSoFar known (source_of rem a) a.state xs n
-      → ReadRecord rem a b false f → IfSome known (λ text. stream_of text ≡ Ok xs)
-  read-end None h r = tt
-  read-end (Some text) (y, source, rows, reached, items, count) r =
-      let none = rows-end rem a b f default_config y config source r in
-      let (m, all) = records-reached a.state (strip_bom text) y rows reached in
-      rw (all, no-records default_config a.state y m none, append-nil rows) items
+-- the parts of all records that a text has from a state on
+abbrev pub left_from : Config → (Fields → Parts) → State → Option (List ℕ) → Option (List Parts)
+left_from cfg f s0 known = option_map (λ text. map f (records_from cfg (length text + 1) s0 text)) known
 
-  -- a record that was not taken
-  pub read-refused : (known : Option (List ℕ)) (x : RecordFault) → ReadSoFar known (source_of rem a) a.state xs n
-      → ReadRecord rem a b true f → RecordRefused (total_of xs) f x → ReadRefused known (numbered_fault (n + 1) x)
-  unfolding items_from
-  read-refused known fault.Memory h r j = tt
-  read-refused None (fault.Bad x) h r j = tt
-  read-refused (Some text) (fault.Bad x) (y, source, rows, reached, items, count) r j =
-      let (z, at, more) = rows-more rem a b f default_config _ (strip_bom text) y rows config source reached r in
-      let (m, all) = records-reached b.state (strip_bom text) z (rows ++ f ∷ []) more in
-      let rest = records_from default_config m b.state z in
-      let number : 1 + length rows ≡ n + 1 = omega (arith, count) in
-      rw (all, append_assoc rows (f ∷ []) rest, items-more 1 [] xs rows (f ∷ rest) items, j, number) refl
+module _ (cfg : Config) (f : Fields → Parts) (allow : Bool) (s0 : State) (before t : ℕ) where
+  -- before the first record
+  pub read-start : (now : Option (List ℕ)) → ReadSoFar cfg f allow s0 before t (between s0 now) now s0 [] before
+  unfolding Reached items_after
+  read-start now = by (ends_at_end s0) now
+    where
+      by : (b : Bool) (now : Option (List ℕ))
+          → ReadSoFar cfg f allow s0 before t (if b then None else now) now s0 [] before
+      by true now = tt
+      by false None = tt
+      by false (Some text) = (text, refl, [], (refl, refl), refl, omega arith)
+
+  -- after n records, which add xs, the reader a reads to b
+  module _ {R : Type 0} (rem : R → Option (List ℕ)) (a b : Reader R) (row : Fields) (xs : List Entry) (n : ℕ)
+      (config : a.config ≡ cfg) where
+    -- one more record
+    pub read-more : (known : Option (List ℕ)) (es : List Entry)
+        → ReadSoFar cfg f allow s0 before t known (source_of rem a) a.state xs n
+        → ReadRecord rem a b true row → adds allow (t + total_of xs) (f row) ≡ Ok es
+        → ReadSoFar cfg f allow s0 before t known (source_of rem b) b.state (xs ++ es) (n + 1)
+    unfolding items_after
+    read-more None es h r j = tt
+    read-more (Some text) es (y, source, rows, reached, items, count) r j =
+        let (z, at, more) = rows-more rem a b row cfg s0 text y rows config source reached r in
+        let size = length-append rows (row ∷ []) in
+        let all : map f (rows ++ row ∷ []) ≡ map f rows ++ f row ∷ [] = map-append f rows (row ∷ []) in
+        let added : items_after allow (before + 1) t (map f (rows ++ row ∷ [])) ≡ Ok (xs ++ es) =
+        rw (all, items-more allow (before + 1) t xs (map f rows) (f row ∷ []) items, j, append-nil es) refl in
+        (z, at, rows ++ row ∷ [], more, added, omega (arith, size, count))
+
+    -- no more records
+    pub read-end : (known : Option (List ℕ)) → IfSome known (λ bytes. ends_at_end s0 ≡ false)
+        → ReadSoFar cfg f allow s0 before t known (source_of rem a) a.state xs n
+        → ReadRecord rem a b false row
+        → IfSome (left_from cfg f s0 known)
+        (λ ps. (items_after allow (before + 1) t ps ≡ Ok xs) × (n ≡ before + length ps))
+    read-end None q h r = tt
+    read-end (Some text) q (y, source, rows, reached, items, count) r =
+        let none = rows-end rem a b row cfg y config source r in
+        let (m, all) = records-reached cfg s0 a.state text y rows q reached in
+        let size = length-map rows f in
+        rw (all, no-records cfg a.state y m none, append-nil rows) (items, omega (arith, size, count))
+
+    -- a record that was not taken
+    pub read-refused : (known : Option (List ℕ)) (x : RecordFault) → IfSome known (λ bytes. ends_at_end s0 ≡ false)
+        → ReadSoFar cfg f allow s0 before t known (source_of rem a) a.state xs n
+        → ReadRecord rem a b true row → PartsRefused allow (t + total_of xs) (f row) x
+        → RowsRefused allow before t (left_from cfg f s0 known) (numbered_fault (n + 1) x)
+    unfolding items_after
+    read-refused known fault.Memory q h r j = tt
+    read-refused None (fault.Bad x) q h r j = tt
+    read-refused (Some text) (fault.Bad x) q (y, source, rows, reached, items, count) r j =
+        let (z, at, more) = rows-more rem a b row cfg s0 text y rows config source reached r in
+        let (m, all) = records-reached cfg s0 b.state text z (rows ++ row ∷ []) q more in
+        let rest = records_from cfg m b.state z in
+        let parts : map f (rows ++ row ∷ rest) ≡ map f rows ++ f row ∷ map f rest = map-append f rows (row ∷ rest) in
+        let size = length-map rows f in
+        let number : before + 1 + length (map f rows) ≡ n + 1 = omega (arith, size, count) in
+        rw (
+          all,
+          append_assoc rows (row ∷ []) rest,
+          parts,
+          items-more allow (before + 1) t xs (map f rows) (f row ∷ map f rest) items,
+          j,
+          number,
+        ) refl
+
+-- a header was read: the records behind it are those that are left
+pub header-taken : {R : Type 0} (rem : R → Option (List ℕ)) (a b : Reader R) (f : Fields) (cfg : Config) (y : List ℕ)
+    → a.config ≡ cfg → a.state ≡ st.StartRecord → source_of rem a ≡ Some y → ReadRecord rem a b true f
+    → (z : List ℕ) × (source_of rem b ≡ Some z) × (ends_at_end b.state ≡ false)
+    × (records cfg y ≡ f ∷ records_from cfg (length z + 1) b.state z)
+unfolding Reached records_from
+header-taken rem a b f cfg y config start source r =
+    let (z, at, reached) = rows-more rem a b f cfg st.StartRecord y y [] config source (sym start, refl) r in
+    let p = reached.0 in
+    let next = reached.1 in
+    let (state, rest) = reached.3 in
+    let after = record-quiet cfg st.StartRecord [] [] y p next in
+    let less = after.2 refl in
+    let stands : ends_at_end b.state ≡ false = rw (← state) after.0 in
+    let shorter : length z < length y = rw (← rest) less in
+    let same : records_from cfg (length y) b.state z ≡ records_from cfg (length z + 1) b.state z =
+    enough cfg b.state z (length y) (length z + 1) stands shorter (omega arith) in
+    let one : length y + 1 ≡ suc (length y) = omega arith in
+    let moved : records_from cfg (length y) p.1 p.2 ≡ records_from cfg (length z + 1) b.state z = rw (state, rest) same in (
+      z,
+      at,
+      stands,
+      ap (λ n. records_from cfg n st.StartRecord y) one
+          ∙ ap (records_next (records_from cfg (length y))) next
+          ∙ ap (λ (rs : List Fields). p.0 ∷ rs) moved
+          ∙ ap (λ (r : List (List ℕ)). r ∷ records_from cfg (length z + 1) b.state z) (sym reached.2),
+    )
+
+-- there was no header, and there are no records
+pub header-missed : {R : Type 0} (rem : R → Option (List ℕ)) (a b : Reader R) (f : Fields) (cfg : Config) (y : List ℕ)
+    → a.config ≡ cfg → a.state ≡ st.StartRecord → source_of rem a ≡ Some y → ReadRecord rem a b false f
+    → records cfg y ≡ []
+header-missed rem a b f cfg y config start source r =
+    let none = rows-end rem a b f cfg y config source r in
+    no-records cfg st.StartRecord y (length y + 1) (rw start at none)
+
+-- ---- a text that is opened
+module _ {R : Type 0} (remaining : R → Option (List ℕ)) (layout : Layout) (a b : Reader (Retrying R)) (f : Fields)
+    (start : IsStart layout a) where
+  abbrev pub rem : Retrying R → Option (List ℕ)
+  rem r = remaining r.inner
+
+  abbrev pub parts : List ℕ → Option (List Parts)
+  parts bytes = headed_parts layout (records (delimited layout.delimiter) bytes)
+
+  -- with no header
+  pub opened-none : (o : Option (List ℕ)) → source_of rem a ≡ o → ReadRecord rem a b false f
+      → OpensAs remaining (option_map parts o) None
+  opened-none None e r = tt
+  opened-none (Some y) e r =
+      ([], refl, rw (header-missed rem a b f (delimited layout.delimiter) y start.config start.start e r) refl)
+
+  -- behind its header
+  pub opened-some : (chosen : Option Chosen) (o : Option (List ℕ)) → source_of rem a ≡ o → ReadRecord rem a b true f
+      → places_in layout f ≡ Some (chosen_places chosen)
+      → OpensAs remaining (option_map parts o) (Some (record { rows = b; chosen = chosen }))
+  opened-some chosen None e r places = tt
+  opened-some chosen (Some y) e r places =
+      let cfg = delimited layout.delimiter in
+      let (z, at, stands, all) = header-taken rem a b f cfg y start.config start.start e r in
+      let config : b.config ≡ cfg = r.2 ∙ start.config in
+      let all_parts : List Fields → List Parts = λ rows. map (parts_at (chosen_places chosen)) rows in (
+        all_parts (records_from cfg (length z + 1) b.state z),
+        ap (option_map (λ bytes. all_parts (records_from b.config (length bytes + 1) b.state bytes)))
+            (ap (λ q. if q then None else source_of rem b) stands ∙ at)
+            ∙ ap (λ cfg. Some (all_parts (records_from cfg (length z + 1) b.state z))) config,
+        ap (headed_parts layout) all
+            ∙ ap (option_map (λ at. map (parts_at at) (records_from cfg (length z + 1) b.state z))) places,
+      )
+
+  opened-not : (o : Option (List ℕ)) → source_of rem a ≡ o → ReadRecord rem a b true f → places_in layout f ≡ None
+      → IfSome (option_map parts o) (λ ps. ps ≡ None)
+  opened-not None e r places = tt
+  opened-not (Some y) e r places =
+      let (z, at, stands, all) =
+      header-taken rem a b f (delimited layout.delimiter) y start.config start.start e r in
+      rw (all, places) refl
+
+  -- with a header that lacks a column, or with no memory
+  pub opened-refused : (x : ChoiceFault) (o : Option (List ℕ)) → source_of rem a ≡ o → ReadRecord rem a b true f
+      → ChoiceRefused (places_in layout f) x → OpenRefused (option_map parts o) (choice_fault x)
+  opened-refused choice.Memory o e r h = tt
+  opened-refused choice.NoColumn o e r h = opened-not o e r h
+
+-- a text with nothing left adds nothing
+pub none-read : {R : Type 0} (layout : Layout) (remaining : R → Option (List ℕ)) (known : Option (List ℕ))
+    → OpensAs {R = R} remaining (option_map (text_parts layout) known) None
+    → IfSome known (λ bytes. stream_with layout bytes ≡ Some (Ok []))
+unfolding items_after
+none-read layout remaining None h = tt
+none-read layout remaining (Some bytes) (ps, left, is) =
+    ap (option_map (items_after layout.allow_zero 1 0)) is ∙ ap (option_map (items_after layout.allow_zero 1 0)) (sym left)
+
+-- ---- the layout of a key and its weight
+unadded : (x : BadRecordCause) → added false (Err x) ≡ Err x
+unadded cause.FieldCount = refl
+unadded cause.EmptyKey = refl
+unadded cause.KeyTooLong = refl
+unadded cause.BadWeight = refl
+unadded cause.ZeroWeight = refl
+unadded cause.TotalTooLarge = refl
+
+same-parts : (p : Parts) → option_map (λ (p : List ℕ × Option (List ℕ)). (p.0, weight_read false p.1)) p ≡ p
+same-parts None = refl
+same-parts (Some (k, None)) = refl
+same-parts (Some (k, Some f)) = refl
+
+-- where no weight may be 0, what records add is their items
+same-items : (n : ℕ) (xs : List Entry) (rows : List Fields)
+    → joined xs (items_after false n (total_of xs) (map parts_of rows)) ≡ items_from n xs rows
+unfolding items_after items_from
+same-items n xs [] = ap Ok (append-nil xs)
+same-items n xs (r ∷ rows) =
+    rw (same-parts (parts_of r)) (by (item_of_parts (total_of xs) (parts_of r)) (λ e. same-items (n + 1) (xs ++ e ∷ []) rows))
+  where
+    by : (o : Result Entry BadRecordCause)
+        → ((e : Entry) → joined (xs ++ e ∷ []) (items_after false (n + 1) (total_of (xs ++ e ∷ [])) (map parts_of rows))
+        ≡ items_from (n + 1) (xs ++ e ∷ []) rows)
+        → joined xs (adding_next (added false o) n (λ es. items_after false (n + 1) (total_of xs + total_of es) (map parts_of rows)))
+        ≡ reading_next o n (λ e. items_from (n + 1) (xs ++ e ∷ []) rows)
+    by (Ok e) more =
+        let sum = sum_by-append (λ (e : Entry). e.1) xs (e ∷ []) in
+        joined-twice xs (e ∷ []) _ ∙ rw (← sum) (more e)
+    by (Err x) more = rw (unadded x) refl
+
+-- what the parts of a text of keys and weights add is what the text reads as
+pub plain-items : (known : Option (List ℕ)) (left : Option (List Parts)) (xs : List Entry) (n : ℕ)
+    → left ≡ option_map (λ text. map parts_of (records default_config (strip_bom text))) known
+    → IfSome left (λ ps. (items_after false 1 0 ps ≡ Ok xs) × (n ≡ 0 + length ps))
+    → IfSome known (λ text. stream_of text ≡ Ok xs)
+plain-items None left xs n e h = tt
+plain-items (Some text) left xs n e h =
+    let rows = records default_config (strip_bom text) in
+    sym (same-items 1 [] rows) ∙ joined-none _ ∙ (rw e at h).0
+
+pub plain-refused : (known : Option (List ℕ)) (left : Option (List Parts)) (x : ReadError)
+    → left ≡ option_map (λ text. map parts_of (records default_config (strip_bom text))) known
+    → RowsRefused false 0 0 left x → ReadRefused known x
+plain-refused known left read.ReadFault e h = tt
+plain-refused known left read.Memory e h = tt
+plain-refused None left (read.BadRecord n c) e h = tt
+plain-refused (Some text) left (read.BadRecord n c) e h =
+    let rows = records default_config (strip_bom text) in
+    sym (same-items 1 [] rows) ∙ joined-none _ ∙ rw e at h
+
+-- a layout that names nothing reads a text as its stream
+pub plain-layouts : PlainLayoutsReadStreams
+plain-layouts layout text comma plain key weight none =
+    let rows = records default_config (strip_bom text) in
+    rw (comma, plain, key, weight, none)
+    (ap Some (sym (joined-none (items_after false 1 0 (map parts_of rows))) ∙ same-items 1 [] rows))

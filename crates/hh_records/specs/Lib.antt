@@ -1,4 +1,5 @@
 pub mod Laws
+pub mod Layouts
 pub mod Rows
 pub mod Sinks
 pub mod Streams

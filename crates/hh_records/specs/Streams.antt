@@ -28,12 +28,20 @@ weight_or_cause t w =
     else Err cause.TotalTooLarge
 
 -- the weight that a field writes, and 1 where there is none
-abbrev pub weight_after : ℕ → Option (List ℕ) → Result ℕ BadRecordCause
-weight_after t None = weight_or_cause t 1
-weight_after t (Some f) = if is_weight f then weight_or_cause t (value_of f) else Err cause.BadWeight
+abbrev pub weight_of : Option (List ℕ) → Option ℕ
+weight_of None = Some 1
+weight_of (Some f) = if is_weight f then Some (value_of f) else None
+
+abbrev pub weight_after : ℕ → Option ℕ → Result ℕ BadRecordCause
+weight_after t None = Err cause.BadWeight
+weight_after t (Some w) = weight_or_cause t w
+
+-- the key and the weight's field of a record, or nothing where it hasn't the fields for them
+abbrev pub Parts : Type 0
+Parts = Option (List ℕ × Option (List ℕ))
 
 -- a record of one or two fields, as the key and the weight's field
-abbrev pub parts_of : Fields → Option (List ℕ × Option (List ℕ))
+abbrev pub parts_of : Fields → Parts
 parts_of [] = None
 parts_of (k ∷ []) = Some (k, None)
 parts_of (k ∷ f ∷ []) = Some (k, Some f)
@@ -43,11 +51,11 @@ abbrev pub item_of_pair : Bytes → Result ℕ BadRecordCause → Result Entry B
 item_of_pair k (Ok w) = Ok (k, w)
 item_of_pair k (Err c) = Err c
 
-abbrev pub item_of_parts : ℕ → Option (List ℕ × Option (List ℕ)) → Result Entry BadRecordCause
+abbrev pub item_of_parts : ℕ → Parts → Result Entry BadRecordCause
 item_of_parts t None = Err cause.FieldCount
 item_of_parts t (Some p) =
     if length p.0 == 0 then Err cause.EmptyKey
-    else if nat_le (length p.0) max_key_len then item_of_pair p.0 (weight_after t p.1)
+    else if nat_le (length p.0) max_key_len then item_of_pair p.0 (weight_after t (weight_of p.1))
     else Err cause.KeyTooLong
 
 -- the item of a record after a total of t, or the first test that it fails
@@ -87,11 +95,6 @@ ReadRefused left read.Memory = ⊤
 abbrev pub fault_of : ErrorKind → ReadError
 fault_of kind.OutOfMemory = read.Memory
 fault_of _ = read.ReadFault
-
--- what a refusal tells of a record after a total of t
-abbrev pub RecordRefused : ℕ → Fields → RecordFault → Type 0
-RecordRefused t r (fault.Bad c) = item_of_fields t r ≡ Err c
-RecordRefused t r fault.Memory = ⊤
 
 -- the refusal that tells a record's number with its fault
 abbrev pub numbered_fault : ℕ → RecordFault → ReadError

@@ -1,6 +1,6 @@
 //! Laws of the definitions in `specs/`. Each function does nothing: its contract is the law.
 
-ghost use Rattle.hh_records.specs.Laws.{CondensedFilesAreRead, TextsAreItems};
+ghost use Rattle.hh_records.specs.Laws.{CondensedFilesAreRead, PlainLayoutsReadStreams, TextsAreItems};
 
 use hh_counters::laws::condensed_keeps_weights;
 
@@ -16,3 +16,9 @@ pub fn condensed_files_are_read()
 {
     condensed_keeps_weights();
 }
+
+/// A layout of fields between commas that names no column, has no header and allows no weight of 0
+/// reads a text as its stream.
+pub fn plain_layouts_read_streams()
+    ensures { PlainLayoutsReadStreams }
+{}

@@ -5,16 +5,20 @@
 #![tactic(auto)]
 
 pub mod laws;
+mod layout;
 mod records;
 mod retrying;
 mod rows;
 mod sink;
 mod taking;
+mod texts;
 mod threshold;
 
 pub use hh_counters::Counts;
+pub use layout::{Column, Layout};
 pub use records::{BadRecordCause, ReadError, read_items, read_stream};
 pub use rows::{ReportFault, condensed_text, report_text, write_report};
 pub use sink::{Out, Sink, SinkFault, WriteFault, put};
 pub use taking::TakeItems;
+pub use texts::{TextError, read_text};
 pub use threshold::{Share, threshold_of};

@@ -1,16 +1,19 @@
 //! Records of keys and weights, read one by one.
 
-ghost use Rattle.std.specs.Prelude.{◌≡◌, ◌+◌, ◌<◌, ◌≤◌, ◌^◌, false, true, min, Ok, MatchOption, IfSome, IfOk, IfErr, OnOk, option_map};
+ghost use Rattle.std.specs.Prelude.{length, Some, ◌≡◌, ◌+◌, ◌<◌, ◌≤◌, ◌^◌, false, true, min, Ok, MatchOption, IfSome, IfOk, IfErr, OnOk, option_map};
 ghost use Rattle.csv.specs.Reading.{stops_reader};
 ghost use Rattle.csv.specs.Records.{fields_of};
-ghost use Rattle.hh_stream.specs.Weights.{Entry, max_total};
+ghost use Rattle.csv.specs.Writing.{default_writer, row_body};
+ghost use Rattle.hh_stream.specs.Weights.{max_total};
 ghost use Rattle.hh_stream.specs.Digits.{is_number, value_of};
-ghost use Rattle.hh_records.specs.Streams.{fault_of, item_of_fields, numbered_fault, parts_of, ReadRefused, ReadsAs, RecordRefused};
+ghost use Rattle.hh_records.specs.Layouts.{IsText, PartsRefused, RowsRefused, TakesAdded, adds, chosen_places, fields_at, is_hyphen, items_after, parts_at, parts_left, weight_at, weight_read};
+ghost use Rattle.hh_records.specs.Streams.{fault_of, numbered_fault, parts_of, ReadRefused, ReadsAs, weight_of};
 ghost use Rattle.hh_records.specs.Taking.{TakesItems};
 
-use crate::retrying::Retrying;
+use crate::layout::Chosen;
 use crate::taking::TakeItems;
-use csv::{ByteRecord, ErrorKind, ReaderBuilder};
+use crate::texts::Text;
+use csv::{ByteRecord, ErrorKind, WriterBuilder};
 use hh_stream::{MAX_KEY_LEN, MAX_TOTAL, Stream};
 use std::alloc::{AllocError, Global};
 use std::io::Read;
@@ -83,6 +86,29 @@ pub(crate) fn number_in(field: &[u8], most: usize) -> Option<u64>
     Some(value)
 }
 
+/// Whether a field is a hyphen alone.
+fn is_hyphen(field: &[u8]) -> bool
+    ensures { result ≡ is_hyphen field.now }
+{
+    field.len() == 1 && field[0] == b'-'
+}
+
+/// The weight that a field writes, and 1 where there is none.
+fn weight_in(field: Option<&[u8]>, allow_zero: bool) -> Option<u64>
+    ensures { result ≡ option_map (λ weight. min weight u64.MAX)
+        (weight_of (weight_read allow_zero (option_map (λ f. f.now) field.entry))) }
+{
+    match field {
+        None => Some(1),
+        Some(field) => {
+            if allow_zero && is_hyphen(field) {
+                return Some(0);
+            }
+            number_in(field, 20)
+        }
+    }
+}
+
 /// The key and the weight's field of a record of one or two fields.
 fn parts_of(row: &ByteRecord) -> Option<(&[u8], Option<&[u8]>)>
     ensures { option_map (λ parts. (parts.0.now, option_map (λ field. field.now) parts.1)) result
@@ -95,37 +121,37 @@ fn parts_of(row: &ByteRecord) -> Option<(&[u8], Option<&[u8]>)>
     Some((key, row.get(1)))
 }
 
-/// Hands on the item of a record, as one more after those that were taken.
-fn take_record<T: TakeItems>(
+/// Hands on what a record adds: its item or, where it weighs 0 and that is allowed, nothing.
+fn take_item<T: TakeItems>(
     alloc: Global,
     taker: &mut T,
-    row: &ByteRecord,
+    key: &[u8],
+    field: Option<&[u8]>,
+    allow_zero: bool,
 ) -> Result<(), RecordFault>
-    ensures taken { OnOk result ((item : Entry)
-        × (item_of_fields (T.weight_taken taker.old) (fields_of row.now) ≡ Ok item)
-        × (T.weight_taken taker.new ≡ T.weight_taken taker.old + item.1)
-        × (0 < item.1) × (taker.new ≡ T.with_item taker.old item)) }
+    requires bounded { T.weight_taken taker.old ≤ max_total }
+    ensures taken { OnOk result
+        (TakesAdded T.with_item T.weight_taken taker.old taker.new (λ xs.
+        adds allow_zero (T.weight_taken taker.old)
+        (Some (key.now, option_map (λ f. f.now) field.entry)) ≡ Ok xs)) }
     ensures bounded { OnOk result (T.weight_taken taker.new ≤ max_total) }
     ensures refused { IfErr result (λ fault.
-        RecordRefused (T.weight_taken taker.old) (fields_of row.now) fault) }
+        PartsRefused allow_zero (T.weight_taken taker.old)
+        (Some (key.now, option_map (λ f. f.now) field.entry)) fault) }
 {
-    let Some((key, field)) = parts_of(row) else {
-        return Err(RecordFault::Bad(BadRecordCause::FieldCount));
-    };
     if key.is_empty() {
         return Err(RecordFault::Bad(BadRecordCause::EmptyKey));
     }
     if key.len() > MAX_KEY_LEN {
         return Err(RecordFault::Bad(BadRecordCause::KeyTooLong));
     }
-    let weight = match field {
-        None => Some(1),
-        Some(digits) => number_in(digits, 20),
-    };
-    let Some(weight) = weight else {
+    let Some(weight) = weight_in(field, allow_zero) else {
         return Err(RecordFault::Bad(BadRecordCause::BadWeight));
     };
     if weight == 0 {
+        if allow_zero {
+            return Ok(());
+        }
         return Err(RecordFault::Bad(BadRecordCause::ZeroWeight));
     }
     if weight > MAX_TOTAL - taker.total() {
@@ -134,6 +160,106 @@ fn take_record<T: TakeItems>(
     match taker.take(alloc, key, weight) {
         Ok(()) => Ok(()),
         Err(AllocError) => Err(RecordFault::Memory),
+    }
+}
+
+/// The text of some fields of a record, as `csv` writes it, where the record has them.
+fn joined_key(
+    alloc: Global,
+    row: &ByteRecord,
+    places: &[usize],
+) -> Result<Option<Vec<u8>>, AllocError>
+    ensures { IfOk result (λ key. option_map (λ k. k.items) key
+        ≡ option_map (row_body default_writer) (fields_at (fields_of row.now) places.now)) }
+{
+    let mut writer = WriterBuilder::new().from_writer(Vec::new(alloc));
+    for place in places {
+        let Some(field) = row.get(*place) else {
+            return Ok(None);
+        };
+        match writer.write_field(field) {
+            Ok(()) => {}
+            Err(_) => return Err(AllocError),
+        }
+    }
+    match writer.into_inner() {
+        Ok(text) => Ok(Some(text)),
+        Err(_) => Err(AllocError),
+    }
+}
+
+/// The weight's field of a record, where it has the field or none is wanted.
+fn weight_field(row: &ByteRecord, place: Option<usize>) -> Option<Option<&[u8]>>
+    ensures { option_map (λ field. option_map (λ f. f.now) field) result
+        ≡ weight_at (fields_of row.now) place }
+{
+    match place {
+        None => Some(None),
+        Some(place) => match row.get(place) {
+            Some(field) => Some(Some(field)),
+            None => None,
+        },
+    }
+}
+
+/// Hands on what a record adds, by the places of its key and of its weight.
+fn take_chosen<T: TakeItems>(
+    alloc: Global,
+    taker: &mut T,
+    row: &ByteRecord,
+    chosen: &Chosen,
+    allow_zero: bool,
+) -> Result<(), RecordFault>
+    requires bounded { T.weight_taken taker.old ≤ max_total }
+    ensures taken { OnOk result
+        (TakesAdded T.with_item T.weight_taken taker.old taker.new (λ xs.
+        adds allow_zero (T.weight_taken taker.old)
+        (parts_at (chosen_places (Some chosen.now)) (fields_of row.now)) ≡ Ok xs)) }
+    ensures bounded { OnOk result (T.weight_taken taker.new ≤ max_total) }
+    ensures refused { IfErr result (λ fault.
+        PartsRefused allow_zero (T.weight_taken taker.old)
+        (parts_at (chosen_places (Some chosen.now)) (fields_of row.now)) fault) }
+{
+    let Some(field) = weight_field(row, chosen.weight) else {
+        return Err(RecordFault::Bad(BadRecordCause::FieldCount));
+    };
+    if chosen.key.len() == 1 {
+        let Some(key) = row.get(chosen.key[0]) else {
+            return Err(RecordFault::Bad(BadRecordCause::FieldCount));
+        };
+        return take_item(alloc, taker, key, field, allow_zero);
+    }
+    match joined_key(alloc, row, chosen.key.as_slice()) {
+        Ok(Some(key)) => take_item(alloc, taker, key.as_slice(), field, allow_zero),
+        Ok(None) => Err(RecordFault::Bad(BadRecordCause::FieldCount)),
+        Err(AllocError) => Err(RecordFault::Memory),
+    }
+}
+
+/// Hands on what a record adds.
+fn take_record<T: TakeItems>(
+    alloc: Global,
+    taker: &mut T,
+    row: &ByteRecord,
+    chosen: &Option<Chosen>,
+    allow_zero: bool,
+) -> Result<(), RecordFault>
+    requires bounded { T.weight_taken taker.old ≤ max_total }
+    ensures taken { OnOk result
+        (TakesAdded T.with_item T.weight_taken taker.old taker.new (λ xs.
+        adds allow_zero (T.weight_taken taker.old)
+        (parts_at (chosen_places chosen.now) (fields_of row.now)) ≡ Ok xs)) }
+    ensures bounded { OnOk result (T.weight_taken taker.new ≤ max_total) }
+    ensures refused { IfErr result (λ fault.
+        PartsRefused allow_zero (T.weight_taken taker.old)
+        (parts_at (chosen_places chosen.now) (fields_of row.now)) fault) }
+{
+    match chosen {
+        Some(chosen) => take_chosen(alloc, taker, row, chosen, allow_zero),
+        None => match parts_of(row) {
+            Some((key, field)) => take_item(alloc, taker, key, field, allow_zero),
+            None => Err(RecordFault::Bad(BadRecordCause::FieldCount)),
+        },
     }
 }
 
@@ -149,7 +275,7 @@ fn numbered_fault(number: u64, fault: RecordFault) -> ReadError
 
 /// The error that a fault of `csv`'s reader is: its want of memory, or a failure of the reader
 /// underneath.
-fn fault_of(fault: &ErrorKind) -> ReadError
+pub(crate) fn fault_of(fault: &ErrorKind) -> ReadError
     requires { stops_reader fault.now ≡ true }
     ensures { result ≡ fault_of fault.now }
 {
@@ -163,35 +289,41 @@ fn fault_of(fault: &ErrorKind) -> ReadError
     }
 }
 
-/// Hands the item of each record of a reader to a taker of none, and returns the taker.
-fn read_records<R: Read + Drop, T: TakeItems>(
+/// Hands on what each record of a text adds, where so many records came before, and counts them.
+pub(crate) fn read_rows<R: Read + Drop, T: TakeItems>(
     alloc: Global,
-    reader: R,
-    mut taker: T,
-) -> Result<T, ReadError>
-    requires none { T.weight_taken taker ≡ 0 }
-    ensures items { IfOk result (λ taken.
-        TakesItems T.with_item (R.remaining reader) taker taken) }
-    ensures refused { IfErr result (λ error. ReadRefused (R.remaining reader) error) }
+    mut text: Text<R>,
+    before: u64,
+    taker: &mut T,
+    allow_zero: bool,
+) -> Result<u64, ReadError>
+    requires text { IsText text }
+    requires bounded { T.weight_taken taker.old ≤ max_total }
+    ensures items { IfOk result (λ after.
+        TakesAdded T.with_item T.weight_taken taker.old taker.new (λ xs.
+        IfSome (parts_left R.remaining text) (λ ps.
+        (items_after allow_zero (before + 1) (T.weight_taken taker.old) ps ≡ Ok xs)
+        × (after ≡ before + length ps)))) }
+    ensures bounded { OnOk result (T.weight_taken taker.new ≤ max_total) }
+    ensures refused { IfErr result (λ error.
+        RowsRefused allow_zero before (T.weight_taken taker.old)
+        (parts_left R.remaining text) error) }
 {
-    let mut records = ReaderBuilder::new()
-        .has_headers(false)
-        .flexible(true)
-        .from_reader(alloc, reader);
     let mut row = ByteRecord::new(alloc);
-    let mut number = 0u64;
-    loop {
-        match records.read_byte_record(&mut row) {
+    let mut number = before;
+    while number < u64::MAX {
+        match text.rows.read_byte_record(&mut row) {
             Ok(true) => {}
-            Ok(false) => return Ok(taker),
+            Ok(false) => return Ok(number),
             Err(error) => return Err(fault_of(error.kind())),
         }
         number += 1;
-        match take_record(alloc, &mut taker, &row) {
+        match take_record(alloc, taker, &row, &text.chosen, allow_zero) {
             Ok(()) => {}
             Err(fault) => return Err(numbered_fault(number, fault)),
         }
     }
+    Err(ReadError::ReadFault)
 }
 
 /// Hands the item of each record of a reader to a taker of none, in order, and returns the taker.
@@ -209,7 +341,11 @@ pub fn read_items<R: Read + Drop, T: TakeItems>(
         TakesItems T.with_item (R.remaining reader) taker taken) }
     ensures refused { IfErr result (λ error. ReadRefused (R.remaining reader) error) }
 {
-    read_records(alloc, Retrying::new(reader), taker)
+    let mut taker = taker;
+    match read_rows(alloc, Text::plain(alloc, reader), 0, &mut taker, false) {
+        Ok(_) => Ok(taker),
+        Err(error) => Err(error),
+    }
 }
 
 /// The stream of a text of records, each a key and, after a comma, its weight. A record of one

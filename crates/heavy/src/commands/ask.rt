@@ -1,10 +1,9 @@
 //! What a saved file tells of keys.
 
-ghost use Rattle.std.specs.Prelude.{◌≡◌, ◌<◌, ◌≤◌, length, Ok, Some, None, IfOk, IfErr, OnOk, MatchResult, map, vec_items};
+ghost use Rattle.std.specs.Prelude.{◌≡◌, ◌<◌, Ok, Some, None, IfOk, IfErr, OnOk, MatchResult, map, vec_items};
 ghost use Rattle.std.specs.List.{flat_map};
 ghost use Rattle.std.specs.Io.KnownBytes.{Appends};
 ghost use Rattle.csv.specs.Writing.{text_written};
-ghost use Rattle.hh_stream.specs.Weights.{max_key_len};
 ghost use Rattle.hh_records.specs.Rows.{IsBetweenRows};
 ghost use Rattle.heavy.specs.Ask.{answer, answer_of, answer_row, answers, answers_of, asked_value, bad_key, bounds_row, key_fault};
 ghost use Rattle.heavy.specs.Files.{Refuses, StopsAtHead, file_of};

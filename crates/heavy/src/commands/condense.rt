@@ -1,6 +1,6 @@
 //! Fewer records that say of a summary's keys what many records say.
 
-ghost use Rattle.std.specs.Prelude.{◌≡◌, ◌<◌, ◌≤◌, ◌^◌, Ok, List, IfOk, IfErr};
+ghost use Rattle.std.specs.Prelude.{◌≡◌, ◌<◌, ◌^◌, Ok, List, IfOk, IfErr};
 ghost use Rattle.std.specs.Map.{keys_of};
 ghost use Rattle.hh_stream.specs.Weights.{Entry, total_of};
 ghost use Rattle.hh_counters.specs.Condensed.{condensed, free_name, other_name};

@@ -7,7 +7,7 @@ ghost use Rattle.hh_counters.specs.Counting.{count_of};
 ghost use Rattle.hh_counters.specs.Report.{IsShare};
 ghost use Rattle.hh_records.specs.Streams.{ReadsAs};
 ghost use Rattle.heavy.specs.Files.{StopsAtHead};
-ghost use Rattle.heavy.specs.Confirm.{ConfirmAboveRefused, ConfirmRefused, ConfirmsAbove, ConfirmsRows, CountRefused, confirm_fault, confirmed_above, confirmed_rows};
+ghost use Rattle.heavy.specs.Confirm.{ConfirmAboveRefused, ConfirmRefused, ConfirmsAbove, ConfirmsRows, CountRefused, confirmed_above, confirmed_rows};
 ghost use Rattle.heavy.specs.declared.commands.confirm.ConfirmFault.TheVariants.{Memory};
 
 use crate::counting::count_records;
@@ -37,17 +37,6 @@ impl From<AllocError> for ConfirmFault {
 
     fn from(_: AllocError) -> ConfirmFault {
         ConfirmFault::Memory
-    }
-}
-
-impl From<ConfirmFault> for ToolError {
-    ghost from_gives = { λ fault error. error ≡ confirm_fault fault };
-
-    fn from(fault: ConfirmFault) -> ToolError {
-        match fault {
-            ConfirmFault::TotalDiffers => ToolError::TotalDiffers,
-            ConfirmFault::Memory => ToolError::Memory,
-        }
     }
 }
 
@@ -90,7 +79,7 @@ fn rows_above(summary: &Summary, counts: &Counts, p: u64, q: u64) -> Result<Vec<
 
 /// The keys of a summary above p/q of the total of a reader's records, in one pass that keeps no
 /// record.
-fn confirm_records<R: Read + Drop>(
+pub(crate) fn confirm_records<R: Read + Drop>(
     alloc: Global,
     summary: &Summary,
     p: u64,

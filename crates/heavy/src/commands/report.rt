@@ -1,12 +1,15 @@
 //! A report from a reader to a sink.
 
-ghost use Rattle.std.specs.Prelude.{◌≡◌, false, true, length, IfOk, IfErr, IfSome, OnOk, MatchResult, Err, None, Some};
+ghost use Rattle.std.specs.Prelude.{◌≡◌, List, false, true, length, IfOk, IfErr, IfSome, OnOk, MatchResult, Err, None, Some};
 ghost use Rattle.hh_stream.specs.Cuttings.{max_pieces};
 ghost use Rattle.hh_pool.specs.Trees.{leaves};
 ghost use Rattle.hh_counters.specs.Report.{heavy};
 ghost use Rattle.hh_stream.specs.Ranges.{in_range};
+ghost use Rattle.hh_stream.specs.Weights.{Entry};
 ghost use Rattle.hh_records.specs.Thresholds.{threshold_of};
-ghost use Rattle.heavy.specs.Report.{IsOptionFault, IsReported, Names, ReportRefused, TreeRefused, bad_option, failed_by, settings_of};
+ghost use Rattle.heavy.specs.Report.{AreOptions, IsOptionFault, IsReported, Names, ReportRefused};
+ghost use Rattle.heavy.specs.Report.{ReportsKeys, StartRefused, TreeRefused, bad_option};
+ghost use Rattle.heavy.specs.Report.{failed_by, settings_of};
 
 use crate::error::{ToolError, TreeFault};
 use hh_counters::{Heavy, MAX_K};
@@ -148,6 +151,30 @@ fn heavy_keys<T: Threads + Wait + Sync>(
     }
 }
 
+/// The keys that a report of a reader's records has.
+fn reported<T: Threads + Wait + Sync, R: Read + Drop>(
+    rt: &T,
+    alloc: Global,
+    options: &ReportOptions,
+    reader: R,
+) -> Result<Vec<Heavy>, ToolError>
+    ensures keys { IfOk result (λ keys. (xs : List Entry) × AreOptions options.now
+        × ReportsKeys options.now (R.remaining reader) xs keys.items) }
+    ensures refused { IfErr result (StartRefused options.now (R.remaining reader)) }
+    ensures bad_option { IfSome (bad_option options.now) (λ fault. result ≡ Err fault) }
+{
+    let (p, q) = check_options(options)?;
+    let pieces = options.pieces as usize;
+    let plan = match plan_of(alloc, &options.tree, pieces) {
+        Ok(plan) => plan,
+        Err(NoPlan::Bad(fault)) => return Err(ToolError::BadTree(fault)),
+        Err(NoPlan::Memory) => return Err(ToolError::Memory),
+    };
+    let settings = settings_of(alloc, options, p, q)?;
+    let stream = read_stream(alloc, reader)?;
+    Ok(heavy_keys(rt, alloc, &stream, pieces, &plan, &settings)?)
+}
+
 /// Reads records as [`read_stream`](crate::read_stream) does, and writes the report of their
 /// stream: exactly the keys whose weight is more than the threshold's share of the total, with
 /// their true weights, by falling weight and then by rising key. The stream is cut evenly and
@@ -172,16 +199,7 @@ pub fn run_report<T: Threads + Wait + Sync, R: Read + Drop, S: Sink>(
     ensures flushed { OnOk result (S.is_flushed sink.new ≡ true) }
     ensures failed { S.has_failed sink.new ≡ failed_by result }
 {
-    let (p, q) = check_options(options)?;
-    let pieces = options.pieces as usize;
-    let plan = match plan_of(alloc, &options.tree, pieces) {
-        Ok(plan) => plan,
-        Err(NoPlan::Bad(fault)) => return Err(ToolError::BadTree(fault)),
-        Err(NoPlan::Memory) => return Err(ToolError::Memory),
-    };
-    let settings = settings_of(alloc, options, p, q)?;
-    let stream = read_stream(alloc, reader)?;
-    let rows = heavy_keys(rt, alloc, &stream, pieces, &plan, &settings)?;
+    let rows = reported(rt, alloc, options, reader)?;
     match write_report(alloc, sink, &rows) {
         Ok(()) => Ok(()),
         Err(ReportFault::WriteFault { written }) => Err(ToolError::WriteFault { written }),

@@ -1,0 +1,92 @@
+//! Summaries that begin empty, and grow by items.
+
+ghost use Rattle.std.specs.Prelude.{◌≡◌, IfErr, IfOk, IfSome, OnOk, Ok, Err, None, map};
+ghost use Rattle.heavy.specs.Add.{GoesOn, IsAdded, IsEmpty, added, added_to, bad_item, empty_of, item_fault, sketch_and};
+ghost use Rattle.heavy.specs.Ask.{unless};
+ghost use Rattle.heavy.specs.Files.{Refuses, StopsAtHead};
+ghost use Rattle.heavy.specs.Summarise.{bad_k};
+ghost use Rattle.hh_counters.specs.Counters.{sketch_with};
+
+use crate::error::ToolError;
+use crate::files::summary_in;
+use hh_counters::laws::summaries_follow_items;
+use hh_counters::{AddFault, MAX_K, Summary};
+use hh_records::BadRecordCause;
+use hh_saved::{Saved, write};
+use hh_stream::{MAX_KEY_LEN, in_range};
+use std::alloc::Global;
+
+/// The saved summary of no items, with k counters.
+pub fn empty_summary(alloc: Global, k: u64) -> Result<Vec<u8>, ToolError>
+    ensures saved { IfOk result (λ bytes. IsEmpty k bytes.items) }
+    ensures refused { IfErr result (Refuses (empty_of k)) }
+    ensures bad_k { IfSome (bad_k k) (λ fault. result ≡ Err fault) }
+{
+    if !in_range(k, MAX_K) {
+        return Err(ToolError::BadK);
+    }
+    summaries_follow_items();
+    let summary = Summary::empty(alloc, k);
+    Ok(write(alloc, &Saved::Counters(summary))?)
+}
+
+/// Adds the item with this number.
+fn add_item(summary: &mut Summary, number: u64, key: &[u8], weight: u64) -> Result<(), ToolError>
+    ensures added { OnOk result (summary.new ≡ sketch_with summary.old (key.now, weight)) }
+    ensures passes { OnOk result
+        (item_fault number summary.old.total (key.now, weight) ≡ None) }
+    ensures refused { IfErr result (Refuses
+        (unless (item_fault number summary.old.total (key.now, weight)) summary.old)) }
+{
+    let cause = if key.is_empty() {
+        BadRecordCause::EmptyKey
+    } else if key.len() > MAX_KEY_LEN {
+        BadRecordCause::KeyTooLong
+    } else if weight == 0 {
+        BadRecordCause::ZeroWeight
+    } else {
+        match summary.add_bytes(key, weight) {
+            Ok(()) => return Ok(()),
+            Err(AddFault::TotalTooLarge) => BadRecordCause::TotalTooLarge,
+            Err(AddFault::Memory) => return Err(ToolError::Memory),
+        }
+    };
+    Err(ToolError::BadRecord { number, cause })
+}
+
+/// A summary with items added, in order.
+fn with_items(mut summary: Summary, items: &[(&[u8], u64)]) -> Result<Summary, ToolError>
+    ensures added { IfOk result (λ all.
+        added_to summary (map (λ item. (item.0.now, item.1)) items.now) ≡ Ok all) }
+    ensures refused { IfErr result (Refuses
+        (added_to summary (map (λ item. (item.0.now, item.1)) items.now))) }
+{
+    for i in 0..items.len() {
+        let (key, weight) = items[i];
+        add_item(&mut summary, i as u64 + 1, key, weight)?;
+    }
+    Ok(summary)
+}
+
+/// The saved summary of a saved file with items added, in order, each a key and its weight: to each
+/// the step of Misra and Gries is made. So where the file has the summary of a stream, as it was
+/// read or as others were added before, the result has that of the stream followed by the items.
+///
+/// The file is tested first ([`ToolError::BadFile`], as file 1), then its kind
+/// ([`ToolError::NotCounters`]), and then the items in order, numbered from 1
+/// ([`ToolError::BadRecord`]): a key has 1 to 4,096 bytes, a weight is at least 1, and the total at
+/// most 2^63 - 1.
+pub fn add_items(alloc: Global, file: &[u8], items: &[(&[u8], u64)]) -> Result<Vec<u8>, ToolError>
+    ensures saved { IfOk result (λ bytes.
+        IsAdded file.now (map (λ item. (item.0.now, item.1)) items.now) bytes.items) }
+    ensures stream { IfOk result (λ bytes.
+        GoesOn file.now (map (λ item. (item.0.now, item.1)) items.now) bytes.items) }
+    ensures refused { IfErr result (Refuses
+        (added file.now (map (λ item. (item.0.now, item.1)) items.now))) }
+    ensures early { StopsAtHead 1 file.now result }
+{
+    summaries_follow_items();
+    let summary = summary_in(alloc, file)?;
+    let summary = with_items(summary, items)?;
+    Ok(write(alloc, &Saved::Counters(summary))?)
+}

@@ -1,0 +1,152 @@
+-- The fields at some places of a record.
+use Rattle.std.proofs.Common.{◌≡◌, ◌<◌, ◌+◌, ◌∷◌, ◌++◌, ◌∙◌, ℕ, zero, suc, List, [], length, Option, Some, None, refl, sym, ap, arith, append_assoc, append-nil}
+use Rattle.std.specs.Prelude.{◌==◌, drop, get_or, false, true, option_map, option_and_then}
+use Rattle.std.specs.Option.{option_zip}
+use Rattle.std.specs.Str.{bytes_eq}
+use Rattle.std.proofs.lemmas.Bool.{ne_eqb}
+use Rattle.csv.specs.Records.{field_at}
+use Rattle.csv.specs.Writing.{default_writer, field_text, fields_text, next_sep, row_body}
+use Rattle.hh_records.specs.Layouts.{every, fields_at, key_of, named_from, parts_at, weight_at}
+use Rattle.hh_records.specs.Streams.{Fields}
+
+module _ {A B : Type 0} (f : A → Option B) where
+  -- one more that f gives something of
+  pub every-push : (xs : List A) (x : A) (y : B) (ys : List B) → every f xs ≡ Some ys → Some y ≡ f x
+      → every f (xs ++ x ∷ []) ≡ Some (ys ++ y ∷ [])
+  unfolding every
+  every-push [] x y ys e h = rw (← h) (cc e)
+  every-push (z ∷ xs) x y ys e h = by (f z) (every f xs) refl e (λ zs q. every-push xs x y zs q h)
+    where
+      by : (o : Option B) (p : Option (List B)) → every f xs ≡ p
+          → option_and_then (λ z. option_map (λ zs. z ∷ zs) p) o ≡ Some ys
+          → ((zs : List B) → every f xs ≡ Some zs → every f (xs ++ x ∷ []) ≡ Some (zs ++ y ∷ []))
+          → option_and_then (λ z. option_map (λ zs. z ∷ zs) (every f (xs ++ x ∷ []))) o ≡ Some (ys ++ y ∷ [])
+      by None p q e more = cc e
+      by (Some z) None q e more = cc e
+      by (Some z) (Some zs) q e more = rw (more zs q) (cc e)
+
+  -- one that f gives nothing of
+  pub every-none : (xs : List A) (x : A) (rest : List A) → None ≡ f x → every f (xs ++ x ∷ rest) ≡ None
+  unfolding every
+  every-none [] x rest h = rw (← h) refl
+  every-none (z ∷ xs) x rest h = rw (every-none xs x rest h) (by (f z))
+    where
+      by : (o : Option B) → option_and_then (λ (z : B). option_map (λ (zs : List B). z ∷ zs) None) o ≡ None
+      by None = refl
+      by (Some z) = refl
+
+  -- they are as many
+  pub every-length : (xs : List A) (ys : List B) → every f xs ≡ Some ys → length ys ≡ length xs
+  unfolding every
+  every-length [] ys e = cc e
+  every-length (z ∷ xs) ys e = by (f z) (every f xs) refl e (every-length xs)
+    where
+      by : (o : Option B) (p : Option (List B)) → every f xs ≡ p
+          → option_and_then (λ z. option_map (λ zs. z ∷ zs) p) o ≡ Some ys
+          → ((zs : List B) → every f xs ≡ Some zs → length zs ≡ length xs) → length ys ≡ suc (length xs)
+      by None p q e more = cc e
+      by (Some z) None q e more = cc e
+      by (Some z) (Some zs) q e more = let same = more zs q in cc (e, same)
+
+fields-push : (fs : Fields) (f : List ℕ)
+    → fields_text default_writer fs ++ 44 ∷ field_text default_writer f ≡ fields_text default_writer (fs ++ f ∷ [])
+unfolding fields_text
+fields-push [] f = ap (λ (u : List ℕ). 44 ∷ u) (sym (append-nil (field_text default_writer f)))
+fields-push (g ∷ fs) f =
+    ap (λ (u : List ℕ). 44 ∷ u) (append_assoc (field_text default_writer g) (fields_text default_writer fs) _
+    ∙ ap (λ (u : List ℕ). field_text default_writer g ++ u) (fields-push fs f))
+
+-- one more field behind those that are written
+pub body-push : (fs : Fields) (f : List ℕ)
+    → row_body default_writer fs ++ (next_sep default_writer (length fs) ++ field_text default_writer f)
+    ≡ row_body default_writer (fs ++ f ∷ [])
+unfolding fields_text
+body-push [] f = sym (append-nil (field_text default_writer f))
+body-push (g ∷ fs) f =
+    let later : (suc (length fs) == 0) ≡ false = ne_eqb (suc (length fs)) 0 (λ e. omega (arith, e)) in
+    rw later (append_assoc (field_text default_writer g) (fields_text default_writer fs) _
+    ∙ ap (λ (u : List ℕ). field_text default_writer g ++ u) (fields-push fs f))
+
+text-or : List ℕ → Option (List ℕ) → List ℕ
+text-or d None = d
+text-or d (Some x) = x
+
+pub body-written : (old new : List ℕ) (fs : Fields) (f : List ℕ)
+    → ◌≡◌ {A = Option (List ℕ)} (Some old) (Some (row_body default_writer fs))
+    → new ≡ old ++ (next_sep default_writer (length fs) ++ field_text default_writer f)
+    → ◌≡◌ {A = Option (List ℕ)} (Some new) (Some (row_body default_writer (fs ++ f ∷ [])))
+unfolding text-or
+body-written old new fs f e g =
+    let same : old ≡ row_body default_writer fs = ap (text-or old) e in
+    ap Some (g ∙ ap (λ u. u ++ (next_sep default_writer (length fs) ++ field_text default_writer f)) same
+    ∙ body-push fs f)
+
+-- a record's key of several fields, or of none, and its weight's field
+pub parts-many : (r : Fields) (is : List ℕ) (w : Option ℕ) (k : List ℕ) (f : Option (List ℕ)) → (length is ≡ 1 → ⊥)
+    → Some k ≡ option_map (row_body default_writer) (fields_at r is) → Some f ≡ weight_at r w
+    → parts_at (Some (is, w)) r ≡ Some (k, f)
+parts-many r is w k f n e g =
+    rw (← g) (ap (λ o. option_zip o (Some f)) (sym (by (fields_at r is) refl) ∙ sym e))
+  where
+    by : (o : Option Fields) → fields_at r is ≡ o → option_map (row_body default_writer) o ≡ option_map key_of o
+    by None e = refl
+    by (Some []) e = refl
+    by (Some (f ∷ [])) e = absurd (n (sym (every-length (field_at r) is (f ∷ []) e)))
+    by (Some (f ∷ g ∷ fs)) e = refl
+
+pub parts-many-none : (r : Fields) (is : List ℕ) (w : Option ℕ)
+    → None ≡ option_map (row_body default_writer) (fields_at r is) → parts_at (Some (is, w)) r ≡ None
+parts-many-none r is w e = by (fields_at r is) e
+  where
+    by : (o : Option Fields) → None ≡ option_map (row_body default_writer) o
+        → option_zip (option_map key_of o) (weight_at r w) ≡ None
+    by None e = refl
+    by (Some fs) e = cc e
+
+-- a record's key of one field, and its weight's field
+pub parts-one : (r : Fields) (is : List ℕ) (w : Option ℕ) (i : ℕ) (k : List ℕ) (f : Option (List ℕ)) → length is ≡ 1
+    → i ≡ get_or is 0 i → Some k ≡ field_at r i → Some f ≡ weight_at r w → parts_at (Some (is, w)) r ≡ Some (k, f)
+unfolding every
+parts-one r [] w i k f one at e g = absurd (omega (arith, one))
+parts-one r (j ∷ []) w i k f one at e g = rw (← at, ← e, ← g) refl
+parts-one r (j ∷ l ∷ is) w i k f one at e g = absurd (omega (arith, one))
+
+pub parts-one-none : (r : Fields) (is : List ℕ) (w : Option ℕ) (i : ℕ) → length is ≡ 1
+    → i ≡ get_or is 0 i → None ≡ field_at r i → parts_at (Some (is, w)) r ≡ None
+unfolding every
+parts-one-none r [] w i one at e = absurd (omega (arith, one))
+parts-one-none r (j ∷ []) w i one at e = rw (← at, ← e) refl
+parts-one-none r (j ∷ l ∷ is) w i one at e = absurd (omega (arith, one))
+
+-- no field for the weight
+pub parts-no-weight : (r : Fields) (is : List ℕ) (w : Option ℕ) → None ≡ weight_at r w
+    → parts_at (Some (is, w)) r ≡ None
+parts-no-weight r is w e = rw (← e) (by (option_map key_of (fields_at r is)))
+  where
+    by : (o : Option (List ℕ)) → option_zip {U = Option (List ℕ)} o None ≡ None
+    by None = refl
+    by (Some k) = refl
+
+-- ---- the columns of a header
+-- a field that is there stands first in what begins with it
+pub field-drop : (r : Fields) (i : ℕ) (f : List ℕ) → Some f ≡ field_at r i → drop i r ≡ f ∷ drop (i + 1) r
+unfolding field_at
+field-drop [] i f e = cc e
+field-drop (g ∷ r) zero f e = cc e
+field-drop (g ∷ r) (suc i) f e =
+    let next : suc (i + 1) ≡ suc i + 1 = omega arith in rw (← next) (field-drop r i f e)
+
+pub field-there : (r : Fields) (i : ℕ) → i < length r → None ≡ field_at r i → ⊥
+unfolding field_at
+field-there [] i l e = absurd (omega (arith, l))
+field-there (g ∷ r) zero l e = cc e
+field-there (g ∷ r) (suc i) l e = field-there r i (omega (arith, l)) e
+
+-- the first of these fields is like the name, or one behind it
+pub named-here : (name : List ℕ) (i : ℕ) (r : Fields) (f : List ℕ) → Some f ≡ field_at r i → bytes_eq f name ≡ true
+    → named_from name i (drop i r) ≡ Some i
+named-here name i r f e same = rw (field-drop r i f e, same) refl
+
+pub named-later : (name : List ℕ) (i : ℕ) (r : Fields) (f : List ℕ) → Some f ≡ field_at r i → bytes_eq f name ≡ false
+    → named_from name i (drop i r) ≡ named_from name (i + 1) (drop (i + 1) r)
+named-later name i r f e other = rw (field-drop r i f e, other) refl

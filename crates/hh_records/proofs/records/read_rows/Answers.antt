@@ -1,0 +1,89 @@
+use Rattle.std.proofs.Common.{◌++◌, ◌<◌, [], arith, inl, ◌∙◌, sym, refl, ap}
+use Rattle.std.specs.Prelude.{fold}
+use Rattle.std.proofs.lemmas.List.Elements.{All-append, All-from_recursion}
+use Rattle.std.proofs.lemmas.List.Sums.{fold-append, sum_by-append}
+use Rattle.csv.specs.Reading.{reader_config, reader_state, source_of}
+use Rattle.hh_stream.specs.Weights.{Entry}
+use Rattle.hh_records.specs.Layouts.{chosen_places, parts_at}
+use Rattle.hh_records.proofs.ReadFacts.{between-known, read-start, read-more, read-end, read-refused}
+use Rattle.hh_records.proofs.records.read_rows.Goals as goal
+
+-- an item has a weight
+abbrev Weighs : Entry → Type 0
+Weighs e = 0 < e.1
+
+pub loop-number-init : goal.loop-number-init
+loop-number-init g c =
+    let text = c.requires.text in (
+      text.untrimmed,
+      text.ready,
+      text.flexible,
+      refl,
+      refl,
+      c.requires.bounded,
+      (
+        [],
+        omega arith,
+        All-from_recursion Weighs [] tt,
+        refl,
+        read-start (reader_config c.args.text.rows) (parts_at (chosen_places c.args.text.chosen)) c.args.allow_zero
+            (reader_state c.args.text.rows) c.args.before (g.T.TakeItems.weight_taken c.args.taker.now)
+            (source_of (λ r. g.R.Read.remaining r.inner) c.args.text.rows),
+      ),
+    )
+
+pub returns-in-Ok-false-clause-items : goal.returns-in-Ok-false-clause-items
+returns-in-Ok-false-clause-items g c =
+    let inv = c.loop-number.invariant in
+    let (xs, total, weigh, made, so_far) = inv.6 in
+    let r = rw c.in-Ok-false.field-0-test at (c.in-Ok-false.ensures.reads inv.0 inv.1) in
+    record {
+      xs = xs;
+      adds = read-end (reader_config c.args.text.rows) (parts_at (chosen_places c.args.text.chosen))
+          c.args.allow_zero (reader_state c.args.text.rows) c.args.before (g.T.TakeItems.weight_taken c.args.taker.now)
+          (λ r. g.R.Read.remaining r.inner) c.loop-number.text.rows c.read_byte_record.new.self _ xs c.loop-number.number inv.3 _
+          (between-known (reader_state c.args.text.rows)
+          (source_of (λ r. g.R.Read.remaining r.inner) c.args.text.rows)) so_far r;
+      positive = weigh;
+      weight = total;
+      taken = made;
+    }
+
+pub loop-number-preserved : goal.loop-number-preserved
+loop-number-preserved g c =
+    let inv = c.loop-number.invariant in
+    let (xs, total, weigh, made, so_far) = inv.6 in
+    let e = c.in-Ok-true.ensures in
+    let r = rw c.in-Ok-true.field-0-test at (e.reads inv.0 inv.1) in
+    let t = c.in-Ok.ensures.taken in (
+      r.3 ∙ inv.0,
+      inl (e.ready inv.0),
+      e.flexible ∙ inv.2,
+      r.2 ∙ inv.3,
+      inv.4,
+      c.in-Ok.ensures.bounded,
+      (
+        xs ++ t.xs,
+        omega (arith, t.weight, total, sum_by-append (λ (d : Entry). d.1) xs t.xs),
+        All-append Weighs xs t.xs weigh t.positive,
+        t.taken ∙ ap (λ taker. fold g.T.TakeItems.with_item taker t.xs) made
+            ∙ sym (fold-append g.T.TakeItems.with_item c.args.taker.now xs t.xs),
+        read-more (reader_config c.args.text.rows) (parts_at (chosen_places c.args.text.chosen))
+            c.args.allow_zero (reader_state c.args.text.rows) c.args.before (g.T.TakeItems.weight_taken c.args.taker.now)
+            (λ r. g.R.Read.remaining r.inner) c.loop-number.text.rows c.read_byte_record.new.self _ xs c.loop-number.number inv.3 _ t.xs so_far r
+            (rw (← total, ← inv.4) t.adds),
+      ),
+    )
+
+pub returns-in-Err-take_record-clause-refused : goal.returns-in-Err-take_record-clause-refused
+returns-in-Err-take_record-clause-refused g c =
+    let inv = c.loop-number.invariant in
+    let (xs, total, weigh, made, so_far) = inv.6 in
+    let r = rw c.in-Ok-true.field-0-test at (c.in-Ok-true.ensures.reads inv.0 inv.1) in
+    rw c.numbered_fault.ensures
+    (read-refused (reader_config c.args.text.rows) (parts_at (chosen_places c.args.text.chosen))
+    c.args.allow_zero (reader_state c.args.text.rows) c.args.before (g.T.TakeItems.weight_taken c.args.taker.now)
+    (λ r. g.R.Read.remaining r.inner) c.loop-number.text.rows c.read_byte_record.new.self _ xs c.loop-number.number inv.3 _ _
+    (between-known (reader_state c.args.text.rows)
+    (source_of (λ r. g.R.Read.remaining r.inner) c.args.text.rows)) so_far r
+    (rw (← total, ← inv.4) c.in-Err-take_record.ensures.refused))

@@ -1,0 +1,15 @@
+use Rattle.std.proofs.Common.{◌<◌, ◌∷◌, [], arith, rules}
+use Rattle.std.proofs.lemmas.List.Elements.{All-from_recursion}
+use Rattle.hh_stream.specs.Weights.{Entry}
+use Rattle.hh_records.proofs.records.take_item.Goals as goal
+
+pub returns-in-Ok-clause-taken : goal.returns-in-Ok-clause-taken
+returns-in-Ok-clause-taken g c =
+    let item : Entry = (c.args.key.now, c.in-Some.weight) in
+    record {
+      xs = item ∷ [];
+      adds = search rules;
+      positive = All-from_recursion (λ (e : Entry). 0 < e.1) (item ∷ []) (omega arith, tt);
+      weight = omega (arith, c.in-Ok.ensures.total);
+      taken = c.in-Ok.ensures.taken;
+    }

@@ -1,0 +1,34 @@
+use Rattle.std.proofs.Common.{◌∙◌, inl, refl}
+use Rattle.hh_records.proofs.ReadFacts.{opened-none, opened-some, opened-refused}
+use Rattle.hh_records.proofs.texts.behind_header.Goals as goal
+
+pub returns-in-Ok-false-clause-opened : goal.returns-in-Ok-false-clause-opened
+returns-in-Ok-false-clause-opened g c =
+    let start = c.requires.start in
+    opened-none g.R.Read.remaining c.args.layout.now c.args.rows c.read_byte_record.new.self _ start _ refl
+    (rw c.in-Ok-false.field-0-test at (c.in-Ok-false.ensures.reads start.untrimmed start.ready))
+
+pub returns-in-Ok-clause-text : goal.returns-in-Ok-clause-text
+returns-in-Ok-clause-text g c =
+    let start = c.requires.start in
+    let e = c.in-Ok-true.ensures in
+    let r = e.reads start.untrimmed start.ready in
+    record {
+      untrimmed = r.3 ∙ start.untrimmed;
+      ready = inl (e.ready start.untrimmed);
+      flexible = e.flexible ∙ start.flexible;
+    }
+
+pub returns-in-Ok-clause-opened : goal.returns-in-Ok-clause-opened
+returns-in-Ok-clause-opened g c =
+    let start = c.requires.start in
+    opened-some g.R.Read.remaining c.args.layout.now c.args.rows c.read_byte_record.new.self _ start c.in-Ok.chosen _ refl
+    (rw c.in-Ok-true.field-0-test at (c.in-Ok-true.ensures.reads start.untrimmed start.ready)) c.in-Ok.ensures.chosen
+
+pub returns-in-Err-choose-clause-refused : goal.returns-in-Err-choose-clause-refused
+returns-in-Err-choose-clause-refused g c =
+    let start = c.requires.start in
+    rw c.from-in-Err-choose.ensures
+    (opened-refused g.R.Read.remaining c.args.layout.now c.args.rows c.read_byte_record.new.self _ start c.in-Err-choose.fault
+    _ refl (rw c.in-Ok-true.field-0-test at (c.in-Ok-true.ensures.reads start.untrimmed start.ready))
+    c.in-Err-choose.ensures.refused)

@@ -1,0 +1,246 @@
+-- Records whose key and weight stand in columns of one's own.
+use Rattle.std.specs.Prelude.{◌≡◌, ◌==◌, ◌&&◌, ◌+◌, ◌-◌, ◌<◌, ℕ, Bool, true, false, List, [], ◌∷◌, ◌++◌, length, map, fold, All, Option, Some, None, IfSome, option_map, option_and_then, Result, Ok, Err, ⊤, if◌then◌else◌}
+use Rattle.std.specs.List.{position_from}
+use Rattle.std.specs.Option.{option_zip}
+use Rattle.std.specs.Str.{bytes_eq}
+use Rattle.csv.specs.Machine.{ends_at_end}
+use Rattle.csv.specs.Reading.{Ready, default_config, is_flexible, reader_config, reader_state, reader_trim, records, records_from, source_of, strip_bom}
+use Rattle.csv.specs.Records.{field_at}
+use Rattle.csv.specs.Writing.{default_writer, row_body}
+use Rattle.csv.specs.declared.parser.Config.{Config}
+use Rattle.csv.specs.declared.parser.State.{State}
+use Rattle.csv.specs.declared.parser.State.TheVariants as st
+use Rattle.csv.specs.declared.reader.Reader.{Reader}
+use Rattle.csv.specs.declared.reader.Trim.TheVariants as trim
+use Rattle.hh_stream.specs.Weights.{Entry, total_of}
+use Rattle.hh_records.specs.Streams.{Fields, Parts, Reading, item_of_parts, parts_of}
+use Rattle.hh_records.specs.declared.layout.ChoiceFault.{ChoiceFault}
+use Rattle.hh_records.specs.declared.layout.ChoiceFault.TheVariants as choice
+use Rattle.hh_records.specs.declared.layout.Chosen.{Chosen}
+use Rattle.hh_records.specs.declared.layout.Column.{Column}
+use Rattle.hh_records.specs.declared.layout.Column.TheVariants as column
+use Rattle.hh_records.specs.declared.layout.Layout.{Layout}
+use Rattle.hh_records.specs.declared.records.BadRecordCause.{BadRecordCause}
+use Rattle.hh_records.specs.declared.records.BadRecordCause.TheVariants as cause
+use Rattle.hh_records.specs.declared.records.ReadError.{ReadError}
+use Rattle.hh_records.specs.declared.records.ReadError.TheVariants as read
+use Rattle.hh_records.specs.declared.records.RecordFault.{RecordFault}
+use Rattle.hh_records.specs.declared.records.RecordFault.TheVariants as fault
+use Rattle.hh_records.specs.declared.retrying.Retrying.{Retrying}
+use Rattle.hh_records.specs.declared.texts.Text.{Text}
+use Rattle.hh_records.specs.declared.texts.TextError.{TextError}
+use Rattle.hh_records.specs.declared.texts.TextError.TheVariants as text
+
+-- where the fields of the key and that of the weight stand, from 0 on; nothing says that a record is
+-- a key and, behind it, its weight
+abbrev pub Places : Type 0
+Places = Option (List ℕ × Option ℕ)
+
+abbrev pub chosen_places : Option Chosen → Places
+chosen_places chosen = option_map (λ c. (c.key.items, c.weight)) chosen
+
+-- what f gives of each, where it gives something of all
+unfoldable pub every : {A B : Type 0} → (A → Option B) → List A → Option (List B)
+every f [] = Some []
+every f (x ∷ xs) = option_and_then (λ y. option_map (λ ys. y ∷ ys) (every f xs)) (f x)
+
+-- the fields at these places, where a record has them all
+abbrev pub fields_at : Fields → List ℕ → Option Fields
+fields_at r is = every (field_at r) is
+
+-- the key that some fields are: one is itself, and several are the text that csv writes of them
+abbrev pub key_of : Fields → List ℕ
+key_of [] = []
+key_of (f ∷ []) = f
+key_of (f ∷ g ∷ fs) = row_body default_writer (f ∷ g ∷ fs)
+
+-- the weight's field, where the record has it or none is wanted
+abbrev pub weight_at : Fields → Option ℕ → Option (Option (List ℕ))
+weight_at r None = Some None
+weight_at r (Some i) = option_map Some (field_at r i)
+
+-- a record's key and weight's field, by their places
+abbrev pub parts_at : Places → Fields → Parts
+parts_at None r = parts_of r
+parts_at (Some at) r = option_zip (option_map key_of (fields_at r at.0)) (weight_at r at.1)
+
+-- a hyphen alone, as logs write it for no bytes
+abbrev pub is_hyphen : List ℕ → Bool
+is_hyphen [] = false
+is_hyphen (b ∷ []) = b == 45
+is_hyphen (b ∷ c ∷ rest) = false
+
+-- the weight's field, in which a hyphen stands for 0 where weights of 0 are allowed
+abbrev pub weight_read : Bool → Option (List ℕ) → Option (List ℕ)
+weight_read allow None = None
+weight_read allow (Some f) = Some (if allow && is_hyphen f then 48 ∷ [] else f)
+
+-- what a record adds: its item, or nothing where it weighs 0 and that is allowed
+abbrev pub added : Bool → Result Entry BadRecordCause → Result (List Entry) BadRecordCause
+added allow (Ok e) = Ok (e ∷ [])
+added allow (Err cause.ZeroWeight) = if allow then Ok [] else Err cause.ZeroWeight
+added allow (Err c) = Err c
+
+-- what a record adds after a total of t, or the first test that it fails
+abbrev pub adds : Bool → ℕ → Parts → Result (List Entry) BadRecordCause
+adds allow t p = added allow (item_of_parts t (option_map (λ p. (p.0, weight_read allow p.1)) p))
+
+abbrev pub joined : List Entry → Reading → Reading
+joined es (Ok xs) = Ok (es ++ xs)
+joined es (Err e) = Err e
+
+abbrev pub adding_next : Result (List Entry) BadRecordCause → ℕ → (List Entry → Reading) → Reading
+adding_next (Ok es) n more = joined es (more es)
+adding_next (Err c) n more = Err (n, c)
+
+-- what the records from number n on add after a total of t, or the first that fails
+unfoldable pub items_after : Bool → ℕ → ℕ → List Parts → Reading
+items_after allow n t [] = Ok []
+items_after allow n t (p ∷ ps) =
+    adding_next (adds allow t p) n (λ es. items_after allow (n + 1) (t + total_of es) ps)
+
+-- how csv reads fields with this byte between them
+abbrev pub delimited : ℕ → Config
+delimited d = record default_config { delimiter = d }
+
+-- the place of the first field like a name, where the list starts at this place
+abbrev pub named_from : List ℕ → ℕ → Fields → Option ℕ
+named_from name i fields = position_from (λ f. bytes_eq f name) i fields
+
+-- the place of a column: its number less one, or that of the first name like it in the header
+abbrev pub place_of : Fields → Column → Option ℕ
+place_of header (column.Number n) = if n == 0 then None else Some (n - 1)
+place_of header (column.Name name) = named_from name.items 0 header
+
+abbrev pub places_of : Fields → List Column → Option (List ℕ)
+places_of header cs = every (place_of header) cs
+
+-- the places of the key's columns: of none, that of column 1
+abbrev pub key_places : Fields → List Column → Option (List ℕ)
+key_places header [] = Some (0 ∷ [])
+key_places header (c ∷ cs) = places_of header (c ∷ cs)
+
+-- the place of the weight's column, where none or the header has it
+abbrev pub weight_place : Fields → Option Column → Option (Option ℕ)
+weight_place header None = Some None
+weight_place header (Some c) = option_map Some (place_of header c)
+
+-- whether a layout names no column
+abbrev pub names_none : List Column → Option Column → Bool
+names_none [] None = true
+names_none [] (Some c) = false
+names_none (c ∷ cs) weight = false
+
+-- the places that a layout names, or nothing where the header lacks a column
+abbrev pub places_in : Layout → Fields → Option Places
+places_in layout header =
+    if names_none layout.key.items layout.weight then Some None
+    else option_map Some
+    (option_zip (key_places header layout.key.items) (weight_place header layout.weight))
+
+-- what a refusal to choose tells
+abbrev pub ChoiceRefused : Option Places → ChoiceFault → Type 0
+ChoiceRefused places choice.NoColumn = places ≡ None
+ChoiceRefused places choice.Memory = ⊤
+
+-- the records of a text, each as its key and its weight's field; an empty text has no header, and no
+-- records
+abbrev pub headed_parts : Layout → List Fields → Option (List Parts)
+headed_parts layout [] = Some []
+headed_parts layout (h ∷ rows) = option_map (λ at. map (parts_at at) rows) (places_in layout h)
+
+abbrev pub text_parts : Layout → List ℕ → Option (List Parts)
+text_parts layout text =
+    let rows = records (delimited layout.delimiter) (strip_bom text) in
+    if layout.has_header then headed_parts layout rows
+    else option_map (λ at. map (parts_at at) rows) (places_in layout [])
+
+-- what a text reads as by a layout, or nothing where its header lacks a column
+abbrev pub stream_with : Layout → List ℕ → Option Reading
+stream_with layout text = option_map (items_after layout.allow_zero 1 0) (text_parts layout text)
+
+-- what a refusal of a record tells
+abbrev pub PartsRefused : Bool → ℕ → Parts → RecordFault → Type 0
+PartsRefused allow t p (fault.Bad c) = adds allow t p ≡ Err c
+PartsRefused allow t p fault.Memory = ⊤
+
+-- a taker has taken what some records add to its weight, and each item weighs something
+pub record TakesAdded {A : Type 0} (with_item : A → Entry → A) (weight_taken : A → ℕ) (old new : A)
+    (gives : List Entry → Type 0) : Type 0 where
+  pub xs : List Entry
+  pub adds : gives xs
+  pub positive : All (λ (e : Entry). 0 < e.1) xs
+  pub weight : weight_taken new ≡ weight_taken old + total_of xs
+  pub taken : new ≡ fold with_item old xs
+
+-- the bytes that a reader of records has left, where they are known
+abbrev pub unread : {R : Type 0} → (R → Option (List ℕ)) → Reader (Retrying R) → Option (List ℕ)
+unread remaining rows = source_of (λ r. remaining r.inner) rows
+
+-- these bytes, of a reader that stands between two records
+abbrev pub between : State → Option (List ℕ) → Option (List ℕ)
+between state bytes = if ends_at_end state then None else bytes
+
+-- a text whose next read is of a record, as it stands there
+pub record IsText {R : Type 0} (text : Text R) : Type 0 where
+  pub untrimmed : reader_trim text.rows ≡ trim.None
+  pub ready : Ready text.rows
+  pub flexible : is_flexible text.rows ≡ true
+
+-- a reader at the start of a text, which a layout is for
+pub record IsStart {R : Type 0} (layout : Layout) (rows : Reader R) : Type 0 where
+  pub untrimmed : reader_trim rows ≡ trim.None
+  pub ready : Ready rows
+  pub flexible : is_flexible rows ≡ true
+  pub config : reader_config rows ≡ delimited layout.delimiter
+  pub start : reader_state rows ≡ st.StartRecord
+
+-- the records that a text has left, each as its key and its weight's field, where its bytes are known
+abbrev pub parts_left : {R : Type 0} → (R → Option (List ℕ)) → Text R → Option (List Parts)
+parts_left remaining text =
+    option_map (λ bytes. map (parts_at (chosen_places text.chosen))
+    (records_from (reader_config text.rows) (length bytes + 1) (reader_state text.rows) bytes))
+    (between (reader_state text.rows) (unread remaining text.rows))
+
+-- what a refusal to read the records of a text tells, where they come after so many others and a
+-- total of t
+abbrev pub RowsRefused : Bool → ℕ → ℕ → Option (List Parts) → ReadError → Type 0
+RowsRefused allow before t left read.ReadFault = ⊤
+RowsRefused allow before t left (read.BadRecord n c) =
+    IfSome left (λ ps. items_after allow (before + 1) t ps ≡ Err (n, c))
+RowsRefused allow before t left read.Memory = ⊤
+
+-- the same of a text that has none where it was to have a header
+abbrev pub text_left : {R : Type 0} → (R → Option (List ℕ)) → Option (Text R) → Option (List Parts)
+text_left remaining None = Some []
+text_left remaining (Some text) = parts_left remaining text
+
+-- the error that a fault of reading, or of choosing columns, is
+abbrev pub text_fault : ReadError → TextError
+text_fault read.ReadFault = text.ReadFault
+text_fault (read.BadRecord n c) = text.BadRecord n c
+text_fault read.Memory = text.Memory
+
+abbrev pub choice_fault : ChoiceFault → TextError
+choice_fault choice.NoColumn = text.NoColumn
+choice_fault choice.Memory = text.Memory
+
+-- what a refusal to open a text tells of its records, where they are known
+abbrev pub OpenRefused : Option (Option (List Parts)) → TextError → Type 0
+OpenRefused parts text.ReadFault = ⊤
+OpenRefused parts text.NoColumn = IfSome parts (λ ps. ps ≡ None)
+OpenRefused parts (text.BadRecord n c) = ⊥
+OpenRefused parts text.Memory = ⊤
+
+-- a text that was opened has these records left, where they are known
+abbrev pub OpensAs : {R : Type 0} → (R → Option (List ℕ)) → Option (Option (List Parts)) → Option (Text R) → Type 0
+OpensAs remaining parts opened =
+    IfSome parts (λ known. (ps : List Parts) × (text_left remaining opened ≡ Some ps) × (known ≡ Some ps))
+
+-- what a refusal to read a text by a layout tells of its bytes, where they are known
+abbrev pub TextRefused : Layout → Option (List ℕ) → TextError → Type 0
+TextRefused layout known text.ReadFault = ⊤
+TextRefused layout known text.NoColumn = IfSome known (λ bytes. stream_with layout bytes ≡ None)
+TextRefused layout known (text.BadRecord n c) =
+    IfSome known (λ bytes. stream_with layout bytes ≡ Some (Err (n, c)))
+TextRefused layout known text.Memory = ⊤

@@ -1,0 +1,143 @@
+//! Where the key and the weight of a record stand.
+
+ghost use Rattle.std.specs.Prelude.{◌≡◌, [], option_map, Some, None, IfOk, IfErr};
+ghost use Rattle.csv.specs.Records.{fields_of};
+ghost use Rattle.hh_records.specs.Layouts.{ChoiceRefused, chosen_places, key_places, named_from, place_of, places_in, places_of};
+
+use csv::ByteRecord;
+use std::alloc::{AllocError, Global};
+
+/// A column of records.
+#[derive(Drop)]
+pub enum Column {
+    /// The column with this number, from 1 on.
+    Number(usize),
+    /// The first column that the header gives this name.
+    Name(Vec<u8>),
+}
+
+/// How records are laid out in the texts that they are read from.
+#[derive(Drop)]
+pub struct Layout {
+    /// The byte between two fields.
+    pub delimiter: u8,
+    /// The first record of each text names the columns, and is no record. An empty text has none.
+    pub has_header: bool,
+    /// The columns of the key. Several are one key: the text that `csv` writes of them. None is
+    /// column 1 or, where the weight has no column either, says that a record is a key and, where
+    /// it has a second field, its weight.
+    pub key: Vec<Column>,
+    /// The column of the weight. Where none is named beside a key's, each record weighs 1.
+    pub weight: Option<Column>,
+    /// A record of weight 0 adds nothing and is no fault, and `-` is such a weight.
+    pub allow_zero: bool,
+}
+
+/// The places of the columns that a layout chooses, from 0 on.
+#[derive(Drop)]
+pub(crate) struct Chosen {
+    pub(crate) key: Vec<usize>,
+    pub(crate) weight: Option<usize>,
+}
+
+/// Why the columns of a layout were not found.
+pub(crate) enum ChoiceFault {
+    NoColumn,
+    Memory,
+}
+
+/// The place of the first field like a name.
+fn named(header: &ByteRecord, name: &[u8]) -> Option<usize>
+    ensures { result ≡ named_from name.now 0 (fields_of header.now) }
+{
+    for place in 0..header.len() {
+        match header.get(place) {
+            Some(field) => {
+                if field == name {
+                    return Some(place);
+                }
+            }
+            None => return None,
+        }
+    }
+    None
+}
+
+/// The place of a column, from 0 on.
+fn place_of(header: &ByteRecord, column: &Column) -> Option<usize>
+    ensures { result ≡ place_of (fields_of header.now) column.now }
+{
+    match column {
+        Column::Number(number) => {
+            if *number == 0 {
+                return None;
+            }
+            Some(*number - 1)
+        }
+        Column::Name(name) => named(header, name.as_slice()),
+    }
+}
+
+/// The places of some columns, where all are there.
+fn places_of(
+    alloc: Global,
+    header: &ByteRecord,
+    columns: &[Column],
+) -> Result<Option<Vec<usize>>, AllocError>
+    ensures { IfOk result (λ places. option_map (λ p. p.items) places
+        ≡ places_of (fields_of header.now) columns.now) }
+{
+    let mut places = Vec::new(alloc);
+    for column in columns {
+        let Some(place) = place_of(header, column) else {
+            return Ok(None);
+        };
+        places.push(place)?;
+    }
+    Ok(Some(places))
+}
+
+/// The places of the key's columns: of none, that of column 1.
+fn key_places(
+    alloc: Global,
+    header: &ByteRecord,
+    columns: &[Column],
+) -> Result<Option<Vec<usize>>, AllocError>
+    ensures { IfOk result (λ places. option_map (λ p. p.items) places
+        ≡ key_places (fields_of header.now) columns.now) }
+{
+    if columns.is_empty() {
+        let mut places = Vec::new(alloc);
+        places.push(0)?;
+        return Ok(Some(places));
+    }
+    places_of(alloc, header, columns)
+}
+
+/// The places of the columns that a layout names, by a header, or nothing where it names none.
+pub(crate) fn choose(
+    alloc: Global,
+    layout: &Layout,
+    header: &ByteRecord,
+) -> Result<Option<Chosen>, ChoiceFault>
+    ensures chosen { IfOk result (λ chosen.
+        places_in layout.now (fields_of header.now) ≡ Some (chosen_places chosen)) }
+    ensures refused { IfErr result (λ fault.
+        ChoiceRefused (places_in layout.now (fields_of header.now)) fault) }
+{
+    if layout.key.is_empty() && layout.weight.is_none() {
+        return Ok(None);
+    }
+    let weight = match &layout.weight {
+        None => None,
+        Some(column) => match place_of(header, column) {
+            None => return Err(ChoiceFault::NoColumn),
+            place => place,
+        },
+    };
+    match key_places(alloc, header, layout.key.as_slice()) {
+        Ok(Some(key)) => Ok(Some(Chosen { key, weight })),
+        Ok(None) => Err(ChoiceFault::NoColumn),
+        Err(AllocError) => Err(ChoiceFault::Memory),
+    }
+}
