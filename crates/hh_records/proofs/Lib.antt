@@ -1,6 +1,7 @@
 pub mod ByteFacts
 pub mod LayoutFacts
 pub mod PartFacts
+pub mod OpenFacts
 pub mod ReadFacts
 pub mod RowFacts
 pub mod TakeFacts

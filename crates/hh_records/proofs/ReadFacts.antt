@@ -23,14 +23,14 @@ use Rattle.hh_records.specs.declared.records.ReadError.{ReadError}
 use Rattle.hh_records.specs.declared.records.ReadError.TheVariants as read
 use Rattle.hh_records.specs.declared.records.RecordFault.{RecordFault}
 use Rattle.hh_records.specs.declared.records.RecordFault.TheVariants as fault
-use Rattle.hh_records.specs.Layouts.{ChoiceRefused, IsStart, OpenRefused, OpensAs, PartsRefused, RowsRefused, added, adding_next, adds, between, choice_fault, chosen_places, delimited, headed_parts, items_after, joined, parts_at, places_in, stream_with, text_parts, weight_read}
+use Rattle.hh_records.specs.Layouts.{ChoiceRefused, IsStart, OpenRefused, Opens, PartsRefused, RowsRefused, added, adding_next, adds, between, choice_fault, chosen_places, delimited, gathered, headed_parts, items_after, joined, names_columns, parts_at, places_in, weight_read}
 use Rattle.hh_records.specs.declared.layout.ChoiceFault.{ChoiceFault}
 use Rattle.hh_records.specs.declared.layout.ChoiceFault.TheVariants as choice
 use Rattle.hh_records.specs.declared.layout.Chosen.{Chosen}
 use Rattle.hh_records.specs.declared.layout.Layout.{Layout}
 use Rattle.hh_records.specs.declared.retrying.Retrying.{Retrying}
 use Rattle.hh_records.specs.Laws.{PlainLayoutsReadStreams}
-use Rattle.hh_records.specs.Streams.{Fields, Parts, ReadRefused, Reading, item_of_parts, items_from, numbered_fault, parts_of, reading_next, stream_of}
+use Rattle.hh_records.specs.Streams.{Fields, Parts, Reading, item_of_parts, items_from, numbered_fault, parts_of, reading_next}
 
 -- a state where the text may end with no record
 Quiet : State × Action → Type 0
@@ -365,7 +365,7 @@ module _ {R : Type 0} (remaining : R → Option (List ℕ)) (layout : Layout) (a
 
   -- with no header
   pub opened-none : (o : Option (List ℕ)) → source_of rem a ≡ o → ReadRecord rem a b false f
-      → OpensAs remaining (option_map parts o) None
+      → Opens remaining (option_map parts o) None
   opened-none None e r = tt
   opened-none (Some y) e r =
       ([], refl, rw (header-missed rem a b f (delimited layout.delimiter) y start.config start.start e r) refl)
@@ -373,7 +373,7 @@ module _ {R : Type 0} (remaining : R → Option (List ℕ)) (layout : Layout) (a
   -- behind its header
   pub opened-some : (chosen : Option Chosen) (o : Option (List ℕ)) → source_of rem a ≡ o → ReadRecord rem a b true f
       → places_in layout f ≡ Some (chosen_places chosen)
-      → OpensAs remaining (option_map parts o) (Some (record { rows = b; chosen = chosen }))
+      → Opens remaining (option_map parts o) (Some (record { rows = b; chosen = chosen }))
   opened-some chosen None e r places = tt
   opened-some chosen (Some y) e r places =
       let cfg = delimited layout.delimiter in
@@ -398,18 +398,9 @@ module _ {R : Type 0} (remaining : R → Option (List ℕ)) (layout : Layout) (a
 
   -- with a header that lacks a column, or with no memory
   pub opened-refused : (x : ChoiceFault) (o : Option (List ℕ)) → source_of rem a ≡ o → ReadRecord rem a b true f
-      → ChoiceRefused (places_in layout f) x → OpenRefused (option_map parts o) (choice_fault x)
+      → ChoiceRefused layout f x → OpenRefused (names_columns layout) (option_map parts o) (choice_fault x)
   opened-refused choice.Memory o e r h = tt
-  opened-refused choice.NoColumn o e r h = opened-not o e r h
-
--- a text with nothing left adds nothing
-pub none-read : {R : Type 0} (layout : Layout) (remaining : R → Option (List ℕ)) (known : Option (List ℕ))
-    → OpensAs {R = R} remaining (option_map (text_parts layout) known) None
-    → IfSome known (λ bytes. stream_with layout bytes ≡ Some (Ok []))
-unfolding items_after
-none-read layout remaining None h = tt
-none-read layout remaining (Some bytes) (ps, left, is) =
-    ap (option_map (items_after layout.allow_zero 1 0)) is ∙ ap (option_map (items_after layout.allow_zero 1 0)) (sym left)
+  opened-refused choice.NoColumn o e r h = (h.0, opened-not o e r h.1)
 
 -- ---- the layout of a key and its weight
 unadded : (x : BadRecordCause) → added false (Err x) ≡ Err x
@@ -443,29 +434,11 @@ same-items n xs (r ∷ rows) =
         joined-twice xs (e ∷ []) _ ∙ rw (← sum) (more e)
     by (Err x) more = rw (unadded x) refl
 
--- what the parts of a text of keys and weights add is what the text reads as
-pub plain-items : (known : Option (List ℕ)) (left : Option (List Parts)) (xs : List Entry) (n : ℕ)
-    → left ≡ option_map (λ text. map parts_of (records default_config (strip_bom text))) known
-    → IfSome left (λ ps. (items_after false 1 0 ps ≡ Ok xs) × (n ≡ 0 + length ps))
-    → IfSome known (λ text. stream_of text ≡ Ok xs)
-plain-items None left xs n e h = tt
-plain-items (Some text) left xs n e h =
-    let rows = records default_config (strip_bom text) in
-    sym (same-items 1 [] rows) ∙ joined-none _ ∙ (rw e at h).0
-
-pub plain-refused : (known : Option (List ℕ)) (left : Option (List Parts)) (x : ReadError)
-    → left ≡ option_map (λ text. map parts_of (records default_config (strip_bom text))) known
-    → RowsRefused false 0 0 left x → ReadRefused known x
-plain-refused known left read.ReadFault e h = tt
-plain-refused known left read.Memory e h = tt
-plain-refused None left (read.BadRecord n c) e h = tt
-plain-refused (Some text) left (read.BadRecord n c) e h =
-    let rows = records default_config (strip_bom text) in
-    sym (same-items 1 [] rows) ∙ joined-none _ ∙ rw e at h
-
 -- a layout that names nothing reads a text as its stream
 pub plain-layouts : PlainLayoutsReadStreams
-plain-layouts layout text comma plain key weight none =
+unfolding gathered
+plain-layouts layout text plain =
     let rows = records default_config (strip_bom text) in
-    rw (comma, plain, key, weight, none)
+    let nothing = append-nil (map parts_of rows) in
+    rw (plain.delimiter, plain.no_header, plain.no_key, plain.no_weight, plain.no_zero, nothing)
     (ap Some (sym (joined-none (items_after false 1 0 (map parts_of rows))) ∙ same-items 1 [] rows))

@@ -1,12 +1,11 @@
 -- What holds of texts that are joined.
-use Rattle.std.specs.Prelude.{◌≡◌, ◌<◌, ◌≤◌, ℕ, List, [], length, EachIndex, Ok, Some, None, false, slice_index}
+use Rattle.std.specs.Prelude.{◌≡◌, ◌<◌, ◌≤◌, ℕ, List, [], ◌∷◌, length, EachIndex, Ok, Some, slice_index}
 use Rattle.std.specs.List.{AllByRecursion, flat_map}
 use Rattle.hh_stream.specs.Weights.{AreItems, Entry, max_total, total_of}
 use Rattle.hh_stream.specs.Cuttings.{whole_of}
 use Rattle.hh_counters.specs.Counters.{SummaryView, max_k}
 use Rattle.hh_counters.specs.Condensed.{condensed}
-use Rattle.csv.specs.Writing.{comma}
-use Rattle.hh_records.specs.Layouts.{stream_with}
+use Rattle.hh_records.specs.Layouts.{IsPlain, stream_with}
 use Rattle.hh_records.specs.Rows.{condensed_text}
 use Rattle.hh_records.specs.Streams.{stream_of}
 use Rattle.hh_records.specs.declared.layout.Layout.{Layout}
@@ -28,6 +27,4 @@ CondensedFilesAreRead =
 -- a layout that names nothing, of fields between commas and with no header, reads a text as its stream
 abbrev pub PlainLayoutsReadStreams : Type 0
 PlainLayoutsReadStreams =
-    (layout : Layout) (text : List ℕ) → layout.delimiter ≡ comma → layout.has_header ≡ false
-    → layout.key.items ≡ [] → layout.weight ≡ None → layout.allow_zero ≡ false
-    → stream_with layout text ≡ Some (stream_of text)
+    (layout : Layout) (text : List ℕ) → IsPlain layout → stream_with layout (text ∷ []) ≡ Some (stream_of text)

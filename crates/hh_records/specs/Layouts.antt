@@ -1,19 +1,19 @@
 -- Records whose key and weight stand in columns of one's own.
-use Rattle.std.specs.Prelude.{◌≡◌, ◌==◌, ◌&&◌, ◌+◌, ◌-◌, ◌<◌, ℕ, Bool, true, false, List, [], ◌∷◌, ◌++◌, length, map, fold, All, Option, Some, None, IfSome, option_map, option_and_then, Result, Ok, Err, ⊤, if◌then◌else◌}
+use Rattle.std.specs.Prelude.{◌≡◌, ◌==◌, ◌&&◌, ◌+◌, ◌-◌, ◌<◌, ℕ, Bool, true, false, List, [], ◌∷◌, ◌++◌, length, map, fold, All, not, Option, Some, None, IfSome, option_map, option_and_then, Result, Ok, Err, ⊤, if◌then◌else◌}
 use Rattle.std.specs.List.{position_from}
 use Rattle.std.specs.Option.{option_zip}
 use Rattle.std.specs.Str.{bytes_eq}
 use Rattle.csv.specs.Machine.{ends_at_end}
 use Rattle.csv.specs.Reading.{Ready, default_config, is_flexible, reader_config, reader_state, reader_trim, records, records_from, source_of, strip_bom}
 use Rattle.csv.specs.Records.{field_at}
-use Rattle.csv.specs.Writing.{default_writer, row_body}
+use Rattle.csv.specs.Writing.{comma, default_writer, row_body}
 use Rattle.csv.specs.declared.parser.Config.{Config}
 use Rattle.csv.specs.declared.parser.State.{State}
 use Rattle.csv.specs.declared.parser.State.TheVariants as st
 use Rattle.csv.specs.declared.reader.Reader.{Reader}
 use Rattle.csv.specs.declared.reader.Trim.TheVariants as trim
 use Rattle.hh_stream.specs.Weights.{Entry, total_of}
-use Rattle.hh_records.specs.Streams.{Fields, Parts, Reading, item_of_parts, parts_of}
+use Rattle.hh_records.specs.Streams.{Fields, Known, Parts, Reading, ReadsAs, item_of_parts, parts_of}
 use Rattle.hh_records.specs.declared.layout.ChoiceFault.{ChoiceFault}
 use Rattle.hh_records.specs.declared.layout.ChoiceFault.TheVariants as choice
 use Rattle.hh_records.specs.declared.layout.Chosen.{Chosen}
@@ -27,6 +27,7 @@ use Rattle.hh_records.specs.declared.records.ReadError.TheVariants as read
 use Rattle.hh_records.specs.declared.records.RecordFault.{RecordFault}
 use Rattle.hh_records.specs.declared.records.RecordFault.TheVariants as fault
 use Rattle.hh_records.specs.declared.retrying.Retrying.{Retrying}
+use Rattle.hh_records.specs.declared.texts.Records.{Records}
 use Rattle.hh_records.specs.declared.texts.Text.{Text}
 use Rattle.hh_records.specs.declared.texts.TextError.{TextError}
 use Rattle.hh_records.specs.declared.texts.TextError.TheVariants as text
@@ -131,6 +132,10 @@ names_none [] None = true
 names_none [] (Some c) = false
 names_none (c ∷ cs) weight = false
 
+-- whether a layout names columns
+abbrev pub names_columns : Layout → Bool
+names_columns layout = not (names_none layout.key.items layout.weight)
+
 -- the places that a layout names, or nothing where the header lacks a column
 abbrev pub places_in : Layout → Fields → Option Places
 places_in layout header =
@@ -138,10 +143,19 @@ places_in layout header =
     else option_map Some
     (option_zip (key_places header layout.key.items) (weight_place header layout.weight))
 
+-- a layout of a key and, after a comma, its weight, with no header, where no weight is 0
+pub record IsPlain (layout : Layout) : Type 0 where
+  pub delimiter : layout.delimiter ≡ comma
+  pub no_header : layout.has_header ≡ false
+  pub no_key : layout.key.items ≡ []
+  pub no_weight : layout.weight ≡ None
+  pub no_zero : layout.allow_zero ≡ false
+
 -- what a refusal to choose tells
-abbrev pub ChoiceRefused : Option Places → ChoiceFault → Type 0
-ChoiceRefused places choice.NoColumn = places ≡ None
-ChoiceRefused places choice.Memory = ⊤
+abbrev pub ChoiceRefused : Layout → Fields → ChoiceFault → Type 0
+ChoiceRefused layout header choice.NoColumn =
+    (names_columns layout ≡ true) × (places_in layout header ≡ None)
+ChoiceRefused layout header choice.Memory = ⊤
 
 -- the records of a text, each as its key and its weight's field; an empty text has no header, and no
 -- records
@@ -155,9 +169,18 @@ text_parts layout text =
     if layout.has_header then headed_parts layout rows
     else option_map (λ at. map (parts_at at) rows) (places_in layout [])
 
--- what a text reads as by a layout, or nothing where its header lacks a column
-abbrev pub stream_with : Layout → List ℕ → Option Reading
-stream_with layout text = option_map (items_after layout.allow_zero 1 0) (text_parts layout text)
+-- what f gives of each, one after the other, where it gives something of all
+unfoldable pub gathered : {A B : Type 0} → (A → Option (List B)) → List A → Option (List B)
+gathered f [] = Some []
+gathered f (x ∷ xs) = option_and_then (λ ps. option_map (λ qs. ps ++ qs) (gathered f xs)) (f x)
+
+-- the records of texts, one text after the other, or nothing where a header lacks a column
+abbrev pub texts_parts : Layout → List (List ℕ) → Option (List Parts)
+texts_parts layout texts = gathered (text_parts layout) texts
+
+-- what texts read as by a layout, or nothing where a header lacks a column
+abbrev pub stream_with : Layout → List (List ℕ) → Option Reading
+stream_with layout texts = option_map (items_after layout.allow_zero 1 0) (texts_parts layout texts)
 
 -- what a refusal of a record tells
 abbrev pub PartsRefused : Bool → ℕ → Parts → RecordFault → Type 0
@@ -225,22 +248,44 @@ abbrev pub choice_fault : ChoiceFault → TextError
 choice_fault choice.NoColumn = text.NoColumn
 choice_fault choice.Memory = text.Memory
 
--- what a refusal to open a text tells of its records, where they are known
-abbrev pub OpenRefused : Option (Option (List Parts)) → TextError → Type 0
-OpenRefused parts text.ReadFault = ⊤
-OpenRefused parts text.NoColumn = IfSome parts (λ ps. ps ≡ None)
-OpenRefused parts (text.BadRecord n c) = ⊥
-OpenRefused parts text.Memory = ⊤
+-- what a refusal to open texts tells of their records, where they are known
+abbrev pub OpenRefused : Bool → Option (Option (List Parts)) → TextError → Type 0
+OpenRefused names parts text.ReadFault = ⊤
+OpenRefused names parts text.NoColumn = (names ≡ true) × IfSome parts (λ ps. ps ≡ None)
+OpenRefused names parts (text.BadRecord n c) = ⊥
+OpenRefused names parts text.Memory = ⊤
+
+-- the records that open texts have left, one text after the other
+abbrev pub all_left : {R : Type 0} → (R → Option (List ℕ)) → List (Text R) → Option (List Parts)
+all_left remaining texts = gathered (parts_left remaining) texts
 
 -- a text that was opened has these records left, where they are known
-abbrev pub OpensAs : {R : Type 0} → (R → Option (List ℕ)) → Option (Option (List Parts)) → Option (Text R) → Type 0
-OpensAs remaining parts opened =
+abbrev pub Opens : {R : Type 0} → (R → Option (List ℕ)) → Option (Option (List Parts)) → Option (Text R) → Type 0
+Opens remaining parts opened =
     IfSome parts (λ known. (ps : List Parts) × (text_left remaining opened ≡ Some ps) × (known ≡ Some ps))
 
--- what a refusal to read a text by a layout tells of its bytes, where they are known
-abbrev pub TextRefused : Layout → Option (List ℕ) → TextError → Type 0
-TextRefused layout known text.ReadFault = ⊤
-TextRefused layout known text.NoColumn = IfSome known (λ bytes. stream_with layout bytes ≡ None)
-TextRefused layout known (text.BadRecord n c) =
-    IfSome known (λ bytes. stream_with layout bytes ≡ Some (Err (n, c)))
-TextRefused layout known text.Memory = ⊤
+-- open texts have these records more left, where they are known
+abbrev pub OpensAs : {R : Type 0} → (R → Option (List ℕ)) → Option (Option (List Parts)) → List (Text R) → List (Text R) → Type 0
+OpensAs remaining parts old new =
+    IfSome parts (λ known. (ps : List Parts) × (known ≡ Some ps)
+    × ((before : List Parts) → all_left remaining old ≡ Some before → all_left remaining new ≡ Some (before ++ ps)))
+
+-- the texts of readers are open: they have their records left, where these are known
+abbrev pub AllOpen : {R : Type 0} → (R → Option (List ℕ)) → Layout → List R → List (Text R) → Type 0
+AllOpen remaining layout readers texts =
+    IfSome (every remaining readers) (λ bytes. (ps : List Parts)
+    × (all_left remaining texts ≡ Some ps) × (texts_parts layout bytes ≡ Some ps))
+
+-- what is known of records that are to be read
+abbrev pub records_known : {R : Type 0} → (R → Option (List ℕ)) → Records R → Known
+records_known remaining records = record {
+  names_columns = names_columns records.layout;
+  reading = option_map (stream_with records.layout) (every remaining (records.first ∷ records.others.items));
+}
+
+-- what a refusal to read records by a layout tells of them
+abbrev pub TextsRefused : Known → TextError → Type 0
+TextsRefused known text.ReadFault = ⊤
+TextsRefused known text.NoColumn = (known.names_columns ≡ true) × IfSome known.reading (λ r. r ≡ None)
+TextsRefused known (text.BadRecord n c) = ReadsAs known (Err (n, c))
+TextsRefused known text.Memory = ⊤

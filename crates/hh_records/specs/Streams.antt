@@ -1,5 +1,5 @@
 -- The stream that a text of records writes.
-use Rattle.std.specs.Prelude.{◌≡◌, ◌==◌, ◌+◌, nat_le, ℕ, Bool, List, [], ◌∷◌, ◌++◌, length, Option, Some, None, IfSome, Result, Ok, Err, ⊤, if◌then◌else◌}
+use Rattle.std.specs.Prelude.{◌≡◌, ◌==◌, ◌+◌, nat_le, ℕ, Bool, false, List, [], ◌∷◌, ◌++◌, length, Option, Some, None, IfSome, option_map, Result, Ok, Err, ⊤, if◌then◌else◌}
 use Rattle.csv.specs.Reading.{default_config, records, strip_bom}
 use Rattle.csv.specs.declared.error.ErrorKind.{ErrorKind}
 use Rattle.csv.specs.declared.error.ErrorKind.TheVariants as kind
@@ -80,15 +80,28 @@ items_from n xs (r ∷ rs) =
 abbrev pub stream_of : List ℕ → Reading
 stream_of text = items_from 1 [] (records default_config (strip_bom text))
 
--- what all the bytes that a reader had left read as, where they are known
-abbrev pub ReadsAs : Option (List ℕ) → Reading → Type 0
-ReadsAs left reading = IfSome left (λ text. stream_of text ≡ reading)
+-- what is known of records that are to be read: whether columns of them are named, and what they read
+-- as, or nothing where such a column is missing
+pub record Known : Type 0 where
+  pub names_columns : Bool
+  pub reading : Option (Option Reading)
 
--- what a refusal tells of the reader's bytes, where these are known
-abbrev pub ReadRefused : Option (List ℕ) → ReadError → Type 0
-ReadRefused left read.ReadFault = ⊤
-ReadRefused left (read.BadRecord n c) = ReadsAs left (Err (n, c))
-ReadRefused left read.Memory = ⊤
+-- the same of a text of keys and weights, of which a reader has these bytes left
+abbrev pub text_known : Option (List ℕ) → Known
+text_known left = record {
+  names_columns = false;
+  reading = option_map (λ text. Some (stream_of text)) left;
+}
+
+-- the records read as this, where that is known
+abbrev pub ReadsAs : Known → Reading → Type 0
+ReadsAs known reading = IfSome known.reading (λ r. r ≡ Some reading)
+
+-- what a refusal tells of the records
+abbrev pub ReadRefused : Known → ReadError → Type 0
+ReadRefused known read.ReadFault = ⊤
+ReadRefused known (read.BadRecord n c) = ReadsAs known (Err (n, c))
+ReadRefused known read.Memory = ⊤
 
 -- how a fault of csv's reader ends the reading: its want of memory is Memory, and any other fault
 -- is one of the reader underneath

@@ -2,7 +2,7 @@
 
 ghost use Rattle.std.specs.Prelude.{◌≡◌, [], option_map, Some, None, IfOk, IfErr};
 ghost use Rattle.csv.specs.Records.{fields_of};
-ghost use Rattle.hh_records.specs.Layouts.{ChoiceRefused, chosen_places, key_places, named_from, place_of, places_in, places_of};
+ghost use Rattle.hh_records.specs.Layouts.{ChoiceRefused, IsPlain, chosen_places, key_places, named_from, place_of, places_in, places_of};
 
 use csv::ByteRecord;
 use std::alloc::{AllocError, Global};
@@ -31,6 +31,21 @@ pub struct Layout {
     pub weight: Option<Column>,
     /// A record of weight 0 adds nothing and is no fault, and `-` is such a weight.
     pub allow_zero: bool,
+}
+
+impl Layout {
+    /// A key and, after a comma, its weight, as [`read_stream`](crate::read_stream) reads them.
+    pub fn plain(alloc: Global) -> Layout
+        ensures { IsPlain result }
+    {
+        Layout {
+            delimiter: b',',
+            has_header: false,
+            key: Vec::new(alloc),
+            weight: None,
+            allow_zero: false,
+        }
+    }
 }
 
 /// The places of the columns that a layout chooses, from 0 on.
@@ -123,7 +138,7 @@ pub(crate) fn choose(
     ensures chosen { IfOk result (λ chosen.
         places_in layout.now (fields_of header.now) ≡ Some (chosen_places chosen)) }
     ensures refused { IfErr result (λ fault.
-        ChoiceRefused (places_in layout.now (fields_of header.now)) fault) }
+        ChoiceRefused layout.now (fields_of header.now) fault) }
 {
     if layout.key.is_empty() && layout.weight.is_none() {
         return Ok(None);

@@ -20,5 +20,5 @@ pub use records::{BadRecordCause, ReadError, read_items, read_stream};
 pub use rows::{ReportFault, condensed_text, report_text, write_report};
 pub use sink::{Out, Sink, SinkFault, WriteFault, put};
 pub use taking::TakeItems;
-pub use texts::{TextError, read_text};
+pub use texts::{Records, TextError, read_records};
 pub use threshold::{Share, threshold_of};

@@ -7,12 +7,12 @@ ghost use Rattle.csv.specs.Writing.{default_writer, row_body};
 ghost use Rattle.hh_stream.specs.Weights.{max_total};
 ghost use Rattle.hh_stream.specs.Digits.{is_number, value_of};
 ghost use Rattle.hh_records.specs.Layouts.{IsText, PartsRefused, RowsRefused, TakesAdded, adds, chosen_places, fields_at, is_hyphen, items_after, parts_at, parts_left, weight_at, weight_read};
-ghost use Rattle.hh_records.specs.Streams.{fault_of, numbered_fault, parts_of, ReadRefused, ReadsAs, weight_of};
+ghost use Rattle.hh_records.specs.Streams.{fault_of, numbered_fault, parts_of, ReadRefused, ReadsAs, text_known, weight_of};
 ghost use Rattle.hh_records.specs.Taking.{TakesItems};
 
 use crate::layout::Chosen;
 use crate::taking::TakeItems;
-use crate::texts::Text;
+use crate::texts::{Records, Text, TextError, read_records};
 use csv::{ByteRecord, ErrorKind, WriterBuilder};
 use hh_stream::{MAX_KEY_LEN, MAX_TOTAL, Stream};
 use std::alloc::{AllocError, Global};
@@ -338,13 +338,16 @@ pub fn read_items<R: Read + Drop, T: TakeItems>(
 ) -> Result<T, ReadError>
     requires none { T.weight_taken taker ≡ 0 }
     ensures items { IfOk result (λ taken.
-        TakesItems T.with_item (R.remaining reader) taker taken) }
-    ensures refused { IfErr result (λ error. ReadRefused (R.remaining reader) error) }
+        TakesItems T.with_item (text_known (R.remaining reader)) taker taken) }
+    ensures refused { IfErr result (λ error.
+        ReadRefused (text_known (R.remaining reader)) error) }
 {
-    let mut taker = taker;
-    match read_rows(alloc, Text::plain(alloc, reader), 0, &mut taker, false) {
-        Ok(_) => Ok(taker),
-        Err(error) => Err(error),
+    match read_records(alloc, Records::plain(alloc, reader), taker) {
+        Ok(taken) => Ok(taken),
+        Err(TextError::ReadFault) => Err(ReadError::ReadFault),
+        Err(TextError::NoColumn) => unreachable!("no column is named"),
+        Err(TextError::BadRecord { number, cause }) => Err(ReadError::BadRecord { number, cause }),
+        Err(TextError::Memory) => Err(ReadError::Memory),
     }
 }
 
@@ -355,8 +358,10 @@ pub fn read_items<R: Read + Drop, T: TakeItems>(
 /// The first record that fails a test ends the reading: its number, from 1 on, and the cause are
 /// told. A read that a signal interrupts is tried again.
 pub fn read_stream<R: Read + Drop>(alloc: Global, reader: R) -> Result<Stream, ReadError>
-    ensures stream { IfOk result (λ stream. ReadsAs (R.remaining reader) (Ok stream)) }
-    ensures refused { IfErr result (λ error. ReadRefused (R.remaining reader) error) }
+    ensures stream { IfOk result (λ stream.
+        ReadsAs (text_known (R.remaining reader)) (Ok stream)) }
+    ensures refused { IfErr result (λ error.
+        ReadRefused (text_known (R.remaining reader)) error) }
 {
     read_items(alloc, reader, Stream::new(alloc))
 }

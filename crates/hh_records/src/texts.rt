@@ -1,10 +1,17 @@
 //! Texts of records in columns of one's own.
 
-ghost use Rattle.std.specs.Prelude.{◌≡◌, Some, Ok, IfOk, IfErr, IfSome, map, option_map};
-ghost use Rattle.csv.specs.Reading.{default_config, records, strip_bom};
-ghost use Rattle.hh_records.specs.Layouts.{IsStart, IsText, OpenRefused, OpensAs, TakesAdded, TextRefused, choice_fault, delimited, headed_parts, parts_left, stream_with, text_fault, text_parts, unread};
-ghost use Rattle.hh_records.specs.Streams.{parts_of};
+ghost use Rattle.std.specs.Prelude.{◌≡◌, ◌≤◌, ◌∷◌, Ok, All, IfOk, IfErr, IfSome, OnOk, option_map};
+ghost use Rattle.csv.specs.Reading.{records};
+ghost use Rattle.hh_stream.specs.Weights.{max_total};
+ghost use Rattle.hh_records.specs.Layouts.{AllOpen, IsStart, IsText, OpenRefused, Opens, OpensAs};
+ghost use Rattle.hh_records.specs.Layouts.{RowsRefused, TakesAdded, TextsRefused, all_left};
+ghost use Rattle.hh_records.specs.Layouts.{choice_fault, delimited, every, headed_parts, items_after};
+ghost use Rattle.hh_records.specs.Layouts.{names_columns, records_known, text_fault};
+ghost use Rattle.hh_records.specs.Layouts.{text_parts, texts_parts, unread};
+ghost use Rattle.hh_records.specs.Streams.{text_known};
+ghost use Rattle.hh_records.specs.Taking.{TakesItems};
 
+use crate::laws::plain_layouts_read_streams;
 use crate::layout::{ChoiceFault, Chosen, Layout, choose};
 use crate::records::{BadRecordCause, ReadError, fault_of, read_rows};
 use crate::retrying::Retrying;
@@ -61,23 +68,6 @@ pub(crate) struct Text<R> {
     pub(crate) chosen: Option<Chosen>,
 }
 
-impl<R: Read + Drop> Text<R> {
-    /// A text of keys and weights, with no header row.
-    pub(crate) fn plain(alloc: Global, reader: R) -> Text<R>
-        ensures text { IsText result }
-        ensures rows { parts_left R.remaining result
-            ≡ option_map (λ text. map parts_of (records default_config (strip_bom text))) (R.remaining reader) }
-    {
-        Text {
-            rows: ReaderBuilder::new()
-                .has_headers(false)
-                .flexible(true)
-                .from_reader(alloc, Retrying::new(reader)),
-            chosen: None,
-        }
-    }
-}
-
 /// A text behind its header, by which the places of its columns are chosen. A text that has no
 /// record has no header either, and is none.
 fn behind_header<R: Read + Drop>(
@@ -87,10 +77,10 @@ fn behind_header<R: Read + Drop>(
 ) -> Result<Option<Text<R>>, TextError>
     requires start { IsStart layout.now rows }
     ensures text { IfOk result (λ text. IfSome text IsText) }
-    ensures opened { IfOk result (λ text. OpensAs R.remaining
+    ensures opened { IfOk result (λ text. Opens R.remaining
         (option_map (λ bytes. headed_parts layout.now (records (delimited layout.now.delimiter) bytes))
         (unread R.remaining rows)) text) }
-    ensures refused { IfErr result (λ error. OpenRefused
+    ensures refused { IfErr result (λ error. OpenRefused (names_columns layout.now)
         (option_map (λ bytes. headed_parts layout.now (records (delimited layout.now.delimiter) bytes))
         (unread R.remaining rows)) error) }
 {
@@ -113,9 +103,9 @@ fn open<R: Read + Drop>(
     layout: &Layout,
 ) -> Result<Option<Text<R>>, TextError>
     ensures text { IfOk result (λ text. IfSome text IsText) }
-    ensures opened { IfOk result (λ text. OpensAs R.remaining
+    ensures opened { IfOk result (λ text. Opens R.remaining
         (option_map (text_parts layout.now) (R.remaining reader)) text) }
-    ensures refused { IfErr result (λ error. OpenRefused
+    ensures refused { IfErr result (λ error. OpenRefused (names_columns layout.now)
         (option_map (text_parts layout.now) (R.remaining reader)) error) }
 {
     let rows = ReaderBuilder::new()
@@ -132,32 +122,135 @@ fn open<R: Read + Drop>(
     }
 }
 
-/// Hands the item of each record of a text to a taker of none, in order, and returns the taker.
-/// A layout says where the key and the weight stand.
-///
-/// The header is read first, and a column that it hasn't is told before any record is. Then the
-/// first record that fails a test, or that the taker has no memory for, ends the reading, as does
-/// a reader that fails. Records are numbered from 1, and the header is none of them.
-pub fn read_text<R: Read + Drop, T: TakeItems>(
+/// Opens a text behind those that are open. One with no records is passed over.
+fn open_next<R: Read + Drop>(
     alloc: Global,
+    texts: &mut Vec<Text<R>>,
     reader: R,
     layout: &Layout,
+) -> Result<(), TextError>
+    requires texts { All IsText texts.old.items }
+    ensures texts { OnOk result (All IsText texts.new.items) }
+    ensures opened { OnOk result (OpensAs R.remaining
+        (option_map (text_parts layout.now) (R.remaining reader))
+        texts.old.items texts.new.items) }
+    ensures refused { IfErr result (λ error. OpenRefused (names_columns layout.now)
+        (option_map (text_parts layout.now) (R.remaining reader)) error) }
+{
+    let Some(text) = open(alloc, reader, layout)? else {
+        return Ok(());
+    };
+    match texts.push(text) {
+        Ok(()) => {}
+        Err(_) => return Err(TextError::Memory),
+    }
+    Ok(())
+}
+
+/// Opens all texts, before a record of any of them is read.
+fn open_all<R: Read + Drop>(
+    alloc: Global,
+    first: R,
+    others: Vec<R>,
+    layout: &Layout,
+) -> Result<Vec<Text<R>>, TextError>
+    ensures texts { IfOk result (λ texts. All IsText texts.items) }
+    ensures opened { IfOk result (λ texts. AllOpen R.remaining layout.now
+        (first ∷ others.items) texts.items) }
+    ensures refused { IfErr result (λ error. OpenRefused (names_columns layout.now)
+        (option_map (texts_parts layout.now) (every R.remaining (first ∷ others.items))) error) }
+{
+    let mut texts = Vec::new(alloc);
+    match open_next(alloc, &mut texts, first, layout) {
+        Ok(()) => {}
+        Err(error) => return Err(error),
+    }
+    for reader in others {
+        match open_next(alloc, &mut texts, reader, layout) {
+            Ok(()) => {}
+            Err(error) => return Err(error),
+        }
+    }
+    Ok(texts)
+}
+
+/// Hands on what the records of open texts add, one text after the other.
+fn read_all<R: Read + Drop, T: TakeItems>(
+    alloc: Global,
+    texts: Vec<Text<R>>,
+    taker: &mut T,
+    allow_zero: bool,
+) -> Result<(), ReadError>
+    requires texts { All IsText texts.items }
+    requires bounded { T.weight_taken taker.old ≤ max_total }
+    ensures items { OnOk result
+        (TakesAdded T.with_item T.weight_taken taker.old taker.new (λ xs.
+        IfSome (all_left R.remaining texts.items) (λ ps.
+        items_after allow_zero 1 (T.weight_taken taker.old) ps ≡ Ok xs))) }
+    ensures refused { IfErr result (λ error.
+        RowsRefused allow_zero 0 (T.weight_taken taker.old)
+        (all_left R.remaining texts.items) error) }
+{
+    let mut number = 0;
+    for text in texts {
+        match read_rows(alloc, text, number, taker, allow_zero) {
+            Ok(after) => number = after,
+            Err(error) => return Err(error),
+        }
+    }
+    Ok(())
+}
+
+/// Records that are to be read: those of a first text, and then those of others, each of which is
+/// read as a text of its own.
+#[derive(Drop)]
+pub struct Records<R> {
+    pub layout: Layout,
+    pub first: R,
+    pub others: Vec<R>,
+}
+
+impl<R: Read + Drop> Records<R> {
+    /// Those of one text of keys and weights, as [`read_stream`](crate::read_stream) reads them.
+    pub fn plain(alloc: Global, reader: R) -> Records<R>
+        ensures { records_known R.remaining result ≡ text_known (R.remaining reader) }
+    {
+        plain_layouts_read_streams();
+        Records {
+            layout: Layout::plain(alloc),
+            first: reader,
+            others: Vec::new(alloc),
+        }
+    }
+}
+
+/// Hands the item of each record to a taker of none, in order, and returns the taker. A layout says
+/// where the key and the weight stand.
+///
+/// Each text is opened first and its header read, so that a column that a header hasn't is told
+/// before any record is. Then the first record that fails a test, or that the taker has no memory
+/// for, ends the reading, as does a reader that fails. Records are numbered from 1 over all texts,
+/// and a header is none of them.
+pub fn read_records<R: Read + Drop, T: TakeItems>(
+    alloc: Global,
+    records: Records<R>,
     taker: T,
 ) -> Result<T, TextError>
     requires none { T.weight_taken taker ≡ 0 }
     ensures items { IfOk result (λ taken.
-        TakesAdded T.with_item T.weight_taken taker taken (λ xs.
-        IfSome (R.remaining reader) (λ bytes. stream_with layout.now bytes ≡ Some (Ok xs)))) }
+        TakesItems T.with_item (records_known R.remaining records) taker taken) }
     ensures refused { IfErr result (λ error.
-        TextRefused layout.now (R.remaining reader) error) }
+        TextsRefused (records_known R.remaining records) error) }
 {
+    let Records {
+        layout,
+        first,
+        others,
+    } = records;
+    let texts = open_all(alloc, first, others, &layout)?;
     let mut taker = taker;
-    match open(alloc, reader, layout) {
-        Ok(None) => Ok(taker),
-        Ok(Some(text)) => match read_rows(alloc, text, 0, &mut taker, layout.allow_zero) {
-            Ok(_) => Ok(taker),
-            Err(error) => Err(TextError::from(error)),
-        },
-        Err(error) => Err(error),
+    match read_all(alloc, texts, &mut taker, layout.allow_zero) {
+        Ok(()) => Ok(taker),
+        Err(error) => Err(TextError::from(error)),
     }
 }

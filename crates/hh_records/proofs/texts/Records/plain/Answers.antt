@@ -1,0 +1,10 @@
+use Rattle.hh_records.proofs.OpenFacts.{plain-known}
+use Rattle.hh_records.proofs.texts.Records.plain.Goals as goal
+
+pub returns : goal.returns
+returns g c =
+    plain-known g.R.Read.remaining (record {
+      layout = c.plain.result;
+      first = c.args.reader;
+      others = c.new.result;
+    }) c.plain_layouts_read_streams.ensures c.plain.ensures c.new.ensures.items
