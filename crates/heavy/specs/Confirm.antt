@@ -4,7 +4,7 @@ use Rattle.hh_stream.specs.Weights.{Entry, total_of}
 use Rattle.hh_counters.specs.Counters.{SummaryView}
 use Rattle.hh_counters.specs.Report.{has_counter, heavy}
 use Rattle.hh_records.specs.Rows.{rows_of}
-use Rattle.hh_records.specs.Streams.{ReadsAs}
+use Rattle.hh_records.specs.Streams.{Known, ReadsAs}
 use Rattle.hh_records.specs.Thresholds.{threshold_of}
 use Rattle.hh_records.specs.declared.threshold.Share.{Share}
 use Rattle.heavy.specs.Files.{HoldsSummary, RefusedFrom}
@@ -28,35 +28,35 @@ confirm_fault confirm.TotalDiffers = tool.TotalDiffers
 confirm_fault confirm.Memory = tool.Memory
 
 -- the file holds a summary, and these are the rows of its keys that are heavy in a stream of its
--- total, that of all bytes that the reader had left
-abbrev pub ConfirmsRows : List ℕ → Option (List ℕ) → List ℕ → Type 0
-ConfirmsRows file left rows =
-    (s : SummaryView) × (xs : List Entry) × HoldsSummary file s × ReadsAs left (Ok xs)
+-- total, that which the records are
+abbrev pub ConfirmsRows : List ℕ → Known → List ℕ → Type 0
+ConfirmsRows file known rows =
+    (s : SummaryView) × (xs : List Entry) × HoldsSummary file s × ReadsAs known (Ok xs)
     × (s.total ≡ total_of xs) × (rows ≡ rows_of (confirmed_rows s xs))
 
 -- what a refusal to count a summary's keys in records tells: of the totals, or of the records
-abbrev pub CountRefused : SummaryView → Option (List ℕ) → ToolError → Type 0
-CountRefused s left tool.TotalDiffers = (xs : List Entry) × ReadsAs left (Ok xs) × (s.total ≢ total_of xs)
-CountRefused s left e = RecordsRefused left e
+abbrev pub CountRefused : SummaryView → Known → ToolError → Type 0
+CountRefused s known tool.TotalDiffers = (xs : List Entry) × ReadsAs known (Ok xs) × (s.total ≢ total_of xs)
+CountRefused s known e = RecordsRefused known e
 
 -- what a refusal to confirm tells: of the file, of its kind, of the records, and of the totals
-abbrev pub ConfirmRefused : List ℕ → Option (List ℕ) → ToolError → Type 0
-ConfirmRefused file left e = RefusedFrom file (λ s. CountRefused s left) e
+abbrev pub ConfirmRefused : List ℕ → Known → ToolError → Type 0
+ConfirmRefused file known e = RefusedFrom file (λ s. CountRefused s known) e
 
 -- the same above a share of one's own, which has to be a threshold for the summary's k
-abbrev pub ConfirmsAbove : Share → List ℕ → Option (List ℕ) → List ℕ → Type 0
-ConfirmsAbove share file left rows =
+abbrev pub ConfirmsAbove : Share → List ℕ → Known → List ℕ → Type 0
+ConfirmsAbove share file known rows =
     (s : SummaryView) × (p : ℕ) × (q : ℕ) × (xs : List Entry) × HoldsSummary file s
-    × (threshold_of s.k share ≡ Some (p, q)) × ReadsAs left (Ok xs)
+    × (threshold_of s.k share ≡ Some (p, q)) × ReadsAs known (Ok xs)
     × (s.total ≡ total_of xs) × (rows ≡ rows_of (confirmed_above p q s xs))
 
 -- what a refusal tells where a share may be no threshold: that first, and then of the records
-abbrev pub CountAboveRefused : Option (ℕ × ℕ) → SummaryView → Option (List ℕ) → ToolError → Type 0
-CountAboveRefused None s left e = e ≡ tool.BadThreshold
-CountAboveRefused (Some t) s left e = CountRefused s left e
+abbrev pub CountAboveRefused : Option (ℕ × ℕ) → SummaryView → Known → ToolError → Type 0
+CountAboveRefused None s known e = e ≡ tool.BadThreshold
+CountAboveRefused (Some t) s known e = CountRefused s known e
 
 -- what a refusal to confirm above a share tells: of the file, of its kind, of the share, of the
 -- records, and of the totals
-abbrev pub ConfirmAboveRefused : Share → List ℕ → Option (List ℕ) → ToolError → Type 0
-ConfirmAboveRefused share file left e =
-    RefusedFrom file (λ s. CountAboveRefused (threshold_of s.k share) s left) e
+abbrev pub ConfirmAboveRefused : Share → List ℕ → Known → ToolError → Type 0
+ConfirmAboveRefused share file known e =
+    RefusedFrom file (λ s. CountAboveRefused (threshold_of s.k share) s known) e

@@ -4,7 +4,7 @@ use Rattle.hh_stream.specs.Weights.{Entry, total_of}
 use Rattle.hh_counters.specs.Counters.{SummaryView}
 use Rattle.hh_counters.specs.Report.{is_threshold}
 use Rattle.hh_records.specs.Rows.{rows_of}
-use Rattle.hh_records.specs.Streams.{ReadsAs}
+use Rattle.hh_records.specs.Streams.{Known, ReadsAs}
 use Rattle.heavy.specs.Confirm.{CountAboveRefused, confirmed_above}
 use Rattle.heavy.specs.Files.{HoldsSummary, RefusedFrom}
 use Rattle.heavy.specs.declared.error.ToolError.{ToolError}
@@ -14,15 +14,15 @@ abbrev pub share_for : ℕ → ℕ → ℕ → Option (ℕ × ℕ)
 share_for k p q = if is_threshold k p q then Some (p, q) else None
 
 -- the file holds a summary for whose k p/q is a threshold, and these are the rows of its keys that
--- are above p/q in a stream of its total, that of all bytes that the reader had left
-abbrev pub ConfirmsShare : ℕ → ℕ → List ℕ → Option (List ℕ) → List ℕ → Type 0
-ConfirmsShare p q file left rows =
+-- are above p/q in a stream of its total, that which the records are
+abbrev pub ConfirmsShare : ℕ → ℕ → List ℕ → Known → List ℕ → Type 0
+ConfirmsShare p q file known rows =
     (s : SummaryView) × (xs : List Entry) × HoldsSummary file s
-    × (is_threshold s.k p q ≡ true) × ReadsAs left (Ok xs)
+    × (is_threshold s.k p q ≡ true) × ReadsAs known (Ok xs)
     × (s.total ≡ total_of xs) × (rows ≡ rows_of (confirmed_above p q s xs))
 
 -- what a refusal to confirm above p/q tells: of the file, of its kind, of the share, of the records,
 -- and of the totals
-abbrev pub ConfirmShareRefused : ℕ → ℕ → List ℕ → Option (List ℕ) → ToolError → Type 0
-ConfirmShareRefused p q file left e =
-    RefusedFrom file (λ s. CountAboveRefused (share_for s.k p q) s left) e
+abbrev pub ConfirmShareRefused : ℕ → ℕ → List ℕ → Known → ToolError → Type 0
+ConfirmShareRefused p q file known e =
+    RefusedFrom file (λ s. CountAboveRefused (share_for s.k p q) s known) e

@@ -7,6 +7,7 @@ pub mod Describe
 pub mod Entries
 pub mod Files
 pub mod Laws
+pub mod Layouts
 pub mod List
 pub mod Merge
 pub mod Records

@@ -14,7 +14,7 @@ use Rattle.hh_pool.specs.declared.parsing.PlanFault.TheVariants as plan
 use Rattle.hh_stream.specs.Ranges.{in_range}
 use Rattle.hh_records.specs.Rows.{rows_of}
 use Rattle.hh_records.specs.Sinks.{TakesFirst}
-use Rattle.hh_records.specs.Streams.{ReadsAs}
+use Rattle.hh_records.specs.Streams.{Known, ReadsAs}
 use Rattle.hh_records.specs.Thresholds.{threshold_of}
 use Rattle.heavy.specs.Records.{RecordsRefused}
 use Rattle.heavy.specs.declared.error.ToolError.{ToolError}
@@ -89,22 +89,22 @@ TreeRefused (tree.Text t) pieces f = PlanRefused t.items pieces (plan_fault f)
 abbrev pub AreOptions : ReportOptions → Type 0
 AreOptions o = (bad_option o ≡ None) × IsTree o.tree o.pieces
 
--- the bytes that the reader had left are the stream xs, and these are its keys above the threshold
+-- the records are the stream xs, and these are its keys above the threshold
 -- p/q of the options
-abbrev pub ReportsKeys : ReportOptions → Option (List ℕ) → List Entry → List Entry → Type 0
-ReportsKeys o left xs keys =
+abbrev pub ReportsKeys : ReportOptions → Known → List Entry → List Entry → Type 0
+ReportsKeys o known xs keys =
     (p : ℕ) × (q : ℕ) × (threshold_of o.k o.threshold ≡ Some (p, q))
-    × ReadsAs left (Ok xs) × (keys ≡ heavy xs p q)
+    × ReadsAs known (Ok xs) × (keys ≡ heavy xs p q)
 
 -- these are the rows of the keys of a report
-abbrev pub ReportsRows : ReportOptions → Option (List ℕ) → List ℕ → Type 0
-ReportsRows o left rows =
-    (xs : List Entry) × (keys : List Entry) × ReportsKeys o left xs keys × (rows ≡ rows_of keys)
+abbrev pub ReportsRows : ReportOptions → Known → List ℕ → Type 0
+ReportsRows o known rows =
+    (xs : List Entry) × (keys : List Entry) × ReportsKeys o known xs keys × (rows ≡ rows_of keys)
 
 -- a whole report was written
-abbrev pub IsReported : ReportOptions → Option (List ℕ) → Option (List ℕ) → Option (List ℕ) → Type 0
-IsReported o left old new =
-    AreOptions o × (rows : List ℕ) × ReportsRows o left rows × Appends old new rows
+abbrev pub IsReported : ReportOptions → Known → Option (List ℕ) → Option (List ℕ) → Type 0
+IsReported o known old new =
+    AreOptions o × (rows : List ℕ) × ReportsRows o known rows × Appends old new rows
 
 -- what a refusal of the options tells: the first test that they fail, the tree's last
 abbrev pub OptionsRefused : ReportOptions → ToolError → Type 0
@@ -112,15 +112,16 @@ OptionsRefused o (tool.BadTree f) = (bad_option o ≡ None) × TreeRefused o.tre
 OptionsRefused o e = IsOptionFault e × (bad_option o ≡ Some e)
 
 -- what a refusal before anything is written tells: of the options, or of the records behind them
-abbrev pub StartRefused : ReportOptions → Option (List ℕ) → ToolError → Type 0
-StartRefused o left tool.ReadFault = AreOptions o × RecordsRefused left tool.ReadFault
-StartRefused o left (tool.BadRecord n c) = AreOptions o × RecordsRefused left (tool.BadRecord n c)
-StartRefused o left tool.Memory = bad_option o ≡ None
-StartRefused o left e = OptionsRefused o e
+abbrev pub StartRefused : ReportOptions → Known → ToolError → Type 0
+StartRefused o known tool.ReadFault = AreOptions o × RecordsRefused known tool.ReadFault
+StartRefused o known (tool.BadRecord n c) = AreOptions o × RecordsRefused known (tool.BadRecord n c)
+StartRefused o known tool.NoColumn = AreOptions o × RecordsRefused known tool.NoColumn
+StartRefused o known tool.Memory = bad_option o ≡ None
+StartRefused o known e = OptionsRefused o e
 
 -- what each refusal of a report tells, and what it leaves in the sink
 abbrev pub ReportRefused : ReportOptions
-    → Option (List ℕ) → Option (List ℕ) → Option (List ℕ) → ToolError → Type 0
-ReportRefused o left old new (tool.WriteFault n) =
-    AreOptions o × (rows : List ℕ) × ReportsRows o left rows × TakesFirst old new rows n
-ReportRefused o left old new e = StartRefused o left e × Keeps old new
+    → Known → Option (List ℕ) → Option (List ℕ) → ToolError → Type 0
+ReportRefused o known old new (tool.WriteFault n) =
+    AreOptions o × (rows : List ℕ) × ReportsRows o known rows × TakesFirst old new rows n
+ReportRefused o known old new e = StartRefused o known e × Keeps old new

@@ -24,3 +24,6 @@ status_of (tool.WriteFault n) = 1
 status_of (tool.FileFault n) = 1
 status_of tool.Memory = 4
 status_of tool.BadThreshold = 2
+status_of tool.BadDelimiter = 2
+status_of tool.BadColumn = 2
+status_of tool.NoColumn = 3

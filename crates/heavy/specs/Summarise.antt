@@ -3,7 +3,7 @@ use Rattle.std.specs.Prelude.{◌≡◌, not, ℕ, List, codes, Option, Some, No
 use Rattle.hh_stream.specs.Ranges.{in_range}
 use Rattle.hh_stream.specs.Weights.{Entry}
 use Rattle.hh_counters.specs.Counters.{SummaryView, max_k, sketch_of}
-use Rattle.hh_records.specs.Streams.{ReadsAs}
+use Rattle.hh_records.specs.Streams.{Known, ReadsAs}
 use Rattle.heavy.specs.declared.commands.summarise.Method.{Method}
 use Rattle.heavy.specs.declared.commands.summarise.Method.TheVariants as method
 use Rattle.heavy.specs.declared.error.ToolError.{ToolError}
@@ -18,6 +18,6 @@ word_of method.SpaceSaving = codes "ss"
 abbrev pub bad_k : ℕ → Option ToolError
 bad_k k = if not (in_range k max_k) then Some tool.BadK else None
 
--- the summary that Misra and Gries make of the stream of all bytes that the reader had left
-abbrev pub IsSummaryOf : ℕ → Option (List ℕ) → SummaryView → Type 0
-IsSummaryOf k left summary = (xs : List Entry) × ReadsAs left (Ok xs) × (summary ≡ sketch_of k xs)
+-- the summary that Misra and Gries make of the stream that the records are
+abbrev pub IsSummaryOf : ℕ → Known → SummaryView → Type 0
+IsSummaryOf k known summary = (xs : List Entry) × ReadsAs known (Ok xs) × (summary ≡ sketch_of k xs)

@@ -2,12 +2,12 @@
 
 ghost use Rattle.std.specs.Prelude.{◌≡◌};
 ghost use Rattle.heavy.specs.Confirm.{confirm_fault};
-ghost use Rattle.heavy.specs.Records.{read_fault};
+ghost use Rattle.heavy.specs.Records.{read_fault, text_fault};
 ghost use Rattle.heavy.specs.Status.{status_of};
 ghost use Rattle.heavy.specs.declared.error.ToolError.TheVariants.{Memory, WriteFault as NotWritten};
 
 use crate::commands::confirm::ConfirmFault;
-use hh_records::{BadRecordCause, ReadError, WriteFault};
+use hh_records::{BadRecordCause, ReadError, TextError, WriteFault};
 use hh_saved::SavedFault;
 use std::alloc::AllocError;
 use thiserror::Error;
@@ -95,6 +95,12 @@ pub enum ToolError {
     Memory,
     #[error("threshold must be P/Q with 1 <= P <= Q <= 4294967296 and P*(K+1) >= Q")]
     BadThreshold,
+    #[error("delimiter must be one byte or \\t, and no quote, CR or LF")]
+    BadDelimiter,
+    #[error("columns must be numbers from 1 on or, with --header, names")]
+    BadColumn,
+    #[error("the header has no such column")]
+    NoColumn,
 }
 
 impl ToolError {
@@ -112,14 +118,17 @@ impl ToolError {
             | ToolError::BadPieces
             | ToolError::BadTree(_)
             | ToolError::BadMethod
-            | ToolError::BadThreshold => 2,
+            | ToolError::BadThreshold
+            | ToolError::BadDelimiter
+            | ToolError::BadColumn => 2,
             ToolError::BadRecord { .. }
             | ToolError::BadFile { .. }
             | ToolError::MixedKinds { .. }
             | ToolError::CannotMerge { .. }
             | ToolError::BadKey { .. }
             | ToolError::NotCounters
-            | ToolError::TotalDiffers => 3,
+            | ToolError::TotalDiffers
+            | ToolError::NoColumn => 3,
             ToolError::Memory => 4,
         }
     }
@@ -141,6 +150,19 @@ impl From<ReadError> for ToolError {
             ReadError::ReadFault => ToolError::ReadFault,
             ReadError::BadRecord { number, cause } => ToolError::BadRecord { number, cause },
             ReadError::Memory => ToolError::Memory,
+        }
+    }
+}
+
+impl From<TextError> for ToolError {
+    ghost from_gives = { λ error fault. fault ≡ text_fault error };
+
+    fn from(error: TextError) -> ToolError {
+        match error {
+            TextError::ReadFault => ToolError::ReadFault,
+            TextError::NoColumn => ToolError::NoColumn,
+            TextError::BadRecord { number, cause } => ToolError::BadRecord { number, cause },
+            TextError::Memory => ToolError::Memory,
         }
     }
 }

@@ -1,5 +1,5 @@
 -- Records whose key and weight stand in columns of one's own.
-use Rattle.std.specs.Prelude.{◌≡◌, ◌==◌, ◌&&◌, ◌+◌, ◌-◌, ◌<◌, ℕ, Bool, true, false, List, [], ◌∷◌, ◌++◌, length, map, fold, All, not, Option, Some, None, IfSome, option_map, option_and_then, Result, Ok, Err, ⊤, if◌then◌else◌}
+use Rattle.std.specs.Prelude.{◌≡◌, ◌==◌, ◌&&◌, ◌||◌, ◌+◌, ◌-◌, ◌<◌, ℕ, Bool, true, false, List, [], ◌∷◌, ◌++◌, length, map, fold, All, not, Option, Some, None, IfSome, option_map, option_and_then, Result, Ok, Err, ⊤, if◌then◌else◌}
 use Rattle.std.specs.List.{position_from}
 use Rattle.std.specs.Option.{option_zip}
 use Rattle.std.specs.Str.{bytes_eq}
@@ -12,6 +12,7 @@ use Rattle.csv.specs.declared.parser.State.{State}
 use Rattle.csv.specs.declared.parser.State.TheVariants as st
 use Rattle.csv.specs.declared.reader.Reader.{Reader}
 use Rattle.csv.specs.declared.reader.Trim.TheVariants as trim
+use Rattle.hh_stream.specs.Digits.{is_number, value_of}
 use Rattle.hh_stream.specs.Weights.{Entry, total_of}
 use Rattle.hh_records.specs.Streams.{Fields, Known, Parts, Reading, ReadsAs, item_of_parts, parts_of}
 use Rattle.hh_records.specs.declared.layout.ChoiceFault.{ChoiceFault}
@@ -99,6 +100,21 @@ unfoldable pub items_after : Bool → ℕ → ℕ → List Parts → Reading
 items_after allow n t [] = Ok []
 items_after allow n t (p ∷ ps) =
     adding_next (adds allow t p) n (λ es. items_after allow (n + 1) (t + total_of es) ps)
+
+-- the byte that a word names to stand between fields: itself, or a tab for a backslash and t, but no
+-- quote, carriage return or line feed
+abbrev pub delimiter_of : List ℕ → Option ℕ
+delimiter_of [] = None
+delimiter_of (b ∷ []) = if b == 34 || b == 13 || b == 10 then None else Some b
+delimiter_of (b ∷ c ∷ []) = if b == 92 && c == 116 then Some 9 else None
+delimiter_of (b ∷ c ∷ d ∷ rest) = None
+
+-- a word names this column: digits its number, from 1 on, and another word its name, which only a
+-- header has
+abbrev pub NamesColumn : Bool → List ℕ → Column → Type 0
+NamesColumn has_header word (column.Number n) = (is_number 10 word ≡ true) × (n ≡ value_of word) × (0 < n)
+NamesColumn has_header word (column.Name name) =
+    (has_header ≡ true) × (is_number 10 word ≡ false) × (name.items ≡ word)
 
 -- how csv reads fields with this byte between them
 abbrev pub delimited : ℕ → Config

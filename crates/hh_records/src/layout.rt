@@ -1,9 +1,10 @@
 //! Where the key and the weight of a record stand.
 
-ghost use Rattle.std.specs.Prelude.{◌≡◌, [], option_map, Some, None, IfOk, IfErr};
+ghost use Rattle.std.specs.Prelude.{◌≡◌, [], option_map, Some, None, Ok, IfOk, IfErr, IfSome};
 ghost use Rattle.csv.specs.Records.{fields_of};
-ghost use Rattle.hh_records.specs.Layouts.{ChoiceRefused, IsPlain, chosen_places, key_places, named_from, place_of, places_in, places_of};
+ghost use Rattle.hh_records.specs.Layouts.{ChoiceRefused, IsPlain, NamesColumn, chosen_places, delimiter_of, key_places, named_from, place_of, places_in, places_of};
 
+use crate::records::number_in;
 use csv::ByteRecord;
 use std::alloc::{AllocError, Global};
 
@@ -45,6 +46,37 @@ impl Layout {
             weight: None,
             allow_zero: false,
         }
+    }
+}
+
+/// The byte that a word names: itself, or a tab for `\t`. No field ends with a quote, CR or LF.
+pub fn delimiter_of(word: &[u8]) -> Option<u8>
+    ensures { result ≡ delimiter_of word.now }
+{
+    match word {
+        b"\\t" => Some(b'\t'),
+        [b'"' | b'\r' | b'\n'] => None,
+        [byte] => Some(*byte),
+        _ => None,
+    }
+}
+
+/// The column that a word names: digits are its number, from 1 on, and another word is a name, which
+/// only a header has.
+pub fn column_of(
+    alloc: Global,
+    word: &[u8],
+    has_header: bool,
+) -> Result<Option<Column>, AllocError>
+    ensures named { IfOk result (λ column. IfSome column (NamesColumn has_header word.now)) }
+    ensures unnamed { result ≡ Ok None
+        → (column : Column) → NamesColumn has_header word.now column → ⊥ }
+{
+    match number_in(word, 10) {
+        Some(0) => Ok(None),
+        Some(number) => Ok(Some(Column::Number(number as usize))),
+        None if has_header => Ok(Some(Column::Name(Vec::from_slice(alloc, word)?))),
+        None => Ok(None),
     }
 }
 

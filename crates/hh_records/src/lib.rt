@@ -15,7 +15,7 @@ mod texts;
 mod threshold;
 
 pub use hh_counters::Counts;
-pub use layout::{Column, Layout};
+pub use layout::{Column, Layout, column_of, delimiter_of};
 pub use records::{BadRecordCause, ReadError, read_items, read_stream};
 pub use rows::{ReportFault, condensed_text, report_text, write_report};
 pub use sink::{Out, Sink, SinkFault, WriteFault, put};

@@ -5,7 +5,8 @@ ghost use Rattle.std.specs.Map.{keys_of};
 ghost use Rattle.hh_stream.specs.Weights.{Entry, total_of};
 ghost use Rattle.hh_counters.specs.Condensed.{condensed, free_name, other_name};
 ghost use Rattle.hh_counters.specs.Counters.{IsCounters};
-ghost use Rattle.hh_records.specs.Streams.{ReadsAs};
+ghost use Rattle.hh_records.specs.Layouts.{records_known};
+ghost use Rattle.hh_records.specs.Streams.{ReadsAs, text_known};
 ghost use Rattle.heavy.specs.Condense.{CondenseRefused, CondensesRows};
 ghost use Rattle.heavy.specs.Files.{StopsAtHead};
 ghost use Rattle.heavy.specs.Records.{IsCountOf, RecordsRefused};
@@ -15,7 +16,7 @@ use crate::error::ToolError;
 use crate::files::summary_in;
 use hh_counters::laws::{condensed_is_counted, free_name_is_first};
 use hh_counters::{Counts, Heavy, Summary};
-use hh_records::condensed_text;
+use hh_records::{Records, condensed_text};
 use hh_stream::Key;
 use itoa::Buffer;
 use std::alloc::{AllocError, Global};
@@ -84,18 +85,19 @@ fn condensed_rows(
     Ok(rows)
 }
 
-/// The condensed items of a reader's records, in one pass that keeps no record.
+/// The condensed items of some records, in one pass that keeps no record.
 fn condense_records<R: Read + Drop>(
     alloc: Global,
     summary: &Summary,
-    reader: R,
+    records: Records<R>,
 ) -> Result<Vec<Heavy>, ToolError>
     ensures rows { IfOk result (λ rows. (xs : List Entry)
-        × ReadsAs (R.remaining reader) (Ok xs)
+        × ReadsAs (records_known R.remaining records) (Ok xs)
         × (rows.items ≡ condensed summary.now.counters xs)) }
-    ensures refused { IfErr result (λ fault. RecordsRefused (R.remaining reader) fault) }
+    ensures refused { IfErr result (λ fault.
+        RecordsRefused (records_known R.remaining records) fault) }
 {
-    let counts = count_records(alloc, summary, reader)?;
+    let counts = count_records(alloc, summary, records)?;
     Ok(condensed_rows(alloc, summary, &counts)?)
 }
 
@@ -117,11 +119,28 @@ pub fn condense_bytes<R: Read + Drop>(
     reader: R,
 ) -> Result<Vec<u8>, ToolError>
     ensures rows { IfOk result (λ rows.
-        CondensesRows file.now (R.remaining reader) rows.items) }
-    ensures refused { IfErr result (λ fault. CondenseRefused file.now (R.remaining reader) fault) }
+        CondensesRows file.now (text_known (R.remaining reader)) rows.items) }
+    ensures refused { IfErr result (λ fault.
+        CondenseRefused file.now (text_known (R.remaining reader)) fault) }
+    ensures early { StopsAtHead 1 file.now result }
+{
+    condense_bytes_from(alloc, file, Records::plain(alloc, reader))
+}
+
+/// [`condense_bytes`] of records in texts and columns of one's own. The condensed records are a key
+/// and a weight each, whatever these were.
+pub fn condense_bytes_from<R: Read + Drop>(
+    alloc: Global,
+    file: &[u8],
+    records: Records<R>,
+) -> Result<Vec<u8>, ToolError>
+    ensures rows { IfOk result (λ rows.
+        CondensesRows file.now (records_known R.remaining records) rows.items) }
+    ensures refused { IfErr result (λ fault.
+        CondenseRefused file.now (records_known R.remaining records) fault) }
     ensures early { StopsAtHead 1 file.now result }
 {
     let summary = summary_in(alloc, file)?;
-    let rows = condense_records(alloc, &summary, reader)?;
+    let rows = condense_records(alloc, &summary, records)?;
     Ok(condensed_text(alloc, &rows)?)
 }

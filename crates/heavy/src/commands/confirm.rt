@@ -5,7 +5,8 @@ ghost use Rattle.std.specs.Map.{keys_of};
 ghost use Rattle.hh_stream.specs.Weights.{Entry, total_of};
 ghost use Rattle.hh_counters.specs.Counting.{count_of};
 ghost use Rattle.hh_counters.specs.Report.{IsShare};
-ghost use Rattle.hh_records.specs.Streams.{ReadsAs};
+ghost use Rattle.hh_records.specs.Layouts.{records_known};
+ghost use Rattle.hh_records.specs.Streams.{ReadsAs, text_known};
 ghost use Rattle.heavy.specs.Files.{StopsAtHead};
 ghost use Rattle.heavy.specs.Confirm.{ConfirmAboveRefused, ConfirmRefused, ConfirmsAbove, ConfirmsRows, CountRefused, confirmed_above, confirmed_rows};
 ghost use Rattle.heavy.specs.declared.commands.confirm.ConfirmFault.TheVariants.{Memory};
@@ -15,7 +16,7 @@ use crate::error::ToolError;
 use crate::files::summary_in;
 use hh_counters::laws::{candidates_suffice, counts_follow_items};
 use hh_counters::{Counts, Heavy, Summary};
-use hh_records::{Share, report_text, threshold_of};
+use hh_records::{Records, Share, report_text, threshold_of};
 use hh_stream::Stream;
 use std::alloc::{AllocError, Global};
 use std::io::Read;
@@ -77,22 +78,23 @@ fn rows_above(summary: &Summary, counts: &Counts, p: u64, q: u64) -> Result<Vec<
     Ok(rows)
 }
 
-/// The keys of a summary above p/q of the total of a reader's records, in one pass that keeps no
+/// The keys of a summary above p/q of the total of some records, in one pass that keeps no
 /// record.
 pub(crate) fn confirm_records<R: Read + Drop>(
     alloc: Global,
     summary: &Summary,
     p: u64,
     q: u64,
-    reader: R,
+    records: Records<R>,
 ) -> Result<Vec<Heavy>, ToolError>
     requires { IsShare p q }
-    ensures rows { IfOk result (λ rows. (xs : List Entry) × ReadsAs (R.remaining reader) (Ok xs)
+    ensures rows { IfOk result (λ rows. (xs : List Entry)
+        × ReadsAs (records_known R.remaining records) (Ok xs)
         × (summary.now.total ≡ total_of xs) × (rows.items ≡ confirmed_above p q summary.now xs)) }
     ensures refused { IfErr result (λ fault.
-        CountRefused summary.now (R.remaining reader) fault) }
+        CountRefused summary.now (records_known R.remaining records) fault) }
 {
-    let counts = count_records(alloc, summary, reader)?;
+    let counts = count_records(alloc, summary, records)?;
     if summary.total() != counts.total() {
         return Err(ToolError::TotalDiffers);
     }
@@ -107,12 +109,14 @@ pub fn confirm_bytes<R: Read + Drop>(
     reader: R,
 ) -> Result<Vec<u8>, ToolError>
     ensures rows { IfOk result (λ rows.
-        ConfirmsRows file.now (R.remaining reader) rows.items) }
-    ensures refused { IfErr result (λ fault. ConfirmRefused file.now (R.remaining reader) fault) }
+        ConfirmsRows file.now (text_known (R.remaining reader)) rows.items) }
+    ensures refused { IfErr result (λ fault.
+        ConfirmRefused file.now (text_known (R.remaining reader)) fault) }
     ensures early { StopsAtHead 1 file.now result }
 {
     let summary = summary_in(alloc, file)?;
-    let rows = confirm_records(alloc, &summary, 1, summary.k() + 1, reader)?;
+    let q = summary.k() + 1;
+    let rows = confirm_records(alloc, &summary, 1, q, Records::plain(alloc, reader))?;
     Ok(report_text(alloc, &rows)?)
 }
 
@@ -125,15 +129,31 @@ pub fn confirm_above<R: Read + Drop>(
     reader: R,
 ) -> Result<Vec<u8>, ToolError>
     ensures rows { IfOk result (λ rows.
-        ConfirmsAbove share.now file.now (R.remaining reader) rows.items) }
+        ConfirmsAbove share.now file.now (text_known (R.remaining reader)) rows.items) }
     ensures refused { IfErr result (λ fault.
-        ConfirmAboveRefused share.now file.now (R.remaining reader) fault) }
+        ConfirmAboveRefused share.now file.now (text_known (R.remaining reader)) fault) }
+    ensures early { StopsAtHead 1 file.now result }
+{
+    confirm_above_from(alloc, file, share, Records::plain(alloc, reader))
+}
+
+/// [`confirm_above`] by records in texts and columns of one's own.
+pub fn confirm_above_from<R: Read + Drop>(
+    alloc: Global,
+    file: &[u8],
+    share: &Share,
+    records: Records<R>,
+) -> Result<Vec<u8>, ToolError>
+    ensures rows { IfOk result (λ rows.
+        ConfirmsAbove share.now file.now (records_known R.remaining records) rows.items) }
+    ensures refused { IfErr result (λ fault.
+        ConfirmAboveRefused share.now file.now (records_known R.remaining records) fault) }
     ensures early { StopsAtHead 1 file.now result }
 {
     let summary = summary_in(alloc, file)?;
     let Some((p, q)) = threshold_of(summary.k(), share) else {
         return Err(ToolError::BadThreshold);
     };
-    let rows = confirm_records(alloc, &summary, p, q, reader)?;
+    let rows = confirm_records(alloc, &summary, p, q, records)?;
     Ok(report_text(alloc, &rows)?)
 }

@@ -1,12 +1,15 @@
 //! A report from a reader to a sink.
 
-ghost use Rattle.std.specs.Prelude.{◌≡◌, List, false, true, length, IfOk, IfErr, IfSome, OnOk, MatchResult, Err, None, Some};
+ghost use Rattle.std.specs.Prelude.{◌≡◌, List, false, true, length, IfOk, IfErr, IfSome, OnOk, MatchResult, Err, None, Ok, Some};
 ghost use Rattle.hh_stream.specs.Cuttings.{max_pieces};
 ghost use Rattle.hh_pool.specs.Trees.{leaves};
 ghost use Rattle.hh_counters.specs.Report.{heavy};
 ghost use Rattle.hh_stream.specs.Ranges.{in_range};
 ghost use Rattle.hh_stream.specs.Weights.{Entry};
+ghost use Rattle.hh_records.specs.Layouts.{records_known};
+ghost use Rattle.hh_records.specs.Streams.{ReadsAs, text_known};
 ghost use Rattle.hh_records.specs.Thresholds.{threshold_of};
+ghost use Rattle.heavy.specs.Records.{RecordsRefused};
 ghost use Rattle.heavy.specs.Report.{AreOptions, IsOptionFault, IsReported, Names, ReportRefused};
 ghost use Rattle.heavy.specs.Report.{ReportsKeys, StartRefused, TreeRefused, bad_option};
 ghost use Rattle.heavy.specs.Report.{failed_by, settings_of};
@@ -15,7 +18,9 @@ use crate::error::{ToolError, TreeFault};
 use hh_counters::{Heavy, MAX_K};
 use hh_countmin::{Family, MAX_DEPTH, MAX_WIDTH};
 use hh_pool::{MAX_WORKERS, OpenGate, Options, Plan, PlanFault, RunError, analyse};
-use hh_records::{ReportFault, Share, Sink, read_stream, threshold_of, write_report};
+use hh_records::{
+    Records, ReportFault, Share, Sink, read_records, threshold_of, write_report,
+};
 use hh_stream::{Cutting, MAX_PIECES, Stream, in_range};
 use std::alloc::{AllocError, Global};
 use std::io::Read;
@@ -151,16 +156,26 @@ fn heavy_keys<T: Threads + Wait + Sync>(
     }
 }
 
-/// The keys that a report of a reader's records has.
+/// The stream that records are.
+fn stream_of<R: Read + Drop>(alloc: Global, records: Records<R>) -> Result<Stream, ToolError>
+    ensures stream { IfOk result (λ stream.
+        ReadsAs (records_known R.remaining records) (Ok stream)) }
+    ensures refused { IfErr result (RecordsRefused (records_known R.remaining records)) }
+{
+    Ok(read_records(alloc, records, Stream::new(alloc))?)
+}
+
+/// The keys that a report of some records has.
 fn reported<T: Threads + Wait + Sync, R: Read + Drop>(
     rt: &T,
     alloc: Global,
     options: &ReportOptions,
-    reader: R,
+    records: Records<R>,
 ) -> Result<Vec<Heavy>, ToolError>
     ensures keys { IfOk result (λ keys. (xs : List Entry) × AreOptions options.now
-        × ReportsKeys options.now (R.remaining reader) xs keys.items) }
-    ensures refused { IfErr result (StartRefused options.now (R.remaining reader)) }
+        × ReportsKeys options.now (records_known R.remaining records) xs keys.items) }
+    ensures refused { IfErr result
+        (StartRefused options.now (records_known R.remaining records)) }
     ensures bad_option { IfSome (bad_option options.now) (λ fault. result ≡ Err fault) }
 {
     let (p, q) = check_options(options)?;
@@ -171,7 +186,7 @@ fn reported<T: Threads + Wait + Sync, R: Read + Drop>(
         Err(NoPlan::Memory) => return Err(ToolError::Memory),
     };
     let settings = settings_of(alloc, options, p, q)?;
-    let stream = read_stream(alloc, reader)?;
+    let stream = stream_of(alloc, records)?;
     Ok(heavy_keys(rt, alloc, &stream, pieces, &plan, &settings)?)
 }
 
@@ -191,15 +206,38 @@ pub fn run_report<T: Threads + Wait + Sync, R: Read + Drop, S: Sink>(
 ) -> Result<(), ToolError>
     requires { S.has_failed sink.old ≡ false }
     ensures reported { OnOk result
-        (IsReported options.now (R.remaining reader) (S.taken sink.old) (S.taken sink.new)) }
+        (IsReported options.now (text_known (R.remaining reader))
+        (S.taken sink.old) (S.taken sink.new)) }
     ensures refused { IfErr result (λ fault.
-        ReportRefused options.now (R.remaining reader)
+        ReportRefused options.now (text_known (R.remaining reader))
         (S.taken sink.old) (S.taken sink.new) fault) }
     ensures bad_option { IfSome (bad_option options.now) (λ fault. result ≡ Err fault) }
     ensures flushed { OnOk result (S.is_flushed sink.new ≡ true) }
     ensures failed { S.has_failed sink.new ≡ failed_by result }
 {
-    let rows = reported(rt, alloc, options, reader)?;
+    run_report_from(rt, alloc, options, Records::plain(alloc, reader), sink)
+}
+
+/// [`run_report`] of records in texts and columns of one's own.
+pub fn run_report_from<T: Threads + Wait + Sync, R: Read + Drop, S: Sink>(
+    rt: &T,
+    alloc: Global,
+    options: &ReportOptions,
+    records: Records<R>,
+    sink: &mut S,
+) -> Result<(), ToolError>
+    requires { S.has_failed sink.old ≡ false }
+    ensures reported { OnOk result
+        (IsReported options.now (records_known R.remaining records)
+        (S.taken sink.old) (S.taken sink.new)) }
+    ensures refused { IfErr result (λ fault.
+        ReportRefused options.now (records_known R.remaining records)
+        (S.taken sink.old) (S.taken sink.new) fault) }
+    ensures bad_option { IfSome (bad_option options.now) (λ fault. result ≡ Err fault) }
+    ensures flushed { OnOk result (S.is_flushed sink.new ≡ true) }
+    ensures failed { S.has_failed sink.new ≡ failed_by result }
+{
+    let rows = reported(rt, alloc, options, records)?;
     match write_report(alloc, sink, &rows) {
         Ok(()) => Ok(()),
         Err(ReportFault::WriteFault { written }) => Err(ToolError::WriteFault { written }),

@@ -3,6 +3,8 @@
 ghost use Rattle.std.specs.Prelude.{◌≡◌, true, IsErr, IfOk, IfErr, IfSome, Ok, Err};
 ghost use Rattle.hh_stream.specs.Ranges.{in_range};
 ghost use Rattle.hh_counters.specs.Counters.{max_k, sketch_of};
+ghost use Rattle.hh_records.specs.Layouts.{records_known};
+ghost use Rattle.hh_records.specs.Streams.{text_known};
 ghost use Rattle.hh_saved.specs.declared.saved.Saved.TheVariants.{Counters};
 ghost use Rattle.heavy.specs.Records.{RecordsRefused, RefusedAfter, SavesStream};
 ghost use Rattle.heavy.specs.Summarise.{IsSummaryOf, bad_k, word_of};
@@ -10,7 +12,7 @@ ghost use Rattle.heavy.specs.Summarise.{IsSummaryOf, bad_k, word_of};
 use crate::error::ToolError;
 use hh_counters::laws::summaries_follow_items;
 use hh_counters::{BucketSaving, MAX_K, Monitor, Summary};
-use hh_records::read_items;
+use hh_records::{Records, read_records};
 use hh_saved::{Saved, write};
 use hh_stream::in_range;
 use std::alloc::Global;
@@ -40,51 +42,54 @@ impl Method {
     }
 }
 
-/// The summary of the records of a reader, by one method or the other.
+/// The summary of some records, by one method or the other.
 fn summary_of<R: Read + Drop>(
     alloc: Global,
     k: u64,
     method: Method,
-    reader: R,
+    records: Records<R>,
 ) -> Result<Summary, ToolError>
     requires { in_range k max_k ≡ true }
-    ensures summary { IfOk result (IsSummaryOf k (R.remaining reader)) }
-    ensures refused { IfErr result (λ fault. RecordsRefused (R.remaining reader) fault) }
+    ensures summary { IfOk result (IsSummaryOf k (records_known R.remaining records)) }
+    ensures refused { IfErr result (λ fault.
+        RecordsRefused (records_known R.remaining records) fault) }
 {
     match method {
-        Method::MisraGries => summary_by_counting(alloc, k, reader),
-        Method::SpaceSaving => summary_by_monitoring(alloc, k, reader),
+        Method::MisraGries => summary_by_counting(alloc, k, records),
+        Method::SpaceSaving => summary_by_monitoring(alloc, k, records),
     }
 }
 
-/// The summary of the records of a reader, whose items are added to it one by one.
+/// The summary of some records, whose items are added to it one by one.
 fn summary_by_counting<R: Read + Drop>(
     alloc: Global,
     k: u64,
-    reader: R,
+    records: Records<R>,
 ) -> Result<Summary, ToolError>
     requires { in_range k max_k ≡ true }
-    ensures summary { IfOk result (IsSummaryOf k (R.remaining reader)) }
-    ensures refused { IfErr result (λ fault. RecordsRefused (R.remaining reader) fault) }
+    ensures summary { IfOk result (IsSummaryOf k (records_known R.remaining records)) }
+    ensures refused { IfErr result (λ fault.
+        RecordsRefused (records_known R.remaining records) fault) }
 {
     summaries_follow_items();
     let summary = Summary::empty(alloc, k);
-    Ok(read_items(alloc, reader, summary)?)
+    Ok(read_records(alloc, records, summary)?)
 }
 
-/// The summary of the records of a reader, whose items are monitored and translated at the end.
+/// The summary of some records, whose items are monitored and translated at the end.
 fn summary_by_monitoring<R: Read + Drop>(
     alloc: Global,
     k: u64,
-    reader: R,
+    records: Records<R>,
 ) -> Result<Summary, ToolError>
     requires { in_range k max_k ≡ true }
-    ensures summary { IfOk result (IsSummaryOf k (R.remaining reader)) }
-    ensures refused { IfErr result (λ fault. RecordsRefused (R.remaining reader) fault) }
+    ensures summary { IfOk result (IsSummaryOf k (records_known R.remaining records)) }
+    ensures refused { IfErr result (λ fault.
+        RecordsRefused (records_known R.remaining records) fault) }
 {
     summaries_follow_items();
     let start = BucketSaving::empty(alloc, k)?;
-    let monitor = read_items(alloc, reader, start)?;
+    let monitor = read_records(alloc, records, start)?;
     match monitor.into_summary() {
         Ok(summary) => Ok(summary),
         Err(_) => Err(ToolError::Memory),
@@ -100,14 +105,31 @@ pub fn summary_bytes<R: Read + Drop>(
     method: Method,
     reader: R,
 ) -> Result<Vec<u8>, ToolError>
-    ensures saved { IfOk result (λ bytes.
-        SavesStream (λ xs. Counters (sketch_of k xs)) (R.remaining reader) bytes.items) }
-    ensures refused { IfErr result (λ fault. RefusedAfter (bad_k k) (R.remaining reader) fault) }
+    ensures saved { IfOk result (λ bytes. SavesStream (λ xs. Counters (sketch_of k xs))
+        (text_known (R.remaining reader)) bytes.items) }
+    ensures refused { IfErr result (λ fault.
+        RefusedAfter (bad_k k) (text_known (R.remaining reader)) fault) }
+    ensures bad_k { IfSome (bad_k k) (λ fault. result ≡ Err fault) }
+{
+    summary_bytes_from(alloc, k, method, Records::plain(alloc, reader))
+}
+
+/// [`summary_bytes`] of records in texts and columns of one's own.
+pub fn summary_bytes_from<R: Read + Drop>(
+    alloc: Global,
+    k: u64,
+    method: Method,
+    records: Records<R>,
+) -> Result<Vec<u8>, ToolError>
+    ensures saved { IfOk result (λ bytes. SavesStream (λ xs. Counters (sketch_of k xs))
+        (records_known R.remaining records) bytes.items) }
+    ensures refused { IfErr result (λ fault.
+        RefusedAfter (bad_k k) (records_known R.remaining records) fault) }
     ensures bad_k { IfSome (bad_k k) (λ fault. result ≡ Err fault) }
 {
     if !in_range(k, MAX_K) {
         return Err(ToolError::BadK);
     }
-    let summary = summary_of(alloc, k, method, reader)?;
+    let summary = summary_of(alloc, k, method, records)?;
     Ok(write(alloc, &Saved::Counters(summary))?)
 }

@@ -4,6 +4,8 @@ ghost use Rattle.std.specs.Prelude.{◌≡◌, true, IfOk, IfErr, IfSome, Err};
 ghost use Rattle.hh_stream.specs.Ranges.{in_range};
 ghost use Rattle.hh_countmin.specs.Family.{drawn_family, max_depth, max_width};
 ghost use Rattle.hh_countmin.specs.Table.{empty_table, table_of};
+ghost use Rattle.hh_records.specs.Layouts.{records_known};
+ghost use Rattle.hh_records.specs.Streams.{text_known};
 ghost use Rattle.hh_saved.specs.declared.saved.Saved.TheVariants.{Cells};
 ghost use Rattle.heavy.specs.Records.{RefusedAfter, SavesStream};
 ghost use Rattle.heavy.specs.Table.{bad_table};
@@ -11,7 +13,7 @@ ghost use Rattle.heavy.specs.Table.{bad_table};
 use crate::error::ToolError;
 use hh_countmin::laws::tables_follow_items;
 use hh_countmin::{Family, MAX_DEPTH, MAX_WIDTH, Table};
-use hh_records::read_items;
+use hh_records::{Records, read_records};
 use hh_saved::{Saved, write};
 use hh_stream::in_range;
 use std::alloc::{AllocError, Global};
@@ -40,9 +42,27 @@ pub fn table_bytes<R: Read + Drop>(
 ) -> Result<Vec<u8>, ToolError>
     ensures saved { IfOk result (λ bytes.
         SavesStream (λ xs. Cells (table_of (drawn_family seed depth) width xs))
-        (R.remaining reader) bytes.items) }
+        (text_known (R.remaining reader)) bytes.items) }
     ensures refused { IfErr result (λ fault.
-        RefusedAfter (bad_table depth width) (R.remaining reader) fault) }
+        RefusedAfter (bad_table depth width) (text_known (R.remaining reader)) fault) }
+    ensures bad_table { IfSome (bad_table depth width) (λ fault. result ≡ Err fault) }
+{
+    table_bytes_from(alloc, width, depth, seed, Records::plain(alloc, reader))
+}
+
+/// [`table_bytes`] of records in texts and columns of one's own.
+pub fn table_bytes_from<R: Read + Drop>(
+    alloc: Global,
+    width: u64,
+    depth: u64,
+    seed: u64,
+    records: Records<R>,
+) -> Result<Vec<u8>, ToolError>
+    ensures saved { IfOk result (λ bytes.
+        SavesStream (λ xs. Cells (table_of (drawn_family seed depth) width xs))
+        (records_known R.remaining records) bytes.items) }
+    ensures refused { IfErr result (λ fault.
+        RefusedAfter (bad_table depth width) (records_known R.remaining records) fault) }
     ensures bad_table { IfSome (bad_table depth width) (λ fault. result ≡ Err fault) }
 {
     if !in_range(depth, MAX_DEPTH) {
@@ -53,6 +73,6 @@ pub fn table_bytes<R: Read + Drop>(
     }
     tables_follow_items();
     let table = empty_table(alloc, width, depth, seed)?;
-    let table = read_items(alloc, reader, table)?;
+    let table = read_records(alloc, records, table)?;
     Ok(write(alloc, &Saved::Cells(table))?)
 }

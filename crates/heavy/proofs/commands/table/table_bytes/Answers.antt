@@ -1,21 +1,16 @@
-use Rattle.std.proofs.Common.{[], ◌∙◌, subst, sym}
+use Rattle.std.proofs.Common.{IfOk, subst}
 use Rattle.hh_countmin.specs.Family.{drawn_family}
-use Rattle.hh_countmin.specs.Table.{TableView, grid_with, table_of}
-use Rattle.hh_records.proofs.TakenFacts.{taken_all}
-use Rattle.hh_saved.specs.Spelling.{Spells}
-use Rattle.hh_saved.specs.declared.format.Version.TheVariants as version
+use Rattle.hh_countmin.specs.Table.{table_of}
 use Rattle.hh_saved.specs.declared.saved.Saved.TheVariants.{Cells}
+use Rattle.heavy.specs.Records.{SavesStream}
 use Rattle.heavy.proofs.commands.table.table_bytes.Goals as goal
 
 pub returns-clause-saved : goal.returns-clause-saved
 returns-clause-saved g c =
     let family = drawn_family c.args.seed c.args.depth in
-    let law = c.tables_follow_items.ensures family c.args.width in
-    let t = c.in_ok-table-2.ensures.items in
-    let all = taken_all grid_with (table_of family c.args.width) (λ xs e. sym (law xs [] e).1) t
-    (c.in_ok-table.ensures ∙ (law [] [] ([], 0)).0) in (
-      t.xs,
-      t.reads,
-      subst (λ (table : TableView). Spells version.Two c.in_ok-write.field-0.items (Cells table)) all
-          c.in_ok-write.ensures,
-    )
+    subst (λ known. IfOk c.table_bytes_from.result
+    (λ bytes. SavesStream (λ xs. Cells (table_of family c.args.width xs)) known bytes.items)) c.plain.ensures
+    c.table_bytes_from.ensures.saved
+
+pub returns-clause-refused : goal.returns-clause-refused
+returns-clause-refused g c = rw c.plain.ensures at c.table_bytes_from.ensures.refused
