@@ -3,9 +3,11 @@ use Rattle.std.specs.Prelude.{◌≡◌, ◌≢◌, ◌+◌, ℕ, List, filter, 
 use Rattle.hh_stream.specs.Weights.{Entry, total_of}
 use Rattle.hh_counters.specs.Counters.{SummaryView}
 use Rattle.hh_counters.specs.Report.{has_counter, heavy}
+use Rattle.hh_records.specs.Printed.{printed_rows}
 use Rattle.hh_records.specs.Rows.{rows_of}
 use Rattle.hh_records.specs.Streams.{ReadsAs}
 use Rattle.hh_records.specs.Thresholds.{threshold_of}
+use Rattle.hh_records.specs.declared.printed.RowOptions.{RowOptions}
 use Rattle.hh_records.specs.declared.threshold.Share.{Share}
 use Rattle.heavy.specs.Files.{HoldsSummary, RefusedFrom}
 use Rattle.heavy.specs.Records.{RecordsRefused}
@@ -49,6 +51,13 @@ ConfirmsAbove share file left rows =
     (s : SummaryView) × (p : ℕ) × (q : ℕ) × (xs : List Entry) × HoldsSummary file s
     × (threshold_of s.k share ≡ Some (p, q)) × ReadsAs left (Ok xs)
     × (s.total ≡ total_of xs) × (rows ≡ rows_of (confirmed_above p q s xs))
+
+-- the same as the options of rows want them, with shares of the stream's total
+abbrev pub ConfirmsPrinted : RowOptions → Share → List ℕ → Option (List ℕ) → List ℕ → Type 0
+ConfirmsPrinted r share file left rows =
+    (s : SummaryView) × (p : ℕ) × (q : ℕ) × (xs : List Entry) × HoldsSummary file s
+    × (threshold_of s.k share ≡ Some (p, q)) × ReadsAs left (Ok xs)
+    × (s.total ≡ total_of xs) × (rows ≡ printed_rows (total_of xs) r (confirmed_above p q s xs))
 
 -- what a refusal tells where a share may be no threshold: that first, and then of the records
 abbrev pub CountAboveRefused : Option (ℕ × ℕ) → SummaryView → Option (List ℕ) → ToolError → Type 0

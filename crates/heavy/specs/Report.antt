@@ -2,7 +2,7 @@
 use Rattle.std.specs.Prelude.{◌≡◌, ◌-◌, not, ℕ, List, Bool, true, false, Option, Some, None, is_none, Result, Ok, Err, ⊤, if◌then◌else◌}
 use Rattle.std.specs.Io.KnownBytes.{Appends, Keeps}
 use Rattle.hh_stream.specs.Cuttings.{max_pieces}
-use Rattle.hh_stream.specs.Weights.{Entry}
+use Rattle.hh_stream.specs.Weights.{Entry, total_of}
 use Rattle.hh_counters.specs.Report.{heavy}
 use Rattle.hh_counters.specs.Counters.{max_k}
 use Rattle.hh_countmin.specs.Family.{drawn_family, max_depth, max_width}
@@ -12,10 +12,12 @@ use Rattle.hh_pool.specs.Trees.{IsBalanced, IsMergeTree, MergeTree, chain_of}
 use Rattle.hh_pool.specs.declared.parsing.PlanFault.{PlanFault}
 use Rattle.hh_pool.specs.declared.parsing.PlanFault.TheVariants as plan
 use Rattle.hh_stream.specs.Ranges.{in_range}
+use Rattle.hh_records.specs.Printed.{printed_rows}
 use Rattle.hh_records.specs.Rows.{rows_of}
 use Rattle.hh_records.specs.Sinks.{TakesFirst}
 use Rattle.hh_records.specs.Streams.{ReadsAs}
 use Rattle.hh_records.specs.Thresholds.{threshold_of}
+use Rattle.hh_records.specs.declared.printed.RowOptions.{RowOptions}
 use Rattle.heavy.specs.Records.{RecordsRefused}
 use Rattle.heavy.specs.declared.error.ToolError.{ToolError}
 use Rattle.heavy.specs.declared.error.ToolError.TheVariants as tool
@@ -101,10 +103,23 @@ abbrev pub ReportsRows : ReportOptions → Option (List ℕ) → List ℕ → Ty
 ReportsRows o left rows =
     (xs : List Entry) × (keys : List Entry) × ReportsKeys o left xs keys × (rows ≡ rows_of keys)
 
+-- these are the rows of the keys of a report, as the options of rows want them, with shares of the
+-- stream's total
+abbrev pub PrintsRows : RowOptions → ReportOptions → Option (List ℕ) → List ℕ → Type 0
+PrintsRows r o left rows =
+    (xs : List Entry) × (keys : List Entry) × ReportsKeys o left xs keys
+    × (rows ≡ printed_rows (total_of xs) r keys)
+
 -- a whole report was written
 abbrev pub IsReported : ReportOptions → Option (List ℕ) → Option (List ℕ) → Option (List ℕ) → Type 0
 IsReported o left old new =
     AreOptions o × (rows : List ℕ) × ReportsRows o left rows × Appends old new rows
+
+-- a whole report was written as the options of rows want it
+abbrev pub IsPrinted : RowOptions → ReportOptions
+    → Option (List ℕ) → Option (List ℕ) → Option (List ℕ) → Type 0
+IsPrinted r o left old new =
+    AreOptions o × (rows : List ℕ) × PrintsRows r o left rows × Appends old new rows
 
 -- what a refusal of the options tells: the first test that they fail, the tree's last
 abbrev pub OptionsRefused : ReportOptions → ToolError → Type 0
@@ -124,3 +139,10 @@ abbrev pub ReportRefused : ReportOptions
 ReportRefused o left old new (tool.WriteFault n) =
     AreOptions o × (rows : List ℕ) × ReportsRows o left rows × TakesFirst old new rows n
 ReportRefused o left old new e = StartRefused o left e × Keeps old new
+
+-- the same of a report whose rows are as the options of rows want them
+abbrev pub PrintRefused : RowOptions → ReportOptions
+    → Option (List ℕ) → Option (List ℕ) → Option (List ℕ) → ToolError → Type 0
+PrintRefused r o left old new (tool.WriteFault n) =
+    AreOptions o × (rows : List ℕ) × PrintsRows r o left rows × TakesFirst old new rows n
+PrintRefused r o left old new e = StartRefused o left e × Keeps old new

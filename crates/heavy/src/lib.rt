@@ -10,19 +10,19 @@ pub mod laws;
 pub use commands::add::{add_items, empty_summary};
 pub use commands::ask::{ask_bytes, ask_key, ask_keys};
 pub use commands::condense::condense_bytes;
-pub use commands::confirm::{ConfirmFault, confirm, confirm_above, confirm_bytes};
+pub use commands::confirm::{ConfirmFault, confirm, confirm_above, confirm_bytes, confirm_rows};
 pub use commands::confirm_share::confirm_share;
 pub use commands::describe::describe_file;
 pub use commands::entries::list_entries;
 pub use commands::list::list_keys;
 pub use commands::merge::merge_bytes;
-pub use commands::report::{ReportOptions, Tree, run_report};
+pub use commands::report::{ReportOptions, Tree, report_rows, run_report};
 pub use commands::summarise::{Method, summary_bytes};
 pub use commands::table::table_bytes;
 pub use error::{KeyCause, MergeCause, ToolError, TreeFault};
 pub use hh_counters::Heavy;
 pub use hh_records::{
-    BadRecordCause, Out, ReadError, ReportFault, Share, Sink, SinkFault, WriteFault, put,
-    read_stream, report_text, write_report,
+    BadRecordCause, Out, ReadError, ReportFault, RowOptions, Share, Sink, SinkFault, WriteFault,
+    printed_text, put, read_stream, report_text, write_printed, write_report,
 };
 pub use hh_saved::Place;

@@ -3,6 +3,7 @@ pub mod LayoutFacts
 pub mod PartFacts
 pub mod ReadFacts
 pub mod RowFacts
+pub mod ShareFacts
 pub mod TakeFacts
 pub mod TakenFacts
 pub mod TextFacts

@@ -7,7 +7,7 @@ ghost use Rattle.hh_counters.specs.Counting.{count_of};
 ghost use Rattle.hh_counters.specs.Report.{IsShare};
 ghost use Rattle.hh_records.specs.Streams.{ReadsAs};
 ghost use Rattle.heavy.specs.Files.{StopsAtHead};
-ghost use Rattle.heavy.specs.Confirm.{ConfirmAboveRefused, ConfirmRefused, ConfirmsAbove, ConfirmsRows, CountRefused, confirmed_above, confirmed_rows};
+ghost use Rattle.heavy.specs.Confirm.{ConfirmAboveRefused, ConfirmRefused, ConfirmsAbove, ConfirmsPrinted, ConfirmsRows, CountRefused, confirmed_above, confirmed_rows};
 ghost use Rattle.heavy.specs.declared.commands.confirm.ConfirmFault.TheVariants.{Memory};
 
 use crate::counting::count_records;
@@ -15,7 +15,7 @@ use crate::error::ToolError;
 use crate::files::summary_in;
 use hh_counters::laws::{candidates_suffice, counts_follow_items};
 use hh_counters::{Counts, Heavy, Summary};
-use hh_records::{Share, report_text, threshold_of};
+use hh_records::{RowOptions, Share, printed_text, report_text, threshold_of};
 use hh_stream::Stream;
 use std::alloc::{AllocError, Global};
 use std::io::Read;
@@ -130,10 +130,27 @@ pub fn confirm_above<R: Read + Drop>(
         ConfirmAboveRefused share.now file.now (R.remaining reader) fault) }
     ensures early { StopsAtHead 1 file.now result }
 {
+    confirm_rows(alloc, file, share, &RowOptions::plain(), reader)
+}
+
+/// [`confirm_above`] with rows as `rows` wants them. Shares are of the total of all records.
+pub fn confirm_rows<R: Read + Drop>(
+    alloc: Global,
+    file: &[u8],
+    share: &Share,
+    rows: &RowOptions,
+    reader: R,
+) -> Result<Vec<u8>, ToolError>
+    ensures rows { IfOk result (λ text.
+        ConfirmsPrinted rows.now share.now file.now (R.remaining reader) text.items) }
+    ensures refused { IfErr result (λ fault.
+        ConfirmAboveRefused share.now file.now (R.remaining reader) fault) }
+    ensures early { StopsAtHead 1 file.now result }
+{
     let summary = summary_in(alloc, file)?;
     let Some((p, q)) = threshold_of(summary.k(), share) else {
         return Err(ToolError::BadThreshold);
     };
-    let rows = confirm_records(alloc, &summary, p, q, reader)?;
-    Ok(report_text(alloc, &rows)?)
+    let keys = confirm_records(alloc, &summary, p, q, reader)?;
+    Ok(printed_text(alloc, summary.total(), rows, &keys)?)
 }

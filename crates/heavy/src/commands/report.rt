@@ -5,9 +5,9 @@ ghost use Rattle.hh_stream.specs.Cuttings.{max_pieces};
 ghost use Rattle.hh_pool.specs.Trees.{leaves};
 ghost use Rattle.hh_counters.specs.Report.{heavy};
 ghost use Rattle.hh_stream.specs.Ranges.{in_range};
-ghost use Rattle.hh_stream.specs.Weights.{Entry};
+ghost use Rattle.hh_stream.specs.Weights.{Entry, total_of};
 ghost use Rattle.hh_records.specs.Thresholds.{threshold_of};
-ghost use Rattle.heavy.specs.Report.{AreOptions, IsOptionFault, IsReported, Names, ReportRefused};
+ghost use Rattle.heavy.specs.Report.{AreOptions, IsOptionFault, IsPrinted, IsReported, Names, PrintRefused, ReportRefused};
 ghost use Rattle.heavy.specs.Report.{ReportsKeys, StartRefused, TreeRefused, bad_option};
 ghost use Rattle.heavy.specs.Report.{failed_by, settings_of};
 
@@ -15,7 +15,7 @@ use crate::error::{ToolError, TreeFault};
 use hh_counters::{Heavy, MAX_K};
 use hh_countmin::{Family, MAX_DEPTH, MAX_WIDTH};
 use hh_pool::{MAX_WORKERS, OpenGate, Options, Plan, PlanFault, RunError, analyse};
-use hh_records::{ReportFault, Share, Sink, read_stream, threshold_of, write_report};
+use hh_records::{ReportFault, RowOptions, Share, Sink, read_stream, threshold_of, write_printed};
 use hh_stream::{Cutting, MAX_PIECES, Stream, in_range};
 use std::alloc::{AllocError, Global};
 use std::io::Read;
@@ -151,15 +151,15 @@ fn heavy_keys<T: Threads + Wait + Sync>(
     }
 }
 
-/// The keys that a report of a reader's records has.
+/// The total of a reader's records, and the keys that a report of them has.
 fn reported<T: Threads + Wait + Sync, R: Read + Drop>(
     rt: &T,
     alloc: Global,
     options: &ReportOptions,
     reader: R,
-) -> Result<Vec<Heavy>, ToolError>
+) -> Result<(u64, Vec<Heavy>), ToolError>
     ensures keys { IfOk result (λ keys. (xs : List Entry) × AreOptions options.now
-        × ReportsKeys options.now (R.remaining reader) xs keys.items) }
+        × ReportsKeys options.now (R.remaining reader) xs keys.1.items × (keys.0 ≡ total_of xs)) }
     ensures refused { IfErr result (StartRefused options.now (R.remaining reader)) }
     ensures bad_option { IfSome (bad_option options.now) (λ fault. result ≡ Err fault) }
 {
@@ -172,7 +172,8 @@ fn reported<T: Threads + Wait + Sync, R: Read + Drop>(
     };
     let settings = settings_of(alloc, options, p, q)?;
     let stream = read_stream(alloc, reader)?;
-    Ok(heavy_keys(rt, alloc, &stream, pieces, &plan, &settings)?)
+    let keys = heavy_keys(rt, alloc, &stream, pieces, &plan, &settings)?;
+    Ok((stream.total(), keys))
 }
 
 /// Reads records as [`read_stream`](crate::read_stream) does, and writes the report of their
@@ -199,8 +200,30 @@ pub fn run_report<T: Threads + Wait + Sync, R: Read + Drop, S: Sink>(
     ensures flushed { OnOk result (S.is_flushed sink.new ≡ true) }
     ensures failed { S.has_failed sink.new ≡ failed_by result }
 {
-    let rows = reported(rt, alloc, options, reader)?;
-    match write_report(alloc, sink, &rows) {
+    report_rows(rt, alloc, options, &RowOptions::plain(), reader, sink)
+}
+
+/// [`run_report`] with rows as `rows` wants them. Shares are of the total of all records.
+pub fn report_rows<T: Threads + Wait + Sync, R: Read + Drop, S: Sink>(
+    rt: &T,
+    alloc: Global,
+    options: &ReportOptions,
+    rows: &RowOptions,
+    reader: R,
+    sink: &mut S,
+) -> Result<(), ToolError>
+    requires { S.has_failed sink.old ≡ false }
+    ensures reported { OnOk result (IsPrinted rows.now options.now (R.remaining reader)
+        (S.taken sink.old) (S.taken sink.new)) }
+    ensures refused { IfErr result (λ fault.
+        PrintRefused rows.now options.now (R.remaining reader)
+        (S.taken sink.old) (S.taken sink.new) fault) }
+    ensures bad_option { IfSome (bad_option options.now) (λ fault. result ≡ Err fault) }
+    ensures flushed { OnOk result (S.is_flushed sink.new ≡ true) }
+    ensures failed { S.has_failed sink.new ≡ failed_by result }
+{
+    let (total, keys) = reported(rt, alloc, options, reader)?;
+    match write_printed(alloc, sink, total, rows, &keys) {
         Ok(()) => Ok(()),
         Err(ReportFault::WriteFault { written }) => Err(ToolError::WriteFault { written }),
         Err(ReportFault::Memory) => Err(ToolError::Memory),
