@@ -26,6 +26,9 @@ pub const SHARE: &str = "share";
 /// The place in help of an option that stands below those of the command's own.
 const LAST: usize = 100;
 
+/// The heading in help of the options by which a report stays the same.
+const MEANS: &str = "How the report is computed, which changes no row";
+
 /// What the help of a command with words says of words that look like options.
 const DASHES: &str = "A word that begins with - is given after --";
 
@@ -231,7 +234,7 @@ fn report_command<'a>(alloc: Global) -> Result<Command<'a>, AllocError>
     ensures { IfOk result (λ c. (fields_of c).has_globals ≡ false) }
 {
     let command = with_share(alloc, reader(alloc, "report", REPORT)?)?;
-    let command = with_rows(alloc, command)?;
+    let command = with_rows(alloc, command)?.next_help_heading(MEANS);
     with_table(alloc, with_workers(alloc, command)?)
 }
 
