@@ -1,5 +1,5 @@
 -- A summary, confirmed by the records that it is of.
-use Rattle.std.specs.Prelude.{◌≡◌, ◌≢◌, ◌+◌, ℕ, List, filter, Option, Some, None, Ok}
+use Rattle.std.specs.Prelude.{◌≡◌, ◌≢◌, ◌+◌, ℕ, List, filter, Option, Some, None, Ok, ⊤}
 use Rattle.hh_stream.specs.Weights.{Entry, total_of}
 use Rattle.hh_counters.specs.Counters.{SummaryView}
 use Rattle.hh_counters.specs.Report.{has_counter, heavy}
@@ -13,6 +13,7 @@ use Rattle.heavy.specs.Files.{HoldsSummary, RefusedFrom}
 use Rattle.heavy.specs.Records.{RecordsRefused}
 use Rattle.heavy.specs.declared.commands.confirm.ConfirmFault.{ConfirmFault}
 use Rattle.heavy.specs.declared.commands.confirm.ConfirmFault.TheVariants as confirm
+use Rattle.heavy.specs.declared.commands.confirm.Totals.{Totals}
 use Rattle.heavy.specs.declared.error.ToolError.{ToolError}
 use Rattle.heavy.specs.declared.error.ToolError.TheVariants as tool
 
@@ -69,3 +70,10 @@ CountAboveRefused (Some t) s left e = CountRefused s left e
 abbrev pub ConfirmAboveRefused : Share → List ℕ → Option (List ℕ) → ToolError → Type 0
 ConfirmAboveRefused share file left e =
     RefusedFrom file (λ s. CountAboveRefused (threshold_of s.k share) s left) e
+
+-- what a refusal tells of two totals: where they differ, both
+abbrev pub TellsTotals : List ℕ → Option (List ℕ) → Option Totals → ToolError → Type 0
+TellsTotals file left told tool.TotalDiffers =
+    (s : SummaryView) × (xs : List Entry) × HoldsSummary file s × ReadsAs left (Ok xs)
+    × (told ≡ Some (record { summary = s.total; records = total_of xs }))
+TellsTotals file left told e = ⊤

@@ -10,7 +10,9 @@ pub mod laws;
 pub use commands::add::{add_items, empty_summary};
 pub use commands::ask::{ask_bytes, ask_key, ask_keys};
 pub use commands::condense::condense_bytes;
-pub use commands::confirm::{ConfirmFault, confirm, confirm_above, confirm_bytes, confirm_rows};
+pub use commands::confirm::{
+    ConfirmFault, Totals, confirm, confirm_above, confirm_bytes, confirm_rows,
+};
 pub use commands::confirm_share::confirm_share;
 pub use commands::describe::describe_file;
 pub use commands::entries::list_entries;

@@ -7,7 +7,7 @@ ghost use Rattle.hh_counters.specs.Counting.{count_of};
 ghost use Rattle.hh_counters.specs.Report.{IsShare};
 ghost use Rattle.hh_records.specs.Streams.{ReadsAs};
 ghost use Rattle.heavy.specs.Files.{StopsAtHead};
-ghost use Rattle.heavy.specs.Confirm.{ConfirmAboveRefused, ConfirmRefused, ConfirmsAbove, ConfirmsPrinted, ConfirmsRows, CountRefused, confirmed_above, confirmed_rows};
+ghost use Rattle.heavy.specs.Confirm.{ConfirmAboveRefused, ConfirmRefused, ConfirmsAbove, ConfirmsPrinted, ConfirmsRows, TellsTotals, CountRefused, confirmed_above, confirmed_rows};
 ghost use Rattle.heavy.specs.declared.commands.confirm.ConfirmFault.TheVariants.{Memory};
 
 use crate::counting::count_records;
@@ -38,6 +38,15 @@ impl From<AllocError> for ConfirmFault {
     fn from(_: AllocError) -> ConfirmFault {
         ConfirmFault::Memory
     }
+}
+
+/// Two totals that were compared.
+#[derive(Clone, Copy, Debug, PartialEq, Eq)]
+pub struct Totals {
+    /// The summary's.
+    pub summary: u64,
+    /// That of the records.
+    pub records: u64,
 }
 
 /// The keys of a summary that are heavy in a stream, with their true weights: those above the
@@ -130,27 +139,47 @@ pub fn confirm_above<R: Read + Drop>(
         ConfirmAboveRefused share.now file.now (R.remaining reader) fault) }
     ensures early { StopsAtHead 1 file.now result }
 {
-    confirm_rows(alloc, file, share, &RowOptions::plain(), reader)
+    let mut totals = None;
+    confirm_rows(
+        alloc,
+        file,
+        share,
+        &RowOptions::plain(),
+        reader,
+        &mut totals,
+    )
 }
 
-/// [`confirm_above`] with rows as `rows` wants them. Shares are of the total of all records.
+/// [`confirm_above`] with rows as `rows` wants them. Shares are of the total of all records. Where
+/// the totals differ, it leaves both in `totals`.
 pub fn confirm_rows<R: Read + Drop>(
     alloc: Global,
     file: &[u8],
     share: &Share,
     rows: &RowOptions,
     reader: R,
+    totals: &mut Option<Totals>,
 ) -> Result<Vec<u8>, ToolError>
     ensures rows { IfOk result (λ text.
         ConfirmsPrinted rows.now share.now file.now (R.remaining reader) text.items) }
     ensures refused { IfErr result (λ fault.
         ConfirmAboveRefused share.now file.now (R.remaining reader) fault) }
+    ensures totals { IfErr result (λ fault.
+        TellsTotals file.now (R.remaining reader) totals.new fault) }
     ensures early { StopsAtHead 1 file.now result }
 {
     let summary = summary_in(alloc, file)?;
     let Some((p, q)) = threshold_of(summary.k(), share) else {
         return Err(ToolError::BadThreshold);
     };
-    let keys = confirm_records(alloc, &summary, p, q, reader)?;
+    let counts = count_records(alloc, &summary, reader)?;
+    if summary.total() != counts.total() {
+        *totals = Some(Totals {
+            summary: summary.total(),
+            records: counts.total(),
+        });
+        return Err(ToolError::TotalDiffers);
+    }
+    let keys = rows_above(&summary, &counts, p, q)?;
     Ok(printed_text(alloc, summary.total(), rows, &keys)?)
 }
