@@ -10,14 +10,14 @@ _heavy() {
   case $prev in
     --method) mapfile -t COMPREPLY < <(compgen -W 'mg ss' -- "$cur"); return ;;
     --tree) mapfile -t COMPREPLY < <(compgen -W 'balanced chain' -- "$cur"); return ;;
-    --k | --threshold | --workers | --pieces | --width | --depth | --seed) return ;;
+    --k | --threshold | --top | --workers | --pieces | --width | --depth | --seed) return ;;
   esac
   case ${COMP_WORDS[1]} in
-    report) options='--k --threshold --workers --pieces --tree --width --depth --seed --progress' ;;
+    report) options='--k --threshold --top --share --workers --pieces --tree --width --depth --seed --progress' ;;
     summarise) options='--k --method --progress' ;;
     table) options='--width --depth --seed --progress' ;;
     condense) options='--progress' ;;
-    confirm) options='--threshold --progress' ;;
+    confirm) options='--threshold --top --share --progress' ;;
     help) mapfile -t COMPREPLY < <(compgen -W "$commands" -- "$cur"); return ;;
   esac
   case $cur in

@@ -13,6 +13,8 @@ complete -c heavy -f -n __fish_use_subcommand -s V -l version -d 'Print the vers
 complete -c heavy -s h -l help -d 'Print help'
 complete -c heavy -n '__fish_seen_subcommand_from report summarise' -l k -x -d 'Keys above 1/(k+1) are heavy'
 complete -c heavy -n '__fish_seen_subcommand_from report confirm' -l threshold -x -d 'Keys above this share P/Q are heavy'
+complete -c heavy -n '__fish_seen_subcommand_from report confirm' -l top -x -d 'Print at most the first N rows'
+complete -c heavy -n '__fish_seen_subcommand_from report confirm' -l share -d 'Print shares of the total in percent'
 complete -c heavy -n '__fish_seen_subcommand_from report' -l workers -x -d 'Threads that work at once'
 complete -c heavy -n '__fish_seen_subcommand_from report' -l pieces -x -d 'Pieces that the records are cut into'
 complete -c heavy -n '__fish_seen_subcommand_from report' -l tree -x -a 'balanced chain' -d 'How to merge the pieces'

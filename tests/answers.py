@@ -1,5 +1,6 @@
 #!/usr/bin/env python3
-"""Lists and describes saved files, and confirms summaries above shares of one's own, beside the reference: worked cases,
+"""Lists and describes saved files, and confirms summaries above shares of one's own, and prints first rows and
+shares, beside the reference: worked cases,
 refusals in their order, and random records on one machine and on several.
 
 usage: tests/answers.py [CASES [SEED]]
@@ -106,6 +107,18 @@ class Answers(programs.Checks):
             self.expect(["describe", "day"], reference.answer(reference.describe, saved))
             confirmed = reference.answer(reference.confirm, saved, text, above)
             self.expect(["confirm", "--threshold", above, "day"], confirmed, text)
+
+    def test_random_rows(self) -> None:
+        draw = random.Random(SEED + 2)
+        for _ in range(CASES):
+            text, k, above = records(draw), draw.choice([1, 2, 5, 100]), share(draw)
+            top, shared = draw.choice([None, 0, 1, 2, 7]), draw.random() < 0.7
+            words = [*([] if top is None else ["--top", str(top)]), *["--share"] * shared, "--threshold", above]
+            printed = reference.answer(reference.report, text, k, above, top, shared)
+            self.expect(["report", "--k", str(k), *words], printed, text)
+            saved = self.save("day", ["summarise", "--k", str(k)], text)
+            printed = reference.answer(reference.confirm, saved, text, above, top, shared)
+            self.expect(["confirm", *words, "day"], printed, text)
 
     def test_random_machines(self) -> None:
         draw = random.Random(SEED + 1)

@@ -182,6 +182,25 @@ class CommandLine(programs.Checks):
             self.refuses(["report", "--k", "2", "--threshold", share], text)
         self.refuses(["report", "--k", "9", "--threshold", "1/11"], text)
 
+    def test_rows(self) -> None:
+        """At most the first rows, and a third column with shares, by hand."""
+        self.save("day", ["summarise", "--k", "9"])
+        rows, shared = [b"a,6\n", b"b,3\n", b"c,2\n"], [b"a,6,54.5454\n", b"b,3,27.2727\n", b"c,2,18.1818\n"]
+        for words in (["report", "--k", "9"], ["confirm", "day"]):
+            for top in (0, 1, 2, 3, 4, 2**64 - 1):
+                self.expect([*words, "--top", str(top)], (0, b"".join(rows[:top]), b""))
+                self.expect([*words, "--share", f"--top={top}"], (0, b"".join(shared[:top]), b""))
+            self.expect([*words, "--share"], (0, b"".join(shared), b""))
+            self.expect([*words, "--threshold", "1/4", "--share", "--top", "1"], (0, shared[0], b""))
+        for given, report in [
+            (b"", b""), (b"a\n", b"a,1,100.0000\n"), (b"a\nb\nc\n", b"a,1,33.3333\nb,1,33.3333\nc,1,33.3333\n"),
+            (b"x,9223372036854775807\n", b"x,9223372036854775807,100.0000\n"),
+            (b"x,9223372036854775806\ny,1\n", b"x,9223372036854775806,99.9999\n"),
+            (b"b,65534\na\n", b"b,65534,99.9984\na,1,0.0015\n"), (b'"a,b",1\nc,99\n', b'c,99,99.0000\n"a,b",1,1.0000\n'),
+            (b"a,20001\nb,999999\nc,79980000\n", b"c,79980000,98.7407\nb,999999,1.2345\na,20001,0.0246\n"),
+        ]:
+            self.expect(["report", "--k", "65535", "--share"], (0, report, b""), given)
+
     def test_tables(self) -> None:
         """A table's width, depth and seed stand in its file; its cells are those of the records."""
         shapes = [
@@ -399,6 +418,8 @@ class CommandLine(programs.Checks):
             (["report", "--k"], "a value is required for '--k <N>' but none was supplied"),
             (["report", "--k", "x"], "invalid value 'x' for '--k <N>'"),
             (["report", "--k", str(2**64)], f"invalid value '{2**64}' for '--k <N>'"),
+            (["report", "--top", "x"], "invalid value 'x' for '--top <N>'"), (["table", "--share"], other % "--share"),
+            (["report", "--share", "--share"], "the argument '--share' cannot be used multiple times"),
             (["report", "--k", "1", "--k", "2"], "the argument '--k <N>' cannot be used multiple times"),
             (["merge"], missing), (["ask", "file"], missing), (["condense"], missing), (["confirm"], missing),
         ]:

@@ -23,7 +23,7 @@ NUMBERS = re.compile(r"from (\d+) to (\d+) \[default: (\d+)\]")
 # (file, text, what it becomes): each is a drift that has to be found
 DRIFTS = [
     (MAN, ".B heavy merge", ".B heavy join"),
-    (MAN, ".RB [ \\-\\-threshold", ".RB [ \\-\\-share"),
+    (MAN, ".RB [ \\-\\-threshold", ".RB [ \\-\\-bound"),
     (MAN, '.BI \\-\\-seed " N"', '.BI \\-\\-sow " N"'),
     (MAN, '.BR \\-V ", " \\-\\-version', ".BR \\-\\-version"),
     (MAN, "from 1 to 65535", "from 1 to 65536"),
@@ -38,7 +38,7 @@ DRIFTS = [
     (ZSH, "'--depth=", "'--rows="),
     (ZSH, "summarise) _arguments $help $k $progress", "summarise) _arguments $help $k"),
     (FISH, "-a confirm ", "-a recount "),
-    (FISH, "-l threshold", "-l share"),
+    (FISH, "-l threshold", "-l bound"),
     (FISH, "-s V -l version", "-l version"),
 ]
 

@@ -116,6 +116,22 @@ def rows_text(rows: list[Item]) -> bytes:
     return b"".join(row_text(key, weight) for key, weight in rows)
 
 
+def percent(weight: int, total: int) -> bytes:
+    """The weight's share of the total in percent with four digits, each found by dividing what is left."""
+    whole, left = divmod(100 * weight, total)
+    digits = []
+    for _ in range(4):
+        digit, left = divmod(10 * left, total)
+        digits.append(digit)
+    return b"%d.%d%d%d%d" % (whole, *digits)
+
+
+def printed_rows(rows: list[Item], total: int, top: int | None, shared: bool) -> bytes:
+    """At most the first rows, with shares of the total or without."""
+    first = rows if top is None else rows[:top]
+    return b"".join(row_text(key, weight, *[percent(weight, total)] * shared) for key, weight in first)
+
+
 def heavy(items: list[Item], p: int, q: int) -> list[Item]:
     """The keys with more than p/q of the total, by falling weight and then by rising key."""
     total = total_of(items)
@@ -284,9 +300,10 @@ def share_of(text: bytes, k: int) -> tuple[int, int]:
     raise Refused("threshold must be P/Q with 1 <= P <= Q <= 4294967296 and P*(K+1) >= Q", 2)
 
 
-def report(text: bytes, k: int, share: bytes | None = None) -> bytes:
+def report(text: bytes, k: int, share: bytes | None = None, top: int | None = None, shared: bool = False) -> bytes:
     p, q = (1, k + 1) if share is None else share_of(share, k)
-    return rows_text(heavy(items_of(text), p, q))
+    items = items_of(text)
+    return printed_rows(heavy(items, p, q), total_of(items), top, shared)
 
 
 def summarise(text: bytes, k: int) -> bytes:
@@ -363,7 +380,7 @@ def describe(data: bytes) -> bytes:
     return b"".join(row_text(*fact) for fact in facts)
 
 
-def confirm(data: bytes, text: bytes, share: bytes | None = None) -> bytes:
+def confirm(data: bytes, text: bytes, share: bytes | None = None, top: int | None = None, shared: bool = False) -> bytes:
     saved = read_file(data)
     if not isinstance(saved, Summary):
         raise Refused("file 1: not a counter summary")
@@ -371,7 +388,8 @@ def confirm(data: bytes, text: bytes, share: bytes | None = None) -> bytes:
     items = items_of(text)
     if total_of(items) != saved.total:
         raise Refused("file 1: its total is not the input's")
-    return rows_text([row for row in heavy(items, p, q) if row[0] in saved.counters])
+    rows = [row for row in heavy(items, p, q) if row[0] in saved.counters]
+    return printed_rows(rows, saved.total, top, shared)
 
 
 def leading_row(key: bytes, weight: int) -> bytes:

@@ -3,3 +3,4 @@ pub mod FileFacts
 pub mod KeyFacts
 pub mod MergeFacts
 pub mod NameFacts
+pub mod ReportFacts

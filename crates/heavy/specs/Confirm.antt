@@ -1,16 +1,19 @@
 -- A summary, confirmed by the records that it is of.
-use Rattle.std.specs.Prelude.{◌≡◌, ◌≢◌, ◌+◌, ℕ, List, filter, Option, Some, None, Ok}
+use Rattle.std.specs.Prelude.{◌≡◌, ◌≢◌, ◌+◌, ℕ, List, filter, Option, Some, None, Ok, ⊤}
 use Rattle.hh_stream.specs.Weights.{Entry, total_of}
 use Rattle.hh_counters.specs.Counters.{SummaryView}
 use Rattle.hh_counters.specs.Report.{has_counter, heavy}
+use Rattle.hh_records.specs.Printed.{printed_rows}
 use Rattle.hh_records.specs.Rows.{rows_of}
 use Rattle.hh_records.specs.Streams.{Known, ReadsAs}
 use Rattle.hh_records.specs.Thresholds.{threshold_of}
+use Rattle.hh_records.specs.declared.printed.RowOptions.{RowOptions}
 use Rattle.hh_records.specs.declared.threshold.Share.{Share}
 use Rattle.heavy.specs.Files.{HoldsSummary, RefusedFrom}
 use Rattle.heavy.specs.Records.{RecordsRefused}
 use Rattle.heavy.specs.declared.commands.confirm.ConfirmFault.{ConfirmFault}
 use Rattle.heavy.specs.declared.commands.confirm.ConfirmFault.TheVariants as confirm
+use Rattle.heavy.specs.declared.commands.confirm.Totals.{Totals}
 use Rattle.heavy.specs.declared.error.ToolError.{ToolError}
 use Rattle.heavy.specs.declared.error.ToolError.TheVariants as tool
 
@@ -50,6 +53,13 @@ ConfirmsAbove share file known rows =
     × (threshold_of s.k share ≡ Some (p, q)) × ReadsAs known (Ok xs)
     × (s.total ≡ total_of xs) × (rows ≡ rows_of (confirmed_above p q s xs))
 
+-- the same as the options of rows want them, with shares of the stream's total
+abbrev pub ConfirmsPrinted : RowOptions → Share → List ℕ → Known → List ℕ → Type 0
+ConfirmsPrinted r share file known rows =
+    (s : SummaryView) × (p : ℕ) × (q : ℕ) × (xs : List Entry) × HoldsSummary file s
+    × (threshold_of s.k share ≡ Some (p, q)) × ReadsAs known (Ok xs)
+    × (s.total ≡ total_of xs) × (rows ≡ printed_rows (total_of xs) r (confirmed_above p q s xs))
+
 -- what a refusal tells where a share may be no threshold: that first, and then of the records
 abbrev pub CountAboveRefused : Option (ℕ × ℕ) → SummaryView → Known → ToolError → Type 0
 CountAboveRefused None s known e = e ≡ tool.BadThreshold
@@ -60,3 +70,10 @@ CountAboveRefused (Some t) s known e = CountRefused s known e
 abbrev pub ConfirmAboveRefused : Share → List ℕ → Known → ToolError → Type 0
 ConfirmAboveRefused share file known e =
     RefusedFrom file (λ s. CountAboveRefused (threshold_of s.k share) s known) e
+
+-- what a refusal tells of two totals: where they differ, both
+abbrev pub TellsTotals : List ℕ → Known → Option Totals → ToolError → Type 0
+TellsTotals file known told tool.TotalDiffers =
+    (s : SummaryView) × (xs : List Entry) × HoldsSummary file s × ReadsAs known (Ok xs)
+    × (told ≡ Some (record { summary = s.total; records = total_of xs }))
+TellsTotals file known told e = ⊤

@@ -2,7 +2,7 @@
 use Rattle.std.specs.Prelude.{◌≡◌, ◌-◌, not, ℕ, List, Bool, true, false, Option, Some, None, is_none, Result, Ok, Err, ⊤, if◌then◌else◌}
 use Rattle.std.specs.Io.KnownBytes.{Appends, Keeps}
 use Rattle.hh_stream.specs.Cuttings.{max_pieces}
-use Rattle.hh_stream.specs.Weights.{Entry}
+use Rattle.hh_stream.specs.Weights.{Entry, total_of}
 use Rattle.hh_counters.specs.Report.{heavy}
 use Rattle.hh_counters.specs.Counters.{max_k}
 use Rattle.hh_countmin.specs.Family.{drawn_family, max_depth, max_width}
@@ -12,10 +12,12 @@ use Rattle.hh_pool.specs.Trees.{IsBalanced, IsMergeTree, MergeTree, chain_of}
 use Rattle.hh_pool.specs.declared.parsing.PlanFault.{PlanFault}
 use Rattle.hh_pool.specs.declared.parsing.PlanFault.TheVariants as plan
 use Rattle.hh_stream.specs.Ranges.{in_range}
+use Rattle.hh_records.specs.Printed.{printed_rows}
 use Rattle.hh_records.specs.Rows.{rows_of}
 use Rattle.hh_records.specs.Sinks.{TakesFirst}
 use Rattle.hh_records.specs.Streams.{Known, ReadsAs}
 use Rattle.hh_records.specs.Thresholds.{threshold_of}
+use Rattle.hh_records.specs.declared.printed.RowOptions.{RowOptions}
 use Rattle.heavy.specs.Records.{RecordsRefused}
 use Rattle.heavy.specs.declared.error.ToolError.{ToolError}
 use Rattle.heavy.specs.declared.error.ToolError.TheVariants as tool
@@ -101,10 +103,23 @@ abbrev pub ReportsRows : ReportOptions → Known → List ℕ → Type 0
 ReportsRows o known rows =
     (xs : List Entry) × (keys : List Entry) × ReportsKeys o known xs keys × (rows ≡ rows_of keys)
 
+-- these are the rows of the keys of a report, as the options of rows want them, with shares of the
+-- stream's total
+abbrev pub PrintsRows : RowOptions → ReportOptions → Known → List ℕ → Type 0
+PrintsRows r o known rows =
+    (xs : List Entry) × (keys : List Entry) × ReportsKeys o known xs keys
+    × (rows ≡ printed_rows (total_of xs) r keys)
+
 -- a whole report was written
 abbrev pub IsReported : ReportOptions → Known → Option (List ℕ) → Option (List ℕ) → Type 0
 IsReported o known old new =
     AreOptions o × (rows : List ℕ) × ReportsRows o known rows × Appends old new rows
+
+-- a whole report was written as the options of rows want it
+abbrev pub IsPrinted : RowOptions → ReportOptions
+    → Known → Option (List ℕ) → Option (List ℕ) → Type 0
+IsPrinted r o known old new =
+    AreOptions o × (rows : List ℕ) × PrintsRows r o known rows × Appends old new rows
 
 -- what a refusal of the options tells: the first test that they fail, the tree's last
 abbrev pub OptionsRefused : ReportOptions → ToolError → Type 0
@@ -125,3 +140,10 @@ abbrev pub ReportRefused : ReportOptions
 ReportRefused o known old new (tool.WriteFault n) =
     AreOptions o × (rows : List ℕ) × ReportsRows o known rows × TakesFirst old new rows n
 ReportRefused o known old new e = StartRefused o known e × Keeps old new
+
+-- the same of a report whose rows are as the options of rows want them
+abbrev pub PrintRefused : RowOptions → ReportOptions
+    → Known → Option (List ℕ) → Option (List ℕ) → ToolError → Type 0
+PrintRefused r o known old new (tool.WriteFault n) =
+    AreOptions o × (rows : List ℕ) × PrintsRows r o known rows × TakesFirst old new rows n
+PrintRefused r o known old new e = StartRefused o known e × Keeps old new

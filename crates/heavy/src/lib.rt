@@ -12,21 +12,21 @@ pub use commands::add::{add_items, empty_summary};
 pub use commands::ask::{ask_bytes, ask_key, ask_keys};
 pub use commands::condense::{condense_bytes, condense_bytes_from};
 pub use commands::confirm::{
-    ConfirmFault, confirm, confirm_above, confirm_above_from, confirm_bytes,
+    ConfirmFault, Totals, confirm, confirm_above, confirm_bytes, confirm_rows,
 };
 pub use commands::confirm_share::confirm_share;
 pub use commands::describe::describe_file;
 pub use commands::entries::list_entries;
 pub use commands::list::list_keys;
 pub use commands::merge::merge_bytes;
-pub use commands::report::{ReportOptions, Tree, run_report, run_report_from};
+pub use commands::report::{ReportOptions, Tree, report_rows, run_report};
 pub use commands::summarise::{Method, summary_bytes, summary_bytes_from};
 pub use commands::table::{table_bytes, table_bytes_from};
 pub use error::{KeyCause, MergeCause, ToolError, TreeFault};
 pub use hh_counters::Heavy;
 pub use layouts::{LayoutWords, layout_of};
 pub use hh_records::{
-    BadRecordCause, Column, Layout, Out, ReadError, Records, ReportFault, Share, Sink, SinkFault,
-    WriteFault, put, read_stream, report_text, write_report,
+    BadRecordCause, Column, Layout, Out, ReadError, Records, ReportFault, RowOptions, Share, Sink,
+    SinkFault, WriteFault, printed_text, put, read_stream, report_text, write_printed, write_report,
 };
 pub use hh_saved::Place;

@@ -7,6 +7,7 @@ use Rattle.clap.specs.declared.parser.matches.Found.{Found}
 use Rattle.heavy.specs.declared.commands.report.ReportOptions.{ReportOptions}
 use Rattle.heavy.specs.declared.commands.report.Tree.{Tree}
 use Rattle.heavy.specs.declared.commands.report.Tree.TheVariants as shape
+use Rattle.hh_records.specs.declared.printed.RowOptions.{RowOptions}
 use Rattle.hh_records.specs.declared.threshold.Share.{Share}
 use Rattle.hh_records.specs.declared.threshold.Share.TheVariants as limit
 use Rattle.heavy_cli.specs.Words.{AreAllWords, word_of}
@@ -58,6 +59,14 @@ pub record AreOptions (found : Found) (options : ReportOptions) : Type 0 where
   pub depth : IsNumberOf found (codes "depth") 4 options.depth
   pub seed : IsNumberOf found (codes "seed") 0 options.seed
 
+-- the options of the rows that are printed
+pub record AreRowOptions (found : Found) (rows : RowOptions) : Type 0 where
+  pub all : one_text found (codes "top") ≡ None → rows.top ≡ None
+  pub first : (text : Text) → one_text found (codes "top") ≡ Some text → IsNumeral 10 (without_leading_plus text)
+      → number_in text < 2 ^ 64 → rows.top ≡ Some (number_in text)
+  pub shared : one_text found (codes "share") ≡ Some (codes "true") → rows.share ≡ true
+  pub unshared : one_text found (codes "share") ≡ None → rows.share ≡ false
+
 -- the options of a table
 pub record AreTableOptions (found : Found) (width depth seed : ℕ) : Type 0 where
   pub width_given : IsNumberOf found (codes "width") 1024 width
@@ -88,9 +97,9 @@ Answers name found (Ask file keys) = (name ≡ codes "ask") × AreKeys found fil
 Answers name found (ListKeys file) = (name ≡ codes "list") × (file.items ≡ first_word [] found (codes "FILE"))
 Answers name found (Describe file) = (name ≡ codes "describe") × (file.items ≡ first_word [] found (codes "FILE"))
 Answers name found (Condense file) = (name ≡ codes "condense") × (file.items ≡ first_word [] found (codes "FILE"))
-Answers name found (Confirm file share) =
+Answers name found (Confirm file share rows) =
     (name ≡ codes "confirm") × (file.items ≡ first_word [] found (codes "FILE"))
-    × GivesShare (first_value found (codes "threshold")) share
+    × GivesShare (first_value found (codes "threshold")) share × AreRowOptions found rows
 
 -- the name is none of the commands that are answered whole
 pub record IsReportName (name : Text) : Type 0 where
@@ -105,7 +114,7 @@ pub record IsReportName (name : Text) : Type 0 where
 
 -- what the command with a name asks for
 abbrev pub AsksFor : Text → Found → Request → Type 0
-AsksFor name found (Report options) = IsReportName name × AreOptions found options
+AsksFor name found (Report options rows) = IsReportName name × AreOptions found options × AreRowOptions found rows
 AsksFor name found (Answer command) = Answers name found command
 
 -- these words ask for it: clap found in their texts a command, with its name and its arguments

@@ -17,8 +17,17 @@ const VERSION: &str = "1.0.0";
 /// The option that tells how far the input is read.
 pub const PROGRESS: &str = "progress";
 
+/// The option that says how many rows are printed.
+pub const TOP: &str = "top";
+
+/// The option that adds shares of the total to rows.
+pub const SHARE: &str = "share";
+
 /// The place in help of an option that stands below those of the command's own.
 const LAST: usize = 100;
+
+/// The heading in help of the options by which a report stays the same.
+const MEANS: &str = "How the report is computed, which changes no row";
 
 /// What the help of a command with words says of words that look like options.
 const DASHES: &str = "A word that begins with - is given after --";
@@ -195,11 +204,37 @@ fn with_share<'a>(alloc: Global, command: Command<'a>) -> Result<Command<'a>, Al
     with(with(command, K.argument(alloc))?, threshold(alloc))
 }
 
+/// The option that says how many rows are printed.
+fn top<'a>(alloc: Global) -> Arg<'a>
+    ensures { result.global ≡ false }
+{
+    option(alloc, TOP, "Print at most the first N rows [default: all]")
+        .value_name("N")
+        .value_parser(value_parser!(u64))
+}
+
+/// The option that adds shares of the total to rows.
+fn share<'a>(alloc: Global) -> Arg<'a>
+    ensures { result.global ≡ false }
+{
+    let column = "Print in a third column the weight's share of the total in percent, rounded down";
+    option(alloc, SHARE, column).action(ArgAction::SetTrue)
+}
+
+/// The same command, with the options that say how rows are printed.
+fn with_rows<'a>(alloc: Global, command: Command<'a>) -> Result<Command<'a>, AllocError>
+    requires { (fields_of command).has_globals ≡ false }
+    ensures { IfOk result (λ c. (fields_of c).has_globals ≡ false) }
+{
+    with(with(command, top(alloc))?, share(alloc))
+}
+
 /// The command that prints a report.
 fn report_command<'a>(alloc: Global) -> Result<Command<'a>, AllocError>
     ensures { IfOk result (λ c. (fields_of c).has_globals ≡ false) }
 {
     let command = with_share(alloc, reader(alloc, "report", REPORT)?)?;
+    let command = with_rows(alloc, command)?.next_help_heading(MEANS);
     with_table(alloc, with_workers(alloc, command)?)
 }
 
@@ -273,7 +308,7 @@ fn confirm_command<'a>(alloc: Global) -> Result<Command<'a>, AllocError>
     ensures { IfOk result (λ c. (fields_of c).has_globals ≡ false) }
 {
     let command = reader(alloc, "confirm", CONFIRM)?.after_help(DASHES);
-    let command = with(command, threshold(alloc))?;
+    let command = with_rows(alloc, with(command, threshold(alloc))?)?;
     with(command, word(alloc, "FILE", "A saved summary"))
 }
 

@@ -172,8 +172,8 @@ pub const CONFIRM: Help = Help {
     whole: "Print the heavy keys of a saved summary in the records on standard input, which are
 those that it was made of, in any order: rows key,weight, by falling weight and
 then by key. The weights are exact, and no heavy key is missing. Keys are heavy above
-1/(k+1) of the total for the k of the summary, or above a larger share of your own. It
-holds one record at a time.
+1/(k+1) of the total, or above a larger share of your own. It has no --k: the summary
+has a k of its own, which `heavy describe` tells. It holds one record at a time.
 A word that begins with - is given after --",
     end: "Exit status: 0 all rows are written; 1 the file or input could not be read or
 output not be written; 2 wrong usage, or a threshold is refused; 3 the file is

@@ -11,8 +11,8 @@ mod words;
 
 use files::{read_file, read_files};
 use heavy::{
-    Method, Out, ToolError, ask_bytes, condense_bytes, confirm_above, describe_file, list_keys,
-    merge_bytes, put, run_report, summary_bytes, table_bytes,
+    Method, Out, ToolError, ask_bytes, condense_bytes, confirm_rows, describe_file, list_keys,
+    merge_bytes, put, report_rows, summary_bytes, table_bytes,
 };
 use progress::Metered;
 use request::{Command, Request, UsageError, read_request};
@@ -36,9 +36,11 @@ fn answer(rt: &HostRuntime, command: Command, input: Input<'_>) -> Result<Vec<u8
         Command::List { file } => list_keys(alloc, &read_file(rt, 1, &file)?),
         Command::Describe { file } => describe_file(alloc, &read_file(rt, 1, &file)?),
         Command::Condense { file } => condense_bytes(alloc, &read_file(rt, 1, &file)?, input),
-        Command::Confirm { file, threshold } => {
-            confirm_above(alloc, &read_file(rt, 1, &file)?, &threshold, input)
-        }
+        Command::Confirm {
+            file,
+            threshold,
+            rows,
+        } => confirm_rows(alloc, &read_file(rt, 1, &file)?, &threshold, &rows, input),
     }
 }
 
@@ -71,9 +73,9 @@ fn main(rt: HostRuntime) -> ExitCode {
         Ok(asked) => {
             let input = Metered::new(&rt, rt.stdin(), asked.tells_progress);
             match asked.request {
-                Request::Report(options) => {
+                Request::Report { options, rows } => {
                     let mut out = Out::new(rt.stdout());
-                    run_report(&rt, rt.alloc(), &options, input, &mut out)
+                    report_rows(&rt, rt.alloc(), &options, &rows, input, &mut out)
                 }
                 Request::Answer(command) => write_answer(&rt, command, input),
             }

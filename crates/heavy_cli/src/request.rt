@@ -2,14 +2,16 @@
 
 ghost use Rattle.std.specs.Prelude.{◌≡◌, [], IfOk, codes, map};
 ghost use Rattle.clap.specs.Words.{first_value, found_of};
-ghost use Rattle.heavy_cli.specs.Request.{Answers, AreOptions, AsksFor, GivesShare};
+ghost use Rattle.heavy_cli.specs.Request.{Answers, AreOptions, AreRowOptions, AsksFor, GivesShare};
 ghost use Rattle.heavy_cli.specs.Request.{IsAskedBy, IsAskedFrom, NamesTree, all_words, first_word};
 
-use crate::arguments::{DEPTH, K, PIECES, PROGRESS, SEED, WIDTH, WORKERS, command_line};
+use crate::arguments::{
+    DEPTH, K, PIECES, PROGRESS, SEED, SHARE, TOP, WIDTH, WORKERS, command_line,
+};
 use crate::words::{WordSource, bytes_of, read_words, texts_of};
 use clap::error::ErrorKind;
 use clap::{ArgMatches, Error};
-use heavy::{ReportOptions, Share, Tree};
+use heavy::{ReportOptions, RowOptions, Share, Tree};
 use std::alloc::{AllocError, Global};
 
 /// What a command line asks for, and how.
@@ -24,7 +26,10 @@ pub struct Invocation {
 #[derive(Drop)]
 pub enum Request {
     /// The report of standard input, written as it is made.
-    Report(ReportOptions),
+    Report {
+        options: ReportOptions,
+        rows: RowOptions,
+    },
     /// Bytes that are made whole, and then written.
     Answer(Command),
 }
@@ -69,6 +74,7 @@ pub enum Command {
     Confirm {
         file: Vec<u8>,
         threshold: Share,
+        rows: RowOptions,
     },
 }
 
@@ -134,6 +140,16 @@ fn threshold_of(alloc: Global, found: &ArgMatches) -> Result<Share, AllocError>
     match found.get_str("threshold") {
         Some(text) => Ok(Share::Text(bytes_of(alloc, text)?)),
         None => Ok(Share::OfCounters),
+    }
+}
+
+/// Which rows are printed, and how.
+fn rows_of(found: &ArgMatches) -> RowOptions
+    ensures { AreRowOptions (found_of found.now) result }
+{
+    RowOptions {
+        top: found.get_one(TOP),
+        share: found.get_flag(SHARE),
     }
 }
 
@@ -205,7 +221,11 @@ fn confirm(alloc: Global, found: &ArgMatches) -> Result<Command, AllocError>
 {
     let file = file_named(alloc, found)?;
     let threshold = threshold_of(alloc, found)?;
-    Ok(Command::Confirm { file, threshold })
+    Ok(Command::Confirm {
+        file,
+        threshold,
+        rows: rows_of(found),
+    })
 }
 
 /// What a command with these words asks for. `clap` lets these nine names come: the one that is
@@ -228,7 +248,12 @@ fn request_of(alloc: Global, name: &str, found: &ArgMatches) -> Result<Request, 
             file: file_named(alloc, found)?,
         },
         "confirm" => confirm(alloc, found)?,
-        _ => return Ok(Request::Report(report(alloc, found)?)),
+        _ => {
+            return Ok(Request::Report {
+                options: report(alloc, found)?,
+                rows: rows_of(found),
+            });
+        }
     };
     Ok(Request::Answer(command))
 }

@@ -4,6 +4,7 @@ pub mod PartFacts
 pub mod OpenFacts
 pub mod ReadFacts
 pub mod RowFacts
+pub mod ShareFacts
 pub mod TakeFacts
 pub mod TakenFacts
 pub mod TextFacts

@@ -1,12 +1,13 @@
 -- What holds of texts that are joined.
-use Rattle.std.specs.Prelude.{◌≡◌, ◌<◌, ◌≤◌, ℕ, List, [], ◌∷◌, length, EachIndex, Ok, Some, slice_index}
+use Rattle.std.specs.Prelude.{◌≡◌, ◌+◌, ◌*◌, ◌<◌, ◌≤◌, ℕ, List, [], ◌∷◌, length, EachIndex, Ok, Some, slice_index}
 use Rattle.std.specs.List.{AllByRecursion, flat_map}
 use Rattle.hh_stream.specs.Weights.{AreItems, Entry, max_total, total_of}
 use Rattle.hh_stream.specs.Cuttings.{whole_of}
 use Rattle.hh_counters.specs.Counters.{SummaryView, max_k}
 use Rattle.hh_counters.specs.Condensed.{condensed}
 use Rattle.hh_records.specs.Layouts.{IsPlain, stream_with}
-use Rattle.hh_records.specs.Rows.{condensed_text}
+use Rattle.hh_records.specs.Printed.{millionths, plain_rows, printed_rows}
+use Rattle.hh_records.specs.Rows.{condensed_text, rows_of}
 use Rattle.hh_records.specs.Streams.{stream_of}
 use Rattle.hh_records.specs.declared.layout.Layout.{Layout}
 
@@ -28,3 +29,14 @@ CondensedFilesAreRead =
 abbrev pub PlainLayoutsReadStreams : Type 0
 PlainLayoutsReadStreams =
     (layout : Layout) (text : List ℕ) → IsPlain layout → stream_with layout (text ∷ []) ≡ Some (stream_of text)
+
+-- with no option of rows these are the rows of a report
+abbrev pub PlainRowsAreRows : Type 0
+PlainRowsAreRows = (total : ℕ) (es : List Entry) → printed_rows total plain_rows es ≡ rows_of es
+
+-- a share is the most millionths of the total that the weight has
+abbrev pub SharesAreRoundedDown : Type 0
+SharesAreRoundedDown =
+    (total weight : ℕ) → 0 < total
+    → (millionths total weight * total ≤ weight * 1000000)
+    × (weight * 1000000 < (millionths total weight + 1) * total)

@@ -1,5 +1,6 @@
 pub mod Laws
 pub mod Layouts
+pub mod Printed
 pub mod Rows
 pub mod Sinks
 pub mod Streams

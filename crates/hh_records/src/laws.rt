@@ -1,6 +1,7 @@
 //! Laws of the definitions in `specs/`. Each function does nothing: its contract is the law.
 
 ghost use Rattle.hh_records.specs.Laws.{CondensedFilesAreRead, PlainLayoutsReadStreams, TextsAreItems};
+ghost use Rattle.hh_records.specs.Laws.{PlainRowsAreRows, SharesAreRoundedDown};
 
 use hh_counters::laws::condensed_keeps_weights;
 
@@ -21,4 +22,14 @@ pub fn condensed_files_are_read()
 /// reads a text as its stream.
 pub fn plain_layouts_read_streams()
     ensures { PlainLayoutsReadStreams }
+{}
+
+/// With no option of rows a report is printed as it is written.
+pub fn plain_rows_are_rows()
+    ensures { PlainRowsAreRows }
+{}
+
+/// A share is rounded down.
+pub fn shares_are_rounded_down()
+    ensures { SharesAreRoundedDown }
 {}

@@ -6,6 +6,7 @@
 
 pub mod laws;
 mod layout;
+mod printed;
 mod records;
 mod retrying;
 mod rows;
@@ -16,6 +17,7 @@ mod threshold;
 
 pub use hh_counters::Counts;
 pub use layout::{Column, Layout, column_of, delimiter_of};
+pub use printed::{RowOptions, printed_text, write_printed};
 pub use records::{BadRecordCause, ReadError, read_items, read_stream};
 pub use rows::{ReportFault, condensed_text, report_text, write_report};
 pub use sink::{Out, Sink, SinkFault, WriteFault, put};

@@ -342,7 +342,7 @@ pub fn read_items<R: Read + Drop, T: TakeItems>(
     ensures refused { IfErr result (λ error.
         ReadRefused (text_known (R.remaining reader)) error) }
 {
-    match read_records(alloc, Records::plain(alloc, reader), taker) {
+    match read_records(alloc, Records::of_reader(alloc, reader), taker) {
         Ok(taken) => Ok(taken),
         Err(TextError::ReadFault) => Err(ReadError::ReadFault),
         Err(TextError::NoColumn) => unreachable!("no column is named"),

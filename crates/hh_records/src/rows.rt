@@ -18,7 +18,7 @@ use thiserror::Error;
 const BYTE_ORDER_MARK: &[u8] = b"\xef\xbb\xbf";
 
 /// Writes a row after the others.
-fn write_row(writer: &mut Writer<Vec<u8>>, row: &Heavy) -> Result<(), AllocError>
+pub(crate) fn write_row(writer: &mut Writer<Vec<u8>>, row: &Heavy) -> Result<(), AllocError>
     requires { IsBetweenRows writer.old }
     ensures between { OnOk result (IsBetweenRows writer.new) }
     ensures text { OnOk result (Appends

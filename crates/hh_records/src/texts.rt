@@ -212,7 +212,7 @@ pub struct Records<R> {
 
 impl<R: Read + Drop> Records<R> {
     /// Those of one text of keys and weights, as [`read_stream`](crate::read_stream) reads them.
-    pub fn plain(alloc: Global, reader: R) -> Records<R>
+    pub fn of_reader(alloc: Global, reader: R) -> Records<R>
         ensures { records_known R.remaining result ≡ text_known (R.remaining reader) }
     {
         plain_layouts_read_streams();

@@ -124,7 +124,7 @@ pub fn condense_bytes<R: Read + Drop>(
         CondenseRefused file.now (text_known (R.remaining reader)) fault) }
     ensures early { StopsAtHead 1 file.now result }
 {
-    condense_bytes_from(alloc, file, Records::plain(alloc, reader))
+    condense_bytes_from(alloc, file, Records::of_reader(alloc, reader))
 }
 
 /// [`condense_bytes`] of records in texts and columns of one's own. The condensed records are a key

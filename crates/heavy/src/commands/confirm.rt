@@ -8,7 +8,9 @@ ghost use Rattle.hh_counters.specs.Report.{IsShare};
 ghost use Rattle.hh_records.specs.Layouts.{records_known};
 ghost use Rattle.hh_records.specs.Streams.{ReadsAs, text_known};
 ghost use Rattle.heavy.specs.Files.{StopsAtHead};
-ghost use Rattle.heavy.specs.Confirm.{ConfirmAboveRefused, ConfirmRefused, ConfirmsAbove, ConfirmsRows, CountRefused, confirmed_above, confirmed_rows};
+ghost use Rattle.heavy.specs.Confirm.{ConfirmAboveRefused, ConfirmRefused, ConfirmsAbove};
+ghost use Rattle.heavy.specs.Confirm.{ConfirmsPrinted, ConfirmsRows, CountRefused, TellsTotals};
+ghost use Rattle.heavy.specs.Confirm.{confirmed_above, confirmed_rows};
 ghost use Rattle.heavy.specs.declared.commands.confirm.ConfirmFault.TheVariants.{Memory};
 
 use crate::counting::count_records;
@@ -16,7 +18,7 @@ use crate::error::ToolError;
 use crate::files::summary_in;
 use hh_counters::laws::{candidates_suffice, counts_follow_items};
 use hh_counters::{Counts, Heavy, Summary};
-use hh_records::{Records, Share, report_text, threshold_of};
+use hh_records::{Records, RowOptions, Share, printed_text, report_text, threshold_of};
 use hh_stream::Stream;
 use std::alloc::{AllocError, Global};
 use std::io::Read;
@@ -39,6 +41,15 @@ impl From<AllocError> for ConfirmFault {
     fn from(_: AllocError) -> ConfirmFault {
         ConfirmFault::Memory
     }
+}
+
+/// Two totals that were compared.
+#[derive(Clone, Copy, Debug, PartialEq, Eq)]
+pub struct Totals {
+    /// The summary's.
+    pub summary: u64,
+    /// That of the records.
+    pub records: u64,
 }
 
 /// The keys of a summary that are heavy in a stream, with their true weights: those above the
@@ -116,7 +127,7 @@ pub fn confirm_bytes<R: Read + Drop>(
 {
     let summary = summary_in(alloc, file)?;
     let q = summary.k() + 1;
-    let rows = confirm_records(alloc, &summary, 1, q, Records::plain(alloc, reader))?;
+    let rows = confirm_records(alloc, &summary, 1, q, Records::of_reader(alloc, reader))?;
     Ok(report_text(alloc, &rows)?)
 }
 
@@ -134,26 +145,41 @@ pub fn confirm_above<R: Read + Drop>(
         ConfirmAboveRefused share.now file.now (text_known (R.remaining reader)) fault) }
     ensures early { StopsAtHead 1 file.now result }
 {
-    confirm_above_from(alloc, file, share, Records::plain(alloc, reader))
+    let rows = RowOptions::plain();
+    let records = Records::of_reader(alloc, reader);
+    confirm_rows(alloc, file, share, &rows, records, &mut None)
 }
 
-/// [`confirm_above`] by records in texts and columns of one's own.
-pub fn confirm_above_from<R: Read + Drop>(
+/// [`confirm_above`] by records in texts and columns of one's own, with rows as `rows` wants them.
+/// Shares are of the total of all records. Where the totals differ, it leaves both in `totals`.
+pub fn confirm_rows<R: Read + Drop>(
     alloc: Global,
     file: &[u8],
     share: &Share,
+    rows: &RowOptions,
     records: Records<R>,
+    totals: &mut Option<Totals>,
 ) -> Result<Vec<u8>, ToolError>
-    ensures rows { IfOk result (λ rows.
-        ConfirmsAbove share.now file.now (records_known R.remaining records) rows.items) }
+    ensures rows { IfOk result (λ text. ConfirmsPrinted rows.now share.now file.now
+        (records_known R.remaining records) text.items) }
     ensures refused { IfErr result (λ fault.
         ConfirmAboveRefused share.now file.now (records_known R.remaining records) fault) }
+    ensures totals { IfErr result (λ fault.
+        TellsTotals file.now (records_known R.remaining records) totals.new fault) }
     ensures early { StopsAtHead 1 file.now result }
 {
     let summary = summary_in(alloc, file)?;
     let Some((p, q)) = threshold_of(summary.k(), share) else {
         return Err(ToolError::BadThreshold);
     };
-    let rows = confirm_records(alloc, &summary, p, q, records)?;
-    Ok(report_text(alloc, &rows)?)
+    let counts = count_records(alloc, &summary, records)?;
+    if summary.total() != counts.total() {
+        *totals = Some(Totals {
+            summary: summary.total(),
+            records: counts.total(),
+        });
+        return Err(ToolError::TotalDiffers);
+    }
+    let keys = rows_above(&summary, &counts, p, q)?;
+    Ok(printed_text(alloc, summary.total(), rows, &keys)?)
 }

@@ -33,6 +33,6 @@ pub fn confirm_share<R: Read + Drop>(
     if !is_threshold(summary.k(), p, q) {
         return Err(ToolError::BadThreshold);
     }
-    let rows = confirm_records(alloc, &summary, p, q, Records::plain(alloc, reader))?;
+    let rows = confirm_records(alloc, &summary, p, q, Records::of_reader(alloc, reader))?;
     Ok(report_text(alloc, &rows)?)
 }

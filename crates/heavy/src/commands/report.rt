@@ -5,12 +5,13 @@ ghost use Rattle.hh_stream.specs.Cuttings.{max_pieces};
 ghost use Rattle.hh_pool.specs.Trees.{leaves};
 ghost use Rattle.hh_counters.specs.Report.{heavy};
 ghost use Rattle.hh_stream.specs.Ranges.{in_range};
-ghost use Rattle.hh_stream.specs.Weights.{Entry};
+ghost use Rattle.hh_stream.specs.Weights.{Entry, total_of};
 ghost use Rattle.hh_records.specs.Layouts.{records_known};
 ghost use Rattle.hh_records.specs.Streams.{ReadsAs, text_known};
 ghost use Rattle.hh_records.specs.Thresholds.{threshold_of};
 ghost use Rattle.heavy.specs.Records.{RecordsRefused};
-ghost use Rattle.heavy.specs.Report.{AreOptions, IsOptionFault, IsReported, Names, ReportRefused};
+ghost use Rattle.heavy.specs.Report.{AreOptions, IsOptionFault, IsPrinted, IsReported, Names};
+ghost use Rattle.heavy.specs.Report.{PrintRefused, ReportRefused};
 ghost use Rattle.heavy.specs.Report.{ReportsKeys, StartRefused, TreeRefused, bad_option};
 ghost use Rattle.heavy.specs.Report.{failed_by, settings_of};
 
@@ -19,7 +20,7 @@ use hh_counters::{Heavy, MAX_K};
 use hh_countmin::{Family, MAX_DEPTH, MAX_WIDTH};
 use hh_pool::{MAX_WORKERS, OpenGate, Options, Plan, PlanFault, RunError, analyse};
 use hh_records::{
-    Records, ReportFault, Share, Sink, read_records, threshold_of, write_report,
+    Records, ReportFault, RowOptions, Share, Sink, read_records, threshold_of, write_printed,
 };
 use hh_stream::{Cutting, MAX_PIECES, Stream, in_range};
 use std::alloc::{AllocError, Global};
@@ -165,15 +166,16 @@ fn stream_of<R: Read + Drop>(alloc: Global, records: Records<R>) -> Result<Strea
     Ok(read_records(alloc, records, Stream::new(alloc))?)
 }
 
-/// The keys that a report of some records has.
+/// The total of some records, and the keys that a report of them has.
 fn reported<T: Threads + Wait + Sync, R: Read + Drop>(
     rt: &T,
     alloc: Global,
     options: &ReportOptions,
     records: Records<R>,
-) -> Result<Vec<Heavy>, ToolError>
+) -> Result<(u64, Vec<Heavy>), ToolError>
     ensures keys { IfOk result (λ keys. (xs : List Entry) × AreOptions options.now
-        × ReportsKeys options.now (records_known R.remaining records) xs keys.items) }
+        × ReportsKeys options.now (records_known R.remaining records) xs keys.1.items
+        × (keys.0 ≡ total_of xs)) }
     ensures refused { IfErr result
         (StartRefused options.now (records_known R.remaining records)) }
     ensures bad_option { IfSome (bad_option options.now) (λ fault. result ≡ Err fault) }
@@ -187,7 +189,8 @@ fn reported<T: Threads + Wait + Sync, R: Read + Drop>(
     };
     let settings = settings_of(alloc, options, p, q)?;
     let stream = stream_of(alloc, records)?;
-    Ok(heavy_keys(rt, alloc, &stream, pieces, &plan, &settings)?)
+    let keys = heavy_keys(rt, alloc, &stream, pieces, &plan, &settings)?;
+    Ok((stream.total(), keys))
 }
 
 /// Reads records as [`read_stream`](crate::read_stream) does, and writes the report of their
@@ -215,30 +218,33 @@ pub fn run_report<T: Threads + Wait + Sync, R: Read + Drop, S: Sink>(
     ensures flushed { OnOk result (S.is_flushed sink.new ≡ true) }
     ensures failed { S.has_failed sink.new ≡ failed_by result }
 {
-    run_report_from(rt, alloc, options, Records::plain(alloc, reader), sink)
+    let rows = RowOptions::plain();
+    report_rows(rt, alloc, options, &rows, Records::of_reader(alloc, reader), sink)
 }
 
-/// [`run_report`] of records in texts and columns of one's own.
-pub fn run_report_from<T: Threads + Wait + Sync, R: Read + Drop, S: Sink>(
+/// [`run_report`] of records in texts and columns of one's own, with rows as `rows` wants them.
+/// Shares are of the total of all records.
+pub fn report_rows<T: Threads + Wait + Sync, R: Read + Drop, S: Sink>(
     rt: &T,
     alloc: Global,
     options: &ReportOptions,
+    rows: &RowOptions,
     records: Records<R>,
     sink: &mut S,
 ) -> Result<(), ToolError>
     requires { S.has_failed sink.old ≡ false }
     ensures reported { OnOk result
-        (IsReported options.now (records_known R.remaining records)
+        (IsPrinted rows.now options.now (records_known R.remaining records)
         (S.taken sink.old) (S.taken sink.new)) }
     ensures refused { IfErr result (λ fault.
-        ReportRefused options.now (records_known R.remaining records)
+        PrintRefused rows.now options.now (records_known R.remaining records)
         (S.taken sink.old) (S.taken sink.new) fault) }
     ensures bad_option { IfSome (bad_option options.now) (λ fault. result ≡ Err fault) }
     ensures flushed { OnOk result (S.is_flushed sink.new ≡ true) }
     ensures failed { S.has_failed sink.new ≡ failed_by result }
 {
-    let rows = reported(rt, alloc, options, records)?;
-    match write_report(alloc, sink, &rows) {
+    let (total, keys) = reported(rt, alloc, options, records)?;
+    match write_printed(alloc, sink, total, rows, &keys) {
         Ok(()) => Ok(()),
         Err(ReportFault::WriteFault { written }) => Err(ToolError::WriteFault { written }),
         Err(ReportFault::Memory) => Err(ToolError::Memory),

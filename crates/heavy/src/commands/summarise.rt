@@ -111,7 +111,7 @@ pub fn summary_bytes<R: Read + Drop>(
         RefusedAfter (bad_k k) (text_known (R.remaining reader)) fault) }
     ensures bad_k { IfSome (bad_k k) (λ fault. result ≡ Err fault) }
 {
-    summary_bytes_from(alloc, k, method, Records::plain(alloc, reader))
+    summary_bytes_from(alloc, k, method, Records::of_reader(alloc, reader))
 }
 
 /// [`summary_bytes`] of records in texts and columns of one's own.

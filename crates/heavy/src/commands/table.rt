@@ -47,7 +47,7 @@ pub fn table_bytes<R: Read + Drop>(
         RefusedAfter (bad_table depth width) (text_known (R.remaining reader)) fault) }
     ensures bad_table { IfSome (bad_table depth width) (λ fault. result ≡ Err fault) }
 {
-    table_bytes_from(alloc, width, depth, seed, Records::plain(alloc, reader))
+    table_bytes_from(alloc, width, depth, seed, Records::of_reader(alloc, reader))
 }
 
 /// [`table_bytes`] of records in texts and columns of one's own.

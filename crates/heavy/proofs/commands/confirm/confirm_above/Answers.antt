@@ -1,11 +1,16 @@
 use Rattle.std.proofs.Common.{IfOk, subst}
-use Rattle.heavy.specs.Confirm.{ConfirmsAbove}
+use Rattle.hh_records.specs.Layouts.{records_known}
+use Rattle.hh_records.specs.Printed.{plain_rows}
+use Rattle.heavy.specs.Confirm.{ConfirmsAbove, ConfirmsPrinted}
 use Rattle.heavy.proofs.commands.confirm.confirm_above.Goals as goal
 
 pub returns-clause-rows : goal.returns-clause-rows
 returns-clause-rows g c =
-    subst (λ known. IfOk c.confirm_above_from.result (λ rows. ConfirmsAbove c.args.share.now c.args.file.now known rows.items))
-    c.plain.ensures c.confirm_above_from.ensures.rows
+    let share = c.args.share.now in
+    let file = c.args.file.now in
+    subst (λ known. IfOk c.confirm_rows.result (λ text. ConfirmsAbove share file known text.items)) c.of_reader.ensures
+    (subst (λ rows. IfOk c.confirm_rows.result (λ text. ConfirmsPrinted rows share file
+    (records_known g.R.Read.remaining c.of_reader.result) text.items)) c.plain.ensures c.confirm_rows.ensures.rows)
 
 pub returns-clause-refused : goal.returns-clause-refused
-returns-clause-refused g c = rw c.plain.ensures at c.confirm_above_from.ensures.refused
+returns-clause-refused g c = rw c.of_reader.ensures at c.confirm_rows.ensures.refused

@@ -1,16 +1,22 @@
-use Rattle.std.specs.Prelude.{OnOk}
 use Rattle.std.proofs.Common.{IfErr, subst}
+use Rattle.std.specs.Prelude.{OnOk}
+use Rattle.hh_records.specs.Layouts.{records_known}
 use Rattle.heavy.specs.Report.{IsReported, ReportRefused}
+use Rattle.heavy.proofs.ReportFacts.{plain_refused, plain_reported}
 use Rattle.heavy.proofs.commands.report.run_report.Goals as goal
 
 pub returns-clause-reported : goal.returns-clause-reported
 returns-clause-reported g c =
-    subst (λ known. OnOk c.run_report_from.result (IsReported c.args.options.now known
-    (g.S.Sink.taken c.args.sink.now) (g.S.Sink.taken c.run_report_from.new.sink))) c.plain.ensures
-    c.run_report_from.ensures.reported
+    let old = g.S.Sink.taken c.args.sink.now in
+    let new = g.S.Sink.taken c.report_rows.new.sink in
+    subst (λ known. OnOk c.report_rows.result (IsReported c.args.options.now known old new)) c.of_reader.ensures
+    (plain_reported c.args.options.now (records_known g.R.Read.remaining c.of_reader.result) old new
+    c.plain.result c.plain.ensures c.report_rows.result c.report_rows.ensures.reported)
 
 pub returns-clause-refused : goal.returns-clause-refused
 returns-clause-refused g c =
-    subst (λ known. IfErr c.run_report_from.result (λ fault. ReportRefused c.args.options.now known
-    (g.S.Sink.taken c.args.sink.now) (g.S.Sink.taken c.run_report_from.new.sink) fault)) c.plain.ensures
-    c.run_report_from.ensures.refused
+    let old = g.S.Sink.taken c.args.sink.now in
+    let new = g.S.Sink.taken c.report_rows.new.sink in
+    subst (λ known. IfErr c.report_rows.result (ReportRefused c.args.options.now known old new)) c.of_reader.ensures
+    (plain_refused c.args.options.now (records_known g.R.Read.remaining c.of_reader.result) old new
+    c.plain.result c.plain.ensures c.report_rows.result c.report_rows.ensures.refused)

@@ -1,5 +1,5 @@
 use Rattle.hh_records.proofs.OpenFacts.{plain-known}
-use Rattle.hh_records.proofs.texts.Records.plain.Goals as goal
+use Rattle.hh_records.proofs.texts.Records.of_reader.Goals as goal
 
 pub returns : goal.returns
 returns g c =
