@@ -5,6 +5,7 @@ mod commands;
 mod counting;
 mod error;
 mod files;
+mod items;
 pub mod laws;
 
 pub use commands::add::{add_items, empty_summary};
@@ -12,8 +13,10 @@ pub use commands::ask::{ask_bytes, ask_key, ask_keys};
 pub use commands::condense::condense_bytes;
 pub use commands::confirm::{ConfirmFault, confirm, confirm_above, confirm_bytes};
 pub use commands::confirm_share::confirm_share;
+pub use commands::count_items::{condense_items, confirm_items};
 pub use commands::describe::describe_file;
 pub use commands::entries::list_entries;
+pub use commands::grow_table::empty_table;
 pub use commands::list::list_keys;
 pub use commands::merge::merge_bytes;
 pub use commands::report::{ReportOptions, Tree, run_report};
