@@ -141,17 +141,24 @@ uint32_t heavy_summarise(const uint8_t *text, size_t text_len, uint64_t k, uint3
 /* Gives the saved summary of no items with k counters, k from 1 to 65535: 17 bytes, HEAVY_SUMMARY_ROOM(0, 0). */
 uint32_t heavy_empty(uint64_t k, uint8_t *out, size_t out_len, size_t *needed, struct heavy_fault *fault);
 
-/* Gives the saved summary of a saved file with count items added, in order. So what heavy_empty gives, or
-   heavy_summarise, becomes the summary of its stream followed by these items, and no more is kept of the stream.
+/* Gives the saved summary or table of a saved file with count items added, in order. So what heavy_empty gives, or
+   heavy_summarise, becomes the summary of its stream followed by these items, and what heavy_empty_table gives, or
+   heavy_table, the table; no more is kept of the stream.
    Key i is the bytes of keys from ends[i - 1], or from 0, to ends[i]. Its weight is weights[i], or 1 where weights_len
    is 0. First each end has to be at least the end before it and at most keys_len, else the call answers HEAVY_USAGE
    and HEAVY_BAD_END with the number of the first other one. Then weights_len has to be 0 or count, else it answers
-   HEAVY_USAGE and HEAVY_BAD_WEIGHT_COUNT. Then the file is tested, then its kind, and then the items in order, which are
-   refused as records are: HEAVY_BAD_RECORD with the item's number, and the causes HEAVY_RECORD_EMPTY_KEY, _KEY_TOO_LONG,
-   _ZERO_WEIGHT and _TOTAL_TOO_LARGE. A room of HEAVY_SUMMARY_ROOM(k, HEAVY_MAX_KEY) is enough for the file's k. */
+   HEAVY_USAGE and HEAVY_BAD_WEIGHT_COUNT. Then the file is tested, and then the items in order, which are refused as
+   records are: HEAVY_BAD_RECORD with the item's number, and the causes HEAVY_RECORD_EMPTY_KEY, _KEY_TOO_LONG,
+   _ZERO_WEIGHT and _TOTAL_TOO_LARGE. A room of HEAVY_SUMMARY_ROOM(k, HEAVY_MAX_KEY) is enough for a summary's k, and one
+   of HEAVY_TABLE_ROOM(width, depth) for a table. */
 uint32_t heavy_add(const uint8_t *file, size_t file_len, const uint8_t *keys, size_t keys_len, const uint64_t *ends,
                    size_t count, const uint64_t *weights, size_t weights_len, uint8_t *out, size_t out_len,
                    size_t *needed, struct heavy_fault *fault);
+
+/* Gives the saved Count-Min table of no items, with the hash family that is drawn from the seed: width from 1 to 65536,
+   depth from 1 to 16. It has HEAVY_TABLE_ROOM(width, depth) bytes. The depth is tested first, then the width. */
+uint32_t heavy_empty_table(uint64_t width, uint64_t depth, uint64_t seed, uint8_t *out, size_t out_len, size_t *needed,
+                           struct heavy_fault *fault);
 
 /* Gives the saved Count-Min table of a text's records, with the hash family that is drawn from the seed: width from
    1 to 65536, depth from 1 to 16. The depth is tested first, then the width, then the records. */
@@ -209,6 +216,29 @@ uint32_t heavy_confirm_above(const uint8_t *file, size_t file_len, const uint8_t
    kind, then the records, whose total need not be the summary's. */
 uint32_t heavy_condense(const uint8_t *file, size_t file_len, const uint8_t *text, size_t text_len, uint8_t *out,
                         size_t out_len, size_t *needed, struct heavy_fault *fault);
+
+/* Gives what heavy_condense gives, of items in place of a text's records. The items lie as heavy_add takes them, and ends
+   and weights are tested as there. So a second pass may go over a stream in parts, each part's items condensed by the
+   summary of the whole; the rows of all parts, one behind the other, are a text for heavy_confirm. Then the file is
+   tested, then its kind, and then the items in order, which are refused as heavy_add refuses them: their total is at most
+   2^63 - 1, and need not be the summary's. */
+uint32_t heavy_condense_items(const uint8_t *file, size_t file_len, const uint8_t *keys, size_t keys_len,
+                              const uint64_t *ends, size_t count, const uint64_t *weights, size_t weights_len,
+                              uint8_t *out, size_t out_len, size_t *needed, struct heavy_fault *fault);
+
+/* Gives what heavy_confirm gives, over items in place of a text's records. The items lie as heavy_add takes them, and
+   ends and weights are tested as there. Then the file is tested, then its kind, then the items in order, which are refused
+   as heavy_add refuses them, and then that the totals are the same. */
+uint32_t heavy_confirm_items(const uint8_t *file, size_t file_len, const uint8_t *keys, size_t keys_len,
+                             const uint64_t *ends, size_t count, const uint64_t *weights, size_t weights_len,
+                             uint8_t *out, size_t out_len, size_t *needed, struct heavy_fault *fault);
+
+/* Gives the rows of heavy_confirm_items above the share p/q of the total, as heavy_confirm_above takes it: it is tested
+   behind the file's kind, and before the items. */
+uint32_t heavy_confirm_items_above(const uint8_t *file, size_t file_len, const uint8_t *keys, size_t keys_len,
+                                   const uint64_t *ends, size_t count, const uint64_t *weights, size_t weights_len,
+                                   uint64_t p, uint64_t q, uint8_t *out, size_t out_len, size_t *needed,
+                                   struct heavy_fault *fault);
 
 #ifdef __cplusplus
 }

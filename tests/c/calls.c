@@ -152,6 +152,32 @@ static struct answer add(const void *file, size_t size, const char *keys, const 
     return a;
 }
 
+/* Which call takes the items, and its share where it has one. */
+enum items_call { CONDENSE, CONFIRM, CONFIRM_ABOVE };
+
+/* The weights may be none. */
+static struct answer of_items(enum items_call call, const void *file, size_t size, const char *keys, const uint64_t *ends,
+                              size_t count, const uint64_t *weights, size_t weighed, const uint64_t *share, size_t room) {
+    struct answer a = room_of(room);
+    uint8_t *lent = block(keys, strlen(keys)), *held = block(file, size);
+    uint64_t *places = (uint64_t *)block(ends, count * sizeof *ends);
+    uint64_t *numbers = (uint64_t *)block(weights, weighed * sizeof *weights);
+    if (call == CONDENSE)
+        a.status = heavy_condense_items(held, size, lent, strlen(keys), places, count, numbers, weighed, a.room, room,
+                                        &a.needed, &a.told);
+    else if (call == CONFIRM)
+        a.status = heavy_confirm_items(held, size, lent, strlen(keys), places, count, numbers, weighed, a.room, room,
+                                       &a.needed, &a.told);
+    else
+        a.status = heavy_confirm_items_above(held, size, lent, strlen(keys), places, count, numbers, weighed, share[0],
+                                             share[1], a.room, room, &a.needed, &a.told);
+    free(held);
+    free(lent);
+    free(places);
+    free(numbers);
+    return a;
+}
+
 static int told(const struct answer *a, uint32_t status, uint32_t kind, uint32_t cause, uint64_t number) {
     return a->status == status && a->needed == 0 && a->told.kind == kind && a->told.cause == cause
         && a->told.number == number && a->room[0] == 0xAA;
@@ -499,11 +525,51 @@ static void try_items(void) {
     a = add(none.room, 16, "ab", GAPS, 2, FIVE, 2, 64);
     check("the file before the items", told(&a, HEAVY_REFUSED, HEAVY_BAD_FILE, HEAVY_FILE_TRUNCATED, 1));
     free(a.room);
-    struct answer cells = table("a,5\n", 1, 1, 64);
-    a = add(cells.room, cells.needed, "ab", GAPS, 2, FIVE, 2, 64);
-    check("no items for a table", told(&a, HEAVY_REFUSED, HEAVY_NOT_COUNTERS, 0, 0));
+    free(none.room);
+}
+
+static struct answer empty_table(uint64_t width, uint64_t depth, uint64_t seed, size_t room) {
+    struct answer a = room_of(room);
+    a.status = heavy_empty_table(width, depth, seed, a.room, room, &a.needed, &a.told);
+    return a;
+}
+
+static void try_table_items(void) {
+    static const uint64_t ENDS[] = {1, 2, 3}, WEIGHTS[] = {5, 3, 2}, ZERO[] = {5, 0};
+    static const uint64_t MANY[] = {9223372036854775807u, 1};
+    size_t room = HEAVY_TABLE_ROOM(3, 2);
+    struct answer none = empty_table(3, 2, 0, room), of_none = table("", 3, 2, room);
+    check("a table of no items", of_none.status == HEAVY_DONE && gave(&none, of_none.room, of_none.needed));
+    struct answer a = empty_table(3, 2, 0, room - 1);
+    check("a table of no items in a small room", small(&a, room));
     free(a.room);
-    free(cells.room);
+    a = empty_table(3, 2, 1, room);
+    check("another seed, another family", a.status == HEAVY_DONE && memcmp(a.room, none.room, room) != 0);
+    free(a.room);
+    a = empty_table(0, 0, 0, 64);
+    check("no depth", told(&a, HEAVY_USAGE, HEAVY_BAD_DEPTH, 0, 0));
+    free(a.room);
+    a = empty_table(65537, 16, 0, 64);
+    check("a width too large", told(&a, HEAVY_USAGE, HEAVY_BAD_WIDTH, 0, 0));
+    free(a.room);
+    /* the table of all, added in two parts */
+    a = add(none.room, none.needed, "aba", ENDS, 3, WEIGHTS, 3, room);
+    struct answer both = add(a.room, a.needed, "c", ENDS, 1, NULL, 0, room);
+    struct answer whole = table("a,5\nb,3\na,2\nc\n", 3, 2, room);
+    check("items added to a table", a.status == HEAVY_DONE && gave(&both, whole.room, whole.needed));
+    free(both.room);
+    free(whole.room);
+    both = add(a.room, a.needed, "c", ENDS, 1, NULL, 0, room - 1);
+    check("a larger table in a small room", small(&both, room));
+    free(both.room);
+    free(a.room);
+    a = add(none.room, none.needed, "ab", ENDS, 2, ZERO, 2, room);
+    check("no weight for a table", told(&a, HEAVY_REFUSED, HEAVY_BAD_RECORD, HEAVY_RECORD_ZERO_WEIGHT, 2));
+    free(a.room);
+    a = add(none.room, none.needed, "ab", ENDS, 2, MANY, 2, room);
+    check("too much for a table", told(&a, HEAVY_REFUSED, HEAVY_BAD_RECORD, HEAVY_RECORD_TOTAL_TOO_LARGE, 2));
+    free(a.room);
+    free(of_none.room);
     free(none.room);
 }
 
@@ -523,6 +589,87 @@ static void try_long_items(void) {
     free(a.room);
     free(longest);
     free(none.room);
+}
+
+static void try_counted_items(void) {
+    static const uint64_t ENDS[] = {1, 2, 3, 4}, WEIGHTS[] = {1, 2, 4, 1}, THIRD[] = {1, 3}, HALF[] = {1, 2};
+    /* of the keys a and b: a weighs 1 + 4, b 2, and the last item, c, 1 */
+    struct answer a = of_items(CONDENSE, BYTES(ONE), "abac", ENDS, 4, WEIGHTS, 4, NULL, 17);
+    check("condensed items", gave(&a, BYTES("a,5\nb,2\nothers,1\n")));
+    free(a.room);
+    a = of_items(CONDENSE, BYTES(ONE), "abac", ENDS, 4, WEIGHTS, 4, NULL, 16);
+    check("condensed items in a small room", small(&a, 17));
+    free(a.room);
+    a = of_items(CONDENSE, BYTES(ONE), "abac", ENDS, 4, NULL, 0, NULL, 64);
+    check("condensed items of weight 1", gave(&a, BYTES("a,2\nb,1\nothers,1\n")));
+    free(a.room);
+    a = of_items(CONDENSE, BYTES(ONE), "", NULL, 0, NULL, 0, NULL, 0);
+    check("no items condensed", gave(&a, "", 0));
+    free(a.room);
+    /* of the total of 8 a has 5, which is above a third and above a half; b has 2 */
+    for (enum items_call call = CONFIRM; call <= CONFIRM_ABOVE; call++) {
+        a = of_items(call, BYTES(ONE), "abac", ENDS, 4, WEIGHTS, 4, THIRD, 4);
+        check("confirmed items", gave(&a, BYTES("a,5\n")));
+        free(a.room);
+        a = of_items(call, BYTES(ONE), "abac", ENDS, 4, WEIGHTS, 4, THIRD, 3);
+        check("confirmed items in a small room", small(&a, 4));
+        free(a.room);
+        a = of_items(call, BYTES(ONE), "abac", ENDS, 4, NULL, 0, THIRD, 64);
+        check("items of another total", told(&a, HEAVY_REFUSED, HEAVY_TOTAL_DIFFERS, 0, 0));
+        free(a.room);
+    }
+    /* a and b have 4 of 8 each: just a half is not above it */
+    static const uint64_t FOURS[] = {4, 4};
+    a = of_items(CONFIRM, BYTES(ONE), "ba", ENDS, 2, FOURS, 2, NULL, 64);
+    check("equal weights by rising key", gave(&a, BYTES("a,4\nb,4\n")));
+    free(a.room);
+    a = of_items(CONFIRM_ABOVE, BYTES(ONE), "ba", ENDS, 2, FOURS, 2, HALF, 64);
+    check("none above a half", gave(&a, "", 0));
+    free(a.room);
+    static const uint64_t LOW[] = {1, 4}, NONE[] = {0, 1}, WRONG[] = {2, 1};
+    const uint64_t *shares[] = {LOW, NONE, WRONG};
+    static const uint64_t ZEROS[] = {0, 0};
+    for (size_t i = 0; i < sizeof shares / sizeof *shares; i++) {
+        a = of_items(CONFIRM_ABOVE, BYTES(ONE), "ba", ENDS, 2, ZEROS, 2, shares[i], 64);
+        check("no share, before the items", told(&a, HEAVY_USAGE, HEAVY_BAD_THRESHOLD, 0, 0));
+        free(a.room);
+    }
+}
+
+static void try_refused_items(void) {
+    static const uint64_t ENDS[] = {1, 2}, GAPS[] = {1, 1}, FALLS[] = {2, 1}, BEHIND[] = {1, 3}, THIRD[] = {1, 3};
+    static const uint64_t FIVE[] = {5, 3}, ZERO[] = {5, 0}, MANY[] = {9223372036854775807u, 1};
+    struct {
+        const uint64_t *ends, *weights;
+        size_t weighed;
+        uint32_t status, kind, cause;
+        uint64_t number;
+    } rows[] = {
+        {FALLS, FIVE, 1, HEAVY_USAGE, HEAVY_BAD_END, 0, 2},
+        {BEHIND, FIVE, 1, HEAVY_USAGE, HEAVY_BAD_END, 0, 2},
+        {ENDS, FIVE, 1, HEAVY_USAGE, HEAVY_BAD_WEIGHT_COUNT, 0, 0},
+        {GAPS, ZERO, 2, HEAVY_REFUSED, HEAVY_BAD_RECORD, HEAVY_RECORD_EMPTY_KEY, 2},
+        {ENDS, ZERO, 2, HEAVY_REFUSED, HEAVY_BAD_RECORD, HEAVY_RECORD_ZERO_WEIGHT, 2},
+        {ENDS, MANY, 2, HEAVY_REFUSED, HEAVY_BAD_RECORD, HEAVY_RECORD_TOTAL_TOO_LARGE, 2},
+    };
+    struct answer cells = table("a,5\n", 1, 1, 64);
+    for (enum items_call call = CONDENSE; call <= CONFIRM_ABOVE; call++) {
+        for (size_t i = 0; i < sizeof rows / sizeof *rows; i++) {
+            struct answer a = of_items(call, BYTES(ONE), "ab", rows[i].ends, 2, rows[i].weights, rows[i].weighed, THIRD, 64);
+            check("counted items that are refused", told(&a, rows[i].status, rows[i].kind, rows[i].cause, rows[i].number));
+            free(a.room);
+        }
+        struct answer a = of_items(call, BYTES(ONE) - 1, "ab", FALLS, 2, FIVE, 2, THIRD, 64);
+        check("the ends before the file, counted", told(&a, HEAVY_USAGE, HEAVY_BAD_END, 0, 2));
+        free(a.room);
+        a = of_items(call, BYTES(ONE) - 1, "ab", GAPS, 2, FIVE, 2, THIRD, 64);
+        check("the file before the items, counted", told(&a, HEAVY_REFUSED, HEAVY_BAD_FILE, HEAVY_FILE_TRUNCATED, 1));
+        free(a.room);
+        a = of_items(call, cells.room, cells.needed, "ab", GAPS, 2, FIVE, 2, THIRD, 64);
+        check("no items counted by a table", told(&a, HEAVY_REFUSED, HEAVY_NOT_COUNTERS, 0, 0));
+        free(a.room);
+    }
+    free(cells.room);
 }
 
 /* The most that the header says is needed is needed, and no more. */
@@ -552,6 +699,9 @@ static void *many(void *unused) {
         static const uint64_t ENDS[] = {1, 2}, FIVE[] = {5, 3};
         struct answer none = empty(2, 17), sum = add(none.room, 17, "ab", ENDS, 2, FIVE, 2, sizeof ONE - 1);
         right = right && gave(&sum, BYTES(ONE));
+        struct answer part = of_items(CONDENSE, a.room, a.needed, "ab", ENDS, 2, FIVE, 2, NULL, 8);
+        right = right && gave(&part, BYTES("a,5\nb,3\n"));
+        free(part.room);
         free(none.room);
         free(sum.room);
         struct answer both = entries(a.room, a.needed, 2);
@@ -577,7 +727,10 @@ int main(void) {
     try_lists();
     try_thresholds();
     try_items();
+    try_table_items();
     try_long_items();
+    try_counted_items();
+    try_refused_items();
     try_rooms();
     check("the version", heavy_version() == HEAVY_VERSION);
     pthread_t threads[2];

@@ -31,19 +31,19 @@ void free(void *old) {
 }
 
 static const uint8_t TEXT[] = "a,5\nb,3\nc,2\na,1\n";
-static uint8_t summary[128], room[256], empty[17];
+static uint8_t summary[128], room[256], empty[17], cells[HEAVY_TABLE_ROOM(4, 2)];
 static size_t summary_len, needed;
 static uint64_t low, high;
 static struct heavy_fault told;
 static struct heavy_bounds bounds[3];
 static struct heavy_entry entries[3];
 
-enum { CALLS = 14 };
+enum { CALLS = 19 };
 
 static uint32_t call(int which) {
     const size_t lengths[] = {summary_len / 2, summary_len / 2}, ones[] = {1, 1, 30};
     static const uint8_t KEYS[] = "abzzzzzzzzzzzzzzzzzzzzzzzzzzzzzz";
-    static const uint64_t ENDS[] = {1, 2, 32}, WEIGHTS[] = {5, 3, 2};
+    static const uint64_t ENDS[] = {1, 2, 32}, WEIGHTS[] = {5, 3, 2}, ALL[] = {5, 3, 3};
     switch (which) {
     case 0: return heavy_summarise(TEXT, 16, 2, 1, room, sizeof room, &needed, &told);
     case 1: return heavy_summarise(TEXT, 16, 2, 2, room, sizeof room, &needed, &told);
@@ -58,7 +58,18 @@ static uint32_t call(int which) {
     case 10: return heavy_describe(summary, summary_len / 2, room, sizeof room, &needed, &told);
     case 11: return heavy_confirm_above(summary, summary_len / 2, TEXT, 16, 1, 3, room, sizeof room, &needed, &told);
     case 12: return heavy_empty(2, room, sizeof room, &needed, &told);
-    default: return heavy_add(empty, sizeof empty, KEYS, 32, ENDS, 3, WEIGHTS, 3, room, sizeof room, &needed, &told);
+    case 13: return heavy_add(empty, sizeof empty, KEYS, 32, ENDS, 3, WEIGHTS, 3, room, sizeof room, &needed, &told);
+    case 14:
+        return heavy_condense_items(summary, summary_len / 2, KEYS, 32, ENDS, 3, WEIGHTS, 3, room, sizeof room, &needed,
+                                    &told);
+    case 15:
+        return heavy_confirm_items(summary, summary_len / 2, KEYS, 32, ENDS, 3, ALL, 3, room, sizeof room, &needed,
+                                   &told);
+    case 16:
+        return heavy_confirm_items_above(summary, summary_len / 2, KEYS, 32, ENDS, 3, ALL, 3, 1, 3, room, sizeof room,
+                                         &needed, &told);
+    case 17: return heavy_empty_table(4, 2, 0, room, sizeof room, &needed, &told);
+    default: return heavy_add(cells, sizeof cells, KEYS, 32, ENDS, 3, WEIGHTS, 3, room, sizeof room, &needed, &told);
     }
 }
 
@@ -116,6 +127,7 @@ int main(void) {
     memcpy(summary + summary_len, summary, summary_len);
     summary_len *= 2;
     wrong += heavy_empty(2, empty, sizeof empty, &needed, &told) != HEAVY_DONE;
+    wrong += heavy_empty_table(4, 2, 0, cells, sizeof cells, &needed, &told) != HEAVY_DONE;
     for (int which = 0; which < CALLS; which++) {
         int met = refusals_of(which);
         wrong += met <= 0;

@@ -1,4 +1,5 @@
 pub mod AddFacts
+mod CountFacts
 pub mod FileFacts
 pub mod KeyFacts
 pub mod MergeFacts

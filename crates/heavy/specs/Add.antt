@@ -1,15 +1,18 @@
--- Items, added to a saved summary.
-use Rattle.std.specs.Prelude.{◌≡◌, ◌==◌, ◌+◌, not, nat_le, ℕ, List, [], ◌∷◌, ◌++◌, length, fold, Option, Some, None, Result, Ok, Err, if◌then◌else◌}
+-- Items, added to a saved summary or table.
+use Rattle.std.specs.Prelude.{◌≡◌, ◌==◌, ◌+◌, not, nat_le, ℕ, List, [], ◌∷◌, ◌++◌, length, fold, Option, Some, None, Result, Ok, if◌then◌else◌}
 use Rattle.hh_stream.specs.Weights.{Entry, max_key_len, max_total}
 use Rattle.hh_counters.specs.Counters.{SummaryView, sketch_of, sketch_with}
+use Rattle.hh_countmin.specs.Family.{Coefficients, drawn_family}
+use Rattle.hh_countmin.specs.Table.{TableView, grid_with, table_of}
 use Rattle.hh_records.specs.declared.records.BadRecordCause.TheVariants as cause
 use Rattle.hh_saved.specs.Spelling.{Spells}
 use Rattle.hh_saved.specs.declared.format.Version.TheVariants as version
 use Rattle.hh_saved.specs.declared.saved.Saved.{Saved}
 use Rattle.hh_saved.specs.declared.saved.Saved.TheVariants.{Counters, Cells}
 use Rattle.heavy.specs.Ask.{or_else, unless}
-use Rattle.heavy.specs.Files.{HoldsSummary, file_of, ◌>>=◌}
+use Rattle.heavy.specs.Files.{HoldsSummary, HoldsTable, file_of, ◌>>=◌}
 use Rattle.heavy.specs.Summarise.{bad_k}
+use Rattle.heavy.specs.Table.{bad_table}
 use Rattle.heavy.specs.declared.error.ToolError.{ToolError}
 use Rattle.heavy.specs.declared.error.ToolError.TheVariants as tool
 
@@ -31,31 +34,45 @@ bad_item n t (e ∷ es) = or_else (item_fault n t e) (bad_item (n + 1) (t + e.1)
 abbrev pub sketch_and : SummaryView → List Entry → SummaryView
 sketch_and s xs = fold sketch_with s xs
 
+-- a table with items added
+abbrev pub grid_and : TableView → List Entry → TableView
+grid_and t xs = fold grid_with t xs
+
+-- what the items of a saved value weigh
+abbrev pub total_in : Saved → ℕ
+total_in (Counters s) = s.total
+total_in (Cells t) = t.total
+
+-- a saved value with items added
+abbrev pub value_and : Saved → List Entry → Saved
+value_and (Counters s) xs = Counters (sketch_and s xs)
+value_and (Cells t) xs = Cells (grid_and t xs)
+
 -- the same, or the first fault of the items
-abbrev pub added_to : SummaryView → List Entry → Result SummaryView ToolError
-added_to s xs = unless (bad_item 1 s.total xs) (sketch_and s xs)
+abbrev pub added_to : Saved → List Entry → Result Saved ToolError
+added_to v xs = unless (bad_item 1 (total_in v) xs) (value_and v xs)
 
--- the summary that a value is
-abbrev pub counters_of : Saved → Result SummaryView ToolError
-counters_of (Counters s) = Ok s
-counters_of (Cells t) = Err tool.NotCounters
-
--- the summary of a file with items added, or the first refusal: of the file, of its kind, and of the items
-abbrev pub added : List ℕ → List Entry → Result SummaryView ToolError
+-- the value of a file with items added, or the first refusal: of the file, and of the items
+abbrev pub added : List ℕ → List Entry → Result Saved ToolError
 added file xs = do
   v ← file_of 1 file
-  s ← counters_of v
-  added_to s xs
+  added_to v xs
 
--- the bytes are the spelling in version 2 of the summary of a file with items added
+-- the bytes are the spelling in version 2 of the value of a file with items added
 abbrev pub IsAdded : List ℕ → List Entry → List ℕ → Type 0
-IsAdded file xs bytes = (s : SummaryView) × (added file xs ≡ Ok s) × Spells version.Two bytes (Counters s)
+IsAdded file xs bytes = (v : Saved) × (added file xs ≡ Ok v) × Spells version.Two bytes v
 
 -- where the file has the summary of a stream, the bytes have that of the stream followed by the items
 abbrev pub GoesOn : List ℕ → List Entry → List ℕ → Type 0
 GoesOn file xs bytes =
     (k : ℕ) (stream : List Entry) → HoldsSummary file (sketch_of k stream)
     → Spells version.Two bytes (Counters (sketch_of k (stream ++ xs)))
+
+-- and where it has the table of a stream, they have that of the stream followed by the items
+abbrev pub TableGoesOn : List ℕ → List Entry → List ℕ → Type 0
+TableGoesOn file xs bytes =
+    (family : Coefficients) (width : ℕ) (stream : List Entry) → HoldsTable file (table_of family width stream)
+    → Spells version.Two bytes (Cells (table_of family width (stream ++ xs)))
 
 -- the summary of no items, or the fault of its k
 abbrev pub empty_of : ℕ → Result SummaryView ToolError
@@ -64,3 +81,12 @@ empty_of k = unless (bad_k k) (sketch_of k [])
 -- the bytes are the spelling in version 2 of the summary of no items
 abbrev pub IsEmpty : ℕ → List ℕ → Type 0
 IsEmpty k bytes = (s : SummaryView) × (empty_of k ≡ Ok s) × Spells version.Two bytes (Counters s)
+
+-- the table of no items with the family of a seed, or the fault of its depth or width
+abbrev pub empty_table_of : ℕ → ℕ → ℕ → Result TableView ToolError
+empty_table_of width depth seed = unless (bad_table depth width) (table_of (drawn_family seed depth) width [])
+
+-- the bytes are the spelling in version 2 of the table of no items
+abbrev pub IsEmptyTable : ℕ → ℕ → ℕ → List ℕ → Type 0
+IsEmptyTable width depth seed bytes =
+    (t : TableView) × (empty_table_of width depth seed ≡ Ok t) × Spells version.Two bytes (Cells t)

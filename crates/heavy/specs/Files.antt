@@ -43,6 +43,10 @@ StopsAtHead n file (Err e) = (f : SavedFault) → head_at file ≡ Err f → e �
 abbrev pub HoldsSummary : List ℕ → SummaryView → Type 0
 HoldsSummary file s = saved_of file ≡ Ok (Counters s)
 
+-- the file holds this table
+abbrev pub HoldsTable : List ℕ → TableView → Type 0
+HoldsTable file t = saved_of file ≡ Ok (Cells t)
+
 -- what a refusal to read a summary tells: of the file, and of its kind
 abbrev pub SummaryRefused : List ℕ → ToolError → Type 0
 SummaryRefused file (tool.BadFile n f) = (n ≡ 1) × (saved_of file ≡ Err f)

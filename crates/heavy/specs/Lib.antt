@@ -3,6 +3,7 @@ pub mod Ask
 pub mod Condense
 pub mod Confirm
 pub mod ConfirmShare
+pub mod CountItems
 pub mod Describe
 pub mod Entries
 pub mod Files

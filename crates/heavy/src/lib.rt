@@ -5,6 +5,7 @@ mod commands;
 mod counting;
 mod error;
 mod files;
+mod items;
 mod layouts;
 pub mod laws;
 
@@ -15,8 +16,10 @@ pub use commands::confirm::{
     ConfirmFault, Totals, confirm, confirm_above, confirm_bytes, confirm_rows,
 };
 pub use commands::confirm_share::confirm_share;
+pub use commands::count_items::{condense_items, confirm_items};
 pub use commands::describe::describe_file;
 pub use commands::entries::list_entries;
+pub use commands::grow_table::empty_table;
 pub use commands::list::list_keys;
 pub use commands::merge::merge_bytes;
 pub use commands::report::{ReportOptions, Tree, report_rows, run_report};

@@ -1,7 +1,7 @@
 -- Items whose keys lie in one slice, one behind the other.
 use Rattle.std.specs.Prelude.{◌+◌, ◌-◌, ◌==◌, ◌&&◌, ◌||◌, nat_le, ℕ, List, [], ◌∷◌, length, take, drop, slice_index_or, Option, Some, None, if◌then◌else◌}
 use Rattle.hh_stream.specs.Weights.{Entry}
-use Rattle.heavy.specs.Add.{GoesOn, IsAdded}
+use Rattle.heavy.specs.Add.{GoesOn, IsAdded, TableGoesOn}
 use Rattle.heavy_ffi.specs.declared.fault.Fault.{Fault}
 
 -- the items of keys that are the front of these bytes and end there, where the one before them ends
@@ -40,7 +40,8 @@ told_shape None count weights =
 abbrev pub shape_fault : ℕ → List ℕ → List ℕ → Option Fault
 shape_fault len ends weights = told_shape (bad_end 1 0 len ends) (length ends) (length weights)
 
--- the bytes are the summary of the file with the items added, and go on from a stream's
+-- the bytes are the summary or table of the file with the items added, and go on from a stream's
 pub record AddsItems (file : List ℕ) (xs : List Entry) (bytes : List ℕ) : Type 0 where
   pub added : IsAdded file xs bytes
   pub stream : GoesOn file xs bytes
+  pub table : TableGoesOn file xs bytes

@@ -15,17 +15,18 @@ ghost use Rattle.hh_stream.specs.Cuttings.{pieces_of};
 ghost use Rattle.hh_stream.specs.Weights.{max_key_len};
 ghost use Rattle.hh_counters.specs.Counters.{SummaryView, sketch_of};
 ghost use Rattle.hh_countmin.specs.Family.{drawn_family};
-ghost use Rattle.hh_countmin.specs.Table.{table_of};
+ghost use Rattle.hh_countmin.specs.Table.{TableView, table_of};
 ghost use Rattle.hh_saved.specs.Sizes.{most_summary_bytes, table_bytes};
 ghost use Rattle.hh_saved.specs.declared.saved.Saved.TheVariants.{Cells, Counters};
-ghost use Rattle.heavy.specs.Add.{IsEmpty, added, empty_of};
+ghost use Rattle.heavy.specs.Add.{IsEmpty, IsEmptyTable, added, empty_of, empty_table_of};
 ghost use Rattle.heavy.specs.Ask.{answer, answers_of};
 ghost use Rattle.heavy.specs.Condense.{CondenseRefused, CondensesRows};
 ghost use Rattle.heavy.specs.Confirm.{ConfirmRefused, ConfirmsRows};
 ghost use Rattle.heavy.specs.ConfirmShare.{ConfirmShareRefused, ConfirmsShare};
+ghost use Rattle.heavy.specs.CountItems.{condensed_items, confirmed_items};
 ghost use Rattle.heavy.specs.Describe.{description};
 ghost use Rattle.heavy.specs.Entries.{ListsEntries};
-ghost use Rattle.heavy.specs.Files.{HoldsSummary, Refuses, StopsAtHead, SummaryRefused, file_of};
+ghost use Rattle.heavy.specs.Files.{HoldsSummary, HoldsTable, Refuses, StopsAtHead, SummaryRefused, file_of};
 ghost use Rattle.heavy.specs.List.{ListsKeys};
 ghost use Rattle.heavy.specs.Merge.{merged_files};
 ghost use Rattle.heavy.specs.Records.{RefusedAfter, SavesStream};
@@ -39,9 +40,9 @@ ghost use Rattle.heavy_ffi.specs.Outcomes.{TellsFault, TellsHead, bad_summary, b
 pub use fault::Fault;
 use fault::tell;
 use heavy::{
-    Method, Place, ToolError, add_items, ask_key, ask_keys, condense_bytes, confirm_bytes,
-    confirm_share, describe_file, empty_summary, list_entries, list_keys, merge_bytes,
-    summary_bytes, table_bytes,
+    Method, Place, ToolError, add_items, ask_key, ask_keys, condense_bytes, condense_items,
+    confirm_bytes, confirm_items, confirm_share, describe_file, empty_summary, empty_table,
+    list_entries, list_keys, merge_bytes, summary_bytes, table_bytes,
 };
 use hh_counters::laws::summaries_follow_items;
 use hh_countmin::laws::drawn_families_are_families;
@@ -115,7 +116,7 @@ pub extern "C" fn heavy_empty(
     answer(bytes, out, needed, fault)
 }
 
-/// A saved summary with items added, whose keys end there.
+/// A saved summary or table with items added, whose keys end there.
 fn sum_of(
     alloc: Global,
     file: &[u8],
@@ -135,10 +136,10 @@ fn sum_of(
     }
 }
 
-/// Gives the saved summary of a saved file with items added, in order. Their keys lie one behind the
-/// other, each from the end of the one before it to its own; their weights are these, or 1 each
-/// where there are none. The ends are tested first, then the number of the weights, then the file,
-/// then its kind, then the items in order.
+/// Gives the saved summary or table of a saved file with items added, in order. Their keys lie one
+/// behind the other, each from the end of the one before it to its own; their weights are these, or
+/// 1 each where there are none. The ends are tested first, then the number of the weights, then the
+/// file, then the items in order.
 #[unsafe(no_mangle)]
 pub extern "C" fn heavy_add(
     alloc: Global,
@@ -161,6 +162,8 @@ pub extern "C" fn heavy_add(
     ensures no_bytes { result ≢ 0 → result ≢ 5 → needed.new ≡ 0 }
     ensures enough { (s : SummaryView) → HoldsSummary file.now s
         → most_summary_bytes s.k max_key_len ≤ length out.old → result ≢ 5 }
+    ensures enough_table { (t : TableView) → HoldsTable file.now t
+        → table_bytes t.width (length t.family.rows) ≤ length out.old → result ≢ 5 }
 {
     if let Some(shape) = shape_fault(keys.len(), ends, weights) {
         *needed = 0;
@@ -169,6 +172,31 @@ pub extern "C" fn heavy_add(
     }
     sizes_are_bounded();
     let bytes = sum_of(alloc, file, keys, ends, weights);
+    answer(bytes, out, needed, fault)
+}
+
+/// Gives the saved Count-Min table of no items, with the hash family that is drawn from the seed. The
+/// depth is tested first, then the width.
+#[unsafe(no_mangle)]
+pub extern "C" fn heavy_empty_table(
+    alloc: Global,
+    width: u64,
+    depth: u64,
+    seed: u64,
+    out: &mut [u8],
+    needed: &mut usize,
+    fault: &mut Fault,
+) -> u32
+    ensures outcome { IsOutcome
+        (IsEmptyTable width depth seed) (Refuses (empty_table_of width depth seed))
+        result out.old out.new needed.new fault.new }
+    ensures bad_table { IfSome (bad_table depth width) (IsTold result fault.new) }
+    ensures no_bytes { result ≢ 0 → result ≢ 5 → needed.new ≡ 0 }
+    ensures exact { (result ≡ 0) ⊎ (result ≡ 5) → needed.new ≡ table_bytes width depth }
+{
+    sizes_are_bounded();
+    drawn_families_are_families();
+    let bytes = empty_table(alloc, width, depth, seed);
     answer(bytes, out, needed, fault)
 }
 
@@ -352,6 +380,150 @@ pub extern "C" fn heavy_condense(
     ensures no_bytes { result ≢ 0 → result ≢ 5 → needed.new ≡ 0 }
 {
     let bytes = condense_bytes(alloc, file, text);
+    answer(bytes, out, needed, fault)
+}
+
+/// The condensed rows of items, whose keys end there.
+fn condensed_of(
+    alloc: Global,
+    file: &[u8],
+    keys: &[u8],
+    ends: &[u64],
+    weights: &[u64],
+) -> Result<Vec<u8>, ToolError>
+    ensures rows { IfOk result (λ rows.
+        condensed_items file.now (items_of keys.now ends.now weights.now) ≡ Ok rows.items) }
+    ensures refused { IfErr result
+        (Refuses (condensed_items file.now (items_of keys.now ends.now weights.now))) }
+    ensures early { StopsAtHead 1 file.now result }
+{
+    match items_of(alloc, keys, ends, weights) {
+        Ok(items) => condense_items(alloc, file, &items),
+        Err(_) => Err(refusal_of(alloc, file)),
+    }
+}
+
+/// Gives what `heavy_condense` gives, of items in memory in place of a text's records. The items lie
+/// as `heavy_add` takes them. The ends are tested first, then the number of the weights, then the
+/// file, then its kind, then the items in order, of any total.
+#[unsafe(no_mangle)]
+pub extern "C" fn heavy_condense_items(
+    alloc: Global,
+    file: &[u8],
+    keys: &[u8],
+    ends: &[u64],
+    weights: &[u64],
+    out: &mut [u8],
+    needed: &mut usize,
+    fault: &mut Fault,
+) -> u32
+    ensures outcome { shape_fault (length keys.now) ends.now weights.now ≡ None → IsOutcome
+        (λ rows. condensed_items file.now (items_of keys.now ends.now weights.now) ≡ Ok rows)
+        (Refuses (condensed_items file.now (items_of keys.now ends.now weights.now)))
+        result out.old out.new needed.new fault.new }
+    ensures shape { IfSome (shape_fault (length keys.now) ends.now weights.now) (λ shape.
+        (result ≡ 2) × (fault.new ≡ shape) × (out.new ≡ out.old)) }
+    ensures early { shape_fault (length keys.now) ends.now weights.now ≡ None
+        → TellsHead file.now result fault.new }
+    ensures no_bytes { result ≢ 0 → result ≢ 5 → needed.new ≡ 0 }
+{
+    if let Some(shape) = shape_fault(keys.len(), ends, weights) {
+        *needed = 0;
+        *fault = shape;
+        return USAGE;
+    }
+    let bytes = condensed_of(alloc, file, keys, ends, weights);
+    answer(bytes, out, needed, fault)
+}
+
+/// The rows of a summary's keys above a share of items, whose keys end there.
+fn confirmed_of(
+    alloc: Global,
+    file: &[u8],
+    share: Option<(u64, u64)>,
+    keys: &[u8],
+    ends: &[u64],
+    weights: &[u64],
+) -> Result<Vec<u8>, ToolError>
+    ensures rows { IfOk result (λ rows.
+        confirmed_items share file.now (items_of keys.now ends.now weights.now) ≡ Ok rows.items) }
+    ensures refused { IfErr result
+        (Refuses (confirmed_items share file.now (items_of keys.now ends.now weights.now))) }
+    ensures early { StopsAtHead 1 file.now result }
+{
+    match items_of(alloc, keys, ends, weights) {
+        Ok(items) => confirm_items(alloc, file, share, &items),
+        Err(_) => Err(refusal_of(alloc, file)),
+    }
+}
+
+/// Gives what `heavy_confirm` gives, over items in memory in place of a text's records. The items lie
+/// as `heavy_add` takes them. The ends are tested first, then the number of the weights, then the
+/// file, then its kind, then the items in order, then the totals.
+#[unsafe(no_mangle)]
+pub extern "C" fn heavy_confirm_items(
+    alloc: Global,
+    file: &[u8],
+    keys: &[u8],
+    ends: &[u64],
+    weights: &[u64],
+    out: &mut [u8],
+    needed: &mut usize,
+    fault: &mut Fault,
+) -> u32
+    ensures outcome { shape_fault (length keys.now) ends.now weights.now ≡ None → IsOutcome
+        (λ rows. confirmed_items None file.now (items_of keys.now ends.now weights.now) ≡ Ok rows)
+        (Refuses (confirmed_items None file.now (items_of keys.now ends.now weights.now)))
+        result out.old out.new needed.new fault.new }
+    ensures shape { IfSome (shape_fault (length keys.now) ends.now weights.now) (λ shape.
+        (result ≡ 2) × (fault.new ≡ shape) × (out.new ≡ out.old)) }
+    ensures early { shape_fault (length keys.now) ends.now weights.now ≡ None
+        → TellsHead file.now result fault.new }
+    ensures no_bytes { result ≢ 0 → result ≢ 5 → needed.new ≡ 0 }
+{
+    if let Some(shape) = shape_fault(keys.len(), ends, weights) {
+        *needed = 0;
+        *fault = shape;
+        return USAGE;
+    }
+    let bytes = confirmed_of(alloc, file, None, keys, ends, weights);
+    answer(bytes, out, needed, fault)
+}
+
+/// Gives what `heavy_confirm_above` gives, over items in memory in place of a text's records. The
+/// items lie as `heavy_add` takes them. The ends are tested first, then the number of the weights,
+/// then the file, then its kind, then p/q, then the items in order, then the totals.
+#[unsafe(no_mangle)]
+pub extern "C" fn heavy_confirm_items_above(
+    alloc: Global,
+    file: &[u8],
+    keys: &[u8],
+    ends: &[u64],
+    weights: &[u64],
+    p: u64,
+    q: u64,
+    out: &mut [u8],
+    needed: &mut usize,
+    fault: &mut Fault,
+) -> u32
+    ensures outcome { shape_fault (length keys.now) ends.now weights.now ≡ None → IsOutcome
+        (λ rows. confirmed_items (Some (p, q)) file.now
+        (items_of keys.now ends.now weights.now) ≡ Ok rows)
+        (Refuses (confirmed_items (Some (p, q)) file.now
+        (items_of keys.now ends.now weights.now)))
+        result out.old out.new needed.new fault.new }
+    ensures shape { IfSome (shape_fault (length keys.now) ends.now weights.now) (λ shape.
+        (result ≡ 2) × (fault.new ≡ shape) × (out.new ≡ out.old)) }
+    ensures early { shape_fault (length keys.now) ends.now weights.now ≡ None
+        → TellsHead file.now result fault.new }
+    ensures no_bytes { result ≢ 0 → result ≢ 5 → needed.new ≡ 0 }
+{
+    if let Some(shape) = shape_fault(keys.len(), ends, weights) {
+        *needed = 0;
+        *fault = shape;
+        return USAGE;
+    }
+    let bytes = confirmed_of(alloc, file, Some((p, q)), keys, ends, weights);
     answer(bytes, out, needed, fault)
 }
 

@@ -1,16 +1,19 @@
-//! Summaries that begin empty, and grow by items.
+//! Summaries that begin empty, and saved files that grow by items.
 
 ghost use Rattle.std.specs.Prelude.{◌≡◌, IfErr, IfOk, IfSome, OnOk, Ok, Err, None, map};
-ghost use Rattle.heavy.specs.Add.{GoesOn, IsAdded, IsEmpty, added, added_to, bad_item, empty_of, item_fault, sketch_and};
+ghost use Rattle.heavy.specs.Add.{GoesOn, IsAdded, IsEmpty, TableGoesOn, added, added_to, empty_of, item_fault};
 ghost use Rattle.heavy.specs.Ask.{unless};
 ghost use Rattle.heavy.specs.Files.{Refuses, StopsAtHead};
 ghost use Rattle.heavy.specs.Summarise.{bad_k};
 ghost use Rattle.hh_counters.specs.Counters.{sketch_with};
+ghost use Rattle.hh_saved.specs.declared.saved.Saved.TheVariants.{Counters};
 
+use crate::commands::grow_table::table_with_items;
 use crate::error::ToolError;
-use crate::files::summary_in;
+use crate::files::file_of;
 use hh_counters::laws::summaries_follow_items;
 use hh_counters::{AddFault, MAX_K, Summary};
+use hh_countmin::laws::tables_follow_items;
 use hh_records::BadRecordCause;
 use hh_saved::{Saved, write};
 use hh_stream::{MAX_KEY_LEN, in_range};
@@ -57,9 +60,10 @@ fn add_item(summary: &mut Summary, number: u64, key: &[u8], weight: u64) -> Resu
 /// A summary with items added, in order.
 fn with_items(mut summary: Summary, items: &[(&[u8], u64)]) -> Result<Summary, ToolError>
     ensures added { IfOk result (λ all.
-        added_to summary (map (λ item. (item.0.now, item.1)) items.now) ≡ Ok all) }
+        added_to (Counters summary) (map (λ item. (item.0.now, item.1)) items.now)
+        ≡ Ok (Counters all)) }
     ensures refused { IfErr result (Refuses
-        (added_to summary (map (λ item. (item.0.now, item.1)) items.now))) }
+        (added_to (Counters summary) (map (λ item. (item.0.now, item.1)) items.now))) }
 {
     for i in 0..items.len() {
         let (key, weight) = items[i];
@@ -68,25 +72,47 @@ fn with_items(mut summary: Summary, items: &[(&[u8], u64)]) -> Result<Summary, T
     Ok(summary)
 }
 
-/// The saved summary of a saved file with items added, in order, each a key and its weight: to each
-/// the step of Misra and Gries is made. So where the file has the summary of a stream, as it was
-/// read or as others were added before, the result has that of the stream followed by the items.
+/// A saved value with items added, in order.
+fn value_with_items(saved: Saved, items: &[(&[u8], u64)]) -> Result<Saved, ToolError>
+    ensures added { IfOk result (λ all.
+        added_to saved (map (λ item. (item.0.now, item.1)) items.now) ≡ Ok all) }
+    ensures refused { IfErr result (Refuses
+        (added_to saved (map (λ item. (item.0.now, item.1)) items.now))) }
+{
+    match saved {
+        Saved::Counters(summary) => match with_items(summary, items) {
+            Ok(all) => Ok(Saved::Counters(all)),
+            Err(fault) => Err(fault),
+        },
+        Saved::Cells(table) => match table_with_items(table, items) {
+            Ok(all) => Ok(Saved::Cells(all)),
+            Err(fault) => Err(fault),
+        },
+    }
+}
+
+/// The saved summary or table of a saved file with items added, in order, each a key and its
+/// weight: to each the step of Misra and Gries is made, or a weight is added to one cell of each
+/// row. So where the file has the summary or table of a stream, as it was read or as others were
+/// added before, the result has that of the stream followed by the items.
 ///
-/// The file is tested first ([`ToolError::BadFile`], as file 1), then its kind
-/// ([`ToolError::NotCounters`]), and then the items in order, numbered from 1
-/// ([`ToolError::BadRecord`]): a key has 1 to 4,096 bytes, a weight is at least 1, and the total at
-/// most 2^63 - 1.
+/// The file is tested first ([`ToolError::BadFile`], as file 1), and then the items in order,
+/// numbered from 1 ([`ToolError::BadRecord`]): a key has 1 to 4,096 bytes, a weight is at least 1,
+/// and the total at most 2^63 - 1.
 pub fn add_items(alloc: Global, file: &[u8], items: &[(&[u8], u64)]) -> Result<Vec<u8>, ToolError>
     ensures saved { IfOk result (λ bytes.
         IsAdded file.now (map (λ item. (item.0.now, item.1)) items.now) bytes.items) }
     ensures stream { IfOk result (λ bytes.
         GoesOn file.now (map (λ item. (item.0.now, item.1)) items.now) bytes.items) }
+    ensures table { IfOk result (λ bytes.
+        TableGoesOn file.now (map (λ item. (item.0.now, item.1)) items.now) bytes.items) }
     ensures refused { IfErr result (Refuses
         (added file.now (map (λ item. (item.0.now, item.1)) items.now))) }
     ensures early { StopsAtHead 1 file.now result }
 {
     summaries_follow_items();
-    let summary = summary_in(alloc, file)?;
-    let summary = with_items(summary, items)?;
-    Ok(write(alloc, &Saved::Counters(summary))?)
+    tables_follow_items();
+    let saved = file_of(alloc, 1, file)?;
+    let all = value_with_items(saved, items)?;
+    Ok(write(alloc, &all)?)
 }

@@ -61,7 +61,7 @@ fn total_of(rows: &[Heavy]) -> u64
 }
 
 /// The rows of counted items, condensed.
-fn condensed_rows(
+pub(crate) fn condensed_rows(
     alloc: Global,
     summary: &Summary,
     counts: &Counts,

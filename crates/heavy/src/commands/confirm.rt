@@ -76,7 +76,12 @@ pub fn confirm(
 }
 
 /// The keys of a summary above p/q of the total of the items that were counted.
-fn rows_above(summary: &Summary, counts: &Counts, p: u64, q: u64) -> Result<Vec<Heavy>, AllocError>
+pub(crate) fn rows_above(
+    summary: &Summary,
+    counts: &Counts,
+    p: u64,
+    q: u64,
+) -> Result<Vec<Heavy>, AllocError>
     requires { IsShare p q }
     ensures { IfOk result (λ rows. (xs : List Entry)
         → counts.now ≡ count_of (keys_of summary.now.counters) xs

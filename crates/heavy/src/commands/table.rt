@@ -20,7 +20,12 @@ use std::alloc::{AllocError, Global};
 use std::io::Read;
 
 /// The table of no items, with the family that is drawn from the seed.
-fn empty_table(alloc: Global, width: u64, depth: u64, seed: u64) -> Result<Table, AllocError>
+pub(crate) fn drawn_table(
+    alloc: Global,
+    width: u64,
+    depth: u64,
+    seed: u64,
+) -> Result<Table, AllocError>
     requires depth { in_range depth max_depth ≡ true }
     requires width { in_range width max_width ≡ true }
     ensures { IfOk result (λ table. table ≡ empty_table (drawn_family seed depth) width) }
@@ -72,7 +77,7 @@ pub fn table_bytes_from<R: Read + Drop>(
         return Err(ToolError::BadWidth);
     }
     tables_follow_items();
-    let table = empty_table(alloc, width, depth, seed)?;
+    let table = drawn_table(alloc, width, depth, seed)?;
     let table = read_records(alloc, records, table)?;
     Ok(write(alloc, &Saved::Cells(table))?)
 }

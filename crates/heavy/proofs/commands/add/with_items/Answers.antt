@@ -7,7 +7,7 @@ pub returns-in_err-add_item-clause-refused : goal.returns-in_err-add_item-clause
 returns-in_err-add_item-clause-refused c =
     let p = err_from_is_err_and c.from_residual.result c.from_residual.ensures.1 in
     rw (p.1, p.2) (items_stop (λ item. (item.0.now, item.1)) c.args.items.now c.loop-i.i _ _ refl c.loop-i-test.true
-    c.loop-i.summary _ c.loop-i.invariant.0 _ c.in_err-add_item.field-0.0 c.in_err-add_item.ensures.refused)
+    _ _ c.loop-i.invariant.0 c.loop-i.summary _ c.in_err-add_item.field-0.0 c.in_err-add_item.ensures.refused)
 
 pub loop-i-preserved : goal.loop-i-preserved
 loop-i-preserved c =
@@ -15,8 +15,7 @@ loop-i-preserved c =
     let test = c.loop-i-test.true in
     let so_far = c.loop-i.invariant in
     rw e.added (
-      items_go_on (λ item. (item.0.now, item.1)) c.args.items.now c.loop-i.i _ _ refl test c.loop-i.summary _ so_far.0
-          e.passes,
+      items_go_on (λ item. (item.0.now, item.1)) c.args.items.now c.loop-i.i _ _ refl test _ _ so_far.0 e.passes,
       sums_go_on (λ item. (item.0.now, item.1)) c.args.items.now c.loop-i.i _ _ refl test c.loop-i.summary so_far.1,
     )
 
