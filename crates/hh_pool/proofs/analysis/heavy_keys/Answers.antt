@@ -8,7 +8,7 @@ use Rattle.hh_pool.proofs.analysis.heavy_keys.Goals as goal
 
 pub returns : goal.returns
 returns g c =
-    let stream = c.args.stream.now in
+    let stream = c.args.work.now.stream.now in
     let keys = c.in_ok-candidates.candidates in
     let asked = c.threshold-p.ensures in
     let filled = c.requires.table in
