@@ -142,8 +142,8 @@ impl<'a, G: Gate> FirstPass<'a, G> {
         mut found: Vec<(usize, Summary)>,
     ) -> Result<Vec<Summary>, AllocError>
         requires { AreSummaries self.now.options.now.k (pieces_in self.now.work.now) found.items }
-        ensures { IfOk result (λ summaries.
-            summaries.items ≡ map (sketch_of self.now.options.now.k) (pieces_in self.now.work.now)) }
+        ensures { let pieces = pieces_in self.now.work.now in IfOk result (λ summaries.
+            summaries.items ≡ map (sketch_of self.now.options.now.k) pieces) }
     {
         found.sort_unstable_by(|a, b| a.0.cmp(&b.0));
         let mut summaries = Vec::new(self.work.alloc);

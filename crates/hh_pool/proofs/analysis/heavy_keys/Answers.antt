@@ -1,5 +1,4 @@
-use Rattle.std.proofs.Common.{◌≡◌, ◌∙◌, List, sym, subst}
-use Rattle.std.specs.Prelude.{zip, IfOk}
+use Rattle.std.proofs.Common.{◌≡◌, ◌∙◌, List, sym, subst, zip, IfOk}
 use Rattle.hh_stream.specs.Weights.{Entry}
 use Rattle.hh_counters.specs.Report.{rows_above}
 use Rattle.hh_countmin.specs.Table.{table_of}

@@ -1,5 +1,4 @@
-use Rattle.std.proofs.Common.{◌≡◌, ◌≤◌, ◌<◌, ◌∙◌, ℕ, get_or, refl, arith}
-use Rattle.std.specs.Prelude.{IfOk, Result, Ok, Err, vec_len}
+use Rattle.std.proofs.Common.{◌≡◌, ◌≤◌, ◌<◌, ◌∙◌, ℕ, get_or, refl, arith, IfOk, Result, Ok, Err, vec_len}
 use Rattle.hh_stream.specs.Weights.{total_of, max_total}
 use Rattle.hh_stream.specs.Cuttings.{pieces_of}
 use Rattle.hh_shared.specs.Tally.{sum_at}
