@@ -1,7 +1,6 @@
 -- Condensed entries have the total and the weights of the keys with counters, and under a name that is no key of them
 -- what is left.
-use Rattle.std.proofs.Common.{◌≡◌, ℕ, zero, suc, ◌+◌, ◌-◌, ◌*◌, ◌<◌, ◌≤◌, ◌⊎◌, inl, inr, ⊎_elim, true, false, List, [], ◌∷◌, length, drop, map, Some, refl, sym, ap, ◌∙◌, subst, true≢false, arith}
-use Rattle.std.specs.Prelude.{filter, nat_lt, All, IsSome, IsPermutation, Contains}
+use Rattle.std.proofs.Common.{◌≡◌, ℕ, zero, suc, ◌+◌, ◌-◌, ◌*◌, ◌<◌, ◌≤◌, ◌⊎◌, inl, inr, ⊎_elim, true, false, List, [], ◌∷◌, length, drop, map, Some, refl, sym, ap, ◌∙◌, subst, true≢false, arith, filter, nat_lt, All, IsSome, IsPermutation, Contains}
 use Rattle.std.specs.List.{AllByRecursion, IsDistinct, list_any, flat_map}
 use Rattle.std.specs.Map.{lookup}
 use Rattle.std.specs.Cmp.{eq_by_cmp_equiv}

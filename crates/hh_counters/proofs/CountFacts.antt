@@ -1,6 +1,5 @@
 -- Counts after some more items.
-use Rattle.std.proofs.Common.{◌≡◌, ◌<◌, ◌≤◌, ◌+◌, ◌++◌, ◌∷◌, ◌∙◌, ℕ, List, [], cond, length, take, drop, get_or, true, false, append-nil, ap, sym, arith}
-use Rattle.std.specs.Prelude.{All, filter, nat_lt, replicate, zip}
+use Rattle.std.proofs.Common.{◌≡◌, ◌<◌, ◌≤◌, ◌+◌, ◌++◌, ◌∷◌, ◌∙◌, ℕ, List, [], cond, length, take, drop, get_or, true, false, append-nil, ap, sym, arith, All, filter, nat_lt, replicate, zip}
 use Rattle.std.proofs.lemmas.Bool.Decides.{nat_tests}
 use Rattle.std.proofs.lemmas.List.Elements.{filter_more}
 use Rattle.std.proofs.lemmas.Slice.Zip.{get_or-zip, length-zip}

@@ -1,6 +1,5 @@
 -- Candidates counted item by item.
-use Rattle.std.proofs.Common.{◌≡◌, ◌↔◌, ℕ, zero, suc, ◌+◌, ◌<◌, ◌≤◌, Bool, true, false, cond, List, [], ◌∷◌, ◌++◌, length, get_or, take, Option, Some, None, Less, is_eq, is_some, refl, sym, ap, ap₂, ◌∙◌, subst, true≢false, append-nil, arith}
-use Rattle.std.specs.Prelude.{All, filter, replicate, position, slice_get, slice_set, Contains, IsSome}
+use Rattle.std.proofs.Common.{◌≡◌, ◌↔◌, ℕ, zero, suc, ◌+◌, ◌<◌, ◌≤◌, Bool, true, false, cond, List, [], ◌∷◌, ◌++◌, length, get_or, take, Option, Some, None, Less, is_eq, is_some, refl, sym, ap, ap₂, ◌∙◌, subst, true≢false, append-nil, arith, All, filter, replicate, position, slice_get, slice_set, Contains, IsSome}
 use Rattle.std.specs.List.{AllByRecursion, list_any}
 use Rattle.std.specs.List.Sorted.{IsStrictlySortedBy}
 use Rattle.std.specs.Map.{keys_of}

@@ -1,6 +1,5 @@
 -- The level, and what a cut takes.
-use Rattle.std.proofs.Common.{◌≡◌, ℕ, suc, ◌+◌, ◌-◌, ◌*◌, ◌<◌, ◌≤◌, ◌⊎◌, inl, inr, ⊎_elim, Bool, true, false, cond, min, max, List, [], ◌∷◌, ◌++◌, length, get_or, map, Less, refl, sym, ap, ◌∙◌, subst, mul-one, mul-zero, mul-add, arith}
-use Rattle.std.specs.Prelude.{filter, fold, count_by, nat_lt, nat_le, IsPermutation}
+use Rattle.std.proofs.Common.{◌≡◌, ℕ, suc, ◌+◌, ◌-◌, ◌*◌, ◌<◌, ◌≤◌, ◌⊎◌, inl, inr, ⊎_elim, Bool, true, false, cond, min, max, List, [], ◌∷◌, ◌++◌, length, get_or, map, Less, refl, sym, ap, ◌∙◌, subst, mul-one, mul-zero, mul-add, arith, filter, fold, count_by, nat_lt, nat_le, IsPermutation}
 use Rattle.std.specs.List.{AllByRecursion}
 use Rattle.std.specs.List.Sorted.{IsStrictlySortedBy, IsSplitAround}
 use Rattle.std.specs.Ordering.{nat_cmp}

@@ -1,6 +1,5 @@
 -- Where a search among counters ends, and what an edit at that place does.
-use Rattle.std.proofs.Common.{◌≡◌, ℕ, zero, suc, ◌+◌, ◌<◌, ◌≤◌, [], ◌∷◌, length, get_or, false, Less, Greater, is_lt, Result, Ok, Err, IfOk, IfErr, refl, sym, ap, ◌∙◌, arith}
-use Rattle.std.specs.Prelude.{slice_index_or, HoldsAt, slice_set}
+use Rattle.std.proofs.Common.{◌≡◌, ℕ, zero, suc, ◌+◌, ◌<◌, ◌≤◌, [], ◌∷◌, length, get_or, false, Less, Greater, is_lt, Result, Ok, Err, IfOk, IfErr, refl, sym, ap, ◌∙◌, arith, slice_index_or, HoldsAt, slice_set}
 use Rattle.std.specs.List.{AllByRecursion, AllWithin, insert}
 use Rattle.std.specs.List.Sorted.{IsStrictlySortedBy, IsNonDecreasingBy, IsSearchInRange, IsBinarySearchResult}
 use Rattle.std.specs.Map.{keys_of}

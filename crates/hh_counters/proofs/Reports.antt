@@ -1,6 +1,5 @@
 -- The report holds exactly the heavy keys, in order, and each of them has a counter in honest counters.
-use Rattle.std.proofs.Common.{◌≡◌, ℕ, suc, ◌+◌, ◌*◌, ◌<◌, ◌≤◌, ⊎_elim, Bool, true, false, true≢false, not, cond, List, [], ◌∷◌, length, Ordering, Less, Equal, Greater, is_lt, is_eq, nat_cmp, refl, sym, ap, ap₂, ◌∙◌, subst, mul_comm, mul_assoc, mul-le-mul_left, mul-le-mul_right, mul-zero, arith}
-use Rattle.std.specs.Prelude.{map, fold, filter, nat_lt, zip, get_or, take, ◌++◌, ◌↔◌, Contains, IsPermutation, IsSortedBy, All}
+use Rattle.std.proofs.Common.{◌≡◌, ℕ, suc, ◌+◌, ◌*◌, ◌<◌, ◌≤◌, ⊎_elim, Bool, true, false, true≢false, not, cond, List, [], ◌∷◌, length, Ordering, Less, Equal, Greater, is_lt, is_eq, nat_cmp, refl, sym, ap, ap₂, ◌∙◌, subst, mul_comm, mul_assoc, mul-le-mul_left, mul-le-mul_right, mul-zero, arith, map, fold, filter, nat_lt, zip, get_or, take, ◌++◌, ◌↔◌, Contains, IsPermutation, IsSortedBy, All}
 use Rattle.std.specs.List.{AllByRecursion}
 use Rattle.std.specs.List.Sorted.{IsStrictlySortedBy}
 use Rattle.std.specs.Map.{keys_of}

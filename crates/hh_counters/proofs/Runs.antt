@@ -1,6 +1,5 @@
 -- Runs of Space-Saving: their translation, and how far their counters lie from the true weights.
-use Rattle.std.proofs.Common.{◌≡◌, ℕ, ◌+◌, ◌<◌, ◌≤◌, ◌⊎◌, inl, inr, ⊎_elim, Bool, true, false, cond, suc, Less, Equal, Greater, is_gt, List, [], ◌∷◌, ◌++◌, length, refl, sym, ap, ap₂, ◌∙◌, subst, add-zero, arith}
-use Rattle.std.specs.Prelude.{All, Contains, nat_lt, nat_le, fold, ◌||◌, ◌==◌, min}
+use Rattle.std.proofs.Common.{◌≡◌, ℕ, ◌+◌, ◌<◌, ◌≤◌, ◌⊎◌, inl, inr, ⊎_elim, Bool, true, false, cond, suc, Less, Equal, Greater, is_gt, List, [], ◌∷◌, ◌++◌, length, refl, sym, ap, ap₂, ◌∙◌, subst, add-zero, arith, All, Contains, nat_lt, nat_le, fold, ◌||◌, ◌==◌, min}
 use Rattle.std.specs.List.{AllByRecursion}
 use Rattle.std.specs.List.Sorted.{IsStrictlySortedBy}
 use Rattle.std.specs.Map.{keys_of}

@@ -1,6 +1,5 @@
 -- What a step of Space-Saving does to the weights, the length and the total.
-use Rattle.std.proofs.Common.{◌≡◌, ℕ, ◌+◌, ◌-◌, ◌<◌, ◌≤◌, ⊎_elim, true, false, cond, not, [], ◌∷◌, length, Less, Equal, Greater, is_eq, refl, sym, ap, ◌∙◌, subst, arith}
-use Rattle.std.specs.Prelude.{fold, min, nat_le}
+use Rattle.std.proofs.Common.{◌≡◌, ℕ, ◌+◌, ◌-◌, ◌<◌, ◌≤◌, ⊎_elim, true, false, cond, not, [], ◌∷◌, length, Less, Equal, Greater, is_eq, refl, sym, ap, ◌∙◌, subst, arith, fold, min, nat_le}
 use Rattle.std.specs.List.{AllByRecursion}
 use Rattle.std.specs.List.Sorted.{IsStrictlySortedBy}
 use Rattle.std.specs.Map.{keys_of}

@@ -1,6 +1,5 @@
 -- The counters of a stream, and of two summaries joined, are honest.
-use Rattle.std.proofs.Common.{◌≡◌, ℕ, zero, suc, ◌+◌, ◌-◌, ◌*◌, ◌<◌, ◌≤◌, List, [], ◌∷◌, ◌++◌, ◌^◌, cond, length, take, get_or, refl, sym, ap, ◌∙◌, subst, append_assoc, append-nil, mul-add, mul_comm, mul-le-mul_left, mul-zero, add-one, arith}
-use Rattle.std.specs.Prelude.{fold, nat_lt, replicate, IsPermutation}
+use Rattle.std.proofs.Common.{◌≡◌, ℕ, zero, suc, ◌+◌, ◌-◌, ◌*◌, ◌<◌, ◌≤◌, List, [], ◌∷◌, ◌++◌, ◌^◌, cond, length, take, get_or, refl, sym, ap, ◌∙◌, subst, append_assoc, append-nil, mul-add, mul_comm, mul-le-mul_left, mul-zero, add-one, arith, fold, nat_lt, replicate, IsPermutation}
 use Rattle.std.specs.List.{insert}
 use Rattle.std.proofs.lemmas.List.{take_more, length-replicate}
 use Rattle.std.proofs.lemmas.List.Sorted.{sum_by-IsPermutation}

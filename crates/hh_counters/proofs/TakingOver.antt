@@ -1,6 +1,5 @@
 -- The least counter's place among entries, and its key dropped for a newcomer.
-use Rattle.std.proofs.Common.{subst, ◌≡◌, ℕ, zero, suc, ◌+◌, ◌<◌, ◌≤◌, Bool, true, false, cond, not, [], ◌∷◌, length, get_or, Less, Equal, Greater, is_eq, is_lt, refl, sym, ap, ap₂, ◌∙◌, add-one, ◌^◌, arith}
-use Rattle.std.specs.Prelude.{remove, ◌==◌}
+use Rattle.std.proofs.Common.{subst, ◌≡◌, ℕ, zero, suc, ◌+◌, ◌<◌, ◌≤◌, Bool, true, false, cond, not, [], ◌∷◌, length, get_or, Less, Equal, Greater, is_eq, is_lt, refl, sym, ap, ap₂, ◌∙◌, add-one, ◌^◌, arith, remove, ◌==◌}
 use Rattle.std.proofs.lemmas.List.{get_or_default}
 use Rattle.std.proofs.lemmas.List.Elements.{All-from_recursion, recursion_from_All}
 use Rattle.std.specs.List.{AllByRecursion}

@@ -1,9 +1,9 @@
 //! Space-Saving in buckets, which are put right only before a key is dropped.
 
-ghost use Rattle.std.specs.Prelude.{◌≡◌, ℕ, true, ◌+◌, ◌-◌, ◌^◌, ◌<◌, ◌≤◌, ◌↔◌, [], IfSome, IsOk, IfOk, IsErrOf, OnOk, OnErr, None, Some, length, false};
+ghost use Rattle.std.specs.Prelude.{◌≡◌, ℕ, true, ◌+◌, ◌^◌, ◌<◌, ◌≤◌, ◌↔◌, [], IfSome, IsOk, IfOk, IsErrOf, OnOk, OnErr, None, Some, length, false};
 ghost use Rattle.std.specs.Map.{keys_of, lookup};
 ghost use Rattle.std.specs.List.{IsDistinct};
-ghost use Rattle.indexmap.specs.IndexMap.{get as index_get, index_of, keys, IsUnique, Updates};
+ghost use Rattle.indexmap.specs.IndexMap.{get as index_get, index_of, IsUnique, Updates};
 ghost use Rattle.hh_stream.specs.Weights.{Bytes, max_key_len, max_total, same_key, total_of, weight_of};
 ghost use Rattle.hh_stream.specs.Ranges.{in_range};
 ghost use Rattle.hh_counters.specs.Counters.{max_k, IsCounters, tally, least_counter, lower};

@@ -1,6 +1,5 @@
 -- The leaves of a tree, and what its parts need and give where its summaries are merged.
-use Rattle.std.proofs.Common.{◌≡◌, ◌+◌, ◌<◌, ◌∙◌, ℕ, List, [], length, Result, Ok, Err, refl, sym, arith}
-use Rattle.std.specs.Prelude.{slice_index_or, sum_by}
+use Rattle.std.proofs.Common.{◌≡◌, ◌+◌, ◌<◌, ◌∙◌, ℕ, List, [], length, Result, Ok, Err, refl, sym, arith, slice_index_or, sum_by}
 use Rattle.hh_counters.specs.Counters.{SummaryView}
 use Rattle.hh_counters.specs.declared.summary.MergeFault.{MergeFault}
 use Rattle.hh_counters.specs.declared.summary.MergeFault.TheVariants as fault

@@ -1,6 +1,5 @@
 -- The numbers of a tree's pieces, and the marks of those that came.
-use Rattle.std.proofs.Common.{◌≡◌, ◌≢◌, ◌+◌, ◌<◌, ◌≤◌, ◌==◌, ◌∷◌, ◌++◌, ◌∙◌, ℕ, Bool, true, false, List, [], length, take, drop, set, get_or, refl, sym, ap, add-one, inl, inr, ◌⊎◌, arith}
-use Rattle.std.specs.Prelude.{nat_lt}
+use Rattle.std.proofs.Common.{◌≡◌, ◌≢◌, ◌+◌, ◌<◌, ◌≤◌, ◌==◌, ◌∷◌, ◌++◌, ◌∙◌, ℕ, Bool, true, false, List, [], length, take, drop, set, get_or, refl, sym, ap, add-one, inl, inr, ◌⊎◌, arith, nat_lt}
 use Rattle.std.proofs.lemmas.Bool.Decides.{eqb_tells, nat_tests}
 use Rattle.std.proofs.lemmas.List.{take-append-drop, take_more}
 use Rattle.std.proofs.Common.{drop-cons, get_or-set_other, get_or-set_same}

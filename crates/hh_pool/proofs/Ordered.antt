@@ -1,6 +1,5 @@
 -- Summaries sorted by their numbers, where each number below a count came once.
-use Rattle.std.proofs.Common.{◌≡◌, ◌+◌, ◌-◌, ◌<◌, ◌≤◌, ◌==◌, ◌∙◌, ℕ, zero, suc, List, length, take, drop, get_or, map, refl, sym, ap, add-zero, zero-add, eq-eqb, ⊎_elim, arith}
-use Rattle.std.specs.Prelude.{All, IsPermutation}
+use Rattle.std.proofs.Common.{◌≡◌, ◌+◌, ◌-◌, ◌<◌, ◌≤◌, ◌==◌, ◌∙◌, ℕ, zero, suc, List, length, take, drop, get_or, map, refl, sym, ap, add-zero, zero-add, eq-eqb, ⊎_elim, arith, All, IsPermutation}
 use Rattle.std.specs.List.{range_with_len}
 use Rattle.std.specs.List.Sorted.{IsSortedBy, IsStrictlyIncreasing}
 use Rattle.std.specs.Ordering.{is_lt, nat_cmp}

@@ -1,6 +1,5 @@
 -- How often each number is a leaf of a tree.
-use Rattle.std.proofs.Common.{◌≡◌, ◌+◌, ◌-◌, ◌/◌, ◌≤◌, ◌∷◌, ℕ, zero, suc, [], zero-add, arith}
-use Rattle.std.specs.Prelude.{min}
+use Rattle.std.proofs.Common.{◌≡◌, ◌+◌, ◌-◌, ◌/◌, ◌≤◌, ◌∷◌, ℕ, zero, suc, [], zero-add, arith, min}
 use Rattle.std.proofs.lemmas.Bool.Decides.{nat_tests}
 use Rattle.hh_pool.specs.Trees.{MergeTree, Piece, Merge, IsBalanced, IsMergeTree, chain_of, leaves}
 use Rattle.hh_shared.specs.Tally.{times}

@@ -1,6 +1,5 @@
 -- What a tree makes of honest counters is honest, and so a report of condensed parts is that of the whole.
-use Rattle.std.proofs.Common.{◌<◌, ℕ, List, [], length, map, subst, arith}
-use Rattle.std.specs.Prelude.{slice_index_or}
+use Rattle.std.proofs.Common.{◌<◌, ℕ, List, [], length, map, subst, arith, slice_index_or}
 use Rattle.std.proofs.lemmas.List.{get_or-map}
 use Rattle.std.proofs.lemmas.List.Sums.{sum_by-append}
 use Rattle.hh_stream.specs.Weights.{Entry, total_of}

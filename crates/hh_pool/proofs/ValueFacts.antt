@@ -1,6 +1,5 @@
 -- What a merged summary is: the tree's value, the sum of the totals, and honest where the pieces are.
-use Rattle.std.proofs.Common.{◌≡◌, ◌≢◌, ◌+◌, ◌<◌, ◌==◌, ◌∷◌, ◌++◌, ◌∙◌, ℕ, zero, suc, Bool, true, false, List, [], length, map, Result, Ok, Err, refl, sym, ap, inl, inr, ◌⊎◌, arith}
-use Rattle.std.specs.Prelude.{nat_le, sum_by, slice_index_or, All}
+use Rattle.std.proofs.Common.{◌≡◌, ◌≢◌, ◌+◌, ◌<◌, ◌==◌, ◌∷◌, ◌++◌, ◌∙◌, ℕ, zero, suc, Bool, true, false, List, [], length, map, Result, Ok, Err, refl, sym, ap, inl, inr, ◌⊎◌, arith, nat_le, sum_by, slice_index_or, All}
 use Rattle.std.proofs.lemmas.Bool.Decides.{eqb_tells}
 use Rattle.std.proofs.lemmas.List.Sums.{sum_by-append, sum_by-cons}
 use Rattle.std.proofs.Math.ListN.{get_or-map}

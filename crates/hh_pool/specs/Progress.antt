@@ -1,5 +1,5 @@
 -- How far a pass has come.
-use Rattle.std.specs.Prelude.{◌≡◌, ℕ, ◌<◌, All, List, [], length, map, take}
+use Rattle.std.specs.Prelude.{◌≡◌, ℕ, ◌<◌, All, List, [], length, map, sum, take}
 use Rattle.std.specs.List.Sorted.{IsStrictlyIncreasing}
 use Rattle.hh_stream.specs.Weights.{Bytes, Entry}
 use Rattle.hh_stream.specs.Cuttings.{pieces_of, whole_of}
@@ -12,7 +12,16 @@ use Rattle.hh_pool.specs.Settings.{Settings}
 use Rattle.hh_pool.specs.Passes.{items_at, summaries_at, HasTried}
 use Rattle.hh_pool.specs.declared.first.FirstPass.{FirstPass}
 use Rattle.hh_pool.specs.declared.first.Made.{Made}
+use Rattle.hh_pool.specs.declared.pass.Work.{Work}
 use Rattle.hh_pool.specs.declared.second.SecondPass.{SecondPass}
+
+-- the cutting is one of the stream
+abbrev pub IsCut : {G : Type 0} → Work G → Type 0
+IsCut work = sum work.cutting.now ≡ length work.stream.now
+
+-- the pieces that a pass goes over
+abbrev pub pieces_in : {G : Type 0} → Work G → List (List Entry)
+pieces_in work = pieces_of work.cutting.now work.stream.now
 
 -- a worker has tried the first n pieces from the lowest on, each once
 pub record HasTriedUpTo (pieces : List (List Entry)) (n : ℕ) (seat : Holding) : Type 0 where
@@ -41,27 +50,19 @@ pub record IsFirstAloneUpTo (pieces : List (List Entry)) (settings : Settings) (
   pub summaries : sketches ≡ map (sketch_of settings.k) (take n pieces)
   pub table : grid ≡ table_of settings.family settings.width (whole_of (take n pieces))
 
--- the pieces that the first pass goes over
-abbrev pub first_pieces : {G : Type 0} → FirstPass G → List (List Entry)
-first_pieces pass = pieces_of pass.cutting.now pass.stream.now
-
 -- a worker has tried the first n pieces
 abbrev pub HasTriedFirst : {G : Type 0} → FirstPass G → ℕ → Holding → Made → Type 0
 HasTriedFirst pass n seat made =
-    IsFirstPassUpTo (first_pieces pass) pass.options.now n seat made.summaries.items made.table
+    IsFirstPassUpTo (pieces_in pass.work.now) pass.options.now n seat made.summaries.items made.table
 
 -- the calling thread has done the first n pieces
 abbrev pub HasDoneFirst : {G : Type 0} → FirstPass G → ℕ → List SummaryView → TableView → Type 0
-HasDoneFirst pass n sketches grid = IsFirstAloneUpTo (first_pieces pass) pass.options.now n sketches grid
-
--- the pieces that the second pass goes over
-abbrev pub second_pieces : {G : Type 0} → SecondPass G → List (List Entry)
-second_pieces pass = pieces_of pass.cutting.now pass.stream.now
+HasDoneFirst pass n sketches grid = IsFirstAloneUpTo (pieces_in pass.work.now) pass.options.now n sketches grid
 
 -- a worker has tried the first n pieces
 abbrev pub HasTriedSecond : {G : Type 0} → SecondPass G → ℕ → Holding → List ℕ → Type 0
-HasTriedSecond pass n seat numbers = IsSecondPassUpTo (second_pieces pass) pass.candidates.now n seat numbers
+HasTriedSecond pass n seat numbers = IsSecondPassUpTo (pieces_in pass.work.now) pass.candidates.now n seat numbers
 
 -- the calling thread has done the first n pieces
 abbrev pub HasDoneSecond : {G : Type 0} → SecondPass G → ℕ → List ℕ → Type 0
-HasDoneSecond pass n weights = weights ≡ weights_at pass.candidates.now (whole_of (take n (second_pieces pass)))
+HasDoneSecond pass n weights = weights ≡ weights_at pass.candidates.now (whole_of (take n (pieces_in pass.work.now)))

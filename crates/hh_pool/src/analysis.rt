@@ -1,24 +1,24 @@
 //! The analysis of a stream: two passes by workers, and a merge between them.
 
 ghost use Rattle.std.specs.Prelude.{◌≡◌, ◌≢◌, ◌+◌, ◌*◌, ◌≤◌, ◌<◌, ◌↔◌, true};
-ghost use Rattle.std.specs.Prelude.{ℕ, List, All, length, map, sum, IfOk, IsErr, IsErrOf, OnErr, OnOk, Err};
-ghost use Rattle.std.specs.List.{range_with_len};
+ghost use Rattle.std.specs.Prelude.{List, length, map, sum, IfOk, IsErr, IsErrOf, OnErr, OnOk, Err};
 ghost use Rattle.hh_stream.specs.Weights.{Entry, total_of};
 ghost use Rattle.hh_stream.specs.Cuttings.{pieces_of};
 ghost use Rattle.hh_stream.specs.Ranges.{in_range};
-ghost use Rattle.hh_counters.specs.Counters.{max_k, IsHonest, SummaryView, sketch_of};
+ghost use Rattle.hh_counters.specs.Counters.{max_k, IsHonest, sketch_of};
 ghost use Rattle.hh_counters.specs.Report.{IsShare, weights_at, heavy};
 ghost use Rattle.hh_countmin.specs.Table.{estimate_in, table_of};
-ghost use Rattle.hh_shared.specs.Tally.{HasAllBelow, IsDistinctBelow};
 ghost use Rattle.hh_pool.specs.Settings.{max_workers};
 ghost use Rattle.hh_pool.specs.Trees.{IsMergeTree, leaves};
 ghost use Rattle.hh_pool.specs.Outcomes.{AreEnough, IsMerged};
+ghost use Rattle.hh_pool.specs.Progress.{IsCut, pieces_in};
 
 use crate::first::FirstPass;
 use crate::gate::Gate;
 use crate::merging::merge_by;
 use crate::options::Options;
 use crate::outcome::{Outcome, RunError};
+use crate::pass::Work;
 use crate::plan::Plan;
 use crate::second::SecondPass;
 use crate::workers::run_apart;
@@ -47,70 +47,53 @@ fn table_of_cells(stream: &Stream, options: &Options, cells: Vec<u64>) -> Result
 /// The first pass: the summaries of the pieces, in order, and the table of the stream.
 fn summarise<R: Threads + Wait + Sync, G: Gate + Sync>(
     rt: &R,
-    alloc: Global,
-    stream: &Stream,
-    cutting: &Cutting,
+    work: &Work<G>,
     options: &Options,
-    gate: &G,
 ) -> Result<(Vec<Summary>, Table), AllocError>
-    requires { sum cutting.now ≡ length stream.now }
+    requires { IsCut work.now }
     ensures summaries { IfOk result (λ r.
-        r.0.items ≡ map (sketch_of options.now.k) (pieces_of cutting.now stream.now)) }
+        r.0.items ≡ map (sketch_of options.now.k) (pieces_in work.now)) }
     ensures table { IfOk result
-        (λ r. r.1 ≡ table_of options.now.family options.now.width stream.now) }
+        (λ r. r.1 ≡ table_of options.now.family options.now.width work.now.stream.now) }
 {
     pieces_make_the_whole();
     cells_are_cell_sums();
-    let pass = FirstPass {
-        alloc,
-        stream,
-        cutting,
-        options,
-        gate,
-    };
+    let pass = FirstPass { work, options };
     let cells = (options.family().depth() * options.width()) as usize;
-    let (sums, seat) = SharedSums::new(alloc, cutting.count(), cells)?;
+    let (sums, seat) = SharedSums::new(work.alloc, work.cutting.count(), cells)?;
     let (seat, found) = run_apart(rt, &sums, seat, &pass, options.workers())?;
     if !sums.holds_all(&seat) {
         return pass.alone();
     }
     let summaries = pass.in_order(found)?;
     // It bounds the sums.
-    let _total = stream.total();
+    let _total = work.stream.total();
     let cells = sums.close(seat)?;
-    Ok((summaries, table_of_cells(stream, options, cells)?))
+    Ok((summaries, table_of_cells(work.stream, options, cells)?))
 }
 
 /// The second pass: the weight of each candidate in the stream.
 fn weigh<R: Threads + Wait + Sync, G: Gate + Sync>(
     rt: &R,
-    alloc: Global,
-    stream: &Stream,
-    cutting: &Cutting,
+    work: &Work<G>,
     candidates: &Candidates,
     workers: u64,
-    gate: &G,
 ) -> Result<Vec<u64>, AllocError>
-    requires same_len { sum cutting.now ≡ length stream.now }
+    requires same_len { IsCut work.now }
     requires workers { in_range workers max_workers ≡ true }
     requires few { length candidates.now ≤ max_k }
-    ensures { IfOk result (λ weights. weights.items ≡ weights_at candidates.now stream.now) }
+    ensures { IfOk result
+        (λ weights. weights.items ≡ weights_at candidates.now work.now.stream.now) }
 {
     pieces_make_the_whole();
-    let pass = SecondPass {
-        alloc,
-        stream,
-        cutting,
-        candidates,
-        gate,
-    };
-    let (sums, seat) = SharedSums::new(alloc, cutting.count(), candidates.len())?;
+    let pass = SecondPass { work, candidates };
+    let (sums, seat) = SharedSums::new(work.alloc, work.cutting.count(), candidates.len())?;
     let (seat, ()) = run_apart(rt, &sums, seat, &pass, workers)?;
     if !sums.holds_all(&seat) {
         return pass.alone(workers);
     }
     // It bounds the sums.
-    let _total = stream.total();
+    let _total = work.stream.total();
     sums.close(seat)
 }
 
@@ -157,27 +140,24 @@ fn candidates(
 /// The summaries of the pieces, merged as the plan says, and the table of the stream.
 fn merge_pieces<R: Threads + Wait + Sync, G: Gate + Sync>(
     rt: &R,
-    alloc: Global,
-    stream: &Stream,
-    cutting: &Cutting,
+    work: &Work<G>,
     plan: &Plan,
     options: &Options,
-    gate: &G,
 ) -> Result<(Summary, Table), AllocError>
-    requires same_len { sum cutting.now ≡ length stream.now }
-    requires plan { IsMergeTree plan.now (length cutting.now) }
-    requires some { 0 < length cutting.now }
-    ensures summary { let pieces = pieces_of cutting.now stream.now in IfOk result (λ merged.
-        IsMerged plan.now options.now.k pieces stream.now merged.0) }
+    requires same_len { IsCut work.now }
+    requires plan { IsMergeTree plan.now (length work.now.cutting.now) }
+    requires some { 0 < length work.now.cutting.now }
+    ensures summary { let pieces = pieces_in work.now in IfOk result (λ merged.
+        IsMerged plan.now options.now.k pieces work.now.stream.now merged.0) }
     ensures table { IfOk result (λ merged.
-        merged.1 ≡ table_of options.now.family options.now.width stream.now) }
+        merged.1 ≡ table_of options.now.family options.now.width work.now.stream.now) }
 {
     pieces_make_the_whole();
     misra_gries_is_honest();
-    let (summaries, table) = summarise(rt, alloc, stream, cutting, options, gate)?;
+    let (summaries, table) = summarise(rt, work, options)?;
     // It bounds the sum of the summaries' totals.
-    let _total = stream.total();
-    match merge_by(alloc, plan, summaries) {
+    let _total = work.stream.total();
+    match merge_by(work.alloc, plan, summaries) {
         Ok(summary) => Ok((summary, table)),
         Err(MergeFault::Memory) => Err(AllocError),
         Err(MergeFault::DifferentK) => unreachable!(),
@@ -188,52 +168,47 @@ fn merge_pieces<R: Threads + Wait + Sync, G: Gate + Sync>(
 /// The keys above the options' threshold, by a second pass over those that can be.
 fn heavy_keys<R: Threads + Wait + Sync, G: Gate + Sync>(
     rt: &R,
-    alloc: Global,
-    stream: &Stream,
-    cutting: &Cutting,
+    work: &Work<G>,
     summary: &Summary,
     table: &Table,
     options: &Options,
-    gate: &G,
 ) -> Result<Vec<Heavy>, AllocError>
-    requires same_len { sum cutting.now ≡ length stream.now }
+    requires same_len { IsCut work.now }
     requires same_k { summary.now.k ≡ options.now.k }
-    requires total { summary.now.total ≡ total_of stream.now }
-    requires honest { let s = summary.now in IsHonest s.counters s.total stream.now s.k }
-    requires table { table.now ≡ table_of options.now.family options.now.width stream.now }
+    requires total { summary.now.total ≡ total_of work.now.stream.now }
+    requires honest { let s = summary.now in IsHonest s.counters s.total work.now.stream.now s.k }
+    requires table { let options = options.now in
+        table.now ≡ table_of options.family options.width work.now.stream.now }
     requires few { length summary.now.counters ≤ max_k }
     requires rows { 1 ≤ length table.now.family.rows }
-    ensures { IfOk result (λ rows. rows.items ≡ heavy stream.now options.now.p options.now.q) }
+    ensures { IfOk result
+        (λ rows. rows.items ≡ heavy work.now.stream.now options.now.p options.now.q) }
 {
     let (p, q) = options.threshold();
-    let candidates = candidates(alloc, summary, table, p, q)?;
-    let workers = options.workers();
-    let weights = weigh(rt, alloc, stream, cutting, &candidates, workers, gate)?;
-    candidates.select(&weights, stream.total(), p, q)
+    let candidates = candidates(work.alloc, summary, table, p, q)?;
+    let weights = weigh(rt, work, &candidates, options.workers())?;
+    candidates.select(&weights, work.stream.total(), p, q)
 }
 
 /// The outcome, where the plan has as many pieces as the cutting.
 fn run_passes<R: Threads + Wait + Sync, G: Gate + Sync>(
     rt: &R,
-    alloc: Global,
-    stream: &Stream,
-    cutting: &Cutting,
+    work: &Work<G>,
     plan: &Plan,
     options: &Options,
-    gate: &G,
 ) -> Result<Outcome, AllocError>
-    requires same_len { sum cutting.now ≡ length stream.now }
-    requires plan { IsMergeTree plan.now (length cutting.now) }
-    requires some { 0 < length cutting.now }
-    ensures summary { let pieces = pieces_of cutting.now stream.now in IfOk result (λ outcome.
-        IsMerged plan.now options.now.k pieces stream.now outcome.summary) }
+    requires same_len { IsCut work.now }
+    requires plan { IsMergeTree plan.now (length work.now.cutting.now) }
+    requires some { 0 < length work.now.cutting.now }
+    ensures summary { let pieces = pieces_in work.now in IfOk result (λ outcome.
+        IsMerged plan.now options.now.k pieces work.now.stream.now outcome.summary) }
     ensures table { IfOk result (λ outcome.
-        outcome.table ≡ table_of options.now.family options.now.width stream.now) }
+        outcome.table ≡ table_of options.now.family options.now.width work.now.stream.now) }
     ensures heavy { IfOk result (λ outcome.
-        outcome.heavy.items ≡ heavy stream.now options.now.p options.now.q) }
+        outcome.heavy.items ≡ heavy work.now.stream.now options.now.p options.now.q) }
 {
-    let (summary, table) = merge_pieces(rt, alloc, stream, cutting, plan, options, gate)?;
-    let heavy = heavy_keys(rt, alloc, stream, cutting, &summary, &table, options, gate)?;
+    let (summary, table) = merge_pieces(rt, work, plan, options)?;
+    let heavy = heavy_keys(rt, work, &summary, &table, options)?;
     Ok(Outcome {
         summary,
         table,
@@ -284,5 +259,11 @@ pub fn analyse<R: Threads + Wait + Sync, G: Gate + Sync>(
         outcome.heavy.items ≡ heavy stream.now options.now.p options.now.q) }
 {
     check_counts(plan, cutting)?;
-    run_passes(rt, alloc, stream, cutting, plan, options, gate).map_err(|_| RunError::Memory)
+    let work = Work {
+        alloc,
+        stream,
+        cutting,
+        gate,
+    };
+    run_passes(rt, &work, plan, options).map_err(|_| RunError::Memory)
 }

@@ -9,11 +9,11 @@ ghost use Rattle.hh_countmin.specs.Family.{Coefficients};
 ghost use Rattle.hh_countmin.specs.Table.{table_of};
 ghost use Rattle.hh_shared.specs.Seats.{fresh};
 ghost use Rattle.hh_pool.specs.Passes.{AreSummaries, IsFirstPass};
-ghost use Rattle.hh_pool.specs.Progress.{HasDoneFirst, HasTriedFirst, first_pieces};
+ghost use Rattle.hh_pool.specs.Progress.{HasDoneFirst, HasTriedFirst, IsCut, pieces_in};
 
 use crate::gate::Gate;
 use crate::options::Options;
-use crate::pass::{Pass, add_numbers};
+use crate::pass::{Pass, Work, add_numbers};
 use hh_counters::{BucketSaving, Summary, monitored_summary};
 use hh_countmin::Table;
 use hh_countmin::laws::{cells_are_cell_sums, tables_follow_items};
@@ -25,11 +25,8 @@ use std::alloc::{AllocError, Global};
 /// What each worker of the first pass works on.
 #[derive(Drop)]
 pub(crate) struct FirstPass<'a, G> {
-    pub(crate) alloc: Global,
-    pub(crate) stream: &'a Stream,
-    pub(crate) cutting: &'a Cutting,
+    pub(crate) work: &'a Work<'a, G>,
     pub(crate) options: &'a Options,
-    pub(crate) gate: &'a G,
 }
 
 /// What a worker of the first pass runs: it claims pieces from the lowest on, and of each that it
@@ -55,12 +52,15 @@ pub fn first_pass<G: Gate>(
     ensures pass { IfOk result
         (λ r. IsFirstPass (pieces_of cutting.now stream.now) options.now r.0 r.1.items) }
 {
-    let pass = FirstPass {
+    let work = Work {
         alloc,
         stream,
         cutting,
-        options,
         gate,
+    };
+    let pass = FirstPass {
+        work: &work,
+        options,
     };
     pass.run(sums, seat, worker)
 }
@@ -119,8 +119,8 @@ impl<'a, G: Gate> FirstPass<'a, G> {
     ) -> Result<(), AllocError>
         requires seat { seat.old.sums ≡ sums.now }
         requires piece { piece < sums.now.claims }
-        requires claims { sums.now.claims ≡ length self.now.cutting.now }
-        requires same_len { sum self.now.cutting.now ≡ length self.now.stream.now }
+        requires claims { sums.now.claims ≡ length self.now.work.now.cutting.now }
+        requires same_len { IsCut self.now.work.now }
         requires before { HasTriedFirst self.now piece seat.old made.old }
         ensures sums { seat.new.sums ≡ seat.old.sums }
         ensures after { OnOk result (HasTriedFirst self.now (piece + 1) seat.new made.new) }
@@ -128,9 +128,9 @@ impl<'a, G: Gate> FirstPass<'a, G> {
         if !sums.claim(seat, piece) {
             return Ok(());
         }
-        self.gate.before(1, worker, piece as u64);
-        let items = self.cutting.piece(self.stream, piece);
-        let summary = summary_of(self.alloc, self.options, items)?;
+        self.work.gate.before(1, worker, piece as u64);
+        let items = self.work.cutting.piece(self.work.stream, piece);
+        let summary = summary_of(self.work.alloc, self.options, items)?;
         made.summaries.push((piece, summary))?;
         add_items(&mut made.table, items);
         Ok(())
@@ -141,12 +141,12 @@ impl<'a, G: Gate> FirstPass<'a, G> {
         &self,
         mut found: Vec<(usize, Summary)>,
     ) -> Result<Vec<Summary>, AllocError>
-        requires { AreSummaries self.now.options.now.k (first_pieces self.now) found.items }
-        ensures { IfOk result (λ summaries.
-            summaries.items ≡ map (sketch_of self.now.options.now.k) (first_pieces self.now)) }
+        requires { AreSummaries self.now.options.now.k (pieces_in self.now.work.now) found.items }
+        ensures { let pieces = pieces_in self.now.work.now in IfOk result (λ summaries.
+            summaries.items ≡ map (sketch_of self.now.options.now.k) pieces) }
     {
         found.sort_unstable_by(|a, b| a.0.cmp(&b.0));
-        let mut summaries = Vec::new(self.alloc);
+        let mut summaries = Vec::new(self.work.alloc);
         for (_, summary) in found {
             summaries.push(summary)?;
         }
@@ -156,16 +156,17 @@ impl<'a, G: Gate> FirstPass<'a, G> {
     /// The same by the calling thread, without sums: the summaries of the pieces, in order, and the
     /// table of the stream.
     pub(crate) fn alone(&self) -> Result<(Vec<Summary>, Table), AllocError>
-        requires { sum self.now.cutting.now ≡ length self.now.stream.now }
+        requires { IsCut self.now.work.now }
         ensures summaries { IfOk result (λ r.
-            r.0.items ≡ map (sketch_of self.now.options.now.k) (first_pieces self.now)) }
+            r.0.items ≡ map (sketch_of self.now.options.now.k) (pieces_in self.now.work.now)) }
         ensures table { let options = self.now.options.now in
-            IfOk result (λ r. r.1 ≡ table_of options.family options.width self.now.stream.now) }
+            IfOk result (λ r. r.1
+            ≡ table_of options.family options.width self.now.work.now.stream.now) }
     {
         pieces_make_the_whole();
-        let mut summaries = Vec::new(self.alloc);
-        let mut table = empty_table(self.alloc, self.options)?;
-        for piece in 0..self.cutting.count() {
+        let mut summaries = Vec::new(self.work.alloc);
+        let mut table = empty_table(self.work.alloc, self.options)?;
+        for piece in 0..self.work.cutting.count() {
             self.do_piece(&mut summaries, &mut table, piece)?;
         }
         Ok((summaries, table))
@@ -178,14 +179,16 @@ impl<'a, G: Gate> FirstPass<'a, G> {
         table: &mut Table,
         piece: usize,
     ) -> Result<(), AllocError>
-        requires same_len { sum self.now.cutting.now ≡ length self.now.stream.now }
-        requires piece { piece < length self.now.cutting.now }
+        requires same_len { IsCut self.now.work.now }
+        requires piece { piece < length self.now.work.now.cutting.now }
         requires before { HasDoneFirst self.now piece summaries.old.items table.old }
         ensures { OnOk result (HasDoneFirst self.now (piece + 1) summaries.new.items table.new) }
     {
-        self.gate.before(1, self.options.workers(), piece as u64);
-        let items = self.cutting.piece(self.stream, piece);
-        summaries.push(summary_of(self.alloc, self.options, items)?)?;
+        self.work
+            .gate
+            .before(1, self.options.workers(), piece as u64);
+        let items = self.work.cutting.piece(self.work.stream, piece);
+        summaries.push(summary_of(self.work.alloc, self.options, items)?)?;
         add_items(table, items);
         Ok(())
     }
@@ -195,17 +198,17 @@ impl<'a, G: Gate> Pass for FirstPass<'a, G> {
     type Kept = Vec<(usize, Summary)>;
 
     ghost use Rattle.hh_pool.specs.Passes.{AreFirstPasses, IsFirstPass};
-    ghost use Rattle.hh_pool.specs.Progress.{first_pieces};
+    ghost use Rattle.hh_pool.specs.Progress.{IsCut, pieces_in};
 
-    ghost fits = { λ p sums. (sum p.cutting.now ≡ length p.stream.now)
-        × (sums.claims ≡ length p.cutting.now)
+    ghost fits = { λ p sums. IsCut p.work.now
+        × (sums.claims ≡ length p.work.now.cutting.now)
         × (sums.cells ≡ length p.options.now.family.rows * p.options.now.width) };
 
     ghost done = { λ p seat summaries.
-        IsFirstPass (first_pieces p) p.options.now seat summaries.items };
+        IsFirstPass (pieces_in p.work.now) p.options.now seat summaries.items };
 
     ghost all_done = { λ p seat summaries.
-        AreFirstPasses (first_pieces p) p.options.now seat summaries.items };
+        AreFirstPasses (pieces_in p.work.now) p.options.now seat summaries.items };
 
     fn run(
         &self,
@@ -215,10 +218,10 @@ impl<'a, G: Gate> Pass for FirstPass<'a, G> {
     ) -> Result<(SumSeat, Vec<(usize, Summary)>), AllocError> {
         cells_are_cell_sums();
         let mut made = Made {
-            summaries: Vec::new(self.alloc),
-            table: empty_table(self.alloc, self.options)?,
+            summaries: Vec::new(self.work.alloc),
+            table: empty_table(self.work.alloc, self.options)?,
         };
-        for piece in 0..self.cutting.count() {
+        for piece in 0..self.work.cutting.count() {
             self.try_piece(sums, &mut seat, &mut made, worker, piece)?;
         }
         let Made { summaries, table } = made;

@@ -1,7 +1,7 @@
 //! Plans read from their texts.
 
 ghost use Rattle.std.specs.Prelude.{◌≡◌, ◌<◌, ◌++◌, ℕ, false, true, length, map, slice_index_or};
-ghost use Rattle.std.specs.Prelude.{IfOk, IfErr, IfSome, IfNone, OnOk, Some, None, option_map};
+ghost use Rattle.std.specs.Prelude.{IfOk, IfErr, IfSome, IfNone, OnOk, option_map};
 ghost use Rattle.hh_pool.specs.declared.parsing.PlanFault.TheVariants.{Memory};
 ghost use Rattle.hh_pool.specs.Plans.{open_of, reading_of, shape};
 ghost use Rattle.hh_shared.specs.Tally.{IsDistinctBelow};

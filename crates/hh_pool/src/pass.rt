@@ -5,7 +5,17 @@ ghost use Rattle.hh_shared.specs.Tally.{cell_total};
 ghost use Rattle.hh_shared.specs.Seats.{Sums, Holding, fresh, seat_of_both};
 
 use hh_shared::{SharedSums, SumSeat};
-use std::alloc::AllocError;
+use hh_stream::{Cutting, Stream};
+use std::alloc::{AllocError, Global};
+
+/// What every pass works on: a stream in pieces, and the gate that hears of each piece.
+#[derive(Drop)]
+pub(crate) struct Work<'a, G> {
+    pub(crate) alloc: Global,
+    pub(crate) stream: &'a Stream,
+    pub(crate) cutting: &'a Cutting,
+    pub(crate) gate: &'a G,
+}
 
 /// A pass over the pieces of a stream, which each worker runs with a seat of its own.
 pub(crate) trait Pass {

@@ -1,6 +1,6 @@
 //! Plans: merge trees over numbered pieces.
 
-ghost use Rattle.std.specs.Prelude.{◌≡◌, ◌+◌, ◌-◌, ◌<◌, ◌≤◌, length, IfOk, IfErr};
+ghost use Rattle.std.specs.Prelude.{◌≡◌, ◌+◌, ◌-◌, ◌≤◌, length, IfOk, IfErr};
 ghost use Rattle.hh_stream.specs.Cuttings.{max_pieces};
 ghost use Rattle.hh_pool.specs.PlanTexts.{PlanRefused, SpellsTree};
 ghost use Rattle.hh_pool.specs.Plans.{shape};

@@ -5,10 +5,10 @@ ghost use Rattle.hh_stream.specs.Cuttings.{pieces_of};
 ghost use Rattle.hh_counters.specs.Report.{weights_at};
 ghost use Rattle.hh_shared.specs.Seats.{fresh};
 ghost use Rattle.hh_pool.specs.Passes.{AreSecondPasses, IsSecondPass};
-ghost use Rattle.hh_pool.specs.Progress.{HasDoneSecond, HasTriedSecond, second_pieces};
+ghost use Rattle.hh_pool.specs.Progress.{HasDoneSecond, HasTriedSecond, IsCut, pieces_in};
 
 use crate::gate::Gate;
-use crate::pass::{Pass, add_numbers};
+use crate::pass::{Pass, Work, add_numbers};
 use hh_counters::Candidates;
 use hh_shared::{SharedSums, SumSeat};
 use hh_stream::laws::pieces_make_the_whole;
@@ -18,11 +18,8 @@ use std::alloc::{AllocError, Global};
 /// What each worker of the second pass works on.
 #[derive(Drop)]
 pub(crate) struct SecondPass<'a, G> {
-    pub(crate) alloc: Global,
-    pub(crate) stream: &'a Stream,
-    pub(crate) cutting: &'a Cutting,
+    pub(crate) work: &'a Work<'a, G>,
     pub(crate) candidates: &'a Candidates,
-    pub(crate) gate: &'a G,
 }
 
 /// What a worker of the second pass runs: it claims pieces from the lowest on, and of each that it
@@ -47,12 +44,15 @@ pub fn second_pass<G: Gate>(
     ensures pass { IfOk result
         (λ seat. IsSecondPass (pieces_of cutting.now stream.now) candidates.now seat) }
 {
-    let pass = SecondPass {
+    let work = Work {
         alloc,
         stream,
         cutting,
-        candidates,
         gate,
+    };
+    let pass = SecondPass {
+        work: &work,
+        candidates,
     };
     let (seat, ()) = pass.run(sums, seat, worker)?;
     Ok(seat)
@@ -70,15 +70,15 @@ impl<'a, G: Gate> SecondPass<'a, G> {
     )
         requires seat { seat.old.sums ≡ sums.now }
         requires piece { piece < sums.now.claims }
-        requires claims { sums.now.claims ≡ length self.now.cutting.now }
-        requires same_len { sum self.now.cutting.now ≡ length self.now.stream.now }
+        requires claims { sums.now.claims ≡ length self.now.work.now.cutting.now }
+        requires same_len { IsCut self.now.work.now }
         requires before { HasTriedSecond self.now piece seat.old numbers.old }
         ensures sums { seat.new.sums ≡ seat.old.sums }
         ensures after { HasTriedSecond self.now (piece + 1) seat.new numbers.new }
     {
         if sums.claim(seat, piece) {
-            self.gate.before(2, worker, piece as u64);
-            let items = self.cutting.piece(self.stream, piece);
+            self.work.gate.before(2, worker, piece as u64);
+            let items = self.work.cutting.piece(self.work.stream, piece);
             self.candidates.count_piece(items, numbers);
         }
     }
@@ -86,13 +86,13 @@ impl<'a, G: Gate> SecondPass<'a, G> {
     /// The same by the calling thread, without sums: the candidates' weights in the stream.
     /// `workers` is what the gate hears.
     pub(crate) fn alone(&self, workers: u64) -> Result<Vec<u64>, AllocError>
-        requires { sum self.now.cutting.now ≡ length self.now.stream.now }
+        requires { IsCut self.now.work.now }
         ensures { IfOk result (λ weights.
-            weights.items ≡ weights_at self.now.candidates.now self.now.stream.now) }
+            weights.items ≡ weights_at self.now.candidates.now self.now.work.now.stream.now) }
     {
         pieces_make_the_whole();
-        let mut weights = vec![in self.alloc; 0u64; self.candidates.len()]?;
-        for piece in 0..self.cutting.count() {
+        let mut weights = vec![in self.work.alloc; 0u64; self.candidates.len()]?;
+        for piece in 0..self.work.cutting.count() {
             self.do_piece(&mut weights, workers, piece);
         }
         Ok(weights)
@@ -100,13 +100,13 @@ impl<'a, G: Gate> SecondPass<'a, G> {
 
     // Counts the next piece.
     fn do_piece(&self, weights: &mut [u64], workers: u64, piece: usize)
-        requires same_len { sum self.now.cutting.now ≡ length self.now.stream.now }
-        requires piece { piece < length self.now.cutting.now }
+        requires same_len { IsCut self.now.work.now }
+        requires piece { piece < length self.now.work.now.cutting.now }
         requires before { HasDoneSecond self.now piece weights.old }
         ensures { HasDoneSecond self.now (piece + 1) weights.new }
     {
-        self.gate.before(2, workers, piece as u64);
-        let items = self.cutting.piece(self.stream, piece);
+        self.work.gate.before(2, workers, piece as u64);
+        let items = self.work.cutting.piece(self.work.stream, piece);
         self.candidates.count_piece(items, weights);
     }
 }
@@ -114,14 +114,14 @@ impl<'a, G: Gate> SecondPass<'a, G> {
 impl<'a, G: Gate> Pass for SecondPass<'a, G> {
     type Kept = ();
 
-    ghost fits = { λ p sums. (sum p.cutting.now ≡ length p.stream.now)
-        × (sums.claims ≡ length p.cutting.now) × (sums.cells ≡ length p.candidates.now) };
+    ghost fits = { λ p sums. IsCut p.work.now
+        × (sums.claims ≡ length p.work.now.cutting.now) × (sums.cells ≡ length p.candidates.now) };
 
     ghost done = { λ p seat _.
-        IsSecondPass (second_pieces p) p.candidates.now seat };
+        IsSecondPass (pieces_in p.work.now) p.candidates.now seat };
 
     ghost all_done = { λ p seat _.
-        AreSecondPasses (second_pieces p) p.candidates.now seat };
+        AreSecondPasses (pieces_in p.work.now) p.candidates.now seat };
 
     fn run(
         &self,
@@ -129,8 +129,8 @@ impl<'a, G: Gate> Pass for SecondPass<'a, G> {
         mut seat: SumSeat,
         worker: u64,
     ) -> Result<(SumSeat, ()), AllocError> {
-        let mut numbers = vec![in self.alloc; 0u64; self.candidates.len()]?;
-        for piece in 0..self.cutting.count() {
+        let mut numbers = vec![in self.work.alloc; 0u64; self.candidates.len()]?;
+        for piece in 0..self.work.cutting.count() {
             self.try_piece(sums, &mut seat, &mut numbers, worker, piece);
         }
         add_numbers(sums, &mut seat, &numbers);

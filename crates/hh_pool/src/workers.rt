@@ -60,7 +60,8 @@ fn run_workers<R: Threads + Wait + Sync, P: Pass + Sync>(
             ),
             AllocError,
         >
-            requires { let can = CanRun R.row P.row P.Kept.row (P.fits pass.now sums.now) sums.now in
+            requires { let fits = P.fits pass.now sums.now in
+                let can = CanRun R.row P.row P.Kept.row fits sums.now in
                 can seat first low × can half next high }
             ensures { IfOk result (λ both.
                 let brings = BringBack (P.all_done pass.entry.now) sums.entry.now in

@@ -1,6 +1,5 @@
 -- Where the entries of a saved summary lie in its bytes.
-use Rattle.std.proofs.Common.{◌≡◌, ℕ, ◌+◌, ◌<◌, ◌∙◌, List, [], ◌∷◌, ◌++◌, length, length-drop, length-take, arith, get_or, map, take, drop, Ok, ap, refl, sym, append_assoc}
-use Rattle.std.specs.Prelude.{All}
+use Rattle.std.proofs.Common.{◌≡◌, ℕ, ◌+◌, ◌<◌, ◌∙◌, List, [], ◌∷◌, ◌++◌, length, length-drop, length-take, arith, get_or, map, take, drop, Ok, ap, refl, sym, append_assoc, All}
 use Rattle.std.specs.List.{flat_map}
 use Rattle.std.specs.Int.{w64, byte_len, to_be_bytes}
 use Rattle.std.proofs.lemmas.List.{append-nil, drop-drop, drop_at, drop_more, map-append, take_at, take_more}

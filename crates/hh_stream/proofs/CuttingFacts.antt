@@ -1,6 +1,5 @@
 -- Where the pieces of a cutting lie, and what even pieces add up to.
-use Rattle.std.proofs.Common.{◌≡◌, ◌+◌, ◌-◌, ◌*◌, ◌/◌, ◌%◌, ◌<◌, ◌≤◌, ◌∷◌, ℕ, zero, suc, List, [], length, map, take, drop, get_or, refl, ap, arith, length-drop, length-take}
-use Rattle.std.specs.Prelude.{sum, nat_lt, min, if◌then◌else◌}
+use Rattle.std.proofs.Common.{◌≡◌, ◌+◌, ◌-◌, ◌*◌, ◌/◌, ◌%◌, ◌<◌, ◌≤◌, ◌∷◌, ℕ, zero, suc, List, [], length, map, take, drop, get_or, refl, ap, arith, length-drop, length-take, sum, nat_lt, min, if◌then◌else◌}
 use Rattle.std.specs.List.{range_with_len}
 use Rattle.std.proofs.lemmas.List.{drop-drop, take-append-drop}
 use Rattle.std.proofs.lemmas.List.Sums.{sum_by-cons, sum_by-take-drop, sum_by-take-le}

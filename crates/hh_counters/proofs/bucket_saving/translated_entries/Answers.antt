@@ -1,5 +1,4 @@
-use Rattle.std.proofs.Common.{List, is_lt, subst, rules}
-use Rattle.std.specs.Prelude.{IsPermutation}
+use Rattle.std.proofs.Common.{List, is_lt, subst, rules, IsPermutation}
 use Rattle.std.proofs.lemmas.Fn.{always_returns_same}
 use Rattle.std.proofs.lemmas.List.Sorted.{ranks_by}
 use Rattle.hh_stream.specs.Weights.{Entry, key_cmp}

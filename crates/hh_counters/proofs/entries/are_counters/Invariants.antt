@@ -1,5 +1,4 @@
-use Rattle.std.proofs.Common.{◌≡◌, ℕ, ◌+◌, ◌<◌, Less}
-use Rattle.std.specs.Prelude.{slice_index_or}
+use Rattle.std.proofs.Common.{◌≡◌, ℕ, ◌+◌, ◌<◌, Less, slice_index_or}
 use Rattle.hh_stream.specs.Weights.{Entry, key_cmp}
 use Rattle.hh_counters.proofs.entries.are_counters.Given as goal
 

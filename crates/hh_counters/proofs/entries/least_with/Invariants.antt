@@ -1,5 +1,4 @@
-use Rattle.std.proofs.Common.{◌≡◌, min, take}
-use Rattle.std.specs.Prelude.{fold}
+use Rattle.std.proofs.Common.{◌≡◌, min, take, fold}
 use Rattle.hh_stream.specs.Weights.{Entry}
 use Rattle.hh_counters.proofs.entries.least_with.Given as goal
 

@@ -1,5 +1,4 @@
-use Rattle.std.proofs.Common.{List, ap, is_lt, rules, subst, ◌++◌, ◌∙◌}
-use Rattle.std.specs.Prelude.{IsPermutation}
+use Rattle.std.proofs.Common.{List, ap, is_lt, rules, subst, ◌++◌, ◌∙◌, IsPermutation}
 use Rattle.std.proofs.lemmas.Fn.{always_returns_same}
 use Rattle.std.proofs.lemmas.List.Sorted.{ranks_by, sum_by-IsPermutation}
 use Rattle.hh_stream.specs.Weights.{Entry}

@@ -1,5 +1,4 @@
-use Rattle.std.proofs.Common.{◌≡◌, ◌<◌, take}
-use Rattle.std.specs.Prelude.{All}
+use Rattle.std.proofs.Common.{◌≡◌, ◌<◌, take, All}
 use Rattle.hh_stream.specs.Weights.{Entry}
 use Rattle.hh_counters.specs.SpaceSaving.{monitor_of}
 use Rattle.hh_counters.proofs.monitor.monitored_summary.Given as goal

@@ -1,5 +1,4 @@
-use Rattle.std.proofs.Common.{◌≡◌, ℕ, List, Bool, append-nil, ap₂, take_all, ◌++◌, ◌∷◌, [], cond, true, false, sym, ap, ◌∙◌, arith}
-use Rattle.std.specs.Prelude.{filter, zip, slice_index_or}
+use Rattle.std.proofs.Common.{◌≡◌, ℕ, List, Bool, append-nil, ap₂, take_all, ◌++◌, ◌∷◌, [], cond, true, false, sym, ap, ◌∙◌, arith, filter, zip, slice_index_or}
 use Rattle.std.proofs.lemmas.List.{get_or_default}
 use Rattle.std.proofs.lemmas.Slice.Zip.{length-zip}
 use Rattle.hh_stream.specs.Weights.{Bytes, Entry}

@@ -1,6 +1,5 @@
-use Rattle.std.proofs.Common.{List, Bool, is_lt, subst, rules}
+use Rattle.std.proofs.Common.{List, Bool, is_lt, subst, rules, zip, filter, IsPermutation}
 use Rattle.std.proofs.lemmas.Bool.{false≢true}
-use Rattle.std.specs.Prelude.{zip, filter, IsPermutation}
 use Rattle.std.proofs.lemmas.Fn.{always_returns_same}
 use Rattle.std.proofs.lemmas.List.Sorted.{ranks_by}
 use Rattle.hh_stream.specs.Weights.{Entry}

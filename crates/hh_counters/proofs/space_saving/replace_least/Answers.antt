@@ -1,5 +1,4 @@
-use Rattle.std.proofs.Common.{◌≡◌, ◌+◌, ◌<◌, ◌≤◌, cond, is_lt, length, get_or, sym, ap, ◌∙◌, subst, arith}
-use Rattle.std.specs.Prelude.{remove}
+use Rattle.std.proofs.Common.{◌≡◌, ◌+◌, ◌<◌, ◌≤◌, cond, is_lt, length, get_or, sym, ap, ◌∙◌, subst, arith, remove}
 use Rattle.std.proofs.lemmas.List.{get_or_default}
 use Rattle.hh_stream.specs.Weights.{Entry, key_cmp}
 use Rattle.hh_counters.specs.Counters.{Counters, add_at}

@@ -1,5 +1,4 @@
-use Rattle.std.proofs.Common.{◌≡◌, ℕ, ◌<◌}
-use Rattle.std.specs.Prelude.{sum}
+use Rattle.std.proofs.Common.{◌≡◌, ℕ, ◌<◌, sum}
 use Rattle.hh_countmin.specs.Table.{row_at}
 use Rattle.hh_countmin.proofs.table.rows_sum_to.Given as goal
 

@@ -1,5 +1,4 @@
-use Rattle.std.proofs.Common.{◌≡◌, ◌+◌, take}
-use Rattle.std.specs.Prelude.{sum}
+use Rattle.std.proofs.Common.{◌≡◌, ◌+◌, take, sum}
 use Rattle.hh_countmin.proofs.table.sums_to.Given as goal
 
 abbrev pub invariant-loop-cell : goal.invariant-loop-cell

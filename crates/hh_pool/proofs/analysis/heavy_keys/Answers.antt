@@ -1,5 +1,4 @@
-use Rattle.std.proofs.Common.{◌≡◌, ◌∙◌, List, sym, subst}
-use Rattle.std.specs.Prelude.{zip, IfOk}
+use Rattle.std.proofs.Common.{◌≡◌, ◌∙◌, List, sym, subst, zip, IfOk}
 use Rattle.hh_stream.specs.Weights.{Entry}
 use Rattle.hh_counters.specs.Report.{rows_above}
 use Rattle.hh_countmin.specs.Table.{table_of}
@@ -8,7 +7,7 @@ use Rattle.hh_pool.proofs.analysis.heavy_keys.Goals as goal
 
 pub returns : goal.returns
 returns g c =
-    let stream = c.args.stream.now in
+    let stream = c.args.work.now.stream.now in
     let keys = c.in_ok-candidates.candidates in
     let asked = c.threshold-p.ensures in
     let filled = c.requires.table in

@@ -9,8 +9,8 @@ use Rattle.hh_pool.proofs.analysis.summarise.Goals as goal
 
 pub table_of_cells-requires : goal.table_of_cells-requires
 table_of_cells-requires g c =
-    let lengths = c.args.cutting.now in
-    let stream = c.args.stream.now in
+    let lengths = c.args.work.now.cutting.now in
+    let stream = c.args.work.now.stream.now in
     let options = c.args.options.now in
     let seat = c.in_ok-seat.seat in
     let count = c.in_ok-sums.ensures.claims ∙ c.count.ensures.count in
@@ -29,8 +29,8 @@ table_of_cells-requires g c =
 
 pub in_order-requires : goal.in_order-requires
 in_order-requires g c =
-    let lengths = c.args.cutting.now in
-    let stream = c.args.stream.now in
+    let lengths = c.args.work.now.cutting.now in
+    let stream = c.args.work.now.stream.now in
     let pieces = pieces_of lengths stream in
     let k = c.args.options.now.k in
     let seat = c.in_ok-seat.seat in

@@ -1,5 +1,4 @@
-use Rattle.std.proofs.Common.{◌≡◌, ◌≤◌, ◌<◌, ◌∙◌, ℕ, get_or, refl, arith}
-use Rattle.std.specs.Prelude.{IfOk, Result, Ok, Err, vec_len}
+use Rattle.std.proofs.Common.{◌≡◌, ◌≤◌, ◌<◌, ◌∙◌, ℕ, get_or, refl, arith, IfOk, Result, Ok, Err, vec_len}
 use Rattle.hh_stream.specs.Weights.{total_of, max_total}
 use Rattle.hh_stream.specs.Cuttings.{pieces_of}
 use Rattle.hh_shared.specs.Tally.{sum_at}
@@ -15,8 +14,8 @@ follows_from (Err e) P Q R f p q = tt
 
 pub returns : goal.returns
 returns g c =
-    let lengths = c.args.cutting.now in
-    let stream = c.args.stream.now in
+    let lengths = c.args.work.now.cutting.now in
+    let stream = c.args.work.now.stream.now in
     let seat = c.in_ok-seat.seat in
     let count = c.in_ok-sums.ensures.claims ∙ c.count.ensures.count in
     let distinct = distinct_pieces lengths stream _ _ count c.if-not-holds_all.ensures.distinct in

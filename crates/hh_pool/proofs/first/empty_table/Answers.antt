@@ -1,5 +1,4 @@
-use Rattle.std.proofs.Common.{◌≡◌, [], ◌∙◌, subst}
-use Rattle.std.specs.Prelude.{IfOk}
+use Rattle.std.proofs.Common.{◌≡◌, [], ◌∙◌, subst, IfOk}
 use Rattle.hh_countmin.specs.Table.{TableView, empty_table}
 use Rattle.hh_pool.proofs.first.empty_table.Goals as goal
 

@@ -1,5 +1,4 @@
-use Rattle.std.proofs.Common.{ap, arith, length}
-use Rattle.std.specs.Prelude.{IfOk}
+use Rattle.std.proofs.Common.{ap, arith, length, IfOk}
 use Rattle.std.proofs.lemmas.Result.{IfOk-weaker}
 use Rattle.hh_pool.proofs.MergeFacts.{distinct-leaves, length_leaves}
 use Rattle.hh_pool.proofs.ValueFacts.{IsMergeOf, merge-of}

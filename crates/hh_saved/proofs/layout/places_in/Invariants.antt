@@ -1,5 +1,4 @@
-use Rattle.std.proofs.Common.{◌≡◌, drop, map, take}
-use Rattle.std.specs.Prelude.{All}
+use Rattle.std.proofs.Common.{◌≡◌, drop, map, take, All}
 use Rattle.std.specs.List.{flat_map}
 use Rattle.hh_saved.specs.Sizes.{LiesIn, entry_in}
 use Rattle.hh_saved.specs.Spelling.{entry_bytes}

@@ -1,5 +1,4 @@
-use Rattle.std.proofs.Common.{◌≡◌, ◌+◌, take}
-use Rattle.std.specs.Prelude.{sum}
+use Rattle.std.proofs.Common.{◌≡◌, ◌+◌, take, sum}
 use Rattle.hh_stream.proofs.cutting.adds_up.Given as goal
 
 abbrev pub invariant-loop-length : goal.invariant-loop-length

@@ -1,5 +1,4 @@
-use Rattle.std.proofs.Common.{◌≡◌, take}
-use Rattle.std.specs.Prelude.{filter}
+use Rattle.std.proofs.Common.{◌≡◌, take, filter}
 use Rattle.std.specs.Map.{keys_of}
 use Rattle.hh_counters.specs.Report.{can_be_heavy}
 use Rattle.hh_counters.proofs.candidates.Candidates.contenders.Given as goal

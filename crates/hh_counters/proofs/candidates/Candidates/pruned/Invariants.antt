@@ -1,5 +1,4 @@
-use Rattle.std.proofs.Common.{◌≡◌, take}
-use Rattle.std.specs.Prelude.{filter, zip}
+use Rattle.std.proofs.Common.{◌≡◌, take, filter, zip}
 use Rattle.std.specs.Map.{keys_of}
 use Rattle.hh_counters.specs.Report.{is_heavy}
 use Rattle.hh_counters.proofs.candidates.Candidates.pruned.Given as goal

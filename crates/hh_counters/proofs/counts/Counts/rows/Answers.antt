@@ -1,5 +1,4 @@
-use Rattle.std.proofs.Common.{◌++◌, ◌∷◌, ◌<◌, [], get_or, length, take_all, ap, sym, ◌∙◌, arith}
-use Rattle.std.specs.Prelude.{filter, vec_items, zip}
+use Rattle.std.proofs.Common.{◌++◌, ◌∷◌, ◌<◌, [], get_or, length, take_all, ap, sym, ◌∙◌, arith, filter, vec_items, zip}
 use Rattle.std.proofs.lemmas.List.{get_or_default}
 use Rattle.std.proofs.lemmas.Option.{get_or_from_slice_get}
 use Rattle.std.proofs.lemmas.Slice.Zip.{length-zip}

@@ -1,5 +1,4 @@
-use Rattle.std.proofs.Common.{◌≡◌, take}
-use Rattle.std.specs.Prelude.{filter, zip}
+use Rattle.std.proofs.Common.{◌≡◌, take, filter, zip}
 use Rattle.hh_counters.specs.Counters.{exceeds}
 use Rattle.hh_counters.proofs.counts.Counts.rows.Given as goal
 

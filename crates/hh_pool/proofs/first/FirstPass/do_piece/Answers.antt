@@ -3,7 +3,7 @@ use Rattle.hh_stream.specs.Weights.{Entry}
 use Rattle.hh_stream.specs.Cuttings.{whole_of}
 use Rattle.hh_counters.specs.Counters.{sketch_of}
 use Rattle.hh_countmin.specs.Table.{TableView, table_of}
-use Rattle.hh_pool.specs.Progress.{first_pieces}
+use Rattle.hh_pool.specs.Progress.{pieces_in}
 use Rattle.hh_pool.proofs.Pieces.{length-pieces_of}
 use Rattle.hh_pool.proofs.Alone.{total-more, alone_more}
 use Rattle.hh_pool.proofs.first.FirstPass.do_piece.Goals as goal
@@ -16,10 +16,11 @@ add_items-requires g c =
 
 pub returns : goal.returns
 returns g c =
-    let pieces = first_pieces c.args.self.now in
+    let work = c.args.self.now.work.now in
+    let pieces = pieces_in work in
     let options = c.args.self.now.options.now in
     let within : c.args.piece < length pieces =
-    omega (arith, c.requires.piece, length-pieces_of c.args.self.now.cutting.now c.args.self.now.stream.now) in
+    omega (arith, c.requires.piece, length-pieces_of work.cutting.now work.stream.now) in
     let piece = c.piece-items.ensures.piece in
     let before = whole_of (take c.args.piece pieces) in
     let summaries = c.in_ok-push.ensures.items

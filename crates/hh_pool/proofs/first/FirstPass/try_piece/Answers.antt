@@ -3,7 +3,7 @@ use Rattle.hh_stream.specs.Weights.{Entry}
 use Rattle.hh_counters.specs.Counters.{sketch_of}
 use Rattle.hh_countmin.specs.Table.{TableView, table_of}
 use Rattle.hh_pool.specs.Passes.{items_at}
-use Rattle.hh_pool.specs.Progress.{first_pieces}
+use Rattle.hh_pool.specs.Progress.{pieces_in}
 use Rattle.hh_pool.proofs.Pieces.{distinct_pieces}
 use Rattle.hh_pool.proofs.Tried.{next_total, first_met, first_claimed}
 use Rattle.hh_pool.proofs.first.FirstPass.try_piece.Goals as goal
@@ -22,9 +22,9 @@ add_items-requires g c =
 
 pub returns-clause-after : goal.returns-clause-after
 returns-clause-after g c =
-    let pieces = first_pieces c.args.self.now in
+    let pieces = pieces_in c.args.self.now.work.now in
     let options = c.args.self.now.options.now in
-    let stream = c.args.self.now.stream.now in
+    let stream = c.args.self.now.work.now.stream.now in
     let distinct = distinct_pieces _ stream _ _ c.requires.claims c.if-not-claim.ensures.distinct in
     let piece = c.piece-items.ensures.piece in
     let summary = c.in_ok-summary.ensures ∙ ap (sketch_of options.k) piece in

@@ -3,7 +3,7 @@ use Rattle.std.proofs.lemmas.Grind.{common_steps}
 use Rattle.std.proofs.lemmas.List.{take_all}
 use Rattle.hh_stream.specs.Cuttings.{whole_of}
 use Rattle.hh_counters.specs.Report.{weights_at}
-use Rattle.hh_pool.specs.Progress.{second_pieces}
+use Rattle.hh_pool.specs.Progress.{pieces_in}
 use Rattle.hh_pool.proofs.Pieces.{length-pieces_of}
 use Rattle.hh_pool.proofs.Tried.{no_weights}
 use Rattle.hh_pool.proofs.second.SecondPass.alone.Goals as goal
@@ -16,9 +16,9 @@ loop-piece-init g c =
 
 pub returns : goal.returns
 returns g c =
-    let lengths = c.args.self.now.cutting.now in
-    let stream = c.args.self.now.stream.now in
-    let pieces = second_pieces c.args.self.now in
+    let lengths = c.args.self.now.work.now.cutting.now in
+    let stream = c.args.self.now.work.now.stream.now in
+    let pieces = pieces_in c.args.self.now.work.now in
     let all : length pieces ≤ c.loop-piece.piece = omega (arith, length-pieces_of lengths stream) in
     c.loop-piece.invariant ∙ ap (weights_at c.args.self.now.candidates.now)
     (ap whole_of (take_all c.loop-piece.piece pieces all)
