@@ -7,7 +7,7 @@ ghost use Rattle.hh_counters.specs.Report.{heavy};
 ghost use Rattle.hh_countmin.specs.Table.{estimate_in};
 ghost use Rattle.hh_saved.specs.Reading.{saved_of};
 ghost use Rattle.hh_saved.specs.declared.saved.Saved.TheVariants.{Counters};
-ghost use Rattle.hh_records.specs.Streams.{ReadsAs};
+ghost use Rattle.hh_records.specs.Streams.{ReadsAs, text_known};
 ghost use Rattle.heavy.specs.Records.{SavesStream};
 
 use heavy::{Method, ToolError, summary_bytes};
@@ -63,7 +63,8 @@ pub fn summary_in(alloc: Global, file: &[u8]) -> Result<Option<Summary>, SavedFa
 
 /// The total weight of the records of a reader.
 pub fn total_of_records<R: Read + Drop>(alloc: Global, reader: R) -> Result<u64, ReadError>
-    ensures { IfOk result (λ total. (xs : List Entry) × ReadsAs (R.remaining reader) (Ok xs)
+    ensures { IfOk result (λ total. (xs : List Entry)
+        × ReadsAs (text_known (R.remaining reader)) (Ok xs)
         × (total ≡ total_of xs)) }
 {
     let stream = read_stream(alloc, reader)?;
@@ -102,7 +103,7 @@ pub fn heavy_keys<R: Threads + Wait + Sync>(
 /// The saved summary of a reader's records, with 100 counters.
 pub fn saved_summary<R: Read + Drop>(alloc: Global, reader: R) -> Result<Vec<u8>, ToolError>
     ensures { IfOk result (λ bytes. SavesStream (λ xs. Counters (sketch_of 100 xs))
-        (R.remaining reader) bytes.items) }
+        (text_known (R.remaining reader)) bytes.items) }
 {
     summary_bytes(alloc, 100, Method::MisraGries, reader)
 }

@@ -34,6 +34,9 @@ kind_of (tool.WriteFault n) = 16
 kind_of (tool.FileFault n) = 17
 kind_of tool.Memory = 18
 kind_of tool.BadThreshold = 19
+kind_of tool.BadDelimiter = 22
+kind_of tool.BadColumn = 23
+kind_of tool.NoColumn = 24
 
 abbrev pub record_cause : BadRecordCause → ℕ
 record_cause bad.FieldCount = 1

@@ -109,6 +109,9 @@ fn kind_of(fault: &ToolError) -> u32
         ToolError::FileFault { .. } => 17,
         ToolError::Memory => 18,
         ToolError::BadThreshold => 19,
+        ToolError::BadDelimiter => 22,
+        ToolError::BadColumn => 23,
+        ToolError::NoColumn => 24,
     }
 }
 

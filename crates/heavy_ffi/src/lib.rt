@@ -16,6 +16,7 @@ ghost use Rattle.hh_stream.specs.Weights.{max_key_len};
 ghost use Rattle.hh_counters.specs.Counters.{SummaryView, sketch_of};
 ghost use Rattle.hh_countmin.specs.Family.{drawn_family};
 ghost use Rattle.hh_countmin.specs.Table.{TableView, table_of};
+ghost use Rattle.hh_records.specs.Streams.{text_known};
 ghost use Rattle.hh_saved.specs.Sizes.{most_summary_bytes, table_bytes};
 ghost use Rattle.hh_saved.specs.declared.saved.Saved.TheVariants.{Cells, Counters};
 ghost use Rattle.heavy.specs.Add.{IsEmpty, IsEmptyTable, added, empty_of, empty_table_of};
@@ -60,9 +61,9 @@ const VERSION: u32 = 1;
 /// The summary of a text's records by a method of this number.
 fn summary_by(alloc: Global, text: &[u8], k: u64, method: u32) -> Result<Vec<u8>, ToolError>
     ensures saved { IfOk result (λ bytes.
-        SavesStream (λ xs. Counters (sketch_of k xs)) (Some text.now) bytes.items) }
+        SavesStream (λ xs. Counters (sketch_of k xs)) (text_known (Some text.now)) bytes.items) }
     ensures refused { IfErr result (λ fault.
-        RefusedAfter (bad_summary method k) (Some text.now) fault) }
+        RefusedAfter (bad_summary method k) (text_known (Some text.now)) fault) }
 {
     let method = match method {
         1 => Method::MisraGries,
@@ -85,8 +86,8 @@ pub extern "C" fn heavy_summarise(
     fault: &mut Fault,
 ) -> u32
     ensures outcome { IsOutcome
-        (SavesStream (λ xs. Counters (sketch_of k xs)) (Some text.now))
-        (RefusedAfter (bad_summary method k) (Some text.now))
+        (SavesStream (λ xs. Counters (sketch_of k xs)) (text_known (Some text.now)))
+        (RefusedAfter (bad_summary method k) (text_known (Some text.now)))
         result out.old out.new needed.new fault.new }
     ensures no_bytes { result ≢ 0 → result ≢ 5 → needed.new ≡ 0 }
     ensures enough { most_summary_bytes k max_key_len ≤ length out.old → result ≢ 5 }
@@ -214,8 +215,9 @@ pub extern "C" fn heavy_table(
     fault: &mut Fault,
 ) -> u32
     ensures outcome { IsOutcome
-        (SavesStream (λ xs. Cells (table_of (drawn_family seed depth) width xs)) (Some text.now))
-        (RefusedAfter (bad_table depth width) (Some text.now))
+        (SavesStream (λ xs. Cells (table_of (drawn_family seed depth) width xs))
+        (text_known (Some text.now)))
+        (RefusedAfter (bad_table depth width) (text_known (Some text.now)))
         result out.old out.new needed.new fault.new }
     ensures no_bytes { result ≢ 0 → result ≢ 5 → needed.new ≡ 0 }
     ensures exact { (result ≡ 0) ⊎ (result ≡ 5) → needed.new ≡ table_bytes width depth }
@@ -328,7 +330,8 @@ pub extern "C" fn heavy_confirm(
     fault: &mut Fault,
 ) -> u32
     ensures outcome { IsOutcome
-        (ConfirmsRows file.now (Some text.now)) (ConfirmRefused file.now (Some text.now))
+        (ConfirmsRows file.now (text_known (Some text.now)))
+        (ConfirmRefused file.now (text_known (Some text.now)))
         result out.old out.new needed.new fault.new }
     ensures early { TellsHead file.now result fault.new }
     ensures no_bytes { result ≢ 0 → result ≢ 5 → needed.new ≡ 0 }
@@ -351,8 +354,8 @@ pub extern "C" fn heavy_confirm_above(
     needed: &mut usize,
     fault: &mut Fault,
 ) -> u32
-    ensures outcome { IsOutcome (ConfirmsShare p q file.now (Some text.now))
-        (ConfirmShareRefused p q file.now (Some text.now))
+    ensures outcome { IsOutcome (ConfirmsShare p q file.now (text_known (Some text.now)))
+        (ConfirmShareRefused p q file.now (text_known (Some text.now)))
         result out.old out.new needed.new fault.new }
     ensures early { TellsHead file.now result fault.new }
     ensures no_bytes { result ≢ 0 → result ≢ 5 → needed.new ≡ 0 }
@@ -374,7 +377,8 @@ pub extern "C" fn heavy_condense(
     fault: &mut Fault,
 ) -> u32
     ensures outcome { IsOutcome
-        (CondensesRows file.now (Some text.now)) (CondenseRefused file.now (Some text.now))
+        (CondensesRows file.now (text_known (Some text.now)))
+        (CondenseRefused file.now (text_known (Some text.now)))
         result out.old out.new needed.new fault.new }
     ensures early { TellsHead file.now result fault.new }
     ensures no_bytes { result ≢ 0 → result ≢ 5 → needed.new ≡ 0 }

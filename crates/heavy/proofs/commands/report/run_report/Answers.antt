@@ -11,7 +11,7 @@ returns-clause-reported g c =
     let new = g.S.Sink.taken c.report_rows.new.sink in
     subst (λ known. OnOk c.report_rows.result (IsReported c.args.options.now known old new)) c.of_reader.ensures
     (plain_reported c.args.options.now (records_known g.R.Read.remaining c.of_reader.result) old new
-    c.plain.result c.plain.ensures c.report_rows.result c.report_rows.ensures.reported)
+    c.plain-rows.result c.plain-rows.ensures c.report_rows.result c.report_rows.ensures.reported)
 
 pub returns-clause-refused : goal.returns-clause-refused
 returns-clause-refused g c =
@@ -19,4 +19,4 @@ returns-clause-refused g c =
     let new = g.S.Sink.taken c.report_rows.new.sink in
     subst (λ known. IfErr c.report_rows.result (ReportRefused c.args.options.now known old new)) c.of_reader.ensures
     (plain_refused c.args.options.now (records_known g.R.Read.remaining c.of_reader.result) old new
-    c.plain.result c.plain.ensures c.report_rows.result c.report_rows.ensures.refused)
+    c.plain-rows.result c.plain-rows.ensures c.report_rows.result c.report_rows.ensures.refused)
