@@ -13,11 +13,12 @@ _heavy() {
     --k | --threshold | --top | --workers | --pieces | --width | --depth | --seed) return ;;
   esac
   case ${COMP_WORDS[1]} in
-    report) options='--k --threshold --top --share --workers --pieces --tree --width --depth --seed --progress' ;;
-    summarise) options='--k --method --progress' ;;
-    table) options='--width --depth --seed --progress' ;;
-    condense) options='--progress' ;;
-    confirm) options='--threshold --top --share --progress' ;;
+    report) options='--k --threshold --top --share --workers --pieces --tree --width --depth --seed --progress --explain' ;;
+    summarise) options='--k --method --progress --explain' ;;
+    table) options='--width --depth --seed --progress --explain' ;;
+    merge | ask | list | describe) options='--explain' ;;
+    condense) options='--progress --explain' ;;
+    confirm) options='--threshold --top --share --progress --explain' ;;
     help) mapfile -t COMPREPLY < <(compgen -W "$commands" -- "$cur"); return ;;
   esac
   case $cur in

@@ -23,5 +23,6 @@ complete -c heavy -n '__fish_seen_subcommand_from report table' -l width -x -d '
 complete -c heavy -n '__fish_seen_subcommand_from report table' -l depth -x -d 'Depth of the Count-Min table'
 complete -c heavy -n '__fish_seen_subcommand_from report table' -l seed -x -d "Seed of the table's hash family"
 complete -c heavy -n '__fish_seen_subcommand_from report summarise table condense confirm' -l progress -d 'Tell how far input is read'
+complete -c heavy -n '__fish_seen_subcommand_from report summarise table merge ask list describe condense confirm' -l explain -d 'Say more about a fault'
 complete -c heavy -n '__fish_seen_subcommand_from merge ask list describe condense confirm' -F
 complete -c heavy -f -n '__fish_seen_subcommand_from help' -a 'report summarise table merge ask list describe condense confirm'

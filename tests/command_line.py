@@ -90,6 +90,21 @@ def watched(program: str, library: str, words: list, given: bytes) -> list[int]:
     return numbers if ended.status == 0 else []
 
 
+def on_terminal(words: list, given: bytes, room: str) -> tuple[int, bytes]:
+    """The status of a run whose standard error is a terminal, and what it said there."""
+    ear, mouth = os.openpty()
+    ended = programs.run(words, given, cwd=room, stderr=mouth)
+    os.close(mouth)
+    said = b""
+    try:
+        while part := os.read(ear, 4096):
+            said += part
+    except OSError:
+        pass  # a terminal ends by a fault where no one has it open
+    os.close(ear)
+    return ended.status, said.replace(b"\r\n", b"\n")
+
+
 def saved_bytes(*fields: str) -> bytes:
     """The bytes of these fields in hexadecimal."""
     return bytes.fromhex("".join(fields))
@@ -404,6 +419,74 @@ class CommandLine(programs.Checks):
             self.expect(["report"], (0, key + b",1\n", b""), key + b"\n")
         self.refuses(["report"], "record 1: key too long", 3, b"\xff" * 4097 + b"\n")
         self.refuses(["summarise", "--method", "x"], "method must be mg or ss")
+
+    def tells(self, words: list, more: str, status: int, given: bytes = RECORDS) -> None:
+        """A fault is one line, and two on a terminal and with --explain."""
+        plain = self.heavy(words, given)
+        both = plain[2] + (f"  {more}\n".encode() if more else b"")
+        name = f"more about {words}"
+        self.check(f"{name}: one line", (plain[0], plain[2].count(b"\n")) == (status, 1), plain)
+        explained = self.heavy([*words[:1], "--explain", *words[1:]], given)
+        self.check(f"{name}: --explain", explained == (status, b"", both), (explained, both))
+        terminal = on_terminal([self.program, *words], given, self.room)
+        self.check(f"{name}: on a terminal", terminal == (status, both), (terminal, both))
+
+    def test_more_about_faults(self) -> None:
+        """The second line of each fault that has one, and faults without."""
+        weight = "a weight is a whole number from 1 on"
+        for text, more in [
+            (b"key,weight\na,1\n", f"{weight}; is the first line a header?"), (b"a,1.5\n", f"{weight}; is the first line a header?"),
+            (b"a,0\n", weight), (b"a,1,2\n", "a record is key,weight or a key alone; a key with a comma in it stands in quotes"),
+            (b",1\n", "a key has 1 to 4096 bytes"), (b"k" * 4097, "a key has 1 to 4096 bytes"),
+            (b"a,9223372036854775807\nb\n", "all weights together are at most 9223372036854775807"),
+        ]:
+            for command in (["report"], ["summarise"], ["table"]):
+                self.tells(command, more, 3, text)
+        self.save("day", ["summarise", "--k", "2"])
+        self.save("table", ["table", "--width", "8"])
+        self.save("k3", ["summarise", "--k", "3"])
+        for share, more in [
+            ("1/100", "1/100 needs a k of 99 or more"), ("2/7", "2/7 needs a k of 3 or more"),
+            ("1/65536", "1/65536 needs a k of 65535 or more"), ("1/65537", None), ("50%", None), ("3/2", None), ("", None),
+        ]:
+            told = more or "a share is two whole numbers, as 1/50, from 1/65536 to 1/1"
+            self.tells(["report", "--k", "2", "--threshold", share], told, 2)
+            told += ", and the summary has a k of its own" if more else ""
+            self.tells(["confirm", "--threshold", share, "day"], told, 2)
+        self.tells(["confirm", "day"], "day has 11, and the records have 5", 3, b"a,5\n")
+        self.tells(["confirm", "table"], "table is a Count-Min table", 3)
+        self.tells(["list", "table"], "table is a Count-Min table", 3)
+        self.tells(["merge", "day", "k3"], "k3", 3)
+        self.tells(["merge", "day", "day", "table"], "table", 3)
+        files = {
+            "none": (b"", "is empty"), "text": (RECORDS, "looks like text: `heavy summarise` saves records of such"),
+            "short": (b"HHS2\x01", "begins as a saved file, and is damaged or cut off"), "bytes": (b"\0\1", "looks like no saved file"),
+            "later": (b"HHS3\x01", "is a saved file of a version that isn't known here"),
+            "gz": (b"\x1f\x8b\x08\0", "looks like gzip: `gzip -dc` unpacks it"), "zip": (b"PK\3\4", "looks like a zip archive"),
+            "zst": (b"\x28\xb5\x2f\xfd", "looks like zstd: `zstd -dc` unpacks it"), "bz2": (b"BZh9", "looks like bzip2: `bzip2 -dc` unpacks it"),
+            "xz": (b"\xfd7zXZ\0", "looks like xz: `xz -dc` unpacks it"),
+        }
+        for name, (data, looks) in files.items():
+            Path(self.room, name).write_bytes(data)
+            self.tells(["list", name], f"{name} {looks}", 3)
+            self.tells(["merge", "day", name], f"{name} {looks}", 3)
+        for words, status in [
+            (["report", "--k", "0"], 2), (["report", "--tree", "("], 2), (["ask", "day", ""], 3), (["summarise", "--method", "x"], 2),
+        ]:
+            self.tells(words, "", status)
+
+    def test_more_about_unread_files(self) -> None:
+        """The name of a file that can't be read and the system's reason; a name has no command for a terminal."""
+        Path(self.room, "folder").mkdir()
+        for name, said in [
+            ("missing", "missing: No such file or directory"), ("folder", "folder: Is a directory"),
+            ("a\x1b[31mb", "a\\u{1b}[31mb: No such file or directory"), ("ä it's", "ä it's: No such file or directory"),
+            ("missing/day", "missing/day: No such file or directory"), (b"\xff", "\\xff: its name isn't UTF-8"),
+        ]:
+            for words in (["list", name], ["describe", name], ["ask", name, "a"], ["condense", name], ["confirm", name]):
+                self.tells(words, said, 1)
+        self.save("day", ["summarise"])
+        self.tells(["merge", "day", "day", "missing"], "missing: No such file or directory", 1)
 
     def test_kinds(self) -> None:
         """What clap says of each kind of fault."""

@@ -36,7 +36,7 @@ DRIFTS = [
     (BASH, "'balanced chain'", "'balanced'"),
     (ZSH, "'merge:", "'join:"),
     (ZSH, "'--depth=", "'--rows="),
-    (ZSH, "summarise) _arguments $help $k $progress", "summarise) _arguments $help $k"),
+    (ZSH, "summarise) _arguments $help $explain $k $progress", "summarise) _arguments $help $explain $k"),
     (FISH, "-a confirm ", "-a recount "),
     (FISH, "-l threshold", "-l bound"),
     (FISH, "-s V -l version", "-l version"),

@@ -130,6 +130,8 @@ pub record IsAskedBy (words : List (List ℕ)) (asked : Invocation) : Type 0 whe
   pub request : AsksFor name found asked.request
   pub told : one_text found (codes "progress") ≡ Some (codes "true") → asked.tells_progress ≡ true
   pub untold : one_text found (codes "progress") ≡ None → asked.tells_progress ≡ false
+  pub explained : one_text found (codes "explain") ≡ Some (codes "true") → asked.explains ≡ true
+  pub unexplained : one_text found (codes "explain") ≡ None → asked.explains ≡ false
 
 -- all words of a source ask for it
 abbrev pub IsAskedFrom : (ℕ → Option (List ℕ) → Type 0) → Invocation → Type 0

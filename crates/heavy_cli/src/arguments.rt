@@ -17,6 +17,9 @@ const VERSION: &str = "1.0.0";
 /// The option that tells how far the input is read.
 pub const PROGRESS: &str = "progress";
 
+/// The option that tells more about a fault.
+pub const EXPLAIN: &str = "explain";
+
 /// The option that says how many rows are printed.
 pub const TOP: &str = "top";
 
@@ -120,6 +123,16 @@ fn progress<'a>(alloc: Global) -> Arg<'a>
         .display_order(LAST)
 }
 
+/// The option that tells more about a fault.
+fn explain<'a>(alloc: Global) -> Arg<'a>
+    ensures { result.global ≡ false }
+{
+    let told = "Say more about a fault, in a second line, as is done on a terminal";
+    option(alloc, EXPLAIN, told)
+        .action(ArgAction::SetTrue)
+        .display_order(LAST)
+}
+
 /// The same command, with an argument more.
 fn with<'a>(command: Command<'a>, argument: Arg<'a>) -> Result<Command<'a>, AllocError>
     requires command { (fields_of command).has_globals ≡ false }
@@ -138,11 +151,18 @@ fn with_command<'a>(all: Command<'a>, command: Command<'a>) -> Result<Command<'a
     all.subcommand(command)
 }
 
-/// The command with this name and help, which reads records and can tell how far it is.
+/// The command with this name and help, which can say more about a fault.
+fn explained<'a>(alloc: Global, name: &'a str, help: Help) -> Result<Command<'a>, AllocError>
+    ensures { IfOk result (λ c. (fields_of c).has_globals ≡ false) }
+{
+    with(described(alloc, name, help), explain(alloc))
+}
+
+/// The same of a command that reads records and can tell how far it is.
 fn reader<'a>(alloc: Global, name: &'a str, help: Help) -> Result<Command<'a>, AllocError>
     ensures { IfOk result (λ c. (fields_of c).has_globals ≡ false) }
 {
-    with(described(alloc, name, help), progress(alloc))
+    with(explained(alloc, name, help)?, progress(alloc))
 }
 
 /// A word that has to be given.
@@ -265,7 +285,7 @@ fn merge_command<'a>(alloc: Global) -> Result<Command<'a>, AllocError>
     ensures { IfOk result (λ c. (fields_of c).has_globals ≡ false) }
 {
     let files = word(alloc, "FILE", "A saved file").action(ArgAction::Append);
-    described(alloc, "merge", MERGE)
+    explained(alloc, "merge", MERGE)?
         .after_help(DASHES)
         .arg(files.num_args(1..))
 }
@@ -274,7 +294,7 @@ fn ask_command<'a>(alloc: Global) -> Result<Command<'a>, AllocError>
     ensures { IfOk result (λ c. (fields_of c).has_globals ≡ false) }
 {
     let keys = word(alloc, "KEY", "A key").action(ArgAction::Append);
-    described(alloc, "ask", ASK)
+    explained(alloc, "ask", ASK)?
         .after_help(DASHES)
         .arg(word(alloc, "FILE", "A saved file"))?
         .arg(keys.num_args(1..))
@@ -283,7 +303,7 @@ fn ask_command<'a>(alloc: Global) -> Result<Command<'a>, AllocError>
 fn list_command<'a>(alloc: Global) -> Result<Command<'a>, AllocError>
     ensures { IfOk result (λ c. (fields_of c).has_globals ≡ false) }
 {
-    described(alloc, "list", LIST)
+    explained(alloc, "list", LIST)?
         .after_help(DASHES)
         .arg(word(alloc, "FILE", "A saved summary"))
 }
@@ -291,7 +311,7 @@ fn list_command<'a>(alloc: Global) -> Result<Command<'a>, AllocError>
 fn describe_command<'a>(alloc: Global) -> Result<Command<'a>, AllocError>
     ensures { IfOk result (λ c. (fields_of c).has_globals ≡ false) }
 {
-    described(alloc, "describe", DESCRIBE)
+    explained(alloc, "describe", DESCRIBE)?
         .after_help(DASHES)
         .arg(word(alloc, "FILE", "A saved file"))
 }

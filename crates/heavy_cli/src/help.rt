@@ -21,7 +21,7 @@ Records come on standard input, one a line, as CSV without a header: key,weight 
 key alone, which weighs 1. A key has 1 to 4096 bytes, a weight is a number from 1 on,
 and all weights together are at most 9223372036854775807. A key with a comma, a quote
 or a line feed in it stands in quotes. Answers go to standard output; a fault is one
-line on standard error.",
+line on standard error, and two on a terminal or with --explain.",
     end: "Exit status: 0 done; 1 a device failed (input, output or a file); 2 wrong usage;
 3 refused input (a record, a file or a key); 4 out of memory.
 

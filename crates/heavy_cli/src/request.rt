@@ -6,7 +6,7 @@ ghost use Rattle.heavy_cli.specs.Request.{Answers, AreOptions, AreRowOptions, As
 ghost use Rattle.heavy_cli.specs.Request.{IsAskedBy, IsAskedFrom, NamesTree, all_words, first_word};
 
 use crate::arguments::{
-    DEPTH, K, PIECES, PROGRESS, SEED, SHARE, TOP, WIDTH, WORKERS, command_line,
+    DEPTH, EXPLAIN, K, PIECES, PROGRESS, SEED, SHARE, TOP, WIDTH, WORKERS, command_line,
 };
 use crate::words::{WordSource, bytes_of, read_words, texts_of};
 use clap::error::ErrorKind;
@@ -20,6 +20,8 @@ pub struct Invocation {
     pub request: Request,
     /// Whether it is told how far standard input is read.
     pub tells_progress: bool,
+    /// Whether more is told about a fault.
+    pub explains: bool,
 }
 
 /// What a command line asks for.
@@ -276,6 +278,7 @@ fn request_in(alloc: Global, words: &[Vec<u8>]) -> Result<Invocation, UsageError
     Ok(Invocation {
         request: request_of(alloc, name, found)?,
         tells_progress: found.get_flag(PROGRESS),
+        explains: found.get_flag(EXPLAIN),
     })
 }
 

@@ -24,4 +24,6 @@ returns c = record {
   request = c.in_ok-request_of.ensures;
   told = c.get_flag.ensures.value;
   untold = c.get_flag.ensures.none;
+  explained = c.get_flag-2.ensures.value;
+  unexplained = c.get_flag-2.ensures.none;
 }

@@ -1,0 +1,184 @@
+//! More about a fault, in a second line: where standard error is a terminal, or where it is asked
+//! for. No contract says what these lines say, and each may change.
+
+use crate::request::{Command, Request};
+use heavy::{BadRecordCause, Share, ToolError, Totals};
+use hh_records::threshold_of;
+use std::{fmt, fs};
+
+/// The most counters of a summary.
+const MOST_COUNTERS: u64 = 65_535;
+
+/// The name of a file where none is named.
+const NO_NAME: &[u8] = b"";
+
+/// What a weight has to be, and what may stand in its place.
+const WEIGHT: &str = "a weight is a whole number from 1 on; is the first line a header?";
+
+/// What a record has to be, by what is wrong with one.
+fn wanted(cause: BadRecordCause) -> &'static str {
+    match cause {
+        BadRecordCause::FieldCount => {
+            "a record is key,weight or a key alone; a key with a comma in it stands in quotes"
+        }
+        BadRecordCause::EmptyKey | BadRecordCause::KeyTooLong => "a key has 1 to 4096 bytes",
+        BadRecordCause::BadWeight => WEIGHT,
+        BadRecordCause::ZeroWeight => "a weight is a whole number from 1 on",
+        BadRecordCause::TotalTooLarge => "all weights together are at most 9223372036854775807",
+    }
+}
+
+/// A file's name, in which a terminal finds no command.
+#[derive(Clone, Copy)]
+struct Name<'a>(&'a [u8]);
+
+impl<'a> fmt::Display for Name<'a> {
+    fn fmt<W: fmt::Write>(&self, f: &mut fmt::Formatter<W>) -> fmt::Result {
+        let Ok(text) = str::from_utf8(self.0) else {
+            return write!(f, "{}", self.0.escape_ascii());
+        };
+        for character in text.chars() {
+            if character.is_control() {
+                write!(f, "{}", character.escape_default())?;
+            } else {
+                write!(f, "{character}")?;
+            }
+        }
+        Ok(())
+    }
+}
+
+/// The name of the file with this number, from 1 on, that a command was given.
+fn name_in(command: &Command, number: u64) -> &[u8] {
+    match command {
+        Command::Summarise { .. } | Command::Table { .. } => NO_NAME,
+        Command::Merge { first, others } => match number.checked_sub(2) {
+            None => first.as_slice(),
+            Some(place) => match others.get(place as usize) {
+                Some(name) => name.as_slice(),
+                None => NO_NAME,
+            },
+        },
+        Command::Ask { file, .. } => file.as_slice(),
+        Command::List { file } => file.as_slice(),
+        Command::Describe { file } => file.as_slice(),
+        Command::Condense { file } => file.as_slice(),
+        Command::Confirm { file, .. } => file.as_slice(),
+    }
+}
+
+/// The same of what was asked for.
+fn name_of(request: &Request, number: u64) -> &[u8] {
+    match request {
+        Request::Report { .. } => NO_NAME,
+        Request::Answer(command) => name_in(command, number),
+    }
+}
+
+/// Whether bytes are what a text has.
+fn are_text(bytes: &[u8]) -> bool {
+    bytes.iter().all(|byte| *byte >= b' ' || matches!(*byte, b'\t' | b'\n' | b'\r'))
+}
+
+/// What the bytes of a file that is refused look like.
+fn looks(bytes: &[u8]) -> &'static str {
+    match bytes {
+        [] => "is empty",
+        [b'H', b'H', b'S', b'1' | b'2', ..] => "begins as a saved file, and is damaged or cut off",
+        [b'H', b'H', b'S', ..] => "is a saved file of a version that isn't known here",
+        [0x1f, 0x8b, ..] => "looks like gzip: `gzip -dc` unpacks it",
+        [0x28, 0xb5, 0x2f, 0xfd, ..] => "looks like zstd: `zstd -dc` unpacks it",
+        [0xfd, b'7', b'z', b'X', b'Z', ..] => "looks like xz: `xz -dc` unpacks it",
+        [b'B', b'Z', b'h', ..] => "looks like bzip2: `bzip2 -dc` unpacks it",
+        [b'P', b'K', 3, 4, ..] => "looks like a zip archive",
+        _ if are_text(bytes) => "looks like text: `heavy summarise` saves records of such",
+        _ => "looks like no saved file",
+    }
+}
+
+/// The system's reason in the text of a fault, which ends by the fault's number.
+fn reason_in(text: &str) -> &str {
+    match text.split_once(" (os error") {
+        Some((reason, _)) => reason,
+        None => text,
+    }
+}
+
+/// Tells why a file can't be read. It is tried once more, so that the system says why.
+fn tell_unread(rt: &HostRuntime, name: &[u8]) {
+    let Ok(path) = str::from_utf8(name) else {
+        let _ = eprintln!(rt; "  {}: its name isn't UTF-8", Name(name));
+        return;
+    };
+    let Err(error) = fs::read(rt, path) else {
+        let _ = eprintln!(rt; "  {}: it can be read now", Name(name));
+        return;
+    };
+    if let Ok(text) = format!(in rt.alloc(); "{error}") {
+        let _ = eprintln!(rt; "  {}: {}", Name(name), reason_in(&text));
+    }
+}
+
+/// Tells what a file that is refused looks like.
+fn tell_looks(rt: &HostRuntime, name: &[u8]) {
+    let Ok(path) = str::from_utf8(name) else {
+        return;
+    };
+    if let Ok(bytes) = fs::read(rt, path) {
+        let _ = eprintln!(rt; "  {} {}", Name(name), looks(&bytes));
+    }
+}
+
+/// Tells two totals that differ.
+fn tell_totals(rt: &HostRuntime, name: &[u8], totals: Option<Totals>) {
+    if let Some(Totals { summary, records }) = totals {
+        let _ = eprintln!(rt;
+            "  {} has {summary}, and the records have {records}",
+            Name(name)
+        );
+    }
+}
+
+/// Tells which k a share needs.
+fn tell_share(rt: &HostRuntime, share: &Share, owner: &str) {
+    match threshold_of(MOST_COUNTERS, share) {
+        Some((p, q)) => {
+            let least = q.saturating_sub(1).checked_div(p).unwrap_or(0);
+            let _ = eprintln!(rt; "  {p}/{q} needs a k of {least} or more{owner}");
+        }
+        None => {
+            let _ = eprintln!(rt; "  a share is two whole numbers, as 1/50, from 1/65536 to 1/1");
+        }
+    }
+}
+
+/// Tells which k the share needs that a command was given.
+fn tell_threshold(rt: &HostRuntime, request: &Request) {
+    match request {
+        Request::Report { options, .. } => tell_share(rt, &options.threshold, ""),
+        Request::Answer(Command::Confirm { threshold, .. }) => {
+            tell_share(rt, threshold, ", and the summary has a k of its own");
+        }
+        Request::Answer(_) => {}
+    }
+}
+
+/// Tells more about a fault of what was asked for, where there is more to say.
+pub fn tell_more(rt: &HostRuntime, fault: &ToolError, request: &Request, totals: Option<Totals>) {
+    match fault {
+        ToolError::FileFault { number } => tell_unread(rt, name_of(request, *number)),
+        ToolError::BadFile { number, .. } => tell_looks(rt, name_of(request, *number)),
+        ToolError::MixedKinds { number } | ToolError::CannotMerge { number, .. } => {
+            let _ = eprintln!(rt; "  {}", Name(name_of(request, *number)));
+        }
+        ToolError::NotCounters => {
+            let _ = eprintln!(rt; "  {} is a Count-Min table", Name(name_of(request, 1)));
+        }
+        ToolError::TotalDiffers => tell_totals(rt, name_of(request, 1), totals),
+        ToolError::BadThreshold => tell_threshold(rt, request),
+        ToolError::BadRecord { cause, .. } => {
+            let _ = eprintln!(rt; "  {}", wanted(*cause));
+        }
+        _ => {}
+    }
+}
