@@ -288,6 +288,7 @@ class _Arrow:
         if null is not None:
             raise TypeError(f"keys[{null}]: a key must be bytes or str, not null")
         offsets = self.numbers(1, _ARROW_OFFSETS[self.format], self.length + 1) if self.length else array.array("q", [0])
+        _test_sizes(list(map(operator.sub, offsets[1:], offsets)))
         first, last = offsets[0], offsets[-1]
         data = ctypes.string_at(self._array.buffers[2] + first, last - first) if last > first else b""
         ends = array.array("Q", [end - first for end in offsets[1:]] if first else offsets[1:])
@@ -313,32 +314,36 @@ def _array_of(given: Any) -> Any:
 def _numpy_columns(texts: Any) -> _Columns:
     """The columns of a numpy array of bytes of one width, without the NULs behind each, as numpy has it."""
     numpy: Any = sys.modules["numpy"]
-    sizes = numpy.char.str_len(texts)
-    kept = numpy.ascontiguousarray(texts)
-    width = kept.dtype.itemsize
-    if width and len(kept) and sizes.min() < width:
-        table = kept.view(numpy.uint8).reshape(len(kept), width)
-        kept = table[numpy.arange(width) < sizes[:, None]]
+    width = texts.dtype.itemsize
+    if not len(texts) or not width:
+        _test_sizes([0] * len(texts))
+        return _column_of([])
+    table = numpy.ascontiguousarray(texts).view(numpy.uint8).reshape(len(texts), width)
+    written = table != 0
+    sizes = width - written[:, ::-1].argmax(axis=1)
+    sizes[(sizes == width) & ~written[:, -1]] = 0
+    if not 1 <= sizes.min() <= sizes.max() <= _MAX_KEY:
+        _test_sizes(sizes.tolist())
     ends = array.array("Q")
     ends.frombytes(numpy.cumsum(sizes, dtype=numpy.uint64).tobytes())
-    return _Columns(kept.tobytes(), ends)
+    if numpy.count_nonzero(written) < ends[-1]:
+        written = numpy.arange(width) < sizes[:, None]  # a NUL stands within a key
+    return _Columns(table[written].tobytes(), ends)
+
+
+def _test_sizes(sizes: list[int]) -> None:
+    """Refuses the first size that no key has."""
+    if sizes and not 1 <= min(sizes) <= max(sizes) <= _MAX_KEY:
+        index = next(i for i, size in enumerate(sizes) if not 1 <= size <= _MAX_KEY)
+        raise ValueError(f"keys[{index}]: {_refused_key(sizes[index])}")
 
 
 def _columns_of(keys: Any) -> _Columns | None:
     """The columns of an array of texts or bytes, all of them checked; None where keys are no such array."""
     if hasattr(keys, "__arrow_c_array__"):
-        columns = _Arrow(keys).columns()
-    else:
-        texts = _array_of(keys)
-        if texts is None or texts.dtype.kind != "S":
-            return None
-        columns = _numpy_columns(texts)
-    ends = columns.ends
-    sizes = list(map(operator.sub, ends, itertools.chain([0], ends)))
-    if sizes and not 1 <= min(sizes) <= max(sizes) <= _MAX_KEY:
-        index = next(i for i, size in enumerate(sizes) if not 1 <= size <= _MAX_KEY)
-        raise ValueError(f"keys[{index}]: {_refused_key(sizes[index])}")
-    return columns
+        return _Arrow(keys).columns()
+    texts = _array_of(keys)
+    return None if texts is None or texts.dtype.kind != "S" else _numpy_columns(texts)
 
 
 def _values_of(given: Any) -> Any:
@@ -559,13 +564,9 @@ class _Growing(_Saved):
         (5, 5)
         """
         if self._keys:
-            self._saved = self._gathered()
+            self._saved = _with_items(self._saved, _column_of(self._keys), array.array("Q", self._weights))
             self._keys, self._weights = [], []
         return self._saved
-
-    def _gathered(self) -> bytes:
-        """The file's bytes with what is gathered."""
-        return _with_items(self._saved, _column_of(self._keys), array.array("Q", self._weights))
 
     def update(self, key: Key, weight: int = 1) -> None:
         """Adds one item: what `update_many` does with one key and one weight.
@@ -576,20 +577,21 @@ class _Growing(_Saved):
         >>> summary.ask("a")
         (5, 5)
         """
-        word, number = _key_to_add(key), _weight_to_add(weight)
-        before = self.total if self._total is None else self._total
-        if before + number > _MAX_TOTAL:
+        # bytes and int are most of what comes, and are tested here alone
+        word = key if type(key) is bytes and 1 <= len(key) <= _MAX_KEY else _key_to_add(key)
+        number = weight if type(weight) is int and 1 <= weight <= _MAX_TOTAL else _weight_to_add(weight)
+        total = (self.total if self._total is None else self._total) + number
+        if total > _MAX_TOTAL:
             raise HeavyError(_REFUSED, 9, 6, 1)
         self._keys.append(word)
         self._weights.append(number)
         if len(self._keys) >= _BATCH:
             try:
-                self._saved = self._gathered()
+                self.to_bytes()
             except BaseException:
                 del self._keys[-1], self._weights[-1]
                 raise
-            self._keys, self._weights = [], []
-        self._total = before + number
+        self._total = total
 
     def update_many(self, keys: Iterable[Key], weights: Iterable[int] | None = None) -> None:
         """Adds an item for each of these keys, in order, with as many weights, or else of weight 1 each. A text is its

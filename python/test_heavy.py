@@ -344,6 +344,9 @@ class Arrays(unittest.TestCase):
             self.assertEqual(self.given(keys), [(b"ab", 1), (b"abc", 1), (b"c", 2)])
             self.assertEqual(self.given(keys[::-2], numpy.array([5, 3])), [(b"c", 8)])
         self.assertEqual(self.given(numpy.array([b"a\0b", b"cd\0"])), [(b"a\0b", 1), (b"cd", 1)])
+        self.assertEqual(self.given(numpy.array([b"\0b", b"cd", b"e"])), [(b"\0b", 1), (b"cd", 1), (b"e", 1)])
+        self.refused(ValueError, r"^keys\[0\]: .* not 0$", numpy.array([b""]))
+        self.refused(ValueError, r"^keys\[1\]: .* not 4097$", numpy.array([b"a", b"x" * 4097]))
         self.assertEqual(self.given(numpy.array(["é", "z"])), [(b"z", 1), ("é".encode(), 1)])
         for kind in ("i1", "u2", "<i4", ">i8", "u8"):
             self.assertEqual(self.given(["a", "b"], numpy.array([5, 3], dtype=kind)), [(b"a", 5), (b"b", 3)])
