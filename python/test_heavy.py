@@ -174,6 +174,20 @@ class Growing(unittest.TestCase):
         self.assertNotEqual(summary, summary.to_bytes())
         self.assertRaises(TypeError, hash, summary)
 
+    def test_no_memory(self) -> None:
+        """Where the library has no memory nothing of the call is added, and what was gathered is still there."""
+        refusal = heavy.HeavyError(4, 18, 0, 0)
+        for make in (lambda: heavy.Summary(k=5), lambda: heavy.Table(width=8, depth=2)):
+            with mock.patch.object(heavy, "_BATCH", 3):
+                grown, before = make(), make()
+                for each in (grown, before):
+                    each.update_many(["a", "b"])
+                for call in (lambda: grown.update("c"), lambda: grown.update_many(["c"]), lambda: grown.update_many([*"cde"])):
+                    with mock.patch.object(heavy, "_answer", side_effect=refusal):
+                        self.assertRaisesRegex(heavy.HeavyError, "^out of memory$", call)
+                    self.assertEqual((grown._keys, grown.total), ([b"a", b"b"], 2))
+                self.assertEqual(grown, before)
+
     def test_many_items(self) -> None:
         keys = [b"%d" % (i * i % 997) for i in range(20_000)]
         whole = heavy.Summary.of_csv(b"\n".join(keys), 50)
