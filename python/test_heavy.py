@@ -132,6 +132,9 @@ class Growing(unittest.TestCase):
 
     def test_other_files_are_refused(self) -> None:
         table = heavy.Summary(heavy.Table.of_csv(RECORDS).to_bytes())
+        other = heavy.Table(heavy.Summary.of_csv(RECORDS).to_bytes())
+        for call in (lambda: other.update("a"), lambda: other.width, lambda: other.total):
+            self.assertRaisesRegex(heavy.HeavyError, "^file 1: another kind$", call)
         for file, text in ((table, "file 1: not a counter summary"), (heavy.Summary(b"HHS"), "file 1: truncated")):
             calls = [lambda: file.update("a"), lambda: file.update_many([]), lambda: list(file), lambda: len(file)]
             for call in [*calls, lambda: file.k, lambda: file.total, lambda: file.slack]:
@@ -170,6 +173,20 @@ class Growing(unittest.TestCase):
         self.assertEqual(summary.entries(), [(b"a", 1), (b"b", 3)])
         self.assertNotEqual(summary, summary.to_bytes())
         self.assertRaises(TypeError, hash, summary)
+
+    def test_no_memory(self) -> None:
+        """Where the library has no memory nothing of the call is added, and what was gathered is still there."""
+        refusal = heavy.HeavyError(4, 18, 0, 0)
+        for make in (lambda: heavy.Summary(k=5), lambda: heavy.Table(width=8, depth=2)):
+            with mock.patch.object(heavy, "_BATCH", 3):
+                grown, before = make(), make()
+                for each in (grown, before):
+                    each.update_many(["a", "b"])
+                for call in (lambda: grown.update("c"), lambda: grown.update_many(["c"]), lambda: grown.update_many([*"cde"])):
+                    with mock.patch.object(heavy, "_answer", side_effect=refusal):
+                        self.assertRaisesRegex(heavy.HeavyError, "^out of memory$", call)
+                    self.assertEqual((grown._keys, grown.total), ([b"a", b"b"], 2))
+                self.assertEqual(grown, before)
 
     def test_many_items(self) -> None:
         keys = [b"%d" % (i * i % 997) for i in range(20_000)]
@@ -216,6 +233,221 @@ class Growing(unittest.TestCase):
         for key, weight in items:
             exact[key] = exact.get(key, 0) + weight
         return summary
+
+
+class GrowingTables(unittest.TestCase):
+    """Tables that begin empty and grow by items."""
+
+    def test_empty(self) -> None:
+        for table, width, depth, seed in (
+            (heavy.Table(), 1024, 4, 0), (heavy.Table(width=7, depth=2, seed=9), 7, 2, 9), (heavy.Table(depth=16), 1024, 16, 0),
+        ):
+            self.assertEqual((table.width, table.depth, table.total, table.estimate("a")), (width, depth, 0, 0))
+            words = ("--width", str(width), "--depth", str(depth), "--seed", str(seed))
+            self.assertEqual(table.to_bytes(), program("table", *words).stdout)
+        for named, text in (({"depth": 0, "width": 0}, "depth"), ({"depth": 17}, "depth"), ({"width": 65537}, "width")):
+            self.assertRaisesRegex(heavy.HeavyError, f"^{text} must be", heavy.Table, **named)
+        for words, named in (((), {"width": 2.0}), ((None,), {}), ((b"",), {"width": 5}), ((b"",), {"seed": 0})):
+            self.assertRaises(TypeError, heavy.Table, *words, **named)
+
+    def test_items(self) -> None:
+        for many in (1, 3, 8192):
+            with self.subTest(many), mock.patch.object(heavy, "_BATCH", many):
+                table = heavy.Table(width=8, depth=3)
+                table.update("a", 5)
+                table.update_many(["b", b"c"], [3, 2])
+                table.update("a")
+                self.assertEqual(table, heavy.Table.of_csv(RECORDS, 8, 3))
+                self.assertEqual((table.total, repr(table)), (11, "<heavy.Table width=8 depth=3 total=11>"))
+                for keys, weights, kind in ((["a", ""], None, ValueError), (["a"], [2**63 - 11], heavy.HeavyError)):
+                    self.assertRaises(kind, table.update_many, keys, weights)
+                self.assertEqual(table, heavy.Table.of_csv(RECORDS, 8, 3))
+                table += heavy.Table.of_csv(OTHERS, 8, 3)
+                self.assertEqual(table, heavy.Table.of_csv(RECORDS + OTHERS, 8, 3))
+                with self.assertRaises(TypeError):
+                    table += heavy.Summary()
+        self.assertNotEqual(heavy.Table(), heavy.Summary())
+
+    def test_beside_a_dictionary(self) -> None:
+        """100 random sequences of calls: no estimate is below the exact weight, and the bytes are the program's."""
+        for seed in range(100):
+            drawn, exact = random.Random(seed), {}
+            table = heavy.Table(width=8, depth=2, seed=seed)
+            for _ in range(drawn.randint(1, 20)):
+                items = [(b"%d" % int(drawn.expovariate(0.2)), drawn.randint(1, 9)) for _ in range(drawn.randint(0, 9))]
+                other = table if drawn.random() < 0.5 else heavy.Table(width=8, depth=2, seed=seed)
+                other.update_many([key for key, _ in items], [weight for _, weight in items])
+                table = table if other is table else heavy.merge(table, other)
+                for key, weight in items:
+                    exact[key] = exact.get(key, 0) + weight
+            records = b"".join(b"%s,%d\n" % item for item in exact.items())
+            self.assertEqual(table, heavy.Table.of_csv(records, 8, 2, seed))
+            for key, weight in exact.items():
+                self.assertGreaterEqual(table.estimate(key), weight)
+
+
+class Arrow:
+    """An array as Arrow's C interface gives it, from buffers that this object keeps."""
+
+    def __init__(self, letter: bytes, length: int, *buffers: bytes | None, offset: int = 0, nulls: int = 0) -> None:
+        self.held = [None if it is None else ctypes.create_string_buffer(it, len(it)) for it in buffers]
+        places = (ctypes.c_void_p * len(buffers))(*(it and ctypes.addressof(it) for it in self.held))
+        self.array = heavy._ArrowArray(length=length, null_count=nulls, offset=offset, n_buffers=len(buffers), buffers=places)
+        self.schema = heavy._ArrowSchema(format=letter)
+
+    def __arrow_c_array__(self, requested: object = None) -> tuple[object, object]:
+        made = ctypes.pythonapi.PyCapsule_New
+        made.restype, made.argtypes = ctypes.py_object, [ctypes.c_void_p, ctypes.c_char_p, ctypes.c_void_p]
+        return (
+            made(ctypes.addressof(self.schema), b"arrow_schema", None), made(ctypes.addressof(self.array), b"arrow_array", None)
+        )
+
+
+def packed(code: str, *numbers: int) -> bytes:
+    return array.array(code, numbers).tobytes()
+
+
+class Arrays(unittest.TestCase):
+    """Arrays of other libraries, which are handed over whole."""
+
+    def given(self, keys: object, weights: object = None) -> list[tuple[bytes, int]]:
+        summary = heavy.Summary(k=9)
+        summary.update_many(keys, weights)
+        return summary.entries()
+
+    def refused(self, kind: type[Exception], text: str, keys: object, weights: object = None) -> None:
+        summary = heavy.Summary.of_csv(RECORDS, 2)
+        self.assertRaisesRegex(kind, text, summary.update_many, keys, weights)
+        self.assertEqual((summary, summary.total), (heavy.Summary.of_csv(RECORDS, 2), 11))
+
+    def test_arrow(self) -> None:
+        for many in (1, 2, 1 << 20):
+            with mock.patch.object(heavy, "_COLUMN_BATCH", many):
+                for letter, code in ((b"u", "i"), (b"z", "i"), (b"U", "q"), (b"Z", "q")):
+                    keys = Arrow(letter, 3, None, packed(code, 0, 2, 3, 6), b"abcabc")
+                    self.assertEqual(self.given(keys), [(b"ab", 1), (b"abc", 1), (b"c", 1)])
+                    self.assertEqual(self.given(keys, [5, 3, 2]), [(b"ab", 5), (b"abc", 2), (b"c", 3)])
+                    part = Arrow(letter, 2, None, packed(code, 0, 2, 3, 6), b"abcabc", offset=1)
+                    self.assertEqual(self.given(part, [5, 3]), [(b"abc", 3), (b"c", 5)])
+        self.assertEqual(self.given(Arrow(b"u", 0, None, None, None)), [])
+        for letter, code in ((b"c", "b"), (b"S", "H"), (b"i", "i"), (b"l", "q"), (b"L", "Q")):
+            weights = Arrow(letter, 2, None, packed(code, 7, 5, 3), offset=1)
+            self.assertEqual(self.given(["a", "b"], weights), [(b"a", 5), (b"b", 3)])
+
+    def test_refused_arrow(self) -> None:
+        texts = packed("i", 0, 1, 2, 3), b"abc"
+        # of the places 1, 2 and 3 the third has no value
+        self.refused(TypeError, r"^keys\[1\]: .*null", Arrow(b"u", 2, b"\x03", *texts, offset=1, nulls=1))
+        self.refused(TypeError, r"^keys\[1\]: .*null", Arrow(b"u", 2, b"\x03", *texts, offset=1, nulls=-1))
+        self.assertEqual(self.given(Arrow(b"u", 2, b"\x06", *texts, offset=1, nulls=-1)), [(b"b", 1), (b"c", 1)])
+        self.refused(ValueError, r"^keys\[1\]: .* not 0$", Arrow(b"u", 3, None, packed("i", 0, 1, 1, 2), b"ab"))
+        self.refused(ValueError, r"^keys\[0\]: .* not 4097$", Arrow(b"u", 1, None, packed("i", 0, 4097), b"x" * 4097))
+        self.refused(TypeError, "Arrow's 'l'", Arrow(b"l", 1, None, packed("q", 1)))
+        self.refused(TypeError, "Arrow's 'g'", ["a"], Arrow(b"g", 1, None, b"\0" * 8))
+        self.refused(TypeError, r"^weights\[0\]: .*null", ["a"], Arrow(b"l", 1, b"\0", packed("q", 1), nulls=1))
+        self.refused(ValueError, r"^weights\[1\]: .* not -1$", ["a", "b"], Arrow(b"l", 2, None, packed("q", 1, -1)))
+        self.refused(ValueError, "fewer weights", ["a", "b"], Arrow(b"l", 1, None, packed("q", 1)))
+
+    def test_numpy(self) -> None:
+        try:
+            import numpy
+        except ImportError:
+            self.skipTest("numpy is not here")
+        for kind in ("S3", "S9", object):
+            keys = numpy.array([b"ab", b"c", b"abc", b"c"], dtype=kind)
+            self.assertEqual(self.given(keys), [(b"ab", 1), (b"abc", 1), (b"c", 2)])
+            self.assertEqual(self.given(keys[::-2], numpy.array([5, 3])), [(b"c", 8)])
+        self.assertEqual(self.given(numpy.array([b"a\0b", b"cd\0"])), [(b"a\0b", 1), (b"cd", 1)])
+        self.assertEqual(self.given(numpy.array([b"\0b", b"cd", b"e"])), [(b"\0b", 1), (b"cd", 1), (b"e", 1)])
+        self.refused(ValueError, r"^keys\[0\]: .* not 0$", numpy.array([b""]))
+        self.refused(ValueError, r"^keys\[1\]: .* not 4097$", numpy.array([b"a", b"x" * 4097]))
+        self.assertEqual(self.given(numpy.array(["é", "z"])), [(b"z", 1), ("é".encode(), 1)])
+        for kind in ("i1", "u2", "<i4", ">i8", "u8"):
+            self.assertEqual(self.given(["a", "b"], numpy.array([5, 3], dtype=kind)), [(b"a", 5), (b"b", 3)])
+        self.assertEqual(self.given(numpy.array([], dtype="S3"), numpy.array([], dtype="i8")), [])
+        for keys, weights, kind, text in (
+            (numpy.array([b"a", b""]), None, ValueError, r"^keys\[1\]: .* not 0$"),
+            (numpy.array([1, 2]), None, TypeError, r"^keys\[0\]: .*'int'"),
+            (numpy.array([[b"a"], [b"b"]]), None, TypeError, r"^keys\[0\]: .*'ndarray'"),
+            (["a", "b"], numpy.array([1, -1]), ValueError, r"^weights\[1\]: .* not -1$"),
+            (["a", "b"], numpy.array([1, 2**63], dtype="u8"), ValueError, r"^weights\[1\]"),
+            (["a", "b"], numpy.array([1.0, 2.5]), TypeError, r"^weights\[0\]: .*'float'"),
+            (["a"], numpy.array([True]), TypeError, r"^weights\[0\]: .*'bool'"),
+            (["a"], numpy.array([5], dtype="m8[s]"), TypeError, "timedelta"),
+            (["a", "b"], numpy.array([1, 2, 3]), ValueError, "more weights"),
+        ):
+            self.refused(kind, text, keys, weights)
+
+    def test_pandas(self) -> None:
+        try:
+            import pandas
+        except ImportError:
+            self.skipTest("pandas is not here")
+        for kind in (object, "string", "category"):
+            keys = pandas.Series(["ab", "c", "ab"], index=[7, 5, 3], dtype=kind)
+            self.assertEqual(self.given(keys, pandas.Series([5, 3, 2])), [(b"ab", 7), (b"c", 3)])
+        self.refused(TypeError, r"^keys\[1\]", pandas.Series(["a", None]))
+        self.refused(TypeError, r"^weights\[1\]", ["a", "b"], pandas.Series([1, None], dtype=object))
+        self.refused(TypeError, r"^weights\[0\]: .*'float'", ["a", "b"], pandas.Series([1, None]))
+
+
+class Reports(unittest.TestCase):
+    def test_items_are_confirmed(self) -> None:
+        summary = heavy.Summary.of_csv(RECORDS, 2)
+        keys, weights = ["a", b"b", "c", "a"], [5, 3, 2, 1]
+        self.assertEqual(summary.confirm_items(keys, weights), heavy.report(RECORDS, 2))
+        self.assertEqual(summary.confirm_items(keys, weights, (1, 2)), [(b"a", 6)])
+        self.assertEqual(summary.condense_items(keys, weights), summary.condense(RECORDS))
+        parts = summary.condense_items(keys[:2], weights[:2]) + summary.condense_items(keys[2:], weights[2:])
+        self.assertEqual(summary.confirm(parts), summary.confirm(RECORDS))
+        with self.assertRaisesRegex(heavy.HeavyError, "total is not"):
+            summary.confirm_items(keys)
+        with self.assertRaisesRegex(heavy.HeavyError, "threshold must be"):
+            summary.confirm_items(keys, weights, (1, 4))
+        for call in (summary.condense_items, summary.confirm_items):
+            self.assertRaisesRegex(ValueError, r"^keys\[1\]", call, ["a", ""])
+        with self.assertRaisesRegex(heavy.HeavyError, "record 2: total too large"):
+            summary.condense_items(["a", "b"], [2**63 - 1, 1])
+
+    def test_reports(self) -> None:
+        records = b"".join(b"key%d,%d\n" % (i * i % 13, i % 7 + 1) for i in range(5000))
+        with tempfile.TemporaryDirectory() as room:
+            path = Path(room, "records")
+            for text in (records, RECORDS, OTHERS, b"", b'"a\n""b",5\nb\n', records + b"\n\xef\xbb\xbfa,7\n" * 900):
+                path.write_bytes(text)
+                for words, share in (([], None), (["--threshold", "1/4"], (1, 4))):
+                    ran = program("report", "--k", "5", *words, given=text)
+                    wanted = heavy._rows_of(ran.stdout)
+                    self.assertEqual(ran.returncode, 0)
+                    for given in (text, path, str(path)):
+                        for workers in (1, 2, 3, 64):
+                            self.assertEqual(heavy.report(given, 5, share, workers), wanted)
+            self.assertEqual(heavy.report(b'"a\n""b",5\nb,2\n', 5), [(b'a\n"b', 5), (b"b", 2)])
+            bad = records + b"a,0\n"
+            for workers in (1, 4):
+                for k, share, text in ((5, None, "record 5001: zero weight"), (0, None, "k must"), (5, (1, 7), "threshold must")):
+                    given = bad if share is None else records
+                    self.assertRaisesRegex(heavy.HeavyError, f"^{text}", heavy.report, given, k, share, workers)
+            self.assertRaises(ValueError, heavy.report, RECORDS, 5, None, 0)
+
+    def test_paths(self) -> None:
+        with tempfile.TemporaryDirectory() as room:
+            path = Path(room, "records")
+            path.write_bytes(RECORDS)
+            for given in (path, str(path)):
+                for make in (heavy.Summary.of_csv, heavy.Table.of_csv):
+                    self.assertEqual(make(given, 3), make(RECORDS, 3))
+                summary = heavy.Summary.of_csv(given)
+                self.assertEqual(summary.confirm(given), summary.confirm(RECORDS))
+                self.assertEqual(summary.condense(given), summary.condense(RECORDS))
+            saved = Path(room, "saved")
+            for file in (heavy.Summary.of_csv(RECORDS), heavy.Table.of_csv(RECORDS)):
+                file.save(saved)
+                self.assertEqual(type(file).load(str(saved)), file)
+            self.assertEqual(sorted(os.listdir(room)), ["records", "saved"])
+            self.assertRaises(FileNotFoundError, summary.save, Path(room, "none", "saved"))
+            self.assertRaises(IsADirectoryError, summary.save, room)
+            self.assertEqual(sorted(os.listdir(room)), ["records", "saved"])
 
 
 class Same(unittest.TestCase):
@@ -415,9 +647,12 @@ class Same(unittest.TestCase):
                 return b"a,1\n"
 
         good = heavy.Summary.of_csv(RECORDS)
-        for given in (5, "a,1\n", None, [97], Named(), io.StringIO("a,1\n")):
-            for call in (heavy.Summary.of_csv, heavy.Table.of_csv, heavy.Summary, good.confirm, good.condense):
+        for given in (5, None, [97], Named(), io.StringIO("a,1\n")):
+            for call in (heavy.Summary.of_csv, heavy.Table.of_csv, heavy.Summary, good.confirm, good.condense, heavy.report):
                 self.assertRaises(TypeError, call, given)
+        for call in (heavy.Summary, heavy.Table):
+            self.assertRaises(TypeError, call, "a,1\n")
+        self.assertRaises(FileNotFoundError, heavy.Summary.of_csv, "a,1\n")
         self.assertEqual(heavy.Summary.of_csv(array.array("b", b"a,1\n")).entries(), [(b"a", 1)])
         for key in (5, None, [97], Named()):
             self.assertRaises(TypeError, good.ask, key)

@@ -31,6 +31,8 @@ SSH = '#!/bin/sh\nshift\nexec sh -c "$*"\n'
 DAYS = {"monday.csv": b"10.0.0.1,5\n10.0.0.2,1\n", "tuesday.csv": b"10.0.0.1,2\n"}
 # what the lines of Python over these days give
 GIVEN = {
+    "heavy.report('monday.csv', k=100)": [(b"10.0.0.1", 5), (b"10.0.0.2", 1)],
+    "cells.estimate('10.0.0.1')": 2,
     "week.ask('10.0.0.1')": (7, 7),
     "week.list()": b"10.0.0.1,7,7\n10.0.0.2,1,1\n",
     "week.confirm(records)": b"10.0.0.1,7\n10.0.0.2,1\n",

@@ -1,7 +1,7 @@
 #!/usr/bin/env python3
 """Compares the header of the library for C with the definitions. Then installs the library and tries it from C and
 from Python: every call with answers known by hand, under the sanitizers of addresses and of undefined behaviour; each
-request for memory refused in turn; the Python module against the program; and a pool of processes. All of it by clang
+request for memory refused in turn; the Python module against the program; a pool of processes; and a stream. All of it by clang
 and by gcc where they are there, and by the toolchain's own clang, which needs neither a compiler nor headers of the
 machine.
 
@@ -14,8 +14,9 @@ import os
 import re
 import subprocess
 import sys
-import unittest
 import tempfile
+import time
+import unittest
 from pathlib import Path
 
 import header
@@ -126,6 +127,30 @@ class Library(programs.Checks):
         told = b"heavy: record 5001: zero weight\n"
         self.check("a pool's refusal", (ended.status, ended.out, ended.err) == (3, b"", told), ended)
 
+    def try_stream(self, prefix: str) -> None:
+        """The example of a stream tells all that came, in whatever minutes, and nothing of those before the last sixty."""
+        env = {**os.environ, "LIBHEAVY": f"{prefix}/lib/libheavy.so.1"}
+        words = [sys.executable, "-B", str(programs.TOP / "examples" / "stream.py")]
+        with tempfile.TemporaryDirectory() as folder:
+            one = programs.run([*words, folder, "9", "60"], b"a\nb\na\n\n" + b"x" * 5000 + b"\nc", env=env)
+            self.check("a minute", (one.status, one.out) == (0, b"a,2,2\nb,1,1\nc,1,1\n\n"), one)
+            both = programs.run([*words, folder, "9"], b"c\nc\n", env=env)
+            self.check("a minute more", (both.status, both.out) == (0, b"c,3,3\na,2,2\nb,1,1\n\n"), both)
+            with subprocess.Popen([*words, folder, "9", "0.2"], stdin=subprocess.PIPE, stdout=subprocess.PIPE, env=env) as ran:
+                for text in (b"d\nd", b"d\n", b"d\ne"):
+                    ran.stdin.write(text)
+                    ran.stdin.flush()
+                    time.sleep(0.3)
+                told = ran.communicate()[0].split(b"\n\n")
+            last = b"c,3,3\na,2,2\nd,2,2\nb,1,1\ndd,1,1\ne,1,1"
+            self.check("parts of a stream", (ran.returncode, told[-2:]) == (0, [last, b""]) and len(told) > 3, told)
+            later = programs.run([programs.built("heavy_cli"), "summarise", "--k", "9"], b"x\n").out
+            for i in range(59):
+                Path(folder, f"{10**19 + i}.heavy").write_bytes(later)
+            hour = programs.run([*words, folder, "9"], b"y\n", env=env)
+            left = len(os.listdir(folder))
+            self.check("sixty minutes", (hour.status, hour.out, left) == (0, b"x,59,59\ny,1,1\n\n", 60), (hour, left))
+
     def try_symbols(self, prefix: str) -> None:
         """The shared library shows its calls alone."""
         words = ["llvm-nm", "-D", "--defined-only", "--format=posix", f"{prefix}/lib/libheavy.so.1"]
@@ -146,6 +171,7 @@ class Library(programs.Checks):
         self.try_c(compiler, prefix)
         self.try_python(prefix)
         self.try_pool(prefix)
+        self.try_stream(prefix)
 
 
 if __name__ == "__main__":
