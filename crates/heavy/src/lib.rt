@@ -6,8 +6,8 @@ mod counting;
 mod error;
 mod files;
 mod items;
-mod layouts;
 pub mod laws;
+mod layouts;
 
 pub use commands::add::{add_items, empty_summary};
 pub use commands::ask::{ask_bytes, ask_key, ask_keys};
@@ -27,9 +27,10 @@ pub use commands::summarise::{Method, summary_bytes, summary_bytes_from};
 pub use commands::table::{table_bytes, table_bytes_from};
 pub use error::{KeyCause, MergeCause, ToolError, TreeFault};
 pub use hh_counters::Heavy;
-pub use layouts::{LayoutWords, layout_of};
 pub use hh_records::{
     BadRecordCause, Column, Layout, Out, ReadError, Records, ReportFault, RowOptions, Share, Sink,
-    SinkFault, WriteFault, printed_text, put, read_stream, report_text, write_printed, write_report,
+    SinkFault, WriteFault, printed_text, put, read_stream, report_text, write_printed,
+    write_report,
 };
 pub use hh_saved::Place;
+pub use layouts::{LayoutWords, layout_of};

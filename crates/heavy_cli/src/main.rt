@@ -13,8 +13,8 @@ mod words;
 use explain::tell_more;
 use files::{read_file, read_files};
 use heavy::{
-    Method, Out, ToolError, Totals, ask_bytes, condense_bytes, confirm_rows, describe_file,
-    list_keys, merge_bytes, put, report_rows, summary_bytes, table_bytes,
+    Method, Out, Records, ToolError, Totals, ask_bytes, condense_bytes, confirm_rows,
+    describe_file, list_keys, merge_bytes, put, report_rows, summary_bytes, table_bytes,
 };
 use progress::Metered;
 use request::{Command, Invocation, Request, UsageError, read_request};
@@ -52,7 +52,7 @@ fn answer(
             &read_file(rt, 1, file)?,
             threshold,
             rows,
-            input,
+            Records::of_reader(alloc, input),
             totals,
         ),
     }
@@ -113,7 +113,8 @@ fn main(rt: HostRuntime) -> ExitCode {
     let outcome = match &asked.request {
         Request::Report { options, rows } => {
             let mut out = Out::new(rt.stdout());
-            report_rows(&rt, rt.alloc(), options, rows, input, &mut out)
+            let records = Records::of_reader(rt.alloc(), input);
+            report_rows(&rt, rt.alloc(), options, rows, records, &mut out)
         }
         Request::Answer(command) => write_answer(&rt, command, input, &mut totals),
     };

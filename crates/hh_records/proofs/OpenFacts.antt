@@ -138,11 +138,15 @@ module _ {R : Type 0} (remaining : R → Option (List ℕ)) (layout : Layout) wh
       by None h k = tt
       by (Some bytes) (ps, left, later, rest_is, is) k =
           let (b, bs, at, others, both) = every-first remaining reader rest later rest_is in
-          let (qs, text_is, grown) = known (remaining reader) b at k in
-          (ps ++ qs, grown ps left, bs, others,
-          is ∙ ap (λ later. option_map (λ rs. ps ++ rs) (texts_parts layout later)) both
-          ∙ ap (λ o. option_map (λ rs. ps ++ rs) (option_and_then (λ zs. option_map (λ rs. zs ++ rs) (texts_parts layout bs)) o)) text_is
-          ∙ map-twice ps qs (texts_parts layout bs))
+          let (qs, text_is, grown) = known (remaining reader) b at k in (
+            ps ++ qs,
+            grown ps left,
+            bs,
+            others,
+            is ∙ ap (λ later. option_map (λ rs. ps ++ rs) (texts_parts layout later)) both
+                ∙ ap (λ o. option_map (λ rs. ps ++ rs) (option_and_then (λ zs. option_map (λ rs. zs ++ rs) (texts_parts layout bs)) o)) text_is
+                ∙ map-twice ps qs (texts_parts layout bs),
+          )
 
   pub open-refused : (names : Bool) (all : List R) (reader : R) (rest : List R) (old : List (Text R)) (x : TextError)
       → OpenedSoFar all (reader ∷ rest) old
@@ -183,9 +187,12 @@ module _ {R : Type 0} (remaining : R → Option (List ℕ)) (layout : Layout) wh
           × (texts_parts layout bytes ≡ Some ps))
       by None h = tt
       by (Some bytes) (ps, left, later, rest_is, is) =
-          let none : [] ≡ later = some-is rest_is in
-          (ps, left, is ∙ ap (λ later. option_map (λ rs. ps ++ rs) (texts_parts layout later)) (sym none)
-          ∙ ap Some (append-nil ps))
+          let none : [] ≡ later = some-is rest_is in (
+            ps,
+            left,
+            is ∙ ap (λ later. option_map (λ rs. ps ++ rs) (texts_parts layout later)) (sym none)
+                ∙ ap Some (append-nil ps),
+          )
 
 -- ---- texts that are read
 -- a record that fails ends the reading, whatever comes behind it
@@ -253,11 +260,14 @@ module _ {R : Type 0} (remaining : R → Option (List ℕ)) (allow : Bool) (t : 
             let (taken, count) = known (parts_left remaining one) rs here k in
             let sum = sum_by-append (λ (e : Entry). e.1) xs ys in
             let number : n + 1 + length rs ≡ after + 1 = omega (arith, count) in
-            let total : t + total_of xs + total_of ys ≡ t + total_of (xs ++ ys) = omega (arith, sum) in
-            (later, others, is ∙ ap (λ qs. joined xs (items_after allow (n + 1) (t + total_of xs) qs)) both
-            ∙ ap (joined xs) (items-more allow (n + 1) (t + total_of xs) ys rs later taken)
-            ∙ joined-twice xs ys _
-            ∙ rw (number, total) refl)
+            let total : t + total_of xs + total_of ys ≡ t + total_of (xs ++ ys) = omega (arith, sum) in (
+              later,
+              others,
+              is ∙ ap (λ qs. joined xs (items_after allow (n + 1) (t + total_of xs) qs)) both
+                  ∙ ap (joined xs) (items-more allow (n + 1) (t + total_of xs) ys rs later taken)
+                  ∙ joined-twice xs ys _
+                  ∙ rw (number, total) refl,
+            )
 
     pub texts-refused : (x : ReadError) → TextsSoFar (one ∷ rest) xs n
         → RowsRefused allow n (t + total_of xs) (parts_left remaining one) x

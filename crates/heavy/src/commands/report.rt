@@ -219,7 +219,14 @@ pub fn run_report<T: Threads + Wait + Sync, R: Read + Drop, S: Sink>(
     ensures failed { S.has_failed sink.new ≡ failed_by result }
 {
     let rows = RowOptions::plain();
-    report_rows(rt, alloc, options, &rows, Records::of_reader(alloc, reader), sink)
+    report_rows(
+        rt,
+        alloc,
+        options,
+        &rows,
+        Records::of_reader(alloc, reader),
+        sink,
+    )
 }
 
 /// [`run_report`] of records in texts and columns of one's own, with rows as `rows` wants them.

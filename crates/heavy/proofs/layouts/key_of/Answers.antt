@@ -20,8 +20,10 @@ loop-word-preserved c =
     let i = c.loop-word.word-index in
     let words = c.args.words.now in
     let named = rw (c.in-Ok-Some.field-0-is, c.deref.ensures.value, c.word-item.is) at c.in-Ok-Some.ensures.named in
-    rw (take_more words i c.word-item.result c.loop-word-test.true,
-    map-append _ (take i words) (get_or words i c.word-item.result ∷ []),
-    c.in_ok-push-in-Ok-Some.ensures.items)
+    rw (
+      take_more words i c.word-item.result c.loop-word-test.true,
+      map-append _ (take i words) (get_or words i c.word-item.result ∷ []),
+      c.in_ok-push-in-Ok-Some.ensures.items,
+    )
     (names-push c.args.has_header (map (λ word. word.items) (take i words)) c.loop-word.key.items
     _ c.in-Ok-Some.column c.loop-word.invariant named)

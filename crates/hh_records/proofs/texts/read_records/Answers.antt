@@ -13,4 +13,3 @@ returns-in-Ok-clause-items g c =
       positive = t.positive;
       taken = t.taken;
     }
-
