@@ -9,6 +9,7 @@ mod items;
 pub mod laws;
 
 pub use commands::add::{add_items, empty_summary};
+pub use commands::add_text::add_text;
 pub use commands::ask::{ask_bytes, ask_key, ask_keys};
 pub use commands::condense::condense_bytes;
 pub use commands::confirm::{ConfirmFault, confirm, confirm_above, confirm_bytes};
