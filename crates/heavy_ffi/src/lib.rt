@@ -197,8 +197,8 @@ pub extern "C" fn heavy_add_text(
     answer(bytes, out, needed, fault)
 }
 
-/// Gives the saved Count-Min table of no items, with the hash family that is drawn from the seed. The
-/// depth is tested first, then the width.
+/// Gives the saved Count-Min table of no items, with the hash family that is drawn from the seed.
+/// The depth is tested first, then the width.
 #[unsafe(no_mangle)]
 pub extern "C" fn heavy_empty_table(
     alloc: Global,
@@ -425,9 +425,9 @@ fn condensed_of(
     }
 }
 
-/// Gives what `heavy_condense` gives, of items in memory in place of a text's records. The items lie
-/// as `heavy_add` takes them. The ends are tested first, then the number of the weights, then the
-/// file, then its kind, then the items in order, of any total.
+/// Gives what `heavy_condense` gives, of items in memory in place of a text's records. The items
+/// lie as `heavy_add` takes them. The ends are tested first, then the number of the weights, then
+/// the file, then its kind, then the items in order, of any total.
 #[unsafe(no_mangle)]
 pub extern "C" fn heavy_condense_items(
     alloc: Global,
@@ -479,9 +479,9 @@ fn confirmed_of(
     }
 }
 
-/// Gives what `heavy_confirm` gives, over items in memory in place of a text's records. The items lie
-/// as `heavy_add` takes them. The ends are tested first, then the number of the weights, then the
-/// file, then its kind, then the items in order, then the totals.
+/// Gives what `heavy_confirm` gives, over items in memory in place of a text's records. The items
+/// lie as `heavy_add` takes them. The ends are tested first, then the number of the weights, then
+/// the file, then its kind, then the items in order, then the totals.
 #[unsafe(no_mangle)]
 pub extern "C" fn heavy_confirm_items(
     alloc: Global,
