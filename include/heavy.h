@@ -155,6 +155,14 @@ uint32_t heavy_add(const uint8_t *file, size_t file_len, const uint8_t *keys, si
                    size_t count, const uint64_t *weights, size_t weights_len, uint8_t *out, size_t out_len,
                    size_t *needed, struct heavy_fault *fault);
 
+/* Gives the saved summary or table of a saved file with the records of a text added, in order: that of a stream becomes
+   that of the stream followed by these records. So a long text goes through a buffer in parts of whole records. A byte
+   order mark at the front of a text is left out, so where a later part begins with its bytes, put a line feed before them.
+   The file is tested first, then the records, by whose numbers in this text they are refused, and then the items of the
+   records in order, of which the first that makes the file's total too large is refused. */
+uint32_t heavy_add_text(const uint8_t *file, size_t file_len, const uint8_t *text, size_t text_len, uint8_t *out,
+                        size_t out_len, size_t *needed, struct heavy_fault *fault);
+
 /* Gives the saved Count-Min table of no items, with the hash family that is drawn from the seed: width from 1 to 65536,
    depth from 1 to 16. It has HEAVY_TABLE_ROOM(width, depth) bytes. The depth is tested first, then the width. */
 uint32_t heavy_empty_table(uint64_t width, uint64_t depth, uint64_t seed, uint8_t *out, size_t out_len, size_t *needed,

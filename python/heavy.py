@@ -21,6 +21,7 @@ from __future__ import annotations
 
 import array
 import ctypes
+import io
 import itertools
 import operator
 import os
@@ -47,6 +48,8 @@ _MAX_KEY, _MAX_TOTAL = 4096, 2**63 - 1
 _NO_FILE: Any = object()
 _ROW = re.compile(rb'(?:"((?:[^"]|"")*)"|([^",\r\n]*)),([0-9]+)\n')
 _SMALL, _LARGE = 1 << 16, 1 << 20  # bytes of rooms that are tried first
+_CHUNK = 1 << 20  # bytes of a file of records that are read at a time
+_MARK = b"\xef\xbb\xbf"
 _METHODS = {"mg": 1, "ss": 2}
 _RECORD = ["wrong number of fields", "empty key", "key too long", "bad weight", "zero weight", "total too large"]
 _FILE = [
@@ -119,6 +122,7 @@ def _library() -> ctypes.CDLL:
         "heavy_summarise": [read, size, number, ctypes.c_uint32, *out],
         "heavy_empty": [number, *out],
         "heavy_add": [read, size, *items, *out],
+        "heavy_add_text": [read, size, read, size, *out],
         "heavy_empty_table": [number, number, number, *out],
         "heavy_table": [read, size, number, number, number, *out],
         "heavy_merge": [read, size, ctypes.POINTER(size), size, *out],
@@ -450,6 +454,65 @@ def _with_items(saved: bytes, columns: _Columns, weights: array.array[int] | Non
     return saved
 
 
+def _parts_read(records: Records) -> Iterator[bytes]:
+    """Records in parts of whole ones: a file is read a megabyte at a time, and where a quote comes, behind which a line
+    feed may stand in a key, to its end. Each part is read as it is: a line feed keeps a mark at the front of a later one."""
+    if isinstance(records, (str, os.PathLike)):
+        with open(records, "rb") as file:
+            yield from _parts_read(file)
+        return
+    read: Callable[[int], bytes] = getattr(records, "read", None) or io.BytesIO(_bytes_of(records)).read
+    rest, feed = b"", b""
+    while True:
+        more = _bytes_of(read(_CHUNK))
+        rest += more
+        if b'"' in rest:
+            rest += _bytes_of(read(-1))
+            more = b""
+        cut = rest.rfind(b"\n") + 1 if more else len(rest)
+        if cut:
+            yield feed + rest[:cut] if rest.startswith(_MARK) else rest[:cut]
+            rest, feed = rest[cut:], b"\n"
+        if not more:
+            return
+
+
+def _with_text(saved: bytes, text: bytes) -> bytes:
+    """A saved file with the records of a text added."""
+    return _answer(_heavy.heavy_add_text, *_lent(saved), *_lent(text), guess=len(saved) + _SMALL)
+
+
+def _with_records(saved: bytes, records: Records) -> bytes:
+    """A saved file with records added, or the refusal of the first bad one, by its number among all."""
+    before = 0
+    for part in _parts_read(records):
+        try:
+            saved = _with_text(saved, part)
+        except HeavyError as refused:
+            raise _told_among(saved, part, before, refused) from None
+        before += sum(map(bool, part.replace(b"\r", b"\n").split(b"\n")))
+    return saved
+
+
+def _told_among(saved: bytes, part: bytes, before: int, refused: HeavyError) -> HeavyError:
+    """The refusal of a part, as it is told of the first bad record among all. Within a part the library tests the records
+    first and then the total, so the first record is sought by which the part is refused."""
+    status, kind, cause, number = refused._numbers
+    if kind != 9:
+        return refused
+    if b'"' not in part:
+        records = [record for record in part.replace(b"\r", b"\n").split(b"\n") if record]
+        low, number = 0, len(records)
+        while low + 1 < number:
+            middle = (low + number) // 2
+            try:
+                _with_text(saved, b"\n" + b"\n".join(records[:middle]))
+                low = middle
+            except HeavyError as sooner:
+                number, cause = middle, sooner._numbers[2]
+    return HeavyError(status, kind, cause, before + number)
+
+
 def _summary_room(k: int) -> int:
     """The most bytes of a summary with k counters, as the header has it."""
     return 17 + k * (4096 + 10)
@@ -619,6 +682,17 @@ class _Growing(_Saved):
         else:
             self._saved = _with_items(self.to_bytes(), columns or _column_of(words), numbers)
         self._total = total
+
+    def update_csv(self, records: Records) -> None:
+        """Adds CSV records `key,weight`, in order. A file is read a megabyte at a time, up to the first quote. After a
+        refusal, which has the record's number, none of them is added.
+
+        >>> summary = Summary.of_csv(b"a,5\\n")
+        >>> summary.update_csv(b"a,2\\nb\\n")
+        >>> summary.entries()
+        [(b'a', 7), (b'b', 1)]
+        """
+        self._saved, self._total = _with_records(self.to_bytes(), records), None
 
     def _total_with(self, count: int, weights: array.array[int] | None) -> int:
         """The total with so many items more, or the refusal of the first that makes it too large."""

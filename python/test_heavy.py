@@ -430,6 +430,30 @@ class Reports(unittest.TestCase):
                     self.assertRaisesRegex(heavy.HeavyError, f"^{text}", heavy.report, given, k, share, workers)
             self.assertRaises(ValueError, heavy.report, RECORDS, 5, None, 0)
 
+    def test_records_in_parts(self) -> None:
+        """Records are added a few bytes at a time as all of them are, and refused by the same numbers."""
+        mark, largest = b"\xef\xbb\xbf", 2**63 - 1
+        texts = [
+            RECORDS, OTHERS, b"", b"\n\n", b"a\r\nb\rc,2", mark + b"a\n" + mark + b"a\n", b"a\n" * 9 + mark + b"b\n" * 9,
+            b'a\nb\n"x\ny",2\nc\n"a"', b"a\n\n\nb,0\nc\n", b"a\nb,1,1\nc\n", b"a\nb\n,1\n", b"a\nb,x", b"x" * 5000 + b"\na",
+            b"a,%d\nb\nc,0\n" % largest, b"a\nb,%d\nc\n" % largest, b"a\nb\n\nc,%d\nd\ne,0\n" % (largest - 2),
+        ]
+        for text in texts:
+            for size in (1, 2, 5, 1 << 20):
+                for given in (text, io.BytesIO(text)):
+                    with self.subTest(text=text, size=size), mock.patch.object(heavy, "_CHUNK", size):
+                        grown, cells = heavy.Summary(k=3), heavy.Table(width=8, depth=2)
+                        try:
+                            whole = heavy.Summary.of_csv(text, 3)
+                        except heavy.HeavyError as refused:
+                            self.assertRaisesRegex(heavy.HeavyError, f"^{refused}$", grown.update_csv, given)
+                            self.assertEqual(grown, heavy.Summary(k=3))
+                            continue
+                        grown.update_csv(given)
+                        cells.update_csv(text)
+                        self.assertEqual((grown, cells), (whole, heavy.Table.of_csv(text, 8, 2)))
+        self.assertRaises(TypeError, heavy.Summary().update_csv, io.StringIO("a"))
+
     def test_paths(self) -> None:
         with tempfile.TemporaryDirectory() as room:
             path = Path(room, "records")
@@ -440,6 +464,8 @@ class Reports(unittest.TestCase):
                 summary = heavy.Summary.of_csv(given)
                 self.assertEqual(summary.confirm(given), summary.confirm(RECORDS))
                 self.assertEqual(summary.condense(given), summary.condense(RECORDS))
+                summary.update_csv(given)
+                self.assertEqual(summary, heavy.Summary.of_csv(RECORDS * 2))
             saved = Path(room, "saved")
             for file in (heavy.Summary.of_csv(RECORDS), heavy.Table.of_csv(RECORDS)):
                 file.save(saved)

@@ -534,6 +534,47 @@ static struct answer empty_table(uint64_t width, uint64_t depth, uint64_t seed, 
     return a;
 }
 
+static struct answer add_text(const void *file, size_t size, const char *text, size_t room) {
+    struct answer a = room_of(room);
+    uint8_t *lent = block(text, strlen(text)), *held = block(file, size);
+    a.status = heavy_add_text(held, size, lent, strlen(text), a.room, room, &a.needed, &a.told);
+    free(held);
+    free(lent);
+    return a;
+}
+
+static void try_added_texts(void) {
+    /* b 3 and then a 2 are added to a 3 alone */
+    struct answer part = summarise("a,3\n", 2, 1, 64), a = add_text(part.room, part.needed, "b,3\na,2\n", sizeof ONE - 1);
+    check("a text added", gave(&a, BYTES(ONE)));
+    free(a.room);
+    a = add_text(part.room, part.needed, "b,3\na,2\n", sizeof ONE - 2);
+    check("a text added in a small room", small(&a, sizeof ONE - 1));
+    free(a.room);
+    a = add_text(part.room, part.needed, "\n\"b\"\r\n\nb,2\na,2", 64);
+    check("a text of other lines added", gave(&a, BYTES(ONE)));
+    free(a.room);
+    a = add_text(BYTES(ONE), "", sizeof ONE - 1);
+    check("no text added", gave(&a, BYTES(ONE)));
+    free(a.room);
+    a = add_text(part.room, part.needed, "b\nc,0\n", 64);
+    check("a bad record added", told(&a, HEAVY_REFUSED, HEAVY_BAD_RECORD, HEAVY_RECORD_ZERO_WEIGHT, 2));
+    free(a.room);
+    a = add_text(part.room, part.needed, "b\nc,9223372036854775804\n", 64);
+    check("a total too large for the file", told(&a, HEAVY_REFUSED, HEAVY_BAD_RECORD, HEAVY_RECORD_TOTAL_TOO_LARGE, 2));
+    free(a.room);
+    a = add_text(part.room, part.needed - 1, "c,0\n", 64);
+    check("the file before the text", told(&a, HEAVY_REFUSED, HEAVY_BAD_FILE, HEAVY_FILE_TRUNCATED, 1));
+    free(a.room);
+    free(part.room);
+    struct answer cells = table("a,5\n", 3, 2, 128), whole = table("a,5\nb,2\n", 3, 2, 128);
+    a = add_text(cells.room, cells.needed, "b,2\n", 128);
+    check("a text added to a table", a.status == HEAVY_DONE && gave(&a, whole.room, whole.needed));
+    free(a.room);
+    free(whole.room);
+    free(cells.room);
+}
+
 static void try_table_items(void) {
     static const uint64_t ENDS[] = {1, 2, 3}, WEIGHTS[] = {5, 3, 2}, ZERO[] = {5, 0};
     static const uint64_t MANY[] = {9223372036854775807u, 1};
@@ -727,6 +768,7 @@ int main(void) {
     try_lists();
     try_thresholds();
     try_items();
+    try_added_texts();
     try_table_items();
     try_long_items();
     try_counted_items();

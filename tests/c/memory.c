@@ -38,7 +38,7 @@ static struct heavy_fault told;
 static struct heavy_bounds bounds[3];
 static struct heavy_entry entries[3];
 
-enum { CALLS = 19 };
+enum { CALLS = 20 };
 
 static uint32_t call(int which) {
     const size_t lengths[] = {summary_len / 2, summary_len / 2}, ones[] = {1, 1, 30};
@@ -69,6 +69,7 @@ static uint32_t call(int which) {
         return heavy_confirm_items_above(summary, summary_len / 2, KEYS, 32, ENDS, 3, ALL, 3, 1, 3, room, sizeof room,
                                          &needed, &told);
     case 17: return heavy_empty_table(4, 2, 0, room, sizeof room, &needed, &told);
+    case 18: return heavy_add_text(summary, summary_len / 2, TEXT, 16, room, sizeof room, &needed, &told);
     default: return heavy_add(cells, sizeof cells, KEYS, 32, ENDS, 3, WEIGHTS, 3, room, sizeof room, &needed, &told);
     }
 }

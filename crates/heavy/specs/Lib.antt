@@ -1,4 +1,5 @@
 pub mod Add
+pub mod AddText
 pub mod Ask
 pub mod Condense
 pub mod Confirm

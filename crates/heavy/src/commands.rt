@@ -1,6 +1,7 @@
 //! The commands of the program, each the whole of its command.
 
 pub(crate) mod add;
+pub(crate) mod add_text;
 pub(crate) mod ask;
 pub(crate) mod condense;
 pub(crate) mod confirm;

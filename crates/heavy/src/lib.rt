@@ -10,6 +10,7 @@ pub mod laws;
 mod layouts;
 
 pub use commands::add::{add_items, empty_summary};
+pub use commands::add_text::add_text;
 pub use commands::ask::{ask_bytes, ask_key, ask_keys};
 pub use commands::condense::{condense_bytes, condense_bytes_from};
 pub use commands::confirm::{

@@ -20,6 +20,7 @@ ghost use Rattle.hh_records.specs.Streams.{text_known};
 ghost use Rattle.hh_saved.specs.Sizes.{most_summary_bytes, table_bytes};
 ghost use Rattle.hh_saved.specs.declared.saved.Saved.TheVariants.{Cells, Counters};
 ghost use Rattle.heavy.specs.Add.{IsEmpty, IsEmptyTable, added, empty_of, empty_table_of};
+ghost use Rattle.heavy.specs.AddText.{AddTextRefused, AddsText};
 ghost use Rattle.heavy.specs.Ask.{answer, answers_of};
 ghost use Rattle.heavy.specs.Condense.{CondenseRefused, CondensesRows};
 ghost use Rattle.heavy.specs.Confirm.{ConfirmRefused, ConfirmsRows};
@@ -41,9 +42,9 @@ ghost use Rattle.heavy_ffi.specs.Outcomes.{TellsFault, TellsHead, bad_summary, b
 pub use fault::Fault;
 use fault::tell;
 use heavy::{
-    Method, Place, ToolError, add_items, ask_key, ask_keys, condense_bytes, condense_items,
-    confirm_bytes, confirm_items, confirm_share, describe_file, empty_summary, empty_table,
-    list_entries, list_keys, merge_bytes, summary_bytes, table_bytes,
+    Method, Place, ToolError, add_items, add_text, ask_key, ask_keys, condense_bytes,
+    condense_items, confirm_bytes, confirm_items, confirm_share, describe_file, empty_summary,
+    empty_table, list_entries, list_keys, merge_bytes, summary_bytes, table_bytes,
 };
 use hh_counters::laws::summaries_follow_items;
 use hh_countmin::laws::drawn_families_are_families;
@@ -176,8 +177,29 @@ pub extern "C" fn heavy_add(
     answer(bytes, out, needed, fault)
 }
 
-/// Gives the saved Count-Min table of no items, with the hash family that is drawn from the seed. The
-/// depth is tested first, then the width.
+/// Gives the saved summary or table of a saved file with the records of a text added, in order. The
+/// file is tested first, then the records, then that their items leave the total within its bound.
+#[unsafe(no_mangle)]
+pub extern "C" fn heavy_add_text(
+    alloc: Global,
+    file: &[u8],
+    text: &[u8],
+    out: &mut [u8],
+    needed: &mut usize,
+    fault: &mut Fault,
+) -> u32
+    ensures outcome { IsOutcome
+        (AddsText file.now text.now) (AddTextRefused file.now text.now)
+        result out.old out.new needed.new fault.new }
+    ensures early { TellsHead file.now result fault.new }
+    ensures no_bytes { result ≢ 0 → result ≢ 5 → needed.new ≡ 0 }
+{
+    let bytes = add_text(alloc, file, text);
+    answer(bytes, out, needed, fault)
+}
+
+/// Gives the saved Count-Min table of no items, with the hash family that is drawn from the seed.
+/// The depth is tested first, then the width.
 #[unsafe(no_mangle)]
 pub extern "C" fn heavy_empty_table(
     alloc: Global,
@@ -407,9 +429,9 @@ fn condensed_of(
     }
 }
 
-/// Gives what `heavy_condense` gives, of items in memory in place of a text's records. The items lie
-/// as `heavy_add` takes them. The ends are tested first, then the number of the weights, then the
-/// file, then its kind, then the items in order, of any total.
+/// Gives what `heavy_condense` gives, of items in memory in place of a text's records. The items
+/// lie as `heavy_add` takes them. The ends are tested first, then the number of the weights, then
+/// the file, then its kind, then the items in order, of any total.
 #[unsafe(no_mangle)]
 pub extern "C" fn heavy_condense_items(
     alloc: Global,
@@ -461,9 +483,9 @@ fn confirmed_of(
     }
 }
 
-/// Gives what `heavy_confirm` gives, over items in memory in place of a text's records. The items lie
-/// as `heavy_add` takes them. The ends are tested first, then the number of the weights, then the
-/// file, then its kind, then the items in order, then the totals.
+/// Gives what `heavy_confirm` gives, over items in memory in place of a text's records. The items
+/// lie as `heavy_add` takes them. The ends are tested first, then the number of the weights, then
+/// the file, then its kind, then the items in order, then the totals.
 #[unsafe(no_mangle)]
 pub extern "C" fn heavy_confirm_items(
     alloc: Global,

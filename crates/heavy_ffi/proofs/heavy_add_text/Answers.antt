@@ -1,0 +1,12 @@
+use Rattle.heavy_ffi.proofs.OutcomeFacts.{outcome_of, told_early}
+use Rattle.heavy_ffi.proofs.heavy_add_text.Goals as goal
+
+pub returns-clause-outcome : goal.returns-clause-outcome
+returns-clause-outcome c =
+    outcome_of _ _ c.add_text-bytes.result c.add_text-bytes.ensures.saved c.add_text-bytes.ensures.refused
+    c.answer.ensures.outcome
+
+pub returns-clause-early : goal.returns-clause-early
+returns-clause-early c =
+    told_early c.args.file.now c.add_text-bytes.result c.add_text-bytes.ensures.early
+    c.answer.ensures.size c.answer.ensures.outcome
