@@ -13,6 +13,7 @@ use Rattle.hh_records.specs.declared.threshold.Share.TheVariants as limit
 use Rattle.heavy_cli.specs.Words.{AreAllWords, word_of}
 use Rattle.heavy_cli.specs.declared.request.Command.{Command}
 use Rattle.heavy_cli.specs.declared.request.Command.TheVariants.{Summarise, Table, Merge, Ask, List as ListKeys, Describe, Condense, Confirm}
+use Rattle.heavy_cli.specs.declared.request.RecordWords.{RecordWords}
 use Rattle.heavy_cli.specs.declared.request.Request.{Request}
 use Rattle.heavy_cli.specs.declared.request.Request.TheVariants.{Report, Answer}
 use Rattle.heavy_cli.specs.declared.request.Invocation.{Invocation}
@@ -66,6 +67,19 @@ pub record AreRowOptions (found : Found) (rows : RowOptions) : Type 0 where
       → number_in text < 2 ^ 64 → rows.top ≡ Some (number_in text)
   pub shared : one_text found (codes "share") ≡ Some (codes "true") → rows.share ≡ true
   pub unshared : one_text found (codes "share") ≡ None → rows.share ≡ false
+
+-- the records that are read: their files in order, and where their columns stand
+pub record AreRecordWords (found : Found) (records : RecordWords) : Type 0 where
+  pub files : map (λ w. w.items) records.files.items ≡ all_words found (codes "RECORDS")
+  pub delimiter : option_map (λ w. w.items) records.layout.delimiter
+      ≡ option_map word_of (first_value found (codes "delimiter"))
+  pub headed : one_text found (codes "header") ≡ Some (codes "true") → records.layout.has_header ≡ true
+  pub unheaded : one_text found (codes "header") ≡ None → records.layout.has_header ≡ false
+  pub key : map (λ w. w.items) records.layout.key.items ≡ all_words found (codes "key")
+  pub weight : option_map (λ w. w.items) records.layout.weight
+      ≡ option_map word_of (first_value found (codes "weight"))
+  pub zeros : one_text found (codes "allow-zero") ≡ Some (codes "true") → records.layout.allow_zero ≡ true
+  pub no_zeros : one_text found (codes "allow-zero") ≡ None → records.layout.allow_zero ≡ false
 
 -- the options of a table
 pub record AreTableOptions (found : Found) (width depth seed : ℕ) : Type 0 where
@@ -128,6 +142,7 @@ pub record IsAskedBy (words : List (List ℕ)) (asked : Invocation) : Type 0 whe
   pub found : Found
   pub command : subcommand_rows_of matches ≡ Some (name, rows_of found)
   pub request : AsksFor name found asked.request
+  pub records : AreRecordWords found asked.records
   pub told : one_text found (codes "progress") ≡ Some (codes "true") → asked.tells_progress ≡ true
   pub untold : one_text found (codes "progress") ≡ None → asked.tells_progress ≡ false
   pub explained : one_text found (codes "explain") ≡ Some (codes "true") → asked.explains ≡ true

@@ -26,6 +26,23 @@ pub const TOP: &str = "top";
 /// The option that adds shares of the total to rows.
 pub const SHARE: &str = "share";
 
+/// The words that name files of records.
+pub const RECORDS: &str = "RECORDS";
+
+/// The options that say where the keys and weights of records stand.
+pub const DELIMITER: &str = "delimiter";
+
+pub const HEADER: &str = "header";
+
+pub const KEY: &str = "key";
+
+pub const WEIGHT: &str = "weight";
+
+pub const ALLOW_ZERO: &str = "allow-zero";
+
+/// The heading in help of the options that say how records are read.
+const COLUMNS: &str = "How records are read";
+
 /// The place in help of an option that stands below those of the command's own.
 const LAST: usize = 100;
 
@@ -165,6 +182,95 @@ fn reader<'a>(alloc: Global, name: &'a str, help: Help) -> Result<Command<'a>, A
     with(explained(alloc, name, help)?, progress(alloc))
 }
 
+/// The words that name files of records.
+fn records<'a>(alloc: Global) -> Arg<'a>
+    ensures { result.global ≡ false }
+{
+    Arg::new(alloc, RECORDS)
+        .value_name("FILE")
+        .help("Files of records, read one after the other; - is standard input [default: -]")
+        .action(ArgAction::Append)
+        .num_args(1..)
+}
+
+/// The option that says which byte stands between fields.
+fn delimiter<'a>(alloc: Global) -> Arg<'a>
+    ensures { result.global ≡ false }
+{
+    option(
+        alloc,
+        DELIMITER,
+        "The byte between two fields, \\t for a tab [default: ,]",
+    )
+    .value_name("BYTE")
+    .allow_hyphen_values(true)
+    .help_heading(COLUMNS)
+}
+
+/// The option that says that texts begin with the names of their columns.
+fn header<'a>(alloc: Global) -> Arg<'a>
+    ensures { result.global ≡ false }
+{
+    option(
+        alloc,
+        HEADER,
+        "The first record of each file names the columns, and is no record",
+    )
+    .action(ArgAction::SetTrue)
+    .help_heading(COLUMNS)
+}
+
+/// The option that says which columns are the key.
+fn key<'a>(alloc: Global) -> Arg<'a>
+    ensures { result.global ≡ false }
+{
+    option(
+        alloc,
+        KEY,
+        "The column of the key, by number or name; several, as 4,5, are one key",
+    )
+    .value_name("COLUMN")
+    .action(ArgAction::Append)
+    .value_delimiter(',')
+    .help_heading(COLUMNS)
+}
+
+/// The option that says which column is the weight.
+fn weight<'a>(alloc: Global) -> Arg<'a>
+    ensures { result.global ≡ false }
+{
+    option(
+        alloc,
+        WEIGHT,
+        "The column of the weight; with --key alone each record weighs 1",
+    )
+    .value_name("COLUMN")
+    .help_heading(COLUMNS)
+}
+
+/// The option by which a weight may be 0.
+fn allow_zero<'a>(alloc: Global) -> Arg<'a>
+    ensures { result.global ≡ false }
+{
+    option(
+        alloc,
+        ALLOW_ZERO,
+        "A record of weight 0 or - adds nothing, and is no fault",
+    )
+    .action(ArgAction::SetTrue)
+    .help_heading(COLUMNS)
+}
+
+/// The same command, with the options that say how records are read, and the files of these.
+fn with_records<'a>(alloc: Global, command: Command<'a>) -> Result<Command<'a>, AllocError>
+    requires { (fields_of command).has_globals ≡ false }
+    ensures { IfOk result (λ c. (fields_of c).has_globals ≡ false) }
+{
+    let command = with(with(command, delimiter(alloc))?, header(alloc))?;
+    let command = with(with(command, key(alloc))?, weight(alloc))?;
+    with(with(command, allow_zero(alloc))?, records(alloc))
+}
+
 /// A word that has to be given.
 fn word<'a>(alloc: Global, name: &'a str, help: &'a str) -> Arg<'a>
     ensures { result.global ≡ false }
@@ -253,8 +359,8 @@ fn with_rows<'a>(alloc: Global, command: Command<'a>) -> Result<Command<'a>, All
 fn report_command<'a>(alloc: Global) -> Result<Command<'a>, AllocError>
     ensures { IfOk result (λ c. (fields_of c).has_globals ≡ false) }
 {
-    let command = with_share(alloc, reader(alloc, "report", REPORT)?)?;
-    let command = with_rows(alloc, command)?.next_help_heading(MEANS);
+    let command = with_share(alloc, reader(alloc, "report", REPORT)?.after_help(DASHES))?;
+    let command = with_records(alloc, with_rows(alloc, command)?)?.next_help_heading(MEANS);
     with_table(alloc, with_workers(alloc, command)?)
 }
 
@@ -270,14 +376,16 @@ fn method<'a>(alloc: Global) -> Arg<'a>
 fn summarise_command<'a>(alloc: Global) -> Result<Command<'a>, AllocError>
     ensures { IfOk result (λ c. (fields_of c).has_globals ≡ false) }
 {
-    let command = reader(alloc, "summarise", SUMMARISE)?;
-    with(with(command, K.argument(alloc))?, method(alloc))
+    let command = reader(alloc, "summarise", SUMMARISE)?.after_help(DASHES);
+    let command = with(with(command, K.argument(alloc))?, method(alloc))?;
+    with_records(alloc, command)
 }
 
 fn table_command<'a>(alloc: Global) -> Result<Command<'a>, AllocError>
     ensures { IfOk result (λ c. (fields_of c).has_globals ≡ false) }
 {
-    with_table(alloc, reader(alloc, "table", TABLE)?)
+    let command = reader(alloc, "table", TABLE)?.after_help(DASHES);
+    with_records(alloc, with_table(alloc, command)?)
 }
 
 /// The commands on saved files.
@@ -319,9 +427,11 @@ fn describe_command<'a>(alloc: Global) -> Result<Command<'a>, AllocError>
 fn condense_command<'a>(alloc: Global) -> Result<Command<'a>, AllocError>
     ensures { IfOk result (λ c. (fields_of c).has_globals ≡ false) }
 {
-    reader(alloc, "condense", CONDENSE)?
-        .after_help(DASHES)
-        .arg(word(alloc, "FILE", "A saved summary"))
+    let command = reader(alloc, "condense", CONDENSE)?.after_help(DASHES);
+    with_records(
+        alloc,
+        with(command, word(alloc, "FILE", "A saved summary"))?,
+    )
 }
 
 fn confirm_command<'a>(alloc: Global) -> Result<Command<'a>, AllocError>
@@ -329,7 +439,10 @@ fn confirm_command<'a>(alloc: Global) -> Result<Command<'a>, AllocError>
 {
     let command = reader(alloc, "confirm", CONFIRM)?.after_help(DASHES);
     let command = with_rows(alloc, with(command, threshold(alloc))?)?;
-    with(command, word(alloc, "FILE", "A saved summary"))
+    with_records(
+        alloc,
+        with(command, word(alloc, "FILE", "A saved summary"))?,
+    )
 }
 
 /// The program, which has no command yet.

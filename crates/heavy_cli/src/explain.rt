@@ -1,7 +1,7 @@
 //! More about a fault, in a second line: where standard error is a terminal, or where it is asked
 //! for. No contract says what these lines say, and each may change.
 
-use crate::request::{Command, Request};
+use crate::request::{Command, Invocation, Request};
 use heavy::{BadRecordCause, Share, ToolError, Totals};
 use hh_records::threshold_of;
 use std::{fmt, fs};
@@ -13,17 +13,17 @@ const MOST_COUNTERS: u64 = 65_535;
 const NO_NAME: &[u8] = b"";
 
 /// What a weight has to be, and what may stand in its place.
-const WEIGHT: &str = "a weight is a whole number from 1 on; is the first line a header?";
+const WEIGHT: &str = "a weight is a whole number from 1 on; is the first line a header? --header";
 
 /// What a record has to be, by what is wrong with one.
 fn wanted(cause: BadRecordCause) -> &'static str {
     match cause {
         BadRecordCause::FieldCount => {
-            "a record is key,weight or a key alone; a key with a comma in it stands in quotes"
+            "a record is key,weight or a key alone; --key and --weight choose columns"
         }
         BadRecordCause::EmptyKey | BadRecordCause::KeyTooLong => "a key has 1 to 4096 bytes",
         BadRecordCause::BadWeight => WEIGHT,
-        BadRecordCause::ZeroWeight => "a weight is a whole number from 1 on",
+        BadRecordCause::ZeroWeight => "a weight is a whole number from 1 on; --allow-zero takes 0",
         BadRecordCause::TotalTooLarge => "all weights together are at most 9223372036854775807",
     }
 }
@@ -48,30 +48,39 @@ impl<'a> fmt::Display for Name<'a> {
     }
 }
 
-/// The name of the file with this number, from 1 on, that a command was given.
-fn name_in(command: &Command, number: u64) -> &[u8] {
-    match command {
-        Command::Summarise { .. } | Command::Table { .. } => NO_NAME,
-        Command::Merge { first, others } => match number.checked_sub(2) {
-            None => first.as_slice(),
-            Some(place) => match others.get(place as usize) {
-                Some(name) => name.as_slice(),
-                None => NO_NAME,
-            },
-        },
-        Command::Ask { file, .. } => file.as_slice(),
-        Command::List { file } => file.as_slice(),
-        Command::Describe { file } => file.as_slice(),
-        Command::Condense { file } => file.as_slice(),
-        Command::Confirm { file, .. } => file.as_slice(),
+/// The name in a place, from 0 on.
+fn name_at(names: &[Vec<u8>], place: u64) -> &[u8] {
+    match names.get(place as usize) {
+        Some(name) => name.as_slice(),
+        None => NO_NAME,
     }
 }
 
-/// The same of what was asked for.
-fn name_of(request: &Request, number: u64) -> &[u8] {
-    match request {
-        Request::Report { .. } => NO_NAME,
-        Request::Answer(command) => name_in(command, number),
+/// The name of the file with this number, from 1 on, that a command was given: the first of these,
+/// or else one of the others.
+fn name_behind<'a>(first: &'a [u8], others: &'a [Vec<u8>], number: u64) -> &'a [u8] {
+    match number.checked_sub(2) {
+        None => first,
+        Some(place) => name_at(others, place),
+    }
+}
+
+/// The same of what was asked for, where files of records come behind a saved file.
+fn name_of(asked: &Invocation, number: u64) -> &[u8] {
+    let records = asked.records.files.as_slice();
+    let Request::Answer(command) = &asked.request else {
+        return name_at(records, number.saturating_sub(1));
+    };
+    match command {
+        Command::Summarise { .. } | Command::Table { .. } => {
+            name_at(records, number.saturating_sub(1))
+        }
+        Command::Merge { first, others } => name_behind(first, others, number),
+        Command::Ask { file, .. } => file.as_slice(),
+        Command::List { file } => file.as_slice(),
+        Command::Describe { file } => file.as_slice(),
+        Command::Condense { file } => name_behind(file, records, number),
+        Command::Confirm { file, .. } => name_behind(file, records, number),
     }
 }
 
@@ -164,18 +173,18 @@ fn tell_threshold(rt: &HostRuntime, request: &Request) {
 }
 
 /// Tells more about a fault of what was asked for, where there is more to say.
-pub fn tell_more(rt: &HostRuntime, fault: &ToolError, request: &Request, totals: Option<Totals>) {
+pub fn tell_more(rt: &HostRuntime, fault: &ToolError, asked: &Invocation, totals: Option<Totals>) {
     match fault {
-        ToolError::FileFault { number } => tell_unread(rt, name_of(request, *number)),
-        ToolError::BadFile { number, .. } => tell_looks(rt, name_of(request, *number)),
+        ToolError::FileFault { number } => tell_unread(rt, name_of(asked, *number)),
+        ToolError::BadFile { number, .. } => tell_looks(rt, name_of(asked, *number)),
         ToolError::MixedKinds { number } | ToolError::CannotMerge { number, .. } => {
-            let _ = eprintln!(rt; "  {}", Name(name_of(request, *number)));
+            let _ = eprintln!(rt; "  {}", Name(name_of(asked, *number)));
         }
         ToolError::NotCounters => {
-            let _ = eprintln!(rt; "  {} is a Count-Min table", Name(name_of(request, 1)));
+            let _ = eprintln!(rt; "  {} is a Count-Min table", Name(name_of(asked, 1)));
         }
-        ToolError::TotalDiffers => tell_totals(rt, name_of(request, 1), totals),
-        ToolError::BadThreshold => tell_threshold(rt, request),
+        ToolError::TotalDiffers => tell_totals(rt, name_of(asked, 1), totals),
+        ToolError::BadThreshold => tell_threshold(rt, &asked.request),
         ToolError::BadRecord { cause, .. } => {
             let _ = eprintln!(rt; "  {}", wanted(*cause));
         }

@@ -72,7 +72,7 @@ impl<'a> Inputs<'a> {
 
     /// The file with this name and number. `-` is standard input.
     fn open(self, name: &[u8], number: u64) -> Result<Reader<'a>, ToolError> {
-        if name == b"-" {
+        if name == b"-".as_slice() {
             return Ok(self.standard(number));
         }
         let Ok(path) = str::from_utf8(name) else {

@@ -5,6 +5,7 @@ mod arguments;
 mod explain;
 mod files;
 mod help;
+mod inputs;
 mod progress;
 mod record_count;
 mod request;
@@ -13,61 +14,73 @@ mod words;
 use explain::tell_more;
 use files::{read_file, read_files};
 use heavy::{
-    Method, Out, Records, ToolError, Totals, ask_bytes, condense_bytes, confirm_rows,
-    describe_file, list_keys, merge_bytes, put, report_rows, summary_bytes, table_bytes,
+    Method, Out, ToolError, Totals, ask_bytes, condense_bytes_from, confirm_rows, describe_file,
+    list_keys, merge_bytes, put, report_rows, summary_bytes_from, table_bytes_from,
 };
-use progress::Metered;
-use request::{Command, Invocation, Request, UsageError, read_request};
-use std::io::{IsTerminal, Stdin};
+use inputs::Inputs;
+use request::{Command, Invocation, RecordWords, Request, UsageError, read_request};
+use std::cell::Cell;
+use std::io::IsTerminal;
 use std::process::ExitCode;
 
 /// The exit status of the command line's own faults.
 const USAGE: u8 = 2;
 
-/// Standard input.
-type Input<'a> = Metered<'a, Stdin>;
-
 /// The bytes that a command is answered by. It leaves two totals that it compared.
 fn answer(
-    rt: &HostRuntime,
+    inputs: Inputs<'_>,
     command: &Command,
-    input: Input<'_>,
+    records: &RecordWords,
     totals: &mut Option<Totals>,
 ) -> Result<Vec<u8>, ToolError> {
+    let rt = inputs.rt;
     let alloc = rt.alloc();
     match command {
-        Command::Summarise { k, method } => summary_bytes(alloc, *k, Method::of(method)?, input),
-        Command::Table { width, depth, seed } => table_bytes(alloc, *width, *depth, *seed, input),
+        Command::Summarise { k, method } => {
+            let method = Method::of(method)?;
+            summary_bytes_from(alloc, *k, method, inputs.records(records, 0)?)
+        }
+        Command::Table { width, depth, seed } => {
+            table_bytes_from(alloc, *width, *depth, *seed, inputs.records(records, 0)?)
+        }
         Command::Merge { first, others } => merge_bytes(alloc, &read_files(rt, first, others)?),
         Command::Ask { file, keys } => ask_bytes(alloc, &read_file(rt, 1, file)?, keys),
         Command::List { file } => list_keys(alloc, &read_file(rt, 1, file)?),
         Command::Describe { file } => describe_file(alloc, &read_file(rt, 1, file)?),
-        Command::Condense { file } => condense_bytes(alloc, &read_file(rt, 1, file)?, input),
+        Command::Condense { file } => {
+            let file = read_file(rt, 1, file)?;
+            condense_bytes_from(alloc, &file, inputs.records(records, 1)?)
+        }
         Command::Confirm {
             file,
             threshold,
             rows,
-        } => confirm_rows(
-            alloc,
-            &read_file(rt, 1, file)?,
-            threshold,
-            rows,
-            Records::of_reader(alloc, input),
-            totals,
-        ),
+        } => {
+            let file = read_file(rt, 1, file)?;
+            let records = inputs.records(records, 1)?;
+            confirm_rows(alloc, &file, threshold, rows, records, totals)
+        }
     }
 }
 
 /// Writes the bytes that a command is answered by.
 fn write_answer(
-    rt: &HostRuntime,
+    inputs: Inputs<'_>,
     command: &Command,
-    input: Input<'_>,
+    records: &RecordWords,
     totals: &mut Option<Totals>,
 ) -> Result<(), ToolError> {
-    let bytes = answer(rt, command, input, totals)?;
-    put(&mut Out::new(rt.stdout()), &bytes)?;
+    let bytes = answer(inputs, command, records, totals)?;
+    put(&mut Out::new(inputs.rt.stdout()), &bytes)?;
     Ok(())
+}
+
+/// The fault of an input that can't be read, by the number that it left.
+fn numbered(fault: ToolError, number: u64) -> ToolError {
+    match fault {
+        ToolError::ReadFault if number > 0 => ToolError::FileFault { number },
+        _ => fault,
+    }
 }
 
 /// Tells a fault of the product, and gives its status.
@@ -86,7 +99,7 @@ fn status_explained(
 ) -> ExitCode {
     let status = status_after(rt, fault);
     if asked.explains || rt.stderr().is_terminal() {
-        tell_more(rt, &fault, &asked.request, totals);
+        tell_more(rt, &fault, asked, totals);
     }
     status
 }
@@ -109,17 +122,24 @@ fn main(rt: HostRuntime) -> ExitCode {
         Err(UsageError::Memory) => return status_after(&rt, ToolError::Memory),
     };
     let mut totals = None;
-    let input = Metered::new(&rt, rt.stdin(), asked.tells_progress);
+    let unread = Cell::new(0);
+    let inputs = Inputs {
+        rt: &rt,
+        tells_progress: asked.tells_progress,
+        unread: &unread,
+    };
     let outcome = match &asked.request {
-        Request::Report { options, rows } => {
-            let mut out = Out::new(rt.stdout());
-            let records = Records::of_reader(rt.alloc(), input);
-            report_rows(&rt, rt.alloc(), options, rows, records, &mut out)
-        }
-        Request::Answer(command) => write_answer(&rt, command, input, &mut totals),
+        Request::Report { options, rows } => match inputs.records(&asked.records, 0) {
+            Ok(records) => {
+                let mut out = Out::new(rt.stdout());
+                report_rows(&rt, rt.alloc(), options, rows, records, &mut out)
+            }
+            Err(fault) => Err(fault),
+        },
+        Request::Answer(command) => write_answer(inputs, command, &asked.records, &mut totals),
     };
     match outcome {
         Ok(()) => ExitCode::SUCCESS,
-        Err(fault) => status_explained(&rt, fault, &asked, totals),
+        Err(fault) => status_explained(&rt, numbered(fault, unread.get()), &asked, totals),
     }
 }

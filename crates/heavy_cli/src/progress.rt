@@ -1,4 +1,4 @@
-//! Standard input that tells on standard error how far it is read, where that is asked for.
+//! Input that tells on standard error how far it is read, where that is asked for.
 
 ghost use Rattle.std.specs.Prelude.{◌≡◌, ◌≤◌};
 
@@ -33,10 +33,10 @@ struct Progress<'a> {
 }
 
 impl<'a> Progress<'a> {
-    /// Nothing is read yet. A size is known where standard input is a file.
-    fn start(rt: &'a HostRuntime) -> io::Result<Progress<'a>> {
+    /// Nothing is read yet. A size is known where a file is at the path.
+    fn start(rt: &'a HostRuntime, path: &str) -> io::Result<Progress<'a>> {
         let now = Instant::now(rt)?;
-        let size = match fs::metadata(rt, "/dev/stdin") {
+        let size = match fs::metadata(rt, path) {
             Ok(file) if file.is_file() => Some(file.len()),
             _ => None,
         };
@@ -95,12 +95,13 @@ pub struct Metered<'a, R> {
 }
 
 impl<'a, R: Read> Metered<'a, R> {
-    /// The same bytes. What is read is told where that is asked for and there is a clock.
-    pub fn new(rt: &'a HostRuntime, inner: R, tells: bool) -> Metered<'a, R>
+    /// The same bytes, which are those of a path. What is read is told where that is asked for and
+    /// there is a clock.
+    pub fn new(rt: &'a HostRuntime, inner: R, path: &str, tells: bool) -> Metered<'a, R>
         ensures { ⟦<Metered<'a, R> as Read>⟧.remaining result ≡ R.remaining inner }
     {
         let progress = if tells {
-            Progress::start(rt).ok()
+            Progress::start(rt, path).ok()
         } else {
             None
         };

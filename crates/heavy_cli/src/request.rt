@@ -1,27 +1,38 @@
 //! What a command line asks for.
 
-ghost use Rattle.std.specs.Prelude.{◌≡◌, [], IfOk, codes, map};
+ghost use Rattle.std.specs.Prelude.{◌≡◌, [], IfOk, codes, map, option_map};
 ghost use Rattle.clap.specs.Words.{first_value, found_of};
-ghost use Rattle.heavy_cli.specs.Request.{Answers, AreOptions, AreRowOptions, AsksFor, GivesShare};
+ghost use Rattle.heavy_cli.specs.Request.{Answers, AreOptions, AreRecordWords, AreRowOptions, AsksFor, GivesShare};
+ghost use Rattle.heavy_cli.specs.Words.{word_of};
 ghost use Rattle.heavy_cli.specs.Request.{IsAskedBy, IsAskedFrom, NamesTree, all_words, first_word};
 
 use crate::arguments::{
-    DEPTH, EXPLAIN, K, PIECES, PROGRESS, SEED, SHARE, TOP, WIDTH, WORKERS, command_line,
+    ALLOW_ZERO, DELIMITER, DEPTH, EXPLAIN, HEADER, K, KEY, PIECES, PROGRESS, RECORDS, SEED, SHARE,
+    TOP, WEIGHT, WIDTH, WORKERS, command_line,
 };
 use crate::words::{WordSource, bytes_of, read_words, texts_of};
 use clap::error::ErrorKind;
 use clap::{ArgMatches, Error};
-use heavy::{ReportOptions, RowOptions, Share, Tree};
+use heavy::{LayoutWords, ReportOptions, RowOptions, Share, Tree};
 use std::alloc::{AllocError, Global};
 
 /// What a command line asks for, and how.
 #[derive(Drop)]
 pub struct Invocation {
     pub request: Request,
+    pub records: RecordWords,
     /// Whether it is told how far standard input is read.
     pub tells_progress: bool,
     /// Whether more is told about a fault.
     pub explains: bool,
+}
+
+/// Which records are read, in words.
+#[derive(Drop)]
+pub struct RecordWords {
+    /// The names of their files. None is standard input, and so is `-`.
+    pub files: Vec<Vec<u8>>,
+    pub layout: LayoutWords,
 }
 
 /// What a command line asks for.
@@ -121,6 +132,34 @@ fn words(alloc: Global, found: &ArgMatches, name: &str) -> Result<Vec<Vec<u8>>, 
         words.push(bytes_of(alloc, text)?)?;
     }
     Ok(words)
+}
+
+/// The bytes of the first word of this name, if one is given.
+fn word_given(alloc: Global, found: &ArgMatches, name: &str) -> Result<Option<Vec<u8>>, AllocError>
+    ensures { IfOk result (λ word. option_map (λ w. w.items) word
+        ≡ option_map word_of (first_value (found_of found.now) name.now)) }
+{
+    match found.get_str(name) {
+        Some(text) => Ok(Some(bytes_of(alloc, text)?)),
+        None => Ok(None),
+    }
+}
+
+/// Which records are read.
+fn records_of(alloc: Global, found: &ArgMatches) -> Result<RecordWords, AllocError>
+    ensures { IfOk result (AreRecordWords (found_of found.now)) }
+{
+    let layout = LayoutWords {
+        delimiter: word_given(alloc, found, DELIMITER)?,
+        has_header: found.get_flag(HEADER),
+        key: words(alloc, found, KEY)?,
+        weight: word_given(alloc, found, WEIGHT)?,
+        allow_zero: found.get_flag(ALLOW_ZERO),
+    };
+    Ok(RecordWords {
+        files: words(alloc, found, RECORDS)?,
+        layout,
+    })
 }
 
 /// The tree that a word names.
@@ -277,6 +316,7 @@ fn request_in(alloc: Global, words: &[Vec<u8>]) -> Result<Invocation, UsageError
     };
     Ok(Invocation {
         request: request_of(alloc, name, found)?,
+        records: records_of(alloc, found)?,
         tells_progress: found.get_flag(PROGRESS),
         explains: found.get_flag(EXPLAIN),
     })
