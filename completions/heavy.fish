@@ -22,7 +22,12 @@ complete -c heavy -n '__fish_seen_subcommand_from summarise' -l method -x -a 'mg
 complete -c heavy -n '__fish_seen_subcommand_from report table' -l width -x -d 'Width of the Count-Min table'
 complete -c heavy -n '__fish_seen_subcommand_from report table' -l depth -x -d 'Depth of the Count-Min table'
 complete -c heavy -n '__fish_seen_subcommand_from report table' -l seed -x -d "Seed of the table's hash family"
+complete -c heavy -n '__fish_seen_subcommand_from report summarise table condense confirm' -l delimiter -x -d 'The byte between two fields'
+complete -c heavy -n '__fish_seen_subcommand_from report summarise table condense confirm' -l header -d 'The first record of each file names the columns'
+complete -c heavy -n '__fish_seen_subcommand_from report summarise table condense confirm' -l key -x -d 'The column of the key'
+complete -c heavy -n '__fish_seen_subcommand_from report summarise table condense confirm' -l weight -x -d 'The column of the weight'
+complete -c heavy -n '__fish_seen_subcommand_from report summarise table condense confirm' -l allow-zero -d 'A record of weight 0 adds nothing'
 complete -c heavy -n '__fish_seen_subcommand_from report summarise table condense confirm' -l progress -d 'Tell how far input is read'
 complete -c heavy -n '__fish_seen_subcommand_from report summarise table merge ask list describe condense confirm' -l explain -d 'Say more about a fault'
-complete -c heavy -n '__fish_seen_subcommand_from merge ask list describe condense confirm' -F
+complete -c heavy -n '__fish_seen_subcommand_from report summarise table merge ask list describe condense confirm' -F
 complete -c heavy -f -n '__fish_seen_subcommand_from help' -a 'report summarise table merge ask list describe condense confirm'

@@ -18,7 +18,7 @@ from pathlib import Path
 import programs
 
 MAN, BASH, ZSH, FISH = "man/heavy.1", "completions/heavy.bash", "completions/_heavy", "completions/heavy.fish"
-OPTION = re.compile(r"^ +(?:(-\w), )?(--[a-z]+)", re.MULTILINE)
+OPTION = re.compile(r"^ +(?:(-\w), )?(--[a-z-]+)", re.MULTILINE)
 NUMBERS = re.compile(r"from (\d+) to (\d+) \[default: (\d+)\]")
 # (file, text, what it becomes): each is a drift that has to be found
 DRIFTS = [
@@ -36,7 +36,7 @@ DRIFTS = [
     (BASH, "'balanced chain'", "'balanced'"),
     (ZSH, "'merge:", "'join:"),
     (ZSH, "'--depth=", "'--rows="),
-    (ZSH, "summarise) _arguments $help $explain $k $progress", "summarise) _arguments $help $explain $k"),
+    (ZSH, "$k $progress $records \\\n", "$k $records \\\n"),
     (FISH, "-a confirm ", "-a recount "),
     (FISH, "-l threshold", "-l bound"),
     (FISH, "-s V -l version", "-l version"),
@@ -84,11 +84,11 @@ def man_faults(text: str, told: Told) -> list[str]:
     listed = set(re.findall(r"^\.B heavy (\w+)$", section["COMMANDS"], re.MULTILINE))
     faults += differ("COMMANDS", listed, told.commands)
     for name, line in synopsis.items():
-        named = set(re.findall(r"--[a-z]+", line))
+        named = set(re.findall(r"--[a-z-]+", line))
         faults += differ(f"synopsis of {name}", named, told.options.get(name, set()) - {"-h", "--help"})
     every = set().union(*told.options.values())
     heads = "".join(re.findall(r"^\.TP\n(.*\n)", section["OPTIONS"], re.MULTILINE))
-    faults += differ("OPTIONS", set(re.findall(r"(?<![\w-])--?[A-Za-z]+", heads)), every)
+    faults += differ("OPTIONS", set(re.findall(r"(?<![\w-])--?[A-Za-z-]+", heads)), every)
     for option, numbers in told.numbers.items():
         found = re.search(rf"^\.B\w* {option}\b.*\n((?:(?!\.TP).*\n)*)", section["OPTIONS"], re.MULTILINE)
         range = re.search(r"from (\d+) to (\d+)\.\n(?:.*\n)*?Default (\d+)\.", found[1] if found else "")
@@ -138,7 +138,7 @@ def zsh_faults(text: str, told: Told) -> list[str]:
 
 
 def options_in(text: str) -> set[str]:
-    return set(re.findall(r"(?<![\w-])--?[A-Za-z]+(?![\w-])", text))
+    return set(re.findall(r"(?<![\w-])--?[A-Za-z]+(?:-[a-z]+)*(?![\w-])", text))
 
 
 def fish_faults(text: str, told: Told) -> list[str]:
@@ -148,7 +148,7 @@ def fish_faults(text: str, told: Told) -> list[str]:
     for line in lines:
         commands |= set(re.findall(r"__fish_use_subcommand -a (\w+)", line))
         named = {f"-{letter}" for letter in re.findall(r" -s (\w)", line)}
-        named |= {f"--{word}" for word in re.findall(r" -l (\w+)", line)}
+        named |= {f"--{word}" for word in re.findall(r" -l ([\w-]+)", line)}
         seen = re.search(r"__fish_seen_subcommand_from ([\w ]+)'", line)
         of = seen[1].split() if seen else [""] if "__fish_use_subcommand" in line else [*told.commands - {"help"}, ""]
         for name in of:

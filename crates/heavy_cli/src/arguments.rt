@@ -134,7 +134,7 @@ fn described<'a>(alloc: Global, name: &'a str, help: Help) -> Command<'a>
 fn progress<'a>(alloc: Global) -> Arg<'a>
     ensures { result.global ≡ false }
 {
-    let told = "Tell on standard error how far standard input is read, about once a second";
+    let told = "Tell on standard error how far the input is read, about once a second";
     option(alloc, PROGRESS, told)
         .action(ArgAction::SetTrue)
         .display_order(LAST)

@@ -17,11 +17,12 @@ pub const PROGRAM: Help = Help {
     whole: "Finds the frequent keys of large weighted streams: the heavy hitters, which have more
 than a share of the total weight. Each answer is exact or carries a bound.
 
-Records come on standard input, one a line, as CSV without a header: key,weight or a
-key alone, which weighs 1. A key has 1 to 4096 bytes, a weight is a number from 1 on,
-and all weights together are at most 9223372036854775807. A key with a comma, a quote
-or a line feed in it stands in quotes. Answers go to standard output; a fault is one
-line on standard error, and two on a terminal or with --explain.",
+Records come from files or standard input, one a line, as CSV without a header:
+key,weight or a key alone, which weighs 1. A key has 1 to 4096 bytes, a weight is a
+number from 1 on, and all weights together are at most 9223372036854775807. A key with
+a comma, a quote or a line feed in it stands in quotes. Options of the commands that
+read records say where key and weight stand in others. Answers go to standard output; a
+fault is one line on standard error, and two on a terminal or with --explain.",
     end: "Exit status: 0 done; 1 a device failed (input, output or a file); 2 wrong usage;
 3 refused input (a record, a file or a key); 4 out of memory.
 
@@ -31,26 +32,32 @@ Example:
 };
 
 pub const REPORT: Help = Help {
-    about: "Print the heavy keys of the records on standard input, with their weights",
-    whole: "Print the heavy keys of the records on standard input, with their weights: rows
-key,weight, by falling weight and then by key. The weights are exact. The records
-are kept in memory; `heavy summarise` and `heavy confirm` keep one at a time.",
-    end: "Exit status: 0 the report is whole; 1 input could not be read or output not be
-written; 2 an option is refused; 3 a record is refused; 4 out of memory.
+    about: "Print the heavy keys of records, with their weights",
+    whole: "Print the heavy keys of records, with their weights: rows key,weight, by falling
+weight and then by key. The weights are exact. Records are those of the files, or of
+standard input. They are kept in memory; `heavy summarise` and `heavy confirm` keep
+one at a time.",
+    end: "Exit status: 0 the report is whole; 1 input or a file could not be read or output
+not be written; 2 an option is refused; 3 a record is refused, or a header has no
+such column; 4 out of memory.
 
 Example:
     $ printf 'a,5\\nb,3\\nc,2\\na,1\\n' | heavy report --k 9 --threshold 1/4
     a,6
-    b,3",
+    b,3
+    $ printf 'host bytes\\nx 5\\ny -\\nx 1\\n' > day.log
+    $ heavy report --delimiter ' ' --header --key host --weight bytes --allow-zero day.log
+    x,6",
 };
 
 pub const SUMMARISE: Help = Help {
-    about: "Write a summary of the records on standard input to standard output",
-    whole: "Write a summary of the records on standard input to standard output: at most k
-counters, for `heavy ask`, `heavy confirm` and `heavy merge`. It holds one record
-at a time, so input can be larger than memory.",
-    end: "Exit status: 0 the summary is whole; 1 input could not be read or output not be
-written; 2 an option is refused; 3 a record is refused; 4 out of memory.
+    about: "Write a summary of records to standard output",
+    whole: "Write a summary of records to standard output: at most k counters, for `heavy ask`,
+`heavy confirm` and `heavy merge`. Records are those of the files, or of standard
+input. It holds one record at a time, so input can be larger than memory.",
+    end: "Exit status: 0 the summary is whole; 1 input or a file could not be read or output
+not be written; 2 an option is refused; 3 a record is refused, or a header has no
+such column; 4 out of memory.
 
 Example:
     $ printf 'a,5\\nb,3\\nc,2\\na,1\\n' | heavy summarise --k 2 > day.heavy
@@ -61,12 +68,13 @@ Example:
 };
 
 pub const TABLE: Help = Help {
-    about: "Write a Count-Min table of the records on standard input to standard output",
-    whole: "Write a Count-Min table of the records on standard input to standard output, for
-`heavy ask` and `heavy merge`. It never estimates a key below its weight. Tables
-can be merged where width, depth and seed are the same.",
-    end: "Exit status: 0 the table is whole; 1 input could not be read or output not be
-written; 2 an option is refused; 3 a record is refused; 4 out of memory.
+    about: "Write a Count-Min table of records to standard output",
+    whole: "Write a Count-Min table of records to standard output, for `heavy ask` and `heavy
+merge`. It never estimates a key below its weight. Tables can be merged where width,
+depth and seed are the same. Records are those of the files, or of standard input.",
+    end: "Exit status: 0 the table is whole; 1 input or a file could not be read or output
+not be written; 2 an option is refused; 3 a record is refused, or a header has no
+such column; 4 out of memory.
 
 Example:
     $ printf 'a,5\\nb,3\\nc,2\\na,1\\n' | heavy table --width 64 > day.table
@@ -146,17 +154,17 @@ Example:
 };
 
 pub const CONDENSE: Help = Help {
-    about: "Print fewer records that say to `heavy confirm` what those on standard input say",
-    whole: "Print fewer records that say to `heavy confirm` what those on standard input say: the
-weight of each key of a saved summary that comes there, by rising key, and then that
-of all other keys together, under the name `others` (or others1, others2 and so on,
-where that is a key of the summary). Parts of a stream that are condensed by one
-summary, joined in any order, are confirmed as the stream is. It holds one record at
-a time.
+    about: "Print fewer records that say the same to `heavy confirm`",
+    whole: "Print fewer records that say to `heavy confirm` what those of the files behind the
+summary say, or of standard input: the weight of each key of a saved summary that
+comes there, by rising key, and then that of all other keys together, under the name
+`others` (or others1, others2 and so on, where that is a key of the summary). Parts
+of a stream that are condensed by one summary, joined in any order, are confirmed as
+the stream is. It holds one record at a time.
 A word that begins with - is given after --",
-    end: "Exit status: 0 all rows are written; 1 the file or input could not be read or
-output not be written; 2 wrong usage; 3 the file is damaged or no summary, or a
-record is refused; 4 out of memory.
+    end: "Exit status: 0 all rows are written; 1 a file or input could not be read or
+output not be written; 2 wrong usage; 3 the summary is damaged or none, a record is
+refused, or a header has no such column; 4 out of memory.
 
 Example:
     $ printf 'a,5\\nb,3\\nc,2\\na,1\\n' > day.csv
@@ -168,17 +176,18 @@ Example:
 };
 
 pub const CONFIRM: Help = Help {
-    about: "Print the heavy keys of a saved summary in the records on standard input",
-    whole: "Print the heavy keys of a saved summary in the records on standard input, which are
-those that it was made of, in any order: rows key,weight, by falling weight and
-then by key. The weights are exact, and no heavy key is missing. Keys are heavy above
-1/(k+1) of the total, or above a larger share of your own. It has no --k: the summary
-has a k of its own, which `heavy describe` tells. It holds one record at a time.
+    about: "Print the heavy keys of a saved summary in the records that it was made of",
+    whole: "Print the heavy keys of a saved summary in the records that it was made of, in any
+order: rows key,weight, by falling weight and then by key. The weights are exact, and
+no heavy key is missing. Keys are heavy above 1/(k+1) of the total, or above a larger
+share of your own. It has no --k: the summary has a k of its own, which `heavy
+describe` tells. Records are those of the files behind the summary, or of standard
+input. It holds one record at a time.
 A word that begins with - is given after --",
-    end: "Exit status: 0 all rows are written; 1 the file or input could not be read or
-output not be written; 2 wrong usage, or a threshold is refused; 3 the file is
-damaged or no summary, a record is refused, or the weights do not sum up to the
-summary's total; 4 out of memory.
+    end: "Exit status: 0 all rows are written; 1 a file or input could not be read or
+output not be written; 2 wrong usage, or a threshold is refused; 3 the summary is
+damaged or none, a record is refused, a header has no such column, or the weights do
+not sum up to the summary's total; 4 out of memory.
 
 Example:
     $ printf 'a,5\\nb,3\\nc,2\\na,1\\n' > day.csv
