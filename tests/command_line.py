@@ -435,8 +435,10 @@ class CommandLine(programs.Checks):
         """The second line of each fault that has one, and faults without."""
         weight = "a weight is a whole number from 1 on"
         for text, more in [
-            (b"key,weight\na,1\n", f"{weight}; is the first line a header?"), (b"a,1.5\n", f"{weight}; is the first line a header?"),
-            (b"a,0\n", weight), (b"a,1,2\n", "a record is key,weight or a key alone; a key with a comma in it stands in quotes"),
+            (b"key,weight\na,1\n", f"{weight}; is the first line a header? --header"),
+            (b"a,1.5\n", f"{weight}; is the first line a header? --header"),
+            (b"a,0\n", f"{weight}; --allow-zero takes 0"),
+            (b"a,1,2\n", "a record is key,weight or a key alone; --key and --weight choose columns"),
             (b",1\n", "a key has 1 to 4096 bytes"), (b"k" * 4097, "a key has 1 to 4096 bytes"),
             (b"a,9223372036854775807\nb\n", "all weights together are at most 9223372036854775807"),
         ]:
@@ -493,10 +495,11 @@ class CommandLine(programs.Checks):
         other, missing = "unexpected argument '%s' found", "the following required arguments were not provided:"
         for words, text in [
             ([], "'heavy' requires a subcommand but one was not provided"), (["no"], "unrecognized subcommand 'no'"),
-            (["--k", "2"], other % "--k"), (["report", "--no"], other % "--no"), (["report", "no"], other % "no"),
+            (["--k", "2"], other % "--k"), (["report", "--no"], other % "--no"),
+            (["describe", "one", "two"], other % "two"), (["list", "one", "two"], other % "two"),
             (["report", "--method", "mg"], other % "--method"), (["summarise", "--width", "2"], other % "--width"),
-            (["table", "--k", "2"], other % "--k"), (["condense", "one", "two"], other % "two"),
-            (["confirm", "one", "two"], other % "two"), (["merge", "--progress", "one"], other % "--progress"),
+            (["table", "--k", "2"], other % "--k"), (["merge", "--header", "one"], other % "--header"),
+            (["ask", "--key", "1", "one", "a"], other % "--key"), (["merge", "--progress", "one"], other % "--progress"),
             (["ask", "--progress", "one", "a"], other % "--progress"),
             (["report", "--k"], "a value is required for '--k <N>' but none was supplied"),
             (["report", "--k", "x"], "invalid value 'x' for '--k <N>'"),
@@ -517,8 +520,8 @@ class CommandLine(programs.Checks):
         """Faults of the command line are clap's, with status 2; help has status 0."""
         wrong = [
             [], ["nothing"], ["report", "--nothing"], ["report", "--k", "x"], ["report", "--k", "-1"], ["report", "--k"],
-            ["report", "word"], ["report", "--k", "18446744073709551616"], ["merge"], ["ask", "0.heavy"], ["confirm"],
-            ["confirm", "0.heavy", "1.heavy"], ["condense"], ["condense", "0.heavy", "1.heavy"], ["ask", "0.heavy", "-a"],
+            ["report", "--k", "18446744073709551616"], ["merge"], ["ask", "0.heavy"], ["confirm"], ["condense"],
+            ["report", "--key"], ["report", "--delimiter"], ["list", "0.heavy", "1.heavy"], ["ask", "0.heavy", "-a"],
             [b"\xff"], ["report", "--k", b"\xff"],
         ]
         for words in wrong:
