@@ -477,6 +477,55 @@ class CommandLine(programs.Checks):
         ]:
             self.tells(words, "", status)
 
+    def test_more_about_bad_records(self) -> None:
+        """Of a record in a file, the file's name, the line, and the first 60 bytes; nothing of standard input and of pipes."""
+        wanted, alone = "a weight is a whole number from 1 on; is the first line a header? --header", "a key has 1 to 4096 bytes"
+        long, marked = b"k" * 70_000, b"\xef\xbb\xbf"
+        files = {
+            "good": b"a,1\nb\n", "bad": b"a,1\n\n\r\nb,x\nc,y\n", "last": b"a\rb\rc,",
+            "quoted": b'"a\nb",2\r\n\r\n"c\r\nd""",x\r\n',
+            "long": b"\n" * 65_535 + b"a,1\n" + long, "edge": b"\n" * 65_534 + b"b,xy\n", "sixty": b"a\n" + b"b" * 58 + b",x\n",
+            "more": b"a\n" + b"b" * 59 + b",x\n", "mark": marked + b'"a\nb"\n\xff\t"\x1b[1m\\,x\n', "none": b"\n\r\n",
+            "marks": marked, "ä,b\n": b"a,\n", "names": b"who;how;n\na;b;1\n\nc;\"d\ne\";x\n", "empty": b"",
+        }
+        for name, data in files.items():
+            Path(self.room, name).write_bytes(data)
+        semicolons = ["--delimiter", ";", "--header", "--key", "who", "--weight", "n"]
+        for words, place in [
+            (["bad"], 'bad, line 4, "b,x"'), (["good", "bad"], 'bad, line 4, "b,x"'), (["empty", "none", "bad"], 'bad, line 4, "b,x"'),
+            (["good", "good", "marks", "bad", "good"], 'bad, line 4, "b,x"'), (["--header", "bad"], 'bad, line 4, "b,x"'),
+            (["--header", "good", "bad"], 'bad, line 4, "b,x"'),
+            (["--header", "empty", "none", "good", "bad"], 'bad, line 4, "b,x"'),
+            (["quoted"], r'quoted, line 4, "\"c\r\nd\"\"\",x"'), (["good", "last"], 'last, line 3, "c,"'),
+            (["sixty"], f'sixty, line 2, "{"b" * 58},x"'), (["more"], f'more, line 2, "{"b" * 59},"..'),
+            (["mark"], r'mark, line 3, "\xff\t\"\x1b[1m\\,x"'), (["ä,b\n"], r'ä,b\n, line 1, "a,"'),
+            ([*semicolons, "names"], r'names, line 4, "c;\"d\ne\";x"'), (["./bad"], './bad, line 4, "b,x"'),
+            ([*semicolons, "names", "names"], r'names, line 4, "c;\"d\ne\";x"'),
+        ]:
+            for command in (["report"], ["summarise", "--k", "2"], ["table"]):
+                self.tells([*command, *words], f"{place}: {wanted}", 3)
+        self.tells(["report", "good", "long"], f'long, line 65537, "{"k" * 60}"..: {alone}', 3)
+        self.tells(["report", "edge"], f'edge, line 65535, "b,xy": {wanted}', 3)
+        self.tells(["report", "good", "-", "bad"], wanted, 3, b"q\n")
+        self.tells(["report", "-"], wanted, 3, b"q,\n")
+        self.tells(["report", "good", "-"], wanted, 3, b"q,\n")
+        self.tells(["report", "bad", "-"], f'bad, line 4, "b,x": {wanted}', 3)
+        self.save("day", ["summarise", "--k", "2"])
+        for command in ("confirm", "condense"):
+            self.tells([command, "day", "bad"], f'bad, line 4, "b,x": {wanted}', 3)
+            self.tells([command, "day", "good", "bad"], f'bad, line 4, "b,x": {wanted}', 3)
+        said = self.of_pipe(b"a,1\nb,x\n")
+        self.check("a pipe is not read again", said == f"heavy: record 2: bad weight\n  {wanted}\n".encode(), said)
+
+    def of_pipe(self, text: bytes) -> bytes:
+        """What a report of the file of a pipe says of its fault."""
+        ear, mouth = os.pipe()
+        os.write(mouth, text)
+        os.close(mouth)
+        ended = programs.run([self.program, "report", "--explain", f"/dev/fd/{ear}"], pass_fds=(ear,))
+        os.close(ear)
+        return ended.err
+
     def test_more_about_unread_files(self) -> None:
         """The name of a file that can't be read and the system's reason; a name has no command for a terminal."""
         Path(self.room, "folder").mkdir()

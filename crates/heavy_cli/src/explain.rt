@@ -1,7 +1,8 @@
 //! More about a fault, in a second line: where standard error is a terminal, or where it is asked
 //! for. No contract says what these lines say, and each may change.
 
-use crate::request::{Command, Invocation, Request};
+use crate::record_place::place_of;
+use crate::request::{Command, Invocation, RecordWords, Request};
 use heavy::{BadRecordCause, Share, ToolError, Totals};
 use hh_records::threshold_of;
 use std::{fmt, fs};
@@ -172,6 +173,25 @@ fn tell_threshold(rt: &HostRuntime, request: &Request) {
     }
 }
 
+/// Tells where a bad record stands and how it begins, where its file can be read again, and what was
+/// wanted.
+fn tell_record(rt: &HostRuntime, records: &RecordWords, number: u64, wanted: &str) {
+    let Some(place) = place_of(rt, records, number) else {
+        let _ = eprintln!(rt; "  {wanted}");
+        return;
+    };
+    let (name, line) = (
+        Name(name_at(records.files.as_slice(), place.file)),
+        place.line,
+    );
+    let (begin, cut) = (place.begin(), place.is_cut());
+    let more = if cut { ".." } else { "" };
+    let _ = eprintln!(rt;
+        "  {name}, line {line}, \"{}\"{more}: {wanted}",
+        begin.escape_ascii()
+    );
+}
+
 /// Tells more about a fault of what was asked for, where there is more to say.
 pub fn tell_more(rt: &HostRuntime, fault: &ToolError, asked: &Invocation, totals: Option<Totals>) {
     match fault {
@@ -185,8 +205,8 @@ pub fn tell_more(rt: &HostRuntime, fault: &ToolError, asked: &Invocation, totals
         }
         ToolError::TotalDiffers => tell_totals(rt, name_of(asked, 1), totals),
         ToolError::BadThreshold => tell_threshold(rt, &asked.request),
-        ToolError::BadRecord { cause, .. } => {
-            let _ = eprintln!(rt; "  {}", wanted(*cause));
+        ToolError::BadRecord { number, cause } => {
+            tell_record(rt, &asked.records, *number, wanted(*cause));
         }
         _ => {}
     }

@@ -8,6 +8,7 @@ mod help;
 mod inputs;
 mod progress;
 mod record_count;
+mod record_place;
 mod request;
 mod words;
 

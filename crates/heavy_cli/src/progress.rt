@@ -44,7 +44,7 @@ impl<'a> Progress<'a> {
             rt,
             size,
             read: 0,
-            records: RecordCount::new(),
+            records: RecordCount::new(b','),
             started: now,
             told: now,
         })

@@ -16,7 +16,7 @@ enum Place {
 }
 
 impl Place {
-    fn after(self, byte: u8) -> Place {
+    fn after(self, byte: u8, delimiter: u8) -> Place {
         if matches!(self, Place::Quoted) {
             return if byte == b'"' {
                 Place::Quote
@@ -26,7 +26,7 @@ impl Place {
         }
         match byte {
             b'\r' | b'\n' => Place::Between,
-            b',' => Place::FieldEnd,
+            _ if byte == delimiter => Place::FieldEnd,
             b'"' if !matches!(self, Place::Plain) => Place::Quoted,
             _ => Place::Plain,
         }
@@ -37,14 +37,16 @@ impl Place {
 /// is none.
 #[derive(Drop)]
 pub struct RecordCount {
+    delimiter: u8,
     ended: u64,
     place: Place,
 }
 
 impl RecordCount {
-    /// No bytes came.
-    pub fn new() -> RecordCount {
+    /// No bytes came. This byte stands between two fields.
+    pub fn new(delimiter: u8) -> RecordCount {
         RecordCount {
+            delimiter,
             ended: 0,
             place: Place::Between,
         }
@@ -53,12 +55,17 @@ impl RecordCount {
     /// Takes the next bytes.
     pub fn add(&mut self, bytes: &[u8]) {
         for byte in bytes {
-            let next = self.place.after(*byte);
+            let next = self.place.after(*byte, self.delimiter);
             if matches!(next, Place::Between) && !matches!(self.place, Place::Between) {
                 self.ended = self.ended.saturating_add(1);
             }
             self.place = next;
         }
+    }
+
+    /// The records that are ended.
+    pub fn ended(&self) -> u64 {
+        self.ended
     }
 
     /// The records that are ended, and the one that has begun.
