@@ -526,6 +526,57 @@ class CommandLine(programs.Checks):
         os.close(ear)
         return ended.err
 
+    def notes(self, words: list, note: str, given: bytes = b"") -> None:
+        """A run with status 0 says nothing on standard error, but for a note on a terminal and with --explain."""
+        plain, said = self.heavy(words, given), f"heavy: note: {note}\n".encode() if note else b""
+        name = f"a note about {words}, {given[:40]!r}"
+        self.check(f"{name}: none", (plain[0], plain[2]) == (0, b""), plain)
+        explained = self.heavy([*words[:1], "--explain", *words[1:]], given)
+        self.check(f"{name}: --explain", explained == (0, plain[1], said), (explained, said))
+        terminal = on_terminal([self.program, *words], given, self.room)
+        self.check(f"{name}: on a terminal", terminal == (0, said), (terminal, said))
+
+    def test_notes_about_formats(self) -> None:
+        """Records without a second field where another delimiter stands in most lines, and a quote that stays open."""
+        other = "no record has a second field, and most lines have a %s: --delimiter '%s'"
+        tab, semicolon, bar = other % ("tab", r"\t"), other % ("semicolon", ";"), other % ("bar", "|")
+        opened, buffer = "a quote is open at the end of standard input", b"k,1\n" * 16_383
+        for text, note in [
+            (b"", ""), (b"a\nb\n", ""), (RECORDS, ""), (b"a\t1\n", tab), (b"a\t1\nb\t2\nc\n", tab), (b"a\t1\nb\n", ""),
+            (b"a\nb\nc\t", ""), (b"a\nb\t\nc\t", tab), (b"a;1\nb;2", semicolon), (b"a|1\r\n\r\nb|2\r\n", bar),
+            (b"a|1\rb|2\rc\r", bar), (b"a;1\tx\n", tab), (b"a;1|x\n", semicolon), (b"a;1\nb,1\n", ""), (b"a,1\nb;1\nc;1", ""),
+            (b"a;1\nb;2\n" * 50_000, semicolon), (b"a;1\n" * 50_000 + b"b,1\n", ""), (b'"a;b"\n', semicolon), (b"a|" * 2000, bar),
+            (b";\n" * 3 + b"|\n" * 2, semicolon), (b"a\tb\n" + b"\n" * 70_000, tab), (b"a;" * 2000 + b"\nb\nc\n", ""),
+            (b'a,1\n"b,2\nc,3\n', opened), (b'a,1\nb"\n', ""), (b'"a""b"\n', ""), (b'"a"\n', ""), (b'"a"', ""), (b'"a""', opened),
+            (b'a,"1', opened), (b"a,1\n" * 50_000 + b'"b', opened), (b'a,1\n"' + b"b" * 4000 + b'"\n', ""),
+            (buffer + b'abc,"1', opened), (buffer + b'abcd"\n', ""), (buffer + b'abc\n"b', opened), (buffer + b'"bc"""\n', ""),
+            (b'"a;b', f"{semicolon}\nheavy: note: {opened}"), (b'a;"b', semicolon),
+        ]:
+            self.notes(["summarise", "--k", "2"], note, text)
+        for command in (["report"], ["table", "--width", "2"], ["report", "-"], ["report", "--header"], ["report", "--allow-zero"]):
+            self.notes(command, tab, b"a\t1\nb\t2\n")
+            self.notes(command, opened, b'a,b\n"b\n' if "--header" in command else b'a\n"b,1\n')
+        for words, text in [
+            (["--delimiter", "\\t"], b"a\t1\n"), (["--delimiter", ";"], b"a\tb\n"), (["--key", "1"], b"a;1\n"), (["--weight", "1"], b'"1'),
+            (["--delimiter", ","], b'"a'),
+        ]:
+            self.notes(["report", *words], "", text)
+        for name, data in {"one": b"a;1\n", "two": b"b;1\nc;2\n", "op\ten": b'a,1\n"b', "plain": b"a,1\n", "keys": b"a\n" * 3}.items():
+            Path(self.room, name).write_bytes(data)
+        day = self.save("day", ["summarise"], b"a;1\nb;1\nc;2\n")
+        self.check("a summary of three", day != b"")
+        for words, note in [
+            (["one", "two"], semicolon), (["two", "keys"], ""), (["one", "plain"], ""), (["op\ten"], opened[:30] + r"op\ten"),
+            (["plain", "op\ten", "one"], opened[:30] + r"op\ten"),
+        ]:
+            self.notes(["report", *words], note)
+        self.notes(["confirm", "day", "one", "two"], semicolon)
+        self.notes(["condense", "day", "plain", "op\ten"], opened[:30] + r"op\ten")
+        for words in (["list", "day"], ["describe", "day"], ["ask", "day", "a;1"], ["merge", "day"]):
+            self.notes(words, "")
+        self.tells(["report"], "a key has 1 to 4096 bytes", 3, b'"')
+        self.tells(["report"], "a key has 1 to 4096 bytes", 3, b"a;1\n\"\"\n")
+
     def test_more_about_unread_files(self) -> None:
         """The name of a file that can't be read and the system's reason; a name has no command for a terminal."""
         Path(self.room, "folder").mkdir()

@@ -1,10 +1,12 @@
 //! More about a fault, in a second line: where standard error is a terminal, or where it is asked
 //! for. No contract says what these lines say, and each may change.
 
+use crate::other_format::Seen;
 use crate::record_place::place_of;
 use crate::request::{Command, Invocation, RecordWords, Request};
 use heavy::{BadRecordCause, Share, ToolError, Totals};
 use hh_records::threshold_of;
+use std::io::IsTerminal;
 use std::{fmt, fs};
 
 /// The most counters of a summary.
@@ -13,8 +15,24 @@ const MOST_COUNTERS: u64 = 65_535;
 /// The name of a file where none is named.
 const NO_NAME: &[u8] = b"";
 
+/// What standard input is called.
+const STANDARD: &[u8] = b"standard input";
+
 /// What a weight has to be, and what may stand in its place.
 const WEIGHT: &str = "a weight is a whole number from 1 on; is the first line a header? --header";
+
+/// Whether more is told: where that is asked for, or standard error is a terminal.
+pub fn tells_more(rt: &HostRuntime, asked: &Invocation) -> bool {
+    asked.explains || rt.stderr().is_terminal()
+}
+
+/// Whether it is told where records look like another format: where more is told, and no option says
+/// how they are parted.
+pub fn watches(rt: &HostRuntime, asked: &Invocation) -> bool {
+    let layout = &asked.records.layout;
+    let is_plain = layout.delimiter.is_none() && layout.key.is_empty() && layout.weight.is_none();
+    is_plain && tells_more(rt, asked)
+}
 
 /// What a record has to be, by what is wrong with one.
 fn wanted(cause: BadRecordCause) -> &'static str {
@@ -209,5 +227,27 @@ pub fn tell_more(rt: &HostRuntime, fault: &ToolError, asked: &Invocation, totals
             tell_record(rt, &asked.records, *number, wanted(*cause));
         }
         _ => {}
+    }
+}
+
+/// Tells what is told of a text at whose end a quote was open.
+fn tell_open(rt: &HostRuntime, name: &[u8]) {
+    let name = match name {
+        [] | [b'-'] => STANDARD,
+        _ => name,
+    };
+    let _ = eprintln!(rt; "heavy: note: a quote is open at the end of {}", Name(name));
+}
+
+/// Tells where records that were read look like another format.
+pub fn tell_format(rt: &HostRuntime, seen: Seen, asked: &Invocation) {
+    if let Some((name, word)) = seen.delimiter() {
+        let _ = eprintln!(rt;
+            "heavy: note: no record has a second field, and most lines have a {name}: \
+            --delimiter '{word}'"
+        );
+    }
+    if let Some(number) = seen.open {
+        tell_open(rt, name_of(asked, number));
     }
 }

@@ -2,6 +2,7 @@
 
 ghost use Rattle.std.specs.Prelude.{None};
 
+use crate::other_format::{Seen, Watch};
 use crate::progress::Metered;
 use crate::request::RecordWords;
 use heavy::{Records, ToolError, layout_of};
@@ -23,6 +24,21 @@ pub struct Input<'a> {
     /// Its place among the command line's files, from 1 on, and 0 where it has none.
     number: u64,
     unread: &'a Cell<u64>,
+    /// What sees its bytes, where that is asked for.
+    watch: Option<Watch<'a>>,
+}
+
+impl<'a> Input<'a> {
+    /// Leaves what a read is to leave.
+    fn leave(&mut self, outcome: &io::Result<usize>, buf: &[u8]) {
+        let Ok(count) = outcome else {
+            self.unread.set(self.number);
+            return;
+        };
+        if let (Some(watch), Some(bytes)) = (&mut self.watch, buf.get(..*count)) {
+            watch.add(bytes);
+        }
+    }
 }
 
 impl<'a> Read for Input<'a> {
@@ -33,9 +49,7 @@ impl<'a> Read for Input<'a> {
             Source::Standard(input) => input.read(buf),
             Source::File(file) => file.read(buf),
         };
-        if outcome.is_err() {
-            self.unread.set(self.number);
-        }
+        self.leave(&outcome, buf);
         outcome
     }
 }
@@ -51,6 +65,8 @@ pub struct Inputs<'a> {
     pub tells_progress: bool,
     /// Where an input that can't be read leaves its number, which is 0 for standard input.
     pub unread: &'a Cell<u64>,
+    /// Where it is left what was seen in the inputs, where that is asked for.
+    pub seen: Option<&'a Cell<Seen>>,
 }
 
 impl<'a> Inputs<'a> {
@@ -61,6 +77,7 @@ impl<'a> Inputs<'a> {
             source,
             number,
             unread,
+            watch: self.seen.map(|seen| Watch::new(seen, number)),
         };
         Metered::new(self.rt, input, path, self.tells_progress)
     }

@@ -6,22 +6,23 @@ mod explain;
 mod files;
 mod help;
 mod inputs;
+mod other_format;
 mod progress;
 mod record_count;
 mod record_place;
 mod request;
 mod words;
 
-use explain::tell_more;
+use explain::{tell_format, tell_more, tells_more, watches};
 use files::{read_file, read_files};
 use heavy::{
     Method, Out, ToolError, Totals, ask_bytes, condense_bytes_from, confirm_rows, describe_file,
     list_keys, merge_bytes, put, report_rows, summary_bytes_from, table_bytes_from,
 };
 use inputs::Inputs;
+use other_format::NOTHING;
 use request::{Command, Invocation, RecordWords, Request, UsageError, read_request};
 use std::cell::Cell;
-use std::io::IsTerminal;
 use std::process::ExitCode;
 
 /// The exit status of the command line's own faults.
@@ -99,7 +100,7 @@ fn status_explained(
     totals: Option<Totals>,
 ) -> ExitCode {
     let status = status_after(rt, fault);
-    if asked.explains || rt.stderr().is_terminal() {
+    if tells_more(rt, asked) {
         tell_more(rt, &fault, asked, totals);
     }
     status
@@ -123,11 +124,12 @@ fn main(rt: HostRuntime) -> ExitCode {
         Err(UsageError::Memory) => return status_after(&rt, ToolError::Memory),
     };
     let mut totals = None;
-    let unread = Cell::new(0);
+    let (unread, seen) = (Cell::new(0), Cell::new(NOTHING));
     let inputs = Inputs {
         rt: &rt,
         tells_progress: asked.tells_progress,
         unread: &unread,
+        seen: watches(&rt, &asked).then_some(&seen),
     };
     let outcome = match &asked.request {
         Request::Report { options, rows } => match inputs.records(&asked.records, 0) {
@@ -140,7 +142,10 @@ fn main(rt: HostRuntime) -> ExitCode {
         Request::Answer(command) => write_answer(inputs, command, &asked.records, &mut totals),
     };
     match outcome {
-        Ok(()) => ExitCode::SUCCESS,
+        Ok(()) => {
+            tell_format(&rt, seen.get(), &asked);
+            ExitCode::SUCCESS
+        }
         Err(fault) => status_explained(&rt, numbered(fault, unread.get()), &asked, totals),
     }
 }

@@ -63,6 +63,11 @@ impl RecordCount {
         }
     }
 
+    /// Whether the next byte is part of a quoted field.
+    pub fn is_quoted(&self) -> bool {
+        matches!(self.place, Place::Quoted)
+    }
+
     /// The records that are ended.
     pub fn ended(&self) -> u64 {
         self.ended

@@ -1,0 +1,153 @@
+//! Whether texts that are read as records look like another format.
+
+use crate::record_count::RecordCount;
+use std::cell::Cell;
+
+/// Which bytes that part fields elsewhere a line has.
+#[derive(Clone, Copy)]
+struct Line {
+    is_empty: bool,
+    has_tab: bool,
+    has_semicolon: bool,
+    has_bar: bool,
+}
+
+const EMPTY: Line = Line {
+    is_empty: true,
+    has_tab: false,
+    has_semicolon: false,
+    has_bar: false,
+};
+
+impl Line {
+    fn with(self, byte: u8) -> Line {
+        Line {
+            is_empty: false,
+            has_tab: self.has_tab || byte == b'\t',
+            has_semicolon: self.has_semicolon || byte == b';',
+            has_bar: self.has_bar || byte == b'|',
+        }
+    }
+}
+
+/// What was seen in texts. Lines are counted up to the first comma.
+#[derive(Clone, Copy)]
+pub struct Seen {
+    has_comma: bool,
+    lines: u64,
+    tabs: u64,
+    semicolons: u64,
+    bars: u64,
+    /// The number of a text at whose end a quote was open.
+    pub open: Option<u64>,
+}
+
+pub const NOTHING: Seen = Seen {
+    has_comma: false,
+    lines: 0,
+    tabs: 0,
+    semicolons: 0,
+    bars: 0,
+    open: None,
+};
+
+impl Seen {
+    fn with_line(self, line: Line) -> Seen {
+        if line.is_empty {
+            return self;
+        }
+        Seen {
+            lines: self.lines.saturating_add(1),
+            tabs: self.tabs.saturating_add(u64::from(line.has_tab)),
+            semicolons: self
+                .semicolons
+                .saturating_add(u64::from(line.has_semicolon)),
+            bars: self.bars.saturating_add(u64::from(line.has_bar)),
+            ..self
+        }
+    }
+
+    /// Whether so many are more than half of the lines.
+    fn are_most(self, lines: u64) -> bool {
+        lines > self.lines / 2
+    }
+
+    /// What stands in most lines in place of a comma, which is in none, with the word for it.
+    pub fn delimiter(self) -> Option<(&'static str, &'static str)> {
+        if self.has_comma {
+            None
+        } else if self.are_most(self.tabs) {
+            Some(("tab", "\\t"))
+        } else if self.are_most(self.semicolons) {
+            Some(("semicolon", ";"))
+        } else if self.are_most(self.bars) {
+            Some(("bar", "|"))
+        } else {
+            None
+        }
+    }
+}
+
+/// Sees the bytes of a text as they come.
+#[derive(Drop)]
+pub struct Watch<'a> {
+    seen: &'a Cell<Seen>,
+    /// The number of the text.
+    number: u64,
+    line: Line,
+    records: RecordCount,
+}
+
+impl<'a> Watch<'a> {
+    /// Nothing of the text came.
+    pub fn new(seen: &'a Cell<Seen>, number: u64) -> Watch<'a> {
+        Watch {
+            seen,
+            number,
+            line: EMPTY,
+            records: RecordCount::new(b','),
+        }
+    }
+
+    /// Takes the next bytes into the lines.
+    fn with_lines(&mut self, mut seen: Seen, bytes: &[u8]) -> Seen {
+        for byte in bytes {
+            if matches!(*byte, b'\r' | b'\n') {
+                seen = seen.with_line(self.line);
+                self.line = EMPTY;
+            } else {
+                self.line = self.line.with(*byte);
+            }
+        }
+        seen
+    }
+
+    /// Sees the end of the text.
+    fn end(&mut self, seen: Seen) -> Seen {
+        let open = if self.records.is_quoted() {
+            Some(self.number)
+        } else {
+            seen.open
+        };
+        let seen = Seen { open, ..seen }.with_line(self.line);
+        self.line = EMPTY;
+        self.records = RecordCount::new(b',');
+        seen
+    }
+
+    /// Takes the next bytes. None are the end. Bytes without a quote, in no quotes, leave the place
+    /// that their last one does.
+    pub fn add(&mut self, bytes: &[u8]) {
+        let mut seen = self.seen.get();
+        seen.has_comma = seen.has_comma || bytes.contains(&b',');
+        if !seen.has_comma {
+            seen = self.with_lines(seen, bytes);
+        }
+        match bytes.last() {
+            None => seen = self.end(seen),
+            Some(_) if self.records.is_quoted() || bytes.contains(&b'"') => self.records.add(bytes),
+            Some(byte) => self.records.add(&[*byte]),
+        }
+        self.seen.set(seen);
+    }
+}
