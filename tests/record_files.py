@@ -578,6 +578,10 @@ class RecordFiles(programs.Checks):
         for names in ("- 1.csv 2.csv", "1.csv - 2.csv", "1.csv 2.csv -", "-- 1.csv 2.csv -"):
             self.expect([*report, *names.split()], (0, b"c,4\nb,2\na,1\n", b""), b"c,4")
         self.expect([*report, "1.csv", "1.csv"], (0, b"a,2\n", b""))
+        # named twice it is read once, by the first, although each file's header is read before the records
+        large = b"k,w\n" + b"".join(b"key%d,1\n" % (i % 5) for i in range(50_000))
+        rows = b"".join(b"key%d,10000\n" % i for i in range(5))
+        self.expect([*report, "--header", "--key", "1", "-", "-"], (0, rows, b""), large)
         Path(self.room, "-").write_bytes(b"d,9\n")
         self.expect([*report, "./-"], (0, b"d,9\n", b""))
         self.expect([*report, "1.csv", "--top", "1", "2.csv", "--delimiter", ","], (0, b"b,2\n", b""))
