@@ -17,11 +17,11 @@ LIMITED = ["sh", "-c", 'ulimit -v "$0"; exec "$@"', KILOBYTES]
 
 @dataclass
 class Case:
-    """A command with saved files, words behind them and an input, and what it has to say: its status, standard
-    output and standard error."""
+    """A command with files, words behind them and an input, and what it has to say: its status, standard output and
+    standard error. A text among the files is a word that names one."""
 
-    command: list[str]
-    files: list[bytes]
+    command: list[bytes | str]
+    files: list[bytes | str]
     words: list[bytes]
     given: bytes
     expected: tuple[int, bytes, bytes]
@@ -51,12 +51,14 @@ def mutate(draw: Random, data: bytearray, pieces: list[bytes]) -> None:
 
 def ran(program: str, room: str, number: int, case: Case) -> str | None:
     """What was wrong with a run, if anything."""
-    paths = [f"{room}/{number}-{i}" for i in range(len(case.files))]
-    for path, data in zip(paths, case.files):
+    files = {f"{room}/{number}-{i}": data for i, data in enumerate(case.files)}
+    saved = {path: data for path, data in files.items() if isinstance(data, bytes)}
+    for path, data in saved.items():
         with open(path, "wb") as file:
             file.write(data)
+    paths = [path if path in saved else data for path, data in files.items()]
     ended = programs.run([*LIMITED, program, *case.command, *paths, "--", *case.words], case.given)
-    for path in paths:
+    for path in saved:
         os.remove(path)
     said = (ended.status, ended.out, ended.err)
     if said != case.expected:

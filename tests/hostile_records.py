@@ -55,9 +55,9 @@ def empty_table(options: tuple[str, ...]) -> bytes:
     return programs.run([programs.built("heavy_cli"), "table", *options]).out
 
 
-def table(text: bytes, empty: bytes) -> bytes:
+def table(text, empty: bytes, reader=reference.items_of) -> bytes:
     """The table of these records by the family of an empty one."""
-    items = reference.items_of(text)
+    items = reader(text)
     made = reference.read(empty)
     made.total = reference.total_of(items)
     for key, weight in items:

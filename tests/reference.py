@@ -287,7 +287,7 @@ def read_file(data: bytes, place: int = 1) -> Summary | Table:
         raise Refused(f"file {place}: {fault.text}") from None
 
 
-# ---- commands
+# ---- commands. Those that read records take the reader of these too.
 
 
 def share_of(text: bytes, k: int) -> tuple[int, int]:
@@ -300,14 +300,14 @@ def share_of(text: bytes, k: int) -> tuple[int, int]:
     raise Refused("threshold must be P/Q with 1 <= P <= Q <= 4294967296 and P*(K+1) >= Q", 2)
 
 
-def report(text: bytes, k: int, share: bytes | None = None, top: int | None = None, shared: bool = False) -> bytes:
+def report(text, k: int, share: bytes | None = None, top: int | None = None, shared: bool = False, reader=items_of) -> bytes:
     p, q = (1, k + 1) if share is None else share_of(share, k)
-    items = items_of(text)
+    items = reader(text)
     return printed_rows(heavy(items, p, q), total_of(items), top, shared)
 
 
-def summarise(text: bytes, k: int) -> bytes:
-    return written(misra_gries(items_of(text), k))
+def summarise(text, k: int, reader=items_of) -> bytes:
+    return written(misra_gries(reader(text), k))
 
 
 def ask(data: bytes, keys: list[bytes]) -> bytes:
@@ -380,12 +380,14 @@ def describe(data: bytes) -> bytes:
     return b"".join(row_text(*fact) for fact in facts)
 
 
-def confirm(data: bytes, text: bytes, share: bytes | None = None, top: int | None = None, shared: bool = False) -> bytes:
+def confirm(
+    data: bytes, text, share: bytes | None = None, top: int | None = None, shared: bool = False, reader=items_of
+) -> bytes:
     saved = read_file(data)
     if not isinstance(saved, Summary):
         raise Refused("file 1: not a counter summary")
     p, q = (1, saved.k + 1) if share is None else share_of(share, saved.k)
-    items = items_of(text)
+    items = reader(text)
     if total_of(items) != saved.total:
         raise Refused("file 1: its total is not the input's")
     rows = [row for row in heavy(items, p, q) if row[0] in saved.counters]
@@ -398,13 +400,13 @@ def leading_row(key: bytes, weight: int) -> bytes:
     return b'"%s"%s' % (key, row[len(key):]) if row.startswith(b"\xef\xbb\xbf") else row
 
 
-def condense(data: bytes, text: bytes) -> bytes:
+def condense(data: bytes, text, reader=items_of) -> bytes:
     saved = read_file(data)
     if not isinstance(saved, Summary):
         raise Refused("file 1: not a counter summary")
     weights: dict[bytes, int] = {}
     others = 0
-    for key, weight in items_of(text):
+    for key, weight in reader(text):
         if key in saved.counters:
             weights[key] = weights.get(key, 0) + weight
         else:
@@ -416,9 +418,9 @@ def condense(data: bytes, text: bytes) -> bytes:
     return leading_row(*rows[0]) + rows_text(rows[1:]) if rows else b""
 
 
-def answer(command, *given) -> tuple[int, bytes, bytes]:
+def answer(command, *given, **how) -> tuple[int, bytes, bytes]:
     """The status, standard output and standard error of a command."""
     try:
-        return 0, command(*given), b""
+        return 0, command(*given, **how), b""
     except Refused as fault:
         return fault.status, b"", f"heavy: {fault.text}\n".encode()

@@ -15,6 +15,13 @@ use std::io::{self, Read, Stdin};
 enum Source {
     Standard(Stdin),
     File(File),
+    /// Standard input once more, of which the first one takes all.
+    Nothing,
+}
+
+/// Whether a name is that of standard input.
+fn is_standard(name: &[u8]) -> bool {
+    name == b"-".as_slice()
 }
 
 /// Standard input or a file, which leaves its number where it can't be read.
@@ -48,6 +55,7 @@ impl<'a> Read for Input<'a> {
         let outcome = match &mut self.source {
             Source::Standard(input) => input.read(buf),
             Source::File(file) => file.read(buf),
+            Source::Nothing => Ok(0),
         };
         self.leave(&outcome, buf);
         outcome
@@ -89,7 +97,7 @@ impl<'a> Inputs<'a> {
 
     /// The file with this name and number. `-` is standard input.
     fn open(self, name: &[u8], number: u64) -> Result<Reader<'a>, ToolError> {
-        if name == b"-".as_slice() {
+        if is_standard(name) {
             return Ok(self.standard(number));
         }
         let Ok(path) = str::from_utf8(name) else {
@@ -105,7 +113,7 @@ impl<'a> Inputs<'a> {
     }
 
     /// The records that a command line names behind so many saved files: those of its files, which
-    /// are all opened here, or else those of standard input.
+    /// are all opened here, or else those of standard input. That is read where it is named first.
     pub fn records(
         self,
         words: &RecordWords,
@@ -123,9 +131,16 @@ impl<'a> Inputs<'a> {
             });
         };
         let first = self.open(name, saved.saturating_add(1))?;
+        let mut is_taken = is_standard(name);
         for (place, name) in names.iter().enumerate() {
             let number = saved.saturating_add(place as u64).saturating_add(2);
-            match others.push(self.open(name, number)?) {
+            let reader = if is_taken && is_standard(name) {
+                self.reader(Source::Nothing, number, "/dev/null")
+            } else {
+                self.open(name, number)?
+            };
+            is_taken = is_taken || is_standard(name);
+            match others.push(reader) {
                 Ok(()) => {}
                 Err(_) => return Err(ToolError::Memory),
             }

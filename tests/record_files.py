@@ -1,0 +1,630 @@
+#!/usr/bin/env python3
+"""Reads files of records in columns of one's own: by rows whose answers were found by hand, and by random files and
+options, whose answers a second reader finds over Python's csv.
+
+usage: tests/record_files.py [CASES [SEED]]
+
+Prints the seed, how many cases ran and differed.
+"""
+import csv
+import io
+import os
+import re
+from dataclasses import dataclass, field
+from pathlib import Path
+from random import Random
+
+import hostile
+import hostile_records
+import programs
+import reference
+
+BAD_DELIMITER = "delimiter must be one byte or \\t, and no quote, CR or LF"
+BAD_COLUMN = "columns must be numbers from 1 on or, with --header, names"
+NO_COLUMN = "the header has no such column"
+MARK = b"\xef\xbb\xbf"
+LARGEST = b"9223372036854775807"
+
+# ---- the second reader
+
+
+@dataclass
+class Layout:
+    """The words that say where keys and weights stand."""
+
+    delimiter: bytes | None = None
+    has_header: bool = False
+    key: list[bytes] = field(default_factory=list)
+    weight: bytes | None = None
+    allow_zero: bool = False
+
+
+@dataclass
+class Records:
+    """Texts of records by the place of each among the files; None is a file that is missing."""
+
+    layout: Layout
+    texts: dict[int, bytes | None]
+
+
+def delimiter_of(word: bytes | None) -> str:
+    if word is None:
+        return ","
+    if word == b"\\t":
+        return "\t"
+    if len(word) != 1 or word in b'"\r\n':
+        raise reference.Refused(BAD_DELIMITER, 2)
+    return word.decode("latin-1")
+
+
+def column_of(word: bytes, has_header: bool) -> int | str:
+    """The place of a column from 0 on, or its name. Up to ten digits are a number."""
+    if re.fullmatch(rb"[0-9]{1,10}", word):
+        if int(word) > 0:
+            return int(word) - 1
+    elif has_header:
+        return word.decode("latin-1")
+    raise reference.Refused(BAD_COLUMN, 2)
+
+
+def fields_of(text: bytes, delimiter: str) -> list[list[str]]:
+    """The records of a text by Python's csv, each byte as a character. Of what it reads in another way than ours it has to
+    be told: it has lines from a StringIO that leaves CR, LF and CRLF as they are and ends a line at each; an empty line is
+    an empty list; and a byte order mark is taken off here. Older ones refuse NUL, which no case has."""
+    lines = io.StringIO(text.removeprefix(MARK).decode("latin-1"), newline="")
+    return [record for record in csv.reader(lines, delimiter=delimiter) if record]
+
+
+def place_of(column: int | str, header: list[str]) -> int:
+    if isinstance(column, int):
+        return column
+    if column not in header:
+        raise reference.Refused(NO_COLUMN)
+    return header.index(column)
+
+
+def key_text(fields: list[str]) -> str:
+    """The key that some fields are. A line's end of CR and LF puts fields with either in quotes."""
+    if len(fields) == 1:
+        return fields[0]
+    line = io.StringIO(newline="")
+    csv.writer(line, lineterminator="\r\n").writerow(fields)
+    return line.getvalue().removesuffix("\r\n")
+
+
+def parts_of(record: list[str], key: list[int], weight: int | None) -> tuple[str, str] | None:
+    """A record's key and weight, or None where it lacks a field. Without places it is a key or a key and a weight."""
+    if not key:
+        return (record[0], (record + ["1"])[1]) if len(record) <= 2 else None
+    if max([*key, weight or 0]) >= len(record):
+        return None
+    return key_text([record[place] for place in key]), "1" if weight is None else record[weight]
+
+
+def parts_in(text: bytes, layout: Layout) -> list[tuple[str, str] | None]:
+    """The records of a text by its own header."""
+    rows = fields_of(text, delimiter_of(layout.delimiter))
+    header = []
+    if layout.has_header:
+        if not rows:
+            return []
+        header, *rows = rows
+    key = [place_of(column_of(word, layout.has_header), header) for word in layout.key]
+    if layout.weight is None:
+        return [parts_of(row, key, None) for row in rows]
+    weight = place_of(column_of(layout.weight, layout.has_header), header)
+    return [parts_of(row, key or [0], weight) for row in rows]
+
+
+def weight_in(written: str, layout: Layout) -> int | None:
+    """The weight that a field writes, if it writes one."""
+    if layout.allow_zero and written == "-":
+        return 0
+    return int(written) if re.fullmatch("[0-9]{1,20}", written) else None
+
+
+def items_of(records: Records) -> list[reference.Item]:
+    """The stream of some texts, or the first refusal: of the words, of a missing file, of a header, of a record."""
+    layout = records.layout
+    delimiter_of(layout.delimiter)
+    for word in [*layout.key, *([] if layout.weight is None else [layout.weight])]:
+        column_of(word, layout.has_header)
+    for place, text in records.texts.items():
+        if text is None:
+            raise reference.Refused(f"file {place}: could not be read", 1)
+    rows = [parts for text in records.texts.values() for parts in parts_in(text, layout)]
+    items: list[reference.Item] = []
+    total = 0
+    for number, parts in enumerate(rows, 1):
+        cause = None
+        key, written = parts or ("", "")
+        weight = weight_in(written, layout)
+        if parts is None:
+            cause = "wrong number of fields"
+        elif not 1 <= len(key) <= 4096:
+            cause = "key too long" if key else "empty key"
+        elif weight is None:
+            cause = "bad weight"
+        elif weight == 0:
+            cause = None if layout.allow_zero else "zero weight"
+        elif total + weight > 2**63 - 1:
+            cause = "total too large"
+        if cause:
+            raise reference.Refused(f"record {number}: {cause}")
+        if weight:
+            items.append((key.encode("latin-1"), weight))
+            total += weight
+    return items
+
+
+# ---- random cases
+
+DELIMITERS = [b",", b";", b"\\t", b"\t", b" ", b"|", b":", b"-", b"\\", b"'", b"0", b"a", b"\xff", b"\x80"]
+BAD_DELIMITERS = [b"", b'"', b"\r", b"\n", b",,", b"\\n", b"\\tt", "é".encode(), b"\\t\\t"]
+NAMES = [b"a", b"b", b"key", b"bytes", b"x y", b"2", b"0", b"\xe9", b'n"q', b"-", b"", b"12345678901", b"a;b", b"l\nf"]
+OTHER_COLUMNS = [b"0", b"00", b"x", b"", b"99999999999", b"9999999999", b"+1", b"1.0", b" 1", b"-1", b"\xff", b"A"]
+KEYS = [b"a", b"b", b"c", b"d"]
+OTHER_KEYS = [
+    b"a,b", b'"', b'q"q', b'"a"', b"l\nf", b"c\rr", b"e\r\nf", b" a", b"a ", b"", b"", b"-", b"\xff", b"\xc3\xa9",
+    MARK + b"a", b"a;b", b"a\tb", b"\\t", b"'", b"k" * 2047, b"k" * 2048, b"k" * 4096, b"k" * 4097, b"\x85",
+    b"\x0b\x0c\x1c\x1e",
+]
+WEIGHTS = [b"1", b"2", b"3", b"7"]
+ZEROS = [b"0", b"-", b"00", b"-", b"0" * 20]
+OTHER_WEIGHTS = [
+    b"007", b"+1", b"-1", b"--", b"1.0", b" 1", b"1 ", b"", b"x", b"\xb2", b"9" * 20, b"9" * 21, b"0" * 19 + b"1",
+    b"0" * 20 + b"1", b"0" * 21, LARGEST, b"9223372036854775806", b"4611686018427387904",
+]
+ENDS = [b"\n", b"\n", b"\r\n", b"\r"]
+PIECES = [b",", b'"', b'""', b"\n", b"\r", b"\r\n", b"\xff", MARK, b"0", b"-", b" ", b"\t", b";"]
+
+
+def spelled(draw: Random, data: bytes, delimiter: bytes) -> bytes:
+    """A field as a text may write it: in quotes where it has to, and sometimes where it hasn't."""
+    wants = any(byte in b"\r\n" + delimiter for byte in data) or data.startswith(b'"')
+    if not wants and draw.random() < 0.85:
+        return data
+    if data and draw.random() < 0.05:
+        # what stands behind the quotes is the field's too
+        return b'"' + data.replace(b'"', b'""') + b'"' + draw.choice([b"z", b' "', b"z\"y"]).replace(delimiter, b"")
+    return b'"' + data.replace(b'"', b'""') + b'"'
+
+
+def some_weight(draw: Random, layout: Layout) -> bytes:
+    chance = draw.random()
+    if chance < (0.2 if layout.allow_zero else 0.01):
+        return draw.choice(ZEROS)
+    return draw.choice(OTHER_WEIGHTS) if chance > 0.985 else draw.choice(WEIGHTS)
+
+
+def some_key(draw: Random) -> bytes:
+    return draw.choice(KEYS) if draw.random() < 0.85 else draw.choice(OTHER_KEYS)
+
+
+def some_record(draw: Random, layout: Layout, count: int, weight: int | None) -> list[bytes]:
+    """A record of so many columns, one of which may be a weight, or of more and sometimes of fewer."""
+    if not layout.key and layout.weight is None:
+        count = 3 if draw.random() < 0.01 else draw.choice([1, 2, 2])
+        weight = 1
+    elif draw.random() < 0.2:
+        count += draw.randrange(1, 3)
+    elif draw.random() < 0.02:
+        count = draw.randrange(1, count + 1)
+    return [some_weight(draw, layout) if place == weight else some_key(draw) for place in range(count)]
+
+
+def some_text(draw: Random, layout: Layout, names: list[bytes]) -> bytes:
+    """A text with these columns, in their order or in another."""
+    if draw.random() < 0.1:
+        return draw.choice([b"", b"", b"\n", b"\r\n\n", MARK])
+    try:
+        byte = delimiter_of(layout.delimiter).encode("latin-1")
+    except reference.Refused:
+        byte = b","
+    rows, columns = [], list(names)
+    if layout.has_header:
+        if draw.random() < 0.3:
+            draw.shuffle(columns)
+        rows.append(columns)
+    weight = None
+    if layout.weight in columns:
+        weight = columns.index(layout.weight)
+    if re.fullmatch(rb"[0-9]{1,10}", layout.weight or b""):
+        weight = int(layout.weight) - 1
+    rows += [some_record(draw, layout, len(columns), weight) for _ in range(draw.randrange(9))]
+    end = draw.choice(ENDS)
+    parts = [MARK] if draw.random() < 0.1 else []
+    for row in rows:
+        parts += [byte.join(spelled(draw, one, byte) for one in row), end * draw.choice([1] * 9 + [2])]
+    if draw.random() < 0.4:
+        parts.append(b"")
+        parts[-2 if rows else -1] = b""
+    data = bytearray(b"".join(parts))
+    if draw.random() < 0.15:
+        hostile.mutate(draw, data, [*PIECES, byte])
+    return bytes(data).replace(b"\0", b"n")
+
+
+def some_column(draw: Random, has_header: bool, names: list[bytes]) -> bytes:
+    if draw.random() < 0.02:
+        return draw.choice(OTHER_COLUMNS)
+    if has_header and draw.random() < 0.6:
+        return draw.choice(names)
+    return draw.choice([b"%d", b"%d", b"%d", b"%02d", b"%010d"]) % draw.randrange(1, len(names) + 1)
+
+
+def some_layout(draw: Random, names: list[bytes]) -> Layout:
+    has_header = draw.random() < 0.5
+    layout = Layout(None, has_header, allow_zero=draw.random() < 0.4)
+    if draw.random() < 0.6:
+        layout.delimiter = draw.choice(BAD_DELIMITERS if draw.random() < 0.02 else DELIMITERS)
+    if draw.random() < 0.7:
+        columns = [some_column(draw, has_header, names) for _ in range(draw.choice([1, 1, 1, 2, 2, 3]))]
+        layout.key = [column for column in columns if b"," not in column]
+    if draw.random() < 0.6:
+        layout.weight = some_column(draw, has_header, names)
+    return layout
+
+
+def words_of(draw: Random, layout: Layout) -> list[bytes]:
+    """The options that say a layout, in some order. A word that begins with a hyphen is joined to its option."""
+    groups = []
+    if layout.delimiter is not None:
+        groups.append([b"--delimiter", layout.delimiter])
+    if layout.has_header:
+        groups.append([b"--header"])
+    if layout.allow_zero:
+        groups.append([b"--allow-zero"])
+    keys = [b",".join(layout.key)] if layout.key and draw.random() < 0.7 else layout.key
+    named = [(b"--key", word) for word in keys]
+    if layout.weight is not None:
+        named.append((b"--weight", layout.weight))
+    chosen = [[option + b"=" + word] if word.startswith(b"-") else [option, word] for option, word in named]
+    if draw.random() < 0.5:
+        return [word for group in groups + chosen for word in group]
+    return [word for group in chosen + groups for word in group]
+
+
+def some_files(draw: Random, texts: list[bytes]) -> tuple[list[bytes | str], list[bytes | None], bytes]:
+    """The words of files with these texts, one of which may be standard input, what each reads as, and standard input."""
+    if not texts:
+        return [], [], b"unread\n"
+    if len(texts) == 1 and draw.random() < 0.4:
+        return [], list(texts), texts[0]
+    words: list[bytes | str] = list(texts)
+    read: list[bytes | None] = list(texts)
+    given = b"un,re,ad\n"
+    if draw.random() < 0.3:
+        place = draw.randrange(len(texts))
+        words[place], given = "-", texts[place]
+    if draw.random() < 0.02:
+        place = draw.randrange(len(texts))
+        words[place], read[place] = "/nonexistent", None
+    return words, read, given
+
+
+def case(draw: Random) -> hostile.Case:
+    names = [draw.choice(NAMES) for _ in range(draw.randrange(1, 6))]
+    layout = some_layout(draw, names)
+    texts = [some_text(draw, layout, names) for _ in range(draw.choice([1, 1, 2, 2, 3, 5]))]
+    files, read, given = some_files(draw, texts)
+    kind, k = draw.randrange(6), draw.choice([1, 2, 3, 9, 65535])
+    records = Records(layout, dict(enumerate(read, 2 if kind in (1, 2) else 1)))
+    options, told = words_of(draw, layout), {"reader": items_of}
+    match kind:
+        case 0:
+            words = ["summarise", "--k", str(k), "--method", draw.choice(["mg", "ss"]), *options]
+            return hostile.Case(words, files, [], given, reference.answer(reference.summarise, records, k, **told))
+        case 1:
+            status, saved, _ = reference.answer(reference.summarise, records, k, **told)
+            saved = saved if status == 0 else reference.summarise(b"a", k)
+            expected = reference.answer(reference.confirm, saved, records, **told)
+            return hostile.Case(["confirm", *options], [saved, *files], [], given, expected)
+        case 2:
+            saved = reference.summarise(draw.choice([b"a\nb", b"a\n", b'"a,b"\nothers', b""]), k)
+            expected = reference.answer(reference.condense, saved, records, **told)
+            return hostile.Case(["condense", *options], [saved, *files], [], given, expected)
+        case 3:
+            words = ("--width", draw.choice("158"), "--depth", draw.choice("13"), "--seed", draw.choice("07"))
+            expected = reference.answer(hostile_records.table, records, hostile_records.empty_table(words), **told)
+            return hostile.Case(["table", *words, *options], files, [], given, expected)
+    words = ["report", "--k", str(k), "--workers", draw.choice("123"), "--pieces", draw.choice("125"), "--width", "8"]
+    return hostile.Case([*words, *options], files, [], given, reference.answer(reference.report, records, k, **told))
+
+
+class RandomFiles(hostile.Hostile):
+    def test_cases(self) -> None:
+        self.try_cases(case)
+
+
+# ---- rows by hand
+
+# An access log in the combined format, read with a space between fields. The time has a space and no quotes, so it is
+# columns 4 and 5; the request has quotes, so it is column 6 with all its spaces; 7 is the status, 8 the bytes, 9 and 10 the
+# referrer and the agent.
+LOG = (
+    b'10.0.0.1 - - [25/Nov/2026:15:00:00 +0000] "GET / HTTP/1.1" 200 512 "-" "curl/8.5.0"\n'
+    b'10.0.0.2 - ann [25/Nov/2026:15:00:01 +0000] "GET /a b  c.html HTTP/1.1" 200 2048 "http://x.example/ y" "M/5 (X; L)"\n'
+    b'10.0.0.1 - - [25/Nov/2026:15:00:02 +0000] "GET /same HTTP/1.1" 304 - "-" "curl/8.5.0"\n'
+    b'10.0.0.1 - - [25/Nov/2026:15:00:03 +0000] "GET /?q=\\x22 ""x y"" HTTP/1.1" 200 88 "-" "a ""b"" c"\n'
+)
+# A quote behind a backslash ends the quotes, since csv knows no backslash: the request is columns 6 and 7, and the status
+# comes in column 8.
+BACKSLASH = b'10.0.0.3 - - [25/Nov/2026:15:00:04 +0000] "GET /\\"q\\" HTTP/1.1" 200 64 "-" "curl/8.5.0"\n'
+FLOWS = (
+    b"ts,te,td,sa,da,sp,dp,pr,flg,ipkt,ibyt\n"
+    b"2026-11-25 14:00:00,2026-11-25 14:00:01,1.000,192.0.2.1,198.51.100.7,4711,443,TCP,...AP.SF,10,1500\n"
+    b"2026-11-25 14:00:00,2026-11-25 14:00:02,2.000,192.0.2.2,198.51.100.7,4712,443,TCP,...AP.SF,3,180\n"
+    b"2026-11-25 14:00:05,2026-11-25 14:00:05,0.000,192.0.2.1,198.51.100.8,53,53,UDP,........,1,20\n"
+)
+MORE_FLOWS = b"ibyt,sa,extra\r\n300,192.0.2.2,x\r\n7,192.0.2.9,y"
+ALL_FLOWS = b"192.0.2.1,1520\n192.0.2.2,480\n192.0.2.9,7\n"
+# the requests of the log by rising bytes, each once
+REQUESTS = (
+    b'GET / HTTP/1.1,1\n"GET /?q=\\x22 ""x y"" HTTP/1.1",1\nGET /a b  c.html HTTP/1.1,1\nGET /same HTTP/1.1,1\n'
+)
+PAIRS = b'"192.0.2.1,198.51.100.7",1500\n"192.0.2.2,198.51.100.7",180\n"192.0.2.1,198.51.100.8",20\n'
+TURNED = b'"198.51.100.7,192.0.2.1",10\n"198.51.100.7,192.0.2.2",3\n"198.51.100.8,192.0.2.1",1\n'
+SUMMARY = b"Summary\nflows,bytes,packets,avg_bps,avg_pps,avg_bpp\n3,1700,14,2720,2,121\n"
+SIZES = b'4096\t./a\n12\t./a/x, y\n0\t./empty\n5\t./say "hi"\n8209\t.\n'
+SIZED = b'.,8209\n./a,4096\n"./a/x, y",12\n"./say ""hi""",5\n'
+TWO_KEYS = b'1,2,3,"a,b",c\n1,2,3,a,"b,c"\n1,2,3,"a,b",c\n'
+LOG_WORDS = ["--delimiter", " ", "--key", "1", "--allow-zero", "--weight"]
+SIZE_WORDS = ["--delimiter", "\\t", "--weight", "1", "--key", "2"]
+
+# Options, texts, and the report of them.
+REPORTS = [
+    ([*LOG_WORDS, "8"], [LOG], b"10.0.0.2,2048\n10.0.0.1,600\n"),
+    (["--delimiter", " ", "--key", "6"], [LOG], REQUESTS),
+    ([*LOG_WORDS, "8"], [BACKSLASH], b"10.0.0.3,200\n"),
+    ([*LOG_WORDS, "9"], [BACKSLASH], b"10.0.0.3,64\n"),
+    (["--header", "--key", "sa", "--weight", "ibyt"], [FLOWS], b"192.0.2.1,1520\n192.0.2.2,180\n"),
+    (["--header", "--key", "4", "--weight", "11"], [FLOWS], b"192.0.2.1,1520\n192.0.2.2,180\n"),
+    (["--header", "--key", "sa"], [FLOWS], b"192.0.2.1,2\n192.0.2.2,1\n"),
+    (["--header", "--key", "sa,da", "--weight", "ibyt"], [FLOWS], PAIRS),
+    (["--header", "--key=da", "--key=sa", "--weight", "10"], [FLOWS], TURNED),
+    (["--header", "--key", "sa", "--weight", "ibyt"], [FLOWS, MORE_FLOWS], ALL_FLOWS),
+    (["--header", "--key", "sa", "--weight", "ibyt"], [MORE_FLOWS, b"", b"\n\r\n", FLOWS], ALL_FLOWS),
+    ([*SIZE_WORDS, "--allow-zero"], [SIZES], SIZED),
+    (["--delimiter", "\t", *SIZE_WORDS[2:], "--allow-zero"], [SIZES], SIZED),
+    (["--key", "4,5"], [TWO_KEYS], b'"""a,b"",c",2\n"a,""b,c""",1\n'),
+    (["--key", "4", "--key", "5"], [TWO_KEYS], b'"""a,b"",c",2\n"a,""b,c""",1\n'),
+    (["--key", "5,4"], [TWO_KEYS], b'"c,""a,b""",2\n"""b,c"",a",1\n'),
+    (["--key", "1,1"], [b"a\n"], b'"a,a",1\n'),
+    # none of the fields is quoted alone, and a quote is
+    (["--key", "1,2"], [b",,x\n"], b'",",1\n'),
+    (["--key", "1,2"], [b'"a""b",c\n"a\nb",\n'], b'"""a\nb"",",1\n"""a""""b"",c",1\n'),
+    (["--delimiter", ";", "--key", "1,2"], [b"a,b;c\n"], b'"""a,b"",c",1\n'),
+    (["--delimiter", ";", "--key", "1,2"], [b'"a;b";c\n'], b'"a;b,c",1\n'),
+    (["--key", "1,2"], [b"k" * 2048 + b"," + b"k" * 2047], b'"' + b"k" * 2048 + b"," + b"k" * 2047 + b'",1\n'),
+    # files are texts of their own
+    ([], [b"a,1", b"b,2\n"], b"b,2\na,1\n"), ([], [b"a", b"b"], b"a,1\nb,1\n"), ([], [b'"a', b'b"\n'], b'a,1\n"b""",1\n'),
+    ([], [b"a\r", b"\nb"], b"a,1\nb,1\n"), ([], [b"b\n", MARK + b"b\n"], b"b,2\n"),
+    ([], [b"a,5\n", b"", b"a,2"], b"a,7\n"), ([], [b"", b""], b""),
+    (["--header"], [b"", b"k,w\na,5", b"k\na,2\n"], b"a,7\n"), (["--header"], [b"a,5\n"], b""),
+    (["--header", "--key", "k"], [MARK + b"k\na"], b"a,1\n"), (["--header", "--key", "k"], [b'\n"k",w\na,b'], b"a,1\n"),
+    # which column: of two names the first, digits a number, and a weight alone beside column 1
+    (["--header", "--key", "k"], [b"x,k,k\n1,2,3\n"], b"2,1\n"), (["--header", "--key", "1"], [b"2,1\na,b\n"], b"a,1\n"),
+    (["--header", "--key", "K"], [b"k,K\na,b\n"], b"b,1\n"),
+    (["--header", "--weight", "a,b"], [b'k,"a,b"\nx,5\n'], b"x,5\n"),
+    (["--header", "--key", ""], [b"k,\na,b\n"], b"b,1\n"), (["--header", "--key=-k"], [b"k,-k\na,b\n"], b"b,1\n"),
+    (["--header", "--key", b"\xff"], [b"k,\xff\na,b\n"], b"b,1\n"),
+    (["--header", "--key", "äß"], ["k,äß\na,b\n".encode()], b"b,1\n"),
+    (["--weight", "2"], [b"a,5,x\nb,3\n"], b"a,5\nb,3\n"), (["--weight", "1"], [b"5,a\n"], b"5,5\n"),
+    (["--key", "1"], [b"a,5\nb\na,x,y\n"], b"a,2\nb,1\n"),
+    (["--key", "001", "--weight", "0000000002"], [b"a,5\n"], b"a,5\n"),
+    # delimiters
+    (["--delimiter", "-"], [b"a-5\nb,c-2\n"], b'a,5\n"b,c",2\n'), (["--delimiter", "\\"], [b"a\\5\n"], b"a,5\n"),
+    (["--delimiter", b"\xff"], [b"a\xff5\n"], b"a,5\n"), (["--delimiter", ","], [b"a,5\n"], b"a,5\n"),
+    (["--delimiter", "|"], [b'"a|b"|5\n'], b"a|b,5\n"), (["--delimiter", "t"], [b"at5\n"], b"a,5\n"),
+    # NUL, which no random case has
+    (["--key", "2"], [b"a,\0b\n\0,\0\n"], b"\0,1\n\0b,1\n"),
+    # weights of 0
+    (["--allow-zero"], [b"a,0\nb,-\nc,00000000000000000000\nd,1\n"], b"d,1\n"), (["--allow-zero"], [b"a,0\n"], b""),
+    (["--allow-zero"], [b'a,"-"\na\n'], b"a,1\n"), (["--allow-zero", "--weight", "2"], [b"-,3\n"], b"-,3\n"),
+    (["--allow-zero"], [b"x," + LARGEST, b"y,0\nz,-"], b"x," + LARGEST + b"\n"),
+]
+
+# Options, texts, and the first record that is refused, with the cause.
+BAD_RECORDS = [
+    ([*LOG_WORDS, "10"], [LOG], 1, "bad weight"), ([*LOG_WORDS, "11"], [LOG], 1, "wrong number of fields"),
+    (["--delimiter", " ", "--key", "1", "--weight", "8"], [LOG], 3, "bad weight"),
+    (["--header", "--key", "sa", "--weight", "ibyt"], [FLOWS + SUMMARY], 4, "wrong number of fields"),
+    (["--header", "--key", "sa", "--weight", "te"], [FLOWS], 1, "bad weight"), (SIZE_WORDS, [SIZES], 3, "zero weight"),
+    (["--header", "--key", "12"], [FLOWS], 1, "wrong number of fields"), ([], [b"a", b"b\nc,0"], 3, "zero weight"),
+    (["--header"], [b"k,w\na,1", b"k,w\nb,2\nc,x"], 3, "bad weight"), ([], [b"a\n", b",1"], 2, "empty key"),
+    ([], [b"x," + LARGEST, b"y"], 2, "total too large"),
+    (["--allow-zero"], [b"x,0", b"y," + LARGEST, b"z"], 3, "total too large"),
+    (["--key", "2"], [b"a,b\na\n"], 2, "wrong number of fields"), (["--key", "1"], [b"a\n,b\n"], 2, "empty key"),
+    (["--key", "9999999999"], [b"a\n"], 1, "wrong number of fields"),
+    (["--weight", "3"], [b",x\n"], 1, "wrong number of fields"),
+    (["--weight", "2"], [b",x\n"], 1, "empty key"), (["--weight", "2"], [b"k" * 4097 + b",x\n"], 1, "key too long"),
+    (["--weight", "2"], [b"k" * 4096 + b",x\n"], 1, "bad weight"), (["--weight", "2"], [b"a," + b"0" * 21], 1, "bad weight"),
+    (["--weight", "2"], [b"a,-\n"], 1, "bad weight"), (["--allow-zero", "--weight", "2"], [b"a,--\n"], 1, "bad weight"),
+    (["--allow-zero", "--weight", "2"], [b"a,\n"], 1, "bad weight"), (["--allow-zero"], [b",0\n"], 1, "empty key"),
+    (["--allow-zero"], [b"a,0,0\n"], 1, "wrong number of fields"), (["--allow-zero"], [b"a,-0\n"], 1, "bad weight"),
+    (["--allow-zero"], [b"k" * 4097 + b",-"], 1, "key too long"),
+    (["--key", "1,2"], [b"k" * 2048 + b"," + b"k" * 2048], 1, "key too long"),
+    (["--key", "1,2"], [b"k" * 2046 + b',"' + b"k" * 2046 + b',k"'], 1, "key too long"),
+]
+
+# Options that are refused, whatever the records: among them numbers of more than ten digits, which only a header names.
+NO_DELIMITERS = ["", '"', "\r", "\n", ",,", "\\n", "\\tt", "ä", "tab", b"\xff\xff"]
+NO_KEYS = ["", "0", "00", "x", "1,", ",1", "1,x", "1,0", "+1", "1.0", " 1", "12345678901"]
+NO_WEIGHTS = ["", "0", "x", "1,2", "9999999999999", b"\xff"]
+BAD_OPTIONS = [
+    *((["--delimiter", word], BAD_DELIMITER) for word in NO_DELIMITERS),
+    *((["--key", word], BAD_COLUMN) for word in NO_KEYS),
+    *((["--weight", word], BAD_COLUMN) for word in NO_WEIGHTS),
+    *((["--header", option, "0"], BAD_COLUMN) for option in ("--key", "--weight")),
+    (["--header", "--key", "a,0"], BAD_COLUMN), (["--header", "--key=a", "--key=000"], BAD_COLUMN),
+    (["--key=-1"], BAD_COLUMN),
+    (["--delimiter", "", "--key", "0"], BAD_DELIMITER),
+]
+
+# Options, texts of which a header lacks a column: also where a record of a file before it is bad.
+NO_COLUMNS = [
+    (["--key", "x"], [b"a,b\n1,2\n"]), (["--key", "a,x"], [b"a,b\n1,2\n"]), (["--weight", "x"], [b"a,b\n1,2\n"]),
+    (["--key", "a", "--weight", "x"], [b"a,b\n"]), (["--key", "x", "--weight", "a"], [b"a,b\n"]), (["--key", "A"], [b"a\n"]),
+    (["--key", " a"], [b"a\n"]), (["--key", "a"], [b" a\n"]), (["--key", "a"], [b"a\n1\n", b"b\n1\n"]),
+    (["--key", "a", "--weight", "w"], [b"a,w\n1,0\n", b"a,b\n"]),
+    (["--key", "a", "--weight", "w"], [b"a,w\nx\n", b"", b"w,b\n"]),
+    (["--key", "12345678901"], [b"a\n"]),
+]
+
+
+def some_plain_rows(draw: Random) -> bytes:
+    """Records of a key, a column that is not read and a weight, most of them of one key."""
+    rows = [(draw.choice(KEYS + KEYS[:1] * 6), draw.randrange(1, 9)) for _ in range(40)]
+    return b"".join(b"%s,x,%d\n" % row for row in rows)
+
+
+# each command that reads records, behind a saved file where it has one
+COMMANDS = (["report"], ["summarise"], ["table"], ["condense", "saved"], ["confirm", "saved"])
+
+
+class RecordFiles(programs.Checks):
+    """Runs the program in a folder over files of records."""
+
+    def setUp(self) -> None:
+        super().setUp()
+        self.program = programs.built("heavy_cli")
+
+    def heavy(self, words: list, given: bytes = b"un,re,ad\n", **how) -> tuple[int, bytes, bytes]:
+        ended = programs.run([self.program, *words], given, cwd=self.room, **how)
+        return ended.status, ended.out, ended.err
+
+    def expect(self, words: list, expected: tuple[int, bytes, bytes], given: bytes = b"un,re,ad\n", **how) -> None:
+        found = self.heavy(words, given, **how)
+        self.check(" ".join(os.fsdecode(word) for word in words)[:120], found == expected, (found, expected))
+
+    def refuses(self, words: list, text: str, status: int, given: bytes = b"un,re,ad\n", **how) -> None:
+        self.expect(words, (status, b"", f"heavy: {text}\n".encode()), given, **how)
+
+    def save(self, texts: list[bytes]) -> list[str]:
+        names = [f"{place}.csv" for place in range(1, len(texts) + 1)]
+        for name, text in zip(names, texts):
+            Path(self.room, name).write_bytes(text)
+        return names
+
+    def save_summary(self, text: bytes) -> None:
+        Path(self.room, "saved").write_bytes(reference.summarise(text, 2))
+
+    def test_reports(self) -> None:
+        """Texts with their reports: as files, the last as standard input, and one without a word for it."""
+        for options, texts, report in REPORTS:
+            names = self.save(texts)
+            words = ["report", "--k", "65535", *options]
+            self.expect([*words, *names], (0, report, b""))
+            self.expect([*words, *names[:-1], "-"], (0, report, b""), texts[-1])
+            if len(texts) == 1:
+                self.expect(words, (0, report, b""), texts[0])
+
+    def test_bad_records(self) -> None:
+        """The first record that is refused, by each command, numbered over all files without their headers."""
+        self.save_summary(b"a")
+        for options, texts, number, cause in BAD_RECORDS:
+            names = self.save(texts)
+            for command in COMMANDS:
+                self.refuses([*command, *options, *names], f"record {number}: {cause}", 3)
+            self.refuses(["report", *options, *names[:-1], "-"], f"record {number}: {cause}", 3, texts[-1])
+
+    def test_refused_options(self) -> None:
+        """Delimiters and columns that are none, and columns that a header lacks."""
+        self.save_summary(b"a")
+        for options, text in BAD_OPTIONS:
+            names = self.save([b"a,0\n"])
+            for command in COMMANDS:
+                self.refuses([*command, *options, *names], text, 2)
+                self.refuses([*command, *options], text, 2)
+        for options, texts in NO_COLUMNS:
+            names = self.save(texts)
+            for command in COMMANDS:
+                self.refuses([*command, "--header", *options, *names], NO_COLUMN, 3)
+            self.refuses(["report", "--header", *options, *names[:-1], "-"], NO_COLUMN, 3, texts[-1])
+
+    def test_unread_files(self) -> None:
+        """The number of a file that is missing, is a folder or has a name that is no text, and standard input's."""
+        self.save_summary(b"a\nb")
+        self.save([b"a\n", b"b\n", b"a,0\n"])
+        Path(self.room, "folder").mkdir()
+        for name in ("none", "folder", b"\xff", "1.csv/none", ""):
+            for command in ("report", "summarise", "table"):
+                for words, number in [([name], 1), (["1.csv", name], 2), (["1.csv", "2.csv", "-", name, "1.csv"], 4)]:
+                    self.refuses([command, *words], f"file {number}: could not be read", 1, b"c\n")
+            for command in ("condense", "confirm"):
+                for words, number in [([name], 1), ([name, "none"], 1), (["saved", name], 2), (["saved", "1.csv", name], 3)]:
+                    self.refuses([command, *words], f"file {number}: could not be read", 1)
+            self.refuses(["report", "--header", "1.csv", name], "file 2: could not be read", 1)
+        # it is told before a record is read
+        self.refuses(["report", "3.csv", "none"], "file 2: could not be read", 1)
+        self.refuses(["report", "--", "-x"], "file 1: could not be read", 1)
+        folder = os.open(self.room, os.O_RDONLY)
+        for words, text in [
+            (["report"], "input could not be read"), (["report", "-"], "file 1: could not be read"),
+            (["report", "1.csv", "-"], "file 2: could not be read"), (["confirm", "saved"], "input could not be read"),
+            (["confirm", "saved", "1.csv", "2.csv", "-"], "file 4: could not be read"),
+        ]:
+            self.refuses(words, text, 1, stdin=folder)
+        os.close(folder)
+
+    def test_standard_input(self) -> None:
+        """Standard input where no file is named and where `-` is, and not where only files are."""
+        self.save([b"a,1", b"b,2"])
+        report = ["report", "--k", "9"]
+        self.expect(report, (0, b"c,4\n", b""), b"c,4")
+        self.expect([*report, "-"], (0, b"c,4\n", b""), b"c,4")
+        self.expect([*report, "1.csv", "2.csv"], (0, b"b,2\na,1\n", b""), b"c,4")
+        for names in ("- 1.csv 2.csv", "1.csv - 2.csv", "1.csv 2.csv -", "-- 1.csv 2.csv -"):
+            self.expect([*report, *names.split()], (0, b"c,4\nb,2\na,1\n", b""), b"c,4")
+        self.expect([*report, "1.csv", "1.csv"], (0, b"a,2\n", b""))
+        # named twice it is read once, by the first, although each file's header is read before the records
+        large = b"k,w\n" + b"".join(b"key%d,1\n" % (i % 5) for i in range(50_000))
+        rows = b"".join(b"key%d,10000\n" % i for i in range(5))
+        self.expect([*report, "--header", "--key", "1", "-", "-"], (0, rows, b""), large)
+        Path(self.room, "-").write_bytes(b"d,9\n")
+        self.expect([*report, "./-"], (0, b"d,9\n", b""))
+        self.expect([*report, "1.csv", "--top", "1", "2.csv", "--delimiter", ","], (0, b"b,2\n", b""))
+
+    def test_large_files(self) -> None:
+        """Files of many records, many files, and headers and fields longer than what is read at once."""
+        count = 50_000
+        many = [b"".join(b"%d,k%d,2\n" % (i, i % 3 + place) for i in range(count)) for place in range(3)]
+        names = self.save(many)
+        weights: dict[bytes, int] = {}
+        for place in range(3):
+            for i in range(count):
+                weights[b"k%d" % (i % 3 + place)] = weights.get(b"k%d" % (i % 3 + place), 0) + 2
+        report = reference.rows_text(sorted(weights.items(), key=lambda row: (-row[1], row[0])))
+        words = ["report", "--k", "99", "--key", "2", "--weight", "3"]
+        self.expect([*words, *names], (0, report, b""))
+        self.expect([*words, names[0], "-", names[2]], (0, report, b""), many[1])
+        self.refuses([*words, *names, "-"], f"record {3 * count + 1}: wrong number of fields", 3, b"x")
+        names = self.save([b"a,%d\n" % i for i in range(1, 301)])
+        self.expect(["report", *names], (0, b"a,%d\n" % (300 * 301 // 2), b""))
+        names = self.save([b"x" * 200_000 + b",k\n" + b"y" * 200_000 + b",a\n"] * 2)
+        self.expect(["report", "--header", "--key", "k", *names], (0, b"a,2\n", b""))
+
+    def test_joined(self) -> None:
+        """The commands give the same bytes over files and over these joined, which a header stands in front of once."""
+        draw = Random(1)
+        for turn in range(12):
+            header, options = b"", ["--weight", "3"]
+            if turn % 2:
+                header, options = b"k,x,w\n", ["--header", "--key", "k", "--weight", "w"]
+            texts = [some_plain_rows(draw) for _ in range(3)]
+            joined = b"".join(texts)
+            self.save_summary(joined.replace(b",x", b""))
+            names = self.save([header + text for text in texts])
+            for command in (
+                ["confirm", *options, "saved"], ["condense", *options, "saved"], ["summarise", "--k", "3", *options],
+                ["table", "--width", "9", *options], ["report", "--k", "5", *options],
+            ):
+                whole = self.heavy(command, header + joined)
+                self.check(f"{command[0]} of turn {turn} has an answer", (whole[0], whole[1] != b"") == (0, True), whole)
+                self.expect([*command, *names], whole)
+                self.expect([*command, *names[:1], "-", *names[2:]], whole, header + texts[1])
+
+
+if __name__ == "__main__":
+    programs.run_tests("record files")
