@@ -492,7 +492,8 @@ class CommandLine(programs.Checks):
             Path(self.room, name).write_bytes(data)
         semicolons = ["--delimiter", ";", "--header", "--key", "who", "--weight", "n"]
         for words, place in [
-            (["bad"], 'bad, line 4, "b,x"'), (["good", "bad"], 'bad, line 4, "b,x"'), (["empty", "none", "bad"], 'bad, line 4, "b,x"'),
+            (["bad"], 'bad, line 4, "b,x"'), (["good", "bad"], 'bad, line 4, "b,x"'),
+            (["empty", "none", "bad"], 'bad, line 4, "b,x"'),
             (["good", "good", "marks", "bad", "good"], 'bad, line 4, "b,x"'), (["--header", "bad"], 'bad, line 4, "b,x"'),
             (["--header", "good", "bad"], 'bad, line 4, "b,x"'),
             (["--header", "empty", "none", "good", "bad"], 'bad, line 4, "b,x"'),
@@ -553,15 +554,17 @@ class CommandLine(programs.Checks):
             (b'"a;b', f"{semicolon}\nheavy: note: {opened}"), (b'a;"b', semicolon),
         ]:
             self.notes(["summarise", "--k", "2"], note, text)
-        for command in (["report"], ["table", "--width", "2"], ["report", "-"], ["report", "--header"], ["report", "--allow-zero"]):
+        commands = [["report"], ["table", "--width", "2"], ["report", "-"], ["report", "--header"], ["report", "--allow-zero"]]
+        for command in commands:
             self.notes(command, tab, b"a\t1\nb\t2\n")
             self.notes(command, opened, b'a,b\n"b\n' if "--header" in command else b'a\n"b,1\n')
         for words, text in [
-            (["--delimiter", "\\t"], b"a\t1\n"), (["--delimiter", ";"], b"a\tb\n"), (["--key", "1"], b"a;1\n"), (["--weight", "1"], b'"1'),
-            (["--delimiter", ","], b'"a'),
+            (["--delimiter", "\\t"], b"a\t1\n"), (["--delimiter", ";"], b"a\tb\n"), (["--key", "1"], b"a;1\n"),
+            (["--weight", "1"], b'"1'), (["--delimiter", ","], b'"a'),
         ]:
             self.notes(["report", *words], "", text)
-        for name, data in {"one": b"a;1\n", "two": b"b;1\nc;2\n", "op\ten": b'a,1\n"b', "plain": b"a,1\n", "keys": b"a\n" * 3}.items():
+        files = {"one": b"a;1\n", "two": b"b;1\nc;2\n", "op\ten": b'a,1\n"b', "plain": b"a,1\n", "keys": b"a\n" * 3}
+        for name, data in files.items():
             Path(self.room, name).write_bytes(data)
         day = self.save("day", ["summarise"], b"a;1\nb;1\nc;2\n")
         self.check("a summary of three", day != b"")
@@ -576,6 +579,36 @@ class CommandLine(programs.Checks):
             self.notes(words, "")
         self.tells(["report"], "a key has 1 to 4096 bytes", 3, b'"')
         self.tells(["report"], "a key has 1 to 4096 bytes", 3, b"a;1\n\"\"\n")
+
+    def test_more_about_words(self) -> None:
+        """A k where the summary has one of its own, and help of `help`."""
+        own = b"  the summary has a k of its own, which `heavy describe` tells\n"
+        for command, words, said in [
+            ("confirm", ["--k", "10"], True), ("confirm", ["--k=10", "day"], True), ("condense", ["day", "--k", "10"], True),
+            ("condense", ["--header", "--k"], True), ("confirm", ["--key", "1", "--no"], False),
+            ("condense", ["--kk", "1"], False), ("confirm", ["--no", "--", "--k"], False), ("confirm", ["--k1"], False), ("merge", ["--k", "1", "day"], False),
+            ("ask", ["--k", "1", "day", "a"], False), ("table", ["--k", "2"], False), ("confirm", [], False),
+            ("condense", ["--top"], False), ("report", ["--k"], False), ("nothing", ["--k", "1"], False),
+        ]:
+            plain = self.heavy([command, *words])
+            name = f"{command} {' '.join(words)}"
+            clap = (plain[0], plain[1], plain[2][:6], own in plain[2]) == (2, b"", b"error:", False)
+            self.check(f"{name}: as clap says", clap, plain)
+            both = plain[2] + (own if said else b"")
+            if command != "nothing" and "--" not in words:
+                found = self.heavy([command, "--explain", *words])
+                self.check(f"{name}: --explain", (found[0], found[2].endswith(own)) == (2, said), found)
+            terminal = on_terminal([self.program, command, *words], RECORDS, self.room)
+            self.check(f"{name}: on a terminal", terminal == (2, both), (terminal, both))
+        for words, same in [
+            (["help", "--help"], ["--help"]), (["help", "-h"], ["-h"]), (["help", "report", "--help"], ["report", "--help"]),
+            (["help", "confirm", "-h"], ["confirm", "-h"]),
+        ]:
+            found, help_of = self.heavy(words), self.heavy(same)
+            self.check(f"{words}", found == help_of and found[0] == 0 and b"Usage: heavy" in found[1], (found, help_of))
+        for words in (["help", "nothing", "--help"], ["help", "nothing"], ["help", "--help", "report"]):
+            found = self.heavy(words)
+            self.check(f"{words}: no help", found[0] == 2 and found[1] == b"" and found[2] != b"", found)
 
     def test_more_about_unread_files(self) -> None:
         """The name of a file that can't be read and the system's reason; a name has no command for a terminal."""

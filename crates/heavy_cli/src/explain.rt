@@ -4,6 +4,7 @@
 use crate::other_format::Seen;
 use crate::record_place::place_of;
 use crate::request::{Command, Invocation, RecordWords, Request};
+use crate::told::Told;
 use heavy::{BadRecordCause, Share, ToolError, Totals};
 use hh_records::threshold_of;
 use std::io::IsTerminal;
@@ -227,6 +228,13 @@ pub fn tell_more(rt: &HostRuntime, fault: &ToolError, asked: &Invocation, totals
             tell_record(rt, &asked.records, *number, wanted(*cause));
         }
         _ => {}
+    }
+}
+
+/// Tells that a summary has a k of its own, where one was given and more is told.
+pub fn tell_own_k(rt: &HostRuntime, told: &Told) {
+    if told.gives_k && (told.explains || rt.stderr().is_terminal()) {
+        let _ = eprintln!(rt; "  the summary has a k of its own, which `heavy describe` tells");
     }
 }
 

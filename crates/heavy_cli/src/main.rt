@@ -11,9 +11,10 @@ mod progress;
 mod record_count;
 mod record_place;
 mod request;
+mod told;
 mod words;
 
-use explain::{tell_format, tell_more, tells_more, watches};
+use explain::{tell_format, tell_more, tell_own_k, tells_more, watches};
 use files::{read_file, read_files};
 use heavy::{
     Method, Out, ToolError, Totals, ask_bytes, condense_bytes_from, confirm_rows, describe_file,
@@ -24,6 +25,7 @@ use other_format::NOTHING;
 use request::{Command, Invocation, RecordWords, Request, UsageError, read_request};
 use std::cell::Cell;
 use std::process::ExitCode;
+use told::Told;
 
 /// The exit status of the command line's own faults.
 const USAGE: u8 = 2;
@@ -108,19 +110,22 @@ fn status_explained(
 
 /// Prints help or a fault of the command line as `clap` words it. Help that could not be printed is
 /// a device's fault.
-fn status_told(rt: &HostRuntime, error: clap::Error) -> ExitCode {
-    let is_help = error.exit_code() == 0;
-    match error.print(rt) {
+fn status_told(rt: &HostRuntime, told: &Told) -> ExitCode {
+    let is_help = told.error.exit_code() == 0;
+    match told.error.print(rt) {
         Err(_) if is_help => status_after(rt, ToolError::WriteFault { written: 0 }),
         _ if is_help => ExitCode::SUCCESS,
-        _ => ExitCode::from(USAGE),
+        _ => {
+            tell_own_k(rt, told);
+            ExitCode::from(USAGE)
+        }
     }
 }
 
 fn main(rt: HostRuntime) -> ExitCode {
     let asked = match read_request(&rt, rt.alloc()) {
         Ok(asked) => asked,
-        Err(UsageError::Told(error)) => return status_told(&rt, error),
+        Err(UsageError::Told(told)) => return status_told(&rt, &told),
         Err(UsageError::Memory) => return status_after(&rt, ToolError::Memory),
     };
     let mut totals = None;

@@ -10,9 +10,10 @@ use crate::arguments::{
     ALLOW_ZERO, DELIMITER, DEPTH, EXPLAIN, HEADER, K, KEY, PIECES, PROGRESS, RECORDS, SEED, SHARE,
     TOP, WEIGHT, WIDTH, WORKERS, command_line,
 };
+use crate::told::{Told, told_of};
 use crate::words::{WordSource, bytes_of, read_words, texts_of};
+use clap::ArgMatches;
 use clap::error::ErrorKind;
-use clap::{ArgMatches, Error};
 use heavy::{LayoutWords, ReportOptions, RowOptions, Share, Tree};
 use std::alloc::{AllocError, Global};
 
@@ -94,8 +95,8 @@ pub enum Command {
 /// Why a command line asks for nothing.
 #[derive(Drop)]
 pub enum UsageError {
-    /// It asks for help, or has a fault: what `clap` says of it.
-    Told(Error),
+    /// It asks for help, or has a fault: what is said of it.
+    Told(Told),
     /// The allocator had no memory.
     Memory,
 }
@@ -309,7 +310,7 @@ fn request_in(alloc: Global, words: &[Vec<u8>]) -> Result<Invocation, UsageError
         Err(error) if matches!(error.kind(), ErrorKind::OutOfMemory) => {
             return Err(UsageError::Memory);
         }
-        Err(error) => return Err(UsageError::Told(error)),
+        Err(error) => return Err(UsageError::Told(told_of(alloc, words, error)?)),
     };
     let Some((name, found)) = matches.subcommand() else {
         unreachable!("a command is required");

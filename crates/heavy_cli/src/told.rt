@@ -1,0 +1,66 @@
+//! What is said of a command line that asks for nothing.
+
+use crate::arguments::command_line;
+use crate::words::texts_of;
+use clap::Error;
+use clap::error::ErrorKind;
+use std::alloc::{AllocError, Global};
+
+/// What `clap` says, and what is known of the words.
+#[derive(Drop)]
+pub struct Told {
+    pub error: Error,
+    /// Whether more is to be told about a fault.
+    pub explains: bool,
+    /// Whether they give a k to a command whose summary has one of its own.
+    pub gives_k: bool,
+}
+
+/// Whether one of the words before `--` is an option, alone or with its value behind `=`.
+fn has_option(words: &[Vec<u8>], option: &[u8]) -> bool {
+    for word in words {
+        if word.as_slice() == b"--".as_slice() {
+            return false;
+        }
+        if let Some([] | [b'=', ..]) = word.strip_prefix(option) {
+            return true;
+        }
+    }
+    false
+}
+
+/// Whether the words ask `help` for help, which `clap` doesn't know.
+fn asks_help_for_help(words: &[Vec<u8>]) -> bool {
+    let (Some(first), Some(last)) = (words.first(), words.last()) else {
+        return false;
+    };
+    first.as_slice() == b"help".as_slice() && matches!(last.as_slice(), b"--help" | b"-h")
+}
+
+/// What `clap` says of these words, the first of which is the program's name, where it gave this
+/// error. Help of `help` is that of the same words without it.
+fn error_of(alloc: Global, words: &[Vec<u8>], error: Error) -> Result<Error, AllocError> {
+    if !asks_help_for_help(words) {
+        return Ok(error);
+    }
+    let texts = texts_of(alloc, words)?;
+    match command_line(alloc)?.try_get_matches_from(texts.as_slice()) {
+        Ok(_) => Ok(error),
+        Err(help) => Ok(help),
+    }
+}
+
+/// What is said of words, the first of which is the program's name, where `clap` gave this error.
+pub fn told_of(alloc: Global, words: &[Vec<u8>], error: Error) -> Result<Told, AllocError> {
+    let words = words.get(1..).unwrap_or(words);
+    let passes = match words.first() {
+        Some(name) => matches!(name.as_slice(), b"condense" | b"confirm"),
+        None => false,
+    };
+    let is_unknown = matches!(error.kind(), ErrorKind::UnknownArgument);
+    Ok(Told {
+        error: error_of(alloc, words, error)?,
+        explains: has_option(words, b"--explain"),
+        gives_k: passes && is_unknown && has_option(words, b"--k"),
+    })
+}
