@@ -4,7 +4,9 @@ status, and words that are no text.
 
 usage: tests/command_line.py
 """
+import ast
 import os
+import random
 import re
 import tempfile
 from pathlib import Path
@@ -53,6 +55,9 @@ COMMANDS = ["report", "summarise", "table", "merge", "ask", "list", "describe", 
 
 # in a command's help: an option with a number, its range and its default
 RANGE = re.compile(rb"(--[a-z]+) <N>\n +.* from (\d+) to (\d+) \[default: (\d+)\]\n")
+
+# what is said of a bad record: its number, its file's name, its line, and how it begins
+PLACE = re.compile(rb'heavy: record (\d+): [a-z ]+\n  (\d), line (\d+), "(.*)"(?:\.\.)?: [^\n]+\n')
 
 # a check's name is its command line, cut to so many characters
 LONGEST_NAME = 120
@@ -518,6 +523,37 @@ class CommandLine(programs.Checks):
         said = self.of_pipe(b"a,1\nb,x\n")
         self.check("a pipe is not read again", said == f"heavy: record 2: bad weight\n  {wanted}\n".encode(), said)
 
+    def test_places_of_records(self) -> None:
+        """Of random texts in files: a bad record that is put at the place that is told, with nothing behind it, has the same
+        number, and what stood there begins as was told."""
+        seed = int.from_bytes(os.urandom(4))
+        print(f"places of seed {seed}", flush=True)
+        draws, found = random.Random(seed), 0
+        for _ in range(150):
+            texts = [bytes(draws.choices(b'ab1,;"\n\r', (6, 4, 6, 5, 2, 2, 5, 2), k=draws.randrange(1, 90))) for _ in range(3)]
+            texts[0] = draws.choice([b"", b"\xef\xbb\xbf"]) + texts[0]
+            options = ["--explain", *draws.choice([[], ["--header"], ["--delimiter", ";"]])]
+            told = self.of_files(options, texts)
+            if place := PLACE.fullmatch(told):
+                found += 1
+                number, name, line, begin = place.groups()
+                ends = [0, *(end.end() for end in re.finditer(rb"\r\n|\r|\n", texts[int(name)]))]
+                at = ends[int(line) - 1]
+                rest = texts[int(name)][at:].removeprefix(b"\xef\xbb\xbf" if at == 0 else b"")
+                again = self.of_files(options, [*texts[:int(name)], texts[int(name)][:at] + b'""'])
+                said = ast.literal_eval(f'b"{begin.decode()}"')
+                holds = again.split(b":")[:2] == told.split(b":")[:2] and rest.startswith(said) and said[:1] not in b"\r\n"
+                self.check(f"the place of a record of {texts} with {options}", holds, (told, again))
+            else:
+                self.check("a fault of a record has a place", not told.startswith(b"heavy: record"), told)
+        self.check("many places", found > 50, found)
+
+    def of_files(self, options: list[str], texts: list[bytes]) -> bytes:
+        """What a report of these texts in files says on standard error."""
+        for number, text in enumerate(texts):
+            Path(self.room, str(number)).write_bytes(text)
+        return self.heavy(["report", *options, *map(str, range(len(texts)))])[2]
+
     def of_pipe(self, text: bytes) -> bytes:
         """What a report of the file of a pipe says of its fault."""
         ear, mouth = os.pipe()
@@ -586,7 +622,8 @@ class CommandLine(programs.Checks):
         for command, words, said in [
             ("confirm", ["--k", "10"], True), ("confirm", ["--k=10", "day"], True), ("condense", ["day", "--k", "10"], True),
             ("condense", ["--header", "--k"], True), ("confirm", ["--key", "1", "--no"], False),
-            ("condense", ["--kk", "1"], False), ("confirm", ["--no", "--", "--k"], False), ("confirm", ["--k1"], False), ("merge", ["--k", "1", "day"], False),
+            ("condense", ["--kk", "1"], False), ("confirm", ["--no", "--", "--k"], False), ("confirm", ["--k1"], False),
+            ("merge", ["--k", "1", "day"], False),
             ("ask", ["--k", "1", "day", "a"], False), ("table", ["--k", "2"], False), ("confirm", [], False),
             ("condense", ["--top"], False), ("report", ["--k"], False), ("nothing", ["--k", "1"], False),
         ]:
