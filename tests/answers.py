@@ -103,7 +103,11 @@ class Answers(programs.Checks):
         for _ in range(CASES):
             text, k, above = records(draw), draw.choice([1, 2, 3, 5, 100]), share(draw)
             saved = self.save("day", ["summarise", "--k", str(k)], text)
-            self.expect(["list", "day"], reference.answer(reference.list_keys, saved))
+            listed = reference.answer(reference.list_keys, saved)
+            self.expect(["list", "day"], listed)
+            keys = [fields[0] for fields in reference.fields_of(b"\n" + listed[1])]
+            if keys:
+                self.expect(["ask", "day", "--", *keys], listed)
             self.expect(["describe", "day"], reference.answer(reference.describe, saved))
             confirmed = reference.answer(reference.confirm, saved, text, above)
             self.expect(["confirm", "--threshold", above, "day"], confirmed, text)

@@ -66,8 +66,14 @@ class Machines:
             number += 1
         return files[0]
 
-    def confirmed(self, summary: str, condensed: list[bytes]) -> tuple[int, bytes, bytes]:
-        return self.said(["confirm", summary], b"".join(condensed))
+    def confirmed(self, summary: str, condensed: list[bytes], *words: str) -> tuple[int, bytes, bytes]:
+        return self.said(["confirm", *words, summary], b"".join(condensed))
+
+
+def share(draw: random.Random, k: int) -> str:
+    """A share P/Q of at least 1/(k + 1)."""
+    q = draw.randrange(1, 4 * k + 9)
+    return f"{draw.randint(-(-q // (k + 1)), q)}/{q}"
 
 
 def tried(program: str, seed: int) -> str | None:
@@ -84,7 +90,15 @@ def tried(program: str, seed: int) -> str | None:
         found = machines.confirmed(summary, condensed)
         if not found == (0, report, b"") == (0, expected, b""):
             return f"{found} in place of {report} and {expected}, of {parts}"
+        above = share(draw, k)
+        words = ["--threshold", above]
+        report = machines.made(["report", "--k", str(k), *words], b"".join(parts))
+        expected = reference.report(b"".join(parts), k, above.encode())
+        found = machines.confirmed(summary, condensed, *words)
+        if not found == (0, report, b"") == (0, expected, b""):
+            return f"above {above}: {found} in place of {report} and {expected}, of {parts}"
         at = draw.randrange(len(condensed))
+        report = reference.report(b"".join(parts), k)
         for name, some in (("left out", condensed[:at] + condensed[at + 1 :]), ("doubled", [*condensed, condensed[at]])):
             found, wanted = machines.confirmed(summary, some), DIFFERS if condensed[at] else (0, report, b"")
             if found != wanted:
