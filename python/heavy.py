@@ -163,6 +163,11 @@ def _records_in(given: Records) -> bytes:
     return _bytes_of(given)
 
 
+def _is_file(records: Records) -> bool:
+    """Whether records stand in a file, named or open, which can be read in parts."""
+    return isinstance(records, (str, os.PathLike)) or hasattr(records, "read")
+
+
 def _lent(held: bytes) -> tuple[ctypes.c_void_p, int]:
     """A pointer, never null, and a length."""
     return ctypes.cast(ctypes.c_char_p(held), ctypes.c_void_p), len(held)
@@ -838,14 +843,18 @@ class Summary(_Growing):
 
     @classmethod
     def of_csv(cls, records: Records, k: int = 100, method: str = "mg") -> Summary:
-        """The summary of CSV records `key,weight` with k counters. The methods "mg" and "ss" give the same bytes.
+        """The summary of CSV records `key,weight` with k counters. The methods "mg" and "ss" give the same bytes. A file
+        is read as `update_csv` reads it.
 
         >>> Summary.of_csv(b"a,5\\nb,2\\n", k=2).entries()
         [(b'a', 5), (b'b', 2)]
         """
-        text = _records_in(records)
+        text = b"" if _is_file(records) else _records_in(records)
         words = (*_lent(text), _number("k", k), _METHODS.get(method, 0))
-        return cls(_answer(_heavy.heavy_summarise, *words, guess=min(_summary_room(k), _LARGE)))
+        made = cls(_answer(_heavy.heavy_summarise, *words, guess=min(_summary_room(k), _LARGE)))
+        if _is_file(records):
+            made.update_csv(records)
+        return made
 
     def confirm(self, records: Records, threshold: Threshold = None) -> bytes:
         """The report of the summary's keys that are heavy in these records, which are those that were summarised: above
@@ -991,14 +1000,18 @@ class Table(_Growing):
 
     @classmethod
     def of_csv(cls, records: Records, width: int = 1024, depth: int = 4, seed: int = 0) -> Table:
-        """The table of CSV records `key,weight`, with the hash family that is drawn from the seed.
+        """The table of CSV records `key,weight`, with the hash family that is drawn from the seed. A file is read as
+        `update_csv` reads it.
 
         >>> Table.of_csv(b"a,5\\na\\n").ask("a")
         (0, 6)
         """
-        text = _records_in(records)
+        text = b"" if _is_file(records) else _records_in(records)
         words = (*_lent(text), _number("width", width), _number("depth", depth), _number("seed", seed))
-        return cls(_answer(_heavy.heavy_table, *words, guess=_table_room(min(width, 65536), min(depth, 16))))
+        made = cls(_answer(_heavy.heavy_table, *words, guess=_table_room(min(width, 65536), min(depth, 16))))
+        if _is_file(records):
+            made.update_csv(records)
+        return made
 
 
 def merge(first: Grown | Iterable[Grown], *others: Grown) -> Grown:
