@@ -454,6 +454,16 @@ class Reports(unittest.TestCase):
                         self.assertEqual((grown, cells), (whole, heavy.Table.of_csv(text, 8, 2)))
         self.assertRaises(TypeError, heavy.Summary().update_csv, io.StringIO("a"))
 
+    def test_lists_are_entries_and_answers(self) -> None:
+        """The list of a summary, its entries and what it answers of each key say the same."""
+        draw = random.Random(7)
+        for k in (1, 3, 50):
+            text = b"".join(b"k%d,%d\n" % (draw.randrange(40), draw.randrange(1, 9)) for _ in range(300))
+            summary = heavy.Summary.of_csv(text, k)
+            rows = list(summary)
+            self.assertEqual(sorted((key, low) for key, low, _ in rows), sorted(summary.entries()))
+            self.assertEqual([(low, high) for _, low, high in rows], summary.ask_many([key for key, _, _ in rows]))
+
     def test_paths(self) -> None:
         with tempfile.TemporaryDirectory() as room:
             path = Path(room, "records")
