@@ -4,8 +4,10 @@
 //! `hh_` is heavy hitters, the frequent keys.
 #![tactic(auto)]
 
+mod cuts;
 pub mod laws;
 mod layout;
+mod pieces;
 mod printed;
 mod records;
 mod retrying;
@@ -15,8 +17,10 @@ mod taking;
 mod texts;
 mod threshold;
 
+pub use cuts::{cut_text, ends_outside_quotes, whole_records};
 pub use hh_counters::Counts;
 pub use layout::{Column, Layout, column_of, delimiter_of};
+pub use pieces::{Columns, read_piece};
 pub use printed::{RowOptions, printed_text, write_printed};
 pub use records::{BadRecordCause, ReadError, read_items, read_stream};
 pub use rows::{ReportFault, condensed_text, report_text, write_report};
