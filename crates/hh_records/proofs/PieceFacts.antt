@@ -1,22 +1,25 @@
 -- What pieces of texts read as, one after the other.
 use Rattle.std.proofs.Common.{◌≡◌, ◌≤◌, ◌+◌, ◌∷◌, ◌++◌, ◌∙◌, ℕ, suc, List, [], length, map, Bool, true, false, Option, Some, None, Result, Ok, Err, refl, sym, ap, arith, append-nil}
-use Rattle.std.specs.Prelude.{◌==◌, ⊤, nat_le, option_map, option_and_then, if◌then◌else◌}
+use Rattle.std.specs.Prelude.{◌==◌, ⊤, IfSome, nat_le, option_map, option_and_then, if◌then◌else◌}
 use Rattle.std.specs.List.{AllByRecursion, flat_map}
 use Rattle.std.proofs.lemmas.Bool.Decides.{nat_tests}
 use Rattle.std.proofs.lemmas.List.{map-append}
 use Rattle.std.proofs.lemmas.List.Sums.{sum_by-append, sum_by-cons}
+use Rattle.csv.specs.Reading.{ReadRecord, records, source_of}
+use Rattle.csv.specs.declared.reader.Reader.{Reader}
 use Rattle.hh_stream.specs.Cuttings.{whole_of}
 use Rattle.hh_stream.specs.Weights.{Entry, max_key_len, max_total, total_of}
 use Rattle.hh_records.specs.declared.layout.Layout.{Layout}
 use Rattle.hh_records.specs.declared.records.BadRecordCause.{BadRecordCause}
 use Rattle.hh_records.specs.declared.records.BadRecordCause.TheVariants as cause
+use Rattle.hh_records.specs.declared.retrying.Retrying.{Retrying}
 use Rattle.hh_records.specs.Laws.{PiecesAreRead}
-use Rattle.hh_records.specs.Layouts.{Places, added, adding_next, adds, gathered, headed_parts, items_after, joined, parts_at, places_in, text_parts, texts_parts, weight_read}
-use Rattle.hh_records.specs.Pieces.{InPieces, IsInPieces, all_pieces, columns_of, first_of, first_piece, piece_parts, piece_reading, rows_in, text_of, with_columns}
+use Rattle.hh_records.specs.Layouts.{IsStart, Places, added, adding_next, adds, delimited, gathered, headed_parts, items_after, joined, parts_at, places_in, text_parts, texts_parts, weight_read}
+use Rattle.hh_records.specs.Pieces.{FindsColumns, InPieces, IsInPieces, all_pieces, columns_of, first_of, first_piece, piece_parts, piece_reading, rows_in, text_of, with_columns}
 use Rattle.hh_records.specs.Streams.{Fields, Parts, Reading, item_of_pair, item_of_parts, weight_after, weight_of, weight_or_cause}
 use Rattle.hh_records.proofs.CutFacts.{pieces-records}
 use Rattle.hh_records.proofs.OpenFacts.{map-nothing, map-twice}
-use Rattle.hh_records.proofs.ReadFacts.{items-more, ok-eq}
+use Rattle.hh_records.proofs.ReadFacts.{header-missed, header-taken, items-more, ok-eq}
 
 -- ---- records after another total
 -- what is said after one total is said after the total u too, where the weight fits there
@@ -123,6 +126,41 @@ items-move allow n m t u (p ∷ ps) xs e l =
         → adding_next (adds allow u p) m (λ es. items_after allow (m + 1) (u + total_of es) ps) ≡ Ok xs
     by (Ok es) is e later = go es (items_after allow (n + 1) (t + total_of es) ps) refl e is later
     by (Err x) is e later = cc e
+
+-- what a piece reads as, by what its records add after a total of t
+module _ (layout : Layout) (columns : Option Places) (bytes : List ℕ) where
+  pub piece-none : Some [] ≡ piece_parts layout columns bytes → piece_reading layout columns bytes ≡ Some (Ok [])
+  unfolding items_after
+  piece-none e = ap (option_map (items_after layout.allow_zero 1 0)) (sym e)
+
+  pub piece-some : (t : ℕ) (xs : List Entry) (ps : List Parts) → piece_parts layout columns bytes ≡ Some ps
+      → items_after layout.allow_zero 1 t ps ≡ Ok xs → total_of xs ≤ max_total
+      → piece_reading layout columns bytes ≡ Some (Ok xs)
+  piece-some t xs ps e h l =
+      ap (option_map (items_after layout.allow_zero 1 0)) e
+      ∙ ap Some (items-move layout.allow_zero 1 1 t 0 ps xs h (omega (arith, l)))
+
+-- ---- the columns of a header
+module _ {R : Type 0} (remaining : R → Option (List ℕ)) (layout : Layout) (headed : layout.has_header ≡ true)
+    (a b : Reader (Retrying R)) (f : Fields) (start : IsStart layout a) where
+  abbrev rem : Retrying R → Option (List ℕ)
+  rem r = remaining r.inner
+
+  abbrev rows : List ℕ → List Fields
+  rows bytes = records (delimited layout.delimiter) bytes
+
+  pub columns-none : (o : Option (List ℕ)) → source_of rem a ≡ o → ReadRecord rem a b false f
+      → IfSome o (λ bytes. FindsColumns layout (rows bytes) None)
+  columns-none None e r = tt
+  columns-none (Some y) e r =
+      rw (headed, header-missed rem a b f (delimited layout.delimiter) y start.config start.start e r) refl
+
+  pub columns-some : (at : Places) (o : Option (List ℕ)) → source_of rem a ≡ o → ReadRecord rem a b true f
+      → places_in layout f ≡ Some at → IfSome o (λ bytes. FindsColumns layout (rows bytes) (Some at))
+  columns-some at None e r places = tt
+  columns-some at (Some y) e r places =
+      let (z, rest, stands, all) = header-taken rem a b f (delimited layout.delimiter) y start.config start.start e r in
+      rw (headed, all) places
 
 -- ---- the records of pieces
 module _ {A B : Type 0} (f : A → Option (List B)) where

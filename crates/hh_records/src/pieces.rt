@@ -1,8 +1,8 @@
 //! Pieces of a text of records, each of which is read by itself.
 
-ghost use Rattle.std.specs.Prelude.{◌≡◌, ◌≤◌, Ok, Some, IfOk, IfErr, OnOk, option_map};
+ghost use Rattle.std.specs.Prelude.{◌≡◌, ◌≤◌, Ok, Some, IfOk, IfErr, IfSome, OnOk, option_map};
 ghost use Rattle.hh_stream.specs.Weights.{max_total};
-ghost use Rattle.hh_records.specs.Layouts.{IsText, OpenRefused, Places, TakesAdded, chosen_places};
+ghost use Rattle.hh_records.specs.Layouts.{IsText, OpenRefused, Opens, Places, TakesAdded, chosen_places};
 ghost use Rattle.hh_records.specs.Layouts.{names_columns, parts_left, text_parts};
 ghost use Rattle.hh_records.specs.Pieces.{FindsColumns, PieceRefused, piece_parts, piece_reading, rows_in};
 
@@ -86,6 +86,29 @@ fn open_later<'t>(
     Ok(Text { rows, chosen })
 }
 
+/// A piece of a text whose records are to be read: the first one, with no columns, as a text.
+fn open_piece<'t>(
+    alloc: Global,
+    layout: &Layout,
+    columns: Option<&Columns>,
+    piece: &'t [u8],
+) -> Result<Option<Text<&'t [u8]>>, TextError>
+    ensures text { IfOk result (λ text. IfSome text IsText) }
+    ensures opened { IfOk result (Opens (λ r. Some r.now)
+        (Some (piece_parts layout.now (option_map (λ c. c.now) columns.entry) piece.now))) }
+    ensures refused { IfErr result (λ error. OpenRefused (names_columns layout.now)
+        (Some (piece_parts layout.now (option_map (λ c. c.now) columns.entry) piece.now))
+        error) }
+{
+    let Some(columns) = columns else {
+        return open(alloc, piece, layout);
+    };
+    match open_later(alloc, layout, columns, piece) {
+        Ok(text) => Ok(Some(text)),
+        Err(AllocError) => Err(TextError::Memory),
+    }
+}
+
 /// Hands on what the records of one piece of a text add. The first piece of a text is read with no
 /// columns: its header, where the layout has one, chooses them. Each later piece is read by the
 /// columns that the first one chose ([`Columns::of_text`]), and has no header.
@@ -99,7 +122,6 @@ pub fn read_piece<T: TakeItems>(
     piece: &[u8],
     taker: &mut T,
 ) -> Result<(), TextError>
-    requires bounded { T.weight_taken taker.old ≤ max_total }
     ensures items { OnOk result
         (TakesAdded T.with_item T.weight_taken taker.old taker.new (λ xs.
         piece_reading layout.now (option_map (λ c. c.now) columns.entry) piece.now
@@ -109,16 +131,11 @@ pub fn read_piece<T: TakeItems>(
         PieceRefused layout.now (option_map (λ c. c.now) columns.entry) piece.now
         (T.weight_taken taker.old) error) }
 {
-    let opened = match columns {
-        None => open(alloc, piece, layout)?,
-        Some(columns) => match open_later(alloc, layout, columns, piece) {
-            Ok(text) => Some(text),
-            Err(AllocError) => return Err(TextError::Memory),
-        },
-    };
-    let Some(text) = opened else {
+    let Some(text) = open_piece(alloc, layout, columns, piece)? else {
         return Ok(());
     };
+    // What was taken before is in range, as its clause says.
+    let _ = taker.total();
     match read_rows(alloc, text, 0, taker, layout.allow_zero) {
         Ok(_) => Ok(()),
         Err(error) => Err(TextError::from(error)),

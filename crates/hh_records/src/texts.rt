@@ -1,6 +1,6 @@
 //! Texts of records in columns of one's own.
 
-ghost use Rattle.std.specs.Prelude.{◌≡◌, ◌≤◌, ◌∷◌, Ok, All, IfOk, IfErr, IfSome, OnOk, option_map};
+ghost use Rattle.std.specs.Prelude.{◌≡◌, ◌≤◌, ◌∷◌, true, Ok, All, IfOk, IfErr, IfSome, OnOk, option_map};
 ghost use Rattle.csv.specs.Reading.{records};
 ghost use Rattle.hh_stream.specs.Weights.{max_total};
 ghost use Rattle.hh_records.specs.Layouts.{AllOpen, IsStart, IsText, OpenRefused, Opens, OpensAs};
@@ -77,6 +77,7 @@ fn behind_header<R: Read + Drop>(
     layout: &Layout,
 ) -> Result<Option<Text<R>>, TextError>
     requires start { IsStart layout.now rows }
+    requires headed { layout.now.has_header ≡ true }
     ensures text { IfOk result (λ text. IfSome text IsText) }
     ensures opened { IfOk result (λ text. Opens R.remaining
         (option_map (λ bytes. headed_parts layout.now (records (delimited layout.now.delimiter) bytes))
