@@ -1,7 +1,6 @@
 -- Records of a text that is cut before line feeds.
 use Rattle.std.proofs.Common.{◌≡◌, ◌≤◌, ◌+◌, ◌∷◌, ◌++◌, ◌∙◌, ℕ, suc, zero, List, [], length, Bool, true, false, Option, Some, None, refl, sym, ap, arith, append-nil}
-use Rattle.std.specs.Prelude.{◌==◌, ◌&&◌, drop, not, if◌then◌else◌}
-use Rattle.std.specs.List.{AllByRecursion, flat_map}
+use Rattle.std.specs.Prelude.{◌==◌, ◌&&◌, not, if◌then◌else◌}
 use Rattle.std.proofs.lemmas.Bool.{eqb-false, eqb-true, false≢true, ne_eqb}
 use Rattle.csv.specs.Machine.{Read, after_end, ends_at_end, ends_with, field_after, fields_after, in_field, is_byte, is_end, next_record, start_field, start_record, step}
 use Rattle.csv.specs.Reading.{is_bom, records, records_from, records_next, strip_bom}
@@ -14,7 +13,7 @@ use Rattle.hh_records.specs.Streams.{Fields}
 use Rattle.hh_stream.specs.Cuttings.{whole_of}
 use Rattle.hh_records.specs.Layouts.{delimited}
 use Rattle.hh_records.specs.Laws.{FeedsOutsideQuotesAreCuts, PiecesHaveTheRecords}
-use Rattle.hh_records.specs.Pieces.{AreCut, IsCut, LaterBeginWithFeed, begins_with_feed, ends_outside, is_outside, state_behind}
+use Rattle.hh_records.specs.Pieces.{IsCut, begins_with_feed, ends_outside, is_outside, state_behind}
 
 -- ---- all records of a text, with no bound on their number
 runs : Config → State → Fields → List ℕ → List ℕ → List Fields

@@ -1,5 +1,5 @@
 -- What pieces of texts read as, one after the other.
-use Rattle.std.proofs.Common.{◌≡◌, ◌≤◌, ◌+◌, ◌∷◌, ◌++◌, ◌∙◌, ℕ, suc, List, [], length, map, Bool, true, false, Option, Some, None, Result, Ok, Err, refl, sym, ap, arith, append-nil}
+use Rattle.std.proofs.Common.{◌≡◌, ◌≤◌, ◌+◌, ◌∷◌, ◌++◌, ◌∙◌, ℕ, List, [], length, map, Bool, true, false, Option, Some, None, Result, Ok, Err, refl, sym, ap, arith}
 use Rattle.std.specs.Prelude.{◌==◌, ⊤, IfSome, nat_le, option_map, option_and_then, if◌then◌else◌}
 use Rattle.std.specs.List.{AllByRecursion, flat_map}
 use Rattle.std.proofs.lemmas.Bool.Decides.{nat_tests}
@@ -129,9 +129,10 @@ items-move allow n m t u (p ∷ ps) xs e l =
 
 -- what a piece reads as, by what its records add after a total of t
 module _ (layout : Layout) (columns : Option Places) (bytes : List ℕ) where
-  pub piece-none : Some [] ≡ piece_parts layout columns bytes → piece_reading layout columns bytes ≡ Some (Ok [])
+  pub piece-none : (ps : List Parts) → ◌≡◌ {A = Option (List Parts)} (Some []) (Some ps)
+      → piece_parts layout columns bytes ≡ Some ps → piece_reading layout columns bytes ≡ Some (Ok [])
   unfolding items_after
-  piece-none e = ap (option_map (items_after layout.allow_zero 1 0)) (sym e)
+  piece-none ps left e = ap (option_map (items_after layout.allow_zero 1 0)) (e ∙ sym left)
 
   pub piece-some : (t : ℕ) (xs : List Entry) (ps : List Parts) → piece_parts layout columns bytes ≡ Some ps
       → items_after layout.allow_zero 1 t ps ≡ Ok xs → total_of xs ≤ max_total

@@ -182,4 +182,3 @@ module _ (d : ℕ) where
         },
         record { feed = here; outside = outside },
       )
-

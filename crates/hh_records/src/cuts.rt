@@ -162,11 +162,7 @@ pub fn whole_records(text: &[u8], delimiter: u8) -> Option<usize>
 ///
 /// A line feed may stand in quotes: [`ends_outside_quotes`] tells, of each piece by itself, whether
 /// the text may be cut behind it.
-pub fn cut_text<'t>(
-    alloc: Global,
-    text: &'t [u8],
-    most: usize,
-) -> Result<Vec<&'t [u8]>, AllocError>
+pub fn cut_text<'t>(alloc: Global, text: &'t [u8], most: usize) -> Result<Vec<&'t [u8]>, AllocError>
     requires some { 0 < most }
     ensures whole { IfOk result (λ pieces.
         whole_of (map (λ p. p.now) pieces.items) ≡ text.now) }

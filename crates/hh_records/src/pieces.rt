@@ -9,9 +9,9 @@ ghost use Rattle.hh_records.specs.Pieces.{FindsColumns, PieceRefused, piece_part
 use crate::layout::{Chosen, Layout};
 use crate::records::read_rows;
 use crate::retrying::Retrying;
-use crate::taking::TakeItems;
 use crate::texts::{Text, TextError, open};
 use csv::ReaderBuilder;
+use hh_stream::TakeItems;
 use std::alloc::{AllocError, Global};
 use std::marker::Model;
 
@@ -131,11 +131,11 @@ pub fn read_piece<T: TakeItems>(
         PieceRefused layout.now (option_map (λ c. c.now) columns.entry) piece.now
         (T.weight_taken taker.old) error) }
 {
+    // What was taken before is in range, as this call's clause says.
+    let _ = taker.total();
     let Some(text) = open_piece(alloc, layout, columns, piece)? else {
         return Ok(());
     };
-    // What was taken before is in range, as its clause says.
-    let _ = taker.total();
     match read_rows(alloc, text, 0, taker, layout.allow_zero) {
         Ok(_) => Ok(()),
         Err(error) => Err(TextError::from(error)),

@@ -2,7 +2,7 @@ use Rattle.std.proofs.Common.{◌≡◌, ◌<◌, ◌+◌, ◌/◌, ◌++◌, �
 use Rattle.std.specs.List.{AllByRecursion}
 use Rattle.std.proofs.lemmas.Bool.{eq-eqb, eqb-true, false≢true}
 use Rattle.std.proofs.lemmas.Grind.{flat_map-append}
-use Rattle.std.proofs.lemmas.List.{drop_more, get_or-drop, map_push, take-append-drop}
+use Rattle.std.proofs.lemmas.List.{get_or-drop, map_push, take-append-drop}
 use Rattle.hh_stream.specs.Cuttings.{whole_of}
 use Rattle.hh_records.specs.Pieces.{LaterBeginWithFeed, begins_with_feed}
 use Rattle.hh_records.proofs.PlaceFacts.{line-drop}

@@ -1,4 +1,4 @@
-use Rattle.std.proofs.Common.{◌≡◌, ◌<◌, ◌≤◌, ◌++◌, ◌∷◌, [], length, map}
+use Rattle.std.proofs.Common.{◌≡◌, ◌<◌, ◌++◌, ◌∷◌, [], length, map}
 use Rattle.hh_stream.specs.Cuttings.{whole_of}
 use Rattle.hh_records.specs.Pieces.{LaterBeginWithFeed}
 use Rattle.hh_records.proofs.cuts.cut_text.Given as goal

@@ -1,4 +1,4 @@
-use Rattle.std.proofs.Common.{◌∙◌, ◌<◌, [], refl, sym, arith}
+use Rattle.std.proofs.Common.{◌<◌, [], refl, arith}
 use Rattle.std.specs.Prelude.{option_map}
 use Rattle.std.proofs.lemmas.List.Elements.{All-from_recursion}
 use Rattle.hh_stream.specs.Weights.{Entry}
@@ -14,7 +14,7 @@ returns-in_default-clause-items g c =
     let (ps, left, parts) = rw c.in_default.is at c.in_ok-text.ensures.opened in
     record {
       xs = [];
-      adds = piece-none c.args.layout.now (option_map (λ c. c.now) c.args.columns) c.args.piece.now (left ∙ sym parts);
+      adds = piece-none c.args.layout.now (option_map (λ c. c.now) c.args.columns) c.args.piece.now ps left parts;
       positive = All-from_recursion Weighs [] tt;
       weight = omega arith;
       taken = refl;
