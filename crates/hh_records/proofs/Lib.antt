@@ -1,4 +1,5 @@
 pub mod ByteFacts
+pub mod KeptFacts
 pub mod LayoutFacts
 pub mod PartFacts
 pub mod OpenFacts
