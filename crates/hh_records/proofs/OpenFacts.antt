@@ -28,11 +28,11 @@ pub nothing-left : {A : Type 0} (xs : List A) → 0 ≡ length xs → [] ≡ xs
 nothing-left [] e = refl
 nothing-left (x ∷ xs) e = absurd (omega (arith, e))
 
-map-nothing : {A : Type 0} (o : Option (List A)) → option_map (λ (qs : List A). [] ++ qs) o ≡ o
+pub map-nothing : {A : Type 0} (o : Option (List A)) → option_map (λ (qs : List A). [] ++ qs) o ≡ o
 map-nothing None = refl
 map-nothing (Some qs) = refl
 
-map-twice : {A : Type 0} (ps qs : List A) (o : Option (List A))
+pub map-twice : {A : Type 0} (ps qs : List A) (o : Option (List A))
     → option_map (λ (rs : List A). ps ++ rs) (option_map (λ (rs : List A). qs ++ rs) o)
     ≡ option_map (λ (rs : List A). (ps ++ qs) ++ rs) o
 map-twice ps qs None = refl

@@ -177,7 +177,7 @@ reading-or : List Entry → Reading → List Entry
 reading-or d (Ok z) = z
 reading-or d (Err e) = d
 
-ok-eq : (x y : List Entry) → ◌≡◌ {A = Reading} (Ok x) (Ok y) → x ≡ y
+pub ok-eq : (x y : List Entry) → ◌≡◌ {A = Reading} (Ok x) (Ok y) → x ≡ y
 unfolding reading-or
 ok-eq x y e = ap (reading-or x) e
 

@@ -11,10 +11,9 @@ ghost use Rattle.hh_records.specs.Streams.{fault_of, numbered_fault, parts_of, R
 ghost use Rattle.hh_records.specs.Taking.{TakesItems};
 
 use crate::layout::Chosen;
-use crate::taking::TakeItems;
 use crate::texts::{Records, Text, TextError, read_records};
 use csv::{ByteRecord, ErrorKind, WriterBuilder};
-use hh_stream::{MAX_KEY_LEN, MAX_TOTAL, Stream};
+use hh_stream::{MAX_KEY_LEN, MAX_TOTAL, Stream, TakeItems};
 use std::alloc::{AllocError, Global};
 use std::io::Read;
 use thiserror::Error;
