@@ -42,9 +42,13 @@ module _ {A B C : Type 0} (f : A → Option C) (g : B → Option C) where
       by None h = tt
       by (Some cs) (before, after, told, left, is) =
           let (c, later, one, others, all) = every-first f x rest after left in
-          let still : Some c ≡ g y = sym (rw one at k) in
-          (before ++ c ∷ [], later, every-push g ys y c before told still, others,
-            is ∙ ap (λ l. before ++ l) all ∙ sym (append_assoc before (c ∷ []) later))
+          let still : Some c ≡ g y = sym (rw one at k) in (
+            before ++ c ∷ [],
+            later,
+            every-push g ys y c before told still,
+            others,
+            is ∙ ap (λ l. before ++ l) all ∙ sym (append_assoc before (c ∷ []) later),
+          )
 
   pub known-end : (all : List A) (ys : List B) → KnownSoFar all [] ys → IsKnownStill (every f all) (every g ys)
   unfolding every

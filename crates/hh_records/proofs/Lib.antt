@@ -1,5 +1,6 @@
 pub mod ByteFacts
 pub mod CutFacts
+pub mod CutTextFacts
 pub mod KeptFacts
 pub mod LayoutFacts
 pub mod PartFacts

@@ -13,7 +13,7 @@ use Rattle.hh_records.specs.declared.texts.TextError.{TextError}
 use Rattle.hh_records.specs.declared.texts.TextError.TheVariants as text
 use Rattle.hh_records.specs.Laws.{PlainLayoutsReadStreams}
 use Rattle.hh_records.specs.Layouts.{AllOpen, IsPlain, OpenRefused, Opens, OpensAs, RowsRefused, TextsRefused, adding_next, adds, all_left, every, gathered, items_after, joined, names_columns, parts_left, records_known, stream_with, text_fault, text_parts, texts_parts}
-use Rattle.hh_records.specs.Streams.{Known, Parts, Reading, stream_of, text_known}
+use Rattle.hh_records.specs.Streams.{Parts, Reading, stream_of, text_known}
 use Rattle.hh_records.proofs.ReadFacts.{items-more, joined-none, joined-twice}
 
 option-or : {A : Type 0} → A → Option A → A

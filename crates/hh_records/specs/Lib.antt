@@ -1,3 +1,4 @@
+pub mod CutTexts
 pub mod Kept
 pub mod Laws
 pub mod Layouts

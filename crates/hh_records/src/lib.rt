@@ -4,6 +4,7 @@
 //! `hh_` is heavy hitters, the frequent keys.
 #![tactic(auto)]
 
+mod cut_texts;
 mod cuts;
 mod kept;
 pub mod laws;
@@ -17,6 +18,7 @@ mod sink;
 mod texts;
 mod threshold;
 
+pub use cut_texts::{CutTexts, PieceFault};
 pub use cuts::{cut_text, ends_outside_quotes, whole_records};
 pub use hh_counters::Counts;
 pub use hh_stream::TakeItems;

@@ -1,4 +1,4 @@
-use Rattle.std.proofs.Common.{◌≡◌, ◌∙◌, length, refl, sym, ap, arith}
+use Rattle.std.proofs.Common.{◌∙◌, length, refl, sym, ap, arith}
 use Rattle.hh_records.specs.Kept.{kept_left}
 use Rattle.hh_records.specs.Layouts.{stream_with}
 use Rattle.hh_records.proofs.KeptFacts.{again_left, known-end, known-first, known-map, known-more, known-same, known-start}
@@ -12,7 +12,7 @@ loop-text-init g c =
       tt,
       gives.1 ∙ c.args.records.others.ok.0 ∙ ap length (sym gives.0),
       rw (gives.0, c.new-readers.ensures.items)
-      (known-start (kept_left g.R.Read.remaining) (again_left g.R.Read.remaining) c.args.records.others.items),
+          (known-start (kept_left g.R.Read.remaining) (again_left g.R.Read.remaining) c.args.records.others.items),
     )
 
 pub loop-text-preserved : goal.loop-text-preserved
@@ -24,8 +24,8 @@ loop-text-preserved g c =
       tt,
       let was = inv.2 in let gone = steps.1 in omega (arith, was, gone, long),
       rw c.in_ok-push.ensures.items
-      (known-more (kept_left g.R.Read.remaining) (again_left g.R.Read.remaining) c.args.records.others.items
-      c.in-Some.text _ _ _ (rw steps.0 at inv.3) (known-same _ _ c.into_reader.ensures)),
+          (known-more (kept_left g.R.Read.remaining) (again_left g.R.Read.remaining) c.args.records.others.items
+          c.in-Some.text _ _ _ (rw steps.0 at inv.3) (known-same _ _ c.into_reader.ensures)),
     )
 
 pub returns : goal.returns
@@ -33,7 +33,7 @@ returns g c =
     let inv = c.loop-text.invariant in
     let none = nothing-left _ (sym c.in-None.ensures.steps.0 ∙ inv.2) in
     let others = known-end (kept_left g.R.Read.remaining) (again_left g.R.Read.remaining) c.args.records.others.items _
-        (rw (← none) at inv.3) in
+    (rw (← none) at inv.3) in
     record {
       names_columns = refl;
       reading = known-map (stream_with c.args.records.layout) _ _
