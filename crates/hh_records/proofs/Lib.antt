@@ -1,5 +1,7 @@
 pub mod ByteFacts
 pub mod CutFacts
+pub mod CutTextFacts
+pub mod KeptFacts
 pub mod LayoutFacts
 pub mod PartFacts
 pub mod OpenFacts

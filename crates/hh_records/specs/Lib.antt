@@ -1,3 +1,5 @@
+pub mod CutTexts
+pub mod Kept
 pub mod Laws
 pub mod Layouts
 pub mod Pieces

@@ -4,7 +4,9 @@
 //! `hh_` is heavy hitters, the frequent keys.
 #![tactic(auto)]
 
+mod cut_texts;
 mod cuts;
+mod kept;
 pub mod laws;
 mod layout;
 mod pieces;
@@ -16,9 +18,11 @@ mod sink;
 mod texts;
 mod threshold;
 
+pub use cut_texts::{CutTexts, PieceFault};
 pub use cuts::{cut_text, ends_outside_quotes, whole_records};
 pub use hh_counters::Counts;
 pub use hh_stream::TakeItems;
+pub use kept::{KeptReader, KeptText, Rest, keep_records, read_again, whole_texts};
 pub use layout::{Column, Layout, column_of, delimiter_of};
 pub use pieces::{Columns, read_piece};
 pub use printed::{RowOptions, printed_text, write_printed};

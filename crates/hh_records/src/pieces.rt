@@ -30,6 +30,14 @@ impl Model for Columns {
 }
 
 impl Columns {
+    // The same columns.
+    pub(crate) fn copy(&self, alloc: Global) -> Result<Columns, AllocError>
+        ensures { IfOk result (λ copy. copy ≡ self.now) }
+    {
+        let chosen = copy_of(alloc, &self.chosen)?;
+        Ok(Columns { chosen })
+    }
+
     /// The columns of a text that begins with this piece. There are none where the layout has a
     /// header and the piece has no record for it.
     pub fn of_text(
