@@ -14,3 +14,6 @@ pub mod ShareFacts
 pub mod TakeFacts
 pub mod TakenFacts
 pub mod TextFacts
+pub mod StartFacts
+pub mod SpanFacts
+pub mod FileFacts

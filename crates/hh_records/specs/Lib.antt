@@ -1,4 +1,6 @@
+pub mod CutFiles
 pub mod CutTexts
+pub mod Files
 pub mod Kept
 pub mod Laws
 pub mod Layouts
