@@ -1,4 +1,6 @@
 pub mod ByteFacts
+pub mod DecimalFacts
+pub mod KeyFacts
 pub mod LayoutFacts
 pub mod PartFacts
 pub mod OpenFacts

@@ -57,12 +57,12 @@ value_after a (d ∷ ds) =
     ap (λ n. fold (λ a d. a * 10 + (d - 48)) n (map (λ d. 48 + d) ds)) step ∙ value_after (a * 10 + d) ds
 
 -- what the digits of a weight are to the reader of records
-record IsWritten (n : ℕ) : Type 0 where
+pub record IsWritten (n : ℕ) : Type 0 where
   pub plain : list_any (needs_byte default_writer) (decimal n) ≡ false
   pub weight : is_weight (decimal n) ≡ true
   pub value : value_of (decimal n) ≡ n
 
-written : (n : ℕ) → 0 < n → n ≤ max_total → IsWritten n
+pub written : (n : ℕ) → 0 < n → n ≤ max_total → IsWritten n
 written n some fits =
     let ds = digits_of 10 n in
     let below = all_below_base_digits_of 10 n (omega arith) in

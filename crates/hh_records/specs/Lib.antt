@@ -1,3 +1,4 @@
+pub mod Decimals
 pub mod Laws
 pub mod Layouts
 pub mod Printed

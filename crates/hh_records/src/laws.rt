@@ -1,7 +1,8 @@
 //! Laws of the definitions in `specs/`. Each function does nothing: its contract is the law.
 
 ghost use Rattle.hh_records.specs.Laws.{CondensedFilesAreRead, PlainLayoutsReadStreams, TextsAreItems};
-ghost use Rattle.hh_records.specs.Laws.{PlainRowsAreRows, SharesAreRoundedDown};
+ghost use Rattle.hh_records.specs.Laws.{KeysTellFields, PlainRowsAreRows};
+ghost use Rattle.hh_records.specs.Laws.{PrintedNumbersAreRead, SharesAreRoundedDown};
 
 use hh_counters::laws::condensed_keeps_weights;
 
@@ -32,4 +33,15 @@ pub fn plain_rows_are_rows()
 /// A share is rounded down.
 pub fn shares_are_rounded_down()
     ensures { SharesAreRoundedDown }
+{}
+
+/// A number that is printed with digits behind a point is read as the number.
+pub fn printed_numbers_are_read()
+    ensures { PrintedNumbersAreRead }
+{}
+
+/// Different fields of a key's columns are different keys: what `csv` writes of some fields is read
+/// as these alone.
+pub fn keys_tell_fields()
+    ensures { KeysTellFields }
 {}

@@ -4,6 +4,7 @@
 //! `hh_` is heavy hitters, the frequent keys.
 #![tactic(auto)]
 
+mod decimals;
 pub mod laws;
 mod layout;
 mod printed;
@@ -16,6 +17,7 @@ mod texts;
 mod threshold;
 
 pub use hh_counters::Counts;
+pub use decimals::pointed;
 pub use layout::{Column, Layout, column_of, delimiter_of};
 pub use printed::{RowOptions, printed_text, write_printed};
 pub use records::{BadRecordCause, ReadError, read_items, read_stream};
