@@ -13,6 +13,7 @@ mod shared_key;
 mod sought;
 mod space_saving;
 mod summary;
+mod taking;
 
 pub use bucket_saving::{BucketSaving, NewFault};
 pub use candidates::Candidates;

@@ -6,6 +6,7 @@ mod family;
 pub mod laws;
 mod modulus;
 mod table;
+mod taking;
 
 pub use family::{DrawFault, Family, MAX_DEPTH, MAX_WIDTH, PartsFault};
 pub use modulus::MODULUS;

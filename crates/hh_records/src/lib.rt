@@ -12,17 +12,16 @@ mod records;
 mod retrying;
 mod rows;
 mod sink;
-mod taking;
 mod texts;
 mod threshold;
 
 pub use hh_counters::Counts;
+pub use hh_stream::TakeItems;
 pub use decimals::pointed;
 pub use layout::{Column, Layout, column_of, delimiter_of};
 pub use printed::{RowOptions, printed_text, write_printed};
 pub use records::{BadRecordCause, ReadError, read_items, read_stream};
 pub use rows::{ReportFault, condensed_text, report_text, write_report};
 pub use sink::{Out, Sink, SinkFault, WriteFault, put};
-pub use taking::TakeItems;
 pub use texts::{Records, TextError, read_records};
 pub use threshold::{Share, threshold_of};

@@ -12,10 +12,9 @@ ghost use Rattle.hh_records.specs.Taking.{TakesItems};
 
 use crate::decimals::{scaled, units_in};
 use crate::layout::{Chosen, Layout};
-use crate::taking::TakeItems;
 use crate::texts::{Records, Text, TextError, read_records};
 use csv::{ByteRecord, ErrorKind, WriterBuilder};
-use hh_stream::{MAX_KEY_LEN, MAX_TOTAL, Stream};
+use hh_stream::{MAX_KEY_LEN, MAX_TOTAL, Stream, TakeItems};
 use std::alloc::{AllocError, Global};
 use std::io::Read;
 use thiserror::Error;

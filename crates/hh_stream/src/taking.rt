@@ -1,15 +1,10 @@
-//! What takes the items of records, one after the other.
+//! What takes items, one after the other.
 
 ghost use Rattle.std.specs.Prelude.{◌≡◌, ◌+◌, ◌<◌, ◌≤◌, ◌++◌, ◌∷◌, [], ℕ, OnErr, OnOk, length};
 ghost use Rattle.hh_stream.specs.Weights.{Entry, max_key_len, max_total, total_of};
-ghost use Rattle.hh_counters.specs.Counters.{sketch_with};
-ghost use Rattle.hh_counters.specs.Counting.{count_with};
-ghost use Rattle.hh_counters.specs.SpaceSaving.{monitor_with};
-ghost use Rattle.hh_countmin.specs.Table.{grid_with};
 
-use hh_counters::{BucketSaving, Counts, Monitor, Summary};
-use hh_countmin::Table;
-use hh_stream::{Key, Stream};
+use crate::key::Key;
+use crate::stream::Stream;
 use std::alloc::{AllocError, Global};
 
 /// What items are taken into, one after the other: a stream keeps them all, and others keep less.
@@ -49,63 +44,5 @@ impl TakeItems for Stream {
     fn take(&mut self, alloc: Global, key: &[u8], weight: u64) -> Result<(), AllocError> {
         self.push_within(Key::of_bytes(alloc, key)?, weight)
             .map_err(|_| AllocError)
-    }
-}
-
-impl TakeItems for Summary {
-    ghost with_item = { sketch_with };
-
-    ghost weight_taken = { λ summary. summary.total };
-
-    fn total(&self) -> u64 {
-        self.total()
-    }
-
-    fn take(&mut self, _alloc: Global, key: &[u8], weight: u64) -> Result<(), AllocError> {
-        self.add_within(key, weight)
-    }
-}
-
-impl TakeItems for BucketSaving {
-    ghost with_item = { monitor_with };
-
-    ghost weight_taken = { λ monitor. monitor.total };
-
-    fn total(&self) -> u64 {
-        Monitor::total(self)
-    }
-
-    fn take(&mut self, _alloc: Global, key: &[u8], weight: u64) -> Result<(), AllocError> {
-        self.add_within(key, weight)
-    }
-}
-
-impl TakeItems for Table {
-    ghost with_item = { grid_with };
-
-    ghost weight_taken = { λ table. table.total };
-
-    fn total(&self) -> u64 {
-        self.total()
-    }
-
-    fn take(&mut self, _alloc: Global, key: &[u8], weight: u64) -> Result<(), AllocError> {
-        self.add_within(key, weight);
-        Ok(())
-    }
-}
-
-impl TakeItems for Counts {
-    ghost with_item = { λ counts item. count_with counts (item ∷ []) };
-
-    ghost weight_taken = { λ counts. counts.total };
-
-    fn total(&self) -> u64 {
-        self.total()
-    }
-
-    fn take(&mut self, _alloc: Global, key: &[u8], weight: u64) -> Result<(), AllocError> {
-        self.add_bytes(key, weight);
-        Ok(())
     }
 }
