@@ -97,7 +97,7 @@ fn name_of(asked: &Invocation, number: u64) -> &[u8] {
         }
         Command::Merge { first, others } => name_behind(first, others, number),
         Command::Ask { file, .. } => file.as_slice(),
-        Command::List { file } => file.as_slice(),
+        Command::List { file, .. } => file.as_slice(),
         Command::Describe { file } => file.as_slice(),
         Command::Condense { file } => name_behind(file, records, number),
         Command::Confirm { file, .. } => name_behind(file, records, number),

@@ -21,7 +21,7 @@ pub use decimals::pointed;
 pub use layout::{Column, Layout, column_of, delimiter_of};
 pub use printed::{RowOptions, printed_text, write_printed};
 pub use records::{BadRecordCause, ReadError, read_items, read_stream};
-pub use rows::{ReportFault, condensed_text, report_text, write_report};
+pub use rows::{ReportFault, condensed_rows_text, condensed_text, report_text, write_report};
 pub use sink::{Out, Sink, SinkFault, WriteFault, put};
 pub use texts::{Records, TextError, read_records};
 pub use threshold::{Share, threshold_of};

@@ -8,7 +8,7 @@ ghost use Rattle.hh_records.specs.Printed.{plain_rows, printed_row, printed_rows
 ghost use Rattle.hh_records.specs.Rows.{IsBetweenRows, is_write_fault};
 
 use crate::decimals::pointed;
-use crate::rows::ReportFault;
+use crate::rows::{ReportFault, write_row};
 use crate::sink::{Sink, WriteFault, put};
 use csv::{Writer, WriterBuilder};
 use hh_counters::Heavy;
@@ -75,15 +75,14 @@ fn write_printed_row(
         (text_written (λ text. Some text.items) writer.new)
         (printed_row total options.now row.now)) }
 {
+    if !options.share {
+        return write_row(alloc, writer, row, options.decimals);
+    }
     let weight = pointed(alloc, u128::from(row.weight), options.decimals)?;
-    let weight = weight.as_slice();
-    let written = if options.share {
-        let share = pointed(alloc, millionths(total, row.weight), 4)?;
-        writer.write_fields(&[row.key.bytes(), weight, share.as_slice()])
-    } else {
-        writer.write_fields(&[row.key.bytes(), weight])
-    };
-    written.map_err(|_| AllocError)
+    let share = pointed(alloc, millionths(total, row.weight), 4)?;
+    writer
+        .write_fields(&[row.key.bytes(), weight.as_slice(), share.as_slice()])
+        .map_err(|_| AllocError)
 }
 
 /// The rows of a report as the options want them, with shares of this total. With

@@ -213,7 +213,8 @@ pub struct Records<R> {
 impl<R: Read + Drop> Records<R> {
     /// Those of one text of keys and weights, as [`read_stream`](crate::read_stream) reads them.
     pub fn of_reader(alloc: Global, reader: R) -> Records<R>
-        ensures { records_known R.remaining result ≡ text_known (R.remaining reader) }
+        ensures known { records_known R.remaining result ≡ text_known (R.remaining reader) }
+        ensures whole { result.layout.decimals ≡ 0 }
     {
         plain_layouts_read_streams();
         Records {
