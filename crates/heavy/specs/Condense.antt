@@ -3,7 +3,7 @@ use Rattle.std.specs.Prelude.{◌≡◌, ℕ, List, Ok}
 use Rattle.hh_stream.specs.Weights.{Entry}
 use Rattle.hh_counters.specs.Condensed.{condensed}
 use Rattle.hh_counters.specs.Counters.{SummaryView}
-use Rattle.hh_records.specs.Rows.{condensed_in}
+use Rattle.hh_records.specs.Rows.{condensed_by}
 use Rattle.hh_records.specs.Streams.{Known, ReadsAs}
 use Rattle.heavy.specs.Files.{HoldsSummary, RefusedFrom}
 use Rattle.heavy.specs.Records.{RecordsRefused}
@@ -14,7 +14,7 @@ use Rattle.heavy.specs.declared.error.ToolError.{ToolError}
 abbrev pub CondensesRows : ℕ → List ℕ → Known → List ℕ → Type 0
 CondensesRows d file known rows =
     (s : SummaryView) × (xs : List Entry) × HoldsSummary file s × ReadsAs known (Ok xs)
-    × (rows ≡ condensed_in d (condensed s.counters xs))
+    × (rows ≡ condensed_by d (condensed s.counters xs))
 
 -- what a refusal to condense tells: of the file, of its kind, and of the records
 abbrev pub CondenseRefused : List ℕ → Known → ToolError → Type 0

@@ -1,9 +1,15 @@
 pub mod ByteFacts
+pub mod CutFacts
+pub mod CutTextFacts
 pub mod DecimalFacts
+pub mod KeptFacts
 pub mod KeyFacts
 pub mod LayoutFacts
 pub mod PartFacts
 pub mod OpenFacts
+pub mod PieceFacts
+pub mod PlaceFacts
+pub mod QuoteFacts
 pub mod ReadFacts
 pub mod RowFacts
 pub mod ShareFacts

@@ -14,19 +14,19 @@ use Rattle.hh_records.specs.declared.rows.ReportFault.TheVariants as fault
 
 -- the text of one row: the key and the weight, in units of 10^-d, as csv's default writer writes them,
 -- and a line feed
-abbrev pub row_in : ℕ → Entry → List ℕ
-row_in d e = row_text default_writer (e.0 ∷ pointed d e.1 ∷ [])
+abbrev pub row_by : ℕ → Entry → List ℕ
+row_by d e = row_text default_writer (e.0 ∷ pointed d e.1 ∷ [])
 
 -- the text of these rows, one after the other
-abbrev pub rows_in : ℕ → List Entry → List ℕ
-rows_in d es = flat_map (row_in d) es
+abbrev pub rows_by : ℕ → List Entry → List ℕ
+rows_by d es = flat_map (row_by d) es
 
 -- the same of weights that are whole numbers
 abbrev pub row_of : Entry → List ℕ
-row_of e = row_in 0 e
+row_of e = row_by 0 e
 
 abbrev pub rows_of : List Entry → List ℕ
-rows_of es = rows_in 0 es
+rows_of es = rows_by 0 es
 
 -- whether a key begins with the three bytes of a byte order mark
 abbrev pub begins_with_mark : Bytes → Bool
@@ -36,21 +36,21 @@ begins_with_mark (a ∷ b ∷ []) = false
 begins_with_mark (a ∷ b ∷ c ∷ rest) = is_bom a b c
 
 -- the text of a row whose key is in quotes
-abbrev pub quoted_row_in : ℕ → Entry → List ℕ
-quoted_row_in d e = quoted default_writer e.0 ++ (comma ∷ (pointed d e.1 ++ (line_feed ∷ [])))
+abbrev pub quoted_row_by : ℕ → Entry → List ℕ
+quoted_row_by d e = quoted default_writer e.0 ++ (comma ∷ (pointed d e.1 ++ (line_feed ∷ [])))
 
 -- the text of a row that may stand first: a reader would take a mark off that is not in quotes
-abbrev pub first_row_in : ℕ → Entry → List ℕ
-first_row_in d e = if begins_with_mark e.0 then quoted_row_in d e else row_in d e
+abbrev pub first_row_by : ℕ → Entry → List ℕ
+first_row_by d e = if begins_with_mark e.0 then quoted_row_by d e else row_by d e
 
 -- the text of these rows, which may stand first
-abbrev pub condensed_in : ℕ → List Entry → List ℕ
-condensed_in d [] = []
-condensed_in d (e ∷ es) = first_row_in d e ++ rows_in d es
+abbrev pub condensed_by : ℕ → List Entry → List ℕ
+condensed_by d [] = []
+condensed_by d (e ∷ es) = first_row_by d e ++ rows_by d es
 
 -- the same of weights that are whole numbers
 abbrev pub condensed_text : List Entry → List ℕ
-condensed_text es = condensed_in 0 es
+condensed_text es = condensed_by 0 es
 
 -- a default writer between two records
 abbrev pub IsBetweenRows : {W : Type 0} → Writer W → Type 0

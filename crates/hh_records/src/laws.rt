@@ -1,8 +1,9 @@
 //! Laws of the definitions in `specs/`. Each function does nothing: its contract is the law.
 
 ghost use Rattle.hh_records.specs.Laws.{CondensedFilesAreRead, PlainLayoutsReadStreams, TextsAreItems};
-ghost use Rattle.hh_records.specs.Laws.{KeysTellFields, PlainRowsAreRows};
-ghost use Rattle.hh_records.specs.Laws.{PrintedNumbersAreRead, SharesAreRoundedDown};
+ghost use Rattle.hh_records.specs.Laws.{FeedsOutsideQuotesAreCuts, KeysTellFields, PiecesAreRead};
+ghost use Rattle.hh_records.specs.Laws.{PiecesHaveTheRecords, PlainRowsAreRows, PrintedNumbersAreRead};
+ghost use Rattle.hh_records.specs.Laws.{SharesAreRoundedDown};
 
 use hh_counters::laws::condensed_keeps_weights;
 
@@ -33,6 +34,22 @@ pub fn plain_rows_are_rows()
 /// A share is rounded down.
 pub fn shares_are_rounded_down()
     ensures { SharesAreRoundedDown }
+{}
+
+/// The records of a text that is cut before line feeds outside quotes are those of its pieces.
+pub fn pieces_have_the_records()
+    ensures { PiecesHaveTheRecords }
+{}
+
+/// Pieces that end outside quotes, each but the first beginning with a line feed, are cut lawfully.
+pub fn feeds_outside_quotes_are_cuts()
+    ensures { FeedsOutsideQuotesAreCuts }
+{}
+
+/// Texts whose pieces are each read by themselves, where the totals fit, read as the items of the
+/// pieces, one after the other.
+pub fn pieces_are_read()
+    ensures { PiecesAreRead }
 {}
 
 /// A number that is printed with digits behind a point is read as the number.

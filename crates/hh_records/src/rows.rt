@@ -3,8 +3,8 @@
 ghost use Rattle.std.specs.Prelude.{◌≡◌, ◌++◌, false, true, IfOk, IfErr, OnOk, Some};
 ghost use Rattle.std.specs.Io.KnownBytes.{Appends};
 ghost use Rattle.csv.specs.Writing.{default_writer, quoted, text_written};
-ghost use Rattle.hh_records.specs.Rows.{IsBetweenRows, RowsRefused, condensed_in, condensed_text};
-ghost use Rattle.hh_records.specs.Rows.{first_row_in, is_write_fault, quoted_row_in, row_in, rows_in};
+ghost use Rattle.hh_records.specs.Rows.{IsBetweenRows, RowsRefused, condensed_by, condensed_text};
+ghost use Rattle.hh_records.specs.Rows.{first_row_by, is_write_fault, quoted_row_by, row_by, rows_by};
 ghost use Rattle.hh_records.specs.Rows.{rows_of};
 
 use crate::decimals::pointed;
@@ -31,7 +31,7 @@ pub(crate) fn write_row(
     ensures text { OnOk result (Appends
         (text_written (λ text. Some text.items) writer.old)
         (text_written (λ text. Some text.items) writer.new)
-        (row_in decimals row.now)) }
+        (row_by decimals row.now)) }
 {
     let weight = pointed(alloc, u128::from(row.weight), decimals)?;
     writer
@@ -46,7 +46,7 @@ fn with_rows(
     rows: &[Heavy],
     decimals: u8,
 ) -> Result<Vec<u8>, AllocError>
-    ensures { IfOk result (λ whole. whole.items ≡ text.items ++ rows_in decimals rows.now) }
+    ensures { IfOk result (λ whole. whole.items ≡ text.items ++ rows_by decimals rows.now) }
 {
     let mut writer = WriterBuilder::new().from_writer(text);
     for row in rows {
@@ -76,7 +76,7 @@ fn quoted_key(alloc: Global, key: &Key) -> Result<Vec<u8>, AllocError>
 
 /// A row whose key is in quotes.
 fn quoted_row(alloc: Global, row: &Heavy, decimals: u8) -> Result<Vec<u8>, AllocError>
-    ensures { IfOk result (λ text. text.items ≡ quoted_row_in decimals row.now) }
+    ensures { IfOk result (λ text. text.items ≡ quoted_row_by decimals row.now) }
 {
     let mut text = quoted_key(alloc, &row.key)?;
     text.push(b',')?;
@@ -88,7 +88,7 @@ fn quoted_row(alloc: Global, row: &Heavy, decimals: u8) -> Result<Vec<u8>, Alloc
 /// A row that may stand first in a text: there a reader takes off a byte order mark, unless it is
 /// in quotes.
 fn first_row(alloc: Global, row: &Heavy, decimals: u8) -> Result<Vec<u8>, AllocError>
-    ensures { IfOk result (λ text. text.items ≡ first_row_in decimals row.now) }
+    ensures { IfOk result (λ text. text.items ≡ first_row_by decimals row.now) }
 {
     if row.key.bytes().starts_with(BYTE_ORDER_MARK) {
         return quoted_row(alloc, row, decimals);
@@ -110,7 +110,7 @@ pub fn condensed_rows_text(
     rows: &[Heavy],
     decimals: u8,
 ) -> Result<Vec<u8>, AllocError>
-    ensures { IfOk result (λ text. text.items ≡ condensed_in decimals rows.now) }
+    ensures { IfOk result (λ text. text.items ≡ condensed_by decimals rows.now) }
 {
     let Some((first, rest)) = rows.split_first() else {
         return Ok(Vec::new(alloc));
