@@ -48,7 +48,7 @@ Example:
     $ printf 'host bytes\\nx 5\\ny -\\nx 1\\n' > day.log
     $ heavy report --delimiter ' ' --header --key host --weight bytes --allow-zero day.log
     x,6
-    $ printf 'a,0.5\\nb,0.125\\na,2\\n' | heavy report --decimals 3 --k 9
+    $ printf 'a,0.5\\nb,0.125\\na,2\\n' | heavy report --decimals 3
     a,2.500
     b,0.125",
 };
