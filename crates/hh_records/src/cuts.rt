@@ -128,8 +128,8 @@ fn mark_len(text: &[u8]) -> usize
     }
 }
 
-/// Whether a text with this byte between its fields ends outside quotes, so that it may be cut there
-/// before a line feed. It may not where the byte is itself a line feed.
+/// Whether a text with this byte between its fields ends outside quotes, so that it may be cut
+/// there before a line feed. It may not where the byte is itself a line feed.
 pub fn ends_outside_quotes(text: &[u8], delimiter: u8) -> bool
     ensures { result ≡ ends_outside delimiter text.now }
 {
