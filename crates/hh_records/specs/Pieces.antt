@@ -1,8 +1,9 @@
 -- Texts of records in pieces, which are cut before line feeds.
-use Rattle.std.specs.Prelude.{◌≡◌, ◌==◌, ◌&&◌, ℕ, Bool, true, false, List, [], ◌∷◌, fold, map, take, drop, not, Option, Some, None, option_map, option_and_then, Err, ⊤, if◌then◌else◌}
+use Rattle.std.specs.Prelude.{◌≡◌, ◌==◌, ◌&&◌, ◌<◌, ◌≤◌, ℕ, Bool, true, false, List, [], ◌∷◌, fold, length, map, take, drop, not, Option, Some, None, option_map, option_and_then, Err, ⊤, if◌then◌else◌}
 use Rattle.std.specs.List.{AllByRecursion, flat_map}
 use Rattle.csv.specs.Machine.{line_feed, step}
 use Rattle.csv.specs.Reading.{records, strip_bom}
+use Rattle.csv.specs.Writing.{comma}
 use Rattle.csv.specs.declared.parser.Config.{Config}
 use Rattle.csv.specs.declared.parser.State.{State}
 use Rattle.csv.specs.declared.parser.State.TheVariants as st
@@ -47,6 +48,13 @@ pub record IsCut (d : ℕ) (a b : List ℕ) : Type 0 where
 -- a text may be cut at this place
 abbrev pub IsCutAt : ℕ → List ℕ → ℕ → Type 0
 IsCutAt d bytes at = IsCut d (take at bytes) (drop at bytes)
+
+-- so many bytes of a part of a text, with commas between its fields, are whole records: the text may be
+-- cut behind them and nowhere further on, or they are none
+pub record AreWholeRecords (bytes : List ℕ) (n : ℕ) : Type 0 where
+  pub within : n ≤ length bytes
+  pub cut : 0 < n → IsCutAt comma bytes n
+  pub last : (at : ℕ) → n < at → at < length bytes → IsCutAt comma bytes at → ⊥
 
 -- a text may be cut between each of these pieces and the next
 abbrev pub AreCut : ℕ → List (List ℕ) → Type 0
