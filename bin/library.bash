@@ -83,7 +83,7 @@ prove_and_build() {
 }
 
 # The calls that the header declares.
-calls_of_library() { sed -n 's/^uint32_t \(heavy_[a-z_]*\)(.*/\1/p' "$top/include/heavy.h"; }
+calls_of_library() { sed -n -E 's/^(uint32_t|size_t) (heavy_[a-z_]*)\(.*/\2/p' "$top/include/heavy.h"; }
 
 # The static library in this folder, with the toolchain's own few functions of C.
 make_static() {

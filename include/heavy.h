@@ -156,12 +156,18 @@ uint32_t heavy_add(const uint8_t *file, size_t file_len, const uint8_t *keys, si
                    size_t *needed, struct heavy_fault *fault);
 
 /* Gives the saved summary or table of a saved file with the records of a text added, in order: that of a stream becomes
-   that of the stream followed by these records. So a long text goes through a buffer in parts of whole records. A byte
-   order mark at the front of a text is left out, so where a later part begins with its bytes, put a line feed before them.
+   that of the stream followed by these records. So a long text goes through a buffer in parts of whole records, which
+   heavy_whole_records tells. A byte order mark at the front of a text is left out; a part that is cut so begins with a
+   line feed, which is no record, and so keeps such bytes.
    The file is tested first, then the records, by whose numbers in this text they are refused, and then the items of the
    records in order, of which the first that makes the file's total too large is refused. */
 uint32_t heavy_add_text(const uint8_t *file, size_t file_len, const uint8_t *text, size_t text_len, uint8_t *out,
                         size_t out_len, size_t *needed, struct heavy_fault *fault);
+
+/* Tells how many bytes of a part of a text are whole records: those before the last line feed that is not in quotes, or 0
+   where there is none behind the first byte. The next part begins with the bytes that are left. Where it is 0, read more
+   behind the part; at the text's end take the whole part. It can't fail. */
+size_t heavy_whole_records(const uint8_t *text, size_t text_len);
 
 /* Gives the saved Count-Min table of no items, with the hash family that is drawn from the seed: width from 1 to 65536,
    depth from 1 to 16. It has HEAVY_TABLE_ROOM(width, depth) bytes. The depth is tested first, then the width. */

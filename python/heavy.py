@@ -50,6 +50,9 @@ _ROW = re.compile(rb'(?:"((?:[^"]|"")*)"|([^",\r\n]*)),([0-9]+)\n')
 _SMALL, _LARGE = 1 << 16, 1 << 20  # bytes of rooms that are tried first
 _CHUNK = 1 << 20  # bytes of a file of records that are read at a time
 _MARK = b"\xef\xbb\xbf"
+_FIELD = rb'(?:"[^"]*(?:""[^"]*)*(?:"[^,\r\n]*)?|[^",\r\n][^,\r\n]*)?'
+_CSV_RECORD = re.compile(rb"(?=[^\r\n])" + _FIELD + rb"(?:," + _FIELD + rb")*")
+_QUOTE_IN_A_FIELD = re.compile(rb'[^,\r\n"]"')
 _METHODS = {"mg": 1, "ss": 2}
 _RECORD = ["wrong number of fields", "empty key", "key too long", "bad weight", "zero weight", "total too large"]
 _FILE = [
@@ -140,6 +143,7 @@ def _library() -> ctypes.CDLL:
     }.items():
         getattr(library, name).argtypes = words
         getattr(library, name).restype = ctypes.c_uint32
+    library.heavy_whole_records.argtypes, library.heavy_whole_records.restype = [read, size], size
     return library
 
 
@@ -459,27 +463,46 @@ def _with_items(saved: bytes, columns: _Columns, weights: array.array[int] | Non
     return saved
 
 
+def _whole_records(text: bytes) -> int:
+    """How many bytes of a part of a text are whole records, behind which the text may be cut before a line feed."""
+    return int(_heavy.heavy_whole_records(*_lent(text)))
+
+
 def _parts_read(records: Records) -> Iterator[bytes]:
-    """Records in parts of whole ones: a file is read a megabyte at a time, and where a quote comes, behind which a line
-    feed may stand in a key, to its end. Each part is read as it is: a line feed keeps a mark at the front of a later one."""
+    """Records in parts of whole ones. A file is read a megabyte at a time, and more where a record is longer."""
     if isinstance(records, (str, os.PathLike)):
         with open(records, "rb") as file:
             yield from _parts_read(file)
         return
     read: Callable[[int], bytes] = getattr(records, "read", None) or io.BytesIO(_bytes_of(records)).read
-    rest, feed = b"", b""
+    rest, wanted = b"", 1
     while True:
         more = _bytes_of(read(_CHUNK))
         rest += more
-        if b'"' in rest:
-            rest += _bytes_of(read(-1))
-            more = b""
-        cut = rest.rfind(b"\n") + 1 if more else len(rest)
+        if more and len(rest) < wanted:
+            continue
+        cut = _whole_records(rest) if more else len(rest)
         if cut:
-            yield feed + rest[:cut] if rest.startswith(_MARK) else rest[:cut]
-            rest, feed = rest[cut:], b"\n"
+            yield rest[:cut]
+            rest = rest[cut:]
         if not more:
             return
+        wanted = 1 if cut else 2 * len(rest)
+
+
+def _records_of(part: bytes) -> List[bytes]:
+    """The records of a part of a text, each as its bytes."""
+    return _CSV_RECORD.findall(part[len(_MARK) :] if part.startswith(_MARK) else part)
+
+
+def _record_count(part: bytes) -> int:
+    """How many records a part of a text has. Where a quote stands only at a field's ends or twice in one, each other run
+    between quotes is outside them, and its lines are records."""
+    runs = part[len(_MARK) if part.startswith(_MARK) else 0 :].split(b'"')
+    outside = b'"'.join(runs[::2])
+    if len(runs) % 2 == 0 or _QUOTE_IN_A_FIELD.search(outside):
+        return len(_records_of(part))
+    return sum(map(bool, outside.replace(b"\r", b"\n").split(b"\n")))
 
 
 def _with_text(saved: bytes, text: bytes) -> bytes:
@@ -495,7 +518,7 @@ def _with_records(saved: bytes, records: Records) -> bytes:
             saved = _with_text(saved, part)
         except HeavyError as refused:
             raise _told_among(saved, part, before, refused) from None
-        before += sum(map(bool, part.replace(b"\r", b"\n").split(b"\n")))
+        before += _record_count(part)
     return saved
 
 
@@ -505,16 +528,15 @@ def _told_among(saved: bytes, part: bytes, before: int, refused: HeavyError) -> 
     status, kind, cause, number = refused._numbers
     if kind != 9:
         return refused
-    if b'"' not in part:
-        records = [record for record in part.replace(b"\r", b"\n").split(b"\n") if record]
-        low, number = 0, len(records)
-        while low + 1 < number:
-            middle = (low + number) // 2
-            try:
-                _with_text(saved, b"\n" + b"\n".join(records[:middle]))
-                low = middle
-            except HeavyError as sooner:
-                number, cause = middle, sooner._numbers[2]
+    records = _records_of(part)
+    low, number = 0, len(records)
+    while low + 1 < number:
+        middle = (low + number) // 2
+        try:
+            _with_text(saved, b"\n" + b"\n".join(records[:middle]))
+            low = middle
+        except HeavyError as sooner:
+            number, cause = middle, sooner._numbers[2]
     return HeavyError(status, kind, cause, before + number)
 
 
@@ -689,7 +711,7 @@ class _Growing(_Saved):
         self._total = total
 
     def update_csv(self, records: Records) -> None:
-        """Adds CSV records `key,weight`, in order. A file is read a megabyte at a time, up to the first quote. After a
+        """Adds CSV records `key,weight`, in order. A file is read a megabyte at a time. After a
         refusal, which has the record's number, none of them is added.
 
         >>> summary = Summary.of_csv(b"a,5\\n")
@@ -1035,16 +1057,10 @@ def merge(first: Grown | Iterable[Grown], *others: Grown) -> Grown:
 
 
 def _parts_of(text: bytes, count: int) -> List[bytes]:
-    """A text in at most so many parts of whole records, in order. A text with a quote is one part, for a line feed may
-    stand in a key there; and no part but the first begins with a byte order mark, which a reader would take off."""
-    if count <= 1 or b'"' in text:
-        return [text]
+    """A text in at most so many parts of whole records, in order."""
     cuts = [0]
     for i in range(1, count):
-        cut = text.find(b"\n", max(len(text) * i // count, cuts[-1])) + 1
-        while cut and text.startswith(b"\xef\xbb\xbf", cut):
-            cut = text.find(b"\n", cut) + 1
-        cuts.append(cut or len(text))
+        cuts.append(cuts[-1] + _whole_records(text[cuts[-1] : len(text) * i // count]))
     return [text[begin:end] for begin, end in zip(cuts, [*cuts[1:], len(text)]) if begin < end] or [b""]
 
 

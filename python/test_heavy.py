@@ -454,6 +454,42 @@ class Reports(unittest.TestCase):
                         self.assertEqual((grown, cells), (whole, heavy.Table.of_csv(text, 8, 2)))
         self.assertRaises(TypeError, heavy.Summary().update_csv, io.StringIO("a"))
 
+    def test_quoted_records_in_parts(self) -> None:
+        """Files with quotes, and with line feeds in them, are read in parts as the program reads the whole: whatever the
+        parts' ends, and by as many threads."""
+        draw = random.Random(36)
+        keys = [b"a", b"b,c", b"d\ne", b'f"\n"g', b"\r", b"\xef\xbb\xbfh", b'"', b"i\r\n" * 3, b"jj"]
+        ends = [b"\n", b"\n", b"\r\n", b"\r", b"\n\n"]
+        with tempfile.TemporaryDirectory() as room:
+            for size in range(1, 61):
+                path, text = Path(room, "records"), draw.choice([b"", b"", b"\xef\xbb\xbf", b"\n"])
+                for _ in range(draw.randrange(30)):
+                    key = draw.choice(keys)
+                    quoted = b'"%s"' % key.replace(b'"', b'""') if key != b"a" or draw.randrange(2) else key
+                    text += quoted + draw.choice([b"", b",%d" % draw.randrange(1, 9), b',"5"']) + draw.choice(ends)
+                path.write_bytes(text)
+                with self.subTest(text=text, size=size), mock.patch.object(heavy, "_CHUNK", size):
+                    grown = heavy.Summary(k=3)
+                    grown.update_csv(path)
+                    self.assertEqual(grown.to_bytes(), program("summarise", "--k", "3", str(path)).stdout)
+                    rows = heavy.report(path, 3, workers=draw.randrange(2, 9))
+                    self.assertEqual(rows, heavy._rows_of(program("report", "--k", "3", given=text).stdout))
+
+    def test_odd_quotes_in_parts(self) -> None:
+        """Texts of any quotes are read in parts as they are at once, or refused by the same number."""
+        draw = random.Random(37)
+        for size in range(1, 301):
+            text = bytes(draw.choice(b'aab,",""\r\n\n2') for _ in range(draw.randrange(40)))
+            with self.subTest(text=text, size=size), mock.patch.object(heavy, "_CHUNK", draw.randrange(1, 9)):
+                grown = heavy.Summary(k=3)
+                try:
+                    whole = heavy.Summary.of_csv(text, 3)
+                except heavy.HeavyError as refused:
+                    self.assertRaisesRegex(heavy.HeavyError, f"^{refused}$", grown.update_csv, io.BytesIO(text))
+                    continue
+                grown.update_csv(io.BytesIO(text))
+                self.assertEqual(grown, whole)
+
     def test_lists_are_entries_and_answers(self) -> None:
         """The list of a summary, its entries and what it answers of each key say the same."""
         draw = random.Random(7)

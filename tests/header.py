@@ -107,17 +107,16 @@ def calls() -> dict[str, str]:
     """The declaration of each call, by name."""
     made = {}
     source = (FFI / "src" / "lib.rt").read_text()
-    for name, words in re.findall(r'^pub extern "C" fn (\w+)\(([^)]*)\) -> u32$', source, re.M):
+    for name, words, answer in re.findall(r'^pub extern "C" fn (\w+)\(([^)]*)\) -> (\w+)$', source, re.M):
         words = [it for it in re.findall(r"(\w+): ([^,]+)", words) if it[1] != "Global"]
-        made[name] = f"uint32_t {name}({', '.join(parameter(*it) for it in words) or 'void'});"
+        made[name] = f"{TYPES[answer]} {name}({', '.join(parameter(*it) for it in words) or 'void'});"
     return made
 
 
 def declarations(header: str) -> dict[str, str]:
     """The declaration of each call in a header, by name, on one line."""
-    found = re.findall(r"^uint32_t (\w+)\([^;]*;", header, re.M)
-    texts = re.findall(r"^uint32_t \w+\([^;]*;", header, re.M)
-    return {name: re.sub(r"\s+", " ", text) for name, text in zip(found, texts)}
+    found = re.findall(r"^((?:uint32_t|size_t) (\w+)\([^;]*;)", header, re.M)
+    return {name: re.sub(r"\s+", " ", text) for text, name in found}
 
 
 def asserts() -> str:

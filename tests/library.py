@@ -43,6 +43,7 @@ DRIFTS = [
     ("uint64_t p,\n                             uint64_t q", "uint64_t q,\n                             uint64_t p"),
     ("const uint64_t *ends,", "const size_t *ends,"),
     ("const uint8_t *key, size_t key_len, uint64_t *low", "const uint8_t *key, size_t key_len, uint64_t *least"),
+    ("size_t heavy_whole_records(", "uint32_t heavy_whole_records("),
 ]
 
 

@@ -543,6 +543,27 @@ static struct answer add_text(const void *file, size_t size, const char *text, s
     return a;
 }
 
+static size_t whole(const char *text) {
+    uint8_t *lent = block(text, strlen(text));
+    size_t bytes = heavy_whole_records(lent, strlen(text));
+    free(lent);
+    return bytes;
+}
+
+static void try_whole_records(void) {
+    check("the whole records of a part", whole("a,5\nb,3\nc") == 7);
+    check("a part that ends behind a record", whole("a,5\nb,3\n") == 7);
+    check("a line feed in quotes", whole("a,5\n\"b\nc") == 3);
+    check("a record of two lines", whole("\"a\nb\",2\nc") == 7);
+    check("a doubled quote", whole("\"a\"\"\nb\"\nc") == 7);
+    check("a quote in a field", whole("a\"\n\"b\n") == 2);
+    check("a quote behind a mark", whole("\xef\xbb\xbf\"a\nb\"\nc") == 8);
+    check("carriage returns alone", whole("a\rb\r") == 0);
+    check("no record behind the first line feed", whole("\na,5") == 0);
+    check("a part in quotes", whole("\"a\nb\n") == 0);
+    check("an empty part", whole("") == 0);
+}
+
 static void try_added_texts(void) {
     /* b 3 and then a 2 are added to a 3 alone */
     struct answer part = summarise("a,3\n", 2, 1, 64), a = add_text(part.room, part.needed, "b,3\na,2\n", sizeof ONE - 1);
@@ -768,6 +789,7 @@ int main(void) {
     try_lists();
     try_thresholds();
     try_items();
+    try_whole_records();
     try_added_texts();
     try_table_items();
     try_long_items();

@@ -16,6 +16,7 @@ ghost use Rattle.hh_stream.specs.Weights.{max_key_len};
 ghost use Rattle.hh_counters.specs.Counters.{SummaryView, sketch_of};
 ghost use Rattle.hh_countmin.specs.Family.{drawn_family};
 ghost use Rattle.hh_countmin.specs.Table.{TableView, table_of};
+ghost use Rattle.hh_records.specs.Pieces.{AreWholeRecords};
 ghost use Rattle.hh_records.specs.Streams.{text_known};
 ghost use Rattle.hh_saved.specs.Sizes.{most_summary_bytes, table_bytes};
 ghost use Rattle.hh_saved.specs.declared.saved.Saved.TheVariants.{Cells, Counters};
@@ -48,6 +49,7 @@ use heavy::{
 };
 use hh_counters::laws::summaries_follow_items;
 use hh_countmin::laws::drawn_families_are_families;
+use hh_records::whole_records;
 use hh_saved::laws::sizes_are_bounded;
 use hh_saved::{SavedFault, read};
 use items::{items_of, shape_fault};
@@ -652,6 +654,19 @@ pub extern "C" fn heavy_describe(
 {
     let bytes = describe_file(alloc, file);
     answer(bytes, out, needed, fault)
+}
+
+/// Tells how many bytes of a part of a text are whole records: those before the last line feed that
+/// is not in quotes, or 0 where there is none behind the first byte. The part begins as the text
+/// does, or where an earlier part was cut so.
+#[unsafe(no_mangle)]
+pub extern "C" fn heavy_whole_records(text: &[u8]) -> usize
+    ensures { AreWholeRecords text.now result }
+{
+    match whole_records(text, b',') {
+        Some(whole) => whole,
+        None => 0,
+    }
 }
 
 /// The number of this interface, which a header or a binding has to have been written for.

@@ -1,7 +1,13 @@
 pub mod ByteFacts
+pub mod CutFacts
+pub mod CutTextFacts
+pub mod KeptFacts
 pub mod LayoutFacts
 pub mod PartFacts
 pub mod OpenFacts
+pub mod PieceFacts
+pub mod PlaceFacts
+pub mod QuoteFacts
 pub mod ReadFacts
 pub mod RowFacts
 pub mod ShareFacts

@@ -13,14 +13,14 @@ use Rattle.hh_records.specs.declared.texts.TextError.{TextError}
 use Rattle.hh_records.specs.declared.texts.TextError.TheVariants as text
 use Rattle.hh_records.specs.Laws.{PlainLayoutsReadStreams}
 use Rattle.hh_records.specs.Layouts.{AllOpen, IsPlain, OpenRefused, Opens, OpensAs, RowsRefused, TextsRefused, adding_next, adds, all_left, every, gathered, items_after, joined, names_columns, parts_left, records_known, stream_with, text_fault, text_parts, texts_parts}
-use Rattle.hh_records.specs.Streams.{Known, Parts, Reading, stream_of, text_known}
+use Rattle.hh_records.specs.Streams.{Parts, Reading, stream_of, text_known}
 use Rattle.hh_records.proofs.ReadFacts.{items-more, joined-none, joined-twice}
 
 option-or : {A : Type 0} → A → Option A → A
 option-or d None = d
 option-or d (Some x) = x
 
-some-is : {A : Type 0} {x y : A} → ◌≡◌ {A = Option A} (Some x) (Some y) → x ≡ y
+pub some-is : {A : Type 0} {x y : A} → ◌≡◌ {A = Option A} (Some x) (Some y) → x ≡ y
 unfolding option-or
 some-is {x = x} e = ap (option-or x) e
 
@@ -28,11 +28,11 @@ pub nothing-left : {A : Type 0} (xs : List A) → 0 ≡ length xs → [] ≡ xs
 nothing-left [] e = refl
 nothing-left (x ∷ xs) e = absurd (omega (arith, e))
 
-map-nothing : {A : Type 0} (o : Option (List A)) → option_map (λ (qs : List A). [] ++ qs) o ≡ o
+pub map-nothing : {A : Type 0} (o : Option (List A)) → option_map (λ (qs : List A). [] ++ qs) o ≡ o
 map-nothing None = refl
 map-nothing (Some qs) = refl
 
-map-twice : {A : Type 0} (ps qs : List A) (o : Option (List A))
+pub map-twice : {A : Type 0} (ps qs : List A) (o : Option (List A))
     → option_map (λ (rs : List A). ps ++ rs) (option_map (λ (rs : List A). qs ++ rs) o)
     ≡ option_map (λ (rs : List A). (ps ++ qs) ++ rs) o
 map-twice ps qs None = refl
@@ -71,7 +71,7 @@ module _ {A B : Type 0} (f : A → Option (List B)) where
       by (Some z) None h q e = cc e
       by (Some z) (Some zs) h q e = (z, zs, h, q, sym (some-is e))
 
-every-first : {A B : Type 0} (f : A → Option B) (x : A) (xs : List A) (ys : List B) → every f (x ∷ xs) ≡ Some ys
+pub every-first : {A B : Type 0} (f : A → Option B) (x : A) (xs : List A) (ys : List B) → every f (x ∷ xs) ≡ Some ys
     → (z : B) × (zs : List B) × (f x ≡ Some z) × (every f xs ≡ Some zs) × (ys ≡ z ∷ zs)
 unfolding every
 every-first {A} {B} f x xs ys e = by (f x) (every f xs) refl refl e

@@ -19,8 +19,6 @@ use Rattle.csv.proofs.ReadFacts.{rows-end, rows-more}
 use Rattle.hh_stream.specs.Weights.{Entry, total_of}
 use Rattle.hh_records.specs.declared.records.BadRecordCause.{BadRecordCause}
 use Rattle.hh_records.specs.declared.records.BadRecordCause.TheVariants as cause
-use Rattle.hh_records.specs.declared.records.ReadError.{ReadError}
-use Rattle.hh_records.specs.declared.records.ReadError.TheVariants as read
 use Rattle.hh_records.specs.declared.records.RecordFault.{RecordFault}
 use Rattle.hh_records.specs.declared.records.RecordFault.TheVariants as fault
 use Rattle.hh_records.specs.Layouts.{ChoiceRefused, IsStart, OpenRefused, Opens, PartsRefused, RowsRefused, added, adding_next, adds, between, choice_fault, chosen_places, delimited, gathered, headed_parts, items_after, joined, names_columns, parts_at, places_in, weight_read}
@@ -177,7 +175,7 @@ reading-or : List Entry → Reading → List Entry
 reading-or d (Ok z) = z
 reading-or d (Err e) = d
 
-ok-eq : (x y : List Entry) → ◌≡◌ {A = Reading} (Ok x) (Ok y) → x ≡ y
+pub ok-eq : (x y : List Entry) → ◌≡◌ {A = Reading} (Ok x) (Ok y) → x ≡ y
 unfolding reading-or
 ok-eq x y e = ap (reading-or x) e
 

@@ -1,11 +1,13 @@
 -- What holds of texts that are joined.
-use Rattle.std.specs.Prelude.{◌≡◌, ◌+◌, ◌*◌, ◌<◌, ◌≤◌, ℕ, List, [], ◌∷◌, length, EachIndex, Ok, Some, slice_index}
+use Rattle.std.specs.Prelude.{◌≡◌, ◌+◌, ◌*◌, ◌<◌, ◌≤◌, ℕ, List, [], ◌∷◌, length, map, true, EachIndex, Ok, Some, slice_index}
 use Rattle.std.specs.List.{AllByRecursion, flat_map}
+use Rattle.csv.specs.Reading.{records, strip_bom}
 use Rattle.hh_stream.specs.Weights.{AreItems, Entry, max_total, total_of}
 use Rattle.hh_stream.specs.Cuttings.{whole_of}
 use Rattle.hh_counters.specs.Counters.{SummaryView, max_k}
 use Rattle.hh_counters.specs.Condensed.{condensed}
-use Rattle.hh_records.specs.Layouts.{IsPlain, stream_with}
+use Rattle.hh_records.specs.Layouts.{IsPlain, delimited, stream_with}
+use Rattle.hh_records.specs.Pieces.{AreCut, InPieces, IsInPieces, LaterBeginWithFeed, all_pieces, ends_outside, piece_reading, text_of}
 use Rattle.hh_records.specs.Printed.{millionths, plain_rows, printed_rows}
 use Rattle.hh_records.specs.Rows.{condensed_text, rows_of}
 use Rattle.hh_records.specs.Streams.{stream_of}
@@ -40,3 +42,28 @@ SharesAreRoundedDown =
     (total weight : ℕ) → 0 < total
     → (millionths total weight * total ≤ weight * 1000000)
     × (weight * 1000000 < (millionths total weight + 1) * total)
+
+-- the records of pieces, one after the other, are those of the first piece, then those of the second,
+-- and so on, where a text may be cut between them
+abbrev pub PiecesHaveTheRecords : Type 0
+PiecesHaveTheRecords =
+    (d : ℕ) (pieces : List (List ℕ)) → AreCut d pieces
+    → records (delimited d) (strip_bom (whole_of pieces))
+    ≡ flat_map (λ piece. records (delimited d) (strip_bom piece)) pieces
+
+-- a text may be cut between pieces that begin with line feeds, all but the first, and that end outside
+-- quotes
+abbrev pub FeedsOutsideQuotesAreCuts : Type 0
+FeedsOutsideQuotesAreCuts =
+    (d : ℕ) (pieces : List (List ℕ)) → LaterBeginWithFeed pieces
+    → AllByRecursion (λ piece. ends_outside d piece ≡ true) pieces → AreCut d pieces
+
+-- texts in pieces, each of which by itself reads as some items, read as these items, one piece after
+-- the other, where their total fits
+abbrev pub PiecesAreRead : Type 0
+PiecesAreRead =
+    (layout : Layout) (texts : List InPieces) (parts : List (List Entry))
+    → AllByRecursion (IsInPieces layout) texts
+    → map (λ piece. piece_reading layout piece.0 piece.1) (all_pieces texts) ≡ map (λ part. Some (Ok part)) parts
+    → total_of (whole_of parts) ≤ max_total
+    → stream_with layout (map text_of texts) ≡ Some (Ok (whole_of parts))

@@ -1,6 +1,10 @@
+pub mod CutTexts
+pub mod Kept
 pub mod Laws
 pub mod Layouts
+pub mod Pieces
 pub mod Printed
+pub mod Quotes
 pub mod Rows
 pub mod Sinks
 pub mod Streams

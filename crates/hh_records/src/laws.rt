@@ -2,6 +2,7 @@
 
 ghost use Rattle.hh_records.specs.Laws.{CondensedFilesAreRead, PlainLayoutsReadStreams, TextsAreItems};
 ghost use Rattle.hh_records.specs.Laws.{PlainRowsAreRows, SharesAreRoundedDown};
+ghost use Rattle.hh_records.specs.Laws.{FeedsOutsideQuotesAreCuts, PiecesAreRead, PiecesHaveTheRecords};
 
 use hh_counters::laws::condensed_keeps_weights;
 
@@ -32,4 +33,20 @@ pub fn plain_rows_are_rows()
 /// A share is rounded down.
 pub fn shares_are_rounded_down()
     ensures { SharesAreRoundedDown }
+{}
+
+/// The records of a text that is cut before line feeds outside quotes are those of its pieces.
+pub fn pieces_have_the_records()
+    ensures { PiecesHaveTheRecords }
+{}
+
+/// Pieces that end outside quotes, each but the first beginning with a line feed, are cut lawfully.
+pub fn feeds_outside_quotes_are_cuts()
+    ensures { FeedsOutsideQuotesAreCuts }
+{}
+
+/// Texts whose pieces are each read by themselves, where the totals fit, read as the items of the
+/// pieces, one after the other.
+pub fn pieces_are_read()
+    ensures { PiecesAreRead }
 {}

@@ -4,8 +4,12 @@
 //! `hh_` is heavy hitters, the frequent keys.
 #![tactic(auto)]
 
+mod cut_texts;
+mod cuts;
+mod kept;
 pub mod laws;
 mod layout;
+mod pieces;
 mod printed;
 mod records;
 mod retrying;
@@ -14,9 +18,13 @@ mod sink;
 mod texts;
 mod threshold;
 
+pub use cut_texts::{CutTexts, PieceFault};
+pub use cuts::{cut_text, ends_outside_quotes, whole_records};
 pub use hh_counters::Counts;
 pub use hh_stream::TakeItems;
+pub use kept::{KeptReader, KeptText, Rest, keep_records, read_again, whole_texts};
 pub use layout::{Column, Layout, column_of, delimiter_of};
+pub use pieces::{Columns, read_piece};
 pub use printed::{RowOptions, printed_text, write_printed};
 pub use records::{BadRecordCause, ReadError, read_items, read_stream};
 pub use rows::{ReportFault, condensed_text, report_text, write_report};

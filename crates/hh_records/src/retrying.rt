@@ -36,7 +36,7 @@ impl<R: Read> Read for Retrying<R> {
 }
 
 /// One read.
-fn read<R: Read>(reader: &mut R, buf: &mut [u8]) -> io::Result<usize>
+pub(crate) fn read<R: Read>(reader: &mut R, buf: &mut [u8]) -> io::Result<usize>
     ensures bound { ReadsAtMost result buf.new }
     ensures bytes { ReadConsumes (R.remaining reader.old) (R.remaining reader.new) result buf.new }
     ensures retried { IfErr result (λ error. error_kind error ≢ ErrorKind.Interrupted) }

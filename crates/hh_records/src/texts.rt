@@ -1,13 +1,14 @@
 //! Texts of records in columns of one's own.
 
-ghost use Rattle.std.specs.Prelude.{◌≡◌, ◌≤◌, ◌∷◌, Ok, All, IfOk, IfErr, IfSome, OnOk, option_map};
+ghost use Rattle.std.specs.Prelude.{◌≡◌, ◌≤◌, ◌∷◌, true, Ok, All, IfOk, IfErr, IfSome, OnOk, option_map};
 ghost use Rattle.csv.specs.Reading.{records};
 ghost use Rattle.hh_stream.specs.Weights.{max_total};
 ghost use Rattle.hh_records.specs.Layouts.{AllOpen, IsStart, IsText, OpenRefused, Opens, OpensAs};
 ghost use Rattle.hh_records.specs.Layouts.{RowsRefused, TakesAdded, TextsRefused, all_left};
-ghost use Rattle.hh_records.specs.Layouts.{choice_fault, delimited, every, headed_parts, items_after};
+ghost use Rattle.hh_records.specs.Layouts.{choice_fault, chosen_places, delimited, every, headed_parts, items_after};
 ghost use Rattle.hh_records.specs.Layouts.{names_columns, records_known, text_fault};
 ghost use Rattle.hh_records.specs.Layouts.{text_parts, texts_parts, unread};
+ghost use Rattle.hh_records.specs.Pieces.{FindsColumns, rows_in};
 ghost use Rattle.hh_records.specs.Streams.{text_known};
 ghost use Rattle.hh_records.specs.Taking.{TakesItems};
 
@@ -76,10 +77,14 @@ fn behind_header<R: Read + Drop>(
     layout: &Layout,
 ) -> Result<Option<Text<R>>, TextError>
     requires start { IsStart layout.now rows }
+    requires headed { layout.now.has_header ≡ true }
     ensures text { IfOk result (λ text. IfSome text IsText) }
     ensures opened { IfOk result (λ text. Opens R.remaining
         (option_map (λ bytes. headed_parts layout.now (records (delimited layout.now.delimiter) bytes))
         (unread R.remaining rows)) text) }
+    ensures columns { IfOk result (λ text. IfSome (unread R.remaining rows) (λ bytes.
+        FindsColumns layout.now (records (delimited layout.now.delimiter) bytes)
+        (option_map (λ t. chosen_places t.chosen) text))) }
     ensures refused { IfErr result (λ error. OpenRefused (names_columns layout.now)
         (option_map (λ bytes. headed_parts layout.now (records (delimited layout.now.delimiter) bytes))
         (unread R.remaining rows)) error) }
@@ -97,7 +102,7 @@ fn behind_header<R: Read + Drop>(
 }
 
 /// A text whose records are to be read by a layout, behind its header where it is to have one.
-fn open<R: Read + Drop>(
+pub(crate) fn open<R: Read + Drop>(
     alloc: Global,
     reader: R,
     layout: &Layout,
@@ -105,6 +110,9 @@ fn open<R: Read + Drop>(
     ensures text { IfOk result (λ text. IfSome text IsText) }
     ensures opened { IfOk result (λ text. Opens R.remaining
         (option_map (text_parts layout.now) (R.remaining reader)) text) }
+    ensures columns { IfOk result (λ text. IfSome (R.remaining reader) (λ bytes.
+        FindsColumns layout.now (rows_in layout.now bytes)
+        (option_map (λ t. chosen_places t.chosen) text))) }
     ensures refused { IfErr result (λ error. OpenRefused (names_columns layout.now)
         (option_map (text_parts layout.now) (R.remaining reader)) error) }
 {

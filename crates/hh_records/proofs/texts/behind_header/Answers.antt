@@ -1,4 +1,6 @@
 use Rattle.std.proofs.Common.{◌∙◌, inl, refl}
+use Rattle.hh_records.specs.Layouts.{chosen_places}
+use Rattle.hh_records.proofs.PieceFacts.{columns-none, columns-some}
 use Rattle.hh_records.proofs.ReadFacts.{opened-none, opened-some, opened-refused}
 use Rattle.hh_records.proofs.texts.behind_header.Goals as goal
 
@@ -32,3 +34,16 @@ returns-in-Err-choose-clause-refused g c =
     (opened-refused g.R.Read.remaining c.args.layout.now c.args.rows c.read_byte_record.new.self _ start c.in-Err-choose.fault
     _ refl (rw c.in-Ok-true.field-0-test at (c.in-Ok-true.ensures.reads start.untrimmed start.ready))
     c.in-Err-choose.ensures.refused)
+
+pub returns-in-Ok-false-clause-columns : goal.returns-in-Ok-false-clause-columns
+returns-in-Ok-false-clause-columns g c =
+    let start = c.requires.start in
+    columns-none g.R.Read.remaining c.args.layout.now c.requires.headed c.args.rows c.read_byte_record.new.self _ start _ refl
+    (rw c.in-Ok-false.field-0-test at (c.in-Ok-false.ensures.reads start.untrimmed start.ready))
+
+pub returns-in-Ok-clause-columns : goal.returns-in-Ok-clause-columns
+returns-in-Ok-clause-columns g c =
+    let start = c.requires.start in
+    columns-some g.R.Read.remaining c.args.layout.now c.requires.headed c.args.rows c.read_byte_record.new.self _ start
+    (chosen_places c.in-Ok.chosen) _ refl
+    (rw c.in-Ok-true.field-0-test at (c.in-Ok-true.ensures.reads start.untrimmed start.ready)) c.in-Ok.ensures.chosen

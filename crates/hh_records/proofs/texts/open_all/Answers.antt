@@ -1,5 +1,4 @@
-use Rattle.std.proofs.Common.{◌≡◌, ◌∷◌, ◌∙◌, [], length, refl, sym, ap, arith}
-use Rattle.std.specs.Vec.Iter.{into_iter_items, into_iter_len}
+use Rattle.std.proofs.Common.{◌∷◌, ◌∙◌, [], length, sym, ap, arith}
 use Rattle.hh_records.proofs.OpenFacts.{nothing-left, open-start, open-more, open-refused, open-end}
 use Rattle.hh_records.proofs.texts.open_all.Goals as goal
 

@@ -1,8 +1,7 @@
 use Rattle.std.proofs.Common.{[], ◌∷◌}
 use Rattle.std.proofs.lemmas.List.Elements.{All-append, All-from_recursion}
-use Rattle.hh_records.specs.Layouts.{IsText, text_parts}
-use Rattle.std.specs.Prelude.{option_map}
-use Rattle.hh_records.proofs.OpenFacts.{none-opened, one-opened}
+use Rattle.hh_records.specs.Layouts.{IsText}
+use Rattle.hh_records.proofs.OpenFacts.{one-opened}
 use Rattle.hh_records.proofs.texts.open_next.Goals as goal
 
 pub returns-clause-texts : goal.returns-clause-texts

@@ -1,5 +1,5 @@
 use Rattle.std.proofs.Common.{◌∷◌}
-use Rattle.hh_records.proofs.OpenFacts.{records-read, records-refused, not-opened}
+use Rattle.hh_records.proofs.OpenFacts.{records-read}
 use Rattle.hh_records.proofs.texts.read_records.Goals as goal
 
 pub returns-in-Ok-clause-items : goal.returns-in-Ok-clause-items

@@ -1,0 +1,151 @@
+//! Pieces of a text of records, each of which is read by itself.
+
+ghost use Rattle.std.specs.Prelude.{◌≡◌, ◌≤◌, Ok, Some, IfOk, IfErr, IfSome, OnOk, option_map};
+ghost use Rattle.hh_stream.specs.Weights.{max_total};
+ghost use Rattle.hh_records.specs.Layouts.{IsText, OpenRefused, Opens, Places, TakesAdded, chosen_places};
+ghost use Rattle.hh_records.specs.Layouts.{names_columns, parts_left, text_parts};
+ghost use Rattle.hh_records.specs.Pieces.{FindsColumns, PieceRefused, piece_parts, piece_reading, rows_in};
+
+use crate::layout::{Chosen, Layout};
+use crate::records::read_rows;
+use crate::retrying::Retrying;
+use crate::texts::{Text, TextError, open};
+use csv::ReaderBuilder;
+use hh_stream::TakeItems;
+use std::alloc::{AllocError, Global};
+use std::marker::Model;
+
+/// The columns that a layout chooses in a text, by its header where it has one.
+#[derive(Drop)]
+pub struct Columns {
+    chosen: Option<Chosen>,
+}
+
+impl Model for Columns {
+    ghost use Rattle.hh_records.specs.Layouts.{Places, chosen_places};
+
+    ghost Value = { Places };
+
+    ghost view = { λ columns. chosen_places columns.chosen };
+}
+
+impl Columns {
+    // The same columns.
+    pub(crate) fn copy(&self, alloc: Global) -> Result<Columns, AllocError>
+        ensures { IfOk result (λ copy. copy ≡ self.now) }
+    {
+        let chosen = copy_of(alloc, &self.chosen)?;
+        Ok(Columns { chosen })
+    }
+
+    /// The columns of a text that begins with this piece. There are none where the layout has a
+    /// header and the piece has no record for it.
+    pub fn of_text(
+        alloc: Global,
+        layout: &Layout,
+        first: &[u8],
+    ) -> Result<Option<Columns>, TextError>
+        ensures columns { IfOk result (λ columns.
+            FindsColumns layout.now (rows_in layout.now first.now) columns) }
+        ensures refused { IfErr result (λ error.
+            OpenRefused (names_columns layout.now)
+            (Some (text_parts layout.now first.now)) error) }
+    {
+        match open(alloc, first, layout)? {
+            None => Ok(None),
+            Some(text) => {
+                let Text { rows: _, chosen } = text;
+                Ok(Some(Columns { chosen }))
+            }
+        }
+    }
+}
+
+/// The columns once more.
+fn copy_of(alloc: Global, chosen: &Option<Chosen>) -> Result<Option<Chosen>, AllocError>
+    ensures { IfOk result (λ copy. chosen_places copy ≡ chosen_places chosen.now) }
+{
+    match chosen {
+        None => Ok(None),
+        Some(chosen) => Ok(Some(Chosen {
+            key: Vec::from_slice(alloc, chosen.key.as_slice())?,
+            weight: chosen.weight,
+        })),
+    }
+}
+
+/// A later piece of a text, whose records are to be read by the columns of the text.
+fn open_later<'t>(
+    alloc: Global,
+    layout: &Layout,
+    columns: &Columns,
+    piece: &'t [u8],
+) -> Result<Text<&'t [u8]>, AllocError>
+    ensures text { IfOk result IsText }
+    ensures opened { IfOk result (λ text. parts_left (λ r. Some r.now) text
+        ≡ piece_parts layout.now (Some columns.now) piece.now) }
+{
+    let chosen = copy_of(alloc, &columns.chosen)?;
+    let rows = ReaderBuilder::new()
+        .delimiter(layout.delimiter)
+        .has_headers(false)
+        .flexible(true)
+        .from_reader(alloc, Retrying::new(piece));
+    Ok(Text { rows, chosen })
+}
+
+/// A piece of a text whose records are to be read: the first one, with no columns, as a text.
+fn open_piece<'t>(
+    alloc: Global,
+    layout: &Layout,
+    columns: Option<&Columns>,
+    piece: &'t [u8],
+) -> Result<Option<Text<&'t [u8]>>, TextError>
+    ensures text { IfOk result (λ text. IfSome text IsText) }
+    ensures opened { IfOk result (Opens (λ r. Some r.now)
+        (Some (piece_parts layout.now (option_map (λ c. c.now) columns.entry) piece.now))) }
+    ensures refused { IfErr result (λ error. OpenRefused (names_columns layout.now)
+        (Some (piece_parts layout.now (option_map (λ c. c.now) columns.entry) piece.now))
+        error) }
+{
+    let Some(columns) = columns else {
+        return open(alloc, piece, layout);
+    };
+    match open_later(alloc, layout, columns, piece) {
+        Ok(text) => Ok(Some(text)),
+        Err(AllocError) => Err(TextError::Memory),
+    }
+}
+
+/// Hands on what the records of one piece of a text add. The first piece of a text is read with no
+/// columns: its header, where the layout has one, chooses them. Each later piece is read by the
+/// columns that the first one chose ([`Columns::of_text`]), and has no header.
+///
+/// Records are those of [`read_records`](crate::read_records), and they are numbered from 1 in each
+/// piece. The first that fails a test, or that the taker has no memory for, ends the reading.
+pub fn read_piece<T: TakeItems>(
+    alloc: Global,
+    layout: &Layout,
+    columns: Option<&Columns>,
+    piece: &[u8],
+    taker: &mut T,
+) -> Result<(), TextError>
+    ensures items { OnOk result
+        (TakesAdded T.with_item T.weight_taken taker.old taker.new (λ xs.
+        piece_reading layout.now (option_map (λ c. c.now) columns.entry) piece.now
+        ≡ Some (Ok xs))) }
+    ensures bounded { OnOk result (T.weight_taken taker.new ≤ max_total) }
+    ensures refused { IfErr result (λ error.
+        PieceRefused layout.now (option_map (λ c. c.now) columns.entry) piece.now
+        (T.weight_taken taker.old) error) }
+{
+    // What was taken before is in range, as this call's clause says.
+    let _ = taker.total();
+    let Some(text) = open_piece(alloc, layout, columns, piece)? else {
+        return Ok(());
+    };
+    match read_rows(alloc, text, 0, taker, layout.allow_zero) {
+        Ok(_) => Ok(()),
+        Err(error) => Err(TextError::from(error)),
+    }
+}
