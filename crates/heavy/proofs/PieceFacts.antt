@@ -1,5 +1,5 @@
 -- Pieces of texts, each of which has items.
-use Rattle.std.proofs.Common.{◌≡◌, ◌<◌, ◌∷◌, ℕ, zero, suc, List, [], length, map, get_or, Option, Some, None, refl, ap, arith}
+use Rattle.std.proofs.Common.{◌≡◌, ◌<◌, ◌∷◌, ℕ, zero, suc, List, [], length, map, get_or, Option, Some, None, refl, arith}
 use Rattle.hh_stream.specs.Weights.{Entry}
 use Rattle.heavy.specs.Report.{items_or_none}
 

@@ -8,7 +8,7 @@ returns-in-Ok g c =
     let all = c.in-Ok.ensures in (
       map items_or_none c.args.texts,
       all-have-items c.args.texts all.read,
-      all.fits,
+      all.total,
       c.total.ensures.total ∙ all.summary.total,
       all.heavy,
     )
