@@ -23,6 +23,21 @@ pub fn each_record(mut take: impl FnMut(&[u8], u64)) {
     }
 }
 
+/// Hands the two fields of each record to the function that stand in these columns, from 1 on.
+#[cfg(feature = "csv")]
+pub fn each_in_columns(key: usize, weight: usize, mut take: impl FnMut(&[u8], u64)) {
+    let mut reader = csv::ReaderBuilder::new().has_headers(false).flexible(true).from_reader(io::stdin().lock());
+    let mut record = csv::ByteRecord::new();
+    while reader.read_byte_record(&mut record).expect("input") {
+        take(&record[key - 1], number(&record[weight - 1]));
+    }
+}
+
+#[cfg(not(feature = "csv"))]
+pub fn each_in_columns(_: usize, _: usize, _: impl FnMut(&[u8], u64)) {
+    panic!("columns are read by the crate csv");
+}
+
 /// Hands each record to the function. A field may be quoted, a quote in it doubled, a line end CR, LF or both, and empty
 /// lines are skipped.
 #[cfg(not(feature = "csv"))]

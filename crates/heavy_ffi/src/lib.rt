@@ -401,7 +401,7 @@ pub extern "C" fn heavy_condense(
     fault: &mut Fault,
 ) -> u32
     ensures outcome { IsOutcome
-        (CondensesRows file.now (text_known (Some text.now)))
+        (CondensesRows 0 file.now (text_known (Some text.now)))
         (CondenseRefused file.now (text_known (Some text.now)))
         result out.old out.new needed.new fault.new }
     ensures early { TellsHead file.now result fault.new }

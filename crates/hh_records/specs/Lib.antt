@@ -1,4 +1,5 @@
 pub mod CutTexts
+pub mod Decimals
 pub mod Kept
 pub mod Laws
 pub mod Layouts

@@ -32,6 +32,9 @@ pub struct Layout {
     pub weight: Option<Column>,
     /// A record of weight 0 adds nothing and is no fault, and `-` is such a weight.
     pub allow_zero: bool,
+    /// A weight may have a point and up to so many digits behind it. It counts in units of the last
+    /// of them: with 3 the weight `0.125` is 125, and 1 is 1,000.
+    pub decimals: u8,
 }
 
 impl Layout {
@@ -45,6 +48,7 @@ impl Layout {
             key: Vec::new(alloc),
             weight: None,
             allow_zero: false,
+            decimals: 0,
         }
     }
 }

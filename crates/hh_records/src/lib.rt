@@ -6,6 +6,7 @@
 
 mod cut_texts;
 mod cuts;
+mod decimals;
 mod kept;
 pub mod laws;
 mod layout;
@@ -20,6 +21,7 @@ mod threshold;
 
 pub use cut_texts::{CutTexts, PieceFault};
 pub use cuts::{cut_text, ends_outside_quotes, whole_records};
+pub use decimals::pointed;
 pub use hh_counters::Counts;
 pub use hh_stream::TakeItems;
 pub use kept::{KeptReader, KeptText, Rest, keep_records, read_again, whole_texts};
@@ -27,7 +29,7 @@ pub use layout::{Column, Layout, column_of, delimiter_of};
 pub use pieces::{Columns, read_piece};
 pub use printed::{RowOptions, printed_text, write_printed};
 pub use records::{BadRecordCause, ReadError, read_items, read_stream};
-pub use rows::{ReportFault, condensed_text, report_text, write_report};
+pub use rows::{ReportFault, condensed_rows_text, condensed_text, report_text, write_report};
 pub use sink::{Out, Sink, SinkFault, WriteFault, put};
 pub use texts::{Records, TextError, read_records};
 pub use threshold::{Share, threshold_of};

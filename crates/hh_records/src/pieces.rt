@@ -144,7 +144,7 @@ pub fn read_piece<T: TakeItems>(
     let Some(text) = open_piece(alloc, layout, columns, piece)? else {
         return Ok(());
     };
-    match read_rows(alloc, text, 0, taker, layout.allow_zero) {
+    match read_rows(alloc, text, 0, taker, layout) {
         Ok(_) => Ok(()),
         Err(error) => Err(TextError::from(error)),
     }
