@@ -125,4 +125,5 @@ def main() -> None:
         measured.write("passes", ratios)
 
 
-main()
+if __name__ == "__main__":
+    main()

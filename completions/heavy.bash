@@ -10,15 +10,16 @@ _heavy() {
   case $prev in
     --method) mapfile -t COMPREPLY < <(compgen -W 'mg ss' -- "$cur"); return ;;
     --tree) mapfile -t COMPREPLY < <(compgen -W 'balanced chain' -- "$cur"); return ;;
-    --k | --threshold | --top | --delimiter | --key | --weight | --workers | --pieces | --width | --depth | --seed) return ;;
+    --k | --threshold | --top | --delimiter | --key | --weight | --decimals | --workers | --pieces | --width | --depth | --seed) return ;;
   esac
   case ${COMP_WORDS[1]} in
-    report) options='--k --threshold --top --share --delimiter --header --key --weight --allow-zero --workers --pieces --tree --width --depth --seed --progress --explain' ;;
-    summarise) options='--k --method --delimiter --header --key --weight --allow-zero --progress --explain' ;;
-    table) options='--width --depth --seed --delimiter --header --key --weight --allow-zero --progress --explain' ;;
-    merge | ask | list | describe) options='--explain' ;;
-    condense) options='--delimiter --header --key --weight --allow-zero --progress --explain' ;;
-    confirm) options='--threshold --top --share --delimiter --header --key --weight --allow-zero --progress --explain' ;;
+    report) options='--k --threshold --top --share --delimiter --header --key --weight --allow-zero --decimals --workers --pieces --tree --width --depth --seed --progress --explain' ;;
+    summarise) options='--k --method --delimiter --header --key --weight --allow-zero --decimals --progress --explain' ;;
+    table) options='--width --depth --seed --delimiter --header --key --weight --allow-zero --decimals --progress --explain' ;;
+    merge | describe) options='--explain' ;;
+    ask | list) options='--decimals --explain' ;;
+    condense) options='--delimiter --header --key --weight --allow-zero --decimals --progress --explain' ;;
+    confirm) options='--threshold --top --share --delimiter --header --key --weight --allow-zero --decimals --progress --explain' ;;
     help) mapfile -t COMPREPLY < <(compgen -W "$commands" -- "$cur"); return ;;
   esac
   case $cur in

@@ -27,6 +27,7 @@ complete -c heavy -n '__fish_seen_subcommand_from report summarise table condens
 complete -c heavy -n '__fish_seen_subcommand_from report summarise table condense confirm' -l key -x -d 'The column of the key'
 complete -c heavy -n '__fish_seen_subcommand_from report summarise table condense confirm' -l weight -x -d 'The column of the weight'
 complete -c heavy -n '__fish_seen_subcommand_from report summarise table condense confirm' -l allow-zero -d 'A record of weight 0 adds nothing'
+complete -c heavy -n '__fish_seen_subcommand_from report summarise table ask list condense confirm' -l decimals -x -d 'Weights have up to D digits behind a point'
 complete -c heavy -n '__fish_seen_subcommand_from report summarise table condense confirm' -l progress -d 'Tell how far input is read'
 complete -c heavy -n '__fish_seen_subcommand_from report summarise table merge ask list describe condense confirm' -l explain -d 'Say more about a fault'
 complete -c heavy -n '__fish_seen_subcommand_from report summarise table merge ask list describe condense confirm' -F

@@ -440,8 +440,8 @@ class CommandLine(programs.Checks):
         """The second line of each fault that has one, and faults without."""
         weight = "a weight is a whole number from 1 on"
         for text, more in [
-            (b"key,weight\na,1\n", f"{weight}; is the first line a header? --header"),
-            (b"a,1.5\n", f"{weight}; is the first line a header? --header"),
+            (b"key,weight\na,1\n", f"{weight}; is the first line a header? --header; has it a point? --decimals"),
+            (b"a,1.5\n", f"{weight}; is the first line a header? --header; has it a point? --decimals"),
             (b"a,0\n", f"{weight}; --allow-zero takes 0"),
             (b"a,1,2\n", "a record is key,weight or a key alone; --key and --weight choose columns"),
             (b",1\n", "a key has 1 to 4096 bytes"), (b"k" * 4097, "a key has 1 to 4096 bytes"),
@@ -449,6 +449,12 @@ class CommandLine(programs.Checks):
         ]:
             for command in (["report"], ["summarise"], ["table"]):
                 self.tells(command, more, 3, text)
+        behind = "a weight has at most as many digits behind a point as --decimals says; is the first line a header? --header"
+        for text, more in [
+            (b"a,1.25\n", behind), (b"k,w\n", behind), (b"a,0.0\n", "a weight is more than 0; --allow-zero takes 0"),
+            (b"a,922337203685477580.8\n", "all weights together are at most 9223372036854775807 of the last decimal"),
+        ]:
+            self.tells(["report", "--decimals", "1"], more, 3, text)
         self.save("day", ["summarise", "--k", "2"])
         self.save("table", ["table", "--width", "8"])
         self.save("k3", ["summarise", "--k", "3"])
@@ -484,7 +490,8 @@ class CommandLine(programs.Checks):
 
     def test_more_about_bad_records(self) -> None:
         """Of a record in a file, the file's name, the line, and the first 60 bytes; nothing of standard input and of pipes."""
-        wanted, alone = "a weight is a whole number from 1 on; is the first line a header? --header", "a key has 1 to 4096 bytes"
+        wanted = "a weight is a whole number from 1 on; is the first line a header? --header; has it a point? --decimals"
+        alone = "a key has 1 to 4096 bytes"
         long, marked = b"k" * 70_000, b"\xef\xbb\xbf"
         files = {
             "good": b"a,1\nb\n", "bad": b"a,1\n\n\r\nb,x\nc,y\n", "last": b"a\rb\rc,",

@@ -11,6 +11,7 @@ import io
 import os
 import re
 from dataclasses import dataclass, field
+from fractions import Fraction
 from pathlib import Path
 from random import Random
 
@@ -37,6 +38,7 @@ class Layout:
     key: list[bytes] = field(default_factory=list)
     weight: bytes | None = None
     allow_zero: bool = False
+    decimals: int = 0
 
 
 @dataclass
@@ -117,10 +119,11 @@ def parts_in(text: bytes, layout: Layout) -> list[tuple[str, str] | None]:
 
 
 def weight_in(written: str, layout: Layout) -> int | None:
-    """The weight that a field writes, if it writes one."""
+    """The weight that a field writes, if it writes one, in units of the last decimal: a fraction, times a power of ten."""
     if layout.allow_zero and written == "-":
         return 0
-    return int(written) if re.fullmatch("[0-9]{1,20}", written) else None
+    pointed = rf"|[0-9]{{0,20}}\.[0-9]{{1,{layout.decimals}}}" if layout.decimals else ""
+    return int(Fraction(written) * 10**layout.decimals) if re.fullmatch(f"[0-9]{{1,20}}{pointed}", written) else None
 
 
 def items_of(records: Records) -> list[reference.Item]:
@@ -175,6 +178,12 @@ OTHER_WEIGHTS = [
     b"007", b"+1", b"-1", b"--", b"1.0", b" 1", b"1 ", b"", b"x", b"\xb2", b"9" * 20, b"9" * 21, b"0" * 19 + b"1",
     b"0" * 20 + b"1", b"0" * 21, LARGEST, b"9223372036854775806", b"4611686018427387904",
 ]
+DECIMALS = [
+    b"0.1", b"0.125", b".5", b"2.0", b"1.000000001", b"0.000000001", b"00.10", b"3.75", b"0.0", b"0.000000000", b".0",
+    b"5.", b".", b"..5", b"1.5.5", b"1,5", b"-0.5", b"+0.5", b"1.5 ", b"1.-", b"-.", b"1e3", b"0.1234567890", b"x.5", b"1.x",
+    b"9" * 20 + b".9", b"9" * 21 + b".9", b"0" * 20 + b".1", b"0" * 21 + b".1", b"9223372036.854775807", b"9223372036.854775808",
+    b"922337203685477580.7", b"922337203685477580.8", b"4611686018.427387904",
+]
 ENDS = [b"\n", b"\n", b"\r\n", b"\r"]
 PIECES = [b",", b'"', b'""', b"\n", b"\r", b"\r\n", b"\xff", MARK, b"0", b"-", b" ", b"\t", b";"]
 
@@ -194,7 +203,9 @@ def some_weight(draw: Random, layout: Layout) -> bytes:
     chance = draw.random()
     if chance < (0.2 if layout.allow_zero else 0.01):
         return draw.choice(ZEROS)
-    return draw.choice(OTHER_WEIGHTS) if chance > 0.985 else draw.choice(WEIGHTS)
+    if chance > (0.7 if layout.decimals else 0.99):
+        return draw.choice(DECIMALS[: 9 if draw.random() < 0.97 else None])
+    return draw.choice(OTHER_WEIGHTS) if draw.random() > 0.985 else draw.choice(WEIGHTS)
 
 
 def some_key(draw: Random) -> bytes:
@@ -256,6 +267,8 @@ def some_column(draw: Random, has_header: bool, names: list[bytes]) -> bytes:
 def some_layout(draw: Random, names: list[bytes]) -> Layout:
     has_header = draw.random() < 0.5
     layout = Layout(None, has_header, allow_zero=draw.random() < 0.4)
+    if draw.random() < 0.4:
+        layout.decimals = draw.choice([0, 1, 2, 3, 3, 6, 9, 9])
     if draw.random() < 0.6:
         layout.delimiter = draw.choice(BAD_DELIMITERS if draw.random() < 0.02 else DELIMITERS)
     if draw.random() < 0.7:
@@ -275,6 +288,8 @@ def words_of(draw: Random, layout: Layout) -> list[bytes]:
         groups.append([b"--header"])
     if layout.allow_zero:
         groups.append([b"--allow-zero"])
+    if layout.decimals or draw.random() < 0.1:
+        groups.append([b"--decimals", b"%d" % layout.decimals])
     keys = [b",".join(layout.key)] if layout.key and draw.random() < 0.7 else layout.key
     named = [(b"--key", word) for word in keys]
     if layout.weight is not None:
@@ -318,18 +333,19 @@ def case(draw: Random) -> hostile.Case:
         case 1:
             status, saved, _ = reference.answer(reference.summarise, records, k, **told)
             saved = saved if status == 0 else reference.summarise(b"a", k)
-            expected = reference.answer(reference.confirm, saved, records, **told)
+            expected = reference.answer(reference.confirm, saved, records, **told, decimals=layout.decimals)
             return hostile.Case(["confirm", *options], [saved, *files], [], given, expected)
         case 2:
             saved = reference.summarise(draw.choice([b"a\nb", b"a\n", b'"a,b"\nothers', b""]), k)
-            expected = reference.answer(reference.condense, saved, records, **told)
+            expected = reference.answer(reference.condense, saved, records, **told, decimals=layout.decimals)
             return hostile.Case(["condense", *options], [saved, *files], [], given, expected)
         case 3:
             words = ("--width", draw.choice("158"), "--depth", draw.choice("13"), "--seed", draw.choice("07"))
             expected = reference.answer(hostile_records.table, records, hostile_records.empty_table(words), **told)
             return hostile.Case(["table", *words, *options], files, [], given, expected)
     words = ["report", "--k", str(k), "--workers", draw.choice("123"), "--pieces", draw.choice("125"), "--width", "8"]
-    return hostile.Case([*words, *options], files, [], given, reference.answer(reference.report, records, k, **told))
+    expected = reference.answer(reference.report, records, k, **told, decimals=layout.decimals)
+    return hostile.Case([*words, *options], files, [], given, expected)
 
 
 class RandomFiles(hostile.Hostile):
@@ -371,6 +387,12 @@ SIZED = b'.,8209\n./a,4096\n"./a/x, y",12\n"./say ""hi""",5\n'
 TWO_KEYS = b'1,2,3,"a,b",c\n1,2,3,a,"b,c"\n1,2,3,"a,b",c\n'
 LOG_WORDS = ["--delimiter", " ", "--key", "1", "--allow-zero", "--weight"]
 SIZE_WORDS = ["--delimiter", "\\t", "--weight", "1", "--key", "2"]
+
+PRICES = b"a,0.125\nb,3\na,.5\nc,2.75\n"
+BAD_DECIMALS = [
+    b"5.", b".", b"..5", b".5.", b"1.2.3", b"-1.5", b"+1.5", b" 1.5", b"1.5 ", b"1e2", b"1.x", b"x.1", b"1.-", b"0x1.8",
+    b"1.234", b"0" * 21 + b".5",
+]
 
 # Options, texts, and the report of them.
 REPORTS = [
@@ -423,6 +445,19 @@ REPORTS = [
     (["--allow-zero"], [b"a,0\nb,-\nc,00000000000000000000\nd,1\n"], b"d,1\n"), (["--allow-zero"], [b"a,0\n"], b""),
     (["--allow-zero"], [b'a,"-"\na\n'], b"a,1\n"), (["--allow-zero", "--weight", "2"], [b"-,3\n"], b"-,3\n"),
     (["--allow-zero"], [b"x," + LARGEST, b"y,0\nz,-"], b"x," + LARGEST + b"\n"),
+    # digits behind a point
+    (["--decimals", "3"], [PRICES], b"b,3.000\nc,2.750\na,0.625\n"), (["--decimals", "0"], [b"a,5\n"], b"a,5\n"),
+    (["--decimals", "3", "--top", "1", "--share"], [PRICES], b"b,3.000,47.0588\n"),
+    (["--decimals", "+01"], [b"a,0.5\nb\n"], b"b,1.0\na,0.5\n"), (["--decimals", "2"], [b"1.5,2.5\n"], b"1.5,2.50\n"),
+    (["--decimals", "9"], [b"a,9223372036.854775807\n"], b"a,9223372036.854775807\n"),
+    (["--decimals", "9"], [b"a,.000000001\n"], b"a,0.000000001\n"),
+    (["--decimals", "1"], [b"a,922337203685477580.7\n"], b"a,922337203685477580.7\n"),
+    (["--decimals", "2", "--allow-zero"], [b"a,0.00\nb,-\nc,.0\nd,0.01\n"], b"d,0.01\n"),
+    (["--decimals", "2", "--weight", "2"], [b'a,"1.5",x\nb,2,y\n'], b"b,2.00\na,1.50\n"),
+    (["--decimals", "2", "--key", "1"], [b"a,1.5\nb\na,x\n"], b"a,2.00\nb,1.00\n"),
+    (["--decimals", "3"], [b"a," + b"0" * 20 + b".001\n"], b"a,0.001\n"),
+    (["--decimals", "2", "--delimiter", "."], [b"a.5\n"], b"a,5.00\n"),
+    (["--decimals", "2", "--delimiter", ";"], [b"a;1.5\n", b"a;.25"], b"a,1.75\n"),
 ]
 
 # Options, texts, and the first record that is refused, with the cause.
@@ -446,6 +481,17 @@ BAD_RECORDS = [
     (["--allow-zero"], [b"k" * 4097 + b",-"], 1, "key too long"),
     (["--key", "1,2"], [b"k" * 2048 + b"," + b"k" * 2048], 1, "key too long"),
     (["--key", "1,2"], [b"k" * 2046 + b',"' + b"k" * 2046 + b',k"'], 1, "key too long"),
+    (["--decimals", "2"], [b"a,1.50\nb,.75\n", b"c,1.500\n"], 3, "bad weight"),
+    *((["--decimals", "2"], [b"a," + weight], 1, "bad weight") for weight in BAD_DECIMALS),
+    *((["--decimals", "0"], [b"a," + weight], 1, "bad weight") for weight in [*BAD_DECIMALS, b"1.5", b".5", b"0.0"]),
+    *(([], [b"a," + weight], 1, "bad weight") for weight in [*BAD_DECIMALS, b"1.5", b".5", b"0.0"]),
+    (["--decimals", "2"], [b"a,1,5\n"], 1, "wrong number of fields"), (["--decimals", "2"], [b",1.5\n"], 1, "empty key"),
+    (["--decimals", "2"], [b"a,0.00\n"], 1, "zero weight"), (["--decimals", "2"], [b"a,-\n"], 1, "bad weight"),
+    (["--decimals", "9"], [b"a,9223372036.854775808\n"], 1, "total too large"),
+    (["--decimals", "9"], [b"a," + LARGEST], 1, "total too large"),
+    (["--decimals", "1"], [b"a," + b"9" * 20 + b".9"], 1, "total too large"),
+    (["--decimals", "3"], [b"a,9223372036854775.807\nb,.001\n"], 2, "total too large"),
+    (["--decimals", "3"], [b"a,9223372036854775\nb\n"], 2, "total too large"),
 ]
 
 # Options that are refused, whatever the records: among them numbers of more than ten digits, which only a header names.
@@ -528,6 +574,38 @@ class RecordFiles(programs.Checks):
             for command in COMMANDS:
                 self.refuses([*command, *options, *names], f"record {number}: {cause}", 3)
             self.refuses(["report", *options, *names[:-1], "-"], f"record {number}: {cause}", 3, texts[-1])
+
+    def test_decimals(self) -> None:
+        """Saved files of weights with a point, by hand: 0.625, 3 and 2.75 of 6.375 are two counters of 2.375 and 2.125."""
+        saved, names = "prices", self.save([PRICES, b"b,3\n", b"a,.625\nc,2.750\n"])
+        three = ["--decimals", "3"]
+        status, data, _ = self.heavy(["summarise", "--k", "2", *three, names[0]])
+        Path(self.room, saved).write_bytes(data)
+        whole = reference.summarise(b"a,125\nb,3000\na,500\nc,2750\n", 2)
+        self.check("a summary counts in units", (status, data) == (0, whole), data)
+        self.expect(["ask", *three, saved, "a", "b", "1.5"], (0, b"a,0.000,0.625\nb,2.375,3.000\n1.5,0.000,0.625\n", b""))
+        self.expect(["ask", saved, "b", "--decimals=1"], (0, b"b,237.5,300.0\n", b""))
+        self.expect(["ask", "--decimals", "0", saved, "a", "b"], (0, b"a,0,625\nb,2375,3000\n", b""))
+        self.expect(["list", *three, saved], (0, b"b,2.375,3.000\nc,2.125,2.750\n", b""))
+        self.expect(["list", "--decimals", "9", saved], (0, b"b,0.000002375,0.000003000\nc,0.000002125,0.000002750\n", b""))
+        self.expect(["list", saved], (0, b"b,2375,3000\nc,2125,2750\n", b""))
+        condensed = b"b,3.000\nc,2.750\nothers,0.625\n"
+        self.expect(["condense", *three, saved, names[0]], (0, condensed, b""))
+        for given in (PRICES, condensed):
+            self.expect(["confirm", *three, saved], (0, b"b,3.000\nc,2.750\n", b""), given)
+            self.expect(["confirm", *three, "--share", "--top=1", saved], (0, b"b,3.000,47.0588\n", b""), given)
+        self.expect(["confirm", *three, saved, *names[1:]], (0, b"b,3.000\nc,2.750\n", b""))
+        more = b"heavy: file 1: its total is not the input's\n  prices has 0.06375, and the records have 6.37500\n"
+        self.expect(["confirm", "--explain", "--decimals", "5", saved, names[0]], (3, b"", more))
+        Path(self.room, "table").write_bytes(self.heavy(["table", "--width", "64", *three, names[0]])[1])
+        self.expect(["ask", "table", "a", *three], (0, b"a,0.000,0.625\n", b""))
+        commands = [*COMMANDS, ["ask", "saved", "a"], ["list", "saved"]]
+        self.save_summary(b"a")
+        for command in commands:
+            for word in ("10", "255", "256", "-1", "x", "", "1.0", "18446744073709551616"):
+                status, out, err = self.heavy([*command, f"--decimals={word}"])
+                told = b"--decimals <D>" in err and err.startswith(b"error: ")
+                self.check(f"{command}: {word!r} decimals", (status, out, told) == (2, b"", True), (status, out, err))
 
     def test_refused_options(self) -> None:
         """Delimiters and columns that are none, and columns that a header lacks."""

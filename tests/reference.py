@@ -107,13 +107,19 @@ def field_text(field: bytes) -> bytes:
     return field
 
 
-def row_text(*fields: bytes | int) -> bytes:
-    texts = [str(field).encode() if isinstance(field, int) else field_text(field) for field in fields]
+def number_text(number: int, decimals: int) -> bytes:
+    """A number with so many of its last digits behind a point."""
+    digits = str(number).rjust(decimals + 1, "0")
+    return (f"{digits[:-decimals]}.{digits[-decimals:]}" if decimals else digits).encode()
+
+
+def row_text(*fields: bytes | int, decimals: int = 0) -> bytes:
+    texts = [number_text(field, decimals) if isinstance(field, int) else field_text(field) for field in fields]
     return b",".join(texts) + b"\n"
 
 
-def rows_text(rows: list[Item]) -> bytes:
-    return b"".join(row_text(key, weight) for key, weight in rows)
+def rows_text(rows: list[Item], decimals: int = 0) -> bytes:
+    return b"".join(row_text(key, weight, decimals=decimals) for key, weight in rows)
 
 
 def percent(weight: int, total: int) -> bytes:
@@ -126,10 +132,11 @@ def percent(weight: int, total: int) -> bytes:
     return b"%d.%d%d%d%d" % (whole, *digits)
 
 
-def printed_rows(rows: list[Item], total: int, top: int | None, shared: bool) -> bytes:
+def printed_rows(rows: list[Item], total: int, top: int | None, shared: bool, decimals: int) -> bytes:
     """At most the first rows, with shares of the total or without."""
     first = rows if top is None else rows[:top]
-    return b"".join(row_text(key, weight, *[percent(weight, total)] * shared) for key, weight in first)
+    shares = [[percent(weight, total)] * shared for _, weight in first]
+    return b"".join(row_text(*row, *share, decimals=decimals) for row, share in zip(first, shares))
 
 
 def heavy(items: list[Item], p: int, q: int) -> list[Item]:
@@ -300,10 +307,12 @@ def share_of(text: bytes, k: int) -> tuple[int, int]:
     raise Refused("threshold must be P/Q with 1 <= P <= Q <= 4294967296 and P*(K+1) >= Q", 2)
 
 
-def report(text, k: int, share: bytes | None = None, top: int | None = None, shared: bool = False, reader=items_of) -> bytes:
+def report(
+    text, k: int, share: bytes | None = None, top: int | None = None, shared: bool = False, reader=items_of, decimals: int = 0
+) -> bytes:
     p, q = (1, k + 1) if share is None else share_of(share, k)
     items = reader(text)
-    return printed_rows(heavy(items, p, q), total_of(items), top, shared)
+    return printed_rows(heavy(items, p, q), total_of(items), top, shared, decimals)
 
 
 def summarise(text, k: int, reader=items_of) -> bytes:
@@ -381,7 +390,7 @@ def describe(data: bytes) -> bytes:
 
 
 def confirm(
-    data: bytes, text, share: bytes | None = None, top: int | None = None, shared: bool = False, reader=items_of
+    data: bytes, text, share: bytes | None = None, top: int | None = None, shared: bool = False, reader=items_of, decimals: int = 0
 ) -> bytes:
     saved = read_file(data)
     if not isinstance(saved, Summary):
@@ -391,16 +400,16 @@ def confirm(
     if total_of(items) != saved.total:
         raise Refused("file 1: its total is not the input's")
     rows = [row for row in heavy(items, p, q) if row[0] in saved.counters]
-    return printed_rows(rows, saved.total, top, shared)
+    return printed_rows(rows, saved.total, top, shared, decimals)
 
 
-def leading_row(key: bytes, weight: int) -> bytes:
+def leading_row(key: bytes, weight: int, decimals: int) -> bytes:
     """A row whose key is in quotes where a reader would take a byte order mark off it."""
-    row = rows_text([(key, weight)])
+    row = rows_text([(key, weight)], decimals)
     return b'"%s"%s' % (key, row[len(key):]) if row.startswith(b"\xef\xbb\xbf") else row
 
 
-def condense(data: bytes, text, reader=items_of) -> bytes:
+def condense(data: bytes, text, reader=items_of, decimals: int = 0) -> bytes:
     saved = read_file(data)
     if not isinstance(saved, Summary):
         raise Refused("file 1: not a counter summary")
@@ -415,7 +424,7 @@ def condense(data: bytes, text, reader=items_of) -> bytes:
     if others > 0:
         names = (b"others%s" % (b"%d" % number if number else b"") for number in range(len(saved.counters) + 1))
         rows.append((next(name for name in names if name not in saved.counters), others))
-    return leading_row(*rows[0]) + rows_text(rows[1:]) if rows else b""
+    return leading_row(*rows[0], decimals) + rows_text(rows[1:], decimals) if rows else b""
 
 
 def answer(command, *given, **how) -> tuple[int, bytes, bytes]:

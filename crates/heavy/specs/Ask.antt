@@ -1,11 +1,11 @@
 -- What a saved file tells of keys.
 use Rattle.std.specs.Prelude.{◌==◌, ◌+◌, nat_le, ℕ, List, [], ◌∷◌, length, map, Option, Some, None, Result, Ok, Err, if◌then◌else◌}
 use Rattle.std.specs.List.{flat_map}
-use Rattle.std.specs.Fmt.{decimal}
 use Rattle.csv.specs.Writing.{default_writer, row_text}
 use Rattle.hh_stream.specs.Weights.{Bytes, weight_of, max_key_len}
 use Rattle.hh_counters.specs.Counters.{slack}
 use Rattle.hh_countmin.specs.Table.{estimate_in}
+use Rattle.hh_records.specs.Decimals.{pointed}
 use Rattle.hh_saved.specs.declared.saved.Saved.{Saved}
 use Rattle.hh_saved.specs.declared.saved.Saved.TheVariants.{Counters, Cells}
 use Rattle.heavy.specs.Files.{file_of, ◌>>=◌}
@@ -19,16 +19,17 @@ answer_of (Counters s) x =
     (weight_of x s.counters, weight_of x s.counters + slack s.counters s.total s.k)
 answer_of (Cells t) x = (0, estimate_in t x)
 
--- the text of one row: a key and the two numbers as csv's default writer writes them, and a line feed
-abbrev pub bounds_row : Bytes → ℕ × ℕ → List ℕ
-bounds_row x bounds = row_text default_writer (x ∷ decimal bounds.0 ∷ decimal bounds.1 ∷ [])
+-- the text of one row: a key and the two numbers, in units of 10^-d, as csv's default writer writes
+-- them, and a line feed
+abbrev pub bounds_row : ℕ → Bytes → ℕ × ℕ → List ℕ
+bounds_row d x bounds = row_text default_writer (x ∷ pointed d bounds.0 ∷ pointed d bounds.1 ∷ [])
 
 -- the row of a key that is asked
-abbrev pub answer_row : Saved → Bytes → List ℕ
-answer_row v x = bounds_row x (answer_of v x)
+abbrev pub answer_row : ℕ → Saved → Bytes → List ℕ
+answer_row d v x = bounds_row d x (answer_of v x)
 
-abbrev pub answer_rows : Saved → List Bytes → List ℕ
-answer_rows v keys = flat_map (answer_row v) keys
+abbrev pub answer_rows : ℕ → Saved → List Bytes → List ℕ
+answer_rows d v keys = flat_map (answer_row d v) keys
 
 -- what is wrong with key n
 abbrev pub key_fault : ℕ → Bytes → Option ToolError
@@ -56,11 +57,15 @@ asked_value file keys = do
   v ← file_of 1 file
   unless (bad_key 1 keys) v
 
--- the rows of all keys, or the first refusal
-abbrev pub answers : List ℕ → List Bytes → Result (List ℕ) ToolError
-answers file keys = do
+-- the rows of all keys, in units of 10^-d, or the first refusal
+abbrev pub answers_in : ℕ → List ℕ → List Bytes → Result (List ℕ) ToolError
+answers_in d file keys = do
   v ← asked_value file keys
-  Ok (answer_rows v keys)
+  Ok (answer_rows d v keys)
+
+-- the same of whole numbers
+abbrev pub answers : List ℕ → List Bytes → Result (List ℕ) ToolError
+answers file keys = answers_in 0 file keys
 
 -- the two numbers of each key, or the first refusal
 abbrev pub answers_of : List ℕ → List Bytes → Result (List (ℕ × ℕ)) ToolError

@@ -3,18 +3,18 @@ use Rattle.std.specs.Prelude.{◌≡◌, ℕ, List, Ok}
 use Rattle.hh_stream.specs.Weights.{Entry}
 use Rattle.hh_counters.specs.Condensed.{condensed}
 use Rattle.hh_counters.specs.Counters.{SummaryView}
-use Rattle.hh_records.specs.Rows.{condensed_text}
+use Rattle.hh_records.specs.Rows.{condensed_by}
 use Rattle.hh_records.specs.Streams.{Known, ReadsAs}
 use Rattle.heavy.specs.Files.{HoldsSummary, RefusedFrom}
 use Rattle.heavy.specs.Records.{RecordsRefused}
 use Rattle.heavy.specs.declared.error.ToolError.{ToolError}
 
--- the file holds a summary, and these are the condensed rows of the stream that
+-- the file holds a summary, and these are the condensed rows, in units of 10^-d, of the stream that
 -- the records are
-abbrev pub CondensesRows : List ℕ → Known → List ℕ → Type 0
-CondensesRows file known rows =
+abbrev pub CondensesRows : ℕ → List ℕ → Known → List ℕ → Type 0
+CondensesRows d file known rows =
     (s : SummaryView) × (xs : List Entry) × HoldsSummary file s × ReadsAs known (Ok xs)
-    × (rows ≡ condensed_text (condensed s.counters xs))
+    × (rows ≡ condensed_by d (condensed s.counters xs))
 
 -- what a refusal to condense tells: of the file, of its kind, and of the records
 abbrev pub CondenseRefused : List ℕ → Known → ToolError → Type 0

@@ -51,6 +51,7 @@ pub record SaysLayout (words : LayoutWords) (layout : Layout) : Type 0 where
   pub key : NamesKey words.has_header (key_words words) layout.key.items
   pub weight : NamesWeight words.has_header (weight_word words) layout.weight
   pub allow_zero : layout.allow_zero ≡ words.allow_zero
+  pub decimals : layout.decimals ≡ words.decimals
 
 -- what a refusal of such words tells: of the delimiter, or of a column
 abbrev pub LayoutRefused : LayoutWords → ToolError → Type 0

@@ -7,12 +7,17 @@ use Rattle.hh_counters.specs.Report.{by_rank}
 use Rattle.heavy.specs.Ask.{bounds_row}
 use Rattle.heavy.specs.Files.{HoldsSummary}
 
--- the row of a key with this counter: its weight is at least the counter, and at most that and the slack
-abbrev pub entry_row : SummaryView → Entry → List ℕ
-entry_row s e = bounds_row e.0 (e.1, e.1 + slack s.counters s.total s.k)
+-- the row of a key with this counter, in units of 10^-d: its weight is at least the counter, and at
+-- most that and the slack
+abbrev pub entry_row : ℕ → SummaryView → Entry → List ℕ
+entry_row d s e = bounds_row d e.0 (e.1, e.1 + slack s.counters s.total s.k)
 
 -- the file holds a summary, and these are the rows of its keys, by falling counter and then by
 -- rising key
+abbrev pub ListsRows : ℕ → List ℕ → List ℕ → Type 0
+ListsRows d file rows =
+    (s : SummaryView) × HoldsSummary file s × (rows ≡ flat_map (entry_row d s) (by_rank s.counters))
+
+-- the same of whole numbers
 abbrev pub ListsKeys : List ℕ → List ℕ → Type 0
-ListsKeys file rows =
-    (s : SummaryView) × HoldsSummary file s × (rows ≡ flat_map (entry_row s) (by_rank s.counters))
+ListsKeys file rows = ListsRows 0 file rows

@@ -20,6 +20,8 @@ pub struct LayoutWords {
     pub weight: Option<Vec<u8>>,
     /// A record of weight 0 adds nothing and is no fault, nor is one of weight `-`.
     pub allow_zero: bool,
+    /// A weight may have a point and up to so many digits behind it, and counts in units of the last.
+    pub decimals: u8,
 }
 
 /// The columns that words name, where each names one.
@@ -73,5 +75,6 @@ pub fn layout_of(alloc: Global, words: &LayoutWords) -> Result<Layout, ToolError
         key,
         weight,
         allow_zero: words.allow_zero,
+        decimals: words.decimals,
     })
 }

@@ -8,10 +8,11 @@ mod files;
 mod items;
 pub mod laws;
 mod layouts;
+mod text_pieces;
 
 pub use commands::add::{add_items, empty_summary};
 pub use commands::add_text::add_text;
-pub use commands::ask::{ask_bytes, ask_key, ask_keys};
+pub use commands::ask::{ask_bytes, ask_key, ask_keys, ask_rows};
 pub use commands::condense::{condense_bytes, condense_bytes_from};
 pub use commands::confirm::{
     ConfirmFault, Totals, confirm, confirm_above, confirm_bytes, confirm_rows,
@@ -21,7 +22,7 @@ pub use commands::count_items::{condense_items, confirm_items};
 pub use commands::describe::describe_file;
 pub use commands::entries::list_entries;
 pub use commands::grow_table::empty_table;
-pub use commands::list::list_keys;
+pub use commands::list::{list_keys, list_rows};
 pub use commands::merge::merge_bytes;
 pub use commands::report::{ReportOptions, Tree, report_rows, run_report};
 pub use commands::summarise::{Method, summary_bytes, summary_bytes_from};

@@ -60,6 +60,12 @@ pub record AreOptions (found : Found) (options : ReportOptions) : Type 0 where
   pub depth : IsNumberOf found (codes "depth") 4 options.depth
   pub seed : IsNumberOf found (codes "seed") 0 options.seed
 
+-- how many digits a weight may have behind a point: those that were given, or else none
+pub record AreDecimals (found : Found) (decimals : ℕ) : Type 0 where
+  pub absent : one_text found (codes "decimals") ≡ None → decimals ≡ 0
+  pub given : (text : Text) → one_text found (codes "decimals") ≡ Some text → IsNumeral 10 (without_leading_plus text)
+      → number_in text < 2 ^ 8 → decimals ≡ number_in text
+
 -- the options of the rows that are printed
 pub record AreRowOptions (found : Found) (rows : RowOptions) : Type 0 where
   pub all : one_text found (codes "top") ≡ None → rows.top ≡ None
@@ -67,6 +73,7 @@ pub record AreRowOptions (found : Found) (rows : RowOptions) : Type 0 where
       → number_in text < 2 ^ 64 → rows.top ≡ Some (number_in text)
   pub shared : one_text found (codes "share") ≡ Some (codes "true") → rows.share ≡ true
   pub unshared : one_text found (codes "share") ≡ None → rows.share ≡ false
+  pub decimals : AreDecimals found rows.decimals
 
 -- the records that are read: their files in order, and where their columns stand
 pub record AreRecordWords (found : Found) (records : RecordWords) : Type 0 where
@@ -80,6 +87,7 @@ pub record AreRecordWords (found : Found) (records : RecordWords) : Type 0 where
       ≡ option_map word_of (first_value found (codes "weight"))
   pub zeros : one_text found (codes "allow-zero") ≡ Some (codes "true") → records.layout.allow_zero ≡ true
   pub no_zeros : one_text found (codes "allow-zero") ≡ None → records.layout.allow_zero ≡ false
+  pub decimals : AreDecimals found records.layout.decimals
 
 -- the options of a table
 pub record AreTableOptions (found : Found) (width depth seed : ℕ) : Type 0 where
@@ -107,8 +115,10 @@ abbrev pub Answers : Text → Found → Command → Type 0
 Answers name found (Summarise k method) = (name ≡ codes "summarise") × AreSummaryOptions found k method.items
 Answers name found (Table width depth seed) = (name ≡ codes "table") × AreTableOptions found width depth seed
 Answers name found (Merge first others) = (name ≡ codes "merge") × AreFiles found first.items (map (λ w. w.items) others.items)
-Answers name found (Ask file keys) = (name ≡ codes "ask") × AreKeys found file.items (map (λ w. w.items) keys.items)
-Answers name found (ListKeys file) = (name ≡ codes "list") × (file.items ≡ first_word [] found (codes "FILE"))
+Answers name found (Ask file keys decimals) =
+    (name ≡ codes "ask") × AreKeys found file.items (map (λ w. w.items) keys.items) × AreDecimals found decimals
+Answers name found (ListKeys file decimals) =
+    (name ≡ codes "list") × (file.items ≡ first_word [] found (codes "FILE")) × AreDecimals found decimals
 Answers name found (Describe file) = (name ≡ codes "describe") × (file.items ≡ first_word [] found (codes "FILE"))
 Answers name found (Condense file) = (name ≡ codes "condense") × (file.items ≡ first_word [] found (codes "FILE"))
 Answers name found (Confirm file share rows) =

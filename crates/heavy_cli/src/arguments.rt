@@ -40,6 +40,9 @@ pub const WEIGHT: &str = "weight";
 
 pub const ALLOW_ZERO: &str = "allow-zero";
 
+/// The option that says how many digits a weight may have behind a point.
+pub const DECIMALS: &str = "decimals";
+
 /// The heading in help of the options that say how records are read.
 const COLUMNS: &str = "How records are read";
 
@@ -261,6 +264,36 @@ fn allow_zero<'a>(alloc: Global) -> Arg<'a>
     .help_heading(COLUMNS)
 }
 
+/// The option that says how many digits stand behind a point, with this help.
+fn decimals<'a>(alloc: Global, help: &'a str) -> Arg<'a>
+    ensures { result.global ≡ false }
+{
+    option(alloc, DECIMALS, help)
+        .value_name("D")
+        .value_parser(value_parser!(u8).range(0..=9))
+}
+
+/// The same where records are read.
+fn read_decimals<'a>(alloc: Global) -> Arg<'a>
+    ensures { result.global ≡ false }
+{
+    decimals(
+        alloc,
+        "Weights may have a point and up to D digits behind it, D from 0 to 9 [default: 0]",
+    )
+    .help_heading(COLUMNS)
+}
+
+/// The same command, which prints so many digits behind a point.
+fn with_decimals<'a>(alloc: Global, command: Command<'a>) -> Result<Command<'a>, AllocError>
+    requires { (fields_of command).has_globals ≡ false }
+    ensures { IfOk result (λ c. (fields_of c).has_globals ≡ false) }
+{
+    let told =
+        "Print numbers with D digits behind the point, as the records had, from 0 to 9 [default: 0]";
+    with(command, decimals(alloc, told))
+}
+
 /// The same command, with the options that say how records are read, and the files of these.
 fn with_records<'a>(alloc: Global, command: Command<'a>) -> Result<Command<'a>, AllocError>
     requires { (fields_of command).has_globals ≡ false }
@@ -268,7 +301,8 @@ fn with_records<'a>(alloc: Global, command: Command<'a>) -> Result<Command<'a>, 
 {
     let command = with(with(command, delimiter(alloc))?, header(alloc))?;
     let command = with(with(command, key(alloc))?, weight(alloc))?;
-    with(with(command, allow_zero(alloc))?, records(alloc))
+    let command = with(with(command, allow_zero(alloc))?, read_decimals(alloc))?;
+    with(command, records(alloc))
 }
 
 /// A word that has to be given.
@@ -402,7 +436,7 @@ fn ask_command<'a>(alloc: Global) -> Result<Command<'a>, AllocError>
     ensures { IfOk result (λ c. (fields_of c).has_globals ≡ false) }
 {
     let keys = word(alloc, "KEY", "A key").action(ArgAction::Append);
-    explained(alloc, "ask", ASK)?
+    with_decimals(alloc, explained(alloc, "ask", ASK)?)?
         .after_help(DASHES)
         .arg(word(alloc, "FILE", "A saved file"))?
         .arg(keys.num_args(1..))
@@ -411,7 +445,7 @@ fn ask_command<'a>(alloc: Global) -> Result<Command<'a>, AllocError>
 fn list_command<'a>(alloc: Global) -> Result<Command<'a>, AllocError>
     ensures { IfOk result (λ c. (fields_of c).has_globals ≡ false) }
 {
-    explained(alloc, "list", LIST)?
+    with_decimals(alloc, explained(alloc, "list", LIST)?)?
         .after_help(DASHES)
         .arg(word(alloc, "FILE", "A saved summary"))
 }

@@ -6,7 +6,7 @@ use crate::record_place::place_of;
 use crate::request::{Command, Invocation, RecordWords, Request};
 use crate::told::Told;
 use heavy::{BadRecordCause, Share, ToolError, Totals};
-use hh_records::threshold_of;
+use hh_records::{pointed, threshold_of};
 use std::io::IsTerminal;
 use std::{fmt, fs};
 
@@ -20,30 +20,43 @@ const NO_NAME: &[u8] = b"";
 const STANDARD: &[u8] = b"standard input";
 
 /// What a weight has to be, and what may stand in its place.
-const WEIGHT: &str = "a weight is a whole number from 1 on; is the first line a header? --header";
+const WEIGHT: &str = "a weight is a whole number from 1 on; is the first line a header? --header; \
+    has it a point? --decimals";
+
+/// The same where a weight may have a point.
+const DECIMAL: &str = "a weight has at most as many digits behind a point as --decimals says; \
+    is the first line a header? --header";
 
 /// Whether more is told: where that is asked for, or standard error is a terminal.
 pub fn tells_more(rt: &HostRuntime, asked: &Invocation) -> bool {
     asked.explains || rt.stderr().is_terminal()
 }
 
-/// Whether it is told where records look like another format: where more is told, and no option says
-/// how they are parted.
+/// Whether it is told where records look like another format: where more is told, and no option
+/// says how they are parted.
 pub fn watches(rt: &HostRuntime, asked: &Invocation) -> bool {
     let layout = &asked.records.layout;
     let is_plain = layout.delimiter.is_none() && layout.key.is_empty() && layout.weight.is_none();
     is_plain && tells_more(rt, asked)
 }
 
-/// What a record has to be, by what is wrong with one.
-fn wanted(cause: BadRecordCause) -> &'static str {
+/// What a record has to be, by what is wrong with one, where a weight may have so many digits behind a
+/// point.
+fn wanted(cause: BadRecordCause, decimals: u8) -> &'static str {
     match cause {
         BadRecordCause::FieldCount => {
             "a record is key,weight or a key alone; --key and --weight choose columns"
         }
         BadRecordCause::EmptyKey | BadRecordCause::KeyTooLong => "a key has 1 to 4096 bytes",
+        BadRecordCause::BadWeight if decimals > 0 => DECIMAL,
         BadRecordCause::BadWeight => WEIGHT,
+        BadRecordCause::ZeroWeight if decimals > 0 => {
+            "a weight is more than 0; --allow-zero takes 0"
+        }
         BadRecordCause::ZeroWeight => "a weight is a whole number from 1 on; --allow-zero takes 0",
+        BadRecordCause::TotalTooLarge if decimals > 0 => {
+            "all weights together are at most 9223372036854775807 of the last decimal"
+        }
         BadRecordCause::TotalTooLarge => "all weights together are at most 9223372036854775807",
     }
 }
@@ -97,7 +110,7 @@ fn name_of(asked: &Invocation, number: u64) -> &[u8] {
         }
         Command::Merge { first, others } => name_behind(first, others, number),
         Command::Ask { file, .. } => file.as_slice(),
-        Command::List { file } => file.as_slice(),
+        Command::List { file, .. } => file.as_slice(),
         Command::Describe { file } => file.as_slice(),
         Command::Condense { file } => name_behind(file, records, number),
         Command::Confirm { file, .. } => name_behind(file, records, number),
@@ -158,12 +171,19 @@ fn tell_looks(rt: &HostRuntime, name: &[u8]) {
     }
 }
 
-/// Tells two totals that differ.
-fn tell_totals(rt: &HostRuntime, name: &[u8], totals: Option<Totals>) {
-    if let Some(Totals { summary, records }) = totals {
+/// Tells two totals that differ, with so many digits behind a point.
+fn tell_totals(rt: &HostRuntime, name: &[u8], totals: Option<Totals>, decimals: u8) {
+    let Some(Totals { summary, records }) = totals else {
+        return;
+    };
+    let summary = pointed(rt.alloc(), u128::from(summary), decimals);
+    let records = pointed(rt.alloc(), u128::from(records), decimals);
+    if let (Ok(summary), Ok(records)) = (summary, records) {
         let _ = eprintln!(rt;
-            "  {} has {summary}, and the records have {records}",
-            Name(name)
+            "  {} has {}, and the records have {}",
+            Name(name),
+            summary.as_slice().escape_ascii(),
+            records.as_slice().escape_ascii()
         );
     }
 }
@@ -192,8 +212,8 @@ fn tell_threshold(rt: &HostRuntime, request: &Request) {
     }
 }
 
-/// Tells where a bad record stands and how it begins, where its file can be read again, and what was
-/// wanted.
+/// Tells where a bad record stands and how it begins, where its file can be read again, and what
+/// was wanted.
 fn tell_record(rt: &HostRuntime, records: &RecordWords, number: u64, wanted: &str) {
     let Some(place) = place_of(rt, records, number) else {
         let _ = eprintln!(rt; "  {wanted}");
@@ -222,10 +242,14 @@ pub fn tell_more(rt: &HostRuntime, fault: &ToolError, asked: &Invocation, totals
         ToolError::NotCounters => {
             let _ = eprintln!(rt; "  {} is a Count-Min table", Name(name_of(asked, 1)));
         }
-        ToolError::TotalDiffers => tell_totals(rt, name_of(asked, 1), totals),
+        ToolError::TotalDiffers => {
+            let decimals = asked.records.layout.decimals;
+            tell_totals(rt, name_of(asked, 1), totals, decimals);
+        }
         ToolError::BadThreshold => tell_threshold(rt, &asked.request),
         ToolError::BadRecord { number, cause } => {
-            tell_record(rt, &asked.records, *number, wanted(*cause));
+            let decimals = asked.records.layout.decimals;
+            tell_record(rt, &asked.records, *number, wanted(*cause, decimals));
         }
         _ => {}
     }

@@ -47,7 +47,10 @@ Example:
     b,3
     $ printf 'host bytes\\nx 5\\ny -\\nx 1\\n' > day.log
     $ heavy report --delimiter ' ' --header --key host --weight bytes --allow-zero day.log
-    x,6",
+    x,6
+    $ printf 'a,0.5\\nb,0.125\\na,2\\n' | heavy report --decimals 3
+    a,2.500
+    b,0.125",
 };
 
 pub const SUMMARISE: Help = Help {
@@ -102,7 +105,9 @@ Example:
 pub const ASK: Help = Help {
     about: "Print what a saved file says of keys: key,low,high",
     whole: "Print what a saved file says of keys: a row key,low,high for each, in the order
-given. The key's weight lies between the two, both included.
+given. The key's weight lies between the two, both included. A saved file counts in
+units of the last decimal that its records were read with, and doesn't know how many
+there were: --decimals says it again.
 A word that begins with - is given after --",
     end: "Exit status: 0 all rows are written; 1 the file could not be read or output not be
 written; 2 wrong usage; 3 the file is damaged, or a key is empty or longer than
@@ -119,7 +124,8 @@ pub const LIST: Help = Help {
     about: "Print what a saved summary says of all its keys: key,low,high",
     whole: "Print what a saved summary says of all its keys: a row key,low,high for each key with
 a counter, by falling low and then by key. The key's weight lies between the two, as
-`heavy ask` tells it. A key that isn't listed weighs at most what high has above low.
+`heavy ask` tells it, with its --decimals. A key that isn't listed weighs at most what
+high has above low.
 A word that begins with - is given after --",
     end: "Exit status: 0 all rows are written; 1 the file could not be read or output not be
 written; 2 wrong usage; 3 the file is damaged or no summary; 4 out of memory.
@@ -136,7 +142,8 @@ pub const DESCRIBE: Help = Help {
     whole: "Print what is in a saved file, in rows name,value: its version and kind; of a summary k,
 how many keys have a counter, the total weight, the sum of the counters, and the slack,
 which is how far a counter may be below its key's weight; of a table its depth, its
-width and the total weight.
+width and the total weight. The last three of a summary, and a table's total, are in
+units of the last decimal that the records were read with.
 A word that begins with - is given after --",
     end: "Exit status: 0 all rows are written; 1 the file could not be read or output not be
 written; 2 wrong usage; 3 the file is damaged; 4 out of memory.
@@ -160,7 +167,7 @@ summary say, or of standard input: the weight of each key of a saved summary tha
 comes there, by rising key, and then that of all other keys together, under the name
 `others` (or others1, others2 and so on, where that is a key of the summary). Parts
 of a stream that are condensed by one summary, joined in any order, are confirmed as
-the stream is. It holds one record at a time.
+the stream is, with the same --decimals. It holds one record at a time.
 A word that begins with - is given after --",
     end: "Exit status: 0 all rows are written; 1 a file or input could not be read or
 output not be written; 2 wrong usage; 3 the summary is damaged or none, a record is

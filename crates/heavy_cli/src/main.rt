@@ -17,8 +17,8 @@ mod words;
 use explain::{tell_format, tell_more, tell_own_k, tells_more, watches};
 use files::{read_file, read_files};
 use heavy::{
-    Method, Out, ToolError, Totals, ask_bytes, condense_bytes_from, confirm_rows, describe_file,
-    list_keys, merge_bytes, put, report_rows, summary_bytes_from, table_bytes_from,
+    Method, Out, ToolError, Totals, ask_rows, condense_bytes_from, confirm_rows, describe_file,
+    list_rows, merge_bytes, put, report_rows, summary_bytes_from, table_bytes_from,
 };
 use inputs::Inputs;
 use other_format::NOTHING;
@@ -48,8 +48,14 @@ fn answer(
             table_bytes_from(alloc, *width, *depth, *seed, inputs.records(records, 0)?)
         }
         Command::Merge { first, others } => merge_bytes(alloc, &read_files(rt, first, others)?),
-        Command::Ask { file, keys } => ask_bytes(alloc, &read_file(rt, 1, file)?, keys),
-        Command::List { file } => list_keys(alloc, &read_file(rt, 1, file)?),
+        Command::Ask {
+            file,
+            keys,
+            decimals,
+        } => ask_rows(alloc, &read_file(rt, 1, file)?, keys, *decimals),
+        Command::List { file, decimals } => {
+            list_rows(alloc, &read_file(rt, 1, file)?, *decimals)
+        }
         Command::Describe { file } => describe_file(alloc, &read_file(rt, 1, file)?),
         Command::Condense { file } => {
             let file = read_file(rt, 1, file)?;

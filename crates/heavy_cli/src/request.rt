@@ -2,13 +2,13 @@
 
 ghost use Rattle.std.specs.Prelude.{◌≡◌, [], IfOk, codes, map, option_map};
 ghost use Rattle.clap.specs.Words.{first_value, found_of};
-ghost use Rattle.heavy_cli.specs.Request.{Answers, AreOptions, AreRecordWords, AreRowOptions, AsksFor, GivesShare};
+ghost use Rattle.heavy_cli.specs.Request.{Answers, AreDecimals, AreOptions, AreRecordWords, AreRowOptions, AsksFor, GivesShare};
 ghost use Rattle.heavy_cli.specs.Words.{word_of};
 ghost use Rattle.heavy_cli.specs.Request.{IsAskedBy, IsAskedFrom, NamesTree, all_words, first_word};
 
 use crate::arguments::{
-    ALLOW_ZERO, DELIMITER, DEPTH, EXPLAIN, HEADER, K, KEY, PIECES, PROGRESS, RECORDS, SEED, SHARE,
-    TOP, WEIGHT, WIDTH, WORKERS, command_line,
+    ALLOW_ZERO, DECIMALS, DELIMITER, DEPTH, EXPLAIN, HEADER, K, KEY, PIECES, PROGRESS, RECORDS,
+    SEED, SHARE, TOP, WEIGHT, WIDTH, WORKERS, command_line,
 };
 use crate::told::{Told, told_of};
 use crate::words::{WordSource, bytes_of, read_words, texts_of};
@@ -71,10 +71,12 @@ pub enum Command {
     Ask {
         file: Vec<u8>,
         keys: Vec<Vec<u8>>,
+        decimals: u8,
     },
     /// All keys of a saved summary.
     List {
         file: Vec<u8>,
+        decimals: u8,
     },
     /// What is in a saved file.
     Describe {
@@ -146,6 +148,13 @@ fn word_given(alloc: Global, found: &ArgMatches, name: &str) -> Result<Option<Ve
     }
 }
 
+/// How many digits a weight may have behind a point.
+fn decimals_of(found: &ArgMatches) -> u8
+    ensures { AreDecimals (found_of found.now) result }
+{
+    found.get_one(DECIMALS).unwrap_or(0)
+}
+
 /// Which records are read.
 fn records_of(alloc: Global, found: &ArgMatches) -> Result<RecordWords, AllocError>
     ensures { IfOk result (AreRecordWords (found_of found.now)) }
@@ -156,6 +165,7 @@ fn records_of(alloc: Global, found: &ArgMatches) -> Result<RecordWords, AllocErr
         key: words(alloc, found, KEY)?,
         weight: word_given(alloc, found, WEIGHT)?,
         allow_zero: found.get_flag(ALLOW_ZERO),
+        decimals: decimals_of(found),
     };
     Ok(RecordWords {
         files: words(alloc, found, RECORDS)?,
@@ -192,6 +202,7 @@ fn rows_of(found: &ArgMatches) -> RowOptions
     RowOptions {
         top: found.get_one(TOP),
         share: found.get_flag(SHARE),
+        decimals: decimals_of(found),
     }
 }
 
@@ -255,7 +266,11 @@ fn ask(alloc: Global, found: &ArgMatches) -> Result<Command, AllocError>
 {
     let file = file_named(alloc, found)?;
     let keys = words(alloc, found, "KEY")?;
-    Ok(Command::Ask { file, keys })
+    Ok(Command::Ask {
+        file,
+        keys,
+        decimals: decimals_of(found),
+    })
 }
 
 fn confirm(alloc: Global, found: &ArgMatches) -> Result<Command, AllocError>
@@ -282,6 +297,7 @@ fn request_of(alloc: Global, name: &str, found: &ArgMatches) -> Result<Request, 
         "ask" => ask(alloc, found)?,
         "list" => Command::List {
             file: file_named(alloc, found)?,
+            decimals: decimals_of(found),
         },
         "describe" => Command::Describe {
             file: file_named(alloc, found)?,

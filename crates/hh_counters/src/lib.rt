@@ -3,6 +3,7 @@
 #![tactic(auto)]
 
 mod bucket_saving;
+mod candidate_counts;
 mod candidates;
 mod counts;
 mod entries;
@@ -16,6 +17,7 @@ mod summary;
 mod taking;
 
 pub use bucket_saving::{BucketSaving, NewFault};
+pub use candidate_counts::CandidateCounts;
 pub use candidates::Candidates;
 pub use counts::Counts;
 pub use monitor::{Monitor, monitored_summary};

@@ -3,7 +3,8 @@ pub mod MergeFacts
 pub mod ValueFacts
 pub mod ParsingFacts
 pub mod NumberFacts
-pub mod Pieces
+pub mod PieceFacts
+pub mod Taken
 pub mod Tried
 pub mod Alone
 pub mod Closed

@@ -5,7 +5,7 @@ use Rattle.std.proofs.lemmas.List.{get_or-map, length-map}
 use Rattle.std.proofs.lemmas.List.Sums.{sum_by-append, sum_by-cons}
 use Rattle.std.proofs.lemmas.Bool.Decides.{nat_tests}
 use Rattle.hh_stream.specs.Weights.{Bytes, Entry, weight_of, total_of, max_total}
-use Rattle.hh_stream.specs.Cuttings.{pieces_of, whole_of}
+use Rattle.hh_stream.specs.Cuttings.{whole_of}
 use Rattle.hh_counters.specs.Counters.{SummaryView, sketch_of, merge_of, misra_gries, IsHonest}
 use Rattle.hh_counters.specs.declared.summary.MergeFault.{MergeFault}
 use Rattle.hh_counters.specs.Report.{contenders, heavy, rows_above, keys_above, weights_at}
@@ -16,7 +16,6 @@ use Rattle.hh_pool.specs.Laws.{TreesMergeSummaries}
 use Rattle.hh_pool.specs.Outcomes.{AreEnough, IsMerged}
 use Rattle.hh_shared.proofs.Tallies.{times-here}
 use Rattle.hh_pool.proofs.MergeFacts.{at-left, at-right, distinct-leaves, length_leaves, sum-leaves}
-use Rattle.hh_pool.proofs.Pieces.{length-pieces_of}
 use Rattle.hh_pool.proofs.ValueFacts.{IsMergeOf, merge-of}
 
 abbrev total_at : List SummaryView → ℕ → ℕ
@@ -122,12 +121,10 @@ heavy_is xs p q total keys weights enough total_is weights_are =
     (λ i. rows_above p q (total_is i) (zip keys (weights_are i))) ∙ enough
 
 -- so no refusal comes
-pub no_refusal : (t : MergeTree) (k : ℕ) (lengths : List ℕ) (xs : List Entry) (ss : List SummaryView) (e : MergeFault)
-    → IsMergeTree t (length lengths) → whole_of (pieces_of lengths xs) ≡ xs → total_of xs ≤ max_total
-    → ss ≡ map (sketch_of k) (pieces_of lengths xs) → tree_result t ss ≡ Err e → ⊥
-no_refusal t k lengths xs ss e tree whole most is refused =
-    let pieces = pieces_of lengths xs in
-    let plan = subst (IsMergeTree t) (sym (length-pieces_of lengths xs)) tree in
-    let merges = pieces_merge t k pieces plan (omega (arith, most, ap total_of whole)) in
+pub no_refusal : (t : MergeTree) (k : ℕ) (pieces : List (List Entry)) (ss : List SummaryView) (e : MergeFault)
+    → IsMergeTree t (length pieces) → total_of (whole_of pieces) ≤ max_total
+    → ss ≡ map (sketch_of k) pieces → tree_result t ss ≡ Err e → ⊥
+no_refusal t k pieces ss e tree most is refused =
+    let merges = pieces_merge t k pieces tree most in
     let here : tree_result t ss ≡ Ok merges.0 = ap (tree_result t) is ∙ merges.1 in
     cc

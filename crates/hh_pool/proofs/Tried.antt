@@ -1,30 +1,31 @@
 -- One piece more, and what two workers have made together.
-use Rattle.std.proofs.Common.{◌≡◌, ℕ, zero, suc, ◌+◌, ◌*◌, ◌^◌, ◌<◌, ◌≤◌, List, [], ◌∷◌, ◌++◌, length, get_or, map, replicate, ⊎_elim, refl, sym, ap, ◌∙◌, subst, arith, All, slice_get, Some, sum_by}
+use Rattle.std.proofs.Common.{◌≡◌, ◌⊎◌, inl, inr, ℕ, zero, suc, ◌+◌, ◌*◌, ◌<◌, ◌≤◌, List, [], ◌∷◌, ◌++◌, length, get_or, map, replicate, ⊎_elim, refl, sym, ap, ◌∙◌, subst, arith, All, slice_get, Some, sum_by}
 use Rattle.std.proofs.lemmas.List.{map-append, append-nil, get_or_append_left, get_or_push, length-append}
 use Rattle.std.specs.List.{range_with_len}
 use Rattle.std.proofs.lemmas.Option.{get_or_from_slice_get, slice_get-map}
 use Rattle.std.specs.Option.{option_map}
-use Rattle.std.proofs.lemmas.List.Elements.{All-nil, All-cons, All-push}
+use Rattle.std.proofs.lemmas.List.Elements.{All-nil, All-push}
 use Rattle.std.specs.List.Sorted.{IsStrictlyIncreasing}
 use Rattle.std.proofs.lemmas.Grind.{flat_map-append}
 use Rattle.std.proofs.lemmas.Bool.{cases_lt}
 use mathlib.Core.Logic.{dite}
 use native.Mathlib.Decide.{ℕ_discrete}
 use Rattle.hh_stream.specs.Weights.{Bytes, Entry, at_key, max_total, weight_of, total_of}
-use Rattle.hh_stream.specs.Cuttings.{pieces_of, whole_of}
-use Rattle.hh_shared.proofs.Tallies.{times-append, times-push, added-append}
-use Rattle.hh_pool.proofs.Pieces.{distinct_pieces, sum_by-items, weight_of-le}
+use Rattle.hh_stream.specs.Cuttings.{whole_of}
+use Rattle.hh_shared.proofs.Tallies.{times-append, times-elsewhere, times-push, added-append}
+use Rattle.hh_pool.proofs.PieceFacts.{sum_by-items}
 use Rattle.std.proofs.lemmas.List.Sums.{sum_by-append}
+use Rattle.hh_counters.specs.Counting.{Count, count_of}
 use Rattle.hh_counters.specs.Report.{weights_at, counts_with}
 use Rattle.hh_counters.specs.Counters.{SummaryView, sketch_of}
 use Rattle.hh_countmin.specs.Family.{Coefficients}
 use Rattle.hh_countmin.specs.Table.{TableView, at_cell, cell_at, cell_sum, table_of}
 use Rattle.hh_countmin.specs.Laws.{CellsAreCellSums}
-use Rattle.hh_shared.specs.Tally.{cell_total, IsDistinctBelow}
+use Rattle.hh_shared.specs.Tally.{times, cell_total, AreDisjoint, IsDistinctBelow}
 use Rattle.hh_shared.specs.Seats.{Sums, Holding, fresh, seat_of_both}
 use Rattle.hh_pool.specs.Settings.{Settings}
-use Rattle.hh_pool.specs.Passes.{piece_of, items_at, summaries_at, HasTried, AreFirstPasses, AreSecondPasses, IsFirstPass, IsSecondPass}
-use Rattle.hh_pool.specs.Progress.{HasTriedUpTo, IsFirstPassUpTo, IsSecondPassUpTo}
+use Rattle.hh_pool.specs.Passes.{piece_of, items_at, summaries_at, HasTried, HaveTaken, MayRefuse, AreFirstPasses, AreSecondPasses, IsFirstPass, IsSecondPass}
+use Rattle.hh_pool.specs.Progress.{AreCounted, HasTriedUpTo, IsFirstPassUpTo, IsSecondPassUpTo}
 
 items_at-push : (pieces : List (List Entry)) (claims : List ℕ) (i : ℕ)
     → items_at pieces (claims ++ i ∷ []) ≡ items_at pieces claims ++ piece_of pieces i
@@ -111,29 +112,43 @@ one_more_claimed pieces n seat after e distinct p =
     }
 
 -- a worker of the first pass begins with empty lists and the table of no items
-pub first_begins : (pieces : List (List Entry)) (settings : Settings) (sums : Sums) (grid : TableView)
-    → grid ≡ table_of settings.family settings.width [] → IsFirstPassUpTo pieces settings 0 (fresh sums) [] grid
-first_begins pieces settings sums grid e = record { so_far = nothing_tried pieces sums; summaries = refl; table = e }
+pub first_begins : (reads : ℕ → Type 0) (pieces : List (List Entry)) (settings : Settings) (sums : Sums) (grid : TableView)
+    → grid ≡ table_of settings.family settings.width [] → IsFirstPassUpTo reads pieces settings 0 (fresh sums) [] grid
+first_begins reads pieces settings sums grid e = record {
+  so_far = nothing_tried pieces sums;
+  read = λ i some. absurd (omega arith);
+  summaries = refl;
+  table = e;
+}
 
 -- it has met one piece more
-pub first_met : (pieces : List (List Entry)) (settings : Settings) (n : ℕ) (seat after : Holding)
+pub first_met : (reads : ℕ → Type 0) (pieces : List (List Entry)) (settings : Settings) (n : ℕ) (seat after : Holding)
     (kept : List (ℕ × SummaryView)) (grid : TableView) → after ≡ record seat { met = seat.met ++ n ∷ [] }
-    → IsFirstPassUpTo pieces settings n seat kept grid → IsFirstPassUpTo pieces settings (n + 1) after kept grid
-first_met pieces settings n seat after kept grid e p =
-    rw e (record { so_far = one_more_met pieces n seat p.so_far; summaries = p.summaries; table = p.table })
+    → IsFirstPassUpTo reads pieces settings n seat kept grid
+    → IsFirstPassUpTo reads pieces settings (n + 1) after kept grid
+first_met reads pieces settings n seat after kept grid e p = rw e (record {
+  so_far = one_more_met pieces n seat p.so_far;
+  read = p.read;
+  summaries = p.summaries;
+  table = p.table;
+})
 
 -- it has claimed one piece more, summarised it and added its items to the table
-pub first_claimed : (pieces : List (List Entry)) (settings : Settings) (n : ℕ) (seat after : Holding)
+pub first_claimed : (reads : ℕ → Type 0) (pieces : List (List Entry)) (settings : Settings) (n : ℕ) (seat after : Holding)
     (kept more : List (ℕ × SummaryView)) (grid : TableView)
     → after ≡ record seat { claims = seat.claims ++ n ∷ [] } → IsDistinctBelow (length pieces) after.claims
-    → more ≡ kept ++ (n, sketch_of settings.k (piece_of pieces n)) ∷ []
+    → reads n → more ≡ kept ++ (n, sketch_of settings.k (piece_of pieces n)) ∷ []
     → grid ≡ table_of settings.family settings.width (items_at pieces seat.claims ++ piece_of pieces n)
-    → (was : TableView) → IsFirstPassUpTo pieces settings n seat kept was
-    → IsFirstPassUpTo pieces settings (n + 1) after more grid
-first_claimed pieces settings n seat after kept more grid e distinct f g was p =
+    → (was : TableView) → IsFirstPassUpTo reads pieces settings n seat kept was
+    → IsFirstPassUpTo reads pieces settings (n + 1) after more grid
+first_claimed reads pieces settings n seat after kept more grid e distinct could f g was p =
     let claims = ap (λ h. h.claims) e in
     record {
       so_far = one_more_claimed pieces n seat after e distinct p.so_far;
+      read = λ i some. dite (ℕ_discrete i n)
+          (λ is. subst reads (sym is) could)
+          (λ ne. p.read i (omega
+          (arith, some, ap (times i) claims, times-append i seat.claims (n ∷ []), times-elsewhere i n [] (λ q. ne (sym q)))));
       summaries = f ∙ (ap (λ k. k ++ (n, sketch_of settings.k (piece_of pieces n)) ∷ []) p.summaries
           ∙ (sym (map-append _ seat.claims (n ∷ [])) ∙ ap (summaries_at settings.k pieces) (sym claims)));
       table = g ∙ ap (table_of settings.family settings.width) (sym (items_at-push pieces seat.claims n)
@@ -141,12 +156,12 @@ first_claimed pieces settings n seat after kept more grid e distinct f g was p =
     }
 
 -- the cells of the worker's own table are added to the shared ones
-pub first_ends : CellsAreCellSums
+pub first_ends : CellsAreCellSums → (reads : ℕ → Type 0)
     → (pieces : List (List Entry)) (settings : Settings) (seat after : Holding) (kept : List (ℕ × SummaryView)) (grid : TableView)
     → after ≡ record seat { adds = after.adds }
     → ((cell : ℕ) → cell_total cell after.adds ≡ cell_total cell seat.adds + get_or grid.cells cell 0)
-    → IsFirstPassUpTo pieces settings (length pieces) seat kept grid → IsFirstPass pieces settings after kept
-first_ends law pieces settings seat after kept grid e adds p =
+    → IsFirstPassUpTo reads pieces settings (length pieces) seat kept grid → IsFirstPass pieces settings after kept
+first_ends law reads pieces settings seat after kept grid e adds p =
     let claims = ap (λ h. h.claims) e in
     record {
       rising = subst IsStrictlyIncreasing (sym claims) p.so_far.rising;
@@ -160,6 +175,20 @@ first_ends law pieces settings seat after kept grid e adds p =
         summaries = p.summaries ∙ ap (summaries_at settings.k pieces) (sym claims);
       };
     }
+
+-- and the total of what the worker has taken is its table's
+pub first_taken : (reads : ℕ → Type 0) (pieces : List (List Entry)) (settings : Settings) (seat after : Holding)
+    (kept : List (ℕ × SummaryView)) (grid : TableView) (weight : ℕ) → after ≡ record seat { adds = after.adds }
+    → IsFirstPassUpTo reads pieces settings (length pieces) seat kept grid → weight ≡ grid.total → weight ≤ max_total
+    → HaveTaken reads pieces after.claims weight
+first_taken reads pieces settings seat after kept grid weight e p is low =
+    let claims = ap (λ h. h.claims) e in
+    subst (λ claims. HaveTaken reads pieces claims weight) (sym claims) (record {
+      distinct = p.so_far.distinct;
+      read = p.read;
+      total = is ∙ ap (λ (g : TableView). g.total) p.table;
+      bounded = low;
+    })
 
 -- what two workers brought back, joined
 pub first_joined : (pieces : List (List Entry)) (settings : Settings) (one other : Holding)
@@ -176,36 +205,94 @@ first_joined pieces settings one other kept more p q = record {
   summaries = (λ i. p.summaries i ++ q.summaries i) ∙ sym (map-append _ one.claims other.claims);
 }
 
--- the pieces claimed so far and the next one weigh at most what a stream may
-pub next_total : (lengths : List ℕ) (xs piece : List Entry) (n count : ℕ) (seat after : Holding)
-    → count ≡ length lengths → after ≡ record seat { claims = seat.claims ++ n ∷ [] }
-    → IsDistinctBelow count after.claims
-    → piece ≡ piece_of (pieces_of lengths xs) n → whole_of (pieces_of lengths xs) ≡ xs → total_of xs ≤ max_total
-    → total_of (items_at (pieces_of lengths xs) seat.claims) + total_of piece ≤ max_total
-next_total lengths xs piece n count seat after long e distinct is whole most =
+-- the total of the items of two workers' pieces
+total-joined : (pieces : List (List Entry)) (one other : List ℕ)
+    → total_of (items_at pieces (one ++ other)) ≡ total_of (items_at pieces one) + total_of (items_at pieces other)
+total-joined pieces one other = ap total_of (flat_map-append (piece_of pieces) one other)
+    ∙ sum_by-append (λ (e : Entry). e.1) (items_at pieces one) (items_at pieces other)
+
+-- claims of two workers that have none in common are distinct
+distinct-joined : (n : ℕ) (one other : List ℕ) → IsDistinctBelow n one → IsDistinctBelow n other → AreDisjoint one other
+    → IsDistinctBelow n (one ++ other)
+distinct-joined n one other p q apart = record {
+  once = λ j. ⊎_elim
+      (λ (some : 0 < times j one). omega (arith, times-append j one other, p.once j, apart j some))
+      (λ (none : times j one ≤ 0). omega (arith, times-append j one other, q.once j))
+      (cases_lt 0 (times j one));
+  below = λ j some. ⊎_elim
+      (λ (here : 0 < times j one). p.below j here)
+      (λ (none : times j one ≤ 0). q.below j (omega (arith, times-append j one other)))
+      (cases_lt 0 (times j one));
+}
+
+-- what two workers have taken, together
+pub taken_joined : (reads : ℕ → Type 0) (pieces : List (List Entry)) (one other : List ℕ) (weight more both : ℕ)
+    → HaveTaken reads pieces one weight → HaveTaken reads pieces other more → AreDisjoint one other
+    → both ≡ weight + more → both ≤ max_total → HaveTaken reads pieces (one ++ other) both
+taken_joined reads pieces one other weight more both p q apart is low = record {
+  distinct = distinct-joined (length pieces) one other p.distinct q.distinct apart;
+  read = λ i some. ⊎_elim
+      (λ (here : 0 < times i one). p.read i here)
+      (λ (none : times i one ≤ 0). q.read i (omega (arith, times-append i one other)))
+      (cases_lt 0 (times i one));
+  total = omega (arith, is, p.total, q.total, total-joined pieces one other);
+  bounded = low;
+}
+
+-- where that is too much, so is the total of all
+pub taken_too_much : (reads refuses : ℕ → Type 0) (pieces : List (List Entry)) (one other : List ℕ) (weight more : ℕ)
+    → HaveTaken reads pieces one weight → HaveTaken reads pieces other more → AreDisjoint one other
+    → max_total < weight + more → MayRefuse refuses pieces
+taken_too_much reads refuses pieces one other weight more p q apart high =
+    let distinct = distinct-joined (length pieces) one other p.distinct q.distinct apart in
+    let all = sum_by-items (λ (e : Entry). e.1) pieces (one ++ other) distinct in
+    inr (omega (arith, all, high, p.total, q.total, total-joined pieces one other))
+
+-- what is known where the next piece is refused
+pub next_refused : (refuses : ℕ → Type 0) (pieces : List (List Entry)) (n before taken : ℕ) → n < length pieces
+    → before + total_of (piece_of pieces n) ≤ total_of (whole_of pieces) → taken ≤ before
+    → refuses n ⊎ (max_total < taken + total_of (piece_of pieces n)) → MayRefuse refuses pieces
+next_refused refuses pieces n before taken low fits most refused = elim refused [
+  | inl r ↦ inl (n, low, r)
+  | inr high ↦ inr (omega (arith, high, fits, most))
+]
+
+-- the pieces claimed so far and the next one weigh at most what all do
+pub claimed_total : (pieces : List (List Entry)) (n : ℕ) (seat after : Holding)
+    → after ≡ record seat { claims = seat.claims ++ n ∷ [] } → IsDistinctBelow (length pieces) after.claims
+    → total_of (items_at pieces seat.claims) + total_of (piece_of pieces n) ≤ total_of (whole_of pieces)
+claimed_total pieces n seat after e distinct =
     let weight : Entry → ℕ = λ e. e.1 in
-    let pieces = pieces_of lengths xs in
-    let all = sum_by-items weight pieces after.claims (distinct_pieces lengths xs count after.claims long distinct) in
+    let all = sum_by-items weight pieces after.claims distinct in
     let claims = ap (λ h. total_of (items_at pieces h.claims)) e ∙ ap total_of (items_at-push pieces seat.claims n) in
     let sum = sum_by-append weight (items_at pieces seat.claims) (piece_of pieces n) in
-    omega (arith, all, claims, sum, ap total_of is, ap total_of whole)
+    omega (arith, all, claims, sum)
 
 -- no items have no weights
 pub no_weights : (keys : List Bytes) → replicate (length keys) 0 ≡ weights_at keys []
 no_weights [] = refl
 no_weights (k ∷ ks) = ap (λ ns. 0 ∷ ns) (no_weights ks)
 
+-- keys before any item
+pub none_counted : (keys : List Bytes) (counts : Count) → counts ≡ count_of keys [] → AreCounted keys [] counts
+none_counted keys counts e = record {
+  weights = ap (λ (c : Count). c.weights) e;
+  keys = ap (λ (c : Count). c.keys) e;
+  total = omega (arith, ap (λ (c : Count). c.total) e);
+}
+
 -- the same of the second pass
-pub second_begins : (pieces : List (List Entry)) (keys : List Bytes) (sums : Sums) (numbers : List ℕ)
-    → numbers ≡ replicate (length keys) 0 → IsSecondPassUpTo pieces keys 0 (fresh sums) numbers
-second_begins pieces keys sums numbers e = record { so_far = nothing_tried pieces sums; numbers = e ∙ no_weights keys }
+pub second_begins : (pieces : List (List Entry)) (keys : List Bytes) (sums : Sums) (counts : Count)
+    → counts ≡ count_of keys [] → IsSecondPassUpTo pieces keys 0 (fresh sums) counts
+second_begins pieces keys sums counts e =
+    record { so_far = nothing_tried pieces sums; counted = none_counted keys counts e }
 
 -- one piece more was met
-pub second_met : (pieces : List (List Entry)) (keys : List Bytes) (n : ℕ) (seat after : Holding) (numbers : List ℕ)
-    → after ≡ record seat { met = seat.met ++ n ∷ [] } → IsSecondPassUpTo pieces keys n seat numbers
-    → IsSecondPassUpTo pieces keys (n + 1) after numbers
-second_met pieces keys n seat after numbers e p =
-    rw e (record { so_far = one_more_met pieces n seat p.so_far; numbers = p.numbers })
+pub second_met : (pieces : List (List Entry)) (keys : List Bytes) (n : ℕ) (seat after : Holding) (counts : Count)
+    → after ≡ record seat { met = seat.met ++ n ∷ [] } → IsSecondPassUpTo pieces keys n seat counts
+    → IsSecondPassUpTo pieces keys (n + 1) after counts
+second_met pieces keys n seat after counts e p =
+    rw e (record { so_far = one_more_met pieces n seat p.so_far; counted = p.counted })
 
 -- counting goes on where it stopped
 pub counted-weights_at : (keys : List Bytes) (xs ys : List Entry)
@@ -215,29 +302,17 @@ counted-weights_at (k ∷ ks) xs ys = (λ i. sym (sum_by-append (at_key k) xs ys
 
 -- one piece more was claimed and counted
 pub second_claimed : (pieces : List (List Entry)) (keys : List Bytes) (n : ℕ) (seat after : Holding)
-    (numbers more : List ℕ)
+    (counts more : Count)
     → after ≡ record seat { claims = seat.claims ++ n ∷ [] } → IsDistinctBelow (length pieces) after.claims
-    → more ≡ counts_with keys (piece_of pieces n) numbers
-    → IsSecondPassUpTo pieces keys n seat numbers → IsSecondPassUpTo pieces keys (n + 1) after more
-second_claimed pieces keys n seat after numbers more e distinct f p =
+    → AreCounted keys (items_at pieces seat.claims ++ piece_of pieces n) more
+    → IsSecondPassUpTo pieces keys n seat counts → IsSecondPassUpTo pieces keys (n + 1) after more
+second_claimed pieces keys n seat after counts more e distinct counted p =
     let claims = ap (λ h. h.claims) e in
     record {
       so_far = one_more_claimed pieces n seat after e distinct p.so_far;
-      numbers = f ∙ (ap (counts_with keys (piece_of pieces n)) p.numbers
-          ∙ (counted-weights_at keys (items_at pieces seat.claims) (piece_of pieces n)
-          ∙ ap (weights_at keys) (sym (items_at-push pieces seat.claims n) ∙ ap (items_at pieces) (sym claims))));
+      counted = subst (λ xs. AreCounted keys xs more)
+          (sym (items_at-push pieces seat.claims n) ∙ ap (items_at pieces) (sym claims)) counted;
     }
-
--- each weight in these items, with so much more, fits a number
-pub weights_fit : (keys : List Bytes) (xs : List Entry) (more : ℕ) (weights : List ℕ) → total_of xs + more ≤ max_total
-    → weights ≡ weights_at keys xs → All (λ (m : ℕ). m + more < 2 ^ 64) weights
-weights_fit keys xs more weights low e = subst (All (λ (m : ℕ). m + more < 2 ^ 64)) (sym e) (each keys)
-  where
-    each : (keys : List Bytes) → All (λ (m : ℕ). m + more < 2 ^ 64) (weights_at keys xs)
-    each [] = All-nil (λ (m : ℕ). m + more < 2 ^ 64)
-    each (k ∷ ks) =
-        All-cons (λ (m : ℕ). m + more < 2 ^ 64) (weight_of k xs) (weights_at ks xs)
-        (omega (arith, weight_of-le k xs)) (each ks)
 
 -- the number at a key's place is the key's weight
 pub weight_behind_number : (keys : List Bytes) (xs : List Entry) (i : ℕ) (key : Bytes) → slice_get keys i ≡ Some key
@@ -254,11 +329,11 @@ claim-behind_number pieces keys [] numbers e i some =
 claim-behind_number pieces keys (j ∷ js) numbers e i some = omega arith
 
 -- the worker's own numbers are added to the shared ones
-pub second_ends : (pieces : List (List Entry)) (keys : List Bytes) (seat after : Holding) (numbers : List ℕ)
+pub second_ends : (pieces : List (List Entry)) (keys : List Bytes) (seat after : Holding) (counts : Count)
     → after ≡ record seat { adds = after.adds }
-    → ((cell : ℕ) → cell_total cell after.adds ≡ cell_total cell seat.adds + get_or numbers cell 0)
-    → IsSecondPassUpTo pieces keys (length pieces) seat numbers → IsSecondPass pieces keys after
-second_ends pieces keys seat after numbers e adds p =
+    → ((cell : ℕ) → cell_total cell after.adds ≡ cell_total cell seat.adds + get_or counts.weights cell 0)
+    → IsSecondPassUpTo pieces keys (length pieces) seat counts → IsSecondPass pieces keys after
+second_ends pieces keys seat after counts e adds p =
     let claims = ap (λ h. h.claims) e in
     record {
       rising = subst IsStrictlyIncreasing (sym claims) p.so_far.rising;
@@ -266,7 +341,7 @@ second_ends pieces keys seat after numbers e adds p =
         tried = subst (HasTried (length pieces)) (sym e) p.so_far.tried;
         adds = λ i key at.
             let weight = weight_behind_number keys (items_at pieces seat.claims) i key at in
-            let numbers = ap (λ ns. get_or ns i 0) p.numbers in
+            let numbers = ap (λ ns. get_or ns i 0) p.counted.weights in
             let items = ap (λ is. weight_of key (items_at pieces is)) claims in
             omega (arith, adds i, ap (cell_total i) p.so_far.none_added, numbers, weight, items);
       };

@@ -13,7 +13,7 @@ use Rattle.hh_pool.specs.Trees.{IsMergeTree, MergeTree, MergesHonestly, Piece, M
 use Rattle.hh_shared.specs.Tally.{times}
 use Rattle.hh_shared.proofs.Tallies.{times-append, times-elsewhere, times-here}
 use Rattle.hh_pool.proofs.MergeFacts.{at-left, at-right, distinct-leaves, sum-leaves}
-use Rattle.hh_pool.proofs.Pieces.{sum_by-flat_map}
+use Rattle.hh_pool.proofs.PieceFacts.{sum_by-flat_map}
 
 -- a merge that went well had two results with one k
 both-ok : (a b : Result SummaryView MergeFault) (u : SummaryView) → merge_both a b ≡ Ok u

@@ -1,15 +1,18 @@
 -- What the workers of a pass bring back.
-use Rattle.std.specs.Prelude.{◌≡◌, ℕ, ◌+◌, ◌*◌, ◌^◌, ◌<◌, All, List, [], length, map, slice_get, slice_index_or, Some, Result, IfOk}
+use Rattle.std.specs.Prelude.{◌≡◌, ◌⊎◌, ℕ, ◌+◌, ◌*◌, ◌^◌, ◌<◌, ◌≤◌, All, List, [], length, map, slice_get, slice_index_or, Some, Result, IfOk, IsErrOf}
 use Rattle.std.specs.Borrow.{RattleType}
 use Rattle.std.specs.List.{flat_map}
 use Rattle.std.specs.List.Sorted.{IsStrictlyIncreasing}
 use Rattle.std.specs.Thread.{IsSend, IsSync}
-use Rattle.hh_stream.specs.Weights.{Bytes, Entry, weight_of}
+use Rattle.hh_stream.specs.Weights.{Bytes, Entry, max_total, total_of, weight_of}
+use Rattle.hh_stream.specs.Cuttings.{whole_of}
 use Rattle.hh_counters.specs.Counters.{SummaryView, sketch_of}
 use Rattle.hh_countmin.specs.Table.{cell_sum}
 use Rattle.hh_shared.specs.Tally.{HasAllBelow, IsDistinctBelow, times, cell_total}
 use Rattle.hh_shared.specs.Seats.{Holding, Sums, fresh}
 use Rattle.hh_pool.specs.Settings.{Settings}
+use Rattle.hh_pool.specs.declared.pieces.PieceFault.{PieceFault}
+use Rattle.hh_pool.specs.declared.pieces.PieceFault.TheVariants as fault
 
 -- the items of piece i
 abbrev pub piece_of : List (List Entry) → ℕ → List Entry
@@ -18,6 +21,15 @@ piece_of pieces i = slice_index_or pieces i []
 -- the items of the pieces with these numbers, one piece after the other
 abbrev pub items_at : List (List Entry) → List ℕ → List Entry
 items_at pieces numbers = flat_map (piece_of pieces) numbers
+
+-- each of the pieces could be read
+abbrev pub AreRead : (ℕ → Type 0) → List (List Entry) → Type 0
+AreRead reads pieces = (i : ℕ) → i < length pieces → reads i
+
+-- what is known where pieces were refused: one of them was, or the weights of all add up to more than a total may be
+abbrev pub MayRefuse : (ℕ → Type 0) → List (List Entry) → Type 0
+MayRefuse refuses pieces =
+    ((i : ℕ) × (i < length pieces) × refuses i) ⊎ (max_total < total_of (whole_of pieces))
 
 -- the summaries of the pieces with these numbers, each with its number
 abbrev pub summaries_at : ℕ → List (List Entry) → List ℕ → List (ℕ × SummaryView)
@@ -44,6 +56,14 @@ pub record AreFirstPasses (pieces : List (List Entry)) (settings : Settings) (se
       ≡ cell_sum settings.family settings.width r c (items_at pieces seat.claims)
   pub summaries : kept ≡ summaries_at settings.k pieces seat.claims
 
+-- What workers have taken who claimed the pieces with these numbers: each of them once, each could be read, and their
+-- items have this total
+pub record HaveTaken (reads : ℕ → Type 0) (pieces : List (List Entry)) (claims : List ℕ) (weight : ℕ) : Type 0 where
+  pub distinct : IsDistinctBelow (length pieces) claims
+  pub read : (i : ℕ) → 0 < times i claims → reads i
+  pub total : weight ≡ total_of (items_at pieces claims)
+  pub bounded : weight ≤ max_total
+
 -- What workers of the second pass bring back together. Each piece was claimed or met. The additions to a key's cell sum
 -- up to its weight over the claimed pieces
 pub record AreSecondPasses (pieces : List (List Entry)) (keys : List Bytes) (seat : Holding) : Type 0 where
@@ -63,9 +83,10 @@ pub record CanRun (runtime pass kept : RattleType) (fits : Type 0) (sums : Sums)
   pub some : 0 < count
   pub numbers : first + count < 2 ^ 64
 
--- what workers bring back, where memory was enough: a seat of these sums, of which the pass says all that it does
-abbrev pub BringBack : {K E : Type 0} → (Holding → K → Type 0) → Sums → Result (Holding × K) E → Type 0
-BringBack all_done sums result = IfOk result (λ r. (r.0.sums ≡ sums) × all_done r.0 r.1)
+-- what workers bring back: a seat of these sums, of which the pass says all that it does, or why there is none
+abbrev pub BringBack : {K : Type 0} → (Holding → K → Type 0) → Type 0 → Sums → Result (Holding × K) PieceFault → Type 0
+BringBack all_done may_refuse sums result =
+    IfOk result (λ r. (r.0.sums ≡ sums) × all_done r.0 r.1) × (IsErrOf result fault.Refused → may_refuse)
 
 -- One worker takes the lowest piece that it finds unclaimed: each piece that it claims is above those that it claimed
 -- before

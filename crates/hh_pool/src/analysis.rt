@@ -1,9 +1,10 @@
-//! The analysis of a stream: two passes by workers, and a merge between them.
+//! The analysis of a stream, or of pieces of any kind: two passes by workers, and a merge between
+//! them.
 
 ghost use Rattle.std.specs.Prelude.{◌≡◌, ◌≢◌, ◌+◌, ◌*◌, ◌≤◌, ◌<◌, ◌↔◌, true};
 ghost use Rattle.std.specs.Prelude.{List, length, map, sum, IfOk, IsErr, IsErrOf, OnErr, OnOk, Err};
-ghost use Rattle.hh_stream.specs.Weights.{Entry, total_of};
-ghost use Rattle.hh_stream.specs.Cuttings.{pieces_of};
+ghost use Rattle.hh_stream.specs.Weights.{Entry, max_total, total_of};
+ghost use Rattle.hh_stream.specs.Cuttings.{max_pieces, pieces_of, whole_of};
 ghost use Rattle.hh_stream.specs.Ranges.{in_range};
 ghost use Rattle.hh_counters.specs.Counters.{max_k, IsHonest, sketch_of};
 ghost use Rattle.hh_counters.specs.Report.{IsShare, weights_at, heavy};
@@ -11,14 +12,15 @@ ghost use Rattle.hh_countmin.specs.Table.{estimate_in, table_of};
 ghost use Rattle.hh_pool.specs.Settings.{max_workers};
 ghost use Rattle.hh_pool.specs.Trees.{IsMergeTree, leaves};
 ghost use Rattle.hh_pool.specs.Outcomes.{AreEnough, IsMerged};
-ghost use Rattle.hh_pool.specs.Progress.{IsCut, pieces_in};
+ghost use Rattle.hh_pool.specs.Passes.{AreRead, MayRefuse};
 
 use crate::first::FirstPass;
 use crate::gate::Gate;
 use crate::merging::merge_by;
 use crate::options::Options;
-use crate::outcome::{Outcome, RunError};
+use crate::outcome::{Outcome, PiecesError, RunError};
 use crate::pass::Work;
+use crate::pieces::{CutStream, PieceFault, Pieces};
 use crate::plan::Plan;
 use crate::second::SecondPass;
 use crate::workers::run_apart;
@@ -33,68 +35,77 @@ use std::alloc::{AllocError, Global};
 use std::sync::Wait;
 use std::thread::Threads;
 
-/// The table of the stream, whose cells these are.
-fn table_of_cells(stream: &Stream, options: &Options, cells: Vec<u64>) -> Result<Table, AllocError>
-    requires { cells.items ≡ (table_of options.now.family options.now.width stream.now).cells }
-    ensures { IfOk result
-        (λ table. table ≡ table_of options.now.family options.now.width stream.now) }
-{
-    tables_fit();
-    let family = options.family().copy()?;
-    Ok(Table::from_cells(family, options.width(), stream.total(), cells))
-}
-
-/// The first pass: the summaries of the pieces, in order, and the table of the stream.
-fn summarise<R: Threads + Wait + Sync, G: Gate + Sync>(
+/// The first pass: the summaries of the pieces, in order, and the table of all items.
+fn summarise<R: Threads + Wait + Sync, P: Pieces + Sync, G: Gate + Sync>(
     rt: &R,
-    work: &Work<G>,
+    work: &Work<P, G>,
     options: &Options,
-) -> Result<(Vec<Summary>, Table), AllocError>
-    requires { IsCut work.now }
+) -> Result<(Vec<Summary>, Table), PieceFault>
+    requires some { 0 < length (P.pieces work.now.pieces.now) }
+    requires few { length (P.pieces work.now.pieces.now) ≤ max_pieces }
     ensures summaries { IfOk result (λ r.
-        r.0.items ≡ map (sketch_of options.now.k) (pieces_in work.now)) }
-    ensures table { IfOk result
-        (λ r. r.1 ≡ table_of options.now.family options.now.width work.now.stream.now) }
+        r.0.items ≡ map (sketch_of options.now.k) (P.pieces work.now.pieces.now)) }
+    ensures table { let options = options.now in IfOk result (λ r.
+        r.1 ≡ table_of options.family options.width (whole_of (P.pieces work.now.pieces.now))) }
+    ensures read { let pieces = work.now.pieces.now in
+        OnOk result (AreRead (P.reads pieces) (P.pieces pieces)) }
+    ensures refused { let pieces = work.now.pieces.now in
+        IsErrOf result PieceFault.Refused → MayRefuse (P.refuses pieces) (P.pieces pieces) }
 {
-    pieces_make_the_whole();
     cells_are_cell_sums();
     let pass = FirstPass { work, options };
     let cells = (options.family().depth() * options.width()) as usize;
-    let (sums, seat) = SharedSums::new(work.alloc, work.cutting.count(), cells)?;
+    let (sums, seat) = SharedSums::new(work.alloc, work.pieces.count(), cells)?;
     let (seat, found) = run_apart(rt, &sums, seat, &pass, options.workers())?;
     if !sums.holds_all(&seat) {
         return pass.alone();
     }
-    let summaries = pass.in_order(found)?;
-    // It bounds the sums.
-    let _total = work.stream.total();
+    let summaries = pass.in_order(found.summaries)?;
     let cells = sums.close(seat)?;
-    Ok((summaries, table_of_cells(work.stream, options, cells)?))
+    Ok((summaries, table_of_cells(options, found.total, cells)?))
 }
 
-/// The second pass: the weight of each candidate in the stream.
-fn weigh<R: Threads + Wait + Sync, G: Gate + Sync>(
+/// The table with these cells and this total.
+fn table_of_cells(options: &Options, total: u64, cells: Vec<u64>) -> Result<Table, AllocError>
+    requires total { total ≤ max_total }
+    requires cells { (xs : List Entry) × (total ≡ total_of xs)
+        × (cells.items ≡ (table_of options.now.family options.now.width xs).cells) }
+    ensures { IfOk result (λ table. table ≡ record {
+      family = options.now.family;
+      width = options.now.width;
+      total = total;
+      cells = cells.items;
+    }) }
+{
+    tables_fit();
+    let family = options.family().copy()?;
+    Ok(Table::from_cells(family, options.width(), total, cells))
+}
+
+/// The second pass: the weight of each candidate in all items.
+fn weigh<R: Threads + Wait + Sync, P: Pieces + Sync, G: Gate + Sync>(
     rt: &R,
-    work: &Work<G>,
+    work: &Work<P, G>,
     candidates: &Candidates,
     workers: u64,
-) -> Result<Vec<u64>, AllocError>
-    requires same_len { IsCut work.now }
+) -> Result<Vec<u64>, PieceFault>
+    requires some { 0 < length (P.pieces work.now.pieces.now) }
+    requires few { length (P.pieces work.now.pieces.now) ≤ max_pieces }
+    requires total { total_of (whole_of (P.pieces work.now.pieces.now)) ≤ max_total }
     requires workers { in_range workers max_workers ≡ true }
-    requires few { length candidates.now ≤ max_k }
-    ensures { IfOk result
-        (λ weights. weights.items ≡ weights_at candidates.now work.now.stream.now) }
+    requires few_keys { length candidates.now ≤ max_k }
+    ensures weights { IfOk result (λ weights.
+        weights.items ≡ weights_at candidates.now (whole_of (P.pieces work.now.pieces.now))) }
+    ensures refused { let pieces = work.now.pieces.now in
+        IsErrOf result PieceFault.Refused → MayRefuse (P.refuses pieces) (P.pieces pieces) }
 {
-    pieces_make_the_whole();
     let pass = SecondPass { work, candidates };
-    let (sums, seat) = SharedSums::new(work.alloc, work.cutting.count(), candidates.len())?;
+    let (sums, seat) = SharedSums::new(work.alloc, work.pieces.count(), candidates.len())?;
     let (seat, ()) = run_apart(rt, &sums, seat, &pass, workers)?;
     if !sums.holds_all(&seat) {
         return pass.alone(workers);
     }
-    // It bounds the sums.
-    let _total = work.stream.total();
-    sums.close(seat)
+    Ok(sums.close(seat)?)
 }
 
 /// The estimate of each candidate.
@@ -137,75 +148,88 @@ fn candidates(
     Ok(candidates)
 }
 
-/// The summaries of the pieces, merged as the plan says, and the table of the stream.
-fn merge_pieces<R: Threads + Wait + Sync, G: Gate + Sync>(
+/// The summaries of the pieces, merged as the plan says, and the table of all items.
+fn merge_pieces<R: Threads + Wait + Sync, P: Pieces + Sync, G: Gate + Sync>(
     rt: &R,
-    work: &Work<G>,
+    work: &Work<P, G>,
     plan: &Plan,
     options: &Options,
-) -> Result<(Summary, Table), AllocError>
-    requires same_len { IsCut work.now }
-    requires plan { IsMergeTree plan.now (length work.now.cutting.now) }
-    requires some { 0 < length work.now.cutting.now }
-    ensures summary { let pieces = pieces_in work.now in IfOk result (λ merged.
-        IsMerged plan.now options.now.k pieces work.now.stream.now merged.0) }
-    ensures table { IfOk result (λ merged.
-        merged.1 ≡ table_of options.now.family options.now.width work.now.stream.now) }
+) -> Result<(Summary, Table), PieceFault>
+    requires plan { IsMergeTree plan.now (length (P.pieces work.now.pieces.now)) }
+    requires some { 0 < length (P.pieces work.now.pieces.now) }
+    requires few { length (P.pieces work.now.pieces.now) ≤ max_pieces }
+    ensures summary { let lists = P.pieces work.now.pieces.now in IfOk result (λ merged.
+        IsMerged plan.now options.now.k lists (whole_of lists) merged.0) }
+    ensures table { let options = options.now in IfOk result (λ merged. merged.1
+        ≡ table_of options.family options.width (whole_of (P.pieces work.now.pieces.now))) }
+    ensures read { let pieces = work.now.pieces.now in
+        OnOk result (AreRead (P.reads pieces) (P.pieces pieces)) }
+    ensures refused { let pieces = work.now.pieces.now in
+        IsErrOf result PieceFault.Refused → MayRefuse (P.refuses pieces) (P.pieces pieces) }
 {
-    pieces_make_the_whole();
     misra_gries_is_honest();
     let (summaries, table) = summarise(rt, work, options)?;
     // It bounds the sum of the summaries' totals.
-    let _total = work.stream.total();
+    let _total = table.total();
     match merge_by(work.alloc, plan, summaries) {
         Ok(summary) => Ok((summary, table)),
-        Err(MergeFault::Memory) => Err(AllocError),
+        Err(MergeFault::Memory) => Err(PieceFault::Memory),
         Err(MergeFault::DifferentK) => unreachable!(),
         Err(MergeFault::TotalTooLarge) => unreachable!(),
     }
 }
 
 /// The keys above the options' threshold, by a second pass over those that can be.
-fn heavy_keys<R: Threads + Wait + Sync, G: Gate + Sync>(
+fn heavy_keys<R: Threads + Wait + Sync, P: Pieces + Sync, G: Gate + Sync>(
     rt: &R,
-    work: &Work<G>,
+    work: &Work<P, G>,
     summary: &Summary,
     table: &Table,
     options: &Options,
-) -> Result<Vec<Heavy>, AllocError>
-    requires same_len { IsCut work.now }
+) -> Result<Vec<Heavy>, PieceFault>
+    requires some { 0 < length (P.pieces work.now.pieces.now) }
+    requires few { length (P.pieces work.now.pieces.now) ≤ max_pieces }
     requires same_k { summary.now.k ≡ options.now.k }
-    requires total { summary.now.total ≡ total_of work.now.stream.now }
-    requires honest { let s = summary.now in IsHonest s.counters s.total work.now.stream.now s.k }
-    requires table { let options = options.now in
-        table.now ≡ table_of options.family options.width work.now.stream.now }
-    requires few { length summary.now.counters ≤ max_k }
+    requires total { summary.now.total ≡ total_of (whole_of (P.pieces work.now.pieces.now)) }
+    requires honest { let s = summary.now in
+        IsHonest s.counters s.total (whole_of (P.pieces work.now.pieces.now)) s.k }
+    requires table { let options = options.now in table.now
+        ≡ table_of options.family options.width (whole_of (P.pieces work.now.pieces.now)) }
+    requires few_keys { length summary.now.counters ≤ max_k }
     requires rows { 1 ≤ length table.now.family.rows }
-    ensures { IfOk result
-        (λ rows. rows.items ≡ heavy work.now.stream.now options.now.p options.now.q) }
+    ensures heavy { let xs = whole_of (P.pieces work.now.pieces.now) in
+        IfOk result (λ rows. rows.items ≡ heavy xs options.now.p options.now.q) }
+    ensures refused { let pieces = work.now.pieces.now in
+        IsErrOf result PieceFault.Refused → MayRefuse (P.refuses pieces) (P.pieces pieces) }
 {
     let (p, q) = options.threshold();
     let candidates = candidates(work.alloc, summary, table, p, q)?;
+    let total = summary.total();
     let weights = weigh(rt, work, &candidates, options.workers())?;
-    candidates.select(&weights, work.stream.total(), p, q)
+    Ok(candidates.select(&weights, total, p, q)?)
 }
 
-/// The outcome, where the plan has as many pieces as the cutting.
-fn run_passes<R: Threads + Wait + Sync, G: Gate + Sync>(
+/// The outcome, where the plan has as many pieces as there are.
+fn run_passes<R: Threads + Wait + Sync, P: Pieces + Sync, G: Gate + Sync>(
     rt: &R,
-    work: &Work<G>,
+    work: &Work<P, G>,
     plan: &Plan,
     options: &Options,
-) -> Result<Outcome, AllocError>
-    requires same_len { IsCut work.now }
-    requires plan { IsMergeTree plan.now (length work.now.cutting.now) }
-    requires some { 0 < length work.now.cutting.now }
-    ensures summary { let pieces = pieces_in work.now in IfOk result (λ outcome.
-        IsMerged plan.now options.now.k pieces work.now.stream.now outcome.summary) }
-    ensures table { IfOk result (λ outcome.
-        outcome.table ≡ table_of options.now.family options.now.width work.now.stream.now) }
-    ensures heavy { IfOk result (λ outcome.
-        outcome.heavy.items ≡ heavy work.now.stream.now options.now.p options.now.q) }
+) -> Result<Outcome, PieceFault>
+    requires plan { IsMergeTree plan.now (length (P.pieces work.now.pieces.now)) }
+    requires some { 0 < length (P.pieces work.now.pieces.now) }
+    requires few { length (P.pieces work.now.pieces.now) ≤ max_pieces }
+    ensures summary { let lists = P.pieces work.now.pieces.now in IfOk result (λ outcome.
+        IsMerged plan.now options.now.k lists (whole_of lists) outcome.summary) }
+    ensures table { let options = options.now in IfOk result (λ outcome. outcome.table
+        ≡ table_of options.family options.width (whole_of (P.pieces work.now.pieces.now))) }
+    ensures heavy { let xs = whole_of (P.pieces work.now.pieces.now) in
+        IfOk result (λ outcome. outcome.heavy.items ≡ heavy xs options.now.p options.now.q) }
+    ensures read { let pieces = work.now.pieces.now in
+        OnOk result (AreRead (P.reads pieces) (P.pieces pieces)) }
+    ensures total { OnOk result (total_of (whole_of (P.pieces work.now.pieces.now)) ≤ max_total) }
+    ensures refused { let pieces = work.now.pieces.now in
+        IsErrOf result PieceFault.Refused → MayRefuse (P.refuses pieces) (P.pieces pieces) }
 {
     let (summary, table) = merge_pieces(rt, work, plan, options)?;
     let heavy = heavy_keys(rt, work, &summary, &table, options)?;
@@ -216,18 +240,56 @@ fn run_passes<R: Threads + Wait + Sync, G: Gate + Sync>(
     })
 }
 
-/// Whether the plan has as many pieces as the cutting.
-fn check_counts(plan: &Plan, cutting: &Cutting) -> Result<(), RunError>
-    ensures same { OnOk result (length (leaves plan.now) ≡ length cutting.now) }
-    ensures plan { OnOk result (IsMergeTree plan.now (length cutting.now)) }
-    ensures some { 0 < length cutting.now }
-    ensures mismatch { OnErr result (length (leaves plan.now) ≢ length cutting.now) }
-    ensures told { IsErr result → result ≡ Err RunError.PlanMismatch }
+/// Whether the plan has as many pieces as there are.
+fn check_counts(plan: &Plan, count: usize) -> Result<(), PiecesError>
+    ensures same { OnOk result (length (leaves plan.now) ≡ count) }
+    ensures plan { OnOk result (IsMergeTree plan.now count) }
+    ensures some { OnOk result (0 < count) }
+    ensures few { OnOk result (count ≤ max_pieces) }
+    ensures mismatch { OnErr result (length (leaves plan.now) ≢ count) }
+    ensures told { IsErr result → result ≡ Err PiecesError.PlanMismatch }
 {
-    if plan.count() != cutting.count() {
-        return Err(RunError::PlanMismatch);
+    if plan.count() != count {
+        return Err(PiecesError::PlanMismatch);
     }
     Ok(())
+}
+
+/// Analyses pieces of any kind as [`analyse`] does those of a stream: what it says of the stream
+/// holds of the items of the pieces, one after the other. Each piece is asked for once in the first
+/// pass, and once more in the second where any key can be heavy; where a step fails by chance, a
+/// pass is done again by the calling thread.
+///
+/// It answers Refused where a piece was refused, or the weights of all pieces add up to more than
+/// [`MAX_TOTAL`](hh_stream::MAX_TOTAL).
+pub fn analyse_pieces<R: Threads + Wait + Sync, P: Pieces + Sync, G: Gate + Sync>(
+    rt: &R,
+    alloc: Global,
+    pieces: &P,
+    plan: &Plan,
+    options: &Options,
+    gate: &G,
+) -> Result<Outcome, PiecesError>
+    ensures plan_mismatch { IsErrOf result PiecesError.PlanMismatch
+        ↔ (length (leaves plan.now) ≢ length (P.pieces pieces.now)) }
+    ensures refused { IsErrOf result PiecesError.Refused
+        → MayRefuse (P.refuses pieces.now) (P.pieces pieces.now) }
+    ensures read { OnOk result (AreRead (P.reads pieces.now) (P.pieces pieces.now)) }
+    ensures total { OnOk result (total_of (whole_of (P.pieces pieces.now)) ≤ max_total) }
+    ensures summary { let lists = P.pieces pieces.now in IfOk result (λ outcome.
+        IsMerged plan.now options.now.k lists (whole_of lists) outcome.summary) }
+    ensures table { let options = options.now in IfOk result (λ outcome.
+        outcome.table ≡ table_of options.family options.width (whole_of (P.pieces pieces.now))) }
+    ensures heavy { let xs = whole_of (P.pieces pieces.now) in IfOk result (λ outcome.
+        outcome.heavy.items ≡ heavy xs options.now.p options.now.q) }
+{
+    check_counts(plan, pieces.count())?;
+    let work = Work {
+        alloc,
+        pieces,
+        gate,
+    };
+    Ok(run_passes(rt, &work, plan, options)?)
 }
 
 /// Analyses a stream, with workers that share nothing but atomic sums: they summarise the pieces
@@ -258,12 +320,14 @@ pub fn analyse<R: Threads + Wait + Sync, G: Gate + Sync>(
     ensures heavy { IfOk result (λ outcome.
         outcome.heavy.items ≡ heavy stream.now options.now.p options.now.q) }
 {
-    check_counts(plan, cutting)?;
-    let work = Work {
-        alloc,
-        stream,
-        cutting,
-        gate,
-    };
-    run_passes(rt, &work, plan, options).map_err(|_| RunError::Memory)
+    pieces_make_the_whole();
+    // It bounds the weights of the pieces.
+    let _total = stream.total();
+    let pieces = CutStream::new(stream, cutting);
+    match analyse_pieces(rt, alloc, &pieces, plan, options, gate) {
+        Ok(outcome) => Ok(outcome),
+        Err(PiecesError::PlanMismatch) => Err(RunError::PlanMismatch),
+        Err(PiecesError::Memory) => Err(RunError::Memory),
+        Err(PiecesError::Refused) => unreachable!("pieces that fit are not refused"),
+    }
 }

@@ -1,31 +1,33 @@
 //! The first pass: each piece is summarised, and its items are added to the cells of one table.
 
-ghost use Rattle.std.specs.Prelude.{◌≡◌, ◌+◌, ◌*◌, ◌<◌, ◌≤◌, ◌++◌};
-ghost use Rattle.std.specs.Prelude.{[], ℕ, List, length, map, sum, IfOk, OnOk};
+ghost use Rattle.std.specs.Prelude.{◌≡◌, ◌+◌, ◌*◌, ◌<◌, ◌≤◌, ◌++◌, ◌⊎◌};
+ghost use Rattle.std.specs.Prelude.{[], ℕ, List, length, map, max, sum, IfOk, IsErrOf, OnOk};
 ghost use Rattle.hh_stream.specs.Weights.{max_total, Entry, total_of};
-ghost use Rattle.hh_stream.specs.Cuttings.{pieces_of};
+ghost use Rattle.hh_stream.specs.Cuttings.{pieces_of, whole_of};
 ghost use Rattle.hh_counters.specs.Counters.{sketch_of};
 ghost use Rattle.hh_countmin.specs.Family.{Coefficients};
 ghost use Rattle.hh_countmin.specs.Table.{table_of};
 ghost use Rattle.hh_shared.specs.Seats.{fresh};
-ghost use Rattle.hh_pool.specs.Passes.{AreSummaries, IsFirstPass};
-ghost use Rattle.hh_pool.specs.Progress.{HasDoneFirst, HasTriedFirst, IsCut, pieces_in};
+ghost use Rattle.hh_pool.specs.Passes.{piece_of, AreRead, AreSummaries, IsFirstPass, MayRefuse};
+ghost use Rattle.hh_pool.specs.Progress.{IsFirstAloneUpTo, IsFirstPassUpTo, sketches_with};
 
 use crate::gate::Gate;
 use crate::options::Options;
 use crate::pass::{Pass, Work, add_numbers};
-use hh_counters::{BucketSaving, Summary, monitored_summary};
+use crate::pieces::{CutStream, PieceFault, Pieces, only_memory};
+use hh_counters::laws::summaries_follow_items;
+use hh_counters::{BucketSaving, Monitor, Summary};
 use hh_countmin::Table;
 use hh_countmin::laws::{cells_are_cell_sums, tables_follow_items};
 use hh_shared::{SharedSums, SumSeat};
 use hh_stream::laws::pieces_make_the_whole;
-use hh_stream::{Cutting, Item, Stream};
+use hh_stream::{Cutting, MAX_TOTAL, Stream, TakeItems};
 use std::alloc::{AllocError, Global};
 
 /// What each worker of the first pass works on.
 #[derive(Drop)]
-pub(crate) struct FirstPass<'a, G> {
-    pub(crate) work: &'a Work<'a, G>,
+pub(crate) struct FirstPass<'a, P, G> {
+    pub(crate) work: &'a Work<'a, P, G>,
     pub(crate) options: &'a Options,
 }
 
@@ -52,30 +54,20 @@ pub fn first_pass<G: Gate>(
     ensures pass { IfOk result
         (λ r. IsFirstPass (pieces_of cutting.now stream.now) options.now r.0 r.1.items) }
 {
+    pieces_make_the_whole();
+    // It bounds the weights of the pieces.
+    let _total = stream.total();
     let work = Work {
         alloc,
-        stream,
-        cutting,
+        pieces: &CutStream::new(stream, cutting),
         gate,
     };
     let pass = FirstPass {
         work: &work,
         options,
     };
-    pass.run(sums, seat, worker)
-}
-
-/// The summary of a piece, by Space-Saving in buckets, which is Misra-Gries once it is translated.
-pub(crate) fn summary_of(
-    alloc: Global,
-    options: &Options,
-    items: &[Item],
-) -> Result<Summary, AllocError>
-    requires { total_of items.now ≤ max_total }
-    ensures { IfOk result (λ summary. summary ≡ sketch_of options.now.k items.now) }
-{
-    let monitor = BucketSaving::empty(alloc, options.k())?;
-    monitored_summary(monitor, items)
+    let (seat, summarised) = only_memory(pass.run(sums, seat, worker))?;
+    Ok((seat, summarised.summaries))
 }
 
 /// The table of no items.
@@ -87,16 +79,27 @@ pub(crate) fn empty_table(alloc: Global, options: &Options) -> Result<Table, All
     Table::empty(alloc, family, options.width())
 }
 
-/// Adds each item to the table.
-pub(crate) fn add_items(table: &mut Table, items: &[Item])
-    requires { table.old.total + total_of items.now ≤ max_total }
-    ensures { (family : Coefficients) (width : ℕ) (xs : List Entry)
-        → table.old ≡ table_of family width xs
-        → table.new ≡ table_of family width (xs ++ items.now) }
-{
-    tables_follow_items();
-    for item in items {
-        table.add_within(item.key().bytes(), item.weight());
+/// What takes the items of a piece: its own monitor, and the table of all pieces that a worker
+/// reads.
+#[derive(Drop)]
+struct Sketches {
+    monitor: BucketSaving,
+    table: Table,
+}
+
+impl TakeItems for Sketches {
+    ghost with_item = { sketches_with };
+
+    ghost weight_taken = { λ sketches. max sketches.monitor.total sketches.table.total };
+
+    fn total(&self) -> u64 {
+        Monitor::total(&self.monitor).max(self.table.total())
+    }
+
+    fn take(&mut self, _alloc: Global, key: &[u8], weight: u64) -> Result<(), AllocError> {
+        self.monitor.add_within(key, weight)?;
+        self.table.add_within(key, weight);
+        Ok(())
     }
 }
 
@@ -107,33 +110,79 @@ struct Made {
     table: Table,
 }
 
-impl<'a, G: Gate> FirstPass<'a, G> {
+/// What workers hand over: the summaries of their pieces, each with its piece's number, and the
+/// total of all items that they took.
+#[derive(Drop)]
+pub(crate) struct Summarised {
+    pub(crate) summaries: Vec<(usize, Summary)>,
+    pub(crate) total: u64,
+}
+
+impl<'a, P: Pieces, G: Gate> FirstPass<'a, P, G> {
+    // The summary of a piece, by Space-Saving in buckets, which is Misra-Gries once it is
+    // translated, and the table with the piece's items.
+    fn summarise(&self, table: Table, piece: usize) -> Result<(Summary, Table), PieceFault>
+        requires { piece < length (P.pieces self.now.work.now.pieces.now) }
+        ensures summary { let pieces = P.pieces self.now.work.now.pieces.now in
+            IfOk result (λ r. r.0 ≡ sketch_of self.now.options.now.k (piece_of pieces piece)) }
+        ensures table { let pieces = P.pieces self.now.work.now.pieces.now in
+            IfOk result (λ r. (family : Coefficients) (width : ℕ) (xs : List Entry)
+            → table ≡ table_of family width xs
+            → r.1 ≡ table_of family width (xs ++ piece_of pieces piece)) }
+        ensures reads { OnOk result (P.reads self.now.work.now.pieces.now piece) }
+        ensures refused { let pieces = P.pieces self.now.work.now.pieces.now in
+            IsErrOf result PieceFault.Refused → P.refuses self.now.work.now.pieces.now piece
+            ⊎ (max_total < table.total + total_of (piece_of pieces piece)) }
+    {
+        summaries_follow_items();
+        tables_follow_items();
+        let monitor = BucketSaving::empty(self.work.alloc, self.options.k())?;
+        let mut sketches = Sketches { monitor, table };
+        self.work
+            .pieces
+            .feed(self.work.alloc, piece, &mut sketches)?;
+        let Sketches { monitor, table } = sketches;
+        match monitor.into_summary() {
+            Ok(summary) => Ok((summary, table)),
+            Err(_) => Err(PieceFault::Memory),
+        }
+    }
+
     // Claims a piece, and works on it where no other worker has claimed it.
     fn try_piece(
         &self,
         sums: &SharedSums,
         seat: &mut SumSeat,
-        made: &mut Made,
+        made: Made,
         worker: u64,
         piece: usize,
-    ) -> Result<(), AllocError>
+    ) -> Result<Made, PieceFault>
         requires seat { seat.old.sums ≡ sums.now }
         requires piece { piece < sums.now.claims }
-        requires claims { sums.now.claims ≡ length self.now.work.now.cutting.now }
-        requires same_len { IsCut self.now.work.now }
-        requires before { HasTriedFirst self.now piece seat.old made.old }
+        requires claims { sums.now.claims ≡ length (P.pieces self.now.work.now.pieces.now) }
+        requires before { let pieces = self.now.work.now.pieces.now in
+            IsFirstPassUpTo (P.reads pieces) (P.pieces pieces) self.now.options.now
+            piece seat.old made.summaries.items made.table }
         ensures sums { seat.new.sums ≡ seat.old.sums }
-        ensures after { OnOk result (HasTriedFirst self.now (piece + 1) seat.new made.new) }
+        ensures after { let pieces = self.now.work.now.pieces.now in IfOk result (λ made.
+            IsFirstPassUpTo (P.reads pieces) (P.pieces pieces) self.now.options.now
+            (piece + 1) seat.new made.summaries.items made.table) }
+        ensures refused { let pieces = self.now.work.now.pieces.now in
+            IsErrOf result PieceFault.Refused → MayRefuse (P.refuses pieces) (P.pieces pieces) }
     {
         if !sums.claim(seat, piece) {
-            return Ok(());
+            return Ok(made);
         }
         self.work.gate.before(1, worker, piece as u64);
-        let items = self.work.cutting.piece(self.work.stream, piece);
-        let summary = summary_of(self.work.alloc, self.options, items)?;
-        made.summaries.push((piece, summary))?;
-        add_items(&mut made.table, items);
-        Ok(())
+        let Made {
+            mut summaries,
+            table,
+        } = made;
+        let (summary, table) = self.summarise(table, piece)?;
+        let Ok(()) = summaries.push((piece, summary)) else {
+            return Err(PieceFault::Memory);
+        };
+        Ok(Made { summaries, table })
     }
 
     /// The summaries that all workers kept, in the order of the pieces.
@@ -141,8 +190,9 @@ impl<'a, G: Gate> FirstPass<'a, G> {
         &self,
         mut found: Vec<(usize, Summary)>,
     ) -> Result<Vec<Summary>, AllocError>
-        requires { AreSummaries self.now.options.now.k (pieces_in self.now.work.now) found.items }
-        ensures { let pieces = pieces_in self.now.work.now in IfOk result (λ summaries.
+        requires { let pieces = P.pieces self.now.work.now.pieces.now in
+            AreSummaries self.now.options.now.k pieces found.items }
+        ensures { let pieces = P.pieces self.now.work.now.pieces.now in IfOk result (λ summaries.
             summaries.items ≡ map (sketch_of self.now.options.now.k) pieces) }
     {
         found.sort_unstable_by(|a, b| a.0.cmp(&b.0));
@@ -154,20 +204,22 @@ impl<'a, G: Gate> FirstPass<'a, G> {
     }
 
     /// The same by the calling thread, without sums: the summaries of the pieces, in order, and the
-    /// table of the stream.
-    pub(crate) fn alone(&self) -> Result<(Vec<Summary>, Table), AllocError>
-        requires { IsCut self.now.work.now }
-        ensures summaries { IfOk result (λ r.
-            r.0.items ≡ map (sketch_of self.now.options.now.k) (pieces_in self.now.work.now)) }
-        ensures table { let options = self.now.options.now in
-            IfOk result (λ r. r.1
-            ≡ table_of options.family options.width self.now.work.now.stream.now) }
+    /// table of all items.
+    pub(crate) fn alone(&self) -> Result<(Vec<Summary>, Table), PieceFault>
+        ensures summaries { let pieces = P.pieces self.now.work.now.pieces.now in
+            IfOk result (λ r. r.0.items ≡ map (sketch_of self.now.options.now.k) pieces) }
+        ensures table { let options = self.now.options.now in IfOk result (λ r. r.1
+            ≡ table_of options.family options.width
+            (whole_of (P.pieces self.now.work.now.pieces.now))) }
+        ensures reads { let pieces = self.now.work.now.pieces.now in
+            OnOk result (AreRead (P.reads pieces) (P.pieces pieces)) }
+        ensures refused { let pieces = self.now.work.now.pieces.now in
+            IsErrOf result PieceFault.Refused → MayRefuse (P.refuses pieces) (P.pieces pieces) }
     {
-        pieces_make_the_whole();
         let mut summaries = Vec::new(self.work.alloc);
         let mut table = empty_table(self.work.alloc, self.options)?;
-        for piece in 0..self.work.cutting.count() {
-            self.do_piece(&mut summaries, &mut table, piece)?;
+        for piece in 0..self.work.pieces.count() {
+            table = self.do_piece(&mut summaries, table, piece)?;
         }
         Ok((summaries, table))
     }
@@ -176,65 +228,79 @@ impl<'a, G: Gate> FirstPass<'a, G> {
     fn do_piece(
         &self,
         summaries: &mut Vec<Summary>,
-        table: &mut Table,
+        table: Table,
         piece: usize,
-    ) -> Result<(), AllocError>
-        requires same_len { IsCut self.now.work.now }
-        requires piece { piece < length self.now.work.now.cutting.now }
-        requires before { HasDoneFirst self.now piece summaries.old.items table.old }
-        ensures { OnOk result (HasDoneFirst self.now (piece + 1) summaries.new.items table.new) }
+    ) -> Result<Table, PieceFault>
+        requires piece { piece < length (P.pieces self.now.work.now.pieces.now) }
+        requires before { let pieces = self.now.work.now.pieces.now in
+            IsFirstAloneUpTo (P.reads pieces) (P.pieces pieces) self.now.options.now
+            piece summaries.old.items table }
+        ensures after { let pieces = self.now.work.now.pieces.now in IfOk result (λ table.
+            IsFirstAloneUpTo (P.reads pieces) (P.pieces pieces) self.now.options.now
+            (piece + 1) summaries.new.items table) }
+        ensures refused { let pieces = self.now.work.now.pieces.now in
+            IsErrOf result PieceFault.Refused → MayRefuse (P.refuses pieces) (P.pieces pieces) }
     {
         self.work
             .gate
             .before(1, self.options.workers(), piece as u64);
-        let items = self.work.cutting.piece(self.work.stream, piece);
-        summaries.push(summary_of(self.work.alloc, self.options, items)?)?;
-        add_items(table, items);
-        Ok(())
+        let (summary, table) = self.summarise(table, piece)?;
+        let Ok(()) = summaries.push(summary) else {
+            return Err(PieceFault::Memory);
+        };
+        Ok(table)
     }
 }
 
-impl<'a, G: Gate> Pass for FirstPass<'a, G> {
-    type Kept = Vec<(usize, Summary)>;
+impl<'a, P: Pieces, G: Gate> Pass for FirstPass<'a, P, G> {
+    type Kept = Summarised;
 
-    ghost use Rattle.hh_pool.specs.Passes.{AreFirstPasses, IsFirstPass};
-    ghost use Rattle.hh_pool.specs.Progress.{IsCut, pieces_in};
+    ghost use Rattle.hh_pool.specs.Passes.{AreFirstPasses, HaveTaken, IsFirstPass, MayRefuse};
 
-    ghost fits = { λ p sums. IsCut p.work.now
-        × (sums.claims ≡ length p.work.now.cutting.now)
+    ghost fits = { λ p sums. (sums.claims ≡ length (P.pieces p.work.now.pieces.now))
         × (sums.cells ≡ length p.options.now.family.rows * p.options.now.width) };
 
-    ghost done = { λ p seat summaries.
-        IsFirstPass (pieces_in p.work.now) p.options.now seat summaries.items };
+    ghost done = { λ p seat kept. IsFirstPass (P.pieces p.work.now.pieces.now) p.options.now seat
+        kept.summaries.items };
 
-    ghost all_done = { λ p seat summaries.
-        AreFirstPasses (pieces_in p.work.now) p.options.now seat summaries.items };
+    ghost all_done = { λ p seat kept. let pieces = p.work.now.pieces.now in
+        AreFirstPasses (P.pieces pieces) p.options.now seat kept.summaries.items
+        × HaveTaken (P.reads pieces) (P.pieces pieces) seat.claims kept.total };
+
+    ghost may_refuse = { λ p. let pieces = p.work.now.pieces.now in
+        MayRefuse (P.refuses pieces) (P.pieces pieces) };
 
     fn run(
         &self,
         sums: &SharedSums,
         mut seat: SumSeat,
         worker: u64,
-    ) -> Result<(SumSeat, Vec<(usize, Summary)>), AllocError> {
+    ) -> Result<(SumSeat, Summarised), PieceFault> {
         cells_are_cell_sums();
         let mut made = Made {
             summaries: Vec::new(self.work.alloc),
             table: empty_table(self.work.alloc, self.options)?,
         };
-        for piece in 0..self.work.cutting.count() {
-            self.try_piece(sums, &mut seat, &mut made, worker, piece)?;
+        for piece in 0..self.work.pieces.count() {
+            made = self.try_piece(sums, &mut seat, made, worker, piece)?;
         }
         let Made { summaries, table } = made;
         add_numbers(sums, &mut seat, table.cells());
-        Ok((seat, summaries))
+        let total = table.total();
+        Ok((seat, Summarised { summaries, total }))
     }
 
     fn together(
         &self,
-        mut one: Vec<(usize, Summary)>,
-        mut other: Vec<(usize, Summary)>,
-    ) -> Result<Vec<(usize, Summary)>, AllocError> {
-        one.append(&mut other)?;
+        mut one: Summarised,
+        mut other: Summarised,
+    ) -> Result<Summarised, PieceFault> {
+        let total = one.total.saturating_add(other.total);
+        if total > MAX_TOTAL {
+            return Err(PieceFault::Refused);
+        }
+        one.summaries.append(&mut other.summaries)?;
+        one.total = total;
         Ok(one)
     }
 }

@@ -1,5 +1,6 @@
 //! Weighted streams analysed by threads: plans to merge summaries by, and two passes over the
-//! pieces of a stream, whose outcome is the same whatever worker does which piece.
+//! pieces of a stream, or over pieces of any kind, whose outcome is the same whatever worker does
+//! which piece.
 #![tactic(auto)]
 
 mod analysis;
@@ -11,16 +12,18 @@ mod options;
 mod outcome;
 mod parsing;
 mod pass;
+mod pieces;
 mod plan;
 mod second;
 mod workers;
 
-pub use analysis::analyse;
+pub use analysis::{analyse, analyse_pieces};
 pub use first::first_pass;
 pub use gate::{Gate, OpenGate};
 pub use merging::merge_by;
 pub use options::{MAX_WORKERS, Options, OptionsFault};
-pub use outcome::{Outcome, RunError};
+pub use outcome::{Outcome, PiecesError, RunError};
 pub use parsing::PlanFault;
+pub use pieces::{CutStream, PieceFault, Pieces};
 pub use plan::Plan;
 pub use second::second_pass;

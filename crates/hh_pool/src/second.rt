@@ -1,15 +1,18 @@
 //! The second pass: the candidates' exact weights are counted.
 
-ghost use Rattle.std.specs.Prelude.{◌≡◌, ◌+◌, ◌<◌, length, sum, IfOk};
-ghost use Rattle.hh_stream.specs.Cuttings.{pieces_of};
+ghost use Rattle.std.specs.Prelude.{◌≡◌, ◌+◌, ◌<◌, ◌≤◌, ◌++◌, ◌⊎◌, List, length, sum};
+ghost use Rattle.std.specs.Prelude.{IfOk, IsErrOf, OnOk};
+ghost use Rattle.hh_stream.specs.Weights.{Entry, max_total, total_of};
+ghost use Rattle.hh_stream.specs.Cuttings.{pieces_of, whole_of};
 ghost use Rattle.hh_counters.specs.Report.{weights_at};
 ghost use Rattle.hh_shared.specs.Seats.{fresh};
-ghost use Rattle.hh_pool.specs.Passes.{AreSecondPasses, IsSecondPass};
-ghost use Rattle.hh_pool.specs.Progress.{HasDoneSecond, HasTriedSecond, IsCut, pieces_in};
+ghost use Rattle.hh_pool.specs.Passes.{piece_of, AreSecondPasses, IsSecondPass, MayRefuse};
+ghost use Rattle.hh_pool.specs.Progress.{AreCounted, IsSecondAloneUpTo, IsSecondPassUpTo};
 
 use crate::gate::Gate;
 use crate::pass::{Pass, Work, add_numbers};
-use hh_counters::Candidates;
+use crate::pieces::{CutStream, PieceFault, Pieces, only_memory};
+use hh_counters::{CandidateCounts, Candidates};
 use hh_shared::{SharedSums, SumSeat};
 use hh_stream::laws::pieces_make_the_whole;
 use hh_stream::{Cutting, Stream};
@@ -17,8 +20,8 @@ use std::alloc::{AllocError, Global};
 
 /// What each worker of the second pass works on.
 #[derive(Drop)]
-pub(crate) struct SecondPass<'a, G> {
-    pub(crate) work: &'a Work<'a, G>,
+pub(crate) struct SecondPass<'a, P, G> {
+    pub(crate) work: &'a Work<'a, P, G>,
     pub(crate) candidates: &'a Candidates,
 }
 
@@ -44,100 +47,135 @@ pub fn second_pass<G: Gate>(
     ensures pass { IfOk result
         (λ seat. IsSecondPass (pieces_of cutting.now stream.now) candidates.now seat) }
 {
+    pieces_make_the_whole();
+    // It bounds the weights of the pieces.
+    let _total = stream.total();
     let work = Work {
         alloc,
-        stream,
-        cutting,
+        pieces: &CutStream::new(stream, cutting),
         gate,
     };
     let pass = SecondPass {
         work: &work,
         candidates,
     };
-    let (seat, ()) = pass.run(sums, seat, worker)?;
+    let (seat, ()) = only_memory(pass.run(sums, seat, worker))?;
     Ok(seat)
 }
 
-impl<'a, G: Gate> SecondPass<'a, G> {
+impl<'a, P: Pieces, G: Gate> SecondPass<'a, P, G> {
+    // Counts the candidates of a piece, which isn't read where there are none.
+    fn count_piece(&self, counts: &mut CandidateCounts, piece: usize) -> Result<(), PieceFault>
+        requires { piece < length (P.pieces self.now.work.now.pieces.now) }
+        ensures counted { let pieces = P.pieces self.now.work.now.pieces.now in
+            OnOk result ((xs : List Entry) → AreCounted self.now.candidates.now xs counts.old
+            → AreCounted self.now.candidates.now (xs ++ piece_of pieces piece) counts.new) }
+        ensures refused { let pieces = P.pieces self.now.work.now.pieces.now in
+            IsErrOf result PieceFault.Refused → P.refuses self.now.work.now.pieces.now piece
+            ⊎ (max_total < counts.old.total + total_of (piece_of pieces piece)) }
+    {
+        if self.candidates.is_empty() {
+            return Ok(());
+        }
+        self.work.pieces.feed(self.work.alloc, piece, counts)
+    }
+
     // Claims a piece, and counts it where no other worker has claimed it.
     fn try_piece(
         &self,
         sums: &SharedSums,
         seat: &mut SumSeat,
-        numbers: &mut [u64],
+        counts: &mut CandidateCounts,
         worker: u64,
         piece: usize,
-    )
+    ) -> Result<(), PieceFault>
         requires seat { seat.old.sums ≡ sums.now }
         requires piece { piece < sums.now.claims }
-        requires claims { sums.now.claims ≡ length self.now.work.now.cutting.now }
-        requires same_len { IsCut self.now.work.now }
-        requires before { HasTriedSecond self.now piece seat.old numbers.old }
+        requires claims { sums.now.claims ≡ length (P.pieces self.now.work.now.pieces.now) }
+        requires before { let pieces = P.pieces self.now.work.now.pieces.now in
+            IsSecondPassUpTo pieces self.now.candidates.now piece seat.old counts.old }
         ensures sums { seat.new.sums ≡ seat.old.sums }
-        ensures after { HasTriedSecond self.now (piece + 1) seat.new numbers.new }
+        ensures after { let pieces = P.pieces self.now.work.now.pieces.now in OnOk result
+            (IsSecondPassUpTo pieces self.now.candidates.now (piece + 1) seat.new counts.new) }
+        ensures refused { let pieces = self.now.work.now.pieces.now in
+            IsErrOf result PieceFault.Refused → MayRefuse (P.refuses pieces) (P.pieces pieces) }
     {
         if sums.claim(seat, piece) {
             self.work.gate.before(2, worker, piece as u64);
-            let items = self.work.cutting.piece(self.work.stream, piece);
-            self.candidates.count_piece(items, numbers);
+            self.count_piece(counts, piece)?;
         }
+        Ok(())
     }
 
-    /// The same by the calling thread, without sums: the candidates' weights in the stream.
+    /// The same by the calling thread, without sums: the candidates' weights in all pieces.
     /// `workers` is what the gate hears.
-    pub(crate) fn alone(&self, workers: u64) -> Result<Vec<u64>, AllocError>
-        requires { IsCut self.now.work.now }
-        ensures { IfOk result (λ weights.
-            weights.items ≡ weights_at self.now.candidates.now self.now.work.now.stream.now) }
+    pub(crate) fn alone(&self, workers: u64) -> Result<Vec<u64>, PieceFault>
+        ensures weights { let pieces = P.pieces self.now.work.now.pieces.now in
+            IfOk result (λ weights.
+            weights.items ≡ weights_at self.now.candidates.now (whole_of pieces)) }
+        ensures refused { let pieces = self.now.work.now.pieces.now in
+            IsErrOf result PieceFault.Refused → MayRefuse (P.refuses pieces) (P.pieces pieces) }
     {
-        pieces_make_the_whole();
-        let mut weights = vec![in self.work.alloc; 0u64; self.candidates.len()]?;
-        for piece in 0..self.work.cutting.count() {
-            self.do_piece(&mut weights, workers, piece);
+        let mut counts = CandidateCounts::new(self.work.alloc, self.candidates)?;
+        for piece in 0..self.work.pieces.count() {
+            self.do_piece(&mut counts, workers, piece)?;
         }
-        Ok(weights)
+        Ok(counts.into_weights())
     }
 
     // Counts the next piece.
-    fn do_piece(&self, weights: &mut [u64], workers: u64, piece: usize)
-        requires same_len { IsCut self.now.work.now }
-        requires piece { piece < length self.now.work.now.cutting.now }
-        requires before { HasDoneSecond self.now piece weights.old }
-        ensures { HasDoneSecond self.now (piece + 1) weights.new }
+    fn do_piece(
+        &self,
+        counts: &mut CandidateCounts,
+        workers: u64,
+        piece: usize,
+    ) -> Result<(), PieceFault>
+        requires piece { piece < length (P.pieces self.now.work.now.pieces.now) }
+        requires before { let pieces = P.pieces self.now.work.now.pieces.now in
+            IsSecondAloneUpTo pieces self.now.candidates.now piece counts.old }
+        ensures after { let pieces = P.pieces self.now.work.now.pieces.now in OnOk result
+            (IsSecondAloneUpTo pieces self.now.candidates.now (piece + 1) counts.new) }
+        ensures refused { let pieces = self.now.work.now.pieces.now in
+            IsErrOf result PieceFault.Refused → MayRefuse (P.refuses pieces) (P.pieces pieces) }
     {
         self.work.gate.before(2, workers, piece as u64);
-        let items = self.work.cutting.piece(self.work.stream, piece);
-        self.candidates.count_piece(items, weights);
+        self.count_piece(counts, piece)
     }
 }
 
-impl<'a, G: Gate> Pass for SecondPass<'a, G> {
+impl<'a, P: Pieces, G: Gate> Pass for SecondPass<'a, P, G> {
     type Kept = ();
 
-    ghost fits = { λ p sums. IsCut p.work.now
-        × (sums.claims ≡ length p.work.now.cutting.now) × (sums.cells ≡ length p.candidates.now) };
+    ghost use Rattle.hh_shared.specs.Tally.{IsDistinctBelow};
+    ghost use Rattle.hh_pool.specs.Passes.{AreSecondPasses, IsSecondPass, MayRefuse};
+
+    ghost fits = { λ p sums. (sums.claims ≡ length (P.pieces p.work.now.pieces.now))
+        × (sums.cells ≡ length p.candidates.now) };
 
     ghost done = { λ p seat _.
-        IsSecondPass (pieces_in p.work.now) p.candidates.now seat };
+        IsSecondPass (P.pieces p.work.now.pieces.now) p.candidates.now seat };
 
     ghost all_done = { λ p seat _.
-        AreSecondPasses (pieces_in p.work.now) p.candidates.now seat };
+        AreSecondPasses (P.pieces p.work.now.pieces.now) p.candidates.now seat };
+
+    ghost may_refuse = { λ p. let pieces = p.work.now.pieces.now in
+        MayRefuse (P.refuses pieces) (P.pieces pieces) };
 
     fn run(
         &self,
         sums: &SharedSums,
         mut seat: SumSeat,
         worker: u64,
-    ) -> Result<(SumSeat, ()), AllocError> {
-        let mut numbers = vec![in self.work.alloc; 0u64; self.candidates.len()]?;
-        for piece in 0..self.work.cutting.count() {
-            self.try_piece(sums, &mut seat, &mut numbers, worker, piece);
+    ) -> Result<(SumSeat, ()), PieceFault> {
+        let mut counts = CandidateCounts::new(self.work.alloc, self.candidates)?;
+        for piece in 0..self.work.pieces.count() {
+            self.try_piece(sums, &mut seat, &mut counts, worker, piece)?;
         }
-        add_numbers(sums, &mut seat, &numbers);
+        add_numbers(sums, &mut seat, &counts.into_weights());
         Ok((seat, ()))
     }
 
-    fn together(&self, _one: (), _other: ()) -> Result<(), AllocError> {
+    fn together(&self, _one: (), _other: ()) -> Result<(), PieceFault> {
         Ok(())
     }
 }

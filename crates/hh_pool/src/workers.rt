@@ -1,11 +1,12 @@
 //! Workers by halves: half of them run in a thread of their own.
 
-ghost use Rattle.std.specs.Prelude.{◌≡◌, ◌+◌, ◌^◌, ◌<◌, ◌≤◌, IfOk};
+ghost use Rattle.std.specs.Prelude.{◌≡◌, ◌+◌, ◌^◌, ◌<◌, ◌≤◌, IfOk, IsErrOf};
 ghost use Rattle.hh_shared.specs.Seats.{fresh};
 ghost use Rattle.hh_pool.specs.Passes.{BringBack, CanRun};
 ghost use Rattle.hh_pool.specs.Settings.{max_workers};
 
 use crate::pass::Pass;
+use crate::pieces::PieceFault;
 use hh_shared::{SharedSums, SumSeat};
 use std::alloc::AllocError;
 use std::snapshot::Snapshot;
@@ -20,8 +21,8 @@ pub(crate) struct Promised<P: Pass> {
     pass: Snapshot<P>,
 }
 
-impl<P: Pass> Promise<Result<(SumSeat, P::Kept), AllocError>> for Promised<P> {
-    ghost kept_by = { λ p r. BringBack (P.all_done p.pass.value) p.sums.value r };
+impl<P: Pass> Promise<Result<(SumSeat, P::Kept), PieceFault>> for Promised<P> {
+    ghost kept_by = { λ p r. BringBack (P.all_done p.pass.value) (P.may_refuse p.pass.value) p.sums.value r };
 }
 
 /// Runs so many workers with one seat, numbered from `first` on: where they are more than one, half
@@ -35,13 +36,14 @@ fn run_workers<R: Threads + Wait + Sync, P: Pass + Sync>(
     pass: &P,
     first: u64,
     count: u64,
-) -> Result<(SumSeat, P::Kept), AllocError>
+) -> Result<(SumSeat, P::Kept), PieceFault>
     requires count { 0 < count }
     requires numbers { first + count < 2 ^ 64 }
     requires fits { P.fits pass.now sums.now }
     requires seat { seat ≡ fresh sums.now }
     ensures sums { IfOk result (λ r. r.0.sums ≡ sums.now) }
     ensures all_done { IfOk result (λ r. P.all_done pass.now r.0 r.1) }
+    ensures refused { IsErrOf result PieceFault.Refused → P.may_refuse pass.now }
 {
     if count == 1 {
         return pass.run(sums, seat, first);
@@ -55,8 +57,8 @@ fn run_workers<R: Threads + Wait + Sync, P: Pass + Sync>(
         rt,
         |scope| -> Result<
             (
-                Result<(SumSeat, P::Kept), AllocError>,
-                Result<(SumSeat, P::Kept), AllocError>,
+                Result<(SumSeat, P::Kept), PieceFault>,
+                Result<(SumSeat, P::Kept), PieceFault>,
             ),
             AllocError,
         >
@@ -64,17 +66,19 @@ fn run_workers<R: Threads + Wait + Sync, P: Pass + Sync>(
                 let can = CanRun R.row P.row P.Kept.row fits sums.now in
                 can seat first low × can half next high }
             ensures { IfOk result (λ both.
-                let brings = BringBack (P.all_done pass.entry.now) sums.entry.now in
+                let refuses = P.may_refuse pass.entry.now in
+                let brings = BringBack (P.all_done pass.entry.now) refuses sums.entry.now in
                 brings both.0 × brings both.1) }
         {
             let promise = Promised {
                 sums: Snapshot::of(sums),
                 pass: Snapshot::of(pass),
             };
-            let front = move || -> Result<(SumSeat, P::Kept), AllocError>
+            let front = move || -> Result<(SumSeat, P::Kept), PieceFault>
                 requires { CanRun R.row P.row P.Kept.row (P.fits pass.now sums.now)
                     sums.now seat first low }
-                ensures { BringBack (P.all_done pass.entry.now) sums.entry.now result }
+                ensures { BringBack (P.all_done pass.entry.now) (P.may_refuse pass.entry.now)
+                    sums.entry.now result }
             { run_workers(rt, sums, seat, pass, first, low) };
             let child = scope.spawn_with(promise, front)?;
             let other = run_workers(rt, sums, half, pass, next, high);
@@ -96,32 +100,37 @@ pub(crate) fn run_apart<R: Threads + Wait + Sync, P: Pass + Sync>(
     seat: SumSeat,
     pass: &P,
     workers: u64,
-) -> Result<(SumSeat, P::Kept), AllocError>
+) -> Result<(SumSeat, P::Kept), PieceFault>
     requires some { 0 < workers }
     requires few { workers ≤ max_workers }
     requires fits { P.fits pass.now sums.now }
     requires seat { seat ≡ fresh sums.now }
     ensures sums { IfOk result (λ r. r.0.sums ≡ sums.now) }
     ensures all_done { IfOk result (λ r. P.all_done pass.now r.0 r.1) }
+    ensures refused { IsErrOf result PieceFault.Refused → P.may_refuse pass.now }
 {
     thread::scope(
         thread::scope_env(),
         rt,
-        |scope| -> Result<(SumSeat, P::Kept), AllocError>
+        |scope| -> Result<(SumSeat, P::Kept), PieceFault>
             requires { CanRun R.row P.row P.Kept.row (P.fits pass.now sums.now)
                 sums.now seat 0 workers }
-            ensures { BringBack (P.all_done pass.entry.now) sums.entry.now result }
+            ensures { BringBack (P.all_done pass.entry.now) (P.may_refuse pass.entry.now)
+                sums.entry.now result }
         {
             let promise = Promised {
                 sums: Snapshot::of(sums),
                 pass: Snapshot::of(pass),
             };
-            let all = move || -> Result<(SumSeat, P::Kept), AllocError>
+            let all = move || -> Result<(SumSeat, P::Kept), PieceFault>
                 requires { CanRun R.row P.row P.Kept.row (P.fits pass.now sums.now)
                     sums.now seat 0 workers }
-                ensures { BringBack (P.all_done pass.entry.now) sums.entry.now result }
+                ensures { BringBack (P.all_done pass.entry.now) (P.may_refuse pass.entry.now)
+                    sums.entry.now result }
             { run_workers(rt, sums, seat, pass, 0, workers) };
-            let child = scope.spawn_with(promise, all)?;
+            let Ok(child) = scope.spawn_with(promise, all) else {
+                return Err(PieceFault::Memory);
+            };
             child.join(rt)
         },
     )

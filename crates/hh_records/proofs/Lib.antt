@@ -1,7 +1,9 @@
 pub mod ByteFacts
 pub mod CutFacts
 pub mod CutTextFacts
+pub mod DecimalFacts
 pub mod KeptFacts
+pub mod KeyFacts
 pub mod LayoutFacts
 pub mod PartFacts
 pub mod OpenFacts

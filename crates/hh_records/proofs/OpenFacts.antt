@@ -196,64 +196,64 @@ module _ {R : Type 0} (remaining : R → Option (List ℕ)) (layout : Layout) wh
 
 -- ---- texts that are read
 -- a record that fails ends the reading, whatever comes behind it
-items-refused : (allow : Bool) (n t : ℕ) (ps qs : List Parts) (x : ℕ × BadRecordCause) → items_after allow n t ps ≡ Err x
-    → items_after allow n t (ps ++ qs) ≡ Err x
+items-refused : (layout : Layout) (n t : ℕ) (ps qs : List Parts) (x : ℕ × BadRecordCause) → items_after layout n t ps ≡ Err x
+    → items_after layout n t (ps ++ qs) ≡ Err x
 unfolding items_after
-items-refused allow n t [] qs x e = cc e
-items-refused allow n t (p ∷ ps) qs x e =
-    by (adds allow t p) e (λ es. items-refused allow (n + 1) (t + total_of es) ps qs x)
+items-refused layout n t [] qs x e = cc e
+items-refused layout n t (p ∷ ps) qs x e =
+    by (adds layout t p) e (λ es. items-refused layout (n + 1) (t + total_of es) ps qs x)
   where
-    go : (es : List Entry) (r : Reading) → items_after allow (n + 1) (t + total_of es) ps ≡ r → joined es r ≡ Err x
-        → (items_after allow (n + 1) (t + total_of es) ps ≡ Err x → items_after allow (n + 1) (t + total_of es) (ps ++ qs) ≡ Err x)
-        → joined es (items_after allow (n + 1) (t + total_of es) (ps ++ qs)) ≡ Err x
+    go : (es : List Entry) (r : Reading) → items_after layout (n + 1) (t + total_of es) ps ≡ r → joined es r ≡ Err x
+        → (items_after layout (n + 1) (t + total_of es) ps ≡ Err x → items_after layout (n + 1) (t + total_of es) (ps ++ qs) ≡ Err x)
+        → joined es (items_after layout (n + 1) (t + total_of es) (ps ++ qs)) ≡ Err x
     go es (Ok ys) f e more = cc e
     go es (Err y) f e more = ap (joined es) (more (f ∙ e))
 
     by : (o : Result (List Entry) BadRecordCause)
-        → adding_next o n (λ es. items_after allow (n + 1) (t + total_of es) ps) ≡ Err x
-        → ((es : List Entry) → items_after allow (n + 1) (t + total_of es) ps ≡ Err x
-        → items_after allow (n + 1) (t + total_of es) (ps ++ qs) ≡ Err x)
-        → adding_next o n (λ es. items_after allow (n + 1) (t + total_of es) (ps ++ qs)) ≡ Err x
-    by (Ok es) e more = go es (items_after allow (n + 1) (t + total_of es) ps) refl e (more es)
+        → adding_next o n (λ es. items_after layout (n + 1) (t + total_of es) ps) ≡ Err x
+        → ((es : List Entry) → items_after layout (n + 1) (t + total_of es) ps ≡ Err x
+        → items_after layout (n + 1) (t + total_of es) (ps ++ qs) ≡ Err x)
+        → adding_next o n (λ es. items_after layout (n + 1) (t + total_of es) (ps ++ qs)) ≡ Err x
+    by (Ok es) e more = go es (items_after layout (n + 1) (t + total_of es) ps) refl e (more es)
     by (Err y) e more = e
 
-module _ {R : Type 0} (remaining : R → Option (List ℕ)) (allow : Bool) (t : ℕ) (all : List (Text R)) where
+module _ {R : Type 0} (remaining : R → Option (List ℕ)) (layout : Layout) (t : ℕ) (all : List (Text R)) where
   -- the texts but for the rest are read: n records, which add xs
   abbrev pub TextsSoFar : List (Text R) → List Entry → ℕ → Type 0
   TextsSoFar rest xs n =
       IfSome (all_left remaining all) (λ ps. (qs : List Parts) × (all_left remaining rest ≡ Some qs)
-      × (items_after allow 1 t ps ≡ joined xs (items_after allow (n + 1) (t + total_of xs) qs)))
+      × (items_after layout 1 t ps ≡ joined xs (items_after layout (n + 1) (t + total_of xs) qs)))
 
   pub texts-start : TextsSoFar all [] 0
   texts-start = by (all_left remaining all) refl
     where
       by : (o : Option (List Parts)) → all_left remaining all ≡ o
           → IfSome o (λ ps. (qs : List Parts) × (all_left remaining all ≡ Some qs)
-          × (items_after allow 1 t ps ≡ joined [] (items_after allow (0 + 1) (t + 0) qs)))
+          × (items_after layout 1 t ps ≡ joined [] (items_after layout (0 + 1) (t + 0) qs)))
       by None e = tt
       by (Some ps) e =
           let none : t + 0 ≡ t = omega arith in
-          (ps, e, rw none (sym (joined-none (items_after allow 1 t ps))))
+          (ps, e, rw none (sym (joined-none (items_after layout 1 t ps))))
 
   module _ (one : Text R) (rest : List (Text R)) (xs : List Entry) (n : ℕ) where
     pub texts-more : (ys : List Entry) (after : ℕ) → TextsSoFar (one ∷ rest) xs n
-        → IfSome (parts_left remaining one) (λ rs. (items_after allow (n + 1) (t + total_of xs) rs ≡ Ok ys)
+        → IfSome (parts_left remaining one) (λ rs. (items_after layout (n + 1) (t + total_of xs) rs ≡ Ok ys)
         × (after ≡ n + length rs))
         → TextsSoFar rest (xs ++ ys) after
     texts-more ys after = by (all_left remaining all)
       where
         known : (o : Option (List Parts)) (rs : List Parts) → o ≡ Some rs
-            → IfSome o (λ rs. (items_after allow (n + 1) (t + total_of xs) rs ≡ Ok ys) × (after ≡ n + length rs))
-            → (items_after allow (n + 1) (t + total_of xs) rs ≡ Ok ys) × (after ≡ n + length rs)
+            → IfSome o (λ rs. (items_after layout (n + 1) (t + total_of xs) rs ≡ Ok ys) × (after ≡ n + length rs))
+            → (items_after layout (n + 1) (t + total_of xs) rs ≡ Ok ys) × (after ≡ n + length rs)
         known o rs e h = rw e at h
 
         by : (o : Option (List Parts))
             → IfSome o (λ ps. (qs : List Parts) × (all_left remaining (one ∷ rest) ≡ Some qs)
-            × (items_after allow 1 t ps ≡ joined xs (items_after allow (n + 1) (t + total_of xs) qs)))
-            → IfSome (parts_left remaining one) (λ rs. (items_after allow (n + 1) (t + total_of xs) rs ≡ Ok ys)
+            × (items_after layout 1 t ps ≡ joined xs (items_after layout (n + 1) (t + total_of xs) qs)))
+            → IfSome (parts_left remaining one) (λ rs. (items_after layout (n + 1) (t + total_of xs) rs ≡ Ok ys)
             × (after ≡ n + length rs))
             → IfSome o (λ ps. (qs : List Parts) × (all_left remaining rest ≡ Some qs)
-            × (items_after allow 1 t ps ≡ joined (xs ++ ys) (items_after allow (after + 1) (t + total_of (xs ++ ys)) qs)))
+            × (items_after layout 1 t ps ≡ joined (xs ++ ys) (items_after layout (after + 1) (t + total_of (xs ++ ys)) qs)))
         by None h k = tt
         by (Some ps) (qs, left, is) k =
             let (rs, later, here, others, both) = gathered-first (parts_left remaining) one rest qs left in
@@ -263,49 +263,49 @@ module _ {R : Type 0} (remaining : R → Option (List ℕ)) (allow : Bool) (t : 
             let total : t + total_of xs + total_of ys ≡ t + total_of (xs ++ ys) = omega (arith, sum) in (
               later,
               others,
-              is ∙ ap (λ qs. joined xs (items_after allow (n + 1) (t + total_of xs) qs)) both
-                  ∙ ap (joined xs) (items-more allow (n + 1) (t + total_of xs) ys rs later taken)
+              is ∙ ap (λ qs. joined xs (items_after layout (n + 1) (t + total_of xs) qs)) both
+                  ∙ ap (joined xs) (items-more layout (n + 1) (t + total_of xs) ys rs later taken)
                   ∙ joined-twice xs ys _
                   ∙ rw (number, total) refl,
             )
 
     pub texts-refused : (x : ReadError) → TextsSoFar (one ∷ rest) xs n
-        → RowsRefused allow n (t + total_of xs) (parts_left remaining one) x
-        → RowsRefused allow 0 t (all_left remaining all) x
+        → RowsRefused layout n (t + total_of xs) (parts_left remaining one) x
+        → RowsRefused layout 0 t (all_left remaining all) x
     texts-refused read.ReadFault h k = tt
     texts-refused read.Memory h k = tt
     texts-refused (read.BadRecord m c) h k = by (all_left remaining all) h k
       where
         known : (o : Option (List Parts)) (rs : List Parts) → o ≡ Some rs
-            → IfSome o (λ rs. items_after allow (n + 1) (t + total_of xs) rs ≡ Err (m, c))
-            → items_after allow (n + 1) (t + total_of xs) rs ≡ Err (m, c)
+            → IfSome o (λ rs. items_after layout (n + 1) (t + total_of xs) rs ≡ Err (m, c))
+            → items_after layout (n + 1) (t + total_of xs) rs ≡ Err (m, c)
         known o rs e h = rw e at h
 
         by : (o : Option (List Parts))
             → IfSome o (λ ps. (qs : List Parts) × (all_left remaining (one ∷ rest) ≡ Some qs)
-            × (items_after allow 1 t ps ≡ joined xs (items_after allow (n + 1) (t + total_of xs) qs)))
-            → IfSome (parts_left remaining one) (λ rs. items_after allow (n + 1) (t + total_of xs) rs ≡ Err (m, c))
-            → IfSome o (λ ps. items_after allow (0 + 1) t ps ≡ Err (m, c))
+            × (items_after layout 1 t ps ≡ joined xs (items_after layout (n + 1) (t + total_of xs) qs)))
+            → IfSome (parts_left remaining one) (λ rs. items_after layout (n + 1) (t + total_of xs) rs ≡ Err (m, c))
+            → IfSome o (λ ps. items_after layout (0 + 1) t ps ≡ Err (m, c))
         by None h k = tt
         by (Some ps) (qs, left, is) k =
             let (rs, later, here, others, both) = gathered-first (parts_left remaining) one rest qs left in
-            is ∙ ap (λ qs. joined xs (items_after allow (n + 1) (t + total_of xs) qs)) both
-            ∙ ap (joined xs) (items-refused allow (n + 1) (t + total_of xs) rs later (m, c)
+            is ∙ ap (λ qs. joined xs (items_after layout (n + 1) (t + total_of xs) qs)) both
+            ∙ ap (joined xs) (items-refused layout (n + 1) (t + total_of xs) rs later (m, c)
             (known (parts_left remaining one) rs here k))
 
   pub texts-end : (xs : List Entry) (n : ℕ) → TextsSoFar [] xs n
-      → IfSome (all_left remaining all) (λ ps. items_after allow 1 t ps ≡ Ok xs)
+      → IfSome (all_left remaining all) (λ ps. items_after layout 1 t ps ≡ Ok xs)
   unfolding gathered items_after
   texts-end xs n = by (all_left remaining all)
     where
       by : (o : Option (List Parts))
           → IfSome o (λ ps. (qs : List Parts) × (all_left {R = R} remaining [] ≡ Some qs)
-          × (items_after allow 1 t ps ≡ joined xs (items_after allow (n + 1) (t + total_of xs) qs)))
-          → IfSome o (λ ps. items_after allow 1 t ps ≡ Ok xs)
+          × (items_after layout 1 t ps ≡ joined xs (items_after layout (n + 1) (t + total_of xs) qs)))
+          → IfSome o (λ ps. items_after layout 1 t ps ≡ Ok xs)
       by None h = tt
       by (Some ps) (qs, left, is) =
           let none : [] ≡ qs = some-is left in
-          is ∙ ap (λ qs. joined xs (items_after allow (n + 1) (t + total_of xs) qs)) (sym none)
+          is ∙ ap (λ qs. joined xs (items_after layout (n + 1) (t + total_of xs) qs)) (sym none)
           ∙ ap Ok (append-nil xs)
 
 -- ---- records, by texts that are open
@@ -313,28 +313,28 @@ module _ {R : Type 0} (remaining : R → Option (List ℕ)) (layout : Layout) (r
     (opened : AllOpen remaining layout readers texts) where
   -- what the open texts read as is what the texts do
   reads-as : (r : Reading)
-      → IfSome (all_left remaining texts) (λ ps. items_after layout.allow_zero 1 0 ps ≡ r)
+      → IfSome (all_left remaining texts) (λ ps. items_after layout 1 0 ps ≡ r)
       → IfSome (option_map (stream_with layout) (every remaining readers)) (λ s. s ≡ Some r)
   reads-as r = by (every remaining readers) opened
     where
       known : (o : Option (List Parts)) (ps : List Parts) → o ≡ Some ps
-          → IfSome o (λ ps. items_after layout.allow_zero 1 0 ps ≡ r) → items_after layout.allow_zero 1 0 ps ≡ r
+          → IfSome o (λ ps. items_after layout 1 0 ps ≡ r) → items_after layout 1 0 ps ≡ r
       known o ps e h = rw e at h
 
       by : (o : Option (List (List ℕ)))
           → IfSome o (λ bytes. (ps : List Parts) × (all_left remaining texts ≡ Some ps) × (texts_parts layout bytes ≡ Some ps))
-          → IfSome (all_left remaining texts) (λ ps. items_after layout.allow_zero 1 0 ps ≡ r)
+          → IfSome (all_left remaining texts) (λ ps. items_after layout 1 0 ps ≡ r)
           → IfSome (option_map (stream_with layout) o) (λ s. s ≡ Some r)
       by None h k = tt
       by (Some bytes) (ps, left, is) k =
-          ap (option_map (items_after layout.allow_zero 1 0)) is ∙ ap Some (known (all_left remaining texts) ps left k)
+          ap (option_map (items_after layout 1 0)) is ∙ ap Some (known (all_left remaining texts) ps left k)
 
   pub records-read : (xs : List Entry)
-      → IfSome (all_left remaining texts) (λ ps. items_after layout.allow_zero 1 0 ps ≡ Ok xs)
+      → IfSome (all_left remaining texts) (λ ps. items_after layout 1 0 ps ≡ Ok xs)
       → IfSome (option_map (stream_with layout) (every remaining readers)) (λ s. s ≡ Some (Ok xs))
   records-read xs = reads-as (Ok xs)
 
-  pub records-refused : (names : Bool) (x : ReadError) → RowsRefused layout.allow_zero 0 0 (all_left remaining texts) x
+  pub records-refused : (names : Bool) (x : ReadError) → RowsRefused layout 0 0 (all_left remaining texts) x
       → TextsRefused (record {
         names_columns = names;
         reading = option_map (stream_with layout) (every remaining readers);
@@ -357,7 +357,7 @@ not-opened remaining layout readers names text.NoColumn h = (h.0, by (every rema
     by : (o : Option (List (List ℕ))) → IfSome (option_map (texts_parts layout) o) (λ ps. ps ≡ None)
         → IfSome (option_map (stream_with layout) o) (λ s. s ≡ None)
     by None h = tt
-    by (Some bytes) h = ap (option_map (items_after layout.allow_zero 1 0)) h
+    by (Some bytes) h = ap (option_map (items_after layout 1 0)) h
 
 -- one text with a plain layout is known as a text of keys and weights is
 pub plain-known : {R : Type 0} (remaining : R → Option (List ℕ)) (records : Records R) → PlainLayoutsReadStreams

@@ -14,9 +14,9 @@ use Rattle.hh_records.specs.declared.records.BadRecordCause.{BadRecordCause}
 use Rattle.hh_records.specs.declared.records.BadRecordCause.TheVariants as cause
 use Rattle.hh_records.specs.declared.retrying.Retrying.{Retrying}
 use Rattle.hh_records.specs.Laws.{PiecesAreRead}
-use Rattle.hh_records.specs.Layouts.{IsStart, Places, added, adding_next, adds, delimited, gathered, headed_parts, items_after, joined, parts_at, places_in, text_parts, texts_parts, weight_read}
+use Rattle.hh_records.specs.Layouts.{IsStart, Places, added, adding_next, adds, delimited, gathered, headed_parts, item_by, items_after, joined, parts_at, places_in, text_parts, texts_parts, weight_by}
 use Rattle.hh_records.specs.Pieces.{FindsColumns, InPieces, IsInPieces, all_pieces, columns_of, first_of, first_piece, piece_parts, piece_reading, rows_in, text_of, with_columns}
-use Rattle.hh_records.specs.Streams.{Fields, Parts, Reading, item_of_pair, item_of_parts, weight_after, weight_of, weight_or_cause}
+use Rattle.hh_records.specs.Streams.{Fields, Parts, Reading, item_of_key, item_of_pair, weight_after, weight_or_cause}
 use Rattle.hh_records.proofs.CutFacts.{pieces-records}
 use Rattle.hh_records.proofs.OpenFacts.{map-nothing, map-twice}
 use Rattle.hh_records.proofs.ReadFacts.{header-missed, header-taken, items-more, ok-eq}
@@ -61,29 +61,32 @@ pair-moves u k (Err cause.BadWeight) s h = rw h refl
 pair-moves u k (Err cause.ZeroWeight) s h = rw h refl
 pair-moves u k (Err cause.TotalTooLarge) s h = tt
 
-item-moves : (t u : ℕ) (p : Parts) → Moves weight_in u (item_of_parts t p) (item_of_parts u p)
+key-moves : (t u : ℕ) (k : List ℕ) (w : Option ℕ) → Moves weight_in u (item_of_key t k w) (item_of_key u k w)
 unfolding Moves
-item-moves t u None = refl
-item-moves t u (Some p) = by (length p.0 == 0) (nat_le (length p.0) max_key_len)
+key-moves t u k w = by (length k == 0) (nat_le (length k) max_key_len)
   where
     by : (z few : Bool)
         → Moves weight_in u
-        (if z then Err cause.EmptyKey else if few then item_of_pair p.0 (weight_after t (weight_of p.1)) else Err cause.KeyTooLong)
-        (if z then Err cause.EmptyKey else if few then item_of_pair p.0 (weight_after u (weight_of p.1)) else Err cause.KeyTooLong)
+        (if z then Err cause.EmptyKey else if few then item_of_pair k (weight_after t w) else Err cause.KeyTooLong)
+        (if z then Err cause.EmptyKey else if few then item_of_pair k (weight_after u w) else Err cause.KeyTooLong)
     by true few = refl
     by false false = refl
-    by false true =
-        pair-moves u p.0 (weight_after t (weight_of p.1)) (weight_after u (weight_of p.1)) (weight-moves t u (weight_of p.1))
+    by false true = pair-moves u k (weight_after t w) (weight_after u w) (weight-moves t u w)
+
+item-moves : (layout : Layout) (t u : ℕ) (p : Parts) → Moves weight_in u (item_by layout t p) (item_by layout u p)
+unfolding Moves
+item-moves layout t u None = refl
+item-moves layout t u (Some (k, f)) = key-moves t u k (weight_by layout f)
 
 -- what a record adds is the same after another total, where it fits
-adds-moves : (allow : Bool) (t u : ℕ) (p : Parts) (es : List Entry) → adds allow t p ≡ Ok es
-    → u + total_of es ≤ max_total → adds allow u p ≡ Ok es
+adds-moves : (layout : Layout) (t u : ℕ) (p : Parts) (es : List Entry) → adds layout t p ≡ Ok es
+    → u + total_of es ≤ max_total → adds layout u p ≡ Ok es
 unfolding Moves
-adds-moves allow t u p es e l =
-    let q = option_map (λ (p : List ℕ × Option (List ℕ)). (p.0, weight_read allow p.1)) p in
-    by (item_of_parts t q) (item_of_parts u q) (item-moves t u q) e
+adds-moves layout t u p es e l =
+    by (item_by layout t p) (item_by layout u p) (item-moves layout t u p) e
   where
-    by : (r s : Result Entry BadRecordCause) → Moves weight_in u r s → added allow r ≡ Ok es → added allow s ≡ Ok es
+    by : (r s : Result Entry BadRecordCause) → Moves weight_in u r s → added layout.allow_zero r ≡ Ok es
+        → added layout.allow_zero s ≡ Ok es
     by (Ok a) s h e =
         let one : a ∷ [] ≡ es = cc e in
         let sum = sum_by-cons weight_in a [] in
@@ -97,34 +100,34 @@ adds-moves allow t u p es e l =
     by (Err cause.TotalTooLarge) s h e = cc e
 
 -- so is what records add, whatever their numbers
-pub items-move : (allow : Bool) (n m t u : ℕ) (ps : List Parts) (xs : List Entry) → items_after allow n t ps ≡ Ok xs
-    → u + total_of xs ≤ max_total → items_after allow m u ps ≡ Ok xs
+pub items-move : (layout : Layout) (n m t u : ℕ) (ps : List Parts) (xs : List Entry) → items_after layout n t ps ≡ Ok xs
+    → u + total_of xs ≤ max_total → items_after layout m u ps ≡ Ok xs
 unfolding items_after
-items-move allow n m t u [] xs e l = e
-items-move allow n m t u (p ∷ ps) xs e l =
-    by (adds allow t p) refl e
-    (λ es ys f fits. items-move allow (n + 1) (m + 1) (t + total_of es) (u + total_of es) ps ys f fits)
+items-move layout n m t u [] xs e l = e
+items-move layout n m t u (p ∷ ps) xs e l =
+    by (adds layout t p) refl e
+    (λ es ys f fits. items-move layout (n + 1) (m + 1) (t + total_of es) (u + total_of es) ps ys f fits)
   where
     Later : Type 0
-    Later = (es ys : List Entry) → items_after allow (n + 1) (t + total_of es) ps ≡ Ok ys
-        → u + total_of es + total_of ys ≤ max_total → items_after allow (m + 1) (u + total_of es) ps ≡ Ok ys
+    Later = (es ys : List Entry) → items_after layout (n + 1) (t + total_of es) ps ≡ Ok ys
+        → u + total_of es + total_of ys ≤ max_total → items_after layout (m + 1) (u + total_of es) ps ≡ Ok ys
 
-    go : (es : List Entry) (r : Reading) → items_after allow (n + 1) (t + total_of es) ps ≡ r → joined es r ≡ Ok xs
-        → adds allow t p ≡ Ok es → Later
-        → adding_next (adds allow u p) m (λ es. items_after allow (m + 1) (u + total_of es) ps) ≡ Ok xs
+    go : (es : List Entry) (r : Reading) → items_after layout (n + 1) (t + total_of es) ps ≡ r → joined es r ≡ Ok xs
+        → adds layout t p ≡ Ok es → Later
+        → adding_next (adds layout u p) m (λ es. items_after layout (m + 1) (u + total_of es) ps) ≡ Ok xs
     go es (Err x) f e is later = cc e
     go es (Ok ys) f e is later =
         let both : es ++ ys ≡ xs = ok-eq (es ++ ys) xs e in
         let sum = sum_by-append weight_in es ys in
         let fits : u + (total_of es + total_of ys) ≤ max_total = omega (arith, l, sum, ap total_of both) in
-        let now = adds-moves allow t u p es is (omega (arith, fits)) in
+        let now = adds-moves layout t u p es is (omega (arith, fits)) in
         let rest = later es ys f (omega (arith, fits)) in
         rw (now, rest) e
 
-    by : (o : Result (List Entry) BadRecordCause) → adds allow t p ≡ o
-        → adding_next o n (λ es. items_after allow (n + 1) (t + total_of es) ps) ≡ Ok xs → Later
-        → adding_next (adds allow u p) m (λ es. items_after allow (m + 1) (u + total_of es) ps) ≡ Ok xs
-    by (Ok es) is e later = go es (items_after allow (n + 1) (t + total_of es) ps) refl e is later
+    by : (o : Result (List Entry) BadRecordCause) → adds layout t p ≡ o
+        → adding_next o n (λ es. items_after layout (n + 1) (t + total_of es) ps) ≡ Ok xs → Later
+        → adding_next (adds layout u p) m (λ es. items_after layout (m + 1) (u + total_of es) ps) ≡ Ok xs
+    by (Ok es) is e later = go es (items_after layout (n + 1) (t + total_of es) ps) refl e is later
     by (Err x) is e later = cc e
 
 -- what a piece reads as, by what its records add after a total of t
@@ -132,14 +135,14 @@ module _ (layout : Layout) (columns : Option Places) (bytes : List ℕ) where
   pub piece-none : (ps : List Parts) → ◌≡◌ {A = Option (List Parts)} (Some []) (Some ps)
       → piece_parts layout columns bytes ≡ Some ps → piece_reading layout columns bytes ≡ Some (Ok [])
   unfolding items_after
-  piece-none ps left e = ap (option_map (items_after layout.allow_zero 1 0)) (e ∙ sym left)
+  piece-none ps left e = ap (option_map (items_after layout 1 0)) (e ∙ sym left)
 
   pub piece-some : (t : ℕ) (xs : List Entry) (ps : List Parts) → piece_parts layout columns bytes ≡ Some ps
-      → items_after layout.allow_zero 1 t ps ≡ Ok xs → total_of xs ≤ max_total
+      → items_after layout 1 t ps ≡ Ok xs → total_of xs ≤ max_total
       → piece_reading layout columns bytes ≡ Some (Ok xs)
   piece-some t xs ps e h l =
-      ap (option_map (items_after layout.allow_zero 1 0)) e
-      ∙ ap Some (items-move layout.allow_zero 1 1 t 0 ps xs h (omega (arith, l)))
+      ap (option_map (items_after layout 1 0)) e
+      ∙ ap Some (items-move layout 1 1 t 0 ps xs h (omega (arith, l)))
 
 -- the same of a reader's bytes, where they are known
 module _ (layout : Layout) (columns : Option Places) where
@@ -153,7 +156,7 @@ module _ (layout : Layout) (columns : Option Places) where
   pub left-some : (t before after : ℕ) (xs : List Entry) (bytes : Option (List ℕ)) (left : Option (List Parts))
       → IfSome (option_map (piece_parts layout columns) bytes)
       (λ known. (ps : List Parts) × (left ≡ Some ps) × (known ≡ Some ps))
-      → IfSome left (λ ps. (items_after layout.allow_zero 1 t ps ≡ Ok xs) × (after ≡ before + length ps))
+      → IfSome left (λ ps. (items_after layout 1 t ps ≡ Ok xs) × (after ≡ before + length ps))
       → total_of xs ≤ max_total → IfSome bytes (λ bytes. piece_reading layout columns bytes ≡ Some (Ok xs))
   left-some t before after xs None left h items l = tt
   left-some t before after xs (Some bytes) left (ps, is, e) items l =
@@ -290,7 +293,7 @@ module _ (layout : Layout) where
       → map (λ piece. piece_reading layout piece.0 piece.1) pieces ≡ map read_as parts
       → t + total_of (whole_of parts) ≤ max_total
       → (ps : List Parts) × (gathered parts_of_piece pieces ≡ Some ps)
-      × (items_after layout.allow_zero n t ps ≡ Ok (whole_of parts))
+      × (items_after layout n t ps ≡ Ok (whole_of parts))
   unfolding gathered items_after parts_of_piece
   pieces-read n t [] [] e l = ([], refl, refl)
   pieces-read n t [] (xs ∷ parts) e l = cc e
@@ -303,20 +306,20 @@ module _ (layout : Layout) where
       (λ qs. pieces-read (n + length qs) (t + total_of xs) pieces parts tail (omega (arith, l, sum)))
     where
       by : (o : Option (List Parts)) → piece_parts layout p.0 p.1 ≡ o
-          → option_map (items_after layout.allow_zero 1 0) o ≡ read_as xs
+          → option_map (items_after layout 1 0) o ≡ read_as xs
           → ((qs : List Parts) → (ps : List Parts) × (gathered parts_of_piece pieces ≡ Some ps)
-          × (items_after layout.allow_zero (n + length qs) (t + total_of xs) ps ≡ Ok (whole_of parts)))
+          × (items_after layout (n + length qs) (t + total_of xs) ps ≡ Ok (whole_of parts)))
           → (ps : List Parts) × (gathered parts_of_piece (p ∷ pieces) ≡ Some ps)
-          × (items_after layout.allow_zero n t ps ≡ Ok (whole_of (xs ∷ parts)))
+          × (items_after layout n t ps ≡ Ok (whole_of (xs ∷ parts)))
       by None is head later = cc head
       by (Some qs) is head later =
-          let alone : items_after layout.allow_zero 1 0 qs ≡ Ok xs = cc head in
+          let alone : items_after layout 1 0 qs ≡ Ok xs = cc head in
           let sum = sum_by-append weight_in xs (whole_of parts) in
-          let here = items-move layout.allow_zero 1 n 0 t qs xs alone (omega (arith, l, sum)) in
+          let here = items-move layout 1 n 0 t qs xs alone (omega (arith, l, sum)) in
           let (ps, are, rest) = later qs in (
             qs ++ ps,
             rw (is, are) refl,
-            items-more layout.allow_zero n t xs qs ps here ∙ ap (joined xs) rest,
+            items-more layout n t xs qs ps here ∙ ap (joined xs) rest,
           )
 
 pub pieces-are-read : PiecesAreRead

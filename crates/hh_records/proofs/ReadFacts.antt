@@ -17,11 +17,12 @@ use Rattle.csv.specs.declared.parser.Action.TheVariants as act
 use Rattle.csv.specs.declared.reader.Reader.{Reader}
 use Rattle.csv.proofs.ReadFacts.{rows-end, rows-more}
 use Rattle.hh_stream.specs.Weights.{Entry, total_of}
+use Rattle.hh_records.proofs.DecimalFacts.{units-whole}
 use Rattle.hh_records.specs.declared.records.BadRecordCause.{BadRecordCause}
 use Rattle.hh_records.specs.declared.records.BadRecordCause.TheVariants as cause
 use Rattle.hh_records.specs.declared.records.RecordFault.{RecordFault}
 use Rattle.hh_records.specs.declared.records.RecordFault.TheVariants as fault
-use Rattle.hh_records.specs.Layouts.{ChoiceRefused, IsStart, OpenRefused, Opens, PartsRefused, RowsRefused, added, adding_next, adds, between, choice_fault, chosen_places, delimited, gathered, headed_parts, items_after, joined, names_columns, parts_at, places_in, weight_read}
+use Rattle.hh_records.specs.Layouts.{ChoiceRefused, IsPlain, IsStart, OpenRefused, Opens, PartsRefused, RowsRefused, added, adding_next, adds, between, choice_fault, chosen_places, delimited, gathered, headed_parts, items_after, joined, names_columns, parts_at, places_in, texts_parts}
 use Rattle.hh_records.specs.declared.layout.ChoiceFault.{ChoiceFault}
 use Rattle.hh_records.specs.declared.layout.ChoiceFault.TheVariants as choice
 use Rattle.hh_records.specs.declared.layout.Chosen.{Chosen}
@@ -188,26 +189,26 @@ joined-twice xs ys (Ok zs) = ap Ok (sym (append_assoc xs ys zs))
 joined-twice xs ys (Err e) = refl
 
 -- what some records add, and then what the others do
-pub items-more : (allow : Bool) (n t : ℕ) (xs : List Entry) (ps qs : List Parts) → items_after allow n t ps ≡ Ok xs
-    → items_after allow n t (ps ++ qs) ≡ joined xs (items_after allow (n + length ps) (t + total_of xs) qs)
+pub items-more : (layout : Layout) (n t : ℕ) (xs : List Entry) (ps qs : List Parts) → items_after layout n t ps ≡ Ok xs
+    → items_after layout n t (ps ++ qs) ≡ joined xs (items_after layout (n + length ps) (t + total_of xs) qs)
 unfolding items_after
-items-more allow n t xs [] qs e =
+items-more layout n t xs [] qs e =
     let same : [] ≡ xs = ok-eq [] xs e in
     let none : n + length {A = Parts} [] ≡ n = omega arith in
     let zero : t + 0 ≡ t = omega arith in
-    rw (← same, none, zero) (sym (joined-none (items_after allow n t qs)))
-items-more allow n t xs (p ∷ ps) qs e =
-    by (adds allow t p) e (λ es ys. items-more allow (n + 1) (t + total_of es) ys ps qs)
+    rw (← same, none, zero) (sym (joined-none (items_after layout n t qs)))
+items-more layout n t xs (p ∷ ps) qs e =
+    by (adds layout t p) e (λ es ys. items-more layout (n + 1) (t + total_of es) ys ps qs)
   where
     More : Type 0
-    More = (es ys : List Entry) → items_after allow (n + 1) (t + total_of es) ps ≡ Ok ys
-        → items_after allow (n + 1) (t + total_of es) (ps ++ qs)
-        ≡ joined ys (items_after allow (n + 1 + length ps) (t + total_of es + total_of ys) qs)
+    More = (es ys : List Entry) → items_after layout (n + 1) (t + total_of es) ps ≡ Ok ys
+        → items_after layout (n + 1) (t + total_of es) (ps ++ qs)
+        ≡ joined ys (items_after layout (n + 1 + length ps) (t + total_of es + total_of ys) qs)
 
-    go : (es : List Entry) (r : Reading) → items_after allow (n + 1) (t + total_of es) ps ≡ r → joined es r ≡ Ok xs
+    go : (es : List Entry) (r : Reading) → items_after layout (n + 1) (t + total_of es) ps ≡ r → joined es r ≡ Ok xs
         → More
-        → joined es (items_after allow (n + 1) (t + total_of es) (ps ++ qs))
-        ≡ joined xs (items_after allow (n + suc (length ps)) (t + total_of xs) qs)
+        → joined es (items_after layout (n + 1) (t + total_of es) (ps ++ qs))
+        ≡ joined xs (items_after layout (n + suc (length ps)) (t + total_of xs) qs)
     go es (Err x) f e more = cc e
     go es (Ok ys) f e more =
         let both : es ++ ys ≡ xs = ok-eq (es ++ ys) xs e in
@@ -215,25 +216,25 @@ items-more allow n t xs (p ∷ ps) qs e =
         let number : n + 1 + length ps ≡ n + suc (length ps) = omega arith in
         let total : t + total_of es + total_of ys ≡ t + total_of (es ++ ys) = omega (arith, sum) in
         rw (← both, ← number, ← total) (ap (joined es) (more es ys f)
-        ∙ joined-twice es ys (items_after allow (n + 1 + length ps) (t + total_of es + total_of ys) qs))
+        ∙ joined-twice es ys (items_after layout (n + 1 + length ps) (t + total_of es + total_of ys) qs))
 
     by : (o : Result (List Entry) BadRecordCause)
-        → adding_next o n (λ es. items_after allow (n + 1) (t + total_of es) ps) ≡ Ok xs
+        → adding_next o n (λ es. items_after layout (n + 1) (t + total_of es) ps) ≡ Ok xs
         → More
-        → adding_next o n (λ es. items_after allow (n + 1) (t + total_of es) (ps ++ qs))
-        ≡ joined xs (items_after allow (n + suc (length ps)) (t + total_of xs) qs)
-    by (Ok es) e more = go es (items_after allow (n + 1) (t + total_of es) ps) refl e more
+        → adding_next o n (λ es. items_after layout (n + 1) (t + total_of es) (ps ++ qs))
+        ≡ joined xs (items_after layout (n + suc (length ps)) (t + total_of xs) qs)
+    by (Ok es) e more = go es (items_after layout (n + 1) (t + total_of es) ps) refl e more
     by (Err x) e more = cc e
 
 -- what was read of a text from a state on, where so many records and a total of t came before: these
 -- records, which add these items
-abbrev pub ReadSoFar : Config → (Fields → Parts) → Bool → State → ℕ → ℕ → Option (List ℕ) → Option (List ℕ) → State
+abbrev pub ReadSoFar : Config → (Fields → Parts) → Layout → State → ℕ → ℕ → Option (List ℕ) → Option (List ℕ) → State
     → List Entry → ℕ → Type 0
-ReadSoFar cfg f allow s0 before t None now s xs n = ⊤
-ReadSoFar cfg f allow s0 before t (Some text) now s xs n =
+ReadSoFar cfg f layout s0 before t None now s xs n = ⊤
+ReadSoFar cfg f layout s0 before t (Some text) now s xs n =
     (y : List ℕ) × (now ≡ Some y) × (rows : List Fields)
     × Reached cfg s0 text rows s y
-    × (items_after allow (before + 1) t (map f rows) ≡ Ok xs) × (before + length rows ≡ n)
+    × (items_after layout (before + 1) t (map f rows) ≡ Ok xs) × (before + length rows ≡ n)
 
 -- where bytes between two records are known, the state is one there
 pub between-known : (s : State) (o : Option (List ℕ)) → IfSome (between s o) (λ bytes. ends_at_end s ≡ false)
@@ -249,14 +250,14 @@ between-known s o = by (ends_at_end s) refl o
 abbrev pub left_from : Config → (Fields → Parts) → State → Option (List ℕ) → Option (List Parts)
 left_from cfg f s0 known = option_map (λ text. map f (records_from cfg (length text + 1) s0 text)) known
 
-module _ (cfg : Config) (f : Fields → Parts) (allow : Bool) (s0 : State) (before t : ℕ) where
+module _ (cfg : Config) (f : Fields → Parts) (layout : Layout) (s0 : State) (before t : ℕ) where
   -- before the first record
-  pub read-start : (now : Option (List ℕ)) → ReadSoFar cfg f allow s0 before t (between s0 now) now s0 [] before
+  pub read-start : (now : Option (List ℕ)) → ReadSoFar cfg f layout s0 before t (between s0 now) now s0 [] before
   unfolding Reached items_after
   read-start now = by (ends_at_end s0) now
     where
       by : (b : Bool) (now : Option (List ℕ))
-          → ReadSoFar cfg f allow s0 before t (if b then None else now) now s0 [] before
+          → ReadSoFar cfg f layout s0 before t (if b then None else now) now s0 [] before
       by true now = tt
       by false None = tt
       by false (Some text) = (text, refl, [], (refl, refl), refl, omega arith)
@@ -266,25 +267,25 @@ module _ (cfg : Config) (f : Fields → Parts) (allow : Bool) (s0 : State) (befo
       (config : a.config ≡ cfg) where
     -- one more record
     pub read-more : (known : Option (List ℕ)) (es : List Entry)
-        → ReadSoFar cfg f allow s0 before t known (source_of rem a) a.state xs n
-        → ReadRecord rem a b true row → adds allow (t + total_of xs) (f row) ≡ Ok es
-        → ReadSoFar cfg f allow s0 before t known (source_of rem b) b.state (xs ++ es) (n + 1)
+        → ReadSoFar cfg f layout s0 before t known (source_of rem a) a.state xs n
+        → ReadRecord rem a b true row → adds layout (t + total_of xs) (f row) ≡ Ok es
+        → ReadSoFar cfg f layout s0 before t known (source_of rem b) b.state (xs ++ es) (n + 1)
     unfolding items_after
     read-more None es h r j = tt
     read-more (Some text) es (y, source, rows, reached, items, count) r j =
         let (z, at, more) = rows-more rem a b row cfg s0 text y rows config source reached r in
         let size = length-append rows (row ∷ []) in
         let all : map f (rows ++ row ∷ []) ≡ map f rows ++ f row ∷ [] = map-append f rows (row ∷ []) in
-        let added : items_after allow (before + 1) t (map f (rows ++ row ∷ [])) ≡ Ok (xs ++ es) =
-        rw (all, items-more allow (before + 1) t xs (map f rows) (f row ∷ []) items, j, append-nil es) refl in
+        let added : items_after layout (before + 1) t (map f (rows ++ row ∷ [])) ≡ Ok (xs ++ es) =
+        rw (all, items-more layout (before + 1) t xs (map f rows) (f row ∷ []) items, j, append-nil es) refl in
         (z, at, rows ++ row ∷ [], more, added, omega (arith, size, count))
 
     -- no more records
     pub read-end : (known : Option (List ℕ)) → IfSome known (λ bytes. ends_at_end s0 ≡ false)
-        → ReadSoFar cfg f allow s0 before t known (source_of rem a) a.state xs n
+        → ReadSoFar cfg f layout s0 before t known (source_of rem a) a.state xs n
         → ReadRecord rem a b false row
         → IfSome (left_from cfg f s0 known)
-        (λ ps. (items_after allow (before + 1) t ps ≡ Ok xs) × (n ≡ before + length ps))
+        (λ ps. (items_after layout (before + 1) t ps ≡ Ok xs) × (n ≡ before + length ps))
     read-end None q h r = tt
     read-end (Some text) q (y, source, rows, reached, items, count) r =
         let none = rows-end rem a b row cfg y config source r in
@@ -294,9 +295,9 @@ module _ (cfg : Config) (f : Fields → Parts) (allow : Bool) (s0 : State) (befo
 
     -- a record that was not taken
     pub read-refused : (known : Option (List ℕ)) (x : RecordFault) → IfSome known (λ bytes. ends_at_end s0 ≡ false)
-        → ReadSoFar cfg f allow s0 before t known (source_of rem a) a.state xs n
-        → ReadRecord rem a b true row → PartsRefused allow (t + total_of xs) (f row) x
-        → RowsRefused allow before t (left_from cfg f s0 known) (numbered_fault (n + 1) x)
+        → ReadSoFar cfg f layout s0 before t known (source_of rem a) a.state xs n
+        → ReadRecord rem a b true row → PartsRefused layout (t + total_of xs) (f row) x
+        → RowsRefused layout before t (left_from cfg f s0 known) (numbered_fault (n + 1) x)
     unfolding items_after
     read-refused known fault.Memory q h r j = tt
     read-refused None (fault.Bad x) q h r j = tt
@@ -311,7 +312,7 @@ module _ (cfg : Config) (f : Fields → Parts) (allow : Bool) (s0 : State) (befo
           all,
           append_assoc rows (row ∷ []) rest,
           parts,
-          items-more allow (before + 1) t xs (map f rows) (f row ∷ map f rest) items,
+          items-more layout (before + 1) t xs (map f rows) (f row ∷ map f rest) items,
           j,
           number,
         ) refl
@@ -409,34 +410,44 @@ unadded cause.BadWeight = refl
 unadded cause.ZeroWeight = refl
 unadded cause.TotalTooLarge = refl
 
-same-parts : (p : Parts) → option_map (λ (p : List ℕ × Option (List ℕ)). (p.0, weight_read false p.1)) p ≡ p
-same-parts None = refl
-same-parts (Some (k, None)) = refl
-same-parts (Some (k, Some f)) = refl
+-- a layout of whole numbers but 0
+module _ (layout : Layout) (no_zero : layout.allow_zero ≡ false) (whole : layout.decimals ≡ 0) where
+  plain-adds : (t : ℕ) (p : Parts) → adds layout t p ≡ added false (item_of_parts t p)
+  plain-adds t None = refl
+  plain-adds t (Some (k, None)) = rw (no_zero, whole) refl
+  plain-adds t (Some (k, Some f)) = rw (no_zero, whole, units-whole f) refl
 
--- where no weight may be 0, what records add is their items
-same-items : (n : ℕ) (xs : List Entry) (rows : List Fields)
-    → joined xs (items_after false n (total_of xs) (map parts_of rows)) ≡ items_from n xs rows
-unfolding items_after items_from
-same-items n xs [] = ap Ok (append-nil xs)
-same-items n xs (r ∷ rows) =
-    rw (same-parts (parts_of r)) (by (item_of_parts (total_of xs) (parts_of r)) (λ e. same-items (n + 1) (xs ++ e ∷ []) rows))
-  where
-    by : (o : Result Entry BadRecordCause)
-        → ((e : Entry) → joined (xs ++ e ∷ []) (items_after false (n + 1) (total_of (xs ++ e ∷ [])) (map parts_of rows))
-        ≡ items_from (n + 1) (xs ++ e ∷ []) rows)
-        → joined xs (adding_next (added false o) n (λ es. items_after false (n + 1) (total_of xs + total_of es) (map parts_of rows)))
-        ≡ reading_next o n (λ e. items_from (n + 1) (xs ++ e ∷ []) rows)
-    by (Ok e) more =
-        let sum = sum_by-append (λ (e : Entry). e.1) xs (e ∷ []) in
-        joined-twice xs (e ∷ []) _ ∙ rw (← sum) (more e)
-    by (Err x) more = rw (unadded x) refl
+  -- what records add are their items
+  same-items : (n : ℕ) (xs : List Entry) (rows : List Fields)
+      → joined xs (items_after layout n (total_of xs) (map parts_of rows)) ≡ items_from n xs rows
+  unfolding items_after items_from
+  same-items n xs [] = ap Ok (append-nil xs)
+  same-items n xs (r ∷ rows) =
+      rw (plain-adds (total_of xs) (parts_of r))
+      (by (item_of_parts (total_of xs) (parts_of r)) (λ e. same-items (n + 1) (xs ++ e ∷ []) rows))
+    where
+      by : (o : Result Entry BadRecordCause)
+          → ((e : Entry) → joined (xs ++ e ∷ []) (items_after layout (n + 1) (total_of (xs ++ e ∷ [])) (map parts_of rows))
+          ≡ items_from (n + 1) (xs ++ e ∷ []) rows)
+          → joined xs (adding_next (added false o) n (λ es. items_after layout (n + 1) (total_of xs + total_of es) (map parts_of rows)))
+          ≡ reading_next o n (λ e. items_from (n + 1) (xs ++ e ∷ []) rows)
+      by (Ok e) more =
+          let sum = sum_by-append (λ (e : Entry). e.1) xs (e ∷ []) in
+          joined-twice xs (e ∷ []) _ ∙ rw (← sum) (more e)
+      by (Err x) more = rw (unadded x) refl
 
--- a layout that names nothing reads a text as its stream
-pub plain-layouts : PlainLayoutsReadStreams
+-- of a layout that names nothing the parts are those of keys and weights
+plain-parts : (layout : Layout) (text : List ℕ) → IsPlain layout
+    → texts_parts layout (text ∷ []) ≡ Some (map parts_of (records default_config (strip_bom text)))
 unfolding gathered
+plain-parts layout text plain =
+    let nothing = append-nil (map parts_of (records default_config (strip_bom text))) in
+    rw (plain.delimiter, plain.no_header, plain.no_key, plain.no_weight, nothing) refl
+
+-- such a layout reads a text as its stream
+pub plain-layouts : PlainLayoutsReadStreams
 plain-layouts layout text plain =
     let rows = records default_config (strip_bom text) in
-    let nothing = append-nil (map parts_of rows) in
-    rw (plain.delimiter, plain.no_header, plain.no_key, plain.no_weight, plain.no_zero, nothing)
-    (ap Some (sym (joined-none (items_after false 1 0 (map parts_of rows))) ∙ same-items 1 [] rows))
+    ap (option_map (items_after layout 1 0)) (plain-parts layout text plain)
+    ∙ ap Some (sym (joined-none (items_after layout 1 0 (map parts_of rows)))
+    ∙ same-items layout plain.no_zero plain.whole 1 [] rows)

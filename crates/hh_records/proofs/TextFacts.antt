@@ -23,7 +23,7 @@ use Rattle.hh_counters.specs.Condensed.{condensed}
 use Rattle.hh_counters.specs.Counters.{Counters, max_k}
 use Rattle.hh_counters.specs.Laws.{CondensedAreItems, CondensedKeepsWeights}
 use Rattle.hh_records.specs.Laws.{CondensedFilesAreRead}
-use Rattle.hh_records.specs.Rows.{begins_with_mark, condensed_text, first_row_of, quoted_row_of, row_of, rows_of}
+use Rattle.hh_records.specs.Rows.{begins_with_mark, condensed_text, first_row_by, quoted_row_by, row_of, rows_of}
 use Rattle.hh_stream.specs.Digits.{is_digit, value_of}
 use Rattle.hh_records.specs.Streams.{Fields, is_weight, items_from, item_of_fields, reading_next, stream_of}
 
@@ -57,12 +57,12 @@ value_after a (d ∷ ds) =
     ap (λ n. fold (λ a d. a * 10 + (d - 48)) n (map (λ d. 48 + d) ds)) step ∙ value_after (a * 10 + d) ds
 
 -- what the digits of a weight are to the reader of records
-record IsWritten (n : ℕ) : Type 0 where
+pub record IsWritten (n : ℕ) : Type 0 where
   pub plain : list_any (needs_byte default_writer) (decimal n) ≡ false
   pub weight : is_weight (decimal n) ≡ true
   pub value : value_of (decimal n) ≡ n
 
-written : (n : ℕ) → 0 < n → n ≤ max_total → IsWritten n
+pub written : (n : ℕ) → 0 < n → n ≤ max_total → IsWritten n
 written n some fits =
     let ds = digits_of 10 n in
     let below = all_below_base_digits_of 10 n (omega arith) in
@@ -141,7 +141,7 @@ reads_row e =
     reads_one e (row_of e) long (λ tail. read-write-many e.0 (decimal e.1) [] tail)
 
 quoted_begins : (e : Entry) (tail : List ℕ)
-    → quoted_row_of e ++ tail ≡ 34 ∷ (escaped default_writer e.0 ++ (34 ∷ 44 ∷ (decimal e.1 ++ (10 ∷ tail))))
+    → quoted_row_by 0 e ++ tail ≡ 34 ∷ (escaped default_writer e.0 ++ (34 ∷ 44 ∷ (decimal e.1 ++ (10 ∷ tail))))
 quoted_begins e tail =
     let k = escaped default_writer e.0 in
     let d = decimal e.1 in
@@ -149,9 +149,9 @@ quoted_begins e tail =
     ∙ append_assoc k (34 ∷ []) (44 ∷ ((d ++ (10 ∷ [])) ++ tail))
     ∙ ap (λ (u : List ℕ). k ++ (34 ∷ 44 ∷ u)) (append_assoc d (10 ∷ []) tail))
 
-reads_quoted : (e : Entry) → IsWritten e.1 → Reads (e ∷ []) (quoted_row_of e)
+reads_quoted : (e : Entry) → IsWritten e.1 → Reads (e ∷ []) (quoted_row_by 0 e)
 unfolding next_record fields_text
-reads_quoted e w = reads_one e (quoted_row_of e) (omega arith) (λ tail.
+reads_quoted e w = reads_one e (quoted_row_by 0 e) (omega arith) (λ tail.
     let d = decimal e.1 in
     let weight : fields_text default_writer (d ∷ []) ++ (10 ∷ tail) ≡ 44 ∷ (d ++ (10 ∷ tail)) =
     rw w.plain (ap (λ (u : List ℕ). 44 ∷ (u ++ (10 ∷ tail))) (append-nil d)) in
@@ -161,8 +161,8 @@ reads_quoted e w = reads_one e (quoted_row_of e) (omega arith) (λ tail.
     ∙ ap (next_record default_config st.InField [] e.0) (sym weight)
     ∙ rest-run [] e.0 (d ∷ []) tail)
 
-reads_first : (e : Entry) → IsWritten e.1 → Reads (e ∷ []) (first_row_of e)
-reads_first e w = elim (begins_with_mark e.0) as (λ b. Reads (e ∷ []) (if b then quoted_row_of e else row_of e)) [
+reads_first : (e : Entry) → IsWritten e.1 → Reads (e ∷ []) (first_row_by 0 e)
+reads_first e w = elim (begins_with_mark e.0) as (λ b. Reads (e ∷ []) (if b then quoted_row_by 0 e else row_of e)) [
   | true ↦ reads_quoted e w
   | false ↦ reads_row e
 ]
@@ -177,7 +177,7 @@ IsReadable e = IsKey e.0 × (0 < e.1) × IsWritten e.1
 
 reads_condensed : (es : List Entry) → AllByRecursion IsReadable es → Reads es (condensed_text es)
 reads_condensed [] h = reads_none
-reads_condensed (e ∷ es) h = reads_both (e ∷ []) es (first_row_of e) (rows_of es) (reads_first e h.0.2) (reads_rows es)
+reads_condensed (e ∷ es) h = reads_both (e ∷ []) es (first_row_by 0 e) (rows_of es) (reads_first e h.0.2) (reads_rows es)
 
 reads_parts : (parts : List (List Entry)) → AllByRecursion (AllByRecursion IsReadable) parts
     → Reads (whole_of parts) (flat_map condensed_text parts)
@@ -227,10 +227,10 @@ strip_row e tail h =
     by true needs = rw needs (strip_other 34 ((escaped default_writer e.0 ++ (34 ∷ [])) ++ (44 ∷ row_rest e tail)) refl)
     by false plain = rw plain (strip_key e.0 (row_rest e tail) h)
 
-strip_first : (e : Entry) (tail : List ℕ) → strip_bom (first_row_of e ++ tail) ≡ first_row_of e ++ tail
+strip_first : (e : Entry) (tail : List ℕ) → strip_bom (first_row_by 0 e ++ tail) ≡ first_row_by 0 e ++ tail
 strip_first e tail = elim (begins_with_mark e.0) as (λ b. begins_with_mark e.0 ≡ b
-    → strip_bom ((if b then quoted_row_of e else row_of e) ++ tail)
-    ≡ (if b then quoted_row_of e else row_of e) ++ tail) [
+    → strip_bom ((if b then quoted_row_by 0 e else row_of e) ++ tail)
+    ≡ (if b then quoted_row_by 0 e else row_of e) ++ tail) [
       | true ↦ λ h. let begins = quoted_begins e tail in ap strip_bom begins ∙ strip_other 34 _ refl ∙ sym begins
       | false ↦ strip_row e tail
     ] refl
@@ -240,7 +240,7 @@ unfolding strip_bom
 strip_parts [] = refl
 strip_parts ([] ∷ parts) = strip_parts parts
 strip_parts ((e ∷ es) ∷ parts) =
-    let begins = append_assoc (first_row_of e) (rows_of es) (flat_map condensed_text parts) in
+    let begins = append_assoc (first_row_by 0 e) (rows_of es) (flat_map condensed_text parts) in
     ap strip_bom begins ∙ strip_first e (rows_of es ++ flat_map condensed_text parts) ∙ sym begins
 
 -- ---- records, taken as items

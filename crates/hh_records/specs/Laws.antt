@@ -1,16 +1,17 @@
 -- What holds of texts that are joined.
-use Rattle.std.specs.Prelude.{◌≡◌, ◌+◌, ◌*◌, ◌<◌, ◌≤◌, ℕ, List, [], ◌∷◌, length, map, true, EachIndex, Ok, Some, slice_index}
+use Rattle.std.specs.Prelude.{◌≡◌, ◌==◌, ◌+◌, ◌*◌, ◌<◌, ◌≤◌, ℕ, List, [], ◌∷◌, length, map, true, EachIndex, Ok, Some, slice_index}
 use Rattle.std.specs.List.{AllByRecursion, flat_map}
 use Rattle.csv.specs.Reading.{records, strip_bom}
 use Rattle.hh_stream.specs.Weights.{AreItems, Entry, max_total, total_of}
 use Rattle.hh_stream.specs.Cuttings.{whole_of}
 use Rattle.hh_counters.specs.Counters.{SummaryView, max_k}
 use Rattle.hh_counters.specs.Condensed.{condensed}
-use Rattle.hh_records.specs.Layouts.{IsPlain, delimited, stream_with}
+use Rattle.hh_records.specs.Decimals.{pointed, units_of}
+use Rattle.hh_records.specs.Layouts.{IsPlain, delimited, key_of, stream_with}
 use Rattle.hh_records.specs.Pieces.{AreCut, InPieces, IsInPieces, LaterBeginWithFeed, all_pieces, ends_outside, piece_reading, text_of}
 use Rattle.hh_records.specs.Printed.{millionths, plain_rows, printed_rows}
 use Rattle.hh_records.specs.Rows.{condensed_text, rows_of}
-use Rattle.hh_records.specs.Streams.{stream_of}
+use Rattle.hh_records.specs.Streams.{Fields, stream_of}
 use Rattle.hh_records.specs.declared.layout.Layout.{Layout}
 
 -- what a text of bytes reads as has keys and weights, and a total in range
@@ -67,3 +68,13 @@ PiecesAreRead =
     → map (λ piece. piece_reading layout piece.0 piece.1) (all_pieces texts) ≡ map (λ part. Some (Ok part)) parts
     → total_of (whole_of parts) ≤ max_total
     → stream_with layout (map text_of texts) ≡ Some (Ok (whole_of parts))
+
+-- a number that is printed with digits behind a point is read as itself, in units of as many digits
+abbrev pub PrintedNumbersAreRead : Type 0
+PrintedNumbersAreRead = (d n : ℕ) → n ≤ max_total → units_of d (Some (pointed d n)) ≡ Some n
+
+-- fields that are one key are the same fields, where either is one field or both are several
+abbrev pub KeysTellFields : Type 0
+KeysTellFields =
+    (fs gs : Fields) → (length fs ≡ 0 → ⊥) → (length gs ≡ 0 → ⊥) → (length fs == 1) ≡ (length gs == 1)
+    → key_of fs ≡ key_of gs → fs ≡ gs

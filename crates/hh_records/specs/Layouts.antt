@@ -14,7 +14,8 @@ use Rattle.csv.specs.declared.reader.Reader.{Reader}
 use Rattle.csv.specs.declared.reader.Trim.TheVariants as trim
 use Rattle.hh_stream.specs.Digits.{is_number, value_of}
 use Rattle.hh_stream.specs.Weights.{Entry, total_of}
-use Rattle.hh_records.specs.Streams.{Fields, Known, Parts, Reading, ReadsAs, item_of_parts, parts_of}
+use Rattle.hh_records.specs.Decimals.{units_of}
+use Rattle.hh_records.specs.Streams.{Fields, Known, Parts, Reading, ReadsAs, item_of_key, parts_of}
 use Rattle.hh_records.specs.declared.layout.ChoiceFault.{ChoiceFault}
 use Rattle.hh_records.specs.declared.layout.ChoiceFault.TheVariants as choice
 use Rattle.hh_records.specs.declared.layout.Chosen.{Chosen}
@@ -83,9 +84,18 @@ added allow (Ok e) = Ok (e ∷ [])
 added allow (Err cause.ZeroWeight) = if allow then Ok [] else Err cause.ZeroWeight
 added allow (Err c) = Err c
 
+-- the weight that a field writes, in the units of a layout
+abbrev pub weight_by : Layout → Option (List ℕ) → Option ℕ
+weight_by layout f = units_of layout.decimals (weight_read layout.allow_zero f)
+
+-- the item of a record after a total of t, or the first test that it fails
+abbrev pub item_by : Layout → ℕ → Parts → Result Entry BadRecordCause
+item_by layout t None = Err cause.FieldCount
+item_by layout t (Some p) = item_of_key t p.0 (weight_by layout p.1)
+
 -- what a record adds after a total of t, or the first test that it fails
-abbrev pub adds : Bool → ℕ → Parts → Result (List Entry) BadRecordCause
-adds allow t p = added allow (item_of_parts t (option_map (λ p. (p.0, weight_read allow p.1)) p))
+abbrev pub adds : Layout → ℕ → Parts → Result (List Entry) BadRecordCause
+adds layout t p = added layout.allow_zero (item_by layout t p)
 
 abbrev pub joined : List Entry → Reading → Reading
 joined es (Ok xs) = Ok (es ++ xs)
@@ -96,10 +106,10 @@ adding_next (Ok es) n more = joined es (more es)
 adding_next (Err c) n more = Err (n, c)
 
 -- what the records from number n on add after a total of t, or the first that fails
-unfoldable pub items_after : Bool → ℕ → ℕ → List Parts → Reading
-items_after allow n t [] = Ok []
-items_after allow n t (p ∷ ps) =
-    adding_next (adds allow t p) n (λ es. items_after allow (n + 1) (t + total_of es) ps)
+unfoldable pub items_after : Layout → ℕ → ℕ → List Parts → Reading
+items_after layout n t [] = Ok []
+items_after layout n t (p ∷ ps) =
+    adding_next (adds layout t p) n (λ es. items_after layout (n + 1) (t + total_of es) ps)
 
 -- the byte that a word names to stand between fields: itself, or a tab for a backslash and t, but no
 -- quote, carriage return or line feed
@@ -159,13 +169,14 @@ places_in layout header =
     else option_map Some
     (option_zip (key_places header layout.key.items) (weight_place header layout.weight))
 
--- a layout of a key and, after a comma, its weight, with no header, where no weight is 0
+-- a layout of a key and, after a comma, its weight, a whole number but 0, with no header
 pub record IsPlain (layout : Layout) : Type 0 where
   pub delimiter : layout.delimiter ≡ comma
   pub no_header : layout.has_header ≡ false
   pub no_key : layout.key.items ≡ []
   pub no_weight : layout.weight ≡ None
   pub no_zero : layout.allow_zero ≡ false
+  pub whole : layout.decimals ≡ 0
 
 -- what a refusal to choose tells
 abbrev pub ChoiceRefused : Layout → Fields → ChoiceFault → Type 0
@@ -196,12 +207,12 @@ texts_parts layout texts = gathered (text_parts layout) texts
 
 -- what texts read as by a layout, or nothing where a header lacks a column
 abbrev pub stream_with : Layout → List (List ℕ) → Option Reading
-stream_with layout texts = option_map (items_after layout.allow_zero 1 0) (texts_parts layout texts)
+stream_with layout texts = option_map (items_after layout 1 0) (texts_parts layout texts)
 
 -- what a refusal of a record tells
-abbrev pub PartsRefused : Bool → ℕ → Parts → RecordFault → Type 0
-PartsRefused allow t p (fault.Bad c) = adds allow t p ≡ Err c
-PartsRefused allow t p fault.Memory = ⊤
+abbrev pub PartsRefused : Layout → ℕ → Parts → RecordFault → Type 0
+PartsRefused layout t p (fault.Bad c) = adds layout t p ≡ Err c
+PartsRefused layout t p fault.Memory = ⊤
 
 -- a taker has taken what some records add to its weight, and each item weighs something
 pub record TakesAdded {A : Type 0} (with_item : A → Entry → A) (weight_taken : A → ℕ) (old new : A)
@@ -243,11 +254,11 @@ parts_left remaining text =
 
 -- what a refusal to read the records of a text tells, where they come after so many others and a
 -- total of t
-abbrev pub RowsRefused : Bool → ℕ → ℕ → Option (List Parts) → ReadError → Type 0
-RowsRefused allow before t left read.ReadFault = ⊤
-RowsRefused allow before t left (read.BadRecord n c) =
-    IfSome left (λ ps. items_after allow (before + 1) t ps ≡ Err (n, c))
-RowsRefused allow before t left read.Memory = ⊤
+abbrev pub RowsRefused : Layout → ℕ → ℕ → Option (List Parts) → ReadError → Type 0
+RowsRefused layout before t left read.ReadFault = ⊤
+RowsRefused layout before t left (read.BadRecord n c) =
+    IfSome left (λ ps. items_after layout (before + 1) t ps ≡ Err (n, c))
+RowsRefused layout before t left read.Memory = ⊤
 
 -- the same of a text that has none where it was to have a header
 abbrev pub text_left : {R : Type 0} → (R → Option (List ℕ)) → Option (Text R) → Option (List Parts)

@@ -1,5 +1,6 @@
 pub mod CutFiles
 pub mod CutTexts
+pub mod Decimals
 pub mod Files
 pub mod Kept
 pub mod Laws

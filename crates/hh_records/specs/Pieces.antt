@@ -97,7 +97,7 @@ piece_parts layout (Some at) bytes = Some (map (parts_at at) (rows_in layout byt
 -- what a piece reads as by itself, or nothing where its header lacks a column
 abbrev pub piece_reading : Layout → Option Places → List ℕ → Option Reading
 piece_reading layout columns bytes =
-    option_map (items_after layout.allow_zero 1 0) (piece_parts layout columns bytes)
+    option_map (items_after layout 1 0) (piece_parts layout columns bytes)
 
 -- what a refusal to read a piece tells, where it is read after a total of t
 abbrev pub PieceRefused : Layout → Option Places → List ℕ → ℕ → TextError → Type 0
@@ -105,7 +105,7 @@ PieceRefused layout columns bytes t text.ReadFault = ⊤
 PieceRefused layout columns bytes t text.NoColumn =
     (names_columns layout ≡ true) × (piece_parts layout columns bytes ≡ None)
 PieceRefused layout columns bytes t (text.BadRecord n c) =
-    option_map (items_after layout.allow_zero 1 t) (piece_parts layout columns bytes) ≡ Some (Err (n, c))
+    option_map (items_after layout 1 t) (piece_parts layout columns bytes) ≡ Some (Err (n, c))
 PieceRefused layout columns bytes t text.Memory = ⊤
 
 -- ---- texts in pieces

@@ -51,12 +51,16 @@ abbrev pub item_of_pair : Bytes → Result ℕ BadRecordCause → Result Entry B
 item_of_pair k (Ok w) = Ok (k, w)
 item_of_pair k (Err c) = Err c
 
+-- a key of this weight after a total of t, or the first test that it fails
+abbrev pub item_of_key : ℕ → Bytes → Option ℕ → Result Entry BadRecordCause
+item_of_key t k w =
+    if length k == 0 then Err cause.EmptyKey
+    else if nat_le (length k) max_key_len then item_of_pair k (weight_after t w)
+    else Err cause.KeyTooLong
+
 abbrev pub item_of_parts : ℕ → Parts → Result Entry BadRecordCause
 item_of_parts t None = Err cause.FieldCount
-item_of_parts t (Some p) =
-    if length p.0 == 0 then Err cause.EmptyKey
-    else if nat_le (length p.0) max_key_len then item_of_pair p.0 (weight_after t (weight_of p.1))
-    else Err cause.KeyTooLong
+item_of_parts t (Some p) = item_of_key t p.0 (weight_of p.1)
 
 -- the item of a record after a total of t, or the first test that it fails
 abbrev pub item_of_fields : ℕ → Fields → Result Entry BadRecordCause

@@ -1,8 +1,9 @@
 //! Laws of the definitions in `specs/`. Each function does nothing: its contract is the law.
 
 ghost use Rattle.hh_records.specs.Laws.{CondensedFilesAreRead, PlainLayoutsReadStreams, TextsAreItems};
-ghost use Rattle.hh_records.specs.Laws.{PlainRowsAreRows, SharesAreRoundedDown};
-ghost use Rattle.hh_records.specs.Laws.{FeedsOutsideQuotesAreCuts, PiecesAreRead, PiecesHaveTheRecords};
+ghost use Rattle.hh_records.specs.Laws.{FeedsOutsideQuotesAreCuts, KeysTellFields, PiecesAreRead};
+ghost use Rattle.hh_records.specs.Laws.{PiecesHaveTheRecords, PlainRowsAreRows, PrintedNumbersAreRead};
+ghost use Rattle.hh_records.specs.Laws.{SharesAreRoundedDown};
 
 use hh_counters::laws::condensed_keeps_weights;
 
@@ -49,4 +50,15 @@ pub fn feeds_outside_quotes_are_cuts()
 /// pieces, one after the other.
 pub fn pieces_are_read()
     ensures { PiecesAreRead }
+{}
+
+/// A number that is printed with digits behind a point is read as the number.
+pub fn printed_numbers_are_read()
+    ensures { PrintedNumbersAreRead }
+{}
+
+/// Different fields of a key's columns are different keys: what `csv` writes of some fields is read
+/// as these alone.
+pub fn keys_tell_fields()
+    ensures { KeysTellFields }
 {}

@@ -32,6 +32,9 @@ pub struct Layout {
     pub weight: Option<Column>,
     /// A record of weight 0 adds nothing and is no fault, and `-` is such a weight.
     pub allow_zero: bool,
+    /// A weight may have a point and up to so many digits behind it. It counts in units of the last
+    /// of them: with 3 the weight `0.125` is 125, and 1 is 1,000.
+    pub decimals: u8,
 }
 
 impl Layout {
@@ -45,6 +48,7 @@ impl Layout {
             key: Vec::new(alloc),
             weight: None,
             allow_zero: false,
+            decimals: 0,
         }
     }
 }
@@ -61,8 +65,8 @@ pub fn delimiter_of(word: &[u8]) -> Option<u8>
     }
 }
 
-/// The column that a word names: digits are its number, from 1 on, and another word is a name, which
-/// only a header has.
+/// The column that a word names: digits are its number, from 1 on, and another word is a name,
+/// which only a header has.
 pub fn column_of(alloc: Global, word: &[u8], has_header: bool) -> Result<Option<Column>, AllocError>
     ensures named { IfOk result (λ column. IfSome column (NamesColumn has_header word.now)) }
     ensures unnamed { result ≡ Ok None

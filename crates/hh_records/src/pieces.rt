@@ -182,7 +182,7 @@ pub(crate) fn read_left<R: Read + Drop, T: TakeItems>(
     let Some(text) = open_piece(alloc, layout, columns, piece)? else {
         return Ok(());
     };
-    match read_rows(alloc, text, 0, taker, layout.allow_zero) {
+    match read_rows(alloc, text, 0, taker, layout) {
         Ok(_) => Ok(()),
         Err(error) => Err(TextError::from(error)),
     }

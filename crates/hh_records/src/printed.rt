@@ -3,15 +3,15 @@
 ghost use Rattle.std.specs.Prelude.{◌≡◌, false, true, Some, IfOk, IfErr, OnOk};
 ghost use Rattle.std.specs.Io.KnownBytes.{Appends};
 ghost use Rattle.csv.specs.Writing.{text_written};
-ghost use Rattle.hh_records.specs.Printed.{TextRefused, four_digits, last_digit, millionths, percent};
-ghost use Rattle.hh_records.specs.Printed.{plain_rows, printed_row, printed_rows, shared_row_of, topmost};
+ghost use Rattle.hh_records.specs.Printed.{TextRefused, millionths};
+ghost use Rattle.hh_records.specs.Printed.{plain_rows, printed_row, printed_rows, topmost};
 ghost use Rattle.hh_records.specs.Rows.{IsBetweenRows, is_write_fault};
 
+use crate::decimals::pointed;
 use crate::rows::{ReportFault, write_row};
 use crate::sink::{Sink, WriteFault, put};
 use csv::{Writer, WriterBuilder};
 use hh_counters::Heavy;
-use itoa::Buffer;
 use std::alloc::{AllocError, Global};
 
 /// Which rows of a report are printed, and how.
@@ -22,16 +22,20 @@ pub struct RowOptions {
     /// A row has a third column: its weight's share of the total in percent, rounded down, with
     /// four digits behind the point.
     pub share: bool,
+    /// So many last digits of a weight stand behind a point. These are the weights of records that
+    /// were read by a [`Layout`](crate::Layout) of as many decimals.
+    pub decimals: u8,
 }
 
 impl RowOptions {
-    /// All rows, and no shares.
+    /// All rows, of whole numbers, and no shares.
     pub fn plain() -> RowOptions
         ensures { result ≡ plain_rows }
     {
         RowOptions {
             top: None,
             share: false,
+            decimals: 0,
         }
     }
 }
@@ -56,64 +60,12 @@ fn millionths(total: u64, weight: u64) -> u128
     u128::from(weight) * 1_000_000 / u128::from(total)
 }
 
-/// The last digit of a number.
-fn last_digit(number: u128) -> u8
-    ensures { result ≡ last_digit number }
-{
-    b'0' + (number % 10) as u8
-}
-
-/// The last four digits of a number.
-fn four_digits(number: u128) -> [u8; 4]
-    ensures { result ≡ four_digits number }
-{
-    [
-        last_digit(number / 1_000),
-        last_digit(number / 100),
-        last_digit(number / 10),
-        last_digit(number),
-    ]
-}
-
-/// So many millionths in percent, with four digits behind the point.
-fn percent(alloc: Global, number: u128) -> Result<Vec<u8>, AllocError>
-    ensures { IfOk result (λ text. text.items ≡ percent number) }
-{
-    let mut digits = Buffer::new();
-    let mut text = Vec::from_slice(alloc, digits.format(number / 10_000).as_bytes())?;
-    text.push(b'.')?;
-    text.extend_from_slice(&four_digits(number))?;
-    Ok(text)
-}
-
-/// Writes a row with its share of a total after the others.
-fn write_shared_row(
-    alloc: Global,
-    writer: &mut Writer<Vec<u8>>,
-    total: u64,
-    row: &Heavy,
-) -> Result<(), AllocError>
-    requires { IsBetweenRows writer.old }
-    ensures between { OnOk result (IsBetweenRows writer.new) }
-    ensures text { OnOk result (Appends
-        (text_written (λ text. Some text.items) writer.old)
-        (text_written (λ text. Some text.items) writer.new)
-        (shared_row_of total row.now)) }
-{
-    let share = percent(alloc, millionths(total, row.weight))?;
-    let mut digits = Buffer::new();
-    let weight = digits.format(row.weight).as_bytes();
-    writer
-        .write_fields(&[row.key.bytes(), weight, share.as_slice()])
-        .map_err(|_| AllocError)
-}
-
-/// Writes a row after the others, with its share of a total or without.
+/// Writes a row after the others, as the options want it, with its share of a total.
 fn write_printed_row(
     alloc: Global,
     writer: &mut Writer<Vec<u8>>,
     total: u64,
-    share: bool,
+    options: &RowOptions,
     row: &Heavy,
 ) -> Result<(), AllocError>
     requires { IsBetweenRows writer.old }
@@ -121,12 +73,16 @@ fn write_printed_row(
     ensures text { OnOk result (Appends
         (text_written (λ text. Some text.items) writer.old)
         (text_written (λ text. Some text.items) writer.new)
-        (printed_row total share row.now)) }
+        (printed_row total options.now row.now)) }
 {
-    if share {
-        return write_shared_row(alloc, writer, total, row);
+    if !options.share {
+        return write_row(alloc, writer, row, options.decimals);
     }
-    write_row(writer, row)
+    let weight = pointed(alloc, u128::from(row.weight), options.decimals)?;
+    let share = pointed(alloc, millionths(total, row.weight), 4)?;
+    writer
+        .write_fields(&[row.key.bytes(), weight.as_slice(), share.as_slice()])
+        .map_err(|_| AllocError)
 }
 
 /// The rows of a report as the options want them, with shares of this total. With
@@ -142,7 +98,7 @@ pub fn printed_text(
     let mut writer = WriterBuilder::new().from_writer(Vec::new(alloc));
     let first = topmost(options.top, rows);
     for row in first {
-        write_printed_row(alloc, &mut writer, total, options.share, row)?;
+        write_printed_row(alloc, &mut writer, total, options, row)?;
     }
     writer.into_inner().map_err(|_| AllocError)
 }

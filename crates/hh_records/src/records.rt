@@ -6,11 +6,12 @@ ghost use Rattle.csv.specs.Records.{fields_of};
 ghost use Rattle.csv.specs.Writing.{default_writer, row_body};
 ghost use Rattle.hh_stream.specs.Weights.{max_total};
 ghost use Rattle.hh_stream.specs.Digits.{is_number, value_of};
-ghost use Rattle.hh_records.specs.Layouts.{IsText, PartsRefused, RowsRefused, TakesAdded, adds, chosen_places, fields_at, is_hyphen, items_after, parts_at, parts_left, weight_at, weight_read};
-ghost use Rattle.hh_records.specs.Streams.{fault_of, numbered_fault, parts_of, ReadRefused, ReadsAs, text_known, weight_of};
+ghost use Rattle.hh_records.specs.Layouts.{IsText, PartsRefused, RowsRefused, TakesAdded, adds, chosen_places, fields_at, is_hyphen, items_after, parts_at, parts_left, weight_at, weight_by};
+ghost use Rattle.hh_records.specs.Streams.{fault_of, numbered_fault, parts_of, ReadRefused, ReadsAs, text_known};
 ghost use Rattle.hh_records.specs.Taking.{TakesItems};
 
-use crate::layout::Chosen;
+use crate::decimals::{scaled, units_in};
+use crate::layout::{Chosen, Layout};
 use crate::texts::{Records, Text, TextError, read_records};
 use csv::{ByteRecord, ErrorKind, WriterBuilder};
 use hh_stream::{MAX_KEY_LEN, MAX_TOTAL, Stream, TakeItems};
@@ -30,7 +31,8 @@ pub enum BadRecordCause {
     /// The first field has more than 4,096 bytes.
     #[error("key too long")]
     KeyTooLong,
-    /// The second field is not 1 to 20 ASCII digits.
+    /// The second field is not 1 to 20 ASCII digits or, where a layout has decimals, no such number
+    /// with a point.
     #[error("bad weight")]
     BadWeight,
     /// The weight is 0.
@@ -92,18 +94,19 @@ fn is_hyphen(field: &[u8]) -> bool
     field.len() == 1 && field[0] == b'-'
 }
 
-/// The weight that a field writes, and 1 where there is none.
-fn weight_in(field: Option<&[u8]>, allow_zero: bool) -> Option<u64>
+/// The weight that a record's field writes, in the units of a layout, and that of 1 where there is
+/// none.
+fn weight_in(field: Option<&[u8]>, layout: &Layout) -> Option<u64>
     ensures { result ≡ option_map (λ weight. min weight u64.MAX)
-        (weight_of (weight_read allow_zero (option_map (λ f. f.now) field.entry))) }
+        (weight_by layout.now (option_map (λ f. f.now) field.entry)) }
 {
     match field {
-        None => Some(1),
+        None => Some(scaled(1, layout.decimals)),
         Some(field) => {
-            if allow_zero && is_hyphen(field) {
+            if layout.allow_zero && is_hyphen(field) {
                 return Some(0);
             }
-            number_in(field, 20)
+            units_in(field, layout.decimals)
         }
     }
 }
@@ -126,16 +129,16 @@ fn take_item<T: TakeItems>(
     taker: &mut T,
     key: &[u8],
     field: Option<&[u8]>,
-    allow_zero: bool,
+    layout: &Layout,
 ) -> Result<(), RecordFault>
     requires bounded { T.weight_taken taker.old ≤ max_total }
     ensures taken { OnOk result
         (TakesAdded T.with_item T.weight_taken taker.old taker.new (λ xs.
-        adds allow_zero (T.weight_taken taker.old)
+        adds layout.now (T.weight_taken taker.old)
         (Some (key.now, option_map (λ f. f.now) field.entry)) ≡ Ok xs)) }
     ensures bounded { OnOk result (T.weight_taken taker.new ≤ max_total) }
     ensures refused { IfErr result (λ fault.
-        PartsRefused allow_zero (T.weight_taken taker.old)
+        PartsRefused layout.now (T.weight_taken taker.old)
         (Some (key.now, option_map (λ f. f.now) field.entry)) fault) }
 {
     if key.is_empty() {
@@ -144,11 +147,11 @@ fn take_item<T: TakeItems>(
     if key.len() > MAX_KEY_LEN {
         return Err(RecordFault::Bad(BadRecordCause::KeyTooLong));
     }
-    let Some(weight) = weight_in(field, allow_zero) else {
+    let Some(weight) = weight_in(field, layout) else {
         return Err(RecordFault::Bad(BadRecordCause::BadWeight));
     };
     if weight == 0 {
-        if allow_zero {
+        if layout.allow_zero {
             return Ok(());
         }
         return Err(RecordFault::Bad(BadRecordCause::ZeroWeight));
@@ -207,16 +210,16 @@ fn take_chosen<T: TakeItems>(
     taker: &mut T,
     row: &ByteRecord,
     chosen: &Chosen,
-    allow_zero: bool,
+    layout: &Layout,
 ) -> Result<(), RecordFault>
     requires bounded { T.weight_taken taker.old ≤ max_total }
     ensures taken { OnOk result
         (TakesAdded T.with_item T.weight_taken taker.old taker.new (λ xs.
-        adds allow_zero (T.weight_taken taker.old)
+        adds layout.now (T.weight_taken taker.old)
         (parts_at (chosen_places (Some chosen.now)) (fields_of row.now)) ≡ Ok xs)) }
     ensures bounded { OnOk result (T.weight_taken taker.new ≤ max_total) }
     ensures refused { IfErr result (λ fault.
-        PartsRefused allow_zero (T.weight_taken taker.old)
+        PartsRefused layout.now (T.weight_taken taker.old)
         (parts_at (chosen_places (Some chosen.now)) (fields_of row.now)) fault) }
 {
     let Some(field) = weight_field(row, chosen.weight) else {
@@ -226,10 +229,10 @@ fn take_chosen<T: TakeItems>(
         let Some(key) = row.get(chosen.key[0]) else {
             return Err(RecordFault::Bad(BadRecordCause::FieldCount));
         };
-        return take_item(alloc, taker, key, field, allow_zero);
+        return take_item(alloc, taker, key, field, layout);
     }
     match joined_key(alloc, row, chosen.key.as_slice()) {
-        Ok(Some(key)) => take_item(alloc, taker, key.as_slice(), field, allow_zero),
+        Ok(Some(key)) => take_item(alloc, taker, key.as_slice(), field, layout),
         Ok(None) => Err(RecordFault::Bad(BadRecordCause::FieldCount)),
         Err(AllocError) => Err(RecordFault::Memory),
     }
@@ -241,22 +244,22 @@ fn take_record<T: TakeItems>(
     taker: &mut T,
     row: &ByteRecord,
     chosen: &Option<Chosen>,
-    allow_zero: bool,
+    layout: &Layout,
 ) -> Result<(), RecordFault>
     requires bounded { T.weight_taken taker.old ≤ max_total }
     ensures taken { OnOk result
         (TakesAdded T.with_item T.weight_taken taker.old taker.new (λ xs.
-        adds allow_zero (T.weight_taken taker.old)
+        adds layout.now (T.weight_taken taker.old)
         (parts_at (chosen_places chosen.now) (fields_of row.now)) ≡ Ok xs)) }
     ensures bounded { OnOk result (T.weight_taken taker.new ≤ max_total) }
     ensures refused { IfErr result (λ fault.
-        PartsRefused allow_zero (T.weight_taken taker.old)
+        PartsRefused layout.now (T.weight_taken taker.old)
         (parts_at (chosen_places chosen.now) (fields_of row.now)) fault) }
 {
     match chosen {
-        Some(chosen) => take_chosen(alloc, taker, row, chosen, allow_zero),
+        Some(chosen) => take_chosen(alloc, taker, row, chosen, layout),
         None => match parts_of(row) {
-            Some((key, field)) => take_item(alloc, taker, key, field, allow_zero),
+            Some((key, field)) => take_item(alloc, taker, key, field, layout),
             None => Err(RecordFault::Bad(BadRecordCause::FieldCount)),
         },
     }
@@ -294,18 +297,18 @@ pub(crate) fn read_rows<R: Read + Drop, T: TakeItems>(
     mut text: Text<R>,
     before: u64,
     taker: &mut T,
-    allow_zero: bool,
+    layout: &Layout,
 ) -> Result<u64, ReadError>
     requires text { IsText text }
     requires bounded { T.weight_taken taker.old ≤ max_total }
     ensures items { IfOk result (λ after.
         TakesAdded T.with_item T.weight_taken taker.old taker.new (λ xs.
         IfSome (parts_left R.remaining text) (λ ps.
-        (items_after allow_zero (before + 1) (T.weight_taken taker.old) ps ≡ Ok xs)
+        (items_after layout.now (before + 1) (T.weight_taken taker.old) ps ≡ Ok xs)
         × (after ≡ before + length ps)))) }
     ensures bounded { OnOk result (T.weight_taken taker.new ≤ max_total) }
     ensures refused { IfErr result (λ error.
-        RowsRefused allow_zero before (T.weight_taken taker.old)
+        RowsRefused layout.now before (T.weight_taken taker.old)
         (parts_left R.remaining text) error) }
 {
     let mut row = ByteRecord::new(alloc);
@@ -317,7 +320,7 @@ pub(crate) fn read_rows<R: Read + Drop, T: TakeItems>(
             Err(error) => return Err(fault_of(error.kind())),
         }
         number += 1;
-        match take_record(alloc, taker, &row, &text.chosen, allow_zero) {
+        match take_record(alloc, taker, &row, &text.chosen, layout) {
             Ok(()) => {}
             Err(fault) => return Err(numbered_fault(number, fault)),
         }

@@ -3,13 +3,15 @@
 ghost use Rattle.std.specs.Prelude.{◌≡◌, ◌++◌, false, true, IfOk, IfErr, OnOk, Some};
 ghost use Rattle.std.specs.Io.KnownBytes.{Appends};
 ghost use Rattle.csv.specs.Writing.{default_writer, quoted, text_written};
-ghost use Rattle.hh_records.specs.Rows.{IsBetweenRows, RowsRefused, condensed_text, first_row_of, is_write_fault, quoted_row_of, row_of, rows_of};
+ghost use Rattle.hh_records.specs.Rows.{IsBetweenRows, RowsRefused, condensed_by, condensed_text};
+ghost use Rattle.hh_records.specs.Rows.{first_row_by, is_write_fault, quoted_row_by, row_by, rows_by};
+ghost use Rattle.hh_records.specs.Rows.{rows_of};
 
+use crate::decimals::pointed;
 use crate::sink::{Sink, WriteFault, put};
 use csv::{QuoteStyle, Writer, WriterBuilder};
 use hh_counters::Heavy;
 use hh_stream::Key;
-use itoa::Buffer;
 use std::alloc::{AllocError, Global};
 use std::slice;
 use thiserror::Error;
@@ -17,29 +19,38 @@ use thiserror::Error;
 /// The three bytes of U+FEFF in UTF-8.
 const BYTE_ORDER_MARK: &[u8] = b"\xef\xbb\xbf";
 
-/// Writes a row after the others.
-pub(crate) fn write_row(writer: &mut Writer<Vec<u8>>, row: &Heavy) -> Result<(), AllocError>
+/// Writes a row after the others, so many last digits of its weight behind a point.
+pub(crate) fn write_row(
+    alloc: Global,
+    writer: &mut Writer<Vec<u8>>,
+    row: &Heavy,
+    decimals: u8,
+) -> Result<(), AllocError>
     requires { IsBetweenRows writer.old }
     ensures between { OnOk result (IsBetweenRows writer.new) }
     ensures text { OnOk result (Appends
         (text_written (λ text. Some text.items) writer.old)
         (text_written (λ text. Some text.items) writer.new)
-        (row_of row.now)) }
+        (row_by decimals row.now)) }
 {
-    let mut digits = Buffer::new();
-    let weight = digits.format(row.weight).as_bytes();
+    let weight = pointed(alloc, u128::from(row.weight), decimals)?;
     writer
-        .write_fields(&[row.key.bytes(), weight])
+        .write_fields(&[row.key.bytes(), weight.as_slice()])
         .map_err(|_| AllocError)
 }
 
 /// A text with rows behind it.
-fn with_rows(text: Vec<u8>, rows: &[Heavy]) -> Result<Vec<u8>, AllocError>
-    ensures { IfOk result (λ whole. whole.items ≡ text.items ++ rows_of rows.now) }
+fn with_rows(
+    alloc: Global,
+    text: Vec<u8>,
+    rows: &[Heavy],
+    decimals: u8,
+) -> Result<Vec<u8>, AllocError>
+    ensures { IfOk result (λ whole. whole.items ≡ text.items ++ rows_by decimals rows.now) }
 {
     let mut writer = WriterBuilder::new().from_writer(text);
     for row in rows {
-        write_row(&mut writer, row)?;
+        write_row(alloc, &mut writer, row, decimals)?;
     }
     writer.into_inner().map_err(|_| AllocError)
 }
@@ -48,7 +59,7 @@ fn with_rows(text: Vec<u8>, rows: &[Heavy]) -> Result<Vec<u8>, AllocError>
 pub fn report_text(alloc: Global, rows: &[Heavy]) -> Result<Vec<u8>, AllocError>
     ensures { IfOk result (λ text. text.items ≡ rows_of rows.now) }
 {
-    with_rows(Vec::new(alloc), rows)
+    with_rows(alloc, Vec::new(alloc), rows, 0)
 }
 
 /// A key in quotes.
@@ -64,26 +75,25 @@ fn quoted_key(alloc: Global, key: &Key) -> Result<Vec<u8>, AllocError>
 }
 
 /// A row whose key is in quotes.
-fn quoted_row(alloc: Global, row: &Heavy) -> Result<Vec<u8>, AllocError>
-    ensures { IfOk result (λ text. text.items ≡ quoted_row_of row.now) }
+fn quoted_row(alloc: Global, row: &Heavy, decimals: u8) -> Result<Vec<u8>, AllocError>
+    ensures { IfOk result (λ text. text.items ≡ quoted_row_by decimals row.now) }
 {
-    let mut digits = Buffer::new();
     let mut text = quoted_key(alloc, &row.key)?;
     text.push(b',')?;
-    text.extend_from_slice(digits.format(row.weight).as_bytes())?;
+    text.extend_from_slice(pointed(alloc, u128::from(row.weight), decimals)?.as_slice())?;
     text.push(b'\n')?;
     Ok(text)
 }
 
 /// A row that may stand first in a text: there a reader takes off a byte order mark, unless it is
 /// in quotes.
-fn first_row(alloc: Global, row: &Heavy) -> Result<Vec<u8>, AllocError>
-    ensures { IfOk result (λ text. text.items ≡ first_row_of row.now) }
+fn first_row(alloc: Global, row: &Heavy, decimals: u8) -> Result<Vec<u8>, AllocError>
+    ensures { IfOk result (λ text. text.items ≡ first_row_by decimals row.now) }
 {
     if row.key.bytes().starts_with(BYTE_ORDER_MARK) {
-        return quoted_row(alloc, row);
+        return quoted_row(alloc, row, decimals);
     }
-    report_text(alloc, slice::from_ref(row))
+    with_rows(alloc, Vec::new(alloc), slice::from_ref(row), decimals)
 }
 
 /// The rows of condensed records: as those of a report, but that the first key is in quotes where
@@ -91,10 +101,21 @@ fn first_row(alloc: Global, row: &Heavy) -> Result<Vec<u8>, AllocError>
 pub fn condensed_text(alloc: Global, rows: &[Heavy]) -> Result<Vec<u8>, AllocError>
     ensures { IfOk result (λ text. text.items ≡ condensed_text rows.now) }
 {
+    condensed_rows_text(alloc, rows, 0)
+}
+
+/// [`condensed_text`] with so many last digits of each weight behind a point.
+pub fn condensed_rows_text(
+    alloc: Global,
+    rows: &[Heavy],
+    decimals: u8,
+) -> Result<Vec<u8>, AllocError>
+    ensures { IfOk result (λ text. text.items ≡ condensed_by decimals rows.now) }
+{
     let Some((first, rest)) = rows.split_first() else {
         return Ok(Vec::new(alloc));
     };
-    with_rows(first_row(alloc, first)?, rest)
+    with_rows(alloc, first_row(alloc, first, decimals)?, rest, decimals)
 }
 
 /// Why rows were not written.

@@ -80,13 +80,15 @@ fn behind_header<R: Read + Drop>(
     requires headed { layout.now.has_header ≡ true }
     ensures text { IfOk result (λ text. IfSome text IsText) }
     ensures opened { IfOk result (λ text. Opens R.remaining
-        (option_map (λ bytes. headed_parts layout.now (records (delimited layout.now.delimiter) bytes))
+        (option_map (λ bytes.
+        headed_parts layout.now (records (delimited layout.now.delimiter) bytes))
         (unread R.remaining rows)) text) }
     ensures columns { IfOk result (λ text. IfSome (unread R.remaining rows) (λ bytes.
         FindsColumns layout.now (records (delimited layout.now.delimiter) bytes)
         (option_map (λ t. chosen_places t.chosen) text))) }
     ensures refused { IfErr result (λ error. OpenRefused (names_columns layout.now)
-        (option_map (λ bytes. headed_parts layout.now (records (delimited layout.now.delimiter) bytes))
+        (option_map (λ bytes.
+        headed_parts layout.now (records (delimited layout.now.delimiter) bytes))
         (unread R.remaining rows)) error) }
 {
     let mut header = ByteRecord::new(alloc);
@@ -187,21 +189,21 @@ fn read_all<R: Read + Drop, T: TakeItems>(
     alloc: Global,
     texts: Vec<Text<R>>,
     taker: &mut T,
-    allow_zero: bool,
+    layout: &Layout,
 ) -> Result<(), ReadError>
     requires texts { All IsText texts.items }
     requires bounded { T.weight_taken taker.old ≤ max_total }
     ensures items { OnOk result
         (TakesAdded T.with_item T.weight_taken taker.old taker.new (λ xs.
         IfSome (all_left R.remaining texts.items) (λ ps.
-        items_after allow_zero 1 (T.weight_taken taker.old) ps ≡ Ok xs))) }
+        items_after layout.now 1 (T.weight_taken taker.old) ps ≡ Ok xs))) }
     ensures refused { IfErr result (λ error.
-        RowsRefused allow_zero 0 (T.weight_taken taker.old)
+        RowsRefused layout.now 0 (T.weight_taken taker.old)
         (all_left R.remaining texts.items) error) }
 {
     let mut number = 0;
     for text in texts {
-        match read_rows(alloc, text, number, taker, allow_zero) {
+        match read_rows(alloc, text, number, taker, layout) {
             Ok(after) => number = after,
             Err(error) => return Err(error),
         }
@@ -221,7 +223,8 @@ pub struct Records<R> {
 impl<R: Read + Drop> Records<R> {
     /// Those of one text of keys and weights, as [`read_stream`](crate::read_stream) reads them.
     pub fn of_reader(alloc: Global, reader: R) -> Records<R>
-        ensures { records_known R.remaining result ≡ text_known (R.remaining reader) }
+        ensures known { records_known R.remaining result ≡ text_known (R.remaining reader) }
+        ensures whole { result.layout.decimals ≡ 0 }
     {
         plain_layouts_read_streams();
         Records {
@@ -257,7 +260,7 @@ pub fn read_records<R: Read + Drop, T: TakeItems>(
     } = records;
     let texts = open_all(alloc, first, others, &layout)?;
     let mut taker = taker;
-    match read_all(alloc, texts, &mut taker, layout.allow_zero) {
+    match read_all(alloc, texts, &mut taker, &layout) {
         Ok(()) => Ok(taker),
         Err(error) => Err(TextError::from(error)),
     }

@@ -5,15 +5,16 @@ ghost use Rattle.std.specs.List.{flat_map};
 ghost use Rattle.std.specs.Io.KnownBytes.{Appends};
 ghost use Rattle.csv.specs.Writing.{text_written};
 ghost use Rattle.hh_records.specs.Rows.{IsBetweenRows};
-ghost use Rattle.heavy.specs.Ask.{answer, answer_of, answer_row, answers, answers_of, asked_value, bad_key, bounds_row, key_fault};
+ghost use Rattle.heavy.specs.Ask.{answer, answer_of, answer_row, answers, answers_in, answers_of};
+ghost use Rattle.heavy.specs.Ask.{asked_value, bad_key, bounds_row, key_fault};
 ghost use Rattle.heavy.specs.Files.{Refuses, StopsAtHead, file_of};
 
 use crate::error::{KeyCause, ToolError};
 use crate::files::file_of;
 use csv::{Writer, WriterBuilder};
+use hh_records::pointed;
 use hh_saved::Saved;
 use hh_stream::{Key, MAX_KEY_LEN};
-use itoa::Buffer;
 use std::alloc::{AllocError, Global};
 
 /// Tests the word with this number: a key has 1 to 4,096 bytes.
@@ -60,38 +61,44 @@ fn answer_of(saved: &Saved, key: &Key) -> (u64, u64)
     }
 }
 
-/// Writes the row of a key and its two numbers after the others.
+/// Writes the row of a key and its two numbers after the others, so many of their last digits behind
+/// a point.
 pub(crate) fn write_bounds(
+    alloc: Global,
     writer: &mut Writer<Vec<u8>>,
     key: &Key,
     bounds: (u64, u64),
+    decimals: u8,
 ) -> Result<(), AllocError>
     requires { IsBetweenRows writer.old }
     ensures between { OnOk result (IsBetweenRows writer.new) }
     ensures text { OnOk result (Appends
         (text_written (λ text. Some text.items) writer.old)
         (text_written (λ text. Some text.items) writer.new)
-        (bounds_row key.now bounds)) }
+        (bounds_row decimals key.now bounds)) }
 {
-    let mut low_digits = Buffer::new();
-    let low = low_digits.format(bounds.0).as_bytes();
-    let mut high_digits = Buffer::new();
-    let high = high_digits.format(bounds.1).as_bytes();
+    let low = pointed(alloc, u128::from(bounds.0), decimals)?;
+    let high = pointed(alloc, u128::from(bounds.1), decimals)?;
     writer
-        .write_fields(&[key.bytes(), low, high])
+        .write_fields(&[key.bytes(), low.as_slice(), high.as_slice()])
         .map_err(|_| AllocError)
 }
 
 /// The rows of words that passed their tests.
-fn answers_text(alloc: Global, saved: &Saved, words: &[Vec<u8>]) -> Result<Vec<u8>, AllocError>
+fn answers_text(
+    alloc: Global,
+    saved: &Saved,
+    words: &[Vec<u8>],
+    decimals: u8,
+) -> Result<Vec<u8>, AllocError>
     requires { bad_key 1 (map vec_items words.now) ≡ None }
     ensures { IfOk result (λ text.
-        text.items ≡ flat_map (λ word. answer_row saved.now word.items) words.now) }
+        text.items ≡ flat_map (λ word. answer_row decimals saved.now word.items) words.now) }
 {
     let mut writer = WriterBuilder::new().from_writer(Vec::new(alloc));
     for word in words {
         let key = Key::of_bytes(alloc, word)?;
-        write_bounds(&mut writer, &key, answer_of(saved, &key))?;
+        write_bounds(alloc, &mut writer, &key, answer_of(saved, &key), decimals)?;
     }
     writer.into_inner().map_err(|_| AllocError)
 }
@@ -109,8 +116,25 @@ pub fn ask_bytes(alloc: Global, file: &[u8], keys: &[Vec<u8>]) -> Result<Vec<u8>
         Refuses (answers file.now (map vec_items keys.now)) fault) }
     ensures early { StopsAtHead 1 file.now result }
 {
+    ask_rows(alloc, file, keys, 0)
+}
+
+/// [`ask_bytes`] with so many last digits of each number behind a point. These are the decimals that
+/// the file's records were read with, which it doesn't tell.
+pub fn ask_rows(
+    alloc: Global,
+    file: &[u8],
+    keys: &[Vec<u8>],
+    decimals: u8,
+) -> Result<Vec<u8>, ToolError>
+    ensures rows { IfOk result (λ text.
+        answers_in decimals file.now (map vec_items keys.now) ≡ Ok text.items) }
+    ensures refused { IfErr result (λ fault.
+        Refuses (answers_in decimals file.now (map vec_items keys.now)) fault) }
+    ensures early { StopsAtHead 1 file.now result }
+{
     let saved = asked(alloc, file, keys)?;
-    Ok(answers_text(alloc, &saved, keys)?)
+    Ok(answers_text(alloc, &saved, keys, decimals)?)
 }
 
 /// The two numbers of words that passed their tests.

@@ -16,7 +16,7 @@ use crate::error::ToolError;
 use crate::files::summary_in;
 use hh_counters::laws::{condensed_is_counted, free_name_is_first};
 use hh_counters::{Counts, Heavy, Summary};
-use hh_records::{Records, condensed_text};
+use hh_records::{Records, condensed_rows_text};
 use hh_stream::Key;
 use itoa::Buffer;
 use std::alloc::{AllocError, Global};
@@ -119,7 +119,7 @@ pub fn condense_bytes<R: Read + Drop>(
     reader: R,
 ) -> Result<Vec<u8>, ToolError>
     ensures rows { IfOk result (λ rows.
-        CondensesRows file.now (text_known (R.remaining reader)) rows.items) }
+        CondensesRows 0 file.now (text_known (R.remaining reader)) rows.items) }
     ensures refused { IfErr result (λ fault.
         CondenseRefused file.now (text_known (R.remaining reader)) fault) }
     ensures early { StopsAtHead 1 file.now result }
@@ -128,19 +128,21 @@ pub fn condense_bytes<R: Read + Drop>(
 }
 
 /// [`condense_bytes`] of records in texts and columns of one's own. The condensed records are a key
-/// and a weight each, whatever these were.
+/// and a weight each, whatever these were, with as many digits behind the point as these may have.
 pub fn condense_bytes_from<R: Read + Drop>(
     alloc: Global,
     file: &[u8],
     records: Records<R>,
 ) -> Result<Vec<u8>, ToolError>
     ensures rows { IfOk result (λ rows.
-        CondensesRows file.now (records_known R.remaining records) rows.items) }
+        CondensesRows records.layout.decimals file.now
+        (records_known R.remaining records) rows.items) }
     ensures refused { IfErr result (λ fault.
         CondenseRefused file.now (records_known R.remaining records) fault) }
     ensures early { StopsAtHead 1 file.now result }
 {
     let summary = summary_in(alloc, file)?;
+    let decimals = records.layout.decimals;
     let rows = condense_records(alloc, &summary, records)?;
-    Ok(condensed_text(alloc, &rows)?)
+    Ok(condensed_rows_text(alloc, &rows, decimals)?)
 }

@@ -8,4 +8,4 @@ use Rattle.hh_records.proofs.printed.printed_text.Given as goal
 abbrev pub invariant-loop-row : goal.invariant-loop-row
 invariant-loop-row l = IsBetweenRows l.writer
     × (text_written (λ text. Some text.items) l.writer
-    ≡ Some (flat_map (printed_row l.total l.options.share) (take l.row-index l.first)))
+    ≡ Some (flat_map (printed_row l.total l.options) (take l.row-index l.first)))

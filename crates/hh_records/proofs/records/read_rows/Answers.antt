@@ -26,7 +26,7 @@ loop-number-init g c =
         omega arith,
         All-from_recursion Weighs [] tt,
         refl,
-        read-start (reader_config c.args.text.rows) (parts_at (chosen_places c.args.text.chosen)) c.args.allow_zero
+        read-start (reader_config c.args.text.rows) (parts_at (chosen_places c.args.text.chosen)) c.args.layout.now
             (reader_state c.args.text.rows) c.args.before (g.T.TakeItems.weight_taken c.args.taker.now)
             (source_of (λ r. g.R.Read.remaining r.inner) c.args.text.rows),
       ),
@@ -40,7 +40,7 @@ returns-in-Ok-false-clause-items g c =
     record {
       xs = xs;
       adds = read-end (reader_config c.args.text.rows) (parts_at (chosen_places c.args.text.chosen))
-          c.args.allow_zero (reader_state c.args.text.rows) c.args.before (g.T.TakeItems.weight_taken c.args.taker.now)
+          c.args.layout.now (reader_state c.args.text.rows) c.args.before (g.T.TakeItems.weight_taken c.args.taker.now)
           (λ r. g.R.Read.remaining r.inner) c.loop-number.text.rows c.read_byte_record.new.self _ xs c.loop-number.number inv.3 _
           (between-known (reader_state c.args.text.rows)
           (source_of (λ r. g.R.Read.remaining r.inner) c.args.text.rows)) so_far r;
@@ -69,7 +69,7 @@ loop-number-preserved g c =
         t.taken ∙ ap (λ taker. fold g.T.TakeItems.with_item taker t.xs) made
             ∙ sym (fold-append g.T.TakeItems.with_item c.args.taker.now xs t.xs),
         read-more (reader_config c.args.text.rows) (parts_at (chosen_places c.args.text.chosen))
-            c.args.allow_zero (reader_state c.args.text.rows) c.args.before (g.T.TakeItems.weight_taken c.args.taker.now)
+            c.args.layout.now (reader_state c.args.text.rows) c.args.before (g.T.TakeItems.weight_taken c.args.taker.now)
             (λ r. g.R.Read.remaining r.inner) c.loop-number.text.rows c.read_byte_record.new.self _ xs c.loop-number.number inv.3 _ t.xs so_far r
             (rw (← total, ← inv.4) t.adds),
       ),
@@ -82,7 +82,7 @@ returns-in-Err-take_record-clause-refused g c =
     let r = rw c.in-Ok-true.field-0-test at (c.in-Ok-true.ensures.reads inv.0 inv.1) in
     rw c.numbered_fault.ensures
     (read-refused (reader_config c.args.text.rows) (parts_at (chosen_places c.args.text.chosen))
-    c.args.allow_zero (reader_state c.args.text.rows) c.args.before (g.T.TakeItems.weight_taken c.args.taker.now)
+    c.args.layout.now (reader_state c.args.text.rows) c.args.before (g.T.TakeItems.weight_taken c.args.taker.now)
     (λ r. g.R.Read.remaining r.inner) c.loop-number.text.rows c.read_byte_record.new.self _ xs c.loop-number.number inv.3 _ _
     (between-known (reader_state c.args.text.rows)
     (source_of (λ r. g.R.Read.remaining r.inner) c.args.text.rows)) so_far r

@@ -14,7 +14,7 @@ invariant-loop-number g l = (reader_trim l.text.rows ≡ trim.None) × Ready l.t
     × ((xs : List Entry)
     × (g.T.TakeItems.weight_taken l.taker ≡ g.T.TakeItems.weight_taken l.initial.taker + total_of xs)
     × All (λ (e : Entry). 0 < e.1) xs × (l.taker ≡ fold g.T.TakeItems.with_item l.initial.taker xs)
-    × ReadSoFar (reader_config l.fn.text.rows) (parts_at (chosen_places l.fn.text.chosen)) l.fn.allow_zero
+    × ReadSoFar (reader_config l.fn.text.rows) (parts_at (chosen_places l.fn.text.chosen)) l.fn.layout
     (reader_state l.fn.text.rows) l.fn.before (g.T.TakeItems.weight_taken l.initial.taker)
     (between (reader_state l.fn.text.rows) (source_of (λ r. g.R.Read.remaining r.inner) l.fn.text.rows))
     (source_of (λ r. g.R.Read.remaining r.inner) l.text.rows) (reader_state l.text.rows) xs l.number)

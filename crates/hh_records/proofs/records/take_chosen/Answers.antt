@@ -8,7 +8,7 @@ use Rattle.hh_records.proofs.records.take_chosen.Goals as goal
 pub returns-in_default-get-clause-refused : goal.returns-in_default-get-clause-refused
 returns-in_default-get-clause-refused g c =
     let one : c.len.result ≡ 1 = c.if-len-eq1.true in
-    ap (adds c.args.allow_zero _)
+    ap (adds c.args.layout.now _)
     (parts-one-none _ _ _ _ (omega (arith, c.len.ensures, one)) c.index.ensures c.in_default-get.ensures.value)
 
 pub returns-then-len-eq1-clause-taken : goal.returns-then-len-eq1-clause-taken

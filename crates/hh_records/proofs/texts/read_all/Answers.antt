@@ -25,7 +25,7 @@ loop-text-init g c =
         omega arith,
         All-from_recursion Weighs [] tt,
         refl,
-        rw gives.0 (texts-start g.R.Read.remaining c.args.allow_zero (g.T.TakeItems.weight_taken c.args.taker.now) c.args.texts.items),
+        rw gives.0 (texts-start g.R.Read.remaining c.args.layout.now (g.T.TakeItems.weight_taken c.args.taker.now) c.args.texts.items),
       ),
     )
 
@@ -53,7 +53,7 @@ loop-text-preserved g c =
         All-append Weighs xs t.xs weigh t.positive,
         t.taken ∙ ap (λ taker. fold g.T.TakeItems.with_item taker t.xs) made
             ∙ sym (fold-append g.T.TakeItems.with_item c.args.taker.now xs t.xs),
-        texts-more g.R.Read.remaining c.args.allow_zero (g.T.TakeItems.weight_taken c.args.taker.now) c.args.texts.items
+        texts-more g.R.Read.remaining c.args.layout.now (g.T.TakeItems.weight_taken c.args.taker.now) c.args.texts.items
             c.in-Some.text (into_iter_items c.next.new.self) xs c.loop-text.number t.xs c.in-Ok.after (rw steps.0 at so_far)
             (rw total at t.adds),
       ),
@@ -62,7 +62,7 @@ loop-text-preserved g c =
 pub returns-in-Err-clause-refused : goal.returns-in-Err-clause-refused
 returns-in-Err-clause-refused g c =
     let (xs, total, weigh, made, so_far) = c.loop-text.invariant.5 in
-    texts-refused g.R.Read.remaining c.args.allow_zero (g.T.TakeItems.weight_taken c.args.taker.now) c.args.texts.items
+    texts-refused g.R.Read.remaining c.args.layout.now (g.T.TakeItems.weight_taken c.args.taker.now) c.args.texts.items
     c.in-Some.text (into_iter_items c.next.new.self) xs c.loop-text.number c.in-Err.error
     (rw c.in-Some.ensures.steps.0 at so_far) (rw total at c.in-Err.ensures.refused)
 
@@ -73,7 +73,7 @@ returns-clause-items g c =
     let none = nothing-left _ (sym c.in-None.ensures.steps.0 ∙ inv.2) in
     record {
       xs = xs;
-      adds = texts-end g.R.Read.remaining c.args.allow_zero (g.T.TakeItems.weight_taken c.args.taker.now) c.args.texts.items
+      adds = texts-end g.R.Read.remaining c.args.layout.now (g.T.TakeItems.weight_taken c.args.taker.now) c.args.texts.items
           xs c.loop-text.number (rw (← none) at so_far);
       positive = weigh;
       weight = total;

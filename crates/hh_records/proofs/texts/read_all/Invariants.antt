@@ -15,5 +15,5 @@ invariant-loop-text g l = (goal.iterator-loop-text g).can_next l.text-iterator
     × ((xs : List Entry)
     × (g.T.TakeItems.weight_taken l.taker ≡ g.T.TakeItems.weight_taken l.initial.taker + total_of xs)
     × All (λ (e : Entry). 0 < e.1) xs × (l.taker ≡ fold g.T.TakeItems.with_item l.initial.taker xs)
-    × TextsSoFar g.R.Read.remaining l.fn.allow_zero (g.T.TakeItems.weight_taken l.initial.taker) l.fn.texts.items
+    × TextsSoFar g.R.Read.remaining l.fn.layout (g.T.TakeItems.weight_taken l.initial.taker) l.fn.texts.items
     (into_iter_items l.text-iterator) xs l.number)

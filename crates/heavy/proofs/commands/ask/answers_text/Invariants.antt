@@ -8,4 +8,4 @@ use Rattle.heavy.proofs.commands.ask.answers_text.Given as goal
 abbrev pub invariant-loop-word : goal.invariant-loop-word
 invariant-loop-word l = IsBetweenRows l.writer
     × (text_written (λ text. Some text.items) l.writer
-    ≡ Some (flat_map (λ word. answer_row l.saved word.items) (take l.word-index l.words)))
+    ≡ Some (flat_map (λ word. answer_row l.decimals l.saved word.items) (take l.word-index l.words)))

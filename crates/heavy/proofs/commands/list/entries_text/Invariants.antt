@@ -8,4 +8,4 @@ use Rattle.heavy.proofs.commands.list.entries_text.Given as goal
 abbrev pub invariant-loop-key : goal.invariant-loop-key
 invariant-loop-key l = IsBetweenRows l.writer
     × (text_written (λ text. Some text.items) l.writer
-    ≡ Some (flat_map (entry_row l.summary) (take l.key-index l.entries)))
+    ≡ Some (flat_map (entry_row l.decimals l.summary) (take l.key-index l.entries)))

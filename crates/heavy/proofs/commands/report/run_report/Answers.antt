@@ -9,7 +9,7 @@ pub returns-clause-reported : goal.returns-clause-reported
 returns-clause-reported g c =
     let old = g.S.Sink.taken c.args.sink.now in
     let new = g.S.Sink.taken c.report_rows.new.sink in
-    subst (λ known. OnOk c.report_rows.result (IsReported c.args.options.now known old new)) c.of_reader.ensures
+    subst (λ known. OnOk c.report_rows.result (IsReported c.args.options.now known old new)) c.of_reader.ensures.known
     (plain_reported c.args.options.now (records_known g.R.Read.remaining c.of_reader.result) old new
     c.plain-rows.result c.plain-rows.ensures c.report_rows.result c.report_rows.ensures.reported)
 
@@ -17,6 +17,6 @@ pub returns-clause-refused : goal.returns-clause-refused
 returns-clause-refused g c =
     let old = g.S.Sink.taken c.args.sink.now in
     let new = g.S.Sink.taken c.report_rows.new.sink in
-    subst (λ known. IfErr c.report_rows.result (ReportRefused c.args.options.now known old new)) c.of_reader.ensures
+    subst (λ known. IfErr c.report_rows.result (ReportRefused c.args.options.now known old new)) c.of_reader.ensures.known
     (plain_refused c.args.options.now (records_known g.R.Read.remaining c.of_reader.result) old new
     c.plain-rows.result c.plain-rows.ensures c.report_rows.result c.report_rows.ensures.refused)

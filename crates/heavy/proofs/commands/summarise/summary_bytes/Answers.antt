@@ -7,8 +7,8 @@ use Rattle.heavy.proofs.commands.summarise.summary_bytes.Goals as goal
 pub returns-clause-saved : goal.returns-clause-saved
 returns-clause-saved g c =
     subst (λ known. IfOk c.summary_bytes_from.result
-    (λ bytes. SavesStream (λ xs. Counters (sketch_of c.args.k xs)) known bytes.items)) c.of_reader.ensures
+    (λ bytes. SavesStream (λ xs. Counters (sketch_of c.args.k xs)) known bytes.items)) c.of_reader.ensures.known
     c.summary_bytes_from.ensures.saved
 
 pub returns-clause-refused : goal.returns-clause-refused
-returns-clause-refused g c = rw c.of_reader.ensures at c.summary_bytes_from.ensures.refused
+returns-clause-refused g c = rw c.of_reader.ensures.known at c.summary_bytes_from.ensures.refused

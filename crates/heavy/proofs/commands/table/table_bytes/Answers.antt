@@ -9,8 +9,8 @@ pub returns-clause-saved : goal.returns-clause-saved
 returns-clause-saved g c =
     let family = drawn_family c.args.seed c.args.depth in
     subst (λ known. IfOk c.table_bytes_from.result
-    (λ bytes. SavesStream (λ xs. Cells (table_of family c.args.width xs)) known bytes.items)) c.of_reader.ensures
+    (λ bytes. SavesStream (λ xs. Cells (table_of family c.args.width xs)) known bytes.items)) c.of_reader.ensures.known
     c.table_bytes_from.ensures.saved
 
 pub returns-clause-refused : goal.returns-clause-refused
-returns-clause-refused g c = rw c.of_reader.ensures at c.table_bytes_from.ensures.refused
+returns-clause-refused g c = rw c.of_reader.ensures.known at c.table_bytes_from.ensures.refused

@@ -1,30 +1,30 @@
-use Rattle.std.proofs.Common.{◌<◌, ◌++◌, ◌∷◌, ◌∙◌, List, [], length, take, ap, arith}
-use Rattle.hh_stream.specs.Weights.{Entry}
+use Rattle.std.proofs.Common.{◌++◌, ◌∷◌, ◌∙◌, [], take, ap, arith, rules, IsErrOf}
+use Rattle.hh_stream.specs.Weights.{total_of}
 use Rattle.hh_stream.specs.Cuttings.{whole_of}
-use Rattle.hh_counters.specs.Counters.{sketch_of}
-use Rattle.hh_countmin.specs.Table.{TableView, table_of}
-use Rattle.hh_pool.specs.Progress.{pieces_in}
-use Rattle.hh_pool.proofs.Pieces.{length-pieces_of}
-use Rattle.hh_pool.proofs.Alone.{total-more, alone_more}
+use Rattle.hh_countmin.specs.Table.{TableView}
+use Rattle.hh_pool.specs.declared.pieces.PieceFault.TheVariants as fault
+use Rattle.hh_pool.proofs.Alone.{alone_more, done_total}
+use Rattle.hh_pool.proofs.Tried.{next_refused}
 use Rattle.hh_pool.proofs.first.FirstPass.do_piece.Goals as goal
 
-pub add_items-requires : goal.add_items-requires
-add_items-requires g c =
-    let next = c.piece-items.ensures in
-    let most = total-more _ _ _ _ c.requires.piece next.piece next.whole next.stream in
-    omega (arith, most, ap (λ (t : TableView). t.total) c.requires.before.table)
+pub returns-in_err-summary-clause-refused : goal.returns-in_err-summary-clause-refused
+returns-in_err-summary-clause-refused g c is =
+    let work = c.args.self.now.work.now.pieces.now in
+    let pieces = g.P.Pieces.pieces work in
+    let before = total_of (whole_of (take c.args.piece pieces)) in
+    let total = ap (λ (t : TableView). t.total) c.requires.before.table in
+    let known : IsErrOf c.summarise.result fault.Refused = search rules in
+    next_refused (g.P.Pieces.refuses work) pieces c.args.piece before c.args.table.total c.requires.piece
+    (done_total pieces c.args.piece c.requires.piece) (omega (arith, total)) (c.summarise.ensures.refused known)
 
-pub returns : goal.returns
-returns g c =
-    let work = c.args.self.now.work.now in
-    let pieces = pieces_in work in
+pub returns-clause-after : goal.returns-clause-after
+returns-clause-after g c =
+    let work = c.args.self.now.work.now.pieces.now in
+    let pieces = g.P.Pieces.pieces work in
     let options = c.args.self.now.options.now in
-    let within : c.args.piece < length pieces =
-    omega (arith, c.requires.piece, length-pieces_of work.cutting.now work.stream.now) in
-    let piece = c.piece-items.ensures.piece in
     let before = whole_of (take c.args.piece pieces) in
-    let summaries = c.in_ok-push.ensures.items
-    ∙ ap (λ s. c.args.summaries.now.items ++ s ∷ []) (c.in_ok-summary_of.ensures ∙ ap (sketch_of options.k) piece) in
-    let table = c.add_items.ensures options.family options.width before c.requires.before.table
-    ∙ ap (λ (xs : List Entry). table_of options.family options.width (before ++ xs)) piece in
-    alone_more pieces options c.args.piece _ _ _ _ within summaries table c.requires.before
+    let summaries = c.in-Ok.ensures.items
+    ∙ ap (λ s. c.args.summaries.now.items ++ s ∷ []) c.in_ok-summary.ensures.summary in
+    let table = c.in_ok-summary.ensures.table options.family options.width before c.requires.before.table in
+    alone_more (g.P.Pieces.reads work) pieces options c.args.piece _ _ _ _ c.requires.piece c.in_ok-summary.ensures.reads
+    summaries table c.requires.before

@@ -6,7 +6,6 @@ use Rattle.std.proofs.lemmas.List.{append_assoc, append-nil, nil_from_length}
 use Rattle.std.proofs.lemmas.List.MinMax.{ranks_by}
 use Rattle.hh_counters.specs.Counters.{SummaryView, sketch_of}
 use Rattle.hh_pool.specs.Passes.{piece_of}
-use Rattle.hh_pool.specs.Progress.{pieces_in}
 use Rattle.hh_pool.proofs.Closed.{by_number}
 use Rattle.hh_pool.proofs.Ordered.{ordered}
 use Rattle.hh_pool.proofs.first.FirstPass.in_order.Goals as goal
@@ -30,7 +29,7 @@ loop-summary-preserved g c =
 pub returns : goal.returns
 returns g c =
     let k = c.args.self.now.options.now.k in
-    let pieces = pieces_in c.args.self.now.work.now in
+    let pieces = g.P.Pieces.pieces c.args.self.now.work.now.pieces.now in
     let ours = c.requires in
     let none = nil_from_length c.loop-summary.summary-iterator.rest.items
     (omega (arith, c.in-None.ensures.steps.0, c.loop-summary.summary-iterator.rest.ok)) in

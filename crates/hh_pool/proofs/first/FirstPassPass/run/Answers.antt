@@ -1,15 +1,13 @@
 use Rattle.std.proofs.Common.{◌≡◌, ◌+◌, ◌∙◌, length, get_or, ap, arith}
 use Rattle.hh_shared.specs.Tally.{cell_total}
-use Rattle.hh_pool.specs.Progress.{pieces_in}
-use Rattle.hh_pool.proofs.Pieces.{length-pieces_of}
-use Rattle.hh_pool.proofs.Tried.{first_begins, first_ends, claim-behind_cell}
+use Rattle.hh_pool.proofs.Tried.{first_begins, first_ends, first_taken, claim-behind_cell}
 use Rattle.hh_pool.proofs.first.FirstPassPass.run.Goals as goal
 
 pub loop-piece-init : goal.loop-piece-init
 loop-piece-init g c =
-    let pieces = pieces_in c.args.self.now.work.now in
-    let options = c.args.self.now.options.now in
-    let begins = first_begins pieces options c.args.sums.now _ c.in_ok-empty_table.ensures in
+    let work = c.args.self.now.work.now.pieces.now in
+    let begins = first_begins (g.P.Pieces.reads work) (g.P.Pieces.pieces work) c.args.self.now.options.now c.args.sums.now _
+    c.in_ok-empty_table.ensures in
     record {
       sums = ap (λ h. h.sums) c.requires.seat;
       so_far = rw (c.requires.seat, c.new.ensures.items) begins;
@@ -22,16 +20,25 @@ add_numbers-requires-clause-holds_a_claim g c cell some =
 
 pub returns-clause-done : goal.returns-clause-done
 returns-clause-done g c =
-    let pieces = pieces_in c.args.self.now.work.now in
-    let options = c.args.self.now.options.now in
+    let work = c.args.self.now.work.now.pieces.now in
+    let pieces = g.P.Pieces.pieces work in
     let seat = c.loop-piece.seat in
     let made = c.loop-piece.made in
-    let tried : c.loop-piece.piece ≡ length pieces =
-    omega (arith, length-pieces_of c.args.self.now.work.now.cutting.now c.args.self.now.work.now.stream.now) in
+    let tried : c.loop-piece.piece ≡ length pieces = omega arith in
     let all = rw tried at c.loop-piece.invariant.so_far in
-    first_ends c.cells_are_cell_sums.ensures pieces options seat _ _ made.table c.add_numbers.ensures.unchanged
+    first_ends c.cells_are_cell_sums.ensures (g.P.Pieces.reads work) pieces c.args.self.now.options.now seat _ _ made.table
+    c.add_numbers.ensures.unchanged
     (λ cell. c.add_numbers.ensures.added cell
     ∙ ap (λ xs. cell_total cell seat.adds + get_or xs cell 0) c.cells.ensures) all
 
 pub returns-clause-all_done : goal.returns-clause-all_done
-returns-clause-all_done g c = (returns-clause-done g c).work
+returns-clause-all_done g c =
+    let work = c.args.self.now.work.now.pieces.now in
+    let pieces = g.P.Pieces.pieces work in
+    let tried : c.loop-piece.piece ≡ length pieces = omega arith in
+    let all = rw tried at c.loop-piece.invariant.so_far in (
+      (returns-clause-done g c).work,
+      first_taken (g.P.Pieces.reads work) pieces c.args.self.now.options.now
+          c.loop-piece.seat _ _ _ _ c.add_numbers.ensures.unchanged all c.total-total.ensures.total
+          (omega (arith, c.total-total.ensures.fits.total_in_range)),
+    )
