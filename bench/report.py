@@ -4,7 +4,7 @@
 usage: bench/report.py [RUNS] [--write]
 
 Prints medians in seconds, and ratios: to the awk's, to those of plain Rust in the same shape with as many workers, and
-to those of a hash group-by in plain Rust. --write also writes bench/results/report.csv.
+to those of a hash group-by in plain Rust, with one thread and with as many. --write also writes bench/results/report.csv.
 """
 import shutil
 import statistics
@@ -19,6 +19,13 @@ import programs
 
 GROUP_BY = "{ w[$1] += $2; n += $2 } END { for (x in w) if (101 * w[x] > n) print x \",\" w[x] }"
 WORKERS = (1, 2, 4)
+# what the ratios are to, each by its name in the tables; {} is the number of workers
+BESIDE = (
+    ("awk", "mawk"),
+    ("plain {}", "plain Rust"),
+    ("group", "hash group-by"),
+    ("groups {}", "hash group-by, as many threads"),
+)
 # the files, each by its name in the tables
 SHAPES = {"zipf": "Zipf", "uniform": "uniform", "different": "all different"}
 
@@ -29,6 +36,7 @@ def commands(room: Path) -> dict[str, list[str]]:
     found = {f"heavy {n}": [heavy, "report", "--k", "100", "--workers", str(n)] for n in WORKERS}
     if plain:
         found |= {f"plain {n}": [plain, "report", "100", str(n)] for n in WORKERS}
+        found |= {f"groups {n}": [plain, "groups", "100", str(n)] for n in WORKERS}
         found["group"] = [plain, "group", "100"]
     awk = shutil.which("mawk") or shutil.which("awk")
     if awk:
@@ -57,7 +65,8 @@ def main() -> None:
                     times[name].append(once(command, path))
             medians = {name: statistics.median(all) for name, all in times.items()}
             for n in WORKERS:
-                for other, name in (("awk", "mawk"), (f"plain {n}", "plain Rust"), ("group", "hash group-by")):
+                for other, name in BESIDE:
+                    other = other.format(n)
                     if other in times:
                         program = f"{n} worker" + "s" * (n > 1)
                         of_runs = [one / two for one, two in zip(times[f"heavy {n}"], times[other])]

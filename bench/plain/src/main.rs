@@ -2,6 +2,7 @@
 //!
 //! plain report K WORKERS < FILE          the heavy keys, in the shape of heavy's report
 //! plain group K < FILE                   the heavy keys, by a map that holds the sum of every key
+//! plain groups K WORKERS < FILE          the same over pieces of the text, a map for each worker, merged at the end
 //! plain mg|ss K < FILE                   counts by Misra and Gries or by Space-Saving, no record kept
 //! plain columns K KEY WEIGHT < FILE      as mg, by the columns with these numbers, over the crate csv alone
 //! plain table < FILE                     a Count-Min table, no record kept
@@ -55,6 +56,7 @@ fn main() {
     match words[1].as_str() {
         "report" => report::by_two_passes(number(2), number(3)),
         "group" => report::by_group(number(2)),
+        "groups" => report::by_groups(number(2), number(3)),
         "mg" => {
             let (k, mut counters) = (number(2), Map::default());
             reading::each_record(|key, weight| counting::misra_gries(&mut counters, k, key, weight));

@@ -1,7 +1,7 @@
 //! Records of standard input, as keys and weights: by the crate `csv` where the feature `csv` is on, else by a loop with
 //! the rules of its default reader.
 
-use std::io;
+use std::io::{self, BufRead};
 
 /// A key with its weight.
 pub type Item = (Box<[u8]>, u64);
@@ -13,10 +13,29 @@ pub fn items() -> Vec<Item> {
     items
 }
 
+/// Hands each record of standard input to the function.
+pub fn each_record(take: impl FnMut(&[u8], u64)) {
+    each_record_of(io::stdin().lock(), take);
+}
+
+/// A text in at most so many pieces of about equal length, cut before line feeds; none may stand in quotes.
+pub fn pieces(text: &[u8], count: usize) -> Vec<&[u8]> {
+    let (mut pieces, mut rest) = (Vec::new(), text);
+    for left in (2..=count).rev() {
+        let even = rest.len() / left;
+        let Some(feed) = rest[even..].iter().position(|&byte| byte == b'\n') else { break };
+        let (piece, others) = rest.split_at(even + feed);
+        pieces.push(piece);
+        rest = others;
+    }
+    pieces.push(rest);
+    pieces
+}
+
 /// Hands each record to the function.
 #[cfg(feature = "csv")]
-pub fn each_record(mut take: impl FnMut(&[u8], u64)) {
-    let mut reader = csv::ReaderBuilder::new().has_headers(false).flexible(true).from_reader(io::stdin().lock());
+pub fn each_record_of(reader: impl BufRead, mut take: impl FnMut(&[u8], u64)) {
+    let mut reader = csv::ReaderBuilder::new().has_headers(false).flexible(true).from_reader(reader);
     let mut record = csv::ByteRecord::new();
     while reader.read_byte_record(&mut record).expect("input") {
         take(&record[0], record.get(1).map_or(1, number));
@@ -41,10 +60,8 @@ pub fn each_in_columns(_: usize, _: usize, _: impl FnMut(&[u8], u64)) {
 /// Hands each record to the function. A field may be quoted, a quote in it doubled, a line end CR, LF or both, and empty
 /// lines are skipped.
 #[cfg(not(feature = "csv"))]
-pub fn each_record(mut take: impl FnMut(&[u8], u64)) {
-    use std::io::BufRead;
+pub fn each_record_of(mut reader: impl BufRead, mut take: impl FnMut(&[u8], u64)) {
     use State::*;
-    let mut reader = io::stdin().lock();
     let (mut text, mut ends, mut state) = (Vec::new(), Vec::new(), Record);
     loop {
         let bytes = reader.fill_buf().expect("input");

@@ -3,7 +3,7 @@
 use crate::counting::{Map, Saving};
 use crate::reading::{self, Item};
 use crate::table;
-use std::io::{self, Write};
+use std::io::{self, Read, Write};
 use std::sync::atomic::{AtomicU64, Ordering};
 use std::thread;
 
@@ -57,19 +57,62 @@ pub fn by_two_passes(k: usize, workers: usize) {
     write_heavy(k, total, keys.iter().zip(&sums).map(|(&key, sum)| (key, sum.load(Ordering::SeqCst))));
 }
 
-/// A hash group-by, as a user would write it: the sum of each key, and then those that are heavy.
-pub fn by_group(k: usize) {
-    let (mut sums, mut total) = (Map::<Box<[u8]>, u64>::default(), 0);
-    reading::each_record(|key, weight| {
-        total += weight;
-        match sums.get_mut(key) {
+/// The sum of each key, and the total.
+#[derive(Default)]
+struct Group {
+    sums: Map<Box<[u8]>, u64>,
+    total: u64,
+}
+
+impl Group {
+    fn add(&mut self, key: &[u8], weight: u64) {
+        self.total += weight;
+        match self.sums.get_mut(key) {
             Some(sum) => *sum += weight,
             None => {
-                sums.insert(key.into(), weight);
+                self.sums.insert(key.into(), weight);
             }
         }
+    }
+
+    fn merge(mut self, other: Group) -> Group {
+        self.total += other.total;
+        for (key, weight) in other.sums {
+            *self.sums.entry(key).or_default() += weight;
+        }
+        self
+    }
+
+    fn write_heavy(&self, k: usize) {
+        write_heavy(k, self.total, self.sums.iter().map(|(key, &sum)| (&**key, sum)));
+    }
+}
+
+/// A hash group-by, as a user would write it: the sum of each key, and then those that are heavy.
+pub fn by_group(k: usize) {
+    let mut group = Group::default();
+    reading::each_record(|key, weight| group.add(key, weight));
+    group.write_heavy(k);
+}
+
+/// The same over pieces of the text, in as many threads, each of which has a map of its own.
+pub fn by_groups(k: usize, workers: usize) {
+    let mut text = Vec::new();
+    io::stdin().lock().read_to_end(&mut text).expect("input");
+    let groups: Vec<Group> = thread::scope(|scope| {
+        let running: Vec<_> = reading::pieces(&text, workers)
+            .into_iter()
+            .map(|piece| {
+                scope.spawn(move || {
+                    let mut group = Group::default();
+                    reading::each_record_of(piece, |key, weight| group.add(key, weight));
+                    group
+                })
+            })
+            .collect();
+        running.into_iter().map(|worker| worker.join().unwrap()).collect()
     });
-    write_heavy(k, total, sums.iter().map(|(key, &sum)| (&**key, sum)));
+    groups.into_iter().reduce(Group::merge).unwrap_or_default().write_heavy(k);
 }
 
 /// Writes the keys above the share 1/(k+1), by falling weight and then key.

@@ -4,4 +4,5 @@ pub mod FileFacts
 pub mod KeyFacts
 pub mod MergeFacts
 pub mod NameFacts
+pub mod PieceFacts
 pub mod ReportFacts

@@ -1,5 +1,5 @@
 -- Reports with no option of rows.
-use Rattle.std.proofs.Common.{◌≡◌, ℕ, List, Option, Result, Ok, Err, sym, subst}
+use Rattle.std.proofs.Common.{◌≡◌, ℕ, List, Option, Result, Ok, Err, subst}
 use Rattle.std.specs.Prelude.{IfErr, OnOk}
 use Rattle.hh_records.specs.Printed.{plain_rows}
 use Rattle.hh_records.specs.Streams.{Known}

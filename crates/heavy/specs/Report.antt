@@ -1,8 +1,8 @@
 -- What a report leaves in a sink, and what its refusals tell.
-use Rattle.std.specs.Prelude.{◌≡◌, ◌-◌, not, ℕ, List, Bool, true, false, Option, Some, None, is_none, Result, Ok, Err, ⊤, if◌then◌else◌}
+use Rattle.std.specs.Prelude.{◌≡◌, ◌≤◌, ◌-◌, not, ℕ, List, [], map, Bool, true, false, Option, Some, None, is_none, Result, Ok, Err, ⊤, if◌then◌else◌}
 use Rattle.std.specs.Io.KnownBytes.{Appends, Keeps}
-use Rattle.hh_stream.specs.Cuttings.{max_pieces}
-use Rattle.hh_stream.specs.Weights.{Entry, total_of}
+use Rattle.hh_stream.specs.Cuttings.{max_pieces, whole_of}
+use Rattle.hh_stream.specs.Weights.{Entry, max_total, total_of}
 use Rattle.hh_counters.specs.Report.{heavy}
 use Rattle.hh_counters.specs.Counters.{max_k}
 use Rattle.hh_countmin.specs.Family.{drawn_family, max_depth, max_width}
@@ -97,6 +97,22 @@ abbrev pub ReportsKeys : ReportOptions → Known → List Entry → List Entry �
 ReportsKeys o known xs keys =
     (p : ℕ) × (q : ℕ) × (threshold_of o.k o.threshold ≡ Some (p, q))
     × ReadsAs known (Ok xs) × (keys ≡ heavy xs p q)
+
+-- the items of a piece, and none of a piece that can't be read by itself
+abbrev pub items_or_none : Option (List Entry) → List Entry
+items_or_none None = []
+items_or_none (Some xs) = xs
+
+-- each piece has items, and these are the total of them all and their keys above p/q
+abbrev pub AreKeysOfPieces : List (Option (List Entry)) → ℕ → ℕ → ℕ → List Entry → Type 0
+AreKeysOfPieces pieces p q total keys =
+    (parts : List (List Entry)) × (pieces ≡ map Some parts) × (total_of (whole_of parts) ≤ max_total)
+    × (total ≡ total_of (whole_of parts)) × (keys ≡ heavy (whole_of parts) p q)
+
+-- the records are a stream, and these are its total and its keys above p/q
+abbrev pub AreKeysOf : Known → ℕ → ℕ → ℕ → List Entry → Type 0
+AreKeysOf known p q total keys =
+    (xs : List Entry) × ReadsAs known (Ok xs) × (total ≡ total_of xs) × (keys ≡ heavy xs p q)
 
 -- these are the rows of the keys of a report
 abbrev pub ReportsRows : ReportOptions → Known → List ℕ → Type 0

@@ -8,6 +8,7 @@ mod files;
 mod items;
 pub mod laws;
 mod layouts;
+mod text_pieces;
 
 pub use commands::add::{add_items, empty_summary};
 pub use commands::add_text::add_text;

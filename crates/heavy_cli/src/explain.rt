@@ -32,8 +32,8 @@ pub fn tells_more(rt: &HostRuntime, asked: &Invocation) -> bool {
     asked.explains || rt.stderr().is_terminal()
 }
 
-/// Whether it is told where records look like another format: where more is told, and no option says
-/// how they are parted.
+/// Whether it is told where records look like another format: where more is told, and no option
+/// says how they are parted.
 pub fn watches(rt: &HostRuntime, asked: &Invocation) -> bool {
     let layout = &asked.records.layout;
     let is_plain = layout.delimiter.is_none() && layout.key.is_empty() && layout.weight.is_none();
@@ -212,8 +212,8 @@ fn tell_threshold(rt: &HostRuntime, request: &Request) {
     }
 }
 
-/// Tells where a bad record stands and how it begins, where its file can be read again, and what was
-/// wanted.
+/// Tells where a bad record stands and how it begins, where its file can be read again, and what
+/// was wanted.
 fn tell_record(rt: &HostRuntime, records: &RecordWords, number: u64, wanted: &str) {
     let Some(place) = place_of(rt, records, number) else {
         let _ = eprintln!(rt; "  {wanted}");

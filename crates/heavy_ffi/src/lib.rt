@@ -365,8 +365,8 @@ pub extern "C" fn heavy_confirm(
 }
 
 /// Gives the rows of a saved summary's keys that are above p/q of the total of a text's records,
-/// which are those that were summarised. The file is tested first, then its kind, then p/q, then the
-/// records, then the totals.
+/// which are those that were summarised. The file is tested first, then its kind, then p/q, then
+/// the records, then the totals.
 #[unsafe(no_mangle)]
 pub extern "C" fn heavy_confirm_above(
     alloc: Global,

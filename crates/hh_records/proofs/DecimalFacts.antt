@@ -1,6 +1,6 @@
 -- Digits behind a point, written and read.
 use Rattle.std.proofs.Common.{◌≡◌, ◌<◌, ◌≤◌, ◌+◌, ◌-◌, ◌*◌, ◌^◌, ◌∷◌, ◌++◌, ◌∙◌, ℕ, zero, suc, Bool, true, false, List, [], length, take, drop, Option, Some, None, inl, inr, refl, sym, ap, arith}
-use Rattle.std.specs.Prelude.{◌==◌, ◌&&◌, ◌||◌, ◌/◌, ◌%◌, fold, min, nat_le, not, option_map, if◌then◌else◌}
+use Rattle.std.specs.Prelude.{◌==◌, ◌&&◌, ◌/◌, ◌%◌, fold, min, nat_le, not, option_map, if◌then◌else◌}
 use Rattle.std.specs.Fmt.{decimal}
 use Rattle.std.specs.List.{list_all}
 use Rattle.std.proofs.lemmas.Bool.{and_right, ne_eqb, or_right}
@@ -11,7 +11,7 @@ use Rattle.std.proofs.Math.Seq.{drop-append-add, take-append_seam}
 use Rattle.std.proofs.lemmas.Fmt.{decimal_digit}
 use Rattle.hh_stream.specs.Weights.{max_total}
 use Rattle.hh_stream.specs.Digits.{is_digit, is_number, value_of}
-use Rattle.hh_records.specs.Decimals.{is_whole, last_digits, point_from, pointed, units_at, units_of}
+use Rattle.hh_records.specs.Decimals.{is_whole, last_digits, point_from, units_at, units_of}
 use Rattle.hh_records.specs.Laws.{PrintedNumbersAreRead}
 use Rattle.hh_records.specs.Streams.{weight_of}
 use Rattle.hh_records.proofs.TextFacts.{written}

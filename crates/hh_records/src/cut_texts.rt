@@ -21,8 +21,8 @@ pub(crate) struct TextPiece<'t> {
     pub(crate) bytes: &'t [u8],
 }
 
-/// Texts in pieces. In contracts it is the list of what its pieces are: their items, or nothing of a
-/// piece that can't be read by itself.
+/// Texts in pieces. In contracts it is the list of what its pieces are: their items, or nothing of
+/// a piece that can't be read by itself.
 #[derive(Drop)]
 pub struct CutTexts<'t> {
     layout: &'t Layout,

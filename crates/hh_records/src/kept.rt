@@ -127,8 +127,8 @@ fn read_bytes<R: Read>(
     Ok((bytes, false))
 }
 
-/// The records of some readers, with what these have left kept. Behind a reader that fails the others are
-/// not read yet.
+/// The records of some readers, with what these have left kept. Behind a reader that fails the
+/// others are not read yet.
 pub fn keep_records<R: Read + Drop>(
     alloc: Global,
     records: Records<R>,

@@ -65,8 +65,8 @@ pub fn delimiter_of(word: &[u8]) -> Option<u8>
     }
 }
 
-/// The column that a word names: digits are its number, from 1 on, and another word is a name, which
-/// only a header has.
+/// The column that a word names: digits are its number, from 1 on, and another word is a name,
+/// which only a header has.
 pub fn column_of(alloc: Global, word: &[u8], has_header: bool) -> Result<Option<Column>, AllocError>
     ensures named { IfOk result (λ column. IfSome column (NamesColumn has_header word.now)) }
     ensures unnamed { result ≡ Ok None

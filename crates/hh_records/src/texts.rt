@@ -80,13 +80,15 @@ fn behind_header<R: Read + Drop>(
     requires headed { layout.now.has_header ≡ true }
     ensures text { IfOk result (λ text. IfSome text IsText) }
     ensures opened { IfOk result (λ text. Opens R.remaining
-        (option_map (λ bytes. headed_parts layout.now (records (delimited layout.now.delimiter) bytes))
+        (option_map (λ bytes.
+        headed_parts layout.now (records (delimited layout.now.delimiter) bytes))
         (unread R.remaining rows)) text) }
     ensures columns { IfOk result (λ text. IfSome (unread R.remaining rows) (λ bytes.
         FindsColumns layout.now (records (delimited layout.now.delimiter) bytes)
         (option_map (λ t. chosen_places t.chosen) text))) }
     ensures refused { IfErr result (λ error. OpenRefused (names_columns layout.now)
-        (option_map (λ bytes. headed_parts layout.now (records (delimited layout.now.delimiter) bytes))
+        (option_map (λ bytes.
+        headed_parts layout.now (records (delimited layout.now.delimiter) bytes))
         (unread R.remaining rows)) error) }
 {
     let mut header = ByteRecord::new(alloc);

@@ -6,21 +6,26 @@ ghost use Rattle.hh_pool.specs.Trees.{leaves};
 ghost use Rattle.hh_counters.specs.Report.{heavy};
 ghost use Rattle.hh_stream.specs.Ranges.{in_range};
 ghost use Rattle.hh_stream.specs.Weights.{Entry, total_of};
+ghost use Rattle.hh_records.specs.Kept.{kept_left};
 ghost use Rattle.hh_records.specs.Layouts.{records_known};
 ghost use Rattle.hh_records.specs.Streams.{ReadsAs, text_known};
 ghost use Rattle.hh_records.specs.Thresholds.{threshold_of};
 ghost use Rattle.heavy.specs.Records.{RecordsRefused};
-ghost use Rattle.heavy.specs.Report.{AreOptions, IsOptionFault, IsPrinted, IsReported, Names};
+ghost use Rattle.heavy.specs.Report.{AreKeysOf, AreKeysOfPieces, AreOptions, IsOptionFault, IsPrinted, IsReported, Names};
 ghost use Rattle.heavy.specs.Report.{PrintRefused, ReportRefused};
 ghost use Rattle.heavy.specs.Report.{ReportsKeys, StartRefused, TreeRefused, bad_option};
 ghost use Rattle.heavy.specs.Report.{failed_by, settings_of};
 
 use crate::error::{ToolError, TreeFault};
+use crate::text_pieces::TextPieces;
 use hh_counters::{Heavy, MAX_K};
 use hh_countmin::{Family, MAX_DEPTH, MAX_WIDTH};
-use hh_pool::{MAX_WORKERS, OpenGate, Options, Plan, PlanFault, RunError, analyse};
+use hh_pool::{
+    MAX_WORKERS, OpenGate, Options, PiecesError, Plan, PlanFault, RunError, analyse, analyse_pieces,
+};
 use hh_records::{
-    Records, ReportFault, RowOptions, Share, Sink, read_records, threshold_of, write_printed,
+    CutTexts, KeptText, Records, ReportFault, RowOptions, Share, Sink, keep_records, read_again,
+    read_records, threshold_of, whole_texts, write_printed,
 };
 use hh_stream::{Cutting, MAX_PIECES, Stream, in_range};
 use std::alloc::{AllocError, Global};
@@ -157,6 +162,51 @@ fn heavy_keys<T: Threads + Wait + Sync>(
     }
 }
 
+/// The total of texts in pieces and the heavy keys of their items, where each piece can be read by
+/// itself.
+fn keys_of_pieces<T: Threads + Wait + Sync>(
+    rt: &T,
+    alloc: Global,
+    texts: CutTexts<'_>,
+    plan: &Plan,
+    settings: &Options,
+) -> Result<Option<(u64, Vec<Heavy>)>, AllocError>
+    requires plan { length (leaves plan.now) ≡ length texts }
+    ensures { IfOk result (λ keys. IfSome keys (λ keys.
+        AreKeysOfPieces texts.entry settings.now.p settings.now.q keys.0 keys.1.items)) }
+{
+    let pieces = TextPieces { texts };
+    match analyse_pieces(rt, alloc, &pieces, plan, settings, &OpenGate) {
+        Ok(outcome) => Ok(Some((outcome.summary.total(), outcome.heavy))),
+        Err(PiecesError::Refused) => Ok(None),
+        Err(PiecesError::Memory) => Err(AllocError),
+        Err(PiecesError::PlanMismatch) => unreachable!(),
+    }
+}
+
+/// The total of kept records and their heavy keys, where the texts can be read in pieces.
+fn keys_of_kept<T: Threads + Wait + Sync, R: Read + Drop>(
+    rt: &T,
+    alloc: Global,
+    kept: &Records<KeptText<R>>,
+    pieces: usize,
+    plan: &Plan,
+    settings: &Options,
+) -> Result<Option<(u64, Vec<Heavy>)>, AllocError>
+    requires plan { length (leaves plan.now) ≡ pieces }
+    ensures { IfOk result (λ keys. IfSome keys (λ keys.
+        AreKeysOf (records_known (kept_left R.remaining) kept.now) settings.now.p settings.now.q
+        keys.0 keys.1.items)) }
+{
+    let Some(texts) = whole_texts(alloc, kept)? else {
+        return Ok(None);
+    };
+    let Some(cut) = CutTexts::new(alloc, &kept.layout, &texts, pieces)? else {
+        return Ok(None);
+    };
+    keys_of_pieces(rt, alloc, cut, plan, settings)
+}
+
 /// The stream that records are.
 fn stream_of<R: Read + Drop>(alloc: Global, records: Records<R>) -> Result<Stream, ToolError>
     ensures stream { IfOk result (λ stream.
@@ -164,6 +214,49 @@ fn stream_of<R: Read + Drop>(alloc: Global, records: Records<R>) -> Result<Strea
     ensures refused { IfErr result (RecordsRefused (records_known R.remaining records)) }
 {
     Ok(read_records(alloc, records, Stream::new(alloc))?)
+}
+
+/// The total of records and their heavy keys, by the stream that they are.
+fn keys_of_stream<T: Threads + Wait + Sync, R: Read + Drop>(
+    rt: &T,
+    alloc: Global,
+    records: Records<R>,
+    pieces: usize,
+    plan: &Plan,
+    settings: &Options,
+) -> Result<(u64, Vec<Heavy>), ToolError>
+    requires pieces { in_range pieces max_pieces ≡ true }
+    requires plan { length (leaves plan.now) ≡ pieces }
+    ensures keys { IfOk result (λ keys. AreKeysOf (records_known R.remaining records)
+        settings.now.p settings.now.q keys.0 keys.1.items) }
+    ensures refused { IfErr result (RecordsRefused (records_known R.remaining records)) }
+{
+    let stream = stream_of(alloc, records)?;
+    let keys = heavy_keys(rt, alloc, &stream, pieces, plan, settings)?;
+    Ok((stream.total(), keys))
+}
+
+/// The total of records and their heavy keys. What is read is kept as text, which workers read in
+/// pieces. Where a piece can't be read by itself, one thread reads the text.
+fn keys_of_records<T: Threads + Wait + Sync, R: Read + Drop>(
+    rt: &T,
+    alloc: Global,
+    records: Records<R>,
+    pieces: usize,
+    plan: &Plan,
+    settings: &Options,
+) -> Result<(u64, Vec<Heavy>), ToolError>
+    requires pieces { in_range pieces max_pieces ≡ true }
+    requires plan { length (leaves plan.now) ≡ pieces }
+    ensures keys { IfOk result (λ keys. AreKeysOf (records_known R.remaining records)
+        settings.now.p settings.now.q keys.0 keys.1.items) }
+    ensures refused { IfErr result (RecordsRefused (records_known R.remaining records)) }
+{
+    let kept = keep_records(alloc, records)?;
+    if let Some(keys) = keys_of_kept(rt, alloc, &kept, pieces, plan, settings)? {
+        return Ok(keys);
+    }
+    keys_of_stream(rt, alloc, read_again(alloc, kept)?, pieces, plan, settings)
 }
 
 /// The total of some records, and the keys that a report of them has.
@@ -188,15 +281,14 @@ fn reported<T: Threads + Wait + Sync, R: Read + Drop>(
         Err(NoPlan::Memory) => return Err(ToolError::Memory),
     };
     let settings = settings_of(alloc, options, p, q)?;
-    let stream = stream_of(alloc, records)?;
-    let keys = heavy_keys(rt, alloc, &stream, pieces, &plan, &settings)?;
-    Ok((stream.total(), keys))
+    keys_of_records(rt, alloc, records, pieces, &plan, &settings)
 }
 
 /// Reads records as [`read_stream`](crate::read_stream) does, and writes the report of their
 /// stream: exactly the keys whose weight is more than the threshold's share of the total, with
-/// their true weights, by falling weight and then by rising key. The stream is cut evenly and
-/// analysed by workers in threads of their own; the report is the same for all other options.
+/// their true weights, by falling weight and then by rising key. The text is kept and cut into
+/// pieces, which workers read in threads of their own; the report is the same for all other
+/// options. Where a piece can't be read by itself, the text is read once more by one thread.
 ///
 /// The options are tested before anything is read, in the order depth, k, workers, width,
 /// threshold, pieces and tree. A refusal other than [`ToolError::WriteFault`] has written nothing.

@@ -1,6 +1,5 @@
 use Rattle.std.proofs.Common.{IfOk, subst}
 use Rattle.hh_records.specs.Layouts.{records_known}
-use Rattle.hh_records.specs.Printed.{plain_rows}
 use Rattle.heavy.specs.Confirm.{ConfirmsAbove, ConfirmsPrinted}
 use Rattle.heavy.proofs.commands.confirm.confirm_above.Goals as goal
 

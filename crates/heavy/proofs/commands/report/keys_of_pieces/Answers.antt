@@ -1,0 +1,14 @@
+use Rattle.std.proofs.Common.{map, ◌∙◌}
+use Rattle.heavy.specs.Report.{items_or_none}
+use Rattle.heavy.proofs.PieceFacts.{all-have-items}
+use Rattle.heavy.proofs.commands.report.keys_of_pieces.Goals as goal
+
+pub returns-in-Ok : goal.returns-in-Ok
+returns-in-Ok g c =
+    let all = c.in-Ok.ensures in (
+      map items_or_none c.args.texts,
+      all-have-items c.args.texts all.read,
+      all.total,
+      c.total.ensures.total ∙ all.summary.total,
+      all.heavy,
+    )
