@@ -61,8 +61,8 @@ fn answer_of(saved: &Saved, key: &Key) -> (u64, u64)
     }
 }
 
-/// Writes the row of a key and its two numbers after the others, so many of their last digits behind
-/// a point.
+/// Writes the row of a key and its two numbers after the others, so many of their last digits
+/// behind a point.
 pub(crate) fn write_bounds(
     alloc: Global,
     writer: &mut Writer<Vec<u8>>,
@@ -119,8 +119,8 @@ pub fn ask_bytes(alloc: Global, file: &[u8], keys: &[Vec<u8>]) -> Result<Vec<u8>
     ask_rows(alloc, file, keys, 0)
 }
 
-/// [`ask_bytes`] with so many last digits of each number behind a point. These are the decimals that
-/// the file's records were read with, which it doesn't tell.
+/// [`ask_bytes`] with so many last digits of each number behind a point. These are the decimals
+/// that the file's records were read with, which it doesn't tell.
 pub fn ask_rows(
     alloc: Global,
     file: &[u8],

@@ -22,7 +22,8 @@ fn entries_text(
     decimals: u8,
 ) -> Result<Vec<u8>, AllocError>
     requires { total_of entries.now ≤ total_of summary.now.counters }
-    ensures { IfOk result (λ text. text.items ≡ flat_map (entry_row decimals summary.now) entries.now) }
+    ensures { IfOk result (λ text.
+        text.items ≡ flat_map (entry_row decimals summary.now) entries.now) }
 {
     let slack = summary.slack();
     prove!(summary.sum() <= summary.total());

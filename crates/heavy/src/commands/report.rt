@@ -162,8 +162,8 @@ fn heavy_keys<T: Threads + Wait + Sync>(
     }
 }
 
-/// The total of texts in pieces and the heavy keys of their items, where each piece can be read by
-/// itself.
+/// The total of texts in pieces and the heavy keys of their items, where the plan is of as many and
+/// each piece can be read by itself.
 fn keys_of_pieces<T: Threads + Wait + Sync>(
     rt: &T,
     alloc: Global,
@@ -171,16 +171,14 @@ fn keys_of_pieces<T: Threads + Wait + Sync>(
     plan: &Plan,
     settings: &Options,
 ) -> Result<Option<(u64, Vec<Heavy>)>, AllocError>
-    requires plan { length (leaves plan.now) ≡ length texts }
     ensures { IfOk result (λ keys. IfSome keys (λ keys.
         AreKeysOfPieces texts.entry settings.now.p settings.now.q keys.0 keys.1.items)) }
 {
     let pieces = TextPieces { texts };
     match analyse_pieces(rt, alloc, &pieces, plan, settings, &OpenGate) {
         Ok(outcome) => Ok(Some((outcome.summary.total(), outcome.heavy))),
-        Err(PiecesError::Refused) => Ok(None),
+        Err(PiecesError::Refused | PiecesError::PlanMismatch) => Ok(None),
         Err(PiecesError::Memory) => Err(AllocError),
-        Err(PiecesError::PlanMismatch) => unreachable!(),
     }
 }
 
@@ -193,7 +191,6 @@ fn keys_of_kept<T: Threads + Wait + Sync, R: Read + Drop>(
     plan: &Plan,
     settings: &Options,
 ) -> Result<Option<(u64, Vec<Heavy>)>, AllocError>
-    requires plan { length (leaves plan.now) ≡ pieces }
     ensures { IfOk result (λ keys. IfSome keys (λ keys.
         AreKeysOf (records_known (kept_left R.remaining) kept.now) settings.now.p settings.now.q
         keys.0 keys.1.items)) }
