@@ -20,7 +20,8 @@ pub struct LayoutWords {
     pub weight: Option<Vec<u8>>,
     /// A record of weight 0 adds nothing and is no fault, nor is one of weight `-`.
     pub allow_zero: bool,
-    /// A weight may have a point and up to so many digits behind it, and counts in units of the last.
+    /// A weight may have a point and up to so many digits behind it, and counts in units of the
+    /// last.
     pub decimals: u8,
 }
 

@@ -40,8 +40,8 @@ pub fn watches(rt: &HostRuntime, asked: &Invocation) -> bool {
     is_plain && tells_more(rt, asked)
 }
 
-/// What a record has to be, by what is wrong with one, where a weight may have so many digits behind a
-/// point.
+/// What a record has to be, by what is wrong with one, where a weight may have so many digits
+/// behind a point.
 fn wanted(cause: BadRecordCause, decimals: u8) -> &'static str {
     match cause {
         BadRecordCause::FieldCount => {

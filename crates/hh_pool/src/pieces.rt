@@ -76,7 +76,8 @@ pub trait Pieces {
         ensures positive { OnOk result (All (λ e. 0 < e.1) (piece_of (pieces self.now) piece)) }
         ensures reads { OnOk result (reads self.now piece) }
         ensures refused { IsErrOf result PieceFault.Refused → refuses self.now piece
-            ⊎ (max_total < T.weight_taken taker.old + total_of (piece_of (pieces self.now) piece)) };
+            ⊎ (max_total
+            < T.weight_taken taker.old + total_of (piece_of (pieces self.now) piece)) };
 }
 
 /// A stream in the pieces of a cutting. A contract sees the list of the pieces.

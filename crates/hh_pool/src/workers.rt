@@ -22,7 +22,8 @@ pub(crate) struct Promised<P: Pass> {
 }
 
 impl<P: Pass> Promise<Result<(SumSeat, P::Kept), PieceFault>> for Promised<P> {
-    ghost kept_by = { λ p r. BringBack (P.all_done p.pass.value) (P.may_refuse p.pass.value) p.sums.value r };
+    ghost kept_by = { λ p r. BringBack (P.all_done p.pass.value) (P.may_refuse p.pass.value)
+        p.sums.value r };
 }
 
 /// Runs so many workers with one seat, numbered from `first` on: where they are more than one, half

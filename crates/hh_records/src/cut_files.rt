@@ -36,9 +36,9 @@ pub(crate) struct FilePiece {
     pub(crate) span: Span,
 }
 
-/// Files in pieces, or other sources of bytes that are read at any place. In contracts it is how many
-/// pieces there are and, where all bytes are known, what each is: its items, or nothing of a piece
-/// that can't be read by itself.
+/// Files in pieces, or other sources of bytes that are read at any place. In contracts it is how
+/// many pieces there are and, where all bytes are known, what each is: its items, or nothing of a
+/// piece that can't be read by itself.
 #[derive(Drop)]
 pub struct CutFiles<'t, S: ReadAt> {
     layout: &'t Layout,
@@ -140,8 +140,8 @@ fn add_later(
     Ok(())
 }
 
-/// Adds the pieces of one source, of about this size, where its columns can be chosen from the first
-/// of them.
+/// Adds the pieces of one source, of about this size, where its columns can be chosen from the
+/// first of them.
 fn add_source<S: ReadAt>(
     alloc: Global,
     layout: &Layout,
@@ -223,9 +223,9 @@ fn pieces_of<S: ReadAt>(
 
 impl<'t, S: ReadAt> CutFiles<'t, S> {
     /// Cuts files of records with this layout into so many pieces, the last of which may be empty.
-    /// Each gets pieces by its share of all bytes, and at least one; a cut stands before a line feed.
-    /// There is no cut where the files are more than the pieces, where a file's columns aren't found
-    /// in its first piece, or where it can't be read.
+    /// Each gets pieces by its share of all bytes, and at least one; a cut stands before a line
+    /// feed. There is no cut where the files are more than the pieces, where a file's columns
+    /// aren't found in its first piece, or where it can't be read.
     pub fn new(
         alloc: Global,
         layout: &'t Layout,

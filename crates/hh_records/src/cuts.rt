@@ -169,11 +169,12 @@ pub fn ends_outside_quotes(text: &[u8], delimiter: u8) -> bool
     is_open(place)
 }
 
-/// The place behind the first bytes of a text, behind its byte order mark. There is none where these
-/// may be a part of a mark.
+/// The place behind the first bytes of a text, behind its byte order mark. There is none where
+/// these may be a part of a mark.
 fn first_place(bytes: &[u8], delimiter: u8) -> Option<Place>
     ensures { IfSome result (λ place. (rest : List ℕ) → (bytes.now ≡ [] → rest ≡ [])
-        → place_from delimiter place rest ≡ place_behind delimiter (strip_bom (bytes.now ++ rest))) }
+        → place_from delimiter place rest
+        ≡ place_behind delimiter (strip_bom (bytes.now ++ rest))) }
 {
     if !bytes.is_empty() && bytes.len() < 3 && bytes[0] == 0xEF {
         return None;
@@ -182,8 +183,8 @@ fn first_place(bytes: &[u8], delimiter: u8) -> Option<Place>
     Some(place_after(Place::Start, &bytes[mark..], delimiter))
 }
 
-/// Whether what a reader has left is known to end outside quotes, as [`ends_outside_quotes`] tells of
-/// a text. It is read through a buffer; where that fails, nothing is known.
+/// Whether what a reader has left is known to end outside quotes, as [`ends_outside_quotes`] tells
+/// of a text. It is read through a buffer; where that fails, nothing is known.
 pub(crate) fn left_ends_outside<R: Read + Drop>(reader: R, buffer: &mut [u8], delimiter: u8) -> bool
     requires { 0 < length buffer.old }
     ensures { result ≡ true → IfSome (R.remaining reader) (λ bytes.

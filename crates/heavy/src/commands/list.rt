@@ -54,8 +54,8 @@ pub fn list_keys(alloc: Global, file: &[u8]) -> Result<Vec<u8>, ToolError>
     list_rows(alloc, file, 0)
 }
 
-/// [`list_keys`] with so many last digits of each number behind a point. These are the decimals that
-/// the file's records were read with, which it doesn't tell.
+/// [`list_keys`] with so many last digits of each number behind a point. These are the decimals
+/// that the file's records were read with, which it doesn't tell.
 pub fn list_rows(alloc: Global, file: &[u8], decimals: u8) -> Result<Vec<u8>, ToolError>
     ensures rows { IfOk result (λ rows. ListsRows decimals file.now rows.items) }
     ensures refused { IfErr result (λ fault. SummaryRefused file.now fault) }
