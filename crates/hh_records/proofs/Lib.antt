@@ -5,6 +5,7 @@ pub mod DecimalFacts
 pub mod KeptFacts
 pub mod KeyFacts
 pub mod LayoutFacts
+pub mod LineFacts
 pub mod PartFacts
 pub mod OpenFacts
 pub mod PieceFacts

@@ -3,6 +3,7 @@ pub mod Decimals
 pub mod Kept
 pub mod Laws
 pub mod Layouts
+pub mod Lines
 pub mod Pieces
 pub mod Printed
 pub mod Quotes
