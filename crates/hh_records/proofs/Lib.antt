@@ -14,6 +14,7 @@ pub mod QuoteFacts
 pub mod ReadFacts
 pub mod RowFacts
 pub mod ShareFacts
+pub mod SplitFacts
 pub mod TakeFacts
 pub mod TakenFacts
 pub mod TextFacts

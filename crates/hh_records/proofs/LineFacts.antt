@@ -1,18 +1,15 @@
 -- The records of a text without quotes, line by line.
-use Rattle.std.proofs.Common.{◌≡◌, ◌≤◌, ◌<◌, ◌+◌, ◌∷◌, ◌++◌, ◌∙◌, ℕ, suc, zero, List, [], length, map, take, drop, get_or, Bool, true, false, Option, Some, None, refl, sym, ap, arith, append-nil, append_assoc}
-use Rattle.std.specs.Prelude.{◌==◌, ◌&&◌, ◌||◌, not, if◌then◌else◌}
-use Rattle.std.specs.List.{AllByRecursion, filter, onto_first, position_or_len, slice_split}
-use Rattle.std.proofs.lemmas.Bool.{eqb-false, eqb-true, false≢true, ne_eqb}
-use Rattle.csv.specs.Machine.{step, start_field, in_field, after_end, is_end, fields_after, field_after}
-use Rattle.csv.specs.Reading.{records}
+use Rattle.std.proofs.Common.{◌≡◌, ◌∷◌, ◌++◌, ◌∙◌, ℕ, List, [], Bool, true, false, refl, sym, ap, append-nil, append_assoc}
+use Rattle.std.specs.Prelude.{◌==◌, ◌&&◌, not, if◌then◌else◌}
+use Rattle.std.specs.List.{onto_first, slice_split}
+use Rattle.std.proofs.lemmas.Bool.{eqb-true, false≢true}
+use Rattle.csv.specs.Machine.{step, after_end}
 use Rattle.csv.specs.declared.parser.Config.{Config}
 use Rattle.csv.specs.declared.parser.State.{State}
 use Rattle.csv.specs.declared.parser.State.TheVariants as st
-use Rattle.csv.specs.declared.parser.Action.{Action}
-use Rattle.csv.specs.declared.parser.Action.TheVariants as act
 use Rattle.hh_records.specs.Layouts.{delimited}
 use Rattle.hh_records.specs.Laws.{UnquotedTextsAreSplit}
-use Rattle.hh_records.specs.Lines.{IsUnquoted, is_line_end, is_separator, line_fields, line_rows, split_rows}
+use Rattle.hh_records.specs.Lines.{IsUnquoted, is_line_end, is_separator, line_fields, line_rows}
 use Rattle.hh_records.specs.Streams.{Fields}
 use Rattle.hh_records.proofs.CutFacts.{runs, runs-all}
 

@@ -1,5 +1,5 @@
 -- The records of a text without quotes, line by line.
-use Rattle.std.specs.Prelude.{◌≡◌, ◌==◌, ◌||◌, ◌&&◌, ◌+◌, ◌≤◌, ℕ, Bool, true, false, List, [], ◌∷◌, map, not, drop}
+use Rattle.std.specs.Prelude.{◌≡◌, ◌==◌, ◌||◌, ◌&&◌, ◌+◌, ℕ, Bool, true, false, List, [], ◌∷◌, map, not, drop}
 use Rattle.std.specs.List.{AllByRecursion, filter, position_or_len, slice_split}
 use Rattle.csv.specs.Machine.{carriage_return, line_feed}
 use Rattle.hh_records.specs.Streams.{Fields}

@@ -10,6 +10,7 @@ mod decimals;
 mod kept;
 pub mod laws;
 mod layout;
+mod lines;
 mod pieces;
 mod printed;
 mod records;
