@@ -289,7 +289,8 @@ fn with_decimals<'a>(alloc: Global, command: Command<'a>) -> Result<Command<'a>,
     requires { (fields_of command).has_globals ≡ false }
     ensures { IfOk result (λ c. (fields_of c).has_globals ≡ false) }
 {
-    let told = "Print numbers with D digits behind the point, as the records had, from 0 to 9 [default: 0]";
+    let told =
+        "Print numbers with D digits behind the point, as the records had, from 0 to 9 [default: 0]";
     with(command, decimals(alloc, told))
 }
 

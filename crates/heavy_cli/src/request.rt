@@ -7,8 +7,8 @@ ghost use Rattle.heavy_cli.specs.Words.{word_of};
 ghost use Rattle.heavy_cli.specs.Request.{IsAskedBy, IsAskedFrom, NamesTree, all_words, first_word};
 
 use crate::arguments::{
-    ALLOW_ZERO, DECIMALS, DELIMITER, DEPTH, EXPLAIN, HEADER, K, KEY, PIECES, PROGRESS, RECORDS, SEED, SHARE,
-    TOP, WEIGHT, WIDTH, WORKERS, command_line,
+    ALLOW_ZERO, DECIMALS, DELIMITER, DEPTH, EXPLAIN, HEADER, K, KEY, PIECES, PROGRESS, RECORDS,
+    SEED, SHARE, TOP, WEIGHT, WIDTH, WORKERS, command_line,
 };
 use crate::told::{Told, told_of};
 use crate::words::{WordSource, bytes_of, read_words, texts_of};

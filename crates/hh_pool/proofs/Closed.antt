@@ -14,7 +14,7 @@ use Rattle.hh_counters.specs.Report.{weights_at}
 use Rattle.hh_countmin.specs.Table.{at_cell, cell_sum, table_of}
 use Rattle.hh_countmin.specs.Laws.{CellsAreCellSums}
 use Rattle.hh_shared.specs.Tally.{cell_total, sum_at, IsDistinctBelow, HasAllBelow}
-use Rattle.hh_shared.specs.Seats.{Holding}
+use Rattle.hh_shared.specs.Seats.{Holding, Sums}
 use Rattle.hh_pool.specs.Settings.{Settings}
 use Rattle.hh_pool.specs.Passes.{piece_of, summaries_at, AreFirstPasses, AreSecondPasses, HaveTaken}
 use Rattle.hh_pool.proofs.PieceFacts.{sum_by-all_items, weight_of-le, cell_sum-le}
@@ -42,20 +42,22 @@ closed_cells law pieces xs settings seat kept values whole low p distinct all lo
     ∙ exact (cell_sum family width r c xs) (cell_total (r * width + c) seat.adds) all_items
     (omega (arith, cell_sum-le family width r c xs)))
 
--- so with the total of what was taken they are the parts of the whole table
+-- so the closed sums, with the total of what was taken, are the parts of the whole table
 pub closed_table : CellsAreCellSums → (reads : ℕ → Type 0) (pieces : List (List Entry)) (settings : Settings)
-    (seat : Holding) (kept : List (ℕ × SummaryView)) (weight : ℕ) (values : List ℕ)
+    (sums : Sums) (seat : Holding) (kept : List (ℕ × SummaryView)) (weight : ℕ) (values : List ℕ)
     → AreFirstPasses pieces settings seat kept × HaveTaken reads pieces seat.claims weight
-    → HasAllBelow (length pieces) seat.claims → length values ≡ length settings.family.rows * settings.width
-    → ((cell : ℕ) → cell < length settings.family.rows * settings.width → get_or values cell 0 ≡ sum_at seat.adds cell)
+    → sums.claims ≡ length pieces → sums.cells ≡ length settings.family.rows * settings.width
+    → HasAllBelow sums.claims seat.claims → length values ≡ sums.cells
+    → ((cell : ℕ) → cell < sums.cells → get_or values cell 0 ≡ sum_at seat.adds cell)
     → (weight ≡ total_of (whole_of pieces))
     × (values ≡ (table_of settings.family settings.width (whole_of pieces)).cells)
-closed_table law reads pieces settings seat kept weight values (p, taken) all long each =
+closed_table law reads pieces settings sums seat kept weight values (p, taken) count cells all long each =
+    let every = subst (λ n. HasAllBelow n seat.claims) count all in
     let total : weight ≡ total_of (whole_of pieces) =
-    taken.total ∙ sum_by-all_items (λ (e : Entry). e.1) pieces seat.claims taken.distinct all in (
+    taken.total ∙ sum_by-all_items (λ (e : Entry). e.1) pieces seat.claims taken.distinct every in (
       total,
       closed_cells law pieces (whole_of pieces) settings seat kept values refl (omega (arith, total, taken.bounded)) p
-          taken.distinct all long each,
+          taken.distinct every (long ∙ cells) (λ cell inside. each cell (omega (arith, inside, cells))),
     )
 
 -- the closed sums of the second pass are the candidates' weights

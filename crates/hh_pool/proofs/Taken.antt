@@ -1,10 +1,8 @@
 -- What takers have taken of a list of items.
-use Rattle.std.proofs.Common.{◌≡◌, ◌+◌, ◌<◌, ◌≤◌, ◌++◌, ◌∷◌, ◌∙◌, ℕ, List, [], refl, sym, ap, arith, fold, append_assoc, min, ⊎_elim}
+use Rattle.std.proofs.Common.{◌≡◌, ◌+◌, ◌++◌, ◌∷◌, ◌∙◌, ℕ, List, [], refl, sym, ap, arith, fold, append_assoc}
 use Rattle.std.proofs.lemmas.List.{append-nil}
 use Rattle.std.proofs.lemmas.List.Sums.{sum_by-append}
-use Rattle.std.proofs.lemmas.Bool.{cases_lt}
-use Rattle.std.proofs.Math.Nat.{min-le_left, min-eq_left, min-eq_right}
-use Rattle.hh_stream.specs.Weights.{Bytes, Entry, max_total, total_of}
+use Rattle.hh_stream.specs.Weights.{Bytes, Entry, total_of}
 use Rattle.hh_counters.specs.Counting.{Count, count_with}
 use Rattle.hh_counters.specs.Report.{weights_at}
 use Rattle.hh_counters.specs.SpaceSaving.{monitor_with}
@@ -60,17 +58,3 @@ counted_on ks xs piece counts more p e =
     total-on : (n : ℕ) (ys : List Entry) (y : Entry)
         → n + total_of ys + total_of (y ∷ []) ≡ n + total_of (ys ++ y ∷ [])
     total-on n ys y = omega (arith, sum_by-append (λ (e : Entry). e.1) ys (y ∷ []))
-
--- a sum that is cut off at 2^64 - 1 tells whether it is above the largest total
-pub above : (n m : ℕ) → m ≡ min n 18446744073709551615 → max_total < m → max_total < n
-above n m e high = omega (arith, e, high, min-le_left n 18446744073709551615)
-
--- and where it isn't, it is the sum
-pub exact_below : (n m : ℕ) → m ≡ min n 18446744073709551615 → m ≤ max_total → m ≡ n
-exact_below n m e low = ⊎_elim
-    (λ (small : n < 18446744073709551616). e ∙ min-eq_left (omega (arith, small)))
-    (λ (large : 18446744073709551616 ≤ n). absurd (omega (arith, e, low, min-eq_right (large-enough n large))))
-    (cases_lt n 18446744073709551616)
-  where
-    large-enough : (n : ℕ) → 18446744073709551616 ≤ n → 18446744073709551615 ≤ n
-    large-enough n h = omega (arith, h)

@@ -1,7 +1,7 @@
 //! The first pass: each piece is summarised, and its items are added to the cells of one table.
 
 ghost use Rattle.std.specs.Prelude.{◌≡◌, ◌+◌, ◌*◌, ◌<◌, ◌≤◌, ◌++◌, ◌⊎◌};
-ghost use Rattle.std.specs.Prelude.{[], ℕ, List, length, map, max, sum, IfOk, IsErrOf, OnOk};
+ghost use Rattle.std.specs.Prelude.{[], ℕ, List, length, map, max, sum, IfOk, IsErr, IsErrOf, OnOk};
 ghost use Rattle.hh_stream.specs.Weights.{max_total, Entry, total_of};
 ghost use Rattle.hh_stream.specs.Cuttings.{pieces_of, whole_of};
 ghost use Rattle.hh_counters.specs.Counters.{sketch_of};
@@ -108,6 +108,18 @@ impl TakeItems for Sketches {
 struct Made {
     summaries: Vec<(usize, Summary)>,
     table: Table,
+}
+
+/// The sum of two workers' totals, which is refused where it is too large.
+fn sum_of_totals(one: u64, other: u64) -> Result<u64, PieceFault>
+    ensures sum { IfOk result (λ total. total ≡ one + other) }
+    ensures within { IfOk result (λ total. total ≤ max_total) }
+    ensures refused { IsErr result → max_total < one + other }
+{
+    match one.checked_add(other) {
+        Some(total) if total <= MAX_TOTAL => Ok(total),
+        _ => Err(PieceFault::Refused),
+    }
 }
 
 /// What workers hand over: the summaries of their pieces, each with its piece's number, and the
@@ -295,12 +307,8 @@ impl<'a, P: Pieces, G: Gate> Pass for FirstPass<'a, P, G> {
         mut one: Summarised,
         mut other: Summarised,
     ) -> Result<Summarised, PieceFault> {
-        let total = one.total.saturating_add(other.total);
-        if total > MAX_TOTAL {
-            return Err(PieceFault::Refused);
-        }
+        one.total = sum_of_totals(one.total, other.total)?;
         one.summaries.append(&mut other.summaries)?;
-        one.total = total;
         Ok(one)
     }
 }

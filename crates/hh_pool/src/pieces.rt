@@ -32,7 +32,7 @@ impl From<AllocError> for PieceFault {
     }
 }
 
-/// The same, where only memory was refused.
+/// What was given, where nothing but memory can have been refused.
 pub(crate) fn only_memory<T>(given: Result<T, PieceFault>) -> Result<T, AllocError>
     requires { ¬ IsErrOf given PieceFault.Refused }
     ensures { IfOk result (λ value. given ≡ Ok value) }

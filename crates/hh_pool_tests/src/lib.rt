@@ -12,3 +12,5 @@ mod meetings;
 mod passes;
 #[cfg(test)]
 mod plans;
+#[cfg(test)]
+mod refusals;

@@ -1,6 +1,6 @@
 -- Digits behind a point, written and read.
 use Rattle.std.proofs.Common.{◌≡◌, ◌<◌, ◌≤◌, ◌+◌, ◌-◌, ◌*◌, ◌^◌, ◌∷◌, ◌++◌, ◌∙◌, ℕ, zero, suc, Bool, true, false, List, [], length, take, drop, Option, Some, None, inl, inr, refl, sym, ap, arith}
-use Rattle.std.specs.Prelude.{◌==◌, ◌&&◌, ◌||◌, ◌/◌, ◌%◌, fold, min, nat_le, not, option_map, if◌then◌else◌}
+use Rattle.std.specs.Prelude.{◌==◌, ◌&&◌, ◌/◌, ◌%◌, fold, min, nat_le, not, option_map, MatchOption, if◌then◌else◌}
 use Rattle.std.specs.Fmt.{decimal}
 use Rattle.std.specs.List.{list_all}
 use Rattle.std.proofs.lemmas.Bool.{and_right, ne_eqb, or_right}
@@ -11,7 +11,7 @@ use Rattle.std.proofs.Math.Seq.{drop-append-add, take-append_seam}
 use Rattle.std.proofs.lemmas.Fmt.{decimal_digit}
 use Rattle.hh_stream.specs.Weights.{max_total}
 use Rattle.hh_stream.specs.Digits.{is_digit, is_number, value_of}
-use Rattle.hh_records.specs.Decimals.{is_whole, last_digits, point_from, pointed, units_at, units_of}
+use Rattle.hh_records.specs.Decimals.{is_whole, last_digits, point_from, units_at, units_of}
 use Rattle.hh_records.specs.Laws.{PrintedNumbersAreRead}
 use Rattle.hh_records.specs.Streams.{weight_of}
 use Rattle.hh_records.proofs.TextFacts.{written}
@@ -115,6 +115,13 @@ pub units-number : (d limit whole : ℕ) (f : List ℕ) → is_number 20 f ≡ t
     → ◌≡◌ {A = Option ℕ} (Some (min (whole * 10 ^ d) limit)) (option_map (λ u. min u limit) (units_of d (Some f)))
 units-number d limit whole f digits is =
     rw (number-no-point 20 f digits, digits, is) (ap Some (cut-scaled (value_of f) (10 ^ d) limit (ten-some d)))
+
+-- digits alone, where no point may come
+pub units-none : (limit : ℕ) (f : List ℕ) (r : Option ℕ)
+    → MatchOption r (is_number 20 f ≡ false) (λ n. (is_number 20 f ≡ true) × (n ≡ min (value_of f) limit))
+    → r ≡ option_map (λ u. min u limit) (units_of 0 (Some f))
+units-none limit f None h = rw (units-whole f, h) refl
+units-none limit f (Some n) h = rw (units-whole f, h.0, h.1) refl
 
 -- digits before a point and behind it
 pub units-pointed : (d limit i whole behind : ℕ) (f : List ℕ) → point_from 0 f ≡ Some i

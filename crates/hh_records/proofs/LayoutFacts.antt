@@ -94,15 +94,6 @@ parts-many r is w k f n e g =
     by (Some (f ∷ [])) e = absurd (n (sym (every-length (field_at r) is (f ∷ []) e)))
     by (Some (f ∷ g ∷ fs)) e = refl
 
-pub parts-many-none : (r : Fields) (is : List ℕ) (w : Option ℕ)
-    → None ≡ option_map (row_body default_writer) (fields_at r is) → parts_at (Some (is, w)) r ≡ None
-parts-many-none r is w e = by (fields_at r is) e
-  where
-    by : (o : Option Fields) → None ≡ option_map (row_body default_writer) o
-        → option_zip (option_map key_of o) (weight_at r w) ≡ None
-    by None e = refl
-    by (Some fs) e = cc e
-
 -- a record's key of one field, and its weight's field
 pub parts-one : (r : Fields) (is : List ℕ) (w : Option ℕ) (i : ℕ) (k : List ℕ) (f : Option (List ℕ)) → length is ≡ 1
     → i ≡ get_or is 0 i → Some k ≡ field_at r i → Some f ≡ weight_at r w → parts_at (Some (is, w)) r ≡ Some (k, f)
@@ -117,15 +108,6 @@ unfolding every
 parts-one-none r [] w i one at e = absurd (omega (arith, one))
 parts-one-none r (j ∷ []) w i one at e = rw (← at, ← e) refl
 parts-one-none r (j ∷ l ∷ is) w i one at e = absurd (omega (arith, one))
-
--- no field for the weight
-pub parts-no-weight : (r : Fields) (is : List ℕ) (w : Option ℕ) → None ≡ weight_at r w
-    → parts_at (Some (is, w)) r ≡ None
-parts-no-weight r is w e = rw (← e) (by (option_map key_of (fields_at r is)))
-  where
-    by : (o : Option (List ℕ)) → option_zip {U = Option (List ℕ)} o None ≡ None
-    by None = refl
-    by (Some k) = refl
 
 -- ---- the columns of a header
 -- a field that is there stands first in what begins with it

@@ -46,9 +46,9 @@ fn whole_in(digits: &[u8]) -> Option<u64>
     number_in(digits, 20)
 }
 
-/// The number that a field writes with digits behind a point, in units of the last of so many
-/// digits, at most the largest `u64`.
-pub(crate) fn units_in(field: &[u8], decimals: u8) -> Option<u64>
+/// The number that a field writes, which may have digits behind a point, in units of the last of so
+/// many digits, at most the largest `u64`.
+fn pointed_in(field: &[u8], decimals: u8) -> Option<u64>
     ensures { result ≡ option_map (λ units. min units u64.MAX)
         (units_of decimals (Some field.now)) }
 {
@@ -61,6 +61,17 @@ pub(crate) fn units_in(field: &[u8], decimals: u8) -> Option<u64>
     let units = number_in(behind, decimals as usize)?;
     let missing = decimals - behind.len() as u8;
     Some(scaled(whole, decimals).saturating_add(scaled(units, missing)))
+}
+
+/// The same. Where no digit may stand behind a point there is none.
+pub(crate) fn units_in(field: &[u8], decimals: u8) -> Option<u64>
+    ensures { result ≡ option_map (λ units. min units u64.MAX)
+        (units_of decimals (Some field.now)) }
+{
+    if decimals == 0 {
+        return number_in(field, 20);
+    }
+    pointed_in(field, decimals)
 }
 
 /// A number without so many of its last digits.

@@ -28,7 +28,13 @@ fn entries_text(
     prove!(summary.sum() <= summary.total());
     let mut writer = WriterBuilder::new().from_writer(Vec::new(alloc));
     for (key, counter) in entries {
-        write_bounds(alloc, &mut writer, key, (*counter, *counter + slack), decimals)?;
+        write_bounds(
+            alloc,
+            &mut writer,
+            key,
+            (*counter, *counter + slack),
+            decimals,
+        )?;
     }
     writer.into_inner().map_err(|_| AllocError)
 }

@@ -1,4 +1,4 @@
-use Rattle.std.proofs.Common.{◌≡◌, ◌+◌, ◌-◌, ◌++◌, ◌^◌, ◌∷◌, ◌∙◌, [], suc, append-nil, append_assoc, ap, arith, sym}
+use Rattle.std.proofs.Common.{◌≡◌, ◌+◌, ◌-◌, ◌^◌, ◌∷◌, ◌∙◌, [], suc, append-nil, append_assoc, arith, sym}
 use Rattle.std.specs.Prelude.{◌/◌, ◌%◌}
 use Rattle.hh_records.specs.Decimals.{last_digits}
 use Rattle.hh_records.proofs.decimals.pointed.Goals as goal

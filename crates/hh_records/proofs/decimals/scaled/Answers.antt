@@ -1,4 +1,4 @@
-use Rattle.std.proofs.Common.{◌≡◌, ◌*◌, ◌∙◌, ap, min}
+use Rattle.std.proofs.Common.{◌*◌, ◌∙◌, ap, min}
 use Rattle.hh_records.proofs.DecimalFacts.{cut-more}
 use Rattle.hh_records.proofs.decimals.scaled.Goals as goal
 

@@ -1,0 +1,90 @@
+//! Pieces that are refused.
+
+ghost use Rattle.std.specs.Prelude.{◌≡◌, ◌≢◌};
+
+use crate::fixtures::{four_items, is_of_four_items, options};
+use hh_pool::{
+    CutStream, OpenGate, Outcome, PieceFault, Pieces, PiecesError, Plan, analyse_pieces,
+};
+use hh_stream::{Cutting, TakeItems};
+use std::alloc::Global;
+use std::process::Abort;
+use std::sync::Wait;
+use std::test::Fail;
+use std::thread::Threads;
+
+// The pieces of a stream, of which the one with this number is refused.
+#[derive(Drop)]
+struct Torn<'a> {
+    pieces: CutStream<'a>,
+    at: usize,
+}
+
+impl<'a> Pieces for Torn<'a> {
+    ghost pieces = { λ torn. torn.pieces };
+
+    ghost reads = { λ torn piece. piece ≢ torn.at };
+
+    ghost refuses = { λ torn piece. piece ≡ torn.at };
+
+    fn count(&self) -> usize {
+        self.pieces.count()
+    }
+
+    fn feed<T: TakeItems>(
+        &self,
+        alloc: Global,
+        piece: usize,
+        taker: &mut T,
+    ) -> Result<(), PieceFault> {
+        if piece == self.at {
+            return Err(PieceFault::Refused);
+        }
+        self.pieces.feed(alloc, piece, taker)
+    }
+}
+
+// What becomes of the four items in four pieces, of which this one is refused.
+fn outcome_torn_at<R: Threads + Wait + Abort + Sync>(
+    rt: &R,
+    alloc: Global,
+    at: usize,
+    workers: u64,
+) -> Result<Result<Outcome, PiecesError>, Fail> {
+    let stream = four_items(alloc)?;
+    let cutting = Cutting::even(alloc, stream.len(), 4)?;
+    assert_eq!(rt; cutting.len(), stream.len());
+    let pieces = Torn {
+        pieces: CutStream::new(&stream, &cutting),
+        at,
+    };
+    let plan = Plan::balanced(alloc, 4)?;
+    let options = options(alloc, 2, workers)?;
+    Ok(analyse_pieces(rt, alloc, &pieces, &plan, &options, &OpenGate))
+}
+
+#[test]
+fn torn_piece_is_refused(rt: HostRuntime) -> Result<(), Fail> {
+    let alloc = rt.alloc();
+    for (at, workers) in [(0, 1), (3, 1), (0, 2), (3, 2), (2, 7)] {
+        let outcome = outcome_torn_at(&rt, alloc, at, workers)?;
+        assert_eq!(rt;
+            outcome.err(),
+            Some(PiecesError::Refused),
+            "piece {at}, {workers} workers"
+        );
+    }
+    Ok(())
+}
+
+#[test]
+fn pieces_that_are_whole_are_analysed(rt: HostRuntime) -> Result<(), Fail> {
+    let alloc = rt.alloc();
+    for workers in [1, 2, 7] {
+        let Ok(outcome) = outcome_torn_at(&rt, alloc, 4, workers)? else {
+            panic!(rt; "{workers} workers");
+        };
+        assert!(rt; is_of_four_items(alloc, &outcome)?, "{workers} workers");
+    }
+    Ok(())
+}
