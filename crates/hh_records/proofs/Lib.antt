@@ -18,3 +18,6 @@ pub mod SplitFacts
 pub mod TakeFacts
 pub mod TakenFacts
 pub mod TextFacts
+pub mod StartFacts
+pub mod SpanFacts
+pub mod FileFacts

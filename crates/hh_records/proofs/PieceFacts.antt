@@ -144,6 +144,24 @@ module _ (layout : Layout) (columns : Option Places) (bytes : List ℕ) where
       ap (option_map (items_after layout 1 0)) e
       ∙ ap Some (items-move layout 1 1 t 0 ps xs h (omega (arith, l)))
 
+-- the same of a reader's bytes, where they are known
+module _ (layout : Layout) (columns : Option Places) where
+  pub left-none : (bytes : Option (List ℕ))
+      → IfSome (option_map (piece_parts layout columns) bytes)
+      (λ known. (ps : List Parts) × (◌≡◌ {A = Option (List Parts)} (Some []) (Some ps)) × (known ≡ Some ps))
+      → IfSome bytes (λ bytes. piece_reading layout columns bytes ≡ Some (Ok []))
+  left-none None h = tt
+  left-none (Some bytes) (ps, left, e) = piece-none layout columns bytes ps left e
+
+  pub left-some : (t before after : ℕ) (xs : List Entry) (bytes : Option (List ℕ)) (left : Option (List Parts))
+      → IfSome (option_map (piece_parts layout columns) bytes)
+      (λ known. (ps : List Parts) × (left ≡ Some ps) × (known ≡ Some ps))
+      → IfSome left (λ ps. (items_after layout 1 t ps ≡ Ok xs) × (after ≡ before + length ps))
+      → total_of xs ≤ max_total → IfSome bytes (λ bytes. piece_reading layout columns bytes ≡ Some (Ok xs))
+  left-some t before after xs None left h items l = tt
+  left-some t before after xs (Some bytes) left (ps, is, e) items l =
+      let added = rw is at items in piece-some layout columns bytes t xs ps e added.0 l
+
 -- ---- the columns of a header
 module _ {R : Type 0} (remaining : R → Option (List ℕ)) (layout : Layout) (headed : layout.has_header ≡ true)
     (a b : Reader (Retrying R)) (f : Fields) (start : IsStart layout a) where

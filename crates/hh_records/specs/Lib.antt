@@ -1,5 +1,7 @@
+pub mod CutFiles
 pub mod CutTexts
 pub mod Decimals
+pub mod Files
 pub mod Kept
 pub mod Laws
 pub mod Layouts

@@ -15,9 +15,13 @@ place_next d place.Field c = plain_after d c
 place_next d place.Quoted c = if c == 34 then place.Left else place.Quoted
 place_next d place.Left c = if c == 34 then place.Quoted else plain_after d c
 
+-- the place behind these bytes, where they stand behind a place
+abbrev pub place_from : ℕ → Place → List ℕ → Place
+place_from d p bytes = fold (place_next d) p bytes
+
 -- the place behind these bytes
 abbrev pub place_behind : ℕ → List ℕ → Place
-place_behind d bytes = fold (place_next d) place.Start bytes
+place_behind d bytes = place_from d place.Start bytes
 
 -- whether a line feed ends a record here
 abbrev pub is_open : Place → Bool

@@ -51,7 +51,7 @@ pub enum PieceFault {
 }
 
 // The fewest bytes of a piece, but of a text's last.
-const LEAST_LEN: usize = 65_536;
+pub(crate) const LEAST_LEN: usize = 65_536;
 
 /// Adds the later pieces of a text with these columns.
 fn add_later<'t>(

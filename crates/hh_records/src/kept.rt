@@ -94,10 +94,10 @@ impl<R: Read + Drop> KeptText<R> {
 }
 
 // How many bytes are read at once.
-const READ_LEN: usize = 65_536;
+pub(crate) const READ_LEN: usize = 65_536;
 
 /// So many zeros.
-fn zeros(alloc: Global, len: usize) -> Result<Vec<u8>, AllocError>
+pub(crate) fn zeros(alloc: Global, len: usize) -> Result<Vec<u8>, AllocError>
     ensures { IfOk result (λ zeros. length zeros.items ≡ len) }
 {
     vec![in alloc; 0u8; len]

@@ -4,6 +4,7 @@
 //! `hh_` is heavy hitters, the frequent keys.
 #![tactic(auto)]
 
+mod cut_files;
 mod cut_texts;
 mod cuts;
 mod decimals;
@@ -13,6 +14,7 @@ mod layout;
 mod lines;
 mod pieces;
 mod printed;
+mod read_at;
 mod records;
 mod retrying;
 mod rows;
@@ -20,6 +22,7 @@ mod sink;
 mod texts;
 mod threshold;
 
+pub use cut_files::CutFiles;
 pub use cut_texts::{CutTexts, PieceFault};
 pub use cuts::{cut_text, ends_outside_quotes, whole_records};
 pub use decimals::pointed;
@@ -29,6 +32,7 @@ pub use kept::{KeptReader, KeptText, Rest, keep_records, read_again, whole_texts
 pub use layout::{Column, Layout, column_of, delimiter_of};
 pub use pieces::{Columns, read_piece};
 pub use printed::{RowOptions, printed_text, write_printed};
+pub use read_at::{ReadAt, Source};
 pub use records::{BadRecordCause, ReadError, read_items, read_stream};
 pub use rows::{ReportFault, condensed_rows_text, condensed_text, report_text, write_report};
 pub use sink::{Out, Sink, SinkFault, WriteFault, put};

@@ -1,7 +1,7 @@
 //! Pieces of a text of records, each of which is read by itself.
 
 ghost use Rattle.std.specs.Bool.{OnTrue};
-ghost use Rattle.std.specs.Prelude.{◌≡◌, ◌≤◌, ℕ, List, Ok, Some, true, map, IfOk, IfErr, IfSome, OnOk, option_map};
+ghost use Rattle.std.specs.Prelude.{◌≡◌, ◌≤◌, ℕ, List, Ok, Some, true, map, IfOk, IfErr, IfSome, OnOk, option_and_then, option_map};
 ghost use Rattle.hh_stream.specs.Weights.{max_total};
 ghost use Rattle.hh_records.specs.Layouts.{IsText, OpenRefused, Opens, Places, TakesAdded, chosen_places};
 ghost use Rattle.hh_records.specs.Layouts.{names_columns, parts_left, text_parts};
@@ -19,6 +19,7 @@ use crate::texts::{Text, TextError, open};
 use csv::ReaderBuilder;
 use hh_stream::TakeItems;
 use std::alloc::{AllocError, Global};
+use std::io::Read;
 use std::marker::Model;
 
 /// The columns that a layout chooses in a text, by its header where it has one.
@@ -57,6 +58,21 @@ impl Columns {
             OpenRefused (names_columns layout.now)
             (Some (text_parts layout.now first.now)) error) }
     {
+        Columns::of_reader(alloc, layout, first)
+    }
+
+    // The same of what a reader has left.
+    pub(crate) fn of_reader<R: Read + Drop>(
+        alloc: Global,
+        layout: &Layout,
+        first: R,
+    ) -> Result<Option<Columns>, TextError>
+        ensures columns { IfOk result (λ columns. IfSome (R.remaining first) (λ bytes.
+            FindsColumns layout.now (rows_in layout.now bytes) columns)) }
+        ensures refused { IfErr result (λ error.
+            OpenRefused (names_columns layout.now)
+            (option_map (text_parts layout.now) (R.remaining first)) error) }
+    {
         match open(alloc, first, layout)? {
             None => Ok(None),
             Some(text) => {
@@ -81,15 +97,15 @@ fn copy_of(alloc: Global, chosen: &Option<Chosen>) -> Result<Option<Chosen>, All
 }
 
 /// A later piece of a text, whose records are to be read by the columns of the text.
-fn open_later<'t>(
+fn open_later<R: Read + Drop>(
     alloc: Global,
     layout: &Layout,
     columns: &Columns,
-    piece: &'t [u8],
-) -> Result<Text<&'t [u8]>, AllocError>
+    piece: R,
+) -> Result<Text<R>, AllocError>
     ensures text { IfOk result IsText }
-    ensures opened { IfOk result (λ text. parts_left (λ r. Some r.now) text
-        ≡ piece_parts layout.now (Some columns.now) piece.now) }
+    ensures opened { IfOk result (λ text. parts_left R.remaining text
+        ≡ option_and_then (piece_parts layout.now (Some columns.now)) (R.remaining piece)) }
 {
     let chosen = copy_of(alloc, &columns.chosen)?;
     let rows = ReaderBuilder::new()
@@ -101,18 +117,19 @@ fn open_later<'t>(
 }
 
 /// A piece of a text whose records are to be read: the first one, with no columns, as a text.
-fn open_piece<'t>(
+fn open_piece<R: Read + Drop>(
     alloc: Global,
     layout: &Layout,
     columns: Option<&Columns>,
-    piece: &'t [u8],
-) -> Result<Option<Text<&'t [u8]>>, TextError>
+    piece: R,
+) -> Result<Option<Text<R>>, TextError>
     ensures text { IfOk result (λ text. IfSome text IsText) }
-    ensures opened { IfOk result (Opens (λ r. Some r.now)
-        (Some (piece_parts layout.now (option_map (λ c. c.now) columns.entry) piece.now))) }
+    ensures opened { IfOk result (Opens R.remaining
+        (option_map (piece_parts layout.now (option_map (λ c. c.now) columns.entry))
+        (R.remaining piece))) }
     ensures refused { IfErr result (λ error. OpenRefused (names_columns layout.now)
-        (Some (piece_parts layout.now (option_map (λ c. c.now) columns.entry) piece.now))
-        error) }
+        (option_map (piece_parts layout.now (option_map (λ c. c.now) columns.entry))
+        (R.remaining piece)) error) }
 {
     let Some(columns) = columns else {
         return open(alloc, piece, layout);
@@ -182,6 +199,29 @@ pub fn read_piece<T: TakeItems>(
             Err(error) => Err(TextError::from(error)),
         };
     }
+    read_left(alloc, layout, columns, piece, taker)
+}
+
+/// The same of what a reader has left.
+pub(crate) fn read_left<R: Read + Drop, T: TakeItems>(
+    alloc: Global,
+    layout: &Layout,
+    columns: Option<&Columns>,
+    piece: R,
+    taker: &mut T,
+) -> Result<(), TextError>
+    ensures items { OnOk result
+        (TakesAdded T.with_item T.weight_taken taker.old taker.new (λ xs.
+        IfSome (R.remaining piece) (λ bytes.
+        piece_reading layout.now (option_map (λ c. c.now) columns.entry) bytes
+        ≡ Some (Ok xs)))) }
+    ensures bounded { OnOk result (T.weight_taken taker.new ≤ max_total) }
+    ensures refused { IfErr result (λ error. IfSome (R.remaining piece) (λ bytes.
+        PieceRefused layout.now (option_map (λ c. c.now) columns.entry) bytes
+        (T.weight_taken taker.old) error)) }
+{
+    // What was taken before is in range, as this call's clause says.
+    let _ = taker.total();
     let Some(text) = open_piece(alloc, layout, columns, piece)? else {
         return Ok(());
     };

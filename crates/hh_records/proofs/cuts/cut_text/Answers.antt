@@ -1,41 +1,10 @@
-use Rattle.std.proofs.Common.{◌≡◌, ◌<◌, ◌+◌, ◌/◌, ◌++◌, ◌∷◌, ◌∙◌, ◌==◌, ℕ, suc, zero, List, [], length, map, take, drop, get_or, true, sym, ap, arith, append_assoc, append-nil, length-append, length-drop}
-use Rattle.std.specs.List.{AllByRecursion}
-use Rattle.std.proofs.lemmas.Bool.{eq-eqb, eqb-true, false≢true}
-use Rattle.std.proofs.lemmas.Grind.{flat_map-append}
-use Rattle.std.proofs.lemmas.List.{get_or-drop, map_push, take-append-drop}
-use Rattle.hh_stream.specs.Cuttings.{whole_of}
-use Rattle.hh_records.specs.Pieces.{LaterBeginWithFeed, begins_with_feed}
+use Rattle.std.proofs.Common.{◌≡◌, ◌<◌, ◌+◌, ◌/◌, ◌++◌, ◌∷◌, ◌∙◌, ◌==◌, ℕ, List, [], length, map, drop, get_or, true, sym, ap, arith, length-append, length-drop}
+use Rattle.std.proofs.lemmas.Bool.{eq-eqb, eqb-true}
+use Rattle.std.proofs.lemmas.List.{get_or-drop, map_push}
 use Rattle.hh_records.proofs.PlaceFacts.{line-drop}
 use Rattle.hh_records.proofs.QuoteFacts.{rest-all}
+use Rattle.hh_records.proofs.SpanFacts.{Begins, later-cut, whole-cut}
 use Rattle.hh_records.proofs.cuts.cut_text.Goals as goal
-
--- the pieces so far and the rest, of which one piece more is cut off
-whole-cut : (pieces : List (List ℕ)) (rest : List ℕ) (k : ℕ)
-    → whole_of (pieces ++ take k rest ∷ []) ++ drop k rest ≡ whole_of pieces ++ rest
-whole-cut pieces rest k =
-    ap (λ (xs : List ℕ). xs ++ drop k rest) (flat_map-append (λ (xs : List ℕ). xs) pieces (take k rest ∷ [])
-    ∙ ap (λ (xs : List ℕ). whole_of pieces ++ xs) (append-nil (take k rest)))
-    ∙ append_assoc (whole_of pieces) (take k rest) (drop k rest)
-    ∙ ap (λ (xs : List ℕ). whole_of pieces ++ xs) (take-append-drop k rest)
-
-abbrev Begins : List ℕ → Type 0
-Begins p = begins_with_feed p ≡ true
-
-take-begins : (rest : List ℕ) (k : ℕ) → 0 < k → Begins rest → Begins (take k rest)
-take-begins [] k some h = absurd (false≢true h)
-take-begins (c ∷ rest) zero some h = absurd (omega (arith, some))
-take-begins (c ∷ rest) (suc k) some h = h
-
-all-cut : (pieces : List (List ℕ)) (rest : List ℕ) (k : ℕ) → 0 < k → Begins (drop k rest)
-    → AllByRecursion Begins (pieces ++ rest ∷ [])
-    → AllByRecursion Begins ((pieces ++ take k rest ∷ []) ++ drop k rest ∷ [])
-all-cut [] rest k some here h = (take-begins rest k some h.0, (here, tt))
-all-cut (p ∷ pieces) rest k some here h = (h.0, all-cut pieces rest k some here h.1)
-
-later-cut : (pieces : List (List ℕ)) (rest : List ℕ) (k : ℕ) → 0 < k → Begins (drop k rest)
-    → LaterBeginWithFeed (pieces ++ rest ∷ []) → LaterBeginWithFeed ((pieces ++ take k rest ∷ []) ++ drop k rest ∷ [])
-later-cut [] rest k some here h = (here, tt)
-later-cut (p ∷ pieces) rest k some here h = all-cut pieces rest k some here h
 
 -- a line feed so far behind a place
 feed-here : (rest : List ℕ) (from after : ℕ) → from + after < length rest
