@@ -256,6 +256,23 @@ def some_text(draw: Random, layout: Layout, names: list[bytes]) -> bytes:
     return bytes(data).replace(b"\0", b"n")
 
 
+def some_unquoted_text(draw: Random, delimiter: bytes | None) -> bytes:
+    """A text of keys and weights with no quote, which is read line by line."""
+    try:
+        byte = delimiter_of(delimiter).encode("latin-1")
+    except reference.Refused:
+        byte = b","
+    parts = [MARK] if draw.random() < 0.2 else []
+    for _ in range(draw.randrange(12)):
+        count = draw.choice([1, 2, 2, 2]) if draw.random() < 0.98 else draw.choice([0, 3, 4])
+        row = [draw.choice(KEYS) if draw.random() < 0.95 else draw.choice(OTHER_KEYS)]
+        row += [draw.choice(WEIGHTS) if draw.random() < 0.97 else draw.choice(OTHER_WEIGHTS) for _ in range(count - 1)]
+        parts += [byte.join(row) if count else b"", draw.choice(ENDS) * draw.choice([1] * 6 + [2, 3])]
+    if draw.random() < 0.5:
+        parts = parts[:-1]
+    return b"".join(parts).replace(b'"', b"").replace(b"\0", b"n")
+
+
 def some_column(draw: Random, has_header: bool, names: list[bytes]) -> bytes:
     if draw.random() < 0.02:
         return draw.choice(OTHER_COLUMNS)
@@ -322,6 +339,9 @@ def case(draw: Random) -> hostile.Case:
     names = [draw.choice(NAMES) for _ in range(draw.randrange(1, 6))]
     layout = some_layout(draw, names)
     texts = [some_text(draw, layout, names) for _ in range(draw.choice([1, 1, 2, 2, 3, 5]))]
+    if draw.random() < 0.3:
+        layout = Layout(layout.delimiter, False, allow_zero=layout.allow_zero, decimals=layout.decimals)
+        texts = [some_unquoted_text(draw, layout.delimiter) for _ in texts]
     files, read, given = some_files(draw, texts)
     kind, k = draw.randrange(6), draw.choice([1, 2, 3, 9, 65535])
     records = Records(layout, dict(enumerate(read, 2 if kind in (1, 2) else 1)))

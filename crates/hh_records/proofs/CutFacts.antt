@@ -16,7 +16,7 @@ use Rattle.hh_records.specs.Laws.{FeedsOutsideQuotesAreCuts, PiecesHaveTheRecord
 use Rattle.hh_records.specs.Pieces.{IsCut, begins_with_feed, ends_outside, is_outside, state_behind}
 
 -- ---- all records of a text, with no bound on their number
-runs : Config → State → Fields → List ℕ → List ℕ → List Fields
+unfoldable pub runs : Config → State → Fields → List ℕ → List ℕ → List Fields
 runs cfg s f p [] = if ends_at_end s then (f ++ (p ∷ [])) ∷ [] else []
 runs cfg s f p (c ∷ rest) =
     if is_end (step cfg s c).1 then fields_after (step cfg s c).1 f p ∷ runs cfg (step cfg s c).0 [] [] rest
@@ -51,7 +51,7 @@ runs-next cfg s f p (c ∷ rest) (suc n) l =
     by true g next more new on = ap (λ (rs : List Fields). g ∷ rs) new
     by false g next more new on = on
 
-runs-all : (cfg : Config) (xs : List ℕ) → records cfg xs ≡ runs cfg st.StartRecord [] [] xs
+pub runs-all : (cfg : Config) (xs : List ℕ) → records cfg xs ≡ runs cfg st.StartRecord [] [] xs
 unfolding records_from
 runs-all cfg xs =
     let one : length xs + 1 ≡ suc (length xs) = omega arith in

@@ -5,6 +5,7 @@ pub mod DecimalFacts
 pub mod KeptFacts
 pub mod KeyFacts
 pub mod LayoutFacts
+pub mod LineFacts
 pub mod PartFacts
 pub mod OpenFacts
 pub mod PieceFacts
@@ -13,6 +14,7 @@ pub mod QuoteFacts
 pub mod ReadFacts
 pub mod RowFacts
 pub mod ShareFacts
+pub mod SplitFacts
 pub mod TakeFacts
 pub mod TakenFacts
 pub mod TextFacts

@@ -8,6 +8,7 @@ use Rattle.hh_counters.specs.Counters.{SummaryView, max_k}
 use Rattle.hh_counters.specs.Condensed.{condensed}
 use Rattle.hh_records.specs.Decimals.{pointed, units_of}
 use Rattle.hh_records.specs.Layouts.{IsPlain, delimited, key_of, stream_with}
+use Rattle.hh_records.specs.Lines.{IsUnquoted, is_separator, split_rows}
 use Rattle.hh_records.specs.Pieces.{AreCut, InPieces, IsInPieces, LaterBeginWithFeed, all_pieces, ends_outside, piece_reading, text_of}
 use Rattle.hh_records.specs.Printed.{millionths, plain_rows, printed_rows}
 use Rattle.hh_records.specs.Rows.{condensed_text, rows_of}
@@ -78,3 +79,10 @@ abbrev pub KeysTellFields : Type 0
 KeysTellFields =
     (fs gs : Fields) → (length fs ≡ 0 → ⊥) → (length gs ≡ 0 → ⊥) → (length fs == 1) ≡ (length gs == 1)
     → key_of fs ≡ key_of gs → fs ≡ gs
+
+-- the records of a text without quotes are its lines, but for blank ones, and their fields are what
+-- stands between separators
+abbrev pub UnquotedTextsAreSplit : Type 0
+UnquotedTextsAreSplit =
+    (d : ℕ) (text : List ℕ) → is_separator d ≡ true → IsUnquoted text
+    → records (delimited d) text ≡ split_rows d text

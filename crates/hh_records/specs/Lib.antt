@@ -5,6 +5,7 @@ pub mod Files
 pub mod Kept
 pub mod Laws
 pub mod Layouts
+pub mod Lines
 pub mod Pieces
 pub mod Printed
 pub mod Quotes

@@ -146,7 +146,7 @@ fn place_after(start: Place, bytes: &[u8], delimiter: u8) -> Place
 }
 
 /// How many bytes of a byte order mark a text begins with.
-fn mark_len(text: &[u8]) -> usize
+pub(crate) fn mark_len(text: &[u8]) -> usize
     ensures { result ≡ spec.mark_len text.now }
 {
     if text.len() >= 3 && text[0] == 0xEF && text[1] == 0xBB && text[2] == 0xBF {

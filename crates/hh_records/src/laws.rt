@@ -3,7 +3,7 @@
 ghost use Rattle.hh_records.specs.Laws.{CondensedFilesAreRead, PlainLayoutsReadStreams, TextsAreItems};
 ghost use Rattle.hh_records.specs.Laws.{FeedsOutsideQuotesAreCuts, KeysTellFields, PiecesAreRead};
 ghost use Rattle.hh_records.specs.Laws.{PiecesHaveTheRecords, PlainRowsAreRows, PrintedNumbersAreRead};
-ghost use Rattle.hh_records.specs.Laws.{SharesAreRoundedDown};
+ghost use Rattle.hh_records.specs.Laws.{SharesAreRoundedDown, UnquotedTextsAreSplit};
 
 use hh_counters::laws::condensed_keeps_weights;
 
@@ -61,4 +61,10 @@ pub fn printed_numbers_are_read()
 /// as these alone.
 pub fn keys_tell_fields()
     ensures { KeysTellFields }
+{}
+
+/// The records of a text without quotes are its lines, but for blank ones, and their fields are
+/// what stands between separators.
+pub fn unquoted_texts_are_split()
+    ensures { UnquotedTextsAreSplit }
 {}

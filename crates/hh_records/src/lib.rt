@@ -11,6 +11,7 @@ mod decimals;
 mod kept;
 pub mod laws;
 mod layout;
+mod lines;
 mod pieces;
 mod printed;
 mod read_at;

@@ -1,12 +1,18 @@
 //! Pieces of a text of records, each of which is read by itself.
 
-ghost use Rattle.std.specs.Prelude.{◌≡◌, ◌≤◌, Ok, Some, IfOk, IfErr, IfSome, OnOk, option_and_then, option_map};
+ghost use Rattle.std.specs.Bool.{OnTrue};
+ghost use Rattle.std.specs.Prelude.{◌≡◌, ◌≤◌, ℕ, List, Ok, Some, true, map, IfOk, IfErr, IfSome, OnOk, option_and_then, option_map};
 ghost use Rattle.hh_stream.specs.Weights.{max_total};
 ghost use Rattle.hh_records.specs.Layouts.{IsText, OpenRefused, Opens, Places, TakesAdded, chosen_places};
 ghost use Rattle.hh_records.specs.Layouts.{names_columns, parts_left, text_parts};
+ghost use Rattle.hh_records.specs.Lines as spec;
+ghost use Rattle.hh_records.specs.Lines.{split_rows};
 ghost use Rattle.hh_records.specs.Pieces.{FindsColumns, PieceRefused, piece_parts, piece_reading, rows_in};
+ghost use Rattle.hh_records.specs.Streams.{parts_of};
 
+use crate::cuts::mark_len;
 use crate::layout::{Chosen, Layout};
+use crate::lines::{is_separator, is_unquoted, read_lines};
 use crate::records::read_rows;
 use crate::retrying::Retrying;
 use crate::texts::{Text, TextError, open};
@@ -134,6 +140,35 @@ fn open_piece<R: Read + Drop>(
     }
 }
 
+/// Whether a piece of a text is read by keys and weights, with a byte between them that may
+/// separate fields without quotes.
+fn has_plain_records(layout: &Layout, columns: Option<&Columns>) -> bool
+    ensures separated { OnTrue result (spec.is_separator layout.now.delimiter ≡ true) }
+    ensures parts { (bytes : List ℕ) → OnTrue result (
+        piece_parts layout.now (option_map (λ c. c.now) columns.entry) bytes
+        ≡ Some (map parts_of (rows_in layout.now bytes))) }
+{
+    let plain = match columns {
+        Some(columns) => columns.chosen.is_none(),
+        None => !layout.has_header && layout.key.is_empty() && layout.weight.is_none(),
+    };
+    plain && is_separator(layout.delimiter)
+}
+
+/// What stands behind a byte order mark, where a piece of a text can be read line by line.
+fn plain_text<'t>(layout: &Layout, columns: Option<&Columns>, piece: &'t [u8]) -> Option<&'t [u8]>
+    ensures { IfSome result (λ text.
+        piece_parts layout.now (option_map (λ c. c.now) columns.entry) piece.now
+        ≡ Some (map parts_of (split_rows layout.now.delimiter text.now))) }
+{
+    let text = &piece[mark_len(piece)..];
+    if has_plain_records(layout, columns) && is_unquoted(text) {
+        Some(text)
+    } else {
+        None
+    }
+}
+
 /// Hands on what the records of one piece of a text add. The first piece of a text is read with no
 /// columns: its header, where the layout has one, chooses them. Each later piece is read by the
 /// columns that the first one chose ([`Columns::of_text`]), and has no header.
@@ -156,6 +191,14 @@ pub fn read_piece<T: TakeItems>(
         PieceRefused layout.now (option_map (λ c. c.now) columns.entry) piece.now
         (T.weight_taken taker.old) error) }
 {
+    // What was taken before is in range, as this call's clause says.
+    let _ = taker.total();
+    if let Some(text) = plain_text(layout, columns, piece) {
+        return match read_lines(alloc, text, taker, layout) {
+            Ok(()) => Ok(()),
+            Err(error) => Err(TextError::from(error)),
+        };
+    }
     read_left(alloc, layout, columns, piece, taker)
 }
 

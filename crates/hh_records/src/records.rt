@@ -59,7 +59,7 @@ pub enum ReadError {
 
 /// Why a record was not taken.
 #[derive(Clone, Copy)]
-enum RecordFault {
+pub(crate) enum RecordFault {
     Bad(BadRecordCause),
     Memory,
 }
@@ -124,7 +124,7 @@ fn parts_of(row: &ByteRecord) -> Option<(&[u8], Option<&[u8]>)>
 }
 
 /// Hands on what a record adds: its item or, where it weighs 0 and that is allowed, nothing.
-fn take_item<T: TakeItems>(
+pub(crate) fn take_item<T: TakeItems>(
     alloc: Global,
     taker: &mut T,
     key: &[u8],
@@ -266,7 +266,7 @@ fn take_record<T: TakeItems>(
 }
 
 /// The error that tells a record's number with its fault.
-fn numbered_fault(number: u64, fault: RecordFault) -> ReadError
+pub(crate) fn numbered_fault(number: u64, fault: RecordFault) -> ReadError
     ensures { result ≡ numbered_fault number fault }
 {
     match fault {
