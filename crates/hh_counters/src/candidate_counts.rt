@@ -37,10 +37,7 @@ impl<'a> Model for CandidateCounts<'a> {
 
 impl<'a> CandidateCounts<'a> {
     /// The candidates before any item.
-    pub fn new(
-        alloc: Global,
-        candidates: &'a Candidates,
-    ) -> Result<CandidateCounts<'a>, AllocError>
+    pub fn new(alloc: Global, candidates: &'a Candidates) -> Result<CandidateCounts<'a>, AllocError>
         ensures { IfOk result (λ counts. counts ≡ count_of candidates.now []) }
     {
         counts_add_up();
@@ -71,8 +68,7 @@ impl<'a> TakeItems for CandidateCounts<'a> {
 
     fn take(&mut self, _alloc: Global, key: &[u8], weight: u64) -> Result<(), AllocError> {
         counts_stay_within();
-        self.candidates
-            .count_bytes(key, weight, &mut self.weights);
+        self.candidates.count_bytes(key, weight, &mut self.weights);
         self.total += weight;
         Ok(())
     }
