@@ -85,7 +85,7 @@ class Library(programs.Checks):
         named = set(re.findall(r"^#define (HEAVY_\w+) \d+u", text, re.M))
         others = named ^ set(header.numbers())
         self.check("the header has these numbers and no others", not others, others)
-        declared = sorted(re.findall(r"^uint32_t (heavy_\w+)\(", text, re.M))
+        declared = sorted(re.findall(r"^(?:uint32_t|size_t) (heavy_\w+)\(", text, re.M))
         self.check("the header has these calls and no others", declared == sorted(header.calls()), declared)
         for old, new in DRIFTS:
             drifted = text.replace(old, new)
