@@ -6,3 +6,4 @@ pub mod MergeFacts
 pub mod NameFacts
 pub mod PieceFacts
 pub mod ReportFacts
+pub mod SourceReportFacts

@@ -1,13 +1,38 @@
--- Reports with no option of rows.
-use Rattle.std.proofs.Common.{◌≡◌, ℕ, List, Option, Result, Ok, Err, subst}
-use Rattle.std.specs.Prelude.{IfErr, OnOk}
+-- Reports that are written, and those with no option of rows.
+use Rattle.std.proofs.Common.{◌≡◌, ℕ, List, Option, Some, None, Result, Ok, Err, ap, subst}
+use Rattle.std.specs.Prelude.{IfErr, IfSome, OnOk}
+use Rattle.std.specs.Io.KnownBytes.{Appends}
 use Rattle.hh_records.specs.Printed.{plain_rows}
 use Rattle.hh_records.specs.Streams.{Known}
 use Rattle.hh_records.specs.declared.printed.RowOptions.{RowOptions}
-use Rattle.heavy.specs.Report.{IsPrinted, IsReported, PrintRefused, ReportRefused}
+use Rattle.heavy.specs.Report.{AreOptions, AreWritten, IsPrinted, IsReported, KeysNotWritten, PrintRefused, ReportRefused, WriteRefused}
 use Rattle.heavy.specs.declared.commands.report.ReportOptions.{ReportOptions}
 use Rattle.heavy.specs.declared.error.ToolError.{ToolError}
 use Rattle.heavy.specs.declared.error.ToolError.TheVariants as tool
+
+fault_same : (A : Type 0) {E : Type 0} (e f : E) → ◌≡◌ {A = Result A E} (Err e) (Err f) → e ≡ f
+fault_same A e f h = cc
+
+-- a fault that a call tells is told by one that passes it on
+pub fault_is : (A B : Type 0) {E : Type 0} (o : Option E) (e : E) → IfSome o (λ f. ◌≡◌ {A = Result A E} (Err e) (Err f))
+    → IfSome o (λ f. ◌≡◌ {A = Result B E} (Err e) (Err f))
+fault_is A B None e h = tt
+fault_is A B (Some f) e h = ap Err (fault_same A e f h)
+
+-- rows of which something holds are written whole, where their text is
+module _ {T : Type 0} (o : ReportOptions) (are : AreOptions o) (holds : List ℕ → Type 0) (text : List ℕ) (it : holds text)
+    (old new : Option (List ℕ)) where
+  pub keys_written : (result : Result T ToolError) → OnOk result (Appends old new text)
+      → OnOk result (AreWritten o holds old new)
+  keys_written (Ok x) h = (are, text, it, h)
+  keys_written (Err e) h = tt
+
+  pub keys_not_written : (known : Known) (result : Result T ToolError) → IfErr result (KeysNotWritten text old new)
+      → IfErr result (WriteRefused o known holds old new)
+  keys_not_written known (Ok x) h = tt
+  keys_not_written known (Err (tool.WriteFault n)) h = (are, text, it, h)
+  keys_not_written known (Err tool.Memory) h = (are.0, h)
+  keys_not_written known (Err e) h = absurd h
 
 module _ (o : ReportOptions) (known : Known) (old new : Option (List ℕ)) where
   -- a refusal to print all rows with no share is one to write the report

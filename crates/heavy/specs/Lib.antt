@@ -14,6 +14,7 @@ pub mod List
 pub mod Merge
 pub mod Records
 pub mod Report
+pub mod ReportFiles
 pub mod Status
 pub mod Summarise
 pub mod Table

@@ -1,14 +1,14 @@
 -- What a report leaves in a sink, and what its refusals tell.
-use Rattle.std.specs.Prelude.{◌≡◌, ◌≤◌, ◌-◌, not, ℕ, List, [], map, Bool, true, false, Option, Some, None, is_none, Result, Ok, Err, ⊤, if◌then◌else◌}
+use Rattle.std.specs.Prelude.{◌≡◌, ◌≤◌, ◌-◌, not, ℕ, List, [], map, Bool, true, false, length, Option, Some, None, is_none, Result, Ok, Err, ⊤, if◌then◌else◌}
 use Rattle.std.specs.Io.KnownBytes.{Appends, Keeps}
 use Rattle.hh_stream.specs.Cuttings.{max_pieces, whole_of}
 use Rattle.hh_stream.specs.Weights.{Entry, max_total, total_of}
-use Rattle.hh_counters.specs.Report.{heavy}
+use Rattle.hh_counters.specs.Report.{IsShare, heavy}
 use Rattle.hh_counters.specs.Counters.{max_k}
 use Rattle.hh_countmin.specs.Family.{drawn_family, max_depth, max_width}
 use Rattle.hh_pool.specs.PlanTexts.{PlanRefused, SpellsTree}
 use Rattle.hh_pool.specs.Settings.{Settings, max_workers}
-use Rattle.hh_pool.specs.Trees.{IsBalanced, IsMergeTree, MergeTree, chain_of}
+use Rattle.hh_pool.specs.Trees.{IsBalanced, IsMergeTree, MergeTree, chain_of, leaves}
 use Rattle.hh_pool.specs.declared.parsing.PlanFault.{PlanFault}
 use Rattle.hh_pool.specs.declared.parsing.PlanFault.TheVariants as plan
 use Rattle.hh_stream.specs.Ranges.{in_range}
@@ -23,6 +23,7 @@ use Rattle.heavy.specs.declared.error.ToolError.{ToolError}
 use Rattle.heavy.specs.declared.error.ToolError.TheVariants as tool
 use Rattle.heavy.specs.declared.error.TreeFault.{TreeFault}
 use Rattle.heavy.specs.declared.error.TreeFault.TheVariants as bad
+use Rattle.heavy.specs.declared.commands.report.Prepared.{Prepared}
 use Rattle.heavy.specs.declared.commands.report.ReportOptions.{ReportOptions}
 use Rattle.heavy.specs.declared.commands.report.Tree.{Tree}
 use Rattle.heavy.specs.declared.commands.report.Tree.TheVariants as tree
@@ -114,6 +115,22 @@ abbrev pub AreKeysOf : Known → ℕ → ℕ → ℕ → List Entry → Type 0
 AreKeysOf known p q total keys =
     (xs : List Entry) × ReadsAs known (Ok xs) × (total ≡ total_of xs) × (keys ≡ heavy xs p q)
 
+-- the options pass all tests, and by these a report is made: a plan of their tree over their pieces, and
+-- the settings for their threshold
+pub record IsPrepared (o : ReportOptions) (prepared : Prepared) : Type 0 where
+  pub options : AreOptions o
+  pub threshold : threshold_of o.k o.threshold ≡ Some (prepared.p, prepared.q)
+  pub share : IsShare prepared.p prepared.q
+  pub settings : prepared.settings ≡ settings_of o prepared.p prepared.q
+  pub few : in_range prepared.pieces max_pieces ≡ true
+  pub plan : length (leaves prepared.plan) ≡ prepared.pieces
+
+-- what a refusal to write the rows of some keys tells, and what it leaves in the sink
+abbrev pub KeysNotWritten : List ℕ → Option (List ℕ) → Option (List ℕ) → ToolError → Type 0
+KeysNotWritten rows old new (tool.WriteFault n) = TakesFirst old new rows n
+KeysNotWritten rows old new tool.Memory = Keeps old new
+KeysNotWritten rows old new _ = ⊥
+
 -- these are the rows of the keys of a report
 abbrev pub ReportsRows : ReportOptions → Known → List ℕ → Type 0
 ReportsRows o known rows =
@@ -126,16 +143,18 @@ PrintsRows r o known rows =
     (xs : List Entry) × (keys : List Entry) × ReportsKeys o known xs keys
     × (rows ≡ printed_rows (total_of xs) r keys)
 
+-- rows of which this holds were written whole
+abbrev pub AreWritten : ReportOptions → (List ℕ → Type 0) → Option (List ℕ) → Option (List ℕ) → Type 0
+AreWritten o holds old new = AreOptions o × (rows : List ℕ) × holds rows × Appends old new rows
+
 -- a whole report was written
 abbrev pub IsReported : ReportOptions → Known → Option (List ℕ) → Option (List ℕ) → Type 0
-IsReported o known old new =
-    AreOptions o × (rows : List ℕ) × ReportsRows o known rows × Appends old new rows
+IsReported o known old new = AreWritten o (ReportsRows o known) old new
 
 -- a whole report was written as the options of rows want it
 abbrev pub IsPrinted : RowOptions → ReportOptions
     → Known → Option (List ℕ) → Option (List ℕ) → Type 0
-IsPrinted r o known old new =
-    AreOptions o × (rows : List ℕ) × PrintsRows r o known rows × Appends old new rows
+IsPrinted r o known old new = AreWritten o (PrintsRows r o known) old new
 
 -- what a refusal of the options tells: the first test that they fail, the tree's last
 abbrev pub OptionsRefused : ReportOptions → ToolError → Type 0
@@ -150,16 +169,19 @@ StartRefused o known tool.NoColumn = AreOptions o × RecordsRefused known tool.N
 StartRefused o known tool.Memory = bad_option o ≡ None
 StartRefused o known e = OptionsRefused o e
 
+-- what each refusal to write rows of which this holds tells, and what it leaves in the sink
+abbrev pub WriteRefused : ReportOptions → Known → (List ℕ → Type 0)
+    → Option (List ℕ) → Option (List ℕ) → ToolError → Type 0
+WriteRefused o known holds old new (tool.WriteFault n) =
+    AreOptions o × (rows : List ℕ) × holds rows × TakesFirst old new rows n
+WriteRefused o known holds old new e = StartRefused o known e × Keeps old new
+
 -- what each refusal of a report tells, and what it leaves in the sink
 abbrev pub ReportRefused : ReportOptions
     → Known → Option (List ℕ) → Option (List ℕ) → ToolError → Type 0
-ReportRefused o known old new (tool.WriteFault n) =
-    AreOptions o × (rows : List ℕ) × ReportsRows o known rows × TakesFirst old new rows n
-ReportRefused o known old new e = StartRefused o known e × Keeps old new
+ReportRefused o known old new e = WriteRefused o known (ReportsRows o known) old new e
 
 -- the same of a report whose rows are as the options of rows want them
 abbrev pub PrintRefused : RowOptions → ReportOptions
     → Known → Option (List ℕ) → Option (List ℕ) → ToolError → Type 0
-PrintRefused r o known old new (tool.WriteFault n) =
-    AreOptions o × (rows : List ℕ) × PrintsRows r o known rows × TakesFirst old new rows n
-PrintRefused r o known old new e = StartRefused o known e × Keeps old new
+PrintRefused r o known old new e = WriteRefused o known (PrintsRows r o known) old new e

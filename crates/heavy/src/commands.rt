@@ -13,5 +13,6 @@ pub(crate) mod grow_table;
 pub(crate) mod list;
 pub(crate) mod merge;
 pub(crate) mod report;
+pub(crate) mod report_files;
 pub(crate) mod summarise;
 pub(crate) mod table;

@@ -4,31 +4,28 @@ ghost use Rattle.std.specs.Prelude.{Ok, List, IfOk, IfErr};
 ghost use Rattle.std.specs.Map.{keys_of};
 ghost use Rattle.hh_stream.specs.Weights.{Entry};
 ghost use Rattle.hh_counters.specs.Counters.{IsCounters};
-ghost use Rattle.hh_records.specs.Layouts.{records_known};
 ghost use Rattle.hh_records.specs.Streams.{ReadsAs};
 ghost use Rattle.heavy.specs.Records.{IsCountOf, RecordsRefused};
 
 use crate::error::ToolError;
 use hh_counters::laws::counts_follow_items;
 use hh_counters::{Counts, Summary};
-use hh_records::{Records, read_records};
+use hh_records::ReadRecords;
 use std::alloc::Global;
-use std::io::Read;
 
 /// The counts of a summary's keys in some records, in one pass that keeps no record.
-pub(crate) fn count_records<R: Read + Drop>(
+pub(crate) fn count_records<R: ReadRecords>(
     alloc: Global,
     summary: &Summary,
-    records: Records<R>,
+    records: R,
 ) -> Result<Counts, ToolError>
     ensures counts { IfOk result (λ counts. (xs : List Entry)
-        × ReadsAs (records_known R.remaining records) (Ok xs)
+        × ReadsAs (R.known records) (Ok xs)
         × IsCountOf (keys_of summary.now.counters) xs counts) }
     ensures counters { IfOk result (λ counts. IsCounters summary.now.counters) }
-    ensures refused { IfErr result (λ fault.
-        RecordsRefused (records_known R.remaining records) fault) }
+    ensures refused { IfErr result (λ fault. RecordsRefused (R.known records) fault) }
 {
     counts_follow_items();
     let counts = Counts::of(alloc, summary)?;
-    Ok(read_records(alloc, records, counts)?)
+    Ok(records.read_into(alloc, counts)?)
 }

@@ -25,12 +25,13 @@ pub use commands::grow_table::empty_table;
 pub use commands::list::{list_keys, list_rows};
 pub use commands::merge::merge_bytes;
 pub use commands::report::{ReportOptions, Tree, report_rows, run_report};
+pub use commands::report_files::report_files;
 pub use commands::summarise::{Method, summary_bytes, summary_bytes_from};
 pub use commands::table::{table_bytes, table_bytes_from};
 pub use error::{KeyCause, MergeCause, ToolError, TreeFault};
 pub use hh_counters::Heavy;
 pub use hh_records::{
-    BadRecordCause, Column, Layout, Out, ReadError, Records, ReportFault, RowOptions, Share, Sink,
+    BadRecordCause, Column, FileOrPipe, FileRecords, Layout, Out, ReadAt, ReadError, Records, ReportFault, RowOptions, Share, Sink,
     SinkFault, WriteFault, printed_text, put, read_stream, report_text, write_printed,
     write_report,
 };

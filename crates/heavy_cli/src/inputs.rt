@@ -3,12 +3,14 @@
 ghost use Rattle.std.specs.Prelude.{None};
 
 use crate::other_format::{Seen, Watch};
-use crate::progress::Metered;
+use crate::progress::{Metered, SharedProgress};
 use crate::request::RecordWords;
-use heavy::{Records, ToolError, layout_of};
+use heavy::{FileOrPipe, FileRecords, ReadAt, Records, ToolError, layout_of};
 use std::cell::Cell;
 use std::fs::File;
 use std::io::{self, Read, Stdin};
+use std::os::unix::fs::FileExt;
+use std::sync::atomic::{AtomicU64, Ordering};
 
 /// What is read.
 #[derive(Drop)]
@@ -30,7 +32,7 @@ pub struct Input<'a> {
     source: Source,
     /// Its place among the command line's files, from 1 on, and 0 where it has none.
     number: u64,
-    unread: &'a Cell<u64>,
+    unread: &'a AtomicU64,
     /// What sees its bytes, where that is asked for.
     watch: Option<Watch<'a>>,
 }
@@ -39,7 +41,7 @@ impl<'a> Input<'a> {
     /// Leaves what a read is to leave.
     fn leave(&mut self, outcome: &io::Result<usize>, buf: &[u8]) {
         let Ok(count) = outcome else {
-            self.unread.set(self.number);
+            self.unread.store(self.number, Ordering::SeqCst);
             return;
         };
         if let (Some(watch), Some(bytes)) = (&mut self.watch, buf.get(..*count)) {
@@ -62,6 +64,42 @@ impl<'a> Read for Input<'a> {
     }
 }
 
+/// A file that is read at any place, by several workers at once. It leaves its number where a read
+/// fails, or where it isn't as long any more as it was when it was opened.
+#[derive(Drop)]
+pub struct OpenFile<'a> {
+    file: File,
+    size: u64,
+    number: u64,
+    unread: &'a AtomicU64,
+    progress: Option<&'a SharedProgress<'a>>,
+}
+
+impl<'a> ReadAt for OpenFile<'a> {
+    ghost bytes = { λ _. None };
+
+    fn len(&self) -> io::Result<u64> {
+        let size = ReadAt::len(&self.file)?;
+        if size != self.size {
+            self.unread.store(self.number, Ordering::SeqCst);
+        }
+        Ok(size)
+    }
+
+    fn read_at(&self, buf: &mut [u8], at: u64) -> io::Result<usize> {
+        let outcome = FileExt::read_at(&self.file, buf, at);
+        match &outcome {
+            Err(_) => self.unread.store(self.number, Ordering::SeqCst),
+            Ok(count) => {
+                if let Some(progress) = self.progress {
+                    progress.add(*count as u64);
+                }
+            }
+        }
+        outcome
+    }
+}
+
 /// What reads records, and tells how far it is where that is asked for.
 pub type Reader<'a> = Metered<'a, Input<'a>>;
 
@@ -72,7 +110,7 @@ pub struct Inputs<'a> {
     /// Whether it is told how far each of them is read.
     pub tells_progress: bool,
     /// Where an input that can't be read leaves its number, which is 0 for standard input.
-    pub unread: &'a Cell<u64>,
+    pub unread: &'a AtomicU64,
     /// Where it is left what was seen in the inputs, where that is asked for.
     pub seen: Option<&'a Cell<Seen>>,
 }
@@ -95,21 +133,84 @@ impl<'a> Inputs<'a> {
         self.reader(Source::Standard(self.rt.stdin()), number, "/dev/stdin")
     }
 
-    /// The file with this name and number. `-` is standard input.
-    fn open(self, name: &[u8], number: u64) -> Result<Reader<'a>, ToolError> {
-        if is_standard(name) {
-            return Ok(self.standard(number));
-        }
+    /// The open file with this name and number.
+    fn file(self, name: &[u8], number: u64) -> Result<File, ToolError> {
         let Ok(path) = str::from_utf8(name) else {
             return Err(ToolError::FileFault { number });
         };
         match File::open(self.rt, path) {
-            Ok(file) => Ok(self.reader(Source::File(file), number, path)),
+            Ok(file) => Ok(file),
             Err(error) if matches!(error.kind(), io::ErrorKind::OutOfMemory) => {
                 Err(ToolError::Memory)
             }
             Err(_) => Err(ToolError::FileFault { number }),
         }
+    }
+
+    /// What reads the input with this name and number. `-` is standard input.
+    fn open(self, name: &[u8], number: u64) -> Result<Reader<'a>, ToolError> {
+        if is_standard(name) {
+            return Ok(self.standard(number));
+        }
+        let file = self.file(name, number)?;
+        let path = str::from_utf8(name).unwrap_or("");
+        Ok(self.reader(Source::File(file), number, path))
+    }
+
+    /// The same of a file that may be read twice: one of the disk that has a size is read at any
+    /// place, and all else as a pipe.
+    fn file_or_pipe(
+        self,
+        name: &[u8],
+        number: u64,
+        progress: Option<&'a SharedProgress<'a>>,
+    ) -> Result<FileOrPipe<OpenFile<'a>, Reader<'a>>, ToolError> {
+        if is_standard(name) {
+            return Ok(FileOrPipe::Pipe(self.standard(number)));
+        }
+        let file = self.file(name, number)?;
+        match file.metadata() {
+            Ok(metadata) if metadata.is_file() && metadata.len() > 0 => {
+                Ok(FileOrPipe::File(OpenFile {
+                    file,
+                    size: metadata.len(),
+                    number,
+                    unread: self.unread,
+                    progress,
+                }))
+            }
+            _ => {
+                let path = str::from_utf8(name).unwrap_or("");
+                Ok(FileOrPipe::Pipe(self.reader(Source::File(file), number, path)))
+            }
+        }
+    }
+
+    /// The records of the files that a command line names, which are all opened here. Standard
+    /// input is read where it is named first.
+    pub fn file_records(
+        self,
+        words: &RecordWords,
+        progress: Option<&'a SharedProgress<'a>>,
+    ) -> Result<FileRecords<OpenFile<'a>, Reader<'a>>, ToolError> {
+        let alloc = self.rt.alloc();
+        let layout = layout_of(alloc, &words.layout)?;
+        let mut inputs = Vec::new(alloc);
+        let mut is_taken = false;
+        for (place, name) in words.files.iter().enumerate() {
+            let number = (place as u64).saturating_add(1);
+            let input = if is_taken && is_standard(name) {
+                FileOrPipe::Pipe(self.reader(Source::Nothing, number, "/dev/null"))
+            } else {
+                self.file_or_pipe(name, number, progress)?
+            };
+            is_taken = is_taken || is_standard(name);
+            match inputs.push(input) {
+                Ok(()) => {}
+                Err(_) => return Err(ToolError::Memory),
+            }
+        }
+        Ok(FileRecords { layout, inputs })
     }
 
     /// The records that a command line names behind so many saved files: those of its files, which

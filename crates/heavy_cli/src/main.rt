@@ -18,13 +18,15 @@ use explain::{tell_format, tell_more, tell_own_k, tells_more, watches};
 use files::{read_file, read_files};
 use heavy::{
     Method, Out, ToolError, Totals, ask_rows, condense_bytes_from, confirm_rows, describe_file,
-    list_rows, merge_bytes, put, report_rows, summary_bytes_from, table_bytes_from,
+    list_rows, merge_bytes, put, report_files, report_rows, summary_bytes_from, table_bytes_from,
 };
 use inputs::Inputs;
 use other_format::NOTHING;
 use request::{Command, Invocation, RecordWords, Request, UsageError, read_request};
+use progress::SharedProgress;
 use std::cell::Cell;
 use std::process::ExitCode;
+use std::sync::atomic::{AtomicU64, Ordering};
 use told::Told;
 
 /// The exit status of the command line's own faults.
@@ -128,6 +130,14 @@ fn status_told(rt: &HostRuntime, told: &Told) -> ExitCode {
     }
 }
 
+/// How far the files of a report are read, where that is to be told.
+fn shared_progress<'a>(rt: &'a HostRuntime, asked: &Invocation) -> Option<SharedProgress<'a>> {
+    if !asked.tells_progress {
+        return None;
+    }
+    SharedProgress::start(rt, &asked.records.files).ok()
+}
+
 fn main(rt: HostRuntime) -> ExitCode {
     let asked = match read_request(&rt, rt.alloc()) {
         Ok(asked) => asked,
@@ -135,21 +145,33 @@ fn main(rt: HostRuntime) -> ExitCode {
         Err(UsageError::Memory) => return status_after(&rt, ToolError::Memory),
     };
     let mut totals = None;
-    let (unread, seen) = (Cell::new(0), Cell::new(NOTHING));
+    let (unread, seen) = (AtomicU64::new(0), Cell::new(NOTHING));
     let inputs = Inputs {
         rt: &rt,
         tells_progress: asked.tells_progress,
         unread: &unread,
         seen: watches(&rt, &asked).then_some(&seen),
     };
+    let progress = shared_progress(&rt, &asked);
     let outcome = match &asked.request {
-        Request::Report { options, rows } => match inputs.records(&asked.records, 0) {
-            Ok(records) => {
-                let mut out = Out::new(rt.stdout());
-                report_rows(&rt, rt.alloc(), options, rows, records, &mut out)
+        Request::Report { options, rows } if asked.records.files.is_empty() => {
+            match inputs.records(&asked.records, 0) {
+                Ok(records) => {
+                    let mut out = Out::new(rt.stdout());
+                    report_rows(&rt, rt.alloc(), options, rows, records, &mut out)
+                }
+                Err(fault) => Err(fault),
             }
-            Err(fault) => Err(fault),
-        },
+        }
+        Request::Report { options, rows } => {
+            match inputs.file_records(&asked.records, progress.as_ref()) {
+                Ok(records) => {
+                    let mut out = Out::new(rt.stdout());
+                    report_files(&rt, rt.alloc(), options, rows, records, &mut out)
+                }
+                Err(fault) => Err(fault),
+            }
+        }
         Request::Answer(command) => write_answer(inputs, command, &asked.records, &mut totals),
     };
     match outcome {
@@ -157,6 +179,9 @@ fn main(rt: HostRuntime) -> ExitCode {
             tell_format(&rt, seen.get(), &asked);
             ExitCode::SUCCESS
         }
-        Err(fault) => status_explained(&rt, numbered(fault, unread.get()), &asked, totals),
+        Err(fault) => {
+            let number = unread.load(Ordering::SeqCst);
+            status_explained(&rt, numbered(fault, number), &asked, totals)
+        }
     }
 }

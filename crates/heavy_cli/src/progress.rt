@@ -4,6 +4,7 @@ ghost use Rattle.std.specs.Prelude.{◌≡◌, ◌≤◌};
 
 use crate::record_count::RecordCount;
 use std::io::Read;
+use std::sync::atomic::{AtomicU64, Ordering};
 use std::time::Instant;
 use std::{fmt, fs, io};
 
@@ -118,5 +119,80 @@ impl<'a, R: Read> Read for Metered<'a, R> {
             let _ = progress.add(&buf[..count]);
         }
         Ok(count)
+    }
+}
+
+/// How far workers are that read files of so many bytes in two passes. It is told at most once in a
+/// pause, whichever worker reads.
+#[derive(Drop)]
+pub struct SharedProgress<'a> {
+    rt: &'a HostRuntime,
+    /// The bytes of both passes.
+    size: u64,
+    read: AtomicU64,
+    started: Instant,
+    /// When it was told, in milliseconds from the start.
+    told: AtomicU64,
+}
+
+impl<'a> SharedProgress<'a> {
+    /// Nothing is read yet of the files with these names.
+    pub fn start(rt: &'a HostRuntime, names: &[Vec<u8>]) -> io::Result<SharedProgress<'a>> {
+        let mut size = 0u64;
+        for name in names {
+            if let Ok(path) = str::from_utf8(name) {
+                if let Ok(file) = fs::metadata(rt, path) {
+                    size = size.saturating_add(file.len());
+                }
+            }
+        }
+        Ok(SharedProgress {
+            rt,
+            size: size.saturating_mul(2),
+            read: AtomicU64::new(0),
+            started: Instant::now(rt)?,
+            told: AtomicU64::new(0),
+        })
+    }
+
+    /// Counts bytes that were read, and tells how far the reading is.
+    pub fn add(&self, count: u64) {
+        let read = self
+            .read
+            .fetch_add(count, Ordering::SeqCst)
+            .saturating_add(count);
+        let Ok(now) = Instant::now(self.rt) else {
+            return;
+        };
+        let millis = now.duration_since(self.started).as_millis().max(1);
+        let told = self.told.load(Ordering::SeqCst);
+        if millis.saturating_sub(u128::from(told)) < u128::from(PAUSE) * 1000 {
+            return;
+        }
+        let next = millis.min(u128::from(u64::MAX)) as u64;
+        let swapped = self
+            .told
+            .compare_exchange(told, next, Ordering::SeqCst, Ordering::SeqCst);
+        if swapped.is_ok() {
+            let _ = self.tell(u128::from(read), millis);
+        }
+    }
+
+    /// Tells the share of both passes that is read, and how long the rest takes at the same rate.
+    fn tell(&self, read: u128, millis: u128) -> io::Result<()>
+        requires { 1 ≤ millis }
+    {
+        let rate = Megabytes(read.saturating_mul(1000) / millis);
+        let done = Megabytes(read);
+        let size = u128::from(self.size);
+        if read == 0 || size <= read {
+            return eprintln!(self.rt; "heavy: {done} read, {rate}/s");
+        }
+        let (share, left) = (read.saturating_mul(100) / size, size - read);
+        let seconds = left.saturating_mul(millis) / read / 1000;
+        let all = Megabytes(size);
+        eprintln!(self.rt;
+            "heavy: {done} read in two passes, {rate}/s, {share} % of {all}, {seconds} s left"
+        )
     }
 }

@@ -21,3 +21,4 @@ pub mod TextFacts
 pub mod StartFacts
 pub mod SpanFacts
 pub mod FileFacts
+pub mod SourceFacts

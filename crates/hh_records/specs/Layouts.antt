@@ -303,12 +303,16 @@ AllOpen remaining layout readers texts =
     IfSome (every remaining readers) (λ bytes. (ps : List Parts)
     × (all_left remaining texts ≡ Some ps) × (texts_parts layout bytes ≡ Some ps))
 
+-- what is known of the records of some texts: what they read as, where all bytes are known
+abbrev pub texts_known : {R : Type 0} → (R → Option (List ℕ)) → Layout → List R → Known
+texts_known bytes layout texts = record {
+  names_columns = names_columns layout;
+  reading = option_map (stream_with layout) (every bytes texts);
+}
+
 -- what is known of records that are to be read
 abbrev pub records_known : {R : Type 0} → (R → Option (List ℕ)) → Records R → Known
-records_known remaining records = record {
-  names_columns = names_columns records.layout;
-  reading = option_map (stream_with records.layout) (every remaining (records.first ∷ records.others.items));
-}
+records_known remaining records = texts_known remaining records.layout (records.first ∷ records.others.items)
 
 -- what a refusal to read records by a layout tells of them
 abbrev pub TextsRefused : Known → TextError → Type 0

@@ -11,6 +11,7 @@ pub mod Printed
 pub mod Quotes
 pub mod Rows
 pub mod Sinks
+pub mod Sources
 pub mod Streams
 pub mod Taking
 pub mod Thresholds

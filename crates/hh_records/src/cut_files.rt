@@ -250,7 +250,8 @@ impl<'t, S: ReadAt> CutFiles<'t, S> {
 
     /// How many pieces there are.
     pub fn count(&self) -> usize
-        ensures { result ≡ self.now.count }
+        ensures count { result ≡ self.now.count }
+        ensures pieces { IfSome self.now.pieces (λ pieces. length pieces ≡ self.now.count) }
     {
         self.count.max(self.pieces.len())
     }

@@ -46,7 +46,7 @@ pub type KeptReader<R> = Chain<Cursor<Vec<u8>>, Rest<R>>;
 
 impl<R: Read + Drop> KeptText<R> {
     // What a reader has left. Where it fails, what it gave before that is kept.
-    fn of_reader(alloc: Global, reader: R) -> Result<KeptText<R>, AllocError>
+    pub(crate) fn of_reader(alloc: Global, reader: R) -> Result<KeptText<R>, AllocError>
         ensures { IfOk result (λ text.
             IsKnownStill (R.remaining reader) (kept_left R.remaining text)) }
     {

@@ -19,6 +19,7 @@ mod records;
 mod retrying;
 mod rows;
 mod sink;
+mod sources;
 mod texts;
 mod threshold;
 
@@ -36,5 +37,6 @@ pub use read_at::{ReadAt, Source};
 pub use records::{BadRecordCause, ReadError, read_items, read_stream};
 pub use rows::{ReportFault, condensed_rows_text, condensed_text, report_text, write_report};
 pub use sink::{Out, Sink, SinkFault, WriteFault, put};
-pub use texts::{Records, TextError, read_records};
+pub use sources::{FileOrPipe, FileRecords, SourceRecords, keep_pipes, lengths};
+pub use texts::{ReadRecords, Records, TextError, read_records};
 pub use threshold::{Share, threshold_of};

@@ -6,10 +6,10 @@ ghost use Rattle.hh_stream.specs.Weights.{max_total};
 ghost use Rattle.hh_records.specs.Layouts.{AllOpen, IsStart, IsText, OpenRefused, Opens, OpensAs};
 ghost use Rattle.hh_records.specs.Layouts.{RowsRefused, TakesAdded, TextsRefused, all_left};
 ghost use Rattle.hh_records.specs.Layouts.{choice_fault, chosen_places, delimited, every, headed_parts, items_after};
-ghost use Rattle.hh_records.specs.Layouts.{names_columns, records_known, text_fault};
+ghost use Rattle.hh_records.specs.Layouts.{names_columns, records_known, text_fault, texts_known};
 ghost use Rattle.hh_records.specs.Layouts.{text_parts, texts_parts, unread};
 ghost use Rattle.hh_records.specs.Pieces.{FindsColumns, rows_in};
-ghost use Rattle.hh_records.specs.Streams.{text_known};
+ghost use Rattle.hh_records.specs.Streams.{Known, text_known};
 ghost use Rattle.hh_records.specs.Taking.{TakesItems};
 
 use crate::laws::plain_layouts_read_streams;
@@ -235,6 +235,48 @@ impl<R: Read + Drop> Records<R> {
     }
 }
 
+/// Records that are to be read.
+pub trait ReadRecords: Drop {
+    // what is known of them
+    ghost known: { Self → Known };
+
+    /// Hands the item of each record to a taker of none, in order, and returns the taker.
+    fn read_into<T: TakeItems>(self, alloc: Global, taker: T) -> Result<T, TextError>
+        requires none { T.weight_taken taker ≡ 0 }
+        ensures items { IfOk result (λ taken. TakesItems T.with_item (known self) taker taken) }
+        ensures refused { IfErr result (λ error. TextsRefused (known self) error) };
+}
+
+impl<R: Read + Drop> ReadRecords for Records<R> {
+    ghost known = { records_known R.remaining };
+
+    fn read_into<T: TakeItems>(self, alloc: Global, taker: T) -> Result<T, TextError> {
+        read_records(alloc, self, taker)
+    }
+}
+
+/// Hands the item of each record of some texts to a taker of none, in order, and returns the taker.
+pub(crate) fn read_texts<R: Read + Drop, T: TakeItems>(
+    alloc: Global,
+    layout: &Layout,
+    first: R,
+    others: Vec<R>,
+    taker: T,
+) -> Result<T, TextError>
+    requires none { T.weight_taken taker ≡ 0 }
+    ensures items { IfOk result (λ taken. TakesItems T.with_item
+        (texts_known R.remaining layout.now (first ∷ others.items)) taker taken) }
+    ensures refused { IfErr result (λ error.
+        TextsRefused (texts_known R.remaining layout.now (first ∷ others.items)) error) }
+{
+    let texts = open_all(alloc, first, others, layout)?;
+    let mut taker = taker;
+    match read_all(alloc, texts, &mut taker, layout) {
+        Ok(()) => Ok(taker),
+        Err(error) => Err(TextError::from(error)),
+    }
+}
+
 /// Hands the item of each record to a taker of none, in order, and returns the taker. A layout says
 /// where the key and the weight stand.
 ///
@@ -258,10 +300,5 @@ pub fn read_records<R: Read + Drop, T: TakeItems>(
         first,
         others,
     } = records;
-    let texts = open_all(alloc, first, others, &layout)?;
-    let mut taker = taker;
-    match read_all(alloc, texts, &mut taker, &layout) {
-        Ok(()) => Ok(taker),
-        Err(error) => Err(TextError::from(error)),
-    }
+    read_texts(alloc, &layout, first, others, taker)
 }

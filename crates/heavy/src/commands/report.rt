@@ -3,17 +3,19 @@
 ghost use Rattle.std.specs.Prelude.{◌≡◌, List, false, true, length, IfOk, IfErr, IfSome, OnOk, MatchResult, Err, None, Ok, Some};
 ghost use Rattle.hh_stream.specs.Cuttings.{max_pieces};
 ghost use Rattle.hh_pool.specs.Trees.{leaves};
-ghost use Rattle.hh_counters.specs.Report.{heavy};
+ghost use Rattle.hh_counters.specs.Report.{IsShare, heavy};
 ghost use Rattle.hh_stream.specs.Ranges.{in_range};
 ghost use Rattle.hh_stream.specs.Weights.{Entry, total_of};
+ghost use Rattle.std.specs.Io.KnownBytes.{Appends};
 ghost use Rattle.hh_records.specs.Kept.{kept_left};
+ghost use Rattle.hh_records.specs.Printed.{printed_rows};
 ghost use Rattle.hh_records.specs.Layouts.{records_known};
-ghost use Rattle.hh_records.specs.Streams.{ReadsAs, text_known};
+ghost use Rattle.hh_records.specs.Streams.{Known, ReadsAs, text_known};
 ghost use Rattle.hh_records.specs.Thresholds.{threshold_of};
 ghost use Rattle.heavy.specs.Records.{RecordsRefused};
 ghost use Rattle.heavy.specs.Report.{AreKeysOf, AreKeysOfPieces, AreOptions, IsOptionFault, IsPrinted, IsReported, Names};
 ghost use Rattle.heavy.specs.Report.{PrintRefused, ReportRefused};
-ghost use Rattle.heavy.specs.Report.{ReportsKeys, StartRefused, TreeRefused, bad_option};
+ghost use Rattle.heavy.specs.Report.{IsPrepared, KeysNotWritten, ReportsKeys, StartRefused, TreeRefused, bad_option};
 ghost use Rattle.heavy.specs.Report.{failed_by, settings_of};
 
 use crate::error::{ToolError, TreeFault};
@@ -73,6 +75,7 @@ fn check_options(options: &ReportOptions) -> Result<(u64, u64), ToolError>
     ensures kind { IfErr result IsOptionFault }
     ensures threshold { IfOk result (λ threshold.
         threshold_of options.now.k options.now.threshold ≡ Some threshold) }
+    ensures share { IfOk result (λ threshold. IsShare threshold.0 threshold.1) }
 {
     if !in_range(options.depth, MAX_DEPTH) {
         return Err(ToolError::BadDepth);
@@ -256,6 +259,40 @@ fn keys_of_records<T: Threads + Wait + Sync, R: Read + Drop>(
     keys_of_stream(rt, alloc, read_again(alloc, kept)?, pieces, plan, settings)
 }
 
+/// What a report is made by: a plan of so many pieces, and the settings of the analysis.
+#[derive(Drop)]
+pub(crate) struct Prepared {
+    pub(crate) pieces: usize,
+    pub(crate) plan: Plan,
+    pub(crate) settings: Options,
+    /// The threshold is p/q.
+    pub(crate) p: u64,
+    pub(crate) q: u64,
+}
+
+/// Tests the options, before anything is read.
+pub(crate) fn prepare(alloc: Global, options: &ReportOptions) -> Result<Prepared, ToolError>
+    ensures prepared { IfOk result (IsPrepared options.now) }
+    ensures refused { IfErr result (λ fault. (known : Known) → StartRefused options.now known fault) }
+    ensures bad_option { IfSome (bad_option options.now) (λ fault. result ≡ Err fault) }
+{
+    let (p, q) = check_options(options)?;
+    let pieces = options.pieces as usize;
+    let plan = match plan_of(alloc, &options.tree, pieces) {
+        Ok(plan) => plan,
+        Err(NoPlan::Bad(fault)) => return Err(ToolError::BadTree(fault)),
+        Err(NoPlan::Memory) => return Err(ToolError::Memory),
+    };
+    let settings = settings_of(alloc, options, p, q)?;
+    Ok(Prepared {
+        pieces,
+        plan,
+        settings,
+        p,
+        q,
+    })
+}
+
 /// The total of some records, and the keys that a report of them has.
 fn reported<T: Threads + Wait + Sync, R: Read + Drop>(
     rt: &T,
@@ -270,15 +307,38 @@ fn reported<T: Threads + Wait + Sync, R: Read + Drop>(
         (StartRefused options.now (records_known R.remaining records)) }
     ensures bad_option { IfSome (bad_option options.now) (λ fault. result ≡ Err fault) }
 {
-    let (p, q) = check_options(options)?;
-    let pieces = options.pieces as usize;
-    let plan = match plan_of(alloc, &options.tree, pieces) {
-        Ok(plan) => plan,
-        Err(NoPlan::Bad(fault)) => return Err(ToolError::BadTree(fault)),
-        Err(NoPlan::Memory) => return Err(ToolError::Memory),
-    };
-    let settings = settings_of(alloc, options, p, q)?;
-    keys_of_records(rt, alloc, records, pieces, &plan, &settings)
+    match prepare(alloc, options) {
+        Ok(Prepared {
+            pieces,
+            plan,
+            settings,
+            ..
+        }) => keys_of_records(rt, alloc, records, pieces, &plan, &settings),
+        Err(fault) => Err(fault),
+    }
+}
+
+/// Writes the rows of some keys with their total, as the options of rows want them.
+pub(crate) fn write_keys<S: Sink>(
+    alloc: Global,
+    sink: &mut S,
+    rows: &RowOptions,
+    total: u64,
+    keys: &[Heavy],
+) -> Result<(), ToolError>
+    requires { S.has_failed sink.old ≡ false }
+    ensures all { OnOk result (Appends (S.taken sink.old) (S.taken sink.new)
+        (printed_rows total rows.now keys.now)) }
+    ensures refused { IfErr result (KeysNotWritten (printed_rows total rows.now keys.now)
+        (S.taken sink.old) (S.taken sink.new)) }
+    ensures flushed { OnOk result (S.is_flushed sink.new ≡ true) }
+    ensures failed { S.has_failed sink.new ≡ failed_by result }
+{
+    match write_printed(alloc, sink, total, rows, keys) {
+        Ok(()) => Ok(()),
+        Err(ReportFault::WriteFault { written }) => Err(ToolError::WriteFault { written }),
+        Err(ReportFault::Memory) => Err(ToolError::Memory),
+    }
 }
 
 /// Reads records as [`read_stream`](crate::read_stream) does, and writes the report of their
@@ -340,9 +400,5 @@ pub fn report_rows<T: Threads + Wait + Sync, R: Read + Drop, S: Sink>(
     ensures failed { S.has_failed sink.new ≡ failed_by result }
 {
     let (total, keys) = reported(rt, alloc, options, records)?;
-    match write_printed(alloc, sink, total, rows, &keys) {
-        Ok(()) => Ok(()),
-        Err(ReportFault::WriteFault { written }) => Err(ToolError::WriteFault { written }),
-        Err(ReportFault::Memory) => Err(ToolError::Memory),
-    }
+    write_keys(alloc, sink, rows, total, &keys)
 }

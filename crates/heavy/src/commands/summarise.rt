@@ -12,7 +12,7 @@ ghost use Rattle.heavy.specs.Summarise.{IsSummaryOf, bad_k, word_of};
 use crate::error::ToolError;
 use hh_counters::laws::summaries_follow_items;
 use hh_counters::{BucketSaving, MAX_K, Monitor, Summary};
-use hh_records::{Records, read_records};
+use hh_records::{ReadRecords, Records, read_records};
 use hh_saved::{Saved, write};
 use hh_stream::in_range;
 use std::alloc::Global;
@@ -77,19 +77,18 @@ fn summary_by_counting<R: Read + Drop>(
 }
 
 /// The summary of some records, whose items are monitored and translated at the end.
-fn summary_by_monitoring<R: Read + Drop>(
+pub(crate) fn summary_by_monitoring<R: ReadRecords>(
     alloc: Global,
     k: u64,
-    records: Records<R>,
+    records: R,
 ) -> Result<Summary, ToolError>
     requires { in_range k max_k ≡ true }
-    ensures summary { IfOk result (IsSummaryOf k (records_known R.remaining records)) }
-    ensures refused { IfErr result (λ fault.
-        RecordsRefused (records_known R.remaining records) fault) }
+    ensures summary { IfOk result (IsSummaryOf k (R.known records)) }
+    ensures refused { IfErr result (λ fault. RecordsRefused (R.known records) fault) }
 {
     summaries_follow_items();
     let start = BucketSaving::empty(alloc, k)?;
-    let monitor = read_records(alloc, records, start)?;
+    let monitor = records.read_into(alloc, start)?;
     match monitor.into_summary() {
         Ok(summary) => Ok(summary),
         Err(_) => Err(ToolError::Memory),

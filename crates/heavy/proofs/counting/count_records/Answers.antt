@@ -8,7 +8,7 @@ use Rattle.heavy.proofs.counting.count_records.Goals as goal
 pub returns-clause-counts : goal.returns-clause-counts
 returns-clause-counts g c =
     let keys = keys_of c.args.summary.now.counters in
-    let t = c.in_ok-read_records.ensures.items in (
+    let t = c.in_ok-read_into.ensures.items in (
       t.xs,
       t.reads,
       (

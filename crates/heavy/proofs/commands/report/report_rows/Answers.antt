@@ -1,19 +1,24 @@
 use Rattle.std.proofs.Common.{refl}
+use Rattle.hh_records.specs.Layouts.{records_known}
 use Rattle.hh_records.specs.Printed.{printed_rows}
+use Rattle.heavy.specs.Report.{PrintsRows}
+use Rattle.heavy.proofs.ReportFacts.{keys_not_written, keys_written}
 use Rattle.heavy.proofs.commands.report.report_rows.Goals as goal
 
-pub returns-in-Ok-clause-reported : goal.returns-in-Ok-clause-reported
-returns-in-Ok-clause-reported g c =
+pub returns-clause-reported : goal.returns-clause-reported
+returns-clause-reported g c =
     let (xs, are, keys, total) = c.in_ok-total.ensures.keys in
+    let known = records_known g.R.Read.remaining c.args.records in
     let text = printed_rows c.in_ok-total.total c.args.rows.now c.deref.result.now in
-    (are, text, (xs, c.in_ok-total.keys.items, keys, rw (c.deref.ensures.value, total) refl), c.in-Ok.ensures.all)
+    keys_written c.args.options.now are (PrintsRows c.args.rows.now c.args.options.now known) text
+    (xs, c.in_ok-total.keys.items, keys, rw (c.deref.ensures.value, total) refl) _ _ c.write_keys.result
+    c.write_keys.ensures.all
 
-pub returns-in-Err-WriteFault-clause-refused : goal.returns-in-Err-WriteFault-clause-refused
-returns-in-Err-WriteFault-clause-refused g c =
+pub returns-clause-refused : goal.returns-clause-refused
+returns-clause-refused g c =
     let (xs, are, keys, total) = c.in_ok-total.ensures.keys in
-    let text = printed_rows c.in_ok-total.total c.args.rows.now c.deref.result.now in (
-      are,
-      text,
-      (xs, c.in_ok-total.keys.items, keys, rw (c.deref.ensures.value, total) refl),
-      rw c.in-Err-WriteFault.field-0-is at c.in-Err-WriteFault.ensures.refused,
-    )
+    let known = records_known g.R.Read.remaining c.args.records in
+    let text = printed_rows c.in_ok-total.total c.args.rows.now c.deref.result.now in
+    keys_not_written c.args.options.now are (PrintsRows c.args.rows.now c.args.options.now known) text
+    (xs, c.in_ok-total.keys.items, keys, rw (c.deref.ensures.value, total) refl) _ _ known c.write_keys.result
+    c.write_keys.ensures.refused

@@ -1,0 +1,29 @@
+-- What a report of files leaves in a sink, and what its refusals tell. Files are read more than once, so
+-- that of files whose bytes no contract knows nothing is said of the keys.
+use Rattle.std.specs.Prelude.{ℕ, List, Option, IfSome}
+use Rattle.hh_stream.specs.Weights.{Entry}
+use Rattle.hh_records.specs.Streams.{Known}
+use Rattle.hh_records.specs.declared.printed.RowOptions.{RowOptions}
+use Rattle.heavy.specs.Report.{AreKeysOf, AreWritten, PrintsRows, WriteRefused}
+use Rattle.heavy.specs.declared.commands.report.ReportOptions.{ReportOptions}
+use Rattle.heavy.specs.declared.error.ToolError.{ToolError}
+
+-- this holds where the bytes of the records are known
+abbrev pub IfKnown : Known → Type 0 → Type 0
+IfKnown known p = IfSome known.reading (λ _. p)
+
+-- where the records' bytes are known, these are their total and their keys above p/q
+abbrev pub FindsKeys : Known → ℕ → ℕ → ℕ → List Entry → Type 0
+FindsKeys known p q total keys = IfKnown known (AreKeysOf known p q total keys)
+
+-- where the records' bytes are known, these are the rows of a report of them
+abbrev pub PrintsFileRows : RowOptions → ReportOptions → Known → List ℕ → Type 0
+PrintsFileRows r o known rows = IfKnown known (PrintsRows r o known rows)
+
+-- a whole report was written, as the options of rows want it
+abbrev pub IsPrintedOfFiles : RowOptions → ReportOptions → Known → Option (List ℕ) → Option (List ℕ) → Type 0
+IsPrintedOfFiles r o known old new = AreWritten o (PrintsFileRows r o known) old new
+
+-- what each refusal of a report of files tells, and what it leaves in the sink
+abbrev pub FilesRefused : RowOptions → ReportOptions → Known → Option (List ℕ) → Option (List ℕ) → ToolError → Type 0
+FilesRefused r o known old new e = WriteRefused o known (PrintsFileRows r o known) old new e

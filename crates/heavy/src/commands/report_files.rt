@@ -1,0 +1,132 @@
+//! A report of files, which are read twice, in memory that doesn't grow with them.
+
+ghost use Rattle.std.specs.Prelude.{◌≡◌, ◌≤◌, ◌+◌, ◌*◌, List, false, true, IfOk, IfErr, IfSome, OnOk, Err};
+ghost use Rattle.hh_counters.specs.Counters.{max_k};
+ghost use Rattle.hh_counters.specs.Report.{IsShare};
+ghost use Rattle.hh_stream.specs.Ranges.{in_range};
+ghost use Rattle.hh_stream.specs.Weights.{Entry, total_of};
+ghost use Rattle.hh_records.specs.Layouts.{texts_known};
+ghost use Rattle.hh_records.specs.Sources.{files_known};
+ghost use Rattle.heavy.specs.Records.{RecordsRefused};
+ghost use Rattle.heavy.specs.Report.{AreOptions, ReportsKeys};
+ghost use Rattle.heavy.specs.Report.{StartRefused, bad_option, failed_by};
+ghost use Rattle.heavy.specs.ReportFiles.{FilesRefused, FindsKeys, IfKnown, IsPrintedOfFiles};
+
+use crate::commands::confirm::rows_above;
+use crate::commands::report::{ReportOptions, prepare, write_keys};
+use crate::commands::summarise::summary_by_monitoring;
+use crate::counting::count_records;
+use crate::error::ToolError;
+use hh_counters::Heavy;
+use hh_counters::laws::{candidates_suffice, misra_gries_is_honest};
+use hh_records::{FileRecords, ReadAt, ReadRecords, RowOptions, Sink, SourceRecords, keep_pipes, lengths};
+use std::alloc::Global;
+use std::io::Read;
+
+/// The total of some records and their heavy keys, by one thread, which reads the files from their
+/// starts, twice.
+fn keys_in_turn<R: ReadRecords + Copy>(
+    alloc: Global,
+    records: R,
+    k: u64,
+    p: u64,
+    q: u64,
+) -> Result<(u64, Vec<Heavy>), ToolError>
+    requires k { in_range k max_k ≡ true }
+    requires share { IsShare p q }
+    requires enough { q ≤ p * (k + 1) }
+    ensures keys { IfOk result (λ keys. FindsKeys (R.known records) p q keys.0 keys.1.items) }
+    ensures refused { IfErr result (λ fault. RecordsRefused (R.known records) fault) }
+{
+    misra_gries_is_honest();
+    candidates_suffice();
+    let summary = summary_by_monitoring(alloc, k, records)?;
+    let counts = count_records(alloc, &summary, records)?;
+    if counts.total() != summary.total() {
+        return Err(ToolError::ReadFault);
+    }
+    let keys = rows_above(&summary, &counts, p, q)?;
+    Ok((summary.total(), keys))
+}
+
+/// The same where no file's length changes meanwhile. One whose length does fails.
+fn keys_of_sources<S: ReadAt>(
+    alloc: Global,
+    records: SourceRecords<'_, S>,
+    k: u64,
+    p: u64,
+    q: u64,
+) -> Result<(u64, Vec<Heavy>), ToolError>
+    requires k { in_range k max_k ≡ true }
+    requires share { IsShare p q }
+    requires enough { q ≤ p * (k + 1) }
+    ensures keys { IfOk result (λ keys.
+        FindsKeys (texts_known S.bytes records.entry.layout.now records.entry.sources.now)
+        p q keys.0 keys.1.items) }
+    ensures refused { IfErr result (RecordsRefused
+        (texts_known S.bytes records.entry.layout.now records.entry.sources.now)) }
+{
+    let before = lengths(alloc, records.sources)?;
+    let keys = keys_in_turn(alloc, records, k, p, q)?;
+    let after = lengths(alloc, records.sources)?;
+    if before.as_slice() != after.as_slice() {
+        return Err(ToolError::ReadFault);
+    }
+    Ok(keys)
+}
+
+/// The total of records in files, and the keys that a report of them has.
+fn reported_of_files<F: ReadAt + Drop, R: Read + Drop>(
+    alloc: Global,
+    options: &ReportOptions,
+    records: FileRecords<F, R>,
+) -> Result<(u64, Vec<Heavy>), ToolError>
+    ensures keys { IfOk result (λ keys. AreOptions options.now
+        × IfKnown (files_known F.bytes R.remaining records)
+        ((xs : List Entry) × (keys.0 ≡ total_of xs)
+        × ReportsKeys options.now (files_known F.bytes R.remaining records) xs keys.1.items)) }
+    ensures refused { IfErr result
+        (StartRefused options.now (files_known F.bytes R.remaining records)) }
+    ensures bad_option { IfSome (bad_option options.now) (λ fault. result ≡ Err fault) }
+{
+    let (p, q) = match prepare(alloc, options) {
+        Ok(prepared) => (prepared.p, prepared.q),
+        Err(fault) => return Err(fault),
+    };
+    let FileRecords { layout, inputs } = records;
+    let sources = keep_pipes(alloc, inputs)?;
+    let records = SourceRecords {
+        layout: &layout,
+        sources: &sources,
+    };
+    keys_of_sources(alloc, records, options.k, p, q)
+}
+
+/// [`report_rows`](crate::report_rows) of files of any size, which are read at any place. One thread
+/// reads them twice, for the keys that can be heavy and for their weights, and keeps k counters and
+/// one record at a time. The text of a pipe is kept.
+///
+/// Where the bytes of all files are known, the report is that of their records, one file after the
+/// other. A file of the system may change between two readings. Where its length or the total
+/// weight differs, it is told as one that can't be read; where neither does, that can't be seen.
+pub fn report_files<F: ReadAt + Drop, R: Read + Drop, S: Sink>(
+    alloc: Global,
+    options: &ReportOptions,
+    rows: &RowOptions,
+    records: FileRecords<F, R>,
+    sink: &mut S,
+) -> Result<(), ToolError>
+    requires { S.has_failed sink.old ≡ false }
+    ensures reported { OnOk result
+        (IsPrintedOfFiles rows.now options.now (files_known F.bytes R.remaining records)
+        (S.taken sink.old) (S.taken sink.new)) }
+    ensures refused { IfErr result (λ fault.
+        FilesRefused rows.now options.now (files_known F.bytes R.remaining records)
+        (S.taken sink.old) (S.taken sink.new) fault) }
+    ensures bad_option { IfSome (bad_option options.now) (λ fault. result ≡ Err fault) }
+    ensures flushed { OnOk result (S.is_flushed sink.new ≡ true) }
+    ensures failed { S.has_failed sink.new ≡ failed_by result }
+{
+    let (total, keys) = reported_of_files(alloc, options, records)?;
+    write_keys(alloc, sink, rows, total, &keys)
+}
