@@ -121,48 +121,6 @@ module _ (d : ℕ) where
   not-outside place.Quoted o = refl
   not-outside place.Left o = absurd (false≢true (sym o))
 
-  -- ---- runs that stand behind any place
-  behind-first : (c : ℕ) (run : List ℕ) → NoQuote (c ∷ run) 0 (length (c ∷ run)) → NoQuote run 0 (length run)
-  behind-first c run n k a b = n (suc k) (omega arith) (omega (arith, b))
-
-  pub run-stays : (run : List ℕ) → NoQuote run 0 (length run) → place_from d place.Quoted run ≡ place.Quoted
-  run-stays [] n = refl
-  run-stays (c ∷ run) n =
-      ap (λ p. place_from d p run) (next-quoted c (n 0 (omega arith) (omega arith)))
-      ∙ run-stays run (behind-first c run n)
-
-  run-last-more : (p : Place) (c : ℕ) (run : List ℕ) → is_open p ≡ true → NoQuote (c ∷ run) 0 (length (c ∷ run))
-      → plain_after d (get_or (c ∷ run) (length run) 0) ≡ place_from d p (c ∷ run)
-  run-last-more p c [] o n = sym (next-plain p c o (n 0 (omega arith) (omega arith)))
-  run-last-more p c (e ∷ run) o n =
-      run-last-more (plain_after d c) e run (plain-outside c) (behind-first c (e ∷ run) n)
-      ∙ sym (ap (λ q. place_from d q (e ∷ run)) (next-plain p c o (n 0 (omega arith) (omega arith))))
-
-  pub run-last : (p : Place) (run : List ℕ) → (length run == 0) ≡ false → is_open p ≡ true
-      → NoQuote run 0 (length run) → plain_after d (get_or run (length run - 1) 0) ≡ place_from d p run
-  run-last p [] some o n = absurd (false≢true (sym some))
-  run-last p (c ∷ run) some o n =
-      let same : length (c ∷ run) - 1 ≡ length run = omega arith in
-      ap (λ k. plain_after d (get_or (c ∷ run) k 0)) same ∙ run-last-more p c run o n
-
-  pub run-none : (p : Place) (run : List ℕ) → length run ≡ 0 → p ≡ place_from d p run
-  run-none p [] e = refl
-  run-none p (c ∷ run) e = absurd (omega (arith, e))
-
-  pub run-quotes : (p : Place) (run : List ℕ) → is_open p ≡ false → NoQuote run 0 (length run)
-      → p ≡ place_from d p run
-  run-quotes p run o n =
-      let quoted = not-outside p o in
-      quoted ∙ sym (run-stays run n) ∙ ap (λ q. place_from d q run) (sym quoted)
-
-  -- the place behind one more part of a text
-  pub from-more : (s : Place) (text : List ℕ) (from to : ℕ) → from ≤ to → to ≤ length text
-      → place_from d (place_from d s (take from text)) (slice_range text from to) ≡ place_from d s (take to text)
-  from-more s text from to order l =
-      let back : to ≡ from + (to - from) = omega (arith, order) in
-      sym (fold-append (place_next d) s (take from text) (slice_range text from to))
-      ∙ ap (place_from d s) (sym (ap (λ m. take m text) back ∙ take-add from (to - from) text))
-
   -- a run outside quotes, of a byte at least, comes to the place behind its last byte
   pub run-outside : (text : List ℕ) (from to : ℕ) (p : Place) → from < to → to ≤ length text
       → p ≡ place_behind d (take from text) → NoQuote text from to → is_open p ≡ true

@@ -1,3 +1,4 @@
+pub mod Chunks
 pub mod CutFiles
 pub mod CutTexts
 pub mod Decimals
@@ -14,3 +15,4 @@ pub mod Sinks
 pub mod Streams
 pub mod Taking
 pub mod Thresholds
+pub mod Windows
