@@ -1,15 +1,15 @@
 -- The last line feed outside quotes, run by run.
-use Rattle.std.proofs.Common.{◌≡◌, ◌≤◌, ◌<◌, ◌+◌, ◌-◌, ◌∙◌, ◌==◌, ◌∷◌, [], ℕ, suc, zero, List, length, take, drop, get_or, Bool, true, false, Option, Some, None, refl, sym, ap, arith, length-drop}
+use Rattle.std.proofs.Common.{◌≡◌, ◌≤◌, ◌<◌, ◌+◌, ◌-◌, ◌∙◌, ◌==◌, ℕ, suc, zero, List, length, take, drop, get_or, Bool, true, false, Option, Some, None, refl, sym, ap, arith, length-drop}
 use Rattle.std.specs.Prelude.{◌||◌, if◌then◌else◌, slice_range}
 use Rattle.std.proofs.lemmas.Bool.{eq-eqb, eqb-true, false≢true, ne_eqb}
 use Rattle.std.proofs.lemmas.List.{get_or-drop, get_or-take, length-take-le}
-use Rattle.std.proofs.lemmas.List.Sums.{fold-append, fold_more}
-use Rattle.std.proofs.Math.Seq.{take-add, take-length}
+use Rattle.std.proofs.lemmas.List.Sums.{fold_more}
+use Rattle.std.proofs.Math.Seq.{take-length}
 use native.Mathlib.Decide.{dec_lt}
 use Rattle.memchr.specs.Find.{IsLast, NoneAfter, NoneBefore, Nowhere, Passes, is_byte}
 use Rattle.hh_records.specs.declared.cuts.Place.{Place}
 use Rattle.hh_records.specs.declared.cuts.Place.TheVariants as place
-use Rattle.hh_records.specs.Quotes.{IsFeedAt, NoQuote, is_open, place_behind, place_from, place_next, plain_after}
+use Rattle.hh_records.specs.Quotes.{IsFeedAt, NoQuote, is_open, place_behind, place_next, plain_after}
 
 -- ---- the last place
 -- no place further on
@@ -55,14 +55,6 @@ no-quotes text from l h k a b q =
     let back : from + (k - from) ≡ k = omega (arith, a) in
     let byte = get_or-drop from text (k - from) 0 ∙ ap (λ m. get_or text m 0) back ∙ q in
     g (k - from) (omega arith) (omega (arith, a, b, length-drop from text)) (eq-eqb _ 34 byte)
-
--- in a slice there is none where there is none in the text
-pub slice-plain : (text : List ℕ) (from to : ℕ) → from ≤ to → to ≤ length text → NoQuote text from to
-    → NoQuote (slice_range text from to) 0 (length (slice_range text from to))
-slice-plain text from to order l n k a b q =
-    let long = slice-length text from to order l in
-    let within : from + k < to = omega (arith, b, long) in
-    n (from + k) (omega arith) within (sym (slice-at text from to k within) ∙ q)
 
 -- ---- runs with no quote
 module _ (d : ℕ) where
