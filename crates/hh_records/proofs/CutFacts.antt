@@ -2,6 +2,7 @@
 use Rattle.std.proofs.Common.{◌≡◌, ◌≤◌, ◌+◌, ◌∷◌, ◌++◌, ◌∙◌, ℕ, suc, zero, List, [], length, Bool, true, false, Option, Some, None, refl, sym, ap, arith, append-nil}
 use Rattle.std.specs.Prelude.{◌==◌, ◌&&◌, not, if◌then◌else◌}
 use Rattle.std.proofs.lemmas.Bool.{eqb-false, eqb-true, false≢true, ne_eqb}
+use Rattle.std.proofs.lemmas.Grind.{fold-append}
 use Rattle.csv.specs.Machine.{Read, after_end, ends_at_end, ends_with, field_after, fields_after, in_field, is_byte, is_end, next_record, start_field, start_record, step}
 use Rattle.csv.specs.Reading.{is_bom, records, records_from, records_next, strip_bom}
 use Rattle.csv.specs.declared.parser.Config.{Config}
@@ -210,7 +211,7 @@ feed-rest : (b : List ℕ) → begins_with_feed b ≡ true → (rest : List ℕ)
 feed-rest [] h = absurd (false≢true h)
 feed-rest (c ∷ rest) h = (rest, ap (λ x. x ∷ rest) (eqb-true c 10 h))
 
-feed-append : (b c : List ℕ) → begins_with_feed b ≡ true → begins_with_feed (b ++ c) ≡ true
+pub feed-append : (b c : List ℕ) → begins_with_feed b ≡ true → begins_with_feed (b ++ c) ≡ true
 feed-append [] c h = absurd (false≢true h)
 feed-append (x ∷ b) c h = h
 
@@ -226,7 +227,7 @@ outside-both d bytes h = by (d == 10) refl h
     by false e h = (ne_eqb 10 d (λ same. eqb-false d 10 e (sym same)), h)
 
 -- the records of two parts of a text that is cut there
-parts-records : (d : ℕ) (a b : List ℕ) → IsCut d a b
+pub parts-records : (d : ℕ) (a b : List ℕ) → IsCut d a b
     → records (delimited d) (strip_bom (a ++ b))
     ≡ records (delimited d) (strip_bom a) ++ records (delimited d) (strip_bom b)
 parts-records d a b cut =
@@ -237,6 +238,34 @@ parts-records d a b cut =
     ∙ records-cut d other (strip_bom a) rest outside
     ∙ ap (λ (u : List ℕ). records (delimited d) (strip_bom a) ++ records (delimited d) u)
     (sym (ap strip_bom is ∙ strip-line rest))
+
+-- a line feed outside quotes leads to the start of a record
+feed-starts : (d : ℕ) → (10 == d) ≡ false → (s : State) → is_outside s ≡ true
+    → (step (delimited d) s 10).0 ≡ st.StartRecord
+feed-starts d other st.StartRecord h = refl
+feed-starts d other st.AfterCr h = refl
+feed-starts d other st.StartField h = rw other refl
+feed-starts d other st.InField h = rw other refl
+feed-starts d other st.AfterQuote h = rw other refl
+feed-starts d other st.InQuoted h = absurd (false≢true h)
+feed-starts d other st.InEscape h = absurd (false≢true h)
+feed-starts d other st.InComment h = absurd (false≢true h)
+
+-- a text that is cut ends outside quotes where its last part does
+pub outside-more : (d : ℕ) (a b : List ℕ) → IsCut d a b → ends_outside d b ≡ true → ends_outside d (a ++ b) ≡ true
+outside-more d a b cut h =
+    let (other, outside) = outside-both d a cut.outside in
+    let (rest, is) = feed-rest b cut.feed in
+    let start = feed-starts d other (state_behind (delimited d) st.StartRecord (strip_bom a)) outside in
+    let behind : state_behind (delimited d) st.StartRecord (strip_bom (a ++ b)) ≡ state_behind (delimited d) st.StartRecord rest =
+    ap (λ (u : List ℕ). state_behind (delimited d) st.StartRecord (strip_bom (a ++ u))) is
+    ∙ ap (state_behind (delimited d) st.StartRecord) (strip-cut a rest)
+    ∙ fold-append (λ s c. (step (delimited d) s c).0) st.StartRecord (strip_bom a) (10 ∷ rest)
+    ∙ ap (λ s. state_behind (delimited d) s rest) start in
+    let alone : state_behind (delimited d) st.StartRecord (strip_bom b) ≡ state_behind (delimited d) st.StartRecord rest =
+    ap (λ (u : List ℕ). state_behind (delimited d) st.StartRecord (strip_bom u)) is
+    ∙ ap (state_behind (delimited d) st.StartRecord) (strip-line rest) in
+    ap (λ s. not (d == 10) && is_outside s) (behind ∙ sym alone) ∙ h
 
 no-records : (d : ℕ) → records (delimited d) (strip_bom []) ≡ []
 unfolding strip_bom

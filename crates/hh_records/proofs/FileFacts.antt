@@ -1,5 +1,5 @@
 -- Files in pieces, each of which is read by itself.
-use Rattle.std.proofs.Common.{◌≡◌, ◌≤◌, ◌<◌, ◌+◌, ◌∷◌, ◌++◌, ◌∙◌, ℕ, zero, suc, List, [], length, map, take, get_or, true, Option, Some, None, Ok, refl, sym, ap, arith, append_assoc}
+use Rattle.std.proofs.Common.{◌≡◌, ◌≤◌, ◌<◌, ◌+◌, ◌∷◌, ◌++◌, ◌∙◌, ℕ, zero, suc, List, [], length, map, take, get_or, Option, Some, None, refl, sym, ap, arith, append_assoc}
 use Rattle.std.specs.Prelude.{IfSome, option_map}
 use Rattle.std.proofs.lemmas.List.{get_or-map, get_or_append_left, length-map, map-append, take_all, take_more}
 use Rattle.std.proofs.lemmas.Simd.{map-map}
@@ -8,7 +8,7 @@ use Rattle.hh_records.specs.CutFiles.{AddsSpans, CutsBytes, file_piece, span_byt
 use Rattle.hh_records.specs.CutTexts.{AreReadByPieces, Piece, padded, piece_items}
 use Rattle.hh_records.specs.Laws.{FeedsOutsideQuotesAreCuts, PiecesAreRead}
 use Rattle.hh_records.specs.Layouts.{Places, every}
-use Rattle.hh_records.specs.Pieces.{FindsColumns, ends_outside, piece_reading, rows_in}
+use Rattle.hh_records.specs.Pieces.{FindsColumns, rows_in}
 use Rattle.hh_records.specs.declared.cut_files.FilePiece.{FilePiece}
 use Rattle.hh_records.specs.declared.cut_files.Span.{Span}
 use Rattle.hh_records.specs.declared.layout.Layout.{Layout}
@@ -108,18 +108,16 @@ module _ (layout : Layout) where
     read-padded layout texts _ count h,
   )
 
-  -- what a piece has whose bytes end outside quotes and read as these items
+  -- what a piece has whose bytes have these items
   pub piece-fed : {S : Type 0} (f : S → Option (List ℕ)) (sources : List S) (pieces : List FilePiece) (count piece : ℕ)
       (part : FilePiece) (source : S) (xs : List Entry) → piece < length pieces → part ≡ get_or pieces piece part
       → part.source < length sources → source ≡ get_or sources part.source source
       → IfSome (option_map (λ bytes. span_bytes bytes part.span) (f source))
-      (λ bytes. ends_outside layout.delimiter bytes ≡ true)
-      → IfSome (option_map (λ bytes. span_bytes bytes part.span) (f source))
-      (λ bytes. piece_reading layout part.columns bytes ≡ Some (Ok xs))
+      (λ bytes. piece_items layout (part.columns, bytes) ≡ Some xs)
       → IfSome (option_map (λ texts. padded count
       (map (λ piece. piece_items layout (file_piece texts piece)) pieces)) (every f sources))
       (λ all. get_or all piece None ≡ Some xs)
-  piece-fed f sources pieces count piece part source xs l at within here outside reads = by (every f sources) refl
+  piece-fed f sources pieces count piece part source xs l at within here has = by (every f sources) refl
     where
       by : (o : Option (List (List ℕ))) → every f sources ≡ o
           → IfSome (option_map (λ texts. padded count
@@ -130,11 +128,8 @@ module _ (layout : Layout) where
           let told : f source ≡ Some (get_or texts part.source []) =
           ap f here ∙ every-at f sources texts part.source source [] e within in
           let F : FilePiece → Option (List Entry) = λ piece. piece_items layout (file_piece texts piece) in
-          let is_open : ends_outside layout.delimiter (span_bytes (get_or texts part.source []) part.span) ≡ true =
-          rw told at outside in
-          let items : piece_reading layout part.columns (span_bytes (get_or texts part.source []) part.span) ≡ Some (Ok xs) =
-          rw told at reads in
+          let items : F part ≡ Some xs = rw told at has in
           get_or_append_left (map F pieces) _ None piece (rw (length-map pieces F) l)
           ∙ get_or-map F pieces piece part None l
           ∙ ap F (sym at)
-          ∙ rw (is_open, items) refl
+          ∙ items

@@ -1,4 +1,5 @@
 pub mod ByteFacts
+pub mod ChunkFacts
 pub mod CutFacts
 pub mod CutTextFacts
 pub mod DecimalFacts
@@ -18,7 +19,6 @@ pub mod SplitFacts
 pub mod TakeFacts
 pub mod TakenFacts
 pub mod TextFacts
-pub mod StartFacts
 pub mod SpanFacts
 pub mod FileFacts
 pub mod SourceFacts

@@ -15,10 +15,11 @@ use Rattle.hh_records.specs.declared.records.BadRecordCause.TheVariants as cause
 use Rattle.hh_records.specs.declared.retrying.Retrying.{Retrying}
 use Rattle.hh_records.specs.Laws.{PiecesAreRead}
 use Rattle.hh_records.specs.Layouts.{IsStart, Places, added, adding_next, adds, delimited, gathered, headed_parts, item_by, items_after, joined, parts_at, places_in, text_parts, texts_parts, weight_by}
-use Rattle.hh_records.specs.Pieces.{FindsColumns, InPieces, IsInPieces, all_pieces, columns_of, first_of, first_piece, piece_parts, piece_reading, rows_in, text_of, with_columns}
+use Rattle.hh_records.specs.Chunks.{Follows}
+use Rattle.hh_records.specs.Pieces.{FindsColumns, InPieces, IsCut, IsInPieces, all_pieces, columns_of, first_of, first_piece, piece_parts, piece_reading, rows_in, text_of, with_columns}
 use Rattle.hh_records.specs.Streams.{Fields, Parts, Reading, item_of_key, item_of_pair, weight_after, weight_or_cause}
-use Rattle.hh_records.proofs.CutFacts.{pieces-records}
-use Rattle.hh_records.proofs.OpenFacts.{map-nothing, map-twice}
+use Rattle.hh_records.proofs.CutFacts.{parts-records, pieces-records}
+use Rattle.hh_records.proofs.OpenFacts.{map-nothing, map-twice, some-is}
 use Rattle.hh_records.proofs.ReadFacts.{header-missed, header-taken, items-more, ok-eq}
 
 -- ---- records after another total
@@ -234,6 +235,23 @@ module _ (layout : Layout) where
         rw e refl,
         λ more. rw (e, map-append (parts_at at) rows more) refl,
       )
+
+  -- the records of a text that is cut are those of a part and, by the columns that follow it, of the rest
+  pub parts-more : (columns : Option Places) (at : Places) (a b : List ℕ) (ps : List Parts) → IsCut layout.delimiter a b
+      → Follows layout columns at a → piece_parts layout columns a ≡ Some ps
+      → piece_parts layout columns (a ++ b) ≡ Some (ps ++ map (parts_at at) (rows_in layout b))
+  unfolding parts_in
+  parts-more None at a b ps cut follows e =
+      let (qs, first, more) = rows-more (rows_in layout a) at follows in
+      let same : qs ≡ ps = some-is (sym first ∙ e) in
+      ap parts_in (parts-records layout.delimiter a b cut)
+      ∙ more (rows_in layout b)
+      ∙ ap (λ (l : List Parts). Some (l ++ map (parts_at at) (rows_in layout b))) same
+  parts-more (Some columns) at a b ps cut follows e =
+      ap (λ (rows : List Fields). Some (map (parts_at columns) rows)) (parts-records layout.delimiter a b cut)
+      ∙ ap Some (map-append (parts_at columns) (rows_in layout a) (rows_in layout b))
+      ∙ ap (λ (l : List Parts). Some (l ++ map (parts_at columns) (rows_in layout b))) (some-is e)
+      ∙ ap (λ (c : Places). Some (ps ++ map (parts_at c) (rows_in layout b))) (sym follows)
 
   no-parts : (at : Places) → columns_of layout [] ≡ Some at → parts_in [] ≡ Some []
   unfolding parts_in

@@ -1,15 +1,15 @@
 -- The last line feed outside quotes, run by run.
-use Rattle.std.proofs.Common.{◌≡◌, ◌≤◌, ◌<◌, ◌+◌, ◌-◌, ◌∙◌, ◌==◌, ◌∷◌, [], ℕ, suc, zero, List, length, take, drop, get_or, Bool, true, false, Option, Some, None, refl, sym, ap, arith, length-drop}
+use Rattle.std.proofs.Common.{◌≡◌, ◌≤◌, ◌<◌, ◌+◌, ◌-◌, ◌∙◌, ◌==◌, ℕ, suc, zero, List, length, take, drop, get_or, Bool, true, false, Option, Some, None, refl, sym, ap, arith, length-drop}
 use Rattle.std.specs.Prelude.{◌||◌, if◌then◌else◌, slice_range}
 use Rattle.std.proofs.lemmas.Bool.{eq-eqb, eqb-true, false≢true, ne_eqb}
 use Rattle.std.proofs.lemmas.List.{get_or-drop, get_or-take, length-take-le}
-use Rattle.std.proofs.lemmas.List.Sums.{fold-append, fold_more}
-use Rattle.std.proofs.Math.Seq.{take-add, take-length}
+use Rattle.std.proofs.lemmas.List.Sums.{fold_more}
+use Rattle.std.proofs.Math.Seq.{take-length}
 use native.Mathlib.Decide.{dec_lt}
 use Rattle.memchr.specs.Find.{IsLast, NoneAfter, NoneBefore, Nowhere, Passes, is_byte}
 use Rattle.hh_records.specs.declared.cuts.Place.{Place}
 use Rattle.hh_records.specs.declared.cuts.Place.TheVariants as place
-use Rattle.hh_records.specs.Quotes.{IsFeedAt, NoQuote, is_open, place_behind, place_from, place_next, plain_after}
+use Rattle.hh_records.specs.Quotes.{IsFeedAt, NoQuote, is_open, place_behind, place_next, plain_after}
 
 -- ---- the last place
 -- no place further on
@@ -55,14 +55,6 @@ no-quotes text from l h k a b q =
     let back : from + (k - from) ≡ k = omega (arith, a) in
     let byte = get_or-drop from text (k - from) 0 ∙ ap (λ m. get_or text m 0) back ∙ q in
     g (k - from) (omega arith) (omega (arith, a, b, length-drop from text)) (eq-eqb _ 34 byte)
-
--- in a slice there is none where there is none in the text
-pub slice-plain : (text : List ℕ) (from to : ℕ) → from ≤ to → to ≤ length text → NoQuote text from to
-    → NoQuote (slice_range text from to) 0 (length (slice_range text from to))
-slice-plain text from to order l n k a b q =
-    let long = slice-length text from to order l in
-    let within : from + k < to = omega (arith, b, long) in
-    n (from + k) (omega arith) within (sym (slice-at text from to k within) ∙ q)
 
 -- ---- runs with no quote
 module _ (d : ℕ) where
@@ -120,48 +112,6 @@ module _ (d : ℕ) where
   not-outside place.Field o = absurd (false≢true (sym o))
   not-outside place.Quoted o = refl
   not-outside place.Left o = absurd (false≢true (sym o))
-
-  -- ---- runs that stand behind any place
-  behind-first : (c : ℕ) (run : List ℕ) → NoQuote (c ∷ run) 0 (length (c ∷ run)) → NoQuote run 0 (length run)
-  behind-first c run n k a b = n (suc k) (omega arith) (omega (arith, b))
-
-  pub run-stays : (run : List ℕ) → NoQuote run 0 (length run) → place_from d place.Quoted run ≡ place.Quoted
-  run-stays [] n = refl
-  run-stays (c ∷ run) n =
-      ap (λ p. place_from d p run) (next-quoted c (n 0 (omega arith) (omega arith)))
-      ∙ run-stays run (behind-first c run n)
-
-  run-last-more : (p : Place) (c : ℕ) (run : List ℕ) → is_open p ≡ true → NoQuote (c ∷ run) 0 (length (c ∷ run))
-      → plain_after d (get_or (c ∷ run) (length run) 0) ≡ place_from d p (c ∷ run)
-  run-last-more p c [] o n = sym (next-plain p c o (n 0 (omega arith) (omega arith)))
-  run-last-more p c (e ∷ run) o n =
-      run-last-more (plain_after d c) e run (plain-outside c) (behind-first c (e ∷ run) n)
-      ∙ sym (ap (λ q. place_from d q (e ∷ run)) (next-plain p c o (n 0 (omega arith) (omega arith))))
-
-  pub run-last : (p : Place) (run : List ℕ) → (length run == 0) ≡ false → is_open p ≡ true
-      → NoQuote run 0 (length run) → plain_after d (get_or run (length run - 1) 0) ≡ place_from d p run
-  run-last p [] some o n = absurd (false≢true (sym some))
-  run-last p (c ∷ run) some o n =
-      let same : length (c ∷ run) - 1 ≡ length run = omega arith in
-      ap (λ k. plain_after d (get_or (c ∷ run) k 0)) same ∙ run-last-more p c run o n
-
-  pub run-none : (p : Place) (run : List ℕ) → length run ≡ 0 → p ≡ place_from d p run
-  run-none p [] e = refl
-  run-none p (c ∷ run) e = absurd (omega (arith, e))
-
-  pub run-quotes : (p : Place) (run : List ℕ) → is_open p ≡ false → NoQuote run 0 (length run)
-      → p ≡ place_from d p run
-  run-quotes p run o n =
-      let quoted = not-outside p o in
-      quoted ∙ sym (run-stays run n) ∙ ap (λ q. place_from d q run) (sym quoted)
-
-  -- the place behind one more part of a text
-  pub from-more : (s : Place) (text : List ℕ) (from to : ℕ) → from ≤ to → to ≤ length text
-      → place_from d (place_from d s (take from text)) (slice_range text from to) ≡ place_from d s (take to text)
-  from-more s text from to order l =
-      let back : to ≡ from + (to - from) = omega (arith, order) in
-      sym (fold-append (place_next d) s (take from text) (slice_range text from to))
-      ∙ ap (place_from d s) (sym (ap (λ m. take m text) back ∙ take-add from (to - from) text))
 
   -- a run outside quotes, of a byte at least, comes to the place behind its last byte
   pub run-outside : (text : List ℕ) (from to : ℕ) (p : Place) → from < to → to ≤ length text

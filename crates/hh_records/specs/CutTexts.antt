@@ -5,8 +5,12 @@ use Rattle.hh_stream.specs.Weights.{Entry, max_total, total_of}
 use Rattle.hh_records.specs.Layouts.{Places, stream_with}
 use Rattle.hh_records.specs.Pieces.{InPieces, LaterBeginWithFeed, columns_of, ends_outside, first_piece, piece_reading, rows_in, text_of, with_columns}
 use Rattle.hh_records.specs.Streams.{Reading}
+use Rattle.hh_records.specs.declared.cut_texts.PieceFault.{PieceFault}
+use Rattle.hh_records.specs.declared.cut_texts.PieceFault.TheVariants as fault
 use Rattle.hh_records.specs.declared.cut_texts.TextPiece.{TextPiece}
 use Rattle.hh_records.specs.declared.layout.Layout.{Layout}
+use Rattle.hh_records.specs.declared.texts.TextError.{TextError}
+use Rattle.hh_records.specs.declared.texts.TextError.TheVariants as text
 
 -- a piece's bytes, and the columns that it is read by
 abbrev pub Piece : Type 0
@@ -14,6 +18,13 @@ Piece = Option Places × List ℕ
 
 abbrev pub piece_of : TextPiece → Piece
 piece_of piece = (piece.columns, piece.bytes.now)
+
+-- why a piece was not read, by what refused it
+abbrev pub piece_fault : TextError → PieceFault
+piece_fault text.ReadFault = fault.Refused
+piece_fault text.NoColumn = fault.Refused
+piece_fault (text.BadRecord n c) = fault.Refused
+piece_fault text.Memory = fault.Memory
 
 -- the items of a reading, where nothing was refused
 abbrev pub items_of : Option Reading → Option (List Entry)

@@ -1,3 +1,4 @@
+pub mod Chunks
 pub mod CutFiles
 pub mod CutTexts
 pub mod Decimals
@@ -15,3 +16,4 @@ pub mod Sources
 pub mod Streams
 pub mod Taking
 pub mod Thresholds
+pub mod Windows

@@ -7,12 +7,12 @@ ghost use Rattle.hh_records.specs.CutTexts.{AreReadByPieces, piece_items};
 ghost use Rattle.hh_records.specs.Layouts.{TakesAdded, every};
 ghost use Rattle.hh_records.specs.Pieces.{begins_with_feed};
 
+use crate::chunks::feed_left;
 use crate::cut_texts::{LEAST_LEN, PieceFault};
-use crate::cuts::left_ends_outside;
 use crate::kept::{READ_LEN, zeros};
 use crate::laws::{feeds_outside_quotes_are_cuts, pieces_are_read};
 use crate::layout::Layout;
-use crate::pieces::{Columns, read_left};
+use crate::pieces::Columns;
 use crate::read_at::{ReadAt, read_between};
 use crate::texts::TextError;
 use hh_stream::TakeItems;
@@ -256,8 +256,9 @@ impl<'t, S: ReadAt> CutFiles<'t, S> {
         self.count.max(self.pieces.len())
     }
 
-    /// Hands the items of a piece to a taker, in order. It is read twice, through a buffer, and
-    /// nothing of it is kept. A refusal tells nothing of what was taken before it.
+    /// Hands the items of a piece to a taker, in order. Each byte is read once, into a buffer that
+    /// gets longer only where a record is longer than it, and nothing is kept. A refusal tells
+    /// nothing of what was taken before it.
     pub fn feed<T: TakeItems>(
         &self,
         alloc: Global,
@@ -278,19 +279,9 @@ impl<'t, S: ReadAt> CutFiles<'t, S> {
         let Some(source) = self.sources.get(part.source) else {
             return Err(PieceFault::Refused);
         };
-        let Ok(mut buffer) = zeros(alloc, READ_LEN) else {
-            return Err(PieceFault::Memory);
-        };
         let Span { from, to } = part.span;
+        let len = to.saturating_sub(from).min(usize::MAX as u64) as usize;
         let bytes = read_between(source, from, to);
-        if !left_ends_outside(bytes, &mut buffer, self.layout.delimiter) {
-            return Err(PieceFault::Refused);
-        }
-        let bytes = read_between(source, from, to);
-        match read_left(alloc, self.layout, part.columns.as_ref(), bytes, taker) {
-            Ok(()) => Ok(()),
-            Err(TextError::Memory) => Err(PieceFault::Memory),
-            Err(_) => Err(PieceFault::Refused),
-        }
+        feed_left(alloc, self.layout, part.columns.as_ref(), bytes, len, taker)
     }
 }

@@ -1,8 +1,8 @@
 //! Texts that are cut into pieces, each of which is read by itself.
 
-ghost use Rattle.std.specs.Prelude.{◌≡◌, ◌≤◌, ◌<◌, ◌++◌, true, List, None, Some, get_or, length, map, IfOk, IfSome, OnOk};
+ghost use Rattle.std.specs.Prelude.{◌≡◌, ◌≤◌, ◌<◌, ◌++◌, true, List, None, Some, get_or, length, map, option_map, IfOk, IfSome, OnOk};
 ghost use Rattle.hh_stream.specs.Weights.{Entry, max_total};
-ghost use Rattle.hh_records.specs.CutTexts.{AddsPieces, AreReadByPieces, padded, piece_items, piece_of};
+ghost use Rattle.hh_records.specs.CutTexts.{AddsPieces, AreReadByPieces, padded, piece_fault, piece_items, piece_of};
 ghost use Rattle.hh_records.specs.Layouts.{TakesAdded};
 
 use crate::cuts::{cut_text, ends_outside_quotes};
@@ -48,6 +48,19 @@ pub enum PieceFault {
     Refused,
     /// The allocator had no memory.
     Memory,
+}
+
+impl From<TextError> for PieceFault {
+    ghost from_gives = { λ error fault. fault ≡ piece_fault error };
+
+    fn from(error: TextError) -> PieceFault {
+        match error {
+            TextError::Memory => PieceFault::Memory,
+            TextError::ReadFault | TextError::NoColumn | TextError::BadRecord { .. } => {
+                PieceFault::Refused
+            }
+        }
+    }
 }
 
 // The fewest bytes of a piece, but of a text's last.
@@ -140,6 +153,28 @@ fn pieces_of<'t>(
     Ok(Some(pieces))
 }
 
+/// Hands the items of a piece to a taker, in order, where it ends outside quotes.
+pub(crate) fn feed_bytes<T: TakeItems>(
+    alloc: Global,
+    layout: &Layout,
+    columns: Option<&Columns>,
+    piece: &[u8],
+    taker: &mut T,
+) -> Result<(), PieceFault>
+    ensures items { OnOk result
+        (TakesAdded T.with_item T.weight_taken taker.old taker.new (λ xs.
+        piece_items layout.now (option_map (λ c. c.now) columns.entry, piece.now) ≡ Some xs)) }
+    ensures bounded { OnOk result (T.weight_taken taker.new ≤ max_total) }
+{
+    if !ends_outside_quotes(piece, layout.delimiter) {
+        return Err(PieceFault::Refused);
+    }
+    match read_piece(alloc, layout, columns, piece, taker) {
+        Ok(()) => Ok(()),
+        Err(error) => Err(PieceFault::from(error)),
+    }
+}
+
 impl<'t> CutTexts<'t> {
     /// Cuts texts of records with this layout into so many pieces, the last of which may be empty.
     /// There is no cut where the texts are more than the pieces, or where a text's columns aren't
@@ -190,13 +225,6 @@ impl<'t> CutTexts<'t> {
             let _total = taker.total();
             return Ok(());
         };
-        if !ends_outside_quotes(part.bytes, self.layout.delimiter) {
-            return Err(PieceFault::Refused);
-        }
-        match read_piece(alloc, self.layout, part.columns.as_ref(), part.bytes, taker) {
-            Ok(()) => Ok(()),
-            Err(TextError::Memory) => Err(PieceFault::Memory),
-            Err(_) => Err(PieceFault::Refused),
-        }
+        feed_bytes(alloc, self.layout, part.columns.as_ref(), part.bytes, taker)
     }
 }

@@ -1,17 +1,14 @@
 //! Where a text of records may be cut.
 
-ghost use Rattle.std.specs.Prelude.{◌≡◌, ◌≤◌, ◌<◌, ◌++◌, ℕ, true, List, [], length, map, take, IfOk, IfSome};
-ghost use Rattle.csv.specs.Reading.{strip_bom};
+ghost use Rattle.std.specs.Prelude.{◌≡◌, ◌≤◌, ◌<◌, length, map, take, IfOk};
 ghost use Rattle.memchr.specs.Find.{IsLast};
 ghost use Rattle.hh_stream.specs.Cuttings.{whole_of};
 ghost use Rattle.hh_records.specs.Pieces.{IsCutAt, LaterBeginWithFeed, ends_outside};
 ghost use Rattle.hh_records.specs.Quotes as spec;
-ghost use Rattle.hh_records.specs.Quotes.{IsFeedAt, NoQuote, place_behind, place_from};
+ghost use Rattle.hh_records.specs.Quotes.{IsFeedAt, NoQuote, place_behind};
 
-use crate::retrying::read;
 use memchr::{memchr, memrchr};
 use std::alloc::{AllocError, Global};
-use std::io::Read;
 
 /// A place in a text, as far as it tells what a quote does there.
 #[derive(Clone, Copy)]
@@ -120,31 +117,6 @@ fn scan(text: &[u8], delimiter: u8) -> (Place, Option<usize>)
     )
 }
 
-/// The place behind bytes with no quote, which stand behind a place.
-fn plain_run(place: Place, run: &[u8], delimiter: u8) -> Place
-    requires plain { NoQuote run.now 0 (length run.now) }
-    ensures { result ≡ place_from delimiter place run.now }
-{
-    if run.is_empty() || !is_open(place) {
-        return place;
-    }
-    plain_after(run[run.len() - 1], delimiter)
-}
-
-/// The place behind bytes that stand behind a place.
-fn place_after(start: Place, bytes: &[u8], delimiter: u8) -> Place
-    ensures { result ≡ place_from delimiter start bytes.now }
-{
-    let mut place = start;
-    let mut from = 0;
-    while let Some(run) = memchr(b'"', &bytes[from..]) {
-        let quote = from + run;
-        place = quote_after(plain_run(place, &bytes[from..quote], delimiter), delimiter);
-        from = quote + 1;
-    }
-    plain_run(place, &bytes[from..], delimiter)
-}
-
 /// How many bytes of a byte order mark a text begins with.
 pub(crate) fn mark_len(text: &[u8]) -> usize
     ensures { result ≡ spec.mark_len text.now }
@@ -167,49 +139,6 @@ pub fn ends_outside_quotes(text: &[u8], delimiter: u8) -> bool
     let mark = mark_len(text);
     let (place, _) = scan(&text[mark..], delimiter);
     is_open(place)
-}
-
-/// The place behind the first bytes of a text, behind its byte order mark. There is none where
-/// these may be a part of a mark.
-fn first_place(bytes: &[u8], delimiter: u8) -> Option<Place>
-    ensures { IfSome result (λ place. (rest : List ℕ) → (bytes.now ≡ [] → rest ≡ [])
-        → place_from delimiter place rest
-        ≡ place_behind delimiter (strip_bom (bytes.now ++ rest))) }
-{
-    if !bytes.is_empty() && bytes.len() < 3 && bytes[0] == 0xEF {
-        return None;
-    }
-    let mark = mark_len(bytes);
-    Some(place_after(Place::Start, &bytes[mark..], delimiter))
-}
-
-/// Whether what a reader has left is known to end outside quotes, as [`ends_outside_quotes`] tells
-/// of a text. It is read through a buffer; where that fails, nothing is known.
-pub(crate) fn left_ends_outside<R: Read + Drop>(reader: R, buffer: &mut [u8], delimiter: u8) -> bool
-    requires { 0 < length buffer.old }
-    ensures { result ≡ true → IfSome (R.remaining reader) (λ bytes.
-        ends_outside delimiter bytes ≡ true) }
-{
-    if delimiter == b'\n' {
-        return false;
-    }
-    let mut reader = reader;
-    let Ok(first) = read(&mut reader, buffer) else {
-        return false;
-    };
-    let Some(mut place) = first_place(&buffer[..first], delimiter) else {
-        return false;
-    };
-    for _ in 0..u64::MAX {
-        let Ok(count) = read(&mut reader, buffer) else {
-            return false;
-        };
-        if count == 0 {
-            return is_open(place);
-        }
-        place = place_after(place, &buffer[..count], delimiter);
-    }
-    false
 }
 
 /// How many bytes of a part of a text are whole records: those before the last line feed outside

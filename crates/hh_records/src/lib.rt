@@ -4,6 +4,7 @@
 //! `hh_` is heavy hitters, the frequent keys.
 #![tactic(auto)]
 
+mod chunks;
 mod cut_files;
 mod cut_texts;
 mod cuts;
@@ -22,6 +23,7 @@ mod sink;
 mod sources;
 mod texts;
 mod threshold;
+mod window;
 
 pub use cut_files::CutFiles;
 pub use cut_texts::{CutTexts, PieceFault};
