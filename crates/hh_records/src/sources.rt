@@ -15,22 +15,21 @@ use hh_stream::TakeItems;
 use std::alloc::Global;
 use std::io::{Read, Take};
 
-/// Where records come from: a file that is read at any place, or a pipe, which is read once.
+/// Where records come from: a file, which is read at any place, or a pipe, which is read once.
 #[derive(Drop)]
 pub enum FileOrPipe<F, R> {
     File(F),
     Pipe(R),
 }
 
-/// Records that are to be read more than once: those of a first input and then those of others,
-/// each of which is a text of its own.
+/// Records of files and pipes, one after the other, each of which is read as a text of its own.
 #[derive(Drop)]
 pub struct FileRecords<F, R> {
     pub layout: Layout,
     pub inputs: Vec<FileOrPipe<F, R>>,
 }
 
-/// Records of sources, which may be read again.
+/// Records of what can be read at any place, so that they can be read again.
 #[derive_where(Clone, Copy)]
 pub struct SourceRecords<'s, S> {
     pub layout: &'s Layout,
@@ -59,7 +58,7 @@ fn source_of<F: ReadAt, R: Read + Drop>(
     }
 }
 
-/// What is read of some inputs, with the texts of pipes kept. They are read in their order.
+/// What is read of some inputs. Pipes are read here, in their order, and their texts are kept.
 pub fn keep_pipes<F: ReadAt + Drop, R: Read + Drop>(
     alloc: Global,
     inputs: Vec<FileOrPipe<F, R>>,
