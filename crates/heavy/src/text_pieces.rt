@@ -18,6 +18,8 @@ pub(crate) struct TextPieces<'t> {
 impl<'t> Pieces for TextPieces<'t> {
     ghost pieces = { λ p. map items_or_none p.texts };
 
+    ghost known = { λ _. Unit };
+
     ghost reads = { λ p i.
         get_or p.texts i None ≡ Some (piece_of (map items_or_none p.texts) i) };
 

@@ -8,6 +8,7 @@ pub mod Taken
 pub mod Tried
 pub mod Alone
 pub mod Closed
+pub mod Held
 pub mod Merged
 pub mod Ordered
 pub mod TreeLaws

@@ -1,7 +1,6 @@
 -- One piece more, and what two workers have made together.
 use Rattle.std.proofs.Common.{◌≡◌, ◌⊎◌, inl, inr, ℕ, zero, suc, ◌+◌, ◌*◌, ◌<◌, ◌≤◌, List, [], ◌∷◌, ◌++◌, length, get_or, map, replicate, ⊎_elim, refl, sym, ap, ◌∙◌, subst, arith, All, slice_get, Some, sum_by}
 use Rattle.std.proofs.lemmas.List.{map-append, append-nil, get_or_append_left, get_or_push, length-append}
-use Rattle.std.specs.List.{range_with_len}
 use Rattle.std.proofs.lemmas.Option.{get_or_from_slice_get, slice_get-map}
 use Rattle.std.specs.Option.{option_map}
 use Rattle.std.proofs.lemmas.List.Elements.{All-nil, All-push}
@@ -18,7 +17,6 @@ use Rattle.std.proofs.lemmas.List.Sums.{sum_by-append}
 use Rattle.hh_counters.specs.Counting.{Count, count_of}
 use Rattle.hh_counters.specs.Report.{weights_at, counts_with}
 use Rattle.hh_counters.specs.Counters.{SummaryView, sketch_of}
-use Rattle.hh_countmin.specs.Family.{Coefficients}
 use Rattle.hh_countmin.specs.Table.{TableView, at_cell, cell_at, cell_sum, table_of}
 use Rattle.hh_countmin.specs.Laws.{CellsAreCellSums}
 use Rattle.hh_shared.specs.Tally.{times, cell_total, AreDisjoint, IsDistinctBelow}
@@ -51,19 +49,11 @@ tried-joined n one other tried i low =
 abbrev nothing : {A : Type 0} → A → ℕ
 nothing x = 0
 
-all_zero : {A : Type 0} (xs : List A) (i : ℕ) → get_or (map nothing xs) i 0 ≡ 0
+-- a list of zeros has nothing else
+pub all_zero : {A : Type 0} (xs : List A) (i : ℕ) → get_or (map nothing xs) i 0 ≡ 0
 all_zero [] i = refl
 all_zero (x ∷ xs) zero = refl
 all_zero (x ∷ xs) (suc i) = all_zero xs i
-
--- only who has claimed a piece has something to add
-pub claim-behind_cell : (family : Coefficients) (width : ℕ) (pieces : List (List Entry)) (claims : List ℕ) (grid : TableView)
-    → grid ≡ table_of family width (items_at pieces claims) → (cell : ℕ) → 0 < get_or grid.cells cell 0
-    → 0 < length claims
-claim-behind_cell family width pieces [] grid e cell some =
-    let zeros = all_zero (range_with_len 0 (length family.rows * width)) cell in
-    absurd (omega (arith, ap (λ g. get_or g.cells cell 0) e, zeros))
-claim-behind_cell family width pieces (i ∷ is) grid e cell some = omega arith
 
 -- numbers that rise, and one above them
 rising-push : (xs : List ℕ) (n : ℕ) → IsStrictlyIncreasing xs → All (λ i. i < n) xs
@@ -320,13 +310,6 @@ pub weight_behind_number : (keys : List Bytes) (xs : List Entry) (i : ℕ) (key 
 weight_behind_number keys xs i key at =
     get_or_from_slice_get (weights_at keys xs) i (weight_of key xs) 0
     (slice_get-map (λ (x : Bytes). weight_of x xs) keys i ∙ ap (option_map (λ (x : Bytes). weight_of x xs)) at)
-
--- only who has claimed a piece has something to add
-pub claim-behind_number : (pieces : List (List Entry)) (keys : List Bytes) (claims : List ℕ) (numbers : List ℕ)
-    → numbers ≡ weights_at keys (items_at pieces claims) → (i : ℕ) → 0 < get_or numbers i 0 → 0 < length claims
-claim-behind_number pieces keys [] numbers e i some =
-    absurd (omega (arith, ap (λ ns. get_or ns i 0) e, all_zero keys i))
-claim-behind_number pieces keys (j ∷ js) numbers e i some = omega arith
 
 -- the worker's own numbers are added to the shared ones
 pub second_ends : (pieces : List (List Entry)) (keys : List Bytes) (seat after : Holding) (counts : Count)

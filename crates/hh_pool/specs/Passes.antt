@@ -1,5 +1,5 @@
 -- What the workers of a pass bring back.
-use Rattle.std.specs.Prelude.{◌≡◌, ◌⊎◌, ℕ, ◌+◌, ◌*◌, ◌^◌, ◌<◌, ◌≤◌, All, List, [], length, map, slice_get, slice_index_or, Some, Result, IfOk, IsErrOf}
+use Rattle.std.specs.Prelude.{◌≡◌, ◌⊎◌, ℕ, ◌+◌, ◌*◌, ◌^◌, ◌<◌, ◌≤◌, All, List, [], fold, length, map, slice_get, slice_index_or, Some, Result, IfOk, IsErrOf}
 use Rattle.std.specs.Borrow.{RattleType}
 use Rattle.std.specs.List.{flat_map}
 use Rattle.std.specs.List.Sorted.{IsStrictlyIncreasing}
@@ -17,6 +17,15 @@ use Rattle.hh_pool.specs.declared.pieces.PieceFault.TheVariants as fault
 -- the items of piece i
 abbrev pub piece_of : List (List Entry) → ℕ → List Entry
 piece_of pieces i = slice_index_or pieces i []
+
+-- a taker has taken some items, of which something is given, and each item weighs something
+pub record Takes {A : Type 0} (with_item : A → Entry → A) (weight_taken : A → ℕ) (old new : A)
+    (gives : List Entry → Type 0) : Type 0 where
+  pub xs : List Entry
+  pub given : gives xs
+  pub positive : All (λ (e : Entry). 0 < e.1) xs
+  pub weight : weight_taken new ≡ weight_taken old + total_of xs
+  pub taken : new ≡ fold with_item old xs
 
 -- the items of the pieces with these numbers, one piece after the other
 abbrev pub items_at : List (List Entry) → List ℕ → List Entry

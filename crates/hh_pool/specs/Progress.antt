@@ -1,11 +1,12 @@
 -- How far a pass has come.
-use Rattle.std.specs.Prelude.{◌≡◌, ℕ, ◌<◌, ◌≤◌, All, List, [], length, map, take}
+use Rattle.std.specs.Prelude.{◌≡◌, ℕ, ◌<◌, ◌≤◌, All, List, [], ◌++◌, length, map, take}
 use Rattle.std.specs.List.Sorted.{IsStrictlyIncreasing}
 use Rattle.hh_stream.specs.Weights.{Bytes, Entry, total_of}
 use Rattle.hh_stream.specs.Cuttings.{whole_of}
 use Rattle.hh_counters.specs.Counters.{SummaryView, sketch_of}
 use Rattle.hh_counters.specs.Counting.{Count}
 use Rattle.hh_counters.specs.Report.{weights_at}
+use Rattle.hh_countmin.specs.Family.{Coefficients}
 use Rattle.hh_countmin.specs.Table.{TableView, grid_with, table_of}
 use Rattle.hh_shared.specs.Tally.{times, IsDistinctBelow}
 use Rattle.hh_shared.specs.Seats.{Holding}
@@ -59,3 +60,33 @@ pub record IsFirstAloneUpTo (reads : ℕ → Type 0) (pieces : List (List Entry)
 -- the calling thread has counted in the first n pieces
 abbrev pub IsSecondAloneUpTo : List (List Entry) → List Bytes → ℕ → Count → Type 0
 IsSecondAloneUpTo pieces keys n counts = AreCounted keys (whole_of (take n pieces)) counts
+
+-- one piece has been summarised, and its items added to a table; something is given of them
+pub record IsSummarised (gives : List Entry → Type 0) (k : ℕ) (s : SummaryView) (before after : TableView)
+    : Type 0 where
+  pub xs : List Entry
+  pub given : gives xs
+  pub summary : s ≡ sketch_of k xs
+  pub table : (family : Coefficients) (width : ℕ) (ys : List Entry) → before ≡ table_of family width ys
+      → after ≡ table_of family width (ys ++ xs)
+
+-- keys have been counted in the items of one piece, of which something is given
+pub record IsCountedOn (gives : List Entry → Type 0) (keys : List Bytes) (before after : Count) : Type 0 where
+  pub xs : List Entry
+  pub given : gives xs
+  pub on : (ys : List Entry) → AreCounted keys ys before → AreCounted keys (ys ++ xs) after
+
+-- Whatever the items of the pieces are, a worker of the first pass has a summary for each piece that it claimed, and its
+-- table is that of some items, of none where it claimed nothing
+pub record HoldsItems (settings : Settings) (claims : List ℕ) (kept : List (ℕ × SummaryView)) (grid : TableView)
+    : Type 0 where
+  pub xs : List Entry
+  pub table : grid ≡ table_of settings.family settings.width xs
+  pub none : claims ≡ [] → xs ≡ []
+  pub one_each : length kept ≡ length claims
+
+-- whatever the items are, a worker of the second pass has counted in some, in none where it claimed nothing
+pub record HasCounted (keys : List Bytes) (claims : List ℕ) (counts : Count) : Type 0 where
+  pub xs : List Entry
+  pub counted : AreCounted keys xs counts
+  pub none : claims ≡ [] → xs ≡ []

@@ -43,14 +43,18 @@ fn summarise<R: Threads + Wait + Sync, P: Pieces + Sync, G: Gate + Sync>(
 ) -> Result<(Vec<Summary>, Table), PieceFault>
     requires some { 0 < length (P.pieces work.now.pieces.now) }
     requires few { length (P.pieces work.now.pieces.now) ≤ max_pieces }
-    ensures summaries { IfOk result (λ r.
-        r.0.items ≡ map (sketch_of options.now.k) (P.pieces work.now.pieces.now)) }
-    ensures table { let options = options.now in IfOk result (λ r.
-        r.1 ≡ table_of options.family options.width (whole_of (P.pieces work.now.pieces.now))) }
+    ensures count { IfOk result (λ r.
+        length r.0.items ≡ length (P.pieces work.now.pieces.now)) }
+    ensures summaries { let pieces = work.now.pieces.now in IfOk result (λ r. P.known pieces
+        → r.0.items ≡ map (sketch_of options.now.k) (P.pieces pieces)) }
+    ensures table { let options = options.now in let pieces = work.now.pieces.now in
+        IfOk result (λ r. P.known pieces
+        → r.1 ≡ table_of options.family options.width (whole_of (P.pieces pieces))) }
     ensures read { let pieces = work.now.pieces.now in
-        OnOk result (AreRead (P.reads pieces) (P.pieces pieces)) }
+        OnOk result (P.known pieces → AreRead (P.reads pieces) (P.pieces pieces)) }
     ensures refused { let pieces = work.now.pieces.now in
-        IsErrOf result PieceFault.Refused → MayRefuse (P.refuses pieces) (P.pieces pieces) }
+        IsErrOf result PieceFault.Refused → P.known pieces
+        → MayRefuse (P.refuses pieces) (P.pieces pieces) }
 {
     cells_are_cell_sums();
     let pass = FirstPass { work, options };
@@ -65,20 +69,24 @@ fn summarise<R: Threads + Wait + Sync, P: Pieces + Sync, G: Gate + Sync>(
     Ok((summaries, table_of_cells(options, found.total, cells)?))
 }
 
-/// The table with these cells and this total.
-fn table_of_cells(options: &Options, total: u64, cells: Vec<u64>) -> Result<Table, AllocError>
-    requires total { total ≤ max_total }
-    requires cells { (xs : List Entry) × (total ≡ total_of xs)
-        × (cells.items ≡ (table_of options.now.family options.now.width xs).cells) }
-    ensures { IfOk result (λ table. table ≡ record {
+/// The table with these cells and this total. It is refused where they make none, as where a piece
+/// changed while it was read.
+fn table_of_cells(options: &Options, total: u64, cells: Vec<u64>) -> Result<Table, PieceFault>
+    ensures table { IfOk result (λ table. table ≡ record {
       family = options.now.family;
       width = options.now.width;
       total = total;
       cells = cells.items;
     }) }
+    ensures refused { IsErrOf result PieceFault.Refused → (xs : List Entry) → total ≡ total_of xs
+        → total ≤ max_total
+        → cells.items ≡ (table_of options.now.family options.now.width xs).cells → ⊥ }
 {
     tables_fit();
     let family = options.family().copy()?;
+    if !Table::fits(&family, options.width(), total, &cells) {
+        return Err(PieceFault::Refused);
+    }
     Ok(Table::from_cells(family, options.width(), total, cells))
 }
 
@@ -91,13 +99,16 @@ fn weigh<R: Threads + Wait + Sync, P: Pieces + Sync, G: Gate + Sync>(
 ) -> Result<Vec<u64>, PieceFault>
     requires some { 0 < length (P.pieces work.now.pieces.now) }
     requires few { length (P.pieces work.now.pieces.now) ≤ max_pieces }
-    requires total { total_of (whole_of (P.pieces work.now.pieces.now)) ≤ max_total }
+    requires total { let pieces = work.now.pieces.now in
+        P.known pieces → total_of (whole_of (P.pieces pieces)) ≤ max_total }
     requires workers { in_range workers max_workers ≡ true }
     requires few_keys { length candidates.now ≤ max_k }
-    ensures weights { IfOk result (λ weights.
-        weights.items ≡ weights_at candidates.now (whole_of (P.pieces work.now.pieces.now))) }
+    ensures count { IfOk result (λ weights. length weights.items ≡ length candidates.now) }
+    ensures weights { let pieces = work.now.pieces.now in IfOk result (λ weights. P.known pieces
+        → weights.items ≡ weights_at candidates.now (whole_of (P.pieces pieces))) }
     ensures refused { let pieces = work.now.pieces.now in
-        IsErrOf result PieceFault.Refused → MayRefuse (P.refuses pieces) (P.pieces pieces) }
+        IsErrOf result PieceFault.Refused → P.known pieces
+        → MayRefuse (P.refuses pieces) (P.pieces pieces) }
 {
     let pass = SecondPass { work, candidates };
     let (sums, seat) = SharedSums::new(work.alloc, work.pieces.count(), candidates.len())?;
@@ -158,14 +169,17 @@ fn merge_pieces<R: Threads + Wait + Sync, P: Pieces + Sync, G: Gate + Sync>(
     requires plan { IsMergeTree plan.now (length (P.pieces work.now.pieces.now)) }
     requires some { 0 < length (P.pieces work.now.pieces.now) }
     requires few { length (P.pieces work.now.pieces.now) ≤ max_pieces }
-    ensures summary { let lists = P.pieces work.now.pieces.now in IfOk result (λ merged.
-        IsMerged plan.now options.now.k lists (whole_of lists) merged.0) }
-    ensures table { let options = options.now in IfOk result (λ merged. merged.1
-        ≡ table_of options.family options.width (whole_of (P.pieces work.now.pieces.now))) }
+    ensures summary { let pieces = work.now.pieces.now in let lists = P.pieces pieces in
+        IfOk result (λ merged. P.known pieces
+        → IsMerged plan.now options.now.k lists (whole_of lists) merged.0) }
+    ensures table { let options = options.now in let pieces = work.now.pieces.now in
+        IfOk result (λ merged. P.known pieces → merged.1
+        ≡ table_of options.family options.width (whole_of (P.pieces pieces))) }
     ensures read { let pieces = work.now.pieces.now in
-        OnOk result (AreRead (P.reads pieces) (P.pieces pieces)) }
+        OnOk result (P.known pieces → AreRead (P.reads pieces) (P.pieces pieces)) }
     ensures refused { let pieces = work.now.pieces.now in
-        IsErrOf result PieceFault.Refused → MayRefuse (P.refuses pieces) (P.pieces pieces) }
+        IsErrOf result PieceFault.Refused → P.known pieces
+        → MayRefuse (P.refuses pieces) (P.pieces pieces) }
 {
     misra_gries_is_honest();
     let (summaries, table) = summarise(rt, work, options)?;
@@ -174,8 +188,9 @@ fn merge_pieces<R: Threads + Wait + Sync, P: Pieces + Sync, G: Gate + Sync>(
     match merge_by(work.alloc, plan, summaries) {
         Ok(summary) => Ok((summary, table)),
         Err(MergeFault::Memory) => Err(PieceFault::Memory),
-        Err(MergeFault::DifferentK) => unreachable!(),
-        Err(MergeFault::TotalTooLarge) => unreachable!(),
+        // Only pieces that changed while they were read come to this.
+        Err(MergeFault::DifferentK) => Err(PieceFault::Refused),
+        Err(MergeFault::TotalTooLarge) => Err(PieceFault::Refused),
     }
 }
 
@@ -189,18 +204,22 @@ fn heavy_keys<R: Threads + Wait + Sync, P: Pieces + Sync, G: Gate + Sync>(
 ) -> Result<Vec<Heavy>, PieceFault>
     requires some { 0 < length (P.pieces work.now.pieces.now) }
     requires few { length (P.pieces work.now.pieces.now) ≤ max_pieces }
-    requires same_k { summary.now.k ≡ options.now.k }
-    requires total { summary.now.total ≡ total_of (whole_of (P.pieces work.now.pieces.now)) }
-    requires honest { let s = summary.now in
-        IsHonest s.counters s.total (whole_of (P.pieces work.now.pieces.now)) s.k }
-    requires table { let options = options.now in table.now
-        ≡ table_of options.family options.width (whole_of (P.pieces work.now.pieces.now)) }
+    requires same_k { P.known work.now.pieces.now → summary.now.k ≡ options.now.k }
+    requires total { let pieces = work.now.pieces.now in
+        P.known pieces → summary.now.total ≡ total_of (whole_of (P.pieces pieces)) }
+    requires honest { let s = summary.now in let pieces = work.now.pieces.now in
+        P.known pieces → IsHonest s.counters s.total (whole_of (P.pieces pieces)) s.k }
+    requires table { let options = options.now in let pieces = work.now.pieces.now in
+        P.known pieces → table.now
+        ≡ table_of options.family options.width (whole_of (P.pieces pieces)) }
     requires few_keys { length summary.now.counters ≤ max_k }
     requires rows { 1 ≤ length table.now.family.rows }
-    ensures heavy { let xs = whole_of (P.pieces work.now.pieces.now) in
-        IfOk result (λ rows. rows.items ≡ heavy xs options.now.p options.now.q) }
+    ensures heavy { let pieces = work.now.pieces.now in let xs = whole_of (P.pieces pieces) in
+        IfOk result (λ rows. P.known pieces
+        → rows.items ≡ heavy xs options.now.p options.now.q) }
     ensures refused { let pieces = work.now.pieces.now in
-        IsErrOf result PieceFault.Refused → MayRefuse (P.refuses pieces) (P.pieces pieces) }
+        IsErrOf result PieceFault.Refused → P.known pieces
+        → MayRefuse (P.refuses pieces) (P.pieces pieces) }
 {
     let (p, q) = options.threshold();
     let candidates = candidates(work.alloc, summary, table, p, q)?;
@@ -219,17 +238,22 @@ fn run_passes<R: Threads + Wait + Sync, P: Pieces + Sync, G: Gate + Sync>(
     requires plan { IsMergeTree plan.now (length (P.pieces work.now.pieces.now)) }
     requires some { 0 < length (P.pieces work.now.pieces.now) }
     requires few { length (P.pieces work.now.pieces.now) ≤ max_pieces }
-    ensures summary { let lists = P.pieces work.now.pieces.now in IfOk result (λ outcome.
-        IsMerged plan.now options.now.k lists (whole_of lists) outcome.summary) }
-    ensures table { let options = options.now in IfOk result (λ outcome. outcome.table
-        ≡ table_of options.family options.width (whole_of (P.pieces work.now.pieces.now))) }
-    ensures heavy { let xs = whole_of (P.pieces work.now.pieces.now) in
-        IfOk result (λ outcome. outcome.heavy.items ≡ heavy xs options.now.p options.now.q) }
+    ensures summary { let pieces = work.now.pieces.now in let lists = P.pieces pieces in
+        IfOk result (λ outcome. P.known pieces
+        → IsMerged plan.now options.now.k lists (whole_of lists) outcome.summary) }
+    ensures table { let options = options.now in let pieces = work.now.pieces.now in
+        IfOk result (λ outcome. P.known pieces → outcome.table
+        ≡ table_of options.family options.width (whole_of (P.pieces pieces))) }
+    ensures heavy { let pieces = work.now.pieces.now in let xs = whole_of (P.pieces pieces) in
+        IfOk result (λ outcome. P.known pieces
+        → outcome.heavy.items ≡ heavy xs options.now.p options.now.q) }
     ensures read { let pieces = work.now.pieces.now in
-        OnOk result (AreRead (P.reads pieces) (P.pieces pieces)) }
-    ensures total { OnOk result (total_of (whole_of (P.pieces work.now.pieces.now)) ≤ max_total) }
+        OnOk result (P.known pieces → AreRead (P.reads pieces) (P.pieces pieces)) }
+    ensures total { let pieces = work.now.pieces.now in OnOk result
+        (P.known pieces → total_of (whole_of (P.pieces pieces)) ≤ max_total) }
     ensures refused { let pieces = work.now.pieces.now in
-        IsErrOf result PieceFault.Refused → MayRefuse (P.refuses pieces) (P.pieces pieces) }
+        IsErrOf result PieceFault.Refused → P.known pieces
+        → MayRefuse (P.refuses pieces) (P.pieces pieces) }
 {
     let (summary, table) = merge_pieces(rt, work, plan, options)?;
     let heavy = heavy_keys(rt, work, &summary, &table, options)?;
@@ -261,7 +285,8 @@ fn check_counts(plan: &Plan, count: usize) -> Result<(), PiecesError>
 /// pass is done again by the calling thread.
 ///
 /// It answers Refused where a piece was refused, or the weights of all pieces add up to more than
-/// [`MAX_TOTAL`](hh_stream::MAX_TOTAL).
+/// [`MAX_TOTAL`](hh_stream::MAX_TOTAL). Where the items aren't known, nothing is said of the
+/// outcome; pieces that change between two readings may also be Refused.
 pub fn analyse_pieces<R: Threads + Wait + Sync, P: Pieces + Sync, G: Gate + Sync>(
     rt: &R,
     alloc: Global,
@@ -272,16 +297,21 @@ pub fn analyse_pieces<R: Threads + Wait + Sync, P: Pieces + Sync, G: Gate + Sync
 ) -> Result<Outcome, PiecesError>
     ensures plan_mismatch { IsErrOf result PiecesError.PlanMismatch
         ↔ (length (leaves plan.now) ≢ length (P.pieces pieces.now)) }
-    ensures refused { IsErrOf result PiecesError.Refused
+    ensures refused { IsErrOf result PiecesError.Refused → P.known pieces.now
         → MayRefuse (P.refuses pieces.now) (P.pieces pieces.now) }
-    ensures read { OnOk result (AreRead (P.reads pieces.now) (P.pieces pieces.now)) }
-    ensures total { OnOk result (total_of (whole_of (P.pieces pieces.now)) ≤ max_total) }
+    ensures read { OnOk result
+        (P.known pieces.now → AreRead (P.reads pieces.now) (P.pieces pieces.now)) }
+    ensures total { OnOk result
+        (P.known pieces.now → total_of (whole_of (P.pieces pieces.now)) ≤ max_total) }
     ensures summary { let lists = P.pieces pieces.now in IfOk result (λ outcome.
-        IsMerged plan.now options.now.k lists (whole_of lists) outcome.summary) }
-    ensures table { let options = options.now in IfOk result (λ outcome.
-        outcome.table ≡ table_of options.family options.width (whole_of (P.pieces pieces.now))) }
+        P.known pieces.now
+        → IsMerged plan.now options.now.k lists (whole_of lists) outcome.summary) }
+    ensures table { let options = options.now in IfOk result (λ outcome. P.known pieces.now
+        → outcome.table
+        ≡ table_of options.family options.width (whole_of (P.pieces pieces.now))) }
     ensures heavy { let xs = whole_of (P.pieces pieces.now) in IfOk result (λ outcome.
-        outcome.heavy.items ≡ heavy xs options.now.p options.now.q) }
+        P.known pieces.now
+        → outcome.heavy.items ≡ heavy xs options.now.p options.now.q) }
 {
     check_counts(plan, pieces.count())?;
     let work = Work {

@@ -9,7 +9,8 @@ ghost use Rattle.hh_countmin.specs.Family.{Coefficients};
 ghost use Rattle.hh_countmin.specs.Table.{table_of};
 ghost use Rattle.hh_shared.specs.Seats.{fresh};
 ghost use Rattle.hh_pool.specs.Passes.{piece_of, AreRead, AreSummaries, IsFirstPass, MayRefuse};
-ghost use Rattle.hh_pool.specs.Progress.{IsFirstAloneUpTo, IsFirstPassUpTo, sketches_with};
+ghost use Rattle.hh_pool.specs.Progress.{HoldsItems, IsFirstAloneUpTo, IsFirstPassUpTo};
+ghost use Rattle.hh_pool.specs.Progress.{IsSummarised, sketches_with};
 
 use crate::gate::Gate;
 use crate::options::Options;
@@ -135,16 +136,14 @@ impl<'a, P: Pieces, G: Gate> FirstPass<'a, P, G> {
     // translated, and the table with the piece's items.
     fn summarise(&self, table: Table, piece: usize) -> Result<(Summary, Table), PieceFault>
         requires { piece < length (P.pieces self.now.work.now.pieces.now) }
-        ensures summary { let pieces = P.pieces self.now.work.now.pieces.now in
-            IfOk result (λ r. r.0 ≡ sketch_of self.now.options.now.k (piece_of pieces piece)) }
-        ensures table { let pieces = P.pieces self.now.work.now.pieces.now in
-            IfOk result (λ r. (family : Coefficients) (width : ℕ) (xs : List Entry)
-            → table ≡ table_of family width xs
-            → r.1 ≡ table_of family width (xs ++ piece_of pieces piece)) }
-        ensures reads { OnOk result (P.reads self.now.work.now.pieces.now piece) }
-        ensures refused { let pieces = P.pieces self.now.work.now.pieces.now in
-            IsErrOf result PieceFault.Refused → P.refuses self.now.work.now.pieces.now piece
-            ⊎ (max_total < table.total + total_of (piece_of pieces piece)) }
+        ensures summarised { let pieces = self.now.work.now.pieces.now in IfOk result (λ r.
+            IsSummarised (λ xs. P.known pieces → xs ≡ piece_of (P.pieces pieces) piece)
+            self.now.options.now.k r.0 table r.1) }
+        ensures reads { let pieces = self.now.work.now.pieces.now in
+            OnOk result (P.known pieces → P.reads pieces piece) }
+        ensures refused { let pieces = self.now.work.now.pieces.now in
+            IsErrOf result PieceFault.Refused → P.known pieces → P.refuses pieces piece
+            ⊎ (max_total < table.total + total_of (piece_of (P.pieces pieces) piece)) }
     {
         summaries_follow_items();
         tables_follow_items();
@@ -172,15 +171,21 @@ impl<'a, P: Pieces, G: Gate> FirstPass<'a, P, G> {
         requires seat { seat.old.sums ≡ sums.now }
         requires piece { piece < sums.now.claims }
         requires claims { sums.now.claims ≡ length (P.pieces self.now.work.now.pieces.now) }
-        requires before { let pieces = self.now.work.now.pieces.now in
-            IsFirstPassUpTo (P.reads pieces) (P.pieces pieces) self.now.options.now
+        requires before { let pieces = self.now.work.now.pieces.now in P.known pieces
+            → IsFirstPassUpTo (P.reads pieces) (P.pieces pieces) self.now.options.now
             piece seat.old made.summaries.items made.table }
+        requires held { HoldsItems self.now.options.now seat.old.claims
+            made.summaries.items made.table }
         ensures sums { seat.new.sums ≡ seat.old.sums }
         ensures after { let pieces = self.now.work.now.pieces.now in IfOk result (λ made.
-            IsFirstPassUpTo (P.reads pieces) (P.pieces pieces) self.now.options.now
+            P.known pieces
+            → IsFirstPassUpTo (P.reads pieces) (P.pieces pieces) self.now.options.now
             (piece + 1) seat.new made.summaries.items made.table) }
+        ensures held { IfOk result (λ made. HoldsItems self.now.options.now seat.new.claims
+            made.summaries.items made.table) }
         ensures refused { let pieces = self.now.work.now.pieces.now in
-            IsErrOf result PieceFault.Refused → MayRefuse (P.refuses pieces) (P.pieces pieces) }
+            IsErrOf result PieceFault.Refused → P.known pieces
+            → MayRefuse (P.refuses pieces) (P.pieces pieces) }
     {
         if !sums.claim(seat, piece) {
             return Ok(made);
@@ -202,10 +207,12 @@ impl<'a, P: Pieces, G: Gate> FirstPass<'a, P, G> {
         &self,
         mut found: Vec<(usize, Summary)>,
     ) -> Result<Vec<Summary>, AllocError>
-        requires { let pieces = P.pieces self.now.work.now.pieces.now in
-            AreSummaries self.now.options.now.k pieces found.items }
-        ensures { let pieces = P.pieces self.now.work.now.pieces.now in IfOk result (λ summaries.
-            summaries.items ≡ map (sketch_of self.now.options.now.k) pieces) }
+        requires { let pieces = self.now.work.now.pieces.now in P.known pieces
+            → AreSummaries self.now.options.now.k (P.pieces pieces) found.items }
+        ensures count { IfOk result (λ summaries. length summaries.items ≡ length found.items) }
+        ensures summaries { let pieces = self.now.work.now.pieces.now in
+            IfOk result (λ summaries. P.known pieces
+            → summaries.items ≡ map (sketch_of self.now.options.now.k) (P.pieces pieces)) }
     {
         found.sort_unstable_by(|a, b| a.0.cmp(&b.0));
         let mut summaries = Vec::new(self.work.alloc);
@@ -218,15 +225,19 @@ impl<'a, P: Pieces, G: Gate> FirstPass<'a, P, G> {
     /// The same by the calling thread, without sums: the summaries of the pieces, in order, and the
     /// table of all items.
     pub(crate) fn alone(&self) -> Result<(Vec<Summary>, Table), PieceFault>
-        ensures summaries { let pieces = P.pieces self.now.work.now.pieces.now in
-            IfOk result (λ r. r.0.items ≡ map (sketch_of self.now.options.now.k) pieces) }
-        ensures table { let options = self.now.options.now in IfOk result (λ r. r.1
-            ≡ table_of options.family options.width
-            (whole_of (P.pieces self.now.work.now.pieces.now))) }
+        ensures count { let pieces = self.now.work.now.pieces.now in
+            IfOk result (λ r. length r.0.items ≡ length (P.pieces pieces)) }
+        ensures summaries { let pieces = self.now.work.now.pieces.now in
+            IfOk result (λ r. P.known pieces
+            → r.0.items ≡ map (sketch_of self.now.options.now.k) (P.pieces pieces)) }
+        ensures table { let options = self.now.options.now in
+            let pieces = self.now.work.now.pieces.now in IfOk result (λ r. P.known pieces
+            → r.1 ≡ table_of options.family options.width (whole_of (P.pieces pieces))) }
         ensures reads { let pieces = self.now.work.now.pieces.now in
-            OnOk result (AreRead (P.reads pieces) (P.pieces pieces)) }
+            OnOk result (P.known pieces → AreRead (P.reads pieces) (P.pieces pieces)) }
         ensures refused { let pieces = self.now.work.now.pieces.now in
-            IsErrOf result PieceFault.Refused → MayRefuse (P.refuses pieces) (P.pieces pieces) }
+            IsErrOf result PieceFault.Refused → P.known pieces
+            → MayRefuse (P.refuses pieces) (P.pieces pieces) }
     {
         let mut summaries = Vec::new(self.work.alloc);
         let mut table = empty_table(self.work.alloc, self.options)?;
@@ -244,14 +255,18 @@ impl<'a, P: Pieces, G: Gate> FirstPass<'a, P, G> {
         piece: usize,
     ) -> Result<Table, PieceFault>
         requires piece { piece < length (P.pieces self.now.work.now.pieces.now) }
-        requires before { let pieces = self.now.work.now.pieces.now in
-            IsFirstAloneUpTo (P.reads pieces) (P.pieces pieces) self.now.options.now
+        requires before { let pieces = self.now.work.now.pieces.now in P.known pieces
+            → IsFirstAloneUpTo (P.reads pieces) (P.pieces pieces) self.now.options.now
             piece summaries.old.items table }
+        ensures count { OnOk result
+            (length summaries.new.items ≡ length summaries.old.items + 1) }
         ensures after { let pieces = self.now.work.now.pieces.now in IfOk result (λ table.
-            IsFirstAloneUpTo (P.reads pieces) (P.pieces pieces) self.now.options.now
+            P.known pieces
+            → IsFirstAloneUpTo (P.reads pieces) (P.pieces pieces) self.now.options.now
             (piece + 1) summaries.new.items table) }
         ensures refused { let pieces = self.now.work.now.pieces.now in
-            IsErrOf result PieceFault.Refused → MayRefuse (P.refuses pieces) (P.pieces pieces) }
+            IsErrOf result PieceFault.Refused → P.known pieces
+            → MayRefuse (P.refuses pieces) (P.pieces pieces) }
     {
         self.work
             .gate
@@ -272,15 +287,16 @@ impl<'a, P: Pieces, G: Gate> Pass for FirstPass<'a, P, G> {
     ghost fits = { λ p sums. (sums.claims ≡ length (P.pieces p.work.now.pieces.now))
         × (sums.cells ≡ length p.options.now.family.rows * p.options.now.width) };
 
-    ghost done = { λ p seat kept. IsFirstPass (P.pieces p.work.now.pieces.now) p.options.now seat
-        kept.summaries.items };
+    ghost done = { λ p seat kept. let pieces = p.work.now.pieces.now in P.known pieces
+        → IsFirstPass (P.pieces pieces) p.options.now seat kept.summaries.items };
 
     ghost all_done = { λ p seat kept. let pieces = p.work.now.pieces.now in
-        AreFirstPasses (P.pieces pieces) p.options.now seat kept.summaries.items
-        × HaveTaken (P.reads pieces) (P.pieces pieces) seat.claims kept.total };
+        (length kept.summaries.items ≡ length seat.claims) × (P.known pieces
+        → AreFirstPasses (P.pieces pieces) p.options.now seat kept.summaries.items
+        × HaveTaken (P.reads pieces) (P.pieces pieces) seat.claims kept.total) };
 
-    ghost may_refuse = { λ p. let pieces = p.work.now.pieces.now in
-        MayRefuse (P.refuses pieces) (P.pieces pieces) };
+    ghost may_refuse = { λ p. let pieces = p.work.now.pieces.now in P.known pieces
+        → MayRefuse (P.refuses pieces) (P.pieces pieces) };
 
     fn run(
         &self,

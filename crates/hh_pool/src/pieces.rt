@@ -4,7 +4,7 @@ ghost use Rattle.std.specs.Prelude.{◌≡◌, ◌+◌, ◌<◌, ℕ, List, All,
 ghost use Rattle.std.specs.Prelude.{IfOk, IsErrOf, OnOk, ◌⊎◌};
 ghost use Rattle.hh_stream.specs.Weights.{Entry, max_total, total_of};
 ghost use Rattle.hh_stream.specs.Cuttings.{pieces_of};
-ghost use Rattle.hh_pool.specs.Passes.{piece_of};
+ghost use Rattle.hh_pool.specs.Passes.{piece_of, Takes};
 ghost use Rattle.hh_pool.specs.declared.pieces.PieceFault.TheVariants.{Memory};
 
 use hh_stream::{Cutting, MAX_TOTAL, Stream, TakeItems};
@@ -47,8 +47,12 @@ pub(crate) fn only_memory<T>(given: Result<T, PieceFault>) -> Result<T, AllocErr
 /// Pieces, each of which has items, in order: a cut stream, or pieces of a text that are read where
 /// they are asked for. Several workers may ask at once.
 pub trait Pieces {
-    // The items of each piece. Of a piece that can't be read it is any list.
+    // The items of each piece, where they are known. Of a piece that can't be read it is any list.
     ghost pieces: { Self → List (List Entry) };
+
+    // That the items are known: each reading of a piece gives the same ones. Of a file of the
+    // system they aren't, since it can change between two readings.
+    ghost known: { Self → Type 0 };
 
     // What is known of a piece that was handed over: that it can be read.
     ghost reads: { Self → ℕ → Type 0 };
@@ -69,14 +73,11 @@ pub trait Pieces {
         taker: &mut T,
     ) -> Result<(), PieceFault>
         requires { piece < length (pieces self.now) }
-        ensures taken { OnOk result
-            (taker.new ≡ fold T.with_item taker.old (piece_of (pieces self.now) piece)) }
-        ensures total { OnOk result (T.weight_taken taker.new
-            ≡ T.weight_taken taker.old + total_of (piece_of (pieces self.now) piece)) }
-        ensures positive { OnOk result (All (λ e. 0 < e.1) (piece_of (pieces self.now) piece)) }
-        ensures reads { OnOk result (reads self.now piece) }
-        ensures refused { IsErrOf result PieceFault.Refused → refuses self.now piece
-            ⊎ (max_total
+        ensures taken { OnOk result (Takes T.with_item T.weight_taken taker.old taker.new
+            (λ xs. known self.now → xs ≡ piece_of (pieces self.now) piece)) }
+        ensures reads { OnOk result (known self.now → reads self.now piece) }
+        ensures refused { IsErrOf result PieceFault.Refused → known self.now
+            → refuses self.now piece ⊎ (max_total
             < T.weight_taken taker.old + total_of (piece_of (pieces self.now) piece)) };
 }
 
@@ -111,6 +112,8 @@ impl<'a> CutStream<'a> {
 
 impl<'a> Pieces for CutStream<'a> {
     ghost pieces = { λ pieces. pieces };
+
+    ghost known = { λ _. Unit };
 
     ghost reads = { λ _ _. Unit };
 

@@ -7,7 +7,8 @@ ghost use Rattle.hh_stream.specs.Cuttings.{pieces_of, whole_of};
 ghost use Rattle.hh_counters.specs.Report.{weights_at};
 ghost use Rattle.hh_shared.specs.Seats.{fresh};
 ghost use Rattle.hh_pool.specs.Passes.{piece_of, AreSecondPasses, IsSecondPass, MayRefuse};
-ghost use Rattle.hh_pool.specs.Progress.{AreCounted, IsSecondAloneUpTo, IsSecondPassUpTo};
+ghost use Rattle.hh_pool.specs.Progress.{AreCounted, HasCounted, IsCountedOn, IsSecondAloneUpTo};
+ghost use Rattle.hh_pool.specs.Progress.{IsSecondPassUpTo};
 
 use crate::gate::Gate;
 use crate::pass::{Pass, Work, add_numbers};
@@ -67,12 +68,12 @@ impl<'a, P: Pieces, G: Gate> SecondPass<'a, P, G> {
     // Counts the candidates of a piece, which isn't read where there are none.
     fn count_piece(&self, counts: &mut CandidateCounts, piece: usize) -> Result<(), PieceFault>
         requires { piece < length (P.pieces self.now.work.now.pieces.now) }
-        ensures counted { let pieces = P.pieces self.now.work.now.pieces.now in
-            OnOk result ((xs : List Entry) → AreCounted self.now.candidates.now xs counts.old
-            → AreCounted self.now.candidates.now (xs ++ piece_of pieces piece) counts.new) }
-        ensures refused { let pieces = P.pieces self.now.work.now.pieces.now in
-            IsErrOf result PieceFault.Refused → P.refuses self.now.work.now.pieces.now piece
-            ⊎ (max_total < counts.old.total + total_of (piece_of pieces piece)) }
+        ensures counted { let pieces = self.now.work.now.pieces.now in OnOk result
+            (IsCountedOn (λ xs. P.known pieces → xs ≡ piece_of (P.pieces pieces) piece)
+            self.now.candidates.now counts.old counts.new) }
+        ensures refused { let pieces = self.now.work.now.pieces.now in
+            IsErrOf result PieceFault.Refused → P.known pieces → P.refuses pieces piece
+            ⊎ (max_total < counts.old.total + total_of (piece_of (P.pieces pieces) piece)) }
     {
         if self.candidates.is_empty() {
             return Ok(());
@@ -92,13 +93,19 @@ impl<'a, P: Pieces, G: Gate> SecondPass<'a, P, G> {
         requires seat { seat.old.sums ≡ sums.now }
         requires piece { piece < sums.now.claims }
         requires claims { sums.now.claims ≡ length (P.pieces self.now.work.now.pieces.now) }
-        requires before { let pieces = P.pieces self.now.work.now.pieces.now in
-            IsSecondPassUpTo pieces self.now.candidates.now piece seat.old counts.old }
+        requires before { let pieces = self.now.work.now.pieces.now in P.known pieces
+            → IsSecondPassUpTo (P.pieces pieces) self.now.candidates.now
+            piece seat.old counts.old }
+        requires held { HasCounted self.now.candidates.now seat.old.claims counts.old }
         ensures sums { seat.new.sums ≡ seat.old.sums }
-        ensures after { let pieces = P.pieces self.now.work.now.pieces.now in OnOk result
-            (IsSecondPassUpTo pieces self.now.candidates.now (piece + 1) seat.new counts.new) }
+        ensures after { let pieces = self.now.work.now.pieces.now in OnOk result (P.known pieces
+            → IsSecondPassUpTo (P.pieces pieces) self.now.candidates.now
+            (piece + 1) seat.new counts.new) }
+        ensures held { OnOk result
+            (HasCounted self.now.candidates.now seat.new.claims counts.new) }
         ensures refused { let pieces = self.now.work.now.pieces.now in
-            IsErrOf result PieceFault.Refused → MayRefuse (P.refuses pieces) (P.pieces pieces) }
+            IsErrOf result PieceFault.Refused → P.known pieces
+            → MayRefuse (P.refuses pieces) (P.pieces pieces) }
     {
         if sums.claim(seat, piece) {
             self.work.gate.before(2, worker, piece as u64);
@@ -110,11 +117,14 @@ impl<'a, P: Pieces, G: Gate> SecondPass<'a, P, G> {
     /// The same by the calling thread, without sums: the candidates' weights in all pieces.
     /// `workers` is what the gate hears.
     pub(crate) fn alone(&self, workers: u64) -> Result<Vec<u64>, PieceFault>
-        ensures weights { let pieces = P.pieces self.now.work.now.pieces.now in
-            IfOk result (λ weights.
-            weights.items ≡ weights_at self.now.candidates.now (whole_of pieces)) }
+        ensures count { IfOk result (λ weights.
+            length weights.items ≡ length self.now.candidates.now) }
+        ensures weights { let pieces = self.now.work.now.pieces.now in
+            IfOk result (λ weights. P.known pieces
+            → weights.items ≡ weights_at self.now.candidates.now (whole_of (P.pieces pieces))) }
         ensures refused { let pieces = self.now.work.now.pieces.now in
-            IsErrOf result PieceFault.Refused → MayRefuse (P.refuses pieces) (P.pieces pieces) }
+            IsErrOf result PieceFault.Refused → P.known pieces
+            → MayRefuse (P.refuses pieces) (P.pieces pieces) }
     {
         let mut counts = CandidateCounts::new(self.work.alloc, self.candidates)?;
         for piece in 0..self.work.pieces.count() {
@@ -131,12 +141,17 @@ impl<'a, P: Pieces, G: Gate> SecondPass<'a, P, G> {
         piece: usize,
     ) -> Result<(), PieceFault>
         requires piece { piece < length (P.pieces self.now.work.now.pieces.now) }
-        requires before { let pieces = P.pieces self.now.work.now.pieces.now in
-            IsSecondAloneUpTo pieces self.now.candidates.now piece counts.old }
-        ensures after { let pieces = P.pieces self.now.work.now.pieces.now in OnOk result
-            (IsSecondAloneUpTo pieces self.now.candidates.now (piece + 1) counts.new) }
+        requires before { let pieces = self.now.work.now.pieces.now in P.known pieces
+            → IsSecondAloneUpTo (P.pieces pieces) self.now.candidates.now piece counts.old }
+        requires counted { (xs : List Entry) × AreCounted self.now.candidates.now xs counts.old }
+        ensures counted { OnOk result
+            ((xs : List Entry) × AreCounted self.now.candidates.now xs counts.new) }
+        ensures after { let pieces = self.now.work.now.pieces.now in OnOk result (P.known pieces
+            → IsSecondAloneUpTo (P.pieces pieces) self.now.candidates.now
+            (piece + 1) counts.new) }
         ensures refused { let pieces = self.now.work.now.pieces.now in
-            IsErrOf result PieceFault.Refused → MayRefuse (P.refuses pieces) (P.pieces pieces) }
+            IsErrOf result PieceFault.Refused → P.known pieces
+            → MayRefuse (P.refuses pieces) (P.pieces pieces) }
     {
         self.work.gate.before(2, workers, piece as u64);
         self.count_piece(counts, piece)
@@ -152,14 +167,14 @@ impl<'a, P: Pieces, G: Gate> Pass for SecondPass<'a, P, G> {
     ghost fits = { λ p sums. (sums.claims ≡ length (P.pieces p.work.now.pieces.now))
         × (sums.cells ≡ length p.candidates.now) };
 
-    ghost done = { λ p seat _.
-        IsSecondPass (P.pieces p.work.now.pieces.now) p.candidates.now seat };
+    ghost done = { λ p seat _. let pieces = p.work.now.pieces.now in P.known pieces
+        → IsSecondPass (P.pieces pieces) p.candidates.now seat };
 
-    ghost all_done = { λ p seat _.
-        AreSecondPasses (P.pieces p.work.now.pieces.now) p.candidates.now seat };
+    ghost all_done = { λ p seat _. let pieces = p.work.now.pieces.now in P.known pieces
+        → AreSecondPasses (P.pieces pieces) p.candidates.now seat };
 
-    ghost may_refuse = { λ p. let pieces = p.work.now.pieces.now in
-        MayRefuse (P.refuses pieces) (P.pieces pieces) };
+    ghost may_refuse = { λ p. let pieces = p.work.now.pieces.now in P.known pieces
+        → MayRefuse (P.refuses pieces) (P.pieces pieces) };
 
     fn run(
         &self,

@@ -5,7 +5,7 @@ use Rattle.hh_pool.proofs.Closed.{closed_weights}
 use Rattle.hh_pool.proofs.analysis.weigh.Goals as goal
 
 pub returns-clause-weights : goal.returns-clause-weights
-returns-clause-weights g c =
+returns-clause-weights g c = λ known.
     let pieces = g.P.Pieces.pieces c.args.work.now.pieces.now in
     let seat = c.in_ok-seat.seat in
     let count : c.in_ok-sums.sums.claims ≡ length pieces = c.in_ok-sums.ensures.claims ∙ c.count.ensures in
@@ -13,7 +13,12 @@ returns-clause-weights g c =
     let all = subst (λ n. HasAllBelow n seat.claims) count (c.if-not-holds_all.ensures.all.0 refl) in
     let cells = c.in_ok-sums.ensures.cells ∙ c.len.ensures.len in
     let closed = c.in_ok-close.ensures in
-    closed_weights pieces (whole_of pieces) c.args.candidates.now seat c.in_ok-close.field-0.items refl c.requires.total
-    c.in_ok-seat.ensures.all_done distinct all
+    closed_weights pieces (whole_of pieces) c.args.candidates.now seat c.in_ok-close.field-0.items refl (c.requires.total known)
+    (c.in_ok-seat.ensures.all_done known) distinct all
     (omega (arith, closed.len, c.in_ok-close.field-0.ok))
     (λ cell inside. closed.sums cell (omega arith))
+
+pub returns-clause-count : goal.returns-clause-count
+returns-clause-count g c =
+    let closed = c.in_ok-close.ensures in
+    omega (arith, closed.len, c.in_ok-close.field-0.ok, c.in_ok-sums.ensures.cells, c.len.ensures.len)

@@ -2,8 +2,9 @@ use Rattle.std.proofs.Common.{◌++◌, ◌∷◌, ◌∙◌, ℕ, List, [], len
 use Rattle.std.specs.Ordering.{nat_cmp}
 use Rattle.std.proofs.lemmas.Cmp.{nat_cmp_total}
 use Rattle.std.proofs.lemmas.Fn.{always_returns_same}
-use Rattle.std.proofs.lemmas.List.{append_assoc, append-nil, nil_from_length}
+use Rattle.std.proofs.lemmas.List.{append_assoc, append-nil, length-append, length-map, nil_from_length}
 use Rattle.std.proofs.lemmas.List.MinMax.{ranks_by}
+use Rattle.std.proofs.lemmas.List.Sorted.{length_permutation}
 use Rattle.hh_counters.specs.Counters.{SummaryView, sketch_of}
 use Rattle.hh_pool.specs.Passes.{piece_of}
 use Rattle.hh_pool.proofs.Closed.{by_number}
@@ -26,11 +27,11 @@ loop-summary-preserved g c =
     ∙ (sym (append_assoc taken (c.in-Some.summary ∷ []) (alone left))
     ∙ ap (λ (more : List SummaryView). more ++ alone left) (sym c.in_ok-push.ensures.items)))
 
-pub returns : goal.returns
-returns g c =
+pub returns-clause-summaries : goal.returns-clause-summaries
+returns-clause-summaries g c = λ known.
     let k = c.args.self.now.options.now.k in
     let pieces = g.P.Pieces.pieces c.args.self.now.work.now.pieces.now in
-    let ours = c.requires in
+    let ours = c.requires known in
     let none = nil_from_length c.loop-summary.summary-iterator.rest.items
     (omega (arith, c.in-None.ensures.steps.0, c.loop-summary.summary-iterator.rest.ok)) in
     let sorted = c.sort_unstable_by.ensures.sorted (λ x y. is_lt (nat_cmp x.0 y.0))
@@ -40,3 +41,22 @@ returns g c =
     ∙ (ap alone c.into_iter-summary-iterator.ensures.into_iter_gives.0
     ∙ (ordered (λ i. sketch_of k (piece_of pieces i)) (length pieces) c.args.found.items _ ours.theirs ours.distinct ours.all
     c.sort_unstable_by.ensures.permutation sorted ∙ by_number k pieces))
+
+pub returns-clause-count : goal.returns-clause-count
+returns-clause-count g c =
+    let taken = c.loop-summary.summaries.items in
+    let rest = c.loop-summary.summary-iterator.rest.items in
+    let begun = c.into_iter-summary-iterator.result.rest.items in
+    let all = ap length c.into_iter-summary-iterator.ensures.into_iter_gives.0 in
+    let sorted = length_permutation c.args.found.items _ c.sort_unstable_by.ensures.permutation in
+    omega (
+      arith,
+      all,
+      sorted,
+      ap length c.loop-summary.invariant,
+      length-append taken (alone rest),
+      length-map rest (λ (it : ℕ × SummaryView). it.1),
+      length-map begun (λ (it : ℕ × SummaryView). it.1),
+      c.loop-summary.summary-iterator.rest.ok,
+      c.in-None.ensures.steps.0,
+    )

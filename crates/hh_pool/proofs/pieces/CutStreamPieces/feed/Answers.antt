@@ -31,7 +31,7 @@ loop-item-preserved g c =
     }
 
 pub returns-then-weight-total-clause-refused : goal.returns-then-weight-total-clause-refused
-returns-then-weight-total-clause-refused g c = λ is.
+returns-then-weight-total-clause-refused g c = λ is known.
     let i = c.loop-item.item-index in
     let items = c.piece-item-items.result.now in
     let e : Entry = c.item-item.result in
@@ -53,12 +53,11 @@ pub returns-clause-taken : goal.returns-clause-taken
 returns-clause-taken g c =
     let items = c.piece-item-items.result.now in
     let piece = c.piece-item-items.ensures.piece ∙ ap (λ pieces. piece_of pieces c.args.piece) c.self.view_is in
-    c.loop-item.invariant.taken
-    ∙ ap (fold g.T.TakeItems.with_item c.args.taker.now) (take_all c.loop-item.item-index items (omega arith) ∙ piece)
-
-pub returns-clause-total : goal.returns-clause-total
-returns-clause-total g c =
-    let items = c.piece-item-items.result.now in
-    let piece = c.piece-item-items.ensures.piece ∙ ap (λ pieces. piece_of pieces c.args.piece) c.self.view_is in
     let all = take_all c.loop-item.item-index items (omega arith) in
-    omega (arith, c.loop-item.invariant.total, ap total_of (all ∙ piece))
+    record {
+      xs = items;
+      given = λ known. piece;
+      positive = c.piece-item-items.ensures.lawful.1;
+      weight = omega (arith, c.loop-item.invariant.total, ap total_of all);
+      taken = c.loop-item.invariant.taken ∙ ap (fold g.T.TakeItems.with_item c.args.taker.now) all;
+    }

@@ -6,9 +6,10 @@ use Rattle.hh_pool.proofs.Tried.{next_refused}
 use Rattle.hh_pool.proofs.second.SecondPass.do_piece.Goals as goal
 
 pub returns-clause-refused : goal.returns-clause-refused
-returns-clause-refused g c = λ is.
+returns-clause-refused g c = λ is known.
     let work = c.args.self.now.work.now.pieces.now in
     let pieces = g.P.Pieces.pieces work in
     let before = total_of (whole_of (take c.args.piece pieces)) in
     next_refused (g.P.Pieces.refuses work) pieces c.args.piece before _ c.requires.piece
-    (done_total pieces c.args.piece c.requires.piece) c.requires.before.total (c.count_piece.ensures.refused is)
+    (done_total pieces c.args.piece c.requires.piece) (c.requires.before known).total
+    (c.count_piece.ensures.refused is known)
