@@ -7,3 +7,4 @@ pub mod NameFacts
 pub mod PieceFacts
 pub mod ReportFacts
 pub mod SourceReportFacts
+pub mod FilePieceFacts

@@ -4,6 +4,7 @@
 mod commands;
 mod counting;
 mod error;
+mod file_pieces;
 mod files;
 mod items;
 pub mod laws;

@@ -21,6 +21,10 @@ enum Source {
     Nothing,
 }
 
+/// The begin of a file is looked at in so many reads of so many bytes at most.
+const LOOKS: u64 = 256;
+const LOOK_LEN: usize = 65_536;
+
 /// Whether a name is that of standard input.
 fn is_standard(name: &[u8]) -> bool {
     name == b"-".as_slice()
@@ -183,6 +187,38 @@ impl<'a> Inputs<'a> {
                 let path = str::from_utf8(name).unwrap_or("");
                 Ok(FileOrPipe::Pipe(self.reader(Source::File(file), number, path)))
             }
+        }
+    }
+
+    /// Reads the begin of a file of the disk, for what sees its bytes.
+    fn look_at(self, name: &[u8], number: u64) -> Option<()> {
+        let file = self.file(name, number).ok()?;
+        if is_standard(name) || !file.metadata().ok()?.is_file() {
+            return None;
+        }
+        let mut input = Input {
+            source: Source::File(file),
+            number,
+            unread: self.unread,
+            watch: self.seen.map(|seen| Watch::new(seen, number)),
+        };
+        let mut buffer = vec![in self.rt.alloc(); 0u8; LOOK_LEN].ok()?;
+        for _ in 0..LOOKS {
+            if input.read(&mut buffer).ok()? == 0 {
+                return Some(());
+            }
+        }
+        None
+    }
+
+    /// Sees how the files that a command line names begin, where that is asked for: workers read
+    /// them in no order.
+    pub fn look(self, words: &RecordWords) {
+        if self.seen.is_none() {
+            return;
+        }
+        for (place, name) in words.files.iter().enumerate() {
+            let _ = self.look_at(name, (place as u64).saturating_add(1));
         }
     }
 

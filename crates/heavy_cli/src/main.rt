@@ -138,6 +138,34 @@ fn shared_progress<'a>(rt: &'a HostRuntime, asked: &Invocation) -> Option<Shared
     SharedProgress::start(rt, &asked.records.files).ok()
 }
 
+/// Tells what came of what was asked for, and gives its status. A report whose files are not what
+/// they were before is told of the first one.
+fn status_of(
+    inputs: Inputs<'_>,
+    asked: &Invocation,
+    outcome: Result<(), ToolError>,
+    totals: Option<Totals>,
+) -> ExitCode {
+    let rt = inputs.rt;
+    let is_report = matches!(asked.request, Request::Report { .. });
+    match outcome {
+        Ok(()) => {
+            if is_report {
+                inputs.look(&asked.records);
+            }
+            if let Some(seen) = inputs.seen {
+                tell_format(rt, seen.get(), asked);
+            }
+            ExitCode::SUCCESS
+        }
+        Err(fault) => {
+            let least = u64::from(is_report && !asked.records.files.is_empty());
+            let number = inputs.unread.load(Ordering::SeqCst).max(least);
+            status_explained(rt, numbered(fault, number), asked, totals)
+        }
+    }
+}
+
 fn main(rt: HostRuntime) -> ExitCode {
     let asked = match read_request(&rt, rt.alloc()) {
         Ok(asked) => asked,
@@ -174,14 +202,5 @@ fn main(rt: HostRuntime) -> ExitCode {
         }
         Request::Answer(command) => write_answer(inputs, command, &asked.records, &mut totals),
     };
-    match outcome {
-        Ok(()) => {
-            tell_format(&rt, seen.get(), &asked);
-            ExitCode::SUCCESS
-        }
-        Err(fault) => {
-            let number = unread.load(Ordering::SeqCst);
-            status_explained(&rt, numbered(fault, number), &asked, totals)
-        }
-    }
+    status_of(inputs, &asked, outcome, totals)
 }
