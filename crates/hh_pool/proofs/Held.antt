@@ -91,5 +91,6 @@ still_counted [] xs piece counts none p = record {
   weights = p.weights;
   keys = p.keys;
   total = omega (arith, p.total, sum_by-append (λ (e : Entry). e.1) xs piece);
+  whole = λ some. absurd (omega (arith, some, none));
 }
 still_counted (k ∷ ks) xs piece counts none p = absurd (omega arith)

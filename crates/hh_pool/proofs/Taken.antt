@@ -50,6 +50,8 @@ counted_on ks xs piece counts more p e =
       keys = ap (λ (c : Count). c.keys) is;
       total = omega
           (arith, ap (λ (c : Count). c.total) is, p.total, sum_by-append (λ (e : Entry). e.1) xs piece);
+      whole = λ some. omega
+          (arith, ap (λ (c : Count). c.total) is, p.whole some, sum_by-append (λ (e : Entry). e.1) xs piece);
     }
   where
     zero-on : (n : ℕ) → n ≡ n + total_of []

@@ -22,7 +22,7 @@ use Rattle.hh_countmin.specs.Laws.{CellsAreCellSums}
 use Rattle.hh_shared.specs.Tally.{times, cell_total, AreDisjoint, IsDistinctBelow}
 use Rattle.hh_shared.specs.Seats.{Sums, Holding, fresh, seat_of_both}
 use Rattle.hh_pool.specs.Settings.{Settings}
-use Rattle.hh_pool.specs.Passes.{piece_of, items_at, summaries_at, HasTried, HaveTaken, MayRefuse, AreFirstPasses, AreSecondPasses, IsFirstPass, IsSecondPass}
+use Rattle.hh_pool.specs.Passes.{piece_of, items_at, summaries_at, HasTried, HaveCounted, HaveTaken, MayRefuse, AreFirstPasses, AreSecondPasses, IsFirstPass, IsSecondPass}
 use Rattle.hh_pool.specs.Progress.{AreCounted, HasTriedUpTo, IsFirstPassUpTo, IsSecondPassUpTo}
 
 items_at-push : (pieces : List (List Entry)) (claims : List ℕ) (i : ℕ)
@@ -269,6 +269,7 @@ none_counted keys counts e = record {
   weights = ap (λ (c : Count). c.weights) e;
   keys = ap (λ (c : Count). c.keys) e;
   total = omega (arith, ap (λ (c : Count). c.total) e);
+  whole = λ some. omega (arith, ap (λ (c : Count). c.total) e);
 }
 
 -- the same of the second pass
@@ -341,3 +342,34 @@ second_joined pieces keys one other p q = record {
       ∙ sum_by-append (at_key key) (items_at pieces one.claims) (items_at pieces other.claims) in
       omega (arith, added-append i one.adds other.adds, p.adds i key at, q.adds i key at);
 }
+
+-- and the total of what a worker of the second pass has counted
+pub second_counted : (pieces : List (List Entry)) (keys : List Bytes) (n : ℕ) (seat after : Holding) (counts : Count)
+    (weight : ℕ) → after ≡ record seat { adds = after.adds } → IsSecondPassUpTo pieces keys n seat counts
+    → weight ≡ counts.total → HaveCounted pieces keys after.claims weight
+second_counted pieces keys n seat after counts weight e p is =
+    let claims = ap (λ h. h.claims) e in
+    subst (λ claims. HaveCounted pieces keys claims weight) (sym claims) (record {
+      distinct = p.so_far.distinct;
+      most = omega (arith, is, p.counted.total);
+      whole = λ some. is ∙ p.counted.whole some;
+    })
+
+-- what two workers have counted, together
+pub counted_joined : (pieces : List (List Entry)) (keys : List Bytes) (one other : List ℕ) (weight more both : ℕ)
+    → HaveCounted pieces keys one weight → HaveCounted pieces keys other more → AreDisjoint one other
+    → both ≡ weight + more → HaveCounted pieces keys (one ++ other) both
+counted_joined pieces keys one other weight more both p q apart is = record {
+  distinct = distinct-joined (length pieces) one other p.distinct q.distinct apart;
+  most = omega (arith, is, p.most, q.most, total-joined pieces one other);
+  whole = λ some. omega (arith, is, p.whole some, q.whole some, total-joined pieces one other);
+}
+
+-- where that is too much, so is the total of all
+pub counted_too_much : (refuses : ℕ → Type 0) (pieces : List (List Entry)) (keys : List Bytes) (one other : List ℕ)
+    (weight more : ℕ) → HaveCounted pieces keys one weight → HaveCounted pieces keys other more
+    → AreDisjoint one other → max_total < weight + more → MayRefuse refuses pieces
+counted_too_much refuses pieces keys one other weight more p q apart high =
+    let distinct = distinct-joined (length pieces) one other p.distinct q.distinct apart in
+    let all = sum_by-items (λ (e : Entry). e.1) pieces (one ++ other) distinct in
+    inr (omega (arith, all, high, p.most, q.most, total-joined pieces one other))

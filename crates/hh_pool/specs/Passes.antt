@@ -80,6 +80,13 @@ pub record AreSecondPasses (pieces : List (List Entry)) (keys : List Bytes) (sea
   pub adds : (i : ℕ) (key : Bytes) → slice_get keys i ≡ Some key
       → cell_total i seat.adds ≡ weight_of key (items_at pieces seat.claims)
 
+-- What workers have counted who claimed the pieces with these numbers: each of them once, and where there are keys, their
+-- items have this total
+pub record HaveCounted (pieces : List (List Entry)) (keys : List Bytes) (claims : List ℕ) (weight : ℕ) : Type 0 where
+  pub distinct : IsDistinctBelow (length pieces) claims
+  pub most : weight ≤ total_of (items_at pieces claims)
+  pub whole : 0 < length keys → weight ≡ total_of (items_at pieces claims)
+
 -- What is asked where a thread of so many workers, numbered from `first` on, is started: the runtime and the pass may be
 -- shared with it, what the workers keep may be sent, and the pass fits the sums, of which they have a fresh seat
 pub record CanRun (runtime pass kept : RattleType) (fits : Type 0) (sums : Sums) (seat : Holding) (first count : ℕ)

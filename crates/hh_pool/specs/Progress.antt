@@ -43,6 +43,7 @@ pub record AreCounted (ks : List Bytes) (xs : List Entry) (counts : Count) : Typ
   pub weights : counts.weights ≡ weights_at ks xs
   pub keys : counts.keys ≡ ks
   pub total : counts.total ≤ total_of xs
+  pub whole : 0 < length ks → counts.total ≡ total_of xs
 
 -- a worker of the second pass has tried n pieces, and hasn't yet added its numbers
 pub record IsSecondPassUpTo (pieces : List (List Entry)) (keys : List Bytes) (n : ℕ) (seat : Holding)

@@ -90,33 +90,36 @@ fn table_of_cells(options: &Options, total: u64, cells: Vec<u64>) -> Result<Tabl
     Ok(Table::from_cells(family, options.width(), total, cells))
 }
 
-/// The second pass: the weight of each candidate in all items.
+/// The second pass: the weight of each candidate in all items, and the total of all items where
+/// there are candidates.
 fn weigh<R: Threads + Wait + Sync, P: Pieces + Sync, G: Gate + Sync>(
     rt: &R,
     work: &Work<P, G>,
     candidates: &Candidates,
     workers: u64,
-) -> Result<Vec<u64>, PieceFault>
+) -> Result<(Vec<u64>, u64), PieceFault>
     requires some { 0 < length (P.pieces work.now.pieces.now) }
     requires few { length (P.pieces work.now.pieces.now) ≤ max_pieces }
     requires total { let pieces = work.now.pieces.now in
         P.known pieces → total_of (whole_of (P.pieces pieces)) ≤ max_total }
     requires workers { in_range workers max_workers ≡ true }
     requires few_keys { length candidates.now ≤ max_k }
-    ensures count { IfOk result (λ weights. length weights.items ≡ length candidates.now) }
-    ensures weights { let pieces = work.now.pieces.now in IfOk result (λ weights. P.known pieces
-        → weights.items ≡ weights_at candidates.now (whole_of (P.pieces pieces))) }
+    ensures count { IfOk result (λ r. length r.0.items ≡ length candidates.now) }
+    ensures weights { let pieces = work.now.pieces.now in IfOk result (λ r. P.known pieces
+        → r.0.items ≡ weights_at candidates.now (whole_of (P.pieces pieces))) }
+    ensures total { let pieces = work.now.pieces.now in IfOk result (λ r. P.known pieces
+        → 0 < length candidates.now → r.1 ≡ total_of (whole_of (P.pieces pieces))) }
     ensures refused { let pieces = work.now.pieces.now in
         IsErrOf result PieceFault.Refused → P.known pieces
         → MayRefuse (P.refuses pieces) (P.pieces pieces) }
 {
     let pass = SecondPass { work, candidates };
     let (sums, seat) = SharedSums::new(work.alloc, work.pieces.count(), candidates.len())?;
-    let (seat, ()) = run_apart(rt, &sums, seat, &pass, workers)?;
+    let (seat, counted) = run_apart(rt, &sums, seat, &pass, workers)?;
     if !sums.holds_all(&seat) {
         return pass.alone(workers);
     }
-    Ok(sums.close(seat)?)
+    Ok((sums.close(seat)?, counted))
 }
 
 /// The estimate of each candidate.
@@ -224,7 +227,11 @@ fn heavy_keys<R: Threads + Wait + Sync, P: Pieces + Sync, G: Gate + Sync>(
     let (p, q) = options.threshold();
     let candidates = candidates(work.alloc, summary, table, p, q)?;
     let total = summary.total();
-    let weights = weigh(rt, work, &candidates, options.workers())?;
+    let (weights, counted) = weigh(rt, work, &candidates, options.workers())?;
+    // Only pieces that changed between the passes come to this.
+    if !candidates.is_empty() && counted != total {
+        return Err(PieceFault::Refused);
+    }
     Ok(candidates.select(&weights, total, p, q)?)
 }
 

@@ -112,7 +112,7 @@ struct Made {
 }
 
 /// The sum of two workers' totals, which is refused where it is too large.
-fn sum_of_totals(one: u64, other: u64) -> Result<u64, PieceFault>
+pub(crate) fn sum_of_totals(one: u64, other: u64) -> Result<u64, PieceFault>
     ensures sum { IfOk result (λ total. total ≡ one + other) }
     ensures within { IfOk result (λ total. total ≤ max_total) }
     ensures refused { IsErr result → max_total < one + other }

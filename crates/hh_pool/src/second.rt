@@ -10,13 +10,14 @@ ghost use Rattle.hh_pool.specs.Passes.{piece_of, AreSecondPasses, IsSecondPass, 
 ghost use Rattle.hh_pool.specs.Progress.{AreCounted, HasCounted, IsCountedOn, IsSecondAloneUpTo};
 ghost use Rattle.hh_pool.specs.Progress.{IsSecondPassUpTo};
 
+use crate::first::sum_of_totals;
 use crate::gate::Gate;
 use crate::pass::{Pass, Work, add_numbers};
 use crate::pieces::{CutStream, PieceFault, Pieces, only_memory};
 use hh_counters::{CandidateCounts, Candidates};
 use hh_shared::{SharedSums, SumSeat};
 use hh_stream::laws::pieces_make_the_whole;
-use hh_stream::{Cutting, Stream};
+use hh_stream::{Cutting, Stream, TakeItems};
 use std::alloc::{AllocError, Global};
 
 /// What each worker of the second pass works on.
@@ -60,7 +61,7 @@ pub fn second_pass<G: Gate>(
         work: &work,
         candidates,
     };
-    let (seat, ()) = only_memory(pass.run(sums, seat, worker))?;
+    let (seat, _) = only_memory(pass.run(sums, seat, worker))?;
     Ok(seat)
 }
 
@@ -114,14 +115,17 @@ impl<'a, P: Pieces, G: Gate> SecondPass<'a, P, G> {
         Ok(())
     }
 
-    /// The same by the calling thread, without sums: the candidates' weights in all pieces.
-    /// `workers` is what the gate hears.
-    pub(crate) fn alone(&self, workers: u64) -> Result<Vec<u64>, PieceFault>
-        ensures count { IfOk result (λ weights.
-            length weights.items ≡ length self.now.candidates.now) }
+    /// The same by the calling thread, without sums: the candidates' weights in all pieces, and the
+    /// total of all items where there are candidates. `workers` is what the gate hears.
+    pub(crate) fn alone(&self, workers: u64) -> Result<(Vec<u64>, u64), PieceFault>
+        ensures count { IfOk result (λ r.
+            length r.0.items ≡ length self.now.candidates.now) }
         ensures weights { let pieces = self.now.work.now.pieces.now in
-            IfOk result (λ weights. P.known pieces
-            → weights.items ≡ weights_at self.now.candidates.now (whole_of (P.pieces pieces))) }
+            IfOk result (λ r. P.known pieces
+            → r.0.items ≡ weights_at self.now.candidates.now (whole_of (P.pieces pieces))) }
+        ensures total { let pieces = self.now.work.now.pieces.now in IfOk result (λ r.
+            P.known pieces → 0 < length self.now.candidates.now
+            → r.1 ≡ total_of (whole_of (P.pieces pieces))) }
         ensures refused { let pieces = self.now.work.now.pieces.now in
             IsErrOf result PieceFault.Refused → P.known pieces
             → MayRefuse (P.refuses pieces) (P.pieces pieces) }
@@ -130,7 +134,8 @@ impl<'a, P: Pieces, G: Gate> SecondPass<'a, P, G> {
         for piece in 0..self.work.pieces.count() {
             self.do_piece(&mut counts, workers, piece)?;
         }
-        Ok(counts.into_weights())
+        let total = counts.total();
+        Ok((counts.into_weights(), total))
     }
 
     // Counts the next piece.
@@ -159,10 +164,10 @@ impl<'a, P: Pieces, G: Gate> SecondPass<'a, P, G> {
 }
 
 impl<'a, P: Pieces, G: Gate> Pass for SecondPass<'a, P, G> {
-    type Kept = ();
+    type Kept = u64;
 
     ghost use Rattle.hh_shared.specs.Tally.{IsDistinctBelow};
-    ghost use Rattle.hh_pool.specs.Passes.{AreSecondPasses, IsSecondPass, MayRefuse};
+    ghost use Rattle.hh_pool.specs.Passes.{AreSecondPasses, HaveCounted, IsSecondPass, MayRefuse};
 
     ghost fits = { λ p sums. (sums.claims ≡ length (P.pieces p.work.now.pieces.now))
         × (sums.cells ≡ length p.candidates.now) };
@@ -170,8 +175,9 @@ impl<'a, P: Pieces, G: Gate> Pass for SecondPass<'a, P, G> {
     ghost done = { λ p seat _. let pieces = p.work.now.pieces.now in P.known pieces
         → IsSecondPass (P.pieces pieces) p.candidates.now seat };
 
-    ghost all_done = { λ p seat _. let pieces = p.work.now.pieces.now in P.known pieces
-        → AreSecondPasses (P.pieces pieces) p.candidates.now seat };
+    ghost all_done = { λ p seat total. let pieces = p.work.now.pieces.now in P.known pieces
+        → AreSecondPasses (P.pieces pieces) p.candidates.now seat
+        × HaveCounted (P.pieces pieces) p.candidates.now seat.claims total };
 
     ghost may_refuse = { λ p. let pieces = p.work.now.pieces.now in P.known pieces
         → MayRefuse (P.refuses pieces) (P.pieces pieces) };
@@ -181,16 +187,18 @@ impl<'a, P: Pieces, G: Gate> Pass for SecondPass<'a, P, G> {
         sums: &SharedSums,
         mut seat: SumSeat,
         worker: u64,
-    ) -> Result<(SumSeat, ()), PieceFault> {
+    ) -> Result<(SumSeat, u64), PieceFault> {
         let mut counts = CandidateCounts::new(self.work.alloc, self.candidates)?;
         for piece in 0..self.work.pieces.count() {
             self.try_piece(sums, &mut seat, &mut counts, worker, piece)?;
         }
+        let total = counts.total();
         add_numbers(sums, &mut seat, &counts.into_weights());
-        Ok((seat, ()))
+        Ok((seat, total))
     }
 
-    fn together(&self, _one: (), _other: ()) -> Result<(), PieceFault> {
-        Ok(())
+    fn together(&self, one: u64, other: u64) -> Result<u64, PieceFault> {
+        let total = sum_of_totals(one, other)?;
+        Ok(total)
     }
 }

@@ -23,6 +23,8 @@ struct Torn<'a> {
 impl<'a> Pieces for Torn<'a> {
     ghost pieces = { λ torn. torn.pieces };
 
+    ghost known = { λ _. Unit };
+
     ghost reads = { λ torn piece. piece ≢ torn.at };
 
     ghost refuses = { λ torn piece. piece ≡ torn.at };

@@ -1,6 +1,6 @@
 use Rattle.std.proofs.Common.{◌≤◌, ◌∙◌, [], length, ap, arith}
 use Rattle.std.proofs.lemmas.List.{length-map, take_all}
-use Rattle.hh_stream.specs.Weights.{Bytes, weight_of}
+use Rattle.hh_stream.specs.Weights.{Bytes, total_of, weight_of}
 use Rattle.hh_stream.specs.Cuttings.{whole_of}
 use Rattle.hh_counters.specs.Report.{weights_at}
 use Rattle.hh_pool.proofs.Tried.{none_counted}
@@ -28,3 +28,10 @@ returns-clause-count g c =
       ap length counted.weights,
       length-map keys (λ (x : Bytes). weight_of x xs),
     )
+
+pub returns-clause-total : goal.returns-clause-total
+returns-clause-total g c = λ known some.
+    let pieces = g.P.Pieces.pieces c.args.self.now.work.now.pieces.now in
+    let all : length pieces ≤ c.loop-piece.piece = omega arith in
+    c.total-total.ensures.total ∙ (c.loop-piece.invariant.so_far known).whole some
+    ∙ ap total_of (ap whole_of (take_all c.loop-piece.piece pieces all))

@@ -1,6 +1,6 @@
 use Rattle.std.proofs.Common.{◌≡◌, ◌+◌, ◌∙◌, length, get_or, ap, arith}
 use Rattle.hh_shared.specs.Tally.{cell_total}
-use Rattle.hh_pool.proofs.Tried.{second_begins, second_ends}
+use Rattle.hh_pool.proofs.Tried.{second_begins, second_counted, second_ends}
 use Rattle.hh_pool.proofs.Held.{claim-behind_number, counted_begins}
 use Rattle.hh_pool.proofs.second.SecondPassPass.run.Goals as goal
 
@@ -31,4 +31,8 @@ returns-clause-done g c = λ known.
     ∙ ap (λ xs. cell_total cell seat.adds + get_or xs cell 0) (c.deref.ensures.value ∙ c.into_weights.ensures)) all
 
 pub returns-clause-all_done : goal.returns-clause-all_done
-returns-clause-all_done g c = λ known. (returns-clause-done g c known).work
+returns-clause-all_done g c = λ known. (
+  (returns-clause-done g c known).work,
+  second_counted _ _ _ c.loop-piece.seat _ c.loop-piece.counts _ c.add_numbers.ensures.unchanged
+      (c.loop-piece.invariant.so_far known) c.total-total.ensures.total,
+)
