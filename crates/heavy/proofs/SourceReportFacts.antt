@@ -105,9 +105,11 @@ module _ (layout : Layout) (names : Bool) (o p : Option (List (List ℕ))) (stil
       × IfKnown (record { names_columns = names; reading = option_map (stream_with layout) o })
       ((xs : List Entry) × (keys.0 ≡ total_of xs)
       × ReportsKeys options (record { names_columns = names; reading = option_map (stream_with layout) o }) xs keys.1.items))
-  keys_of_kept options m n are e (Ok (total, keys)) h =
-      (are, reported_keys options names (option_map (stream_with layout) o) m n total keys.items e
-      (found_of_kept m n total keys.items h))
+  keys_of_kept options m n are e (Ok (total, keys)) h = (
+    are,
+    reported_keys options names (option_map (stream_with layout) o) m n total keys.items e
+        (found_of_kept m n total keys.items h),
+  )
   keys_of_kept options m n are e (Err fault) h = tt
 
   -- and with its refusals

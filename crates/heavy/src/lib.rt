@@ -32,9 +32,9 @@ pub use commands::table::{table_bytes, table_bytes_from};
 pub use error::{KeyCause, MergeCause, ToolError, TreeFault};
 pub use hh_counters::Heavy;
 pub use hh_records::{
-    BadRecordCause, Column, FileOrPipe, FileRecords, Layout, Out, ReadAt, ReadError, Records, ReportFault, RowOptions, Share, Sink,
-    SinkFault, WriteFault, printed_text, put, read_stream, report_text, write_printed,
-    write_report,
+    BadRecordCause, Column, FileOrPipe, FileRecords, Layout, Out, ReadAt, ReadError, Records,
+    ReportFault, RowOptions, Share, Sink, SinkFault, WriteFault, printed_text, put, read_stream,
+    report_text, write_printed, write_report,
 };
 pub use hh_saved::Place;
 pub use layouts::{LayoutWords, layout_of};

@@ -23,6 +23,7 @@ enum Source {
 
 /// The begin of a file is looked at in so many reads of so many bytes at most.
 const LOOKS: u64 = 256;
+
 const LOOK_LEN: usize = 65_536;
 
 /// Whether a name is that of standard input.

@@ -22,8 +22,8 @@ use heavy::{
 };
 use inputs::Inputs;
 use other_format::NOTHING;
-use request::{Command, Invocation, RecordWords, Request, UsageError, read_request};
 use progress::SharedProgress;
+use request::{Command, Invocation, RecordWords, Request, UsageError, read_request};
 use std::cell::Cell;
 use std::process::ExitCode;
 use std::sync::atomic::{AtomicU64, Ordering};

@@ -308,12 +308,14 @@ fn reported<T: Threads + Wait + Sync, R: Read + Drop>(
     ensures bad_option { IfSome (bad_option options.now) (λ fault. result ≡ Err fault) }
 {
     match prepare(alloc, options) {
-        Ok(Prepared {
-            pieces,
-            plan,
-            settings,
-            ..
-        }) => keys_of_records(rt, alloc, records, pieces, &plan, &settings),
+        Ok(
+            Prepared {
+                pieces,
+                plan,
+                settings,
+                ..
+            },
+        ) => keys_of_records(rt, alloc, records, pieces, &plan, &settings),
         Err(fault) => Err(fault),
     }
 }

@@ -170,12 +170,7 @@ fn reported_of_files<T: Threads + Wait + Sync, F: ReadAt + Sync + Drop, R: Read 
 /// Where the bytes of all files are known, the report is that of their records, one file after the
 /// other. A file of the system may change between two readings. Where its length differs, it is
 /// told as one that can't be read; where the bytes alone do, that can't be seen.
-pub fn report_files<
-    T: Threads + Wait + Sync,
-    F: ReadAt + Sync + Drop,
-    R: Read + Drop,
-    S: Sink,
->(
+pub fn report_files<T: Threads + Wait + Sync, F: ReadAt + Sync + Drop, R: Read + Drop, S: Sink>(
     rt: &T,
     alloc: Global,
     options: &ReportOptions,

@@ -7,8 +7,8 @@ pub returns-in-Ok : goal.returns-in-Ok
 returns-in-Ok g c =
     let all = c.in-Ok.ensures in (
       map items_or_none c.args.texts,
-      all-have-items c.args.texts all.read,
-      all.total,
-      c.total.ensures.total ∙ all.summary.total,
-      all.heavy,
+      all-have-items c.args.texts (all.read tt),
+      all.total tt,
+      c.total.ensures.total ∙ (all.summary tt).total,
+      all.heavy tt,
     )
