@@ -1,5 +1,5 @@
 -- Reports of files that are read twice.
-use Rattle.std.proofs.Common.{◌≡◌, ◌≤◌, ◌+◌, ◌*◌, ◌∙◌, ℕ, Bool, List, Option, Some, None, Ok, Err, Result, Global, Vec, refl, sym, ap}
+use Rattle.std.proofs.Common.{◌≡◌, ◌≤◌, ◌+◌, ◌*◌, ◌∙◌, ℕ, Bool, List, Option, Some, None, Ok, Err, Result, Global, Vec, sym, ap}
 use Rattle.std.specs.Prelude.{IfErr, IfOk, option_map}
 use Rattle.std.specs.Map.{keys_of}
 use Rattle.hh_stream.specs.Weights.{Entry, total_of}

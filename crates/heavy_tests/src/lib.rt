@@ -12,6 +12,8 @@ mod devices;
 #[cfg(test)]
 mod faults;
 #[cfg(test)]
+mod files;
+#[cfg(test)]
 mod reports;
 #[cfg(test)]
 mod sinks;

@@ -1,4 +1,4 @@
-use Rattle.std.proofs.Common.{ap, sym}
+use Rattle.std.proofs.Common.{ap}
 use Rattle.hh_records.specs.Printed.{printed_rows}
 use Rattle.hh_records.specs.Sources.{files_known}
 use Rattle.heavy.specs.ReportFiles.{PrintsFileRows}

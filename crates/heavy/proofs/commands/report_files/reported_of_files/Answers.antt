@@ -1,6 +1,5 @@
-use Rattle.std.specs.Prelude.{option_map}
 use Rattle.hh_records.specs.Files.{source_bytes}
-use Rattle.hh_records.specs.Layouts.{every, names_columns, stream_with}
+use Rattle.hh_records.specs.Layouts.{every, names_columns}
 use Rattle.hh_records.specs.Sources.{files_known, input_bytes}
 use Rattle.heavy.specs.Report.{bad_option}
 use Rattle.heavy.proofs.ReportFacts.{fault_is}
