@@ -1,17 +1,18 @@
 #!/usr/bin/env python3
-"""Summarises, tabulates, condenses and confirms few and many records with limited address space: none of the four needs
-more for many records than for few. What `condense` and `confirm` answer is checked beside.
+"""Summarises, tabulates, condenses and confirms few and many records, and reports those of a file, with limited address
+space: none of the five needs more for many records than for few. What the last three answer is checked beside.
 
 usage: tests/one_pass.py
 """
 import resource
 from functools import partial
+from pathlib import Path
 
 import programs
 
 FEW, MANY = 10_000, 1_000_000
 KILOBYTE = 1024
-STEP, MORE, MOST = 256, 1024, 16 * 1024  # kilobytes
+STEP, MORE, MOST = 256, 1024, 128 * 1024  # kilobytes
 
 
 def records(number: int) -> bytes:
@@ -33,14 +34,15 @@ class OnePass(programs.Checks):
         program = programs.built("heavy_cli")
         few, many = records(FEW), records(MANY)
         for name, text in (("few", few), ("many", many)):
-            with open(f"{self.room}/{name}", "wb") as out:
-                out.write(programs.run([program, "summarise", "--k", "100"], text).out)
+            Path(self.room, name).write_bytes(programs.run([program, "summarise", "--k", "100"], text).out)
+            Path(self.room, f"{name}.csv").write_bytes(text)
         commands = {
             "summarise": lambda of: ["summarise", "--k", "100"],
             "summarise by ss": lambda of: ["summarise", "--k", "100", "--method", "ss"],
             "table": lambda of: ["table"],
             "condense": lambda of: ["condense", f"{self.room}/{of}"],
             "confirm": lambda of: ["confirm", f"{self.room}/{of}"],
+            "report": lambda of: ["report", "--workers", "2", f"{self.room}/{of}.csv"],
         }
         for name, words in commands.items():
             ample = programs.run([program, *words("many")], many)
@@ -50,6 +52,8 @@ class OnePass(programs.Checks):
             limited = within([program, *words("many")], many, least + MORE)
             said = f"{least} KB are enough for few records, and 1 MB more was not for many: {limited.err!r}"
             self.check(f"{name} in bounded memory", least < MOST and limited.out == ample.out, said)
+        rows = programs.run([program, *commands["report"]("many")]).out
+        self.check("the heavy key of a file", rows == b"heavy,%d\n" % (MANY // 100 * 7), rows)
         rows = programs.run([program, *commands["confirm"]("many")], many).out
         self.check("the heavy key", rows == b"heavy,%d\n" % (MANY // 100 * 7), rows)
         fewer = programs.run([program, *commands["condense"]("many")], many).out

@@ -273,7 +273,8 @@ pub(crate) struct Prepared {
 /// Tests the options, before anything is read.
 pub(crate) fn prepare(alloc: Global, options: &ReportOptions) -> Result<Prepared, ToolError>
     ensures prepared { IfOk result (IsPrepared options.now) }
-    ensures refused { IfErr result (λ fault. (known : Known) → StartRefused options.now known fault) }
+    ensures refused { IfErr result (λ fault.
+        (known : Known) → StartRefused options.now known fault) }
     ensures bad_option { IfSome (bad_option options.now) (λ fault. result ≡ Err fault) }
 {
     let (p, q) = check_options(options)?;

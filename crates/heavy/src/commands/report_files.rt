@@ -162,14 +162,15 @@ fn reported_of_files<T: Threads + Wait + Sync, F: ReadAt + Sync + Drop, R: Read 
     keys_of_sources(rt, alloc, records, options.k, &prepared)
 }
 
-/// [`report_rows`](crate::report_rows) of files of any size, which are read at any place: in pieces,
-/// by workers, through a buffer each, and twice, for the keys that can be heavy and for their
-/// weights. Nothing of a file is kept; the text of a pipe is. Where a piece can't be read by itself,
-/// one thread reads all files, twice too, so that the first refusal is told with its number.
+/// [`report_rows`](crate::report_rows) of files of any size. Workers read them in pieces, through a
+/// buffer each, and twice: for the keys that can be heavy, and for their weights. Nothing of a file
+/// is kept; the text of a pipe is. Where a piece can't be read by itself, one thread reads all
+/// files, twice too, so that the first refusal is told with its number.
 ///
 /// Where the bytes of all files are known, the report is that of their records, one file after the
-/// other. A file of the system may change between two readings. Where its length differs, it is
-/// told as one that can't be read; where the bytes alone do, that can't be seen.
+/// other. A file of the system may change between two readings. Where the total weight differs, one
+/// thread reads the files anew; where it differs then too, or a length does, a file is told as one
+/// that can't be read. Where neither differs, a change can't be seen.
 pub fn report_files<T: Threads + Wait + Sync, F: ReadAt + Sync + Drop, R: Read + Drop, S: Sink>(
     rt: &T,
     alloc: Global,
