@@ -121,6 +121,20 @@ pub struct Inputs<'a> {
 }
 
 impl<'a> Inputs<'a> {
+    pub fn new(
+        rt: &'a HostRuntime,
+        tells_progress: bool,
+        unread: &'a AtomicU64,
+        seen: Option<&'a Cell<Seen>>,
+    ) -> Inputs<'a> {
+        Inputs {
+            rt,
+            tells_progress,
+            unread,
+            seen,
+        }
+    }
+
     /// A source with its number, whose size is that of the file at a path.
     fn reader(self, source: Source, number: u64, path: &str) -> Reader<'a> {
         let unread = self.unread;

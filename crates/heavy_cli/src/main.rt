@@ -176,12 +176,7 @@ fn main(rt: HostRuntime) -> ExitCode {
     let (unread, seen) = (AtomicU64::new(0), Cell::new(NOTHING));
     let progress = shared_progress(&rt, &asked);
     let watched = watches(&rt, &asked).then_some(&seen);
-    let inputs = Inputs {
-        rt: &rt,
-        tells_progress: asked.tells_progress,
-        unread: &unread,
-        seen: watched,
-    };
+    let inputs = Inputs::new(&rt, asked.tells_progress, &unread, watched);
     let outcome = match &asked.request {
         Request::Report { options, rows } if asked.records.files.is_empty() => {
             match inputs.records(&asked.records, 0) {
