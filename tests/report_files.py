@@ -8,6 +8,7 @@ Prints the seed, how many cases ran and differed.
 """
 import os
 import sys
+import threading
 import time
 from pathlib import Path
 from random import Random
@@ -47,23 +48,19 @@ def text_of(random: Random) -> bytes:
 
 
 def piped(words: list[str], texts: list[bytes], room: str) -> programs.Ended:
-    """The run over the texts as named pipes, which are kept whole."""
+    """The run over the texts as named pipes, which are kept whole. All are opened first, so each has a writer of its own."""
     paths = [f"{room}/pipe{place}" for place in range(len(texts))]
-    for path in paths:
+    writers = []
+    for path, text in zip(paths, texts):
         os.mkfifo(path)
-    writer = os.fork()
-    if writer == 0:
-        try:
-            for path, text in zip(paths, texts):
-                with open(path, "wb") as pipe:
-                    pipe.write(text)
-        finally:
-            os._exit(0)
+        writer = threading.Thread(target=Path(path).write_bytes, args=(text,), daemon=True)
+        writer.start()
+        writers.append(writer)
     ended = programs.run([*words, *paths])
+    for writer in writers:
+        writer.join(10)
     for path in paths:
         os.unlink(path)
-    os.kill(writer, 9)
-    os.waitpid(writer, 0)
     return ended
 
 

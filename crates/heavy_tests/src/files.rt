@@ -1,5 +1,7 @@
 //! Reports of files that fail in mid-stream, or that aren't the same in two readings.
 
+ghost use Rattle.std.specs.Prelude.{None};
+
 use crate::devices::{Manner, Target};
 use heavy::{
     FileOrPipe, FileRecords, Layout, Out, ReadAt, ReportOptions, RowOptions, Share, ToolError,
