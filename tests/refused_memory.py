@@ -116,6 +116,9 @@ def refuse_commands(refusing: Refusing, program: str, room: str) -> list[list[st
     """Runs all commands of a program with each request for memory refused in turn, from the first one of the process on,
     and gives their words."""
     saved, long, table = f"{room}/summary", f"{room}/long", f"{room}/table"
+    records, bad = f"{room}/records.csv", f"{room}/bad.csv"
+    Path(records).write_bytes(LONG_RECORDS)
+    Path(bad).write_bytes(b"a,5\nb,0\n")
     Path(saved).write_bytes(programs.run([program, "summarise", "--k", "2"], RECORDS).out)
     Path(long).write_bytes(programs.run([program, "summarise", "--k", "2"], LONG_RECORDS).out)
     Path(table).write_bytes(programs.run([program, "table", "--depth", "2", "--width", "4"], RECORDS).out)
@@ -125,6 +128,9 @@ def refuse_commands(refusing: Refusing, program: str, room: str) -> list[list[st
         (["report", "--k", "2", "--tree", "chain"], LONG_RECORDS),
         (["report", "--k", "0"], RECORDS),
         (["report", "--k", "2"], b"a,0\n"),
+        (["report", "--k", "2", "--workers", "2", records, records], b""),
+        (["report", "--k", "2", records, "-"], RECORDS),
+        (["report", "--k", "2", records, bad], b""),
         (["summarise", "--k", "2"], LONG_RECORDS),
         (["summarise", "--k", "2", "--method", "ss"], LONG_RECORDS),
         (["summarise", "--method", "no"], RECORDS),
