@@ -92,7 +92,7 @@ fn table_of_cells(options: &Options, total: u64, cells: Vec<u64>) -> Result<Tabl
 
 /// The second pass: the weight of each candidate in all items, and the total of all items where
 /// there are candidates.
-fn weigh<R: Threads + Wait + Sync, P: Pieces + Sync, G: Gate + Sync>(
+pub(crate) fn weigh<R: Threads + Wait + Sync, P: Pieces + Sync, G: Gate + Sync>(
     rt: &R,
     work: &Work<P, G>,
     candidates: &Candidates,
@@ -100,8 +100,6 @@ fn weigh<R: Threads + Wait + Sync, P: Pieces + Sync, G: Gate + Sync>(
 ) -> Result<(Vec<u64>, u64), PieceFault>
     requires some { 0 < length (P.pieces work.now.pieces.now) }
     requires few { length (P.pieces work.now.pieces.now) ≤ max_pieces }
-    requires total { let pieces = work.now.pieces.now in
-        P.known pieces → total_of (whole_of (P.pieces pieces)) ≤ max_total }
     requires workers { in_range workers max_workers ≡ true }
     requires few_keys { length candidates.now ≤ max_k }
     ensures count { IfOk result (λ r. length r.0.items ≡ length candidates.now) }
@@ -109,6 +107,7 @@ fn weigh<R: Threads + Wait + Sync, P: Pieces + Sync, G: Gate + Sync>(
         → r.0.items ≡ weights_at candidates.now (whole_of (P.pieces pieces))) }
     ensures total { let pieces = work.now.pieces.now in IfOk result (λ r. P.known pieces
         → 0 < length candidates.now → r.1 ≡ total_of (whole_of (P.pieces pieces))) }
+    ensures bounded { IfOk result (λ r. r.1 ≤ max_total) }
     ensures refused { let pieces = work.now.pieces.now in
         IsErrOf result PieceFault.Refused → P.known pieces
         → MayRefuse (P.refuses pieces) (P.pieces pieces) }
