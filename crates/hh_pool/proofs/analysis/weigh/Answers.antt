@@ -17,7 +17,7 @@ returns-clause-weights g c = λ known.
     let closed = c.in_ok-close.ensures in
     let done = c.in_ok-seat.ensures.all_done in
     let fits : 0 < length c.args.candidates.now → total_of (whole_of pieces) ≤ max_total = λ some. omega
-        (arith, done.0, (done.1 known).1.whole some, sum_by-all_items (λ (e : Entry). e.1) pieces seat.claims distinct all) in
+    (arith, done.0, (done.1 known).1.whole some, sum_by-all_items (λ (e : Entry). e.1) pieces seat.claims distinct all) in
     closed_weights pieces (whole_of pieces) c.args.candidates.now seat c.in_ok-close.field-0.items refl fits
     (done.1 known).0 distinct all
     (omega (arith, closed.len, c.in_ok-close.field-0.ok))
