@@ -26,7 +26,9 @@ sys.path.insert(0, str(programs.TOP / "tests"))
 import reference
 
 FIGURES = programs.TOP / "docs" / "figures"
-COUNTS = [100_000, 300_000, 1_000_000, 3_000_000, 10_000_000]
+COUNTS = [100_000, 1_000_000, 10_000_000, 100_000_000]
+# a program that keeps what grows with the records is run on no more of them than fit in some gigabytes
+MOST_KEPT = 10_000_000
 KS = [10, 30, 100, 300, 1_000, 3_000, 10_000, 30_000, 65_535]
 RECORDS = 1_000_000
 RUNS = 3
@@ -34,7 +36,16 @@ MOST_LOAD = 3.0
 GROUP_BY = "{ w[$1] += $2; n += $2 } END { for (x in w) if (101 * w[x] > n) print x \",\" w[x] }"
 SHAPES = {"zipf": "100,000 keys by Zipf's law", "different": "all keys different"}
 # colours that differ also in lightness, and a mark for each
-STYLES = [("#0072b2", "o", "-"), ("#d55e00", "s", "--"), ("#009e73", "^", "-."), ("#555555", "D", ":")]
+STYLES = {
+    "heavy report FILE, 4 workers": ("#0072b2", "o", "-"),
+    "heavy summarise, then confirm": ("#56b4e9", "v", "-"),
+    "heavy report < FILE, 4 workers": ("#d55e00", "s", "--"),
+    "plain Rust, group-by": ("#009e73", "^", "-."),
+    "plain Rust, group-by with 4 threads": ("#117733", "P", "-."),
+    "mawk, group-by": ("#555555", "D", ":"),
+}
+# those of the errors
+MARKS = [("#0072b2", "o", "-"), ("#d55e00", "s", "--"), ("#009e73", "^", "-.")]
 
 
 def measured(command: list[str], path: Path) -> tuple[float, float]:
@@ -69,10 +80,14 @@ def costs(room: Path, shape: str, plain: str, awk: str, runs: int) -> dict[str, 
             "heavy summarise, then confirm": lambda: two_passes(
                 [heavy, "summarise"], [heavy, "confirm", str(saved)], path, saved
             ),
-            "heavy report, 4 workers": lambda: measured([heavy, "report"], path),
-            "mawk, group-by": lambda: measured([awk, "-F,", GROUP_BY], path),
-            "plain Rust, group-by": lambda: measured([plain, "group", "100"], path),
+            "heavy report FILE, 4 workers": lambda: measured([heavy, "report", str(path)], path),
         }
+        if count <= MOST_KEPT:
+            ways["heavy report < FILE, 4 workers"] = lambda: measured([heavy, "report"], path)
+            ways["plain Rust, group-by with 4 threads"] = lambda: measured([plain, "groups", "100", "4"], path)
+        if count <= MOST_KEPT or shape == "zipf":
+            ways["mawk, group-by"] = lambda: measured([awk, "-F,", GROUP_BY], path)
+            ways["plain Rust, group-by"] = lambda: measured([plain, "group", "100"], path)
         all: dict[str, list[tuple[float, float]]] = {name: [] for name in ways}
         for _ in range(runs):
             for name, way in ways.items():
@@ -110,9 +125,10 @@ def draw_costs(room: Path, name: str, which: int, up: str, runs: int) -> None:
     figure, panels = plt.subplots(1, 2, figsize=(9, 4.6), sharey=True)
     for axes, (shape, title) in zip(panels, SHAPES.items()):
         found = costs(room, shape, plain, awk, runs)
-        for (label, medians), (colour, mark, dash) in zip(found.items(), STYLES):
+        for label, medians in found.items():
+            colour, mark, dash = STYLES[label]
             values = [median[which] for median in medians]
-            axes.plot(COUNTS, values, color=colour, marker=mark, linestyle=dash, label=label)
+            axes.plot(COUNTS[: len(values)], values, color=colour, marker=mark, linestyle=dash, label=label)
         panel(axes, title, "records", up)
     figure.tight_layout(rect=(0, 0.12, 1, 1))
     draw(name, figure, panels[0].get_legend_handles_labels()[0])
@@ -154,7 +170,7 @@ def draw_errors(room: Path) -> None:
             key, weight = line.split(b",")
             weights[key] = weights.get(key, 0) + int(weight)
         found = [errors(path, k, weights) for k in KS]
-        for name, values, (colour, mark, dash) in zip(names, zip(*found), STYLES):
+        for name, values, (colour, mark, dash) in zip(names, zip(*found), MARKS):
             # where two lines lie on one another both marks are seen
             hollow = {"fillstyle": "none", "markersize": 10} if mark == "s" else {}
             axes.plot(KS, values, color=colour, marker=mark, linestyle=dash, label=name, **hollow)

@@ -10,6 +10,8 @@ import random
 import sys
 
 DIGITS = "0123456789abcdefghijklmnopqrstuvwxyz"
+# so many records are written at once
+BLOCK = 100_000
 
 
 def word(number: int, length: int) -> str:
@@ -41,7 +43,9 @@ def main() -> None:
         ranks = draw.choices(range(keys), k=count)
     else:
         ranks = zipf_ranks(draw, count, keys)
-    sys.stdout.write("".join(f"{word(rank, length)},{draw.randint(1, 100)}\n" for rank in ranks))
+    for first in range(0, count, BLOCK):
+        part = ranks[first : first + BLOCK]
+        sys.stdout.write("".join(f"{word(rank, length)},{draw.randint(1, 100)}\n" for rank in part))
 
 
 main()
