@@ -46,9 +46,12 @@ fn answer(
             let method = Method::of(method)?;
             summary_bytes_from(alloc, *k, method, inputs.records(records, 0)?)
         }
-        Command::Table { width, depth, seed } => {
-            table_bytes_from(alloc, *width, *depth, *seed, inputs.records(records, 0)?)
-        }
+        Command::Table {
+            width,
+            depth,
+            seed,
+            ..
+        } => { table_bytes_from(alloc, *width, *depth, *seed, inputs.records(records, 0)?) }
         Command::Merge { first, others } => merge_bytes(alloc, &read_files(rt, first, others)?),
         Command::Ask {
             file,
@@ -59,7 +62,7 @@ fn answer(
             list_rows(alloc, &read_file(rt, 1, file)?, *decimals)
         }
         Command::Describe { file } => describe_file(alloc, &read_file(rt, 1, file)?),
-        Command::Condense { file } => {
+        Command::Condense { file, .. } => {
             let file = read_file(rt, 1, file)?;
             condense_bytes_from(alloc, &file, inputs.records(records, 1)?)
         }
@@ -67,6 +70,7 @@ fn answer(
             file,
             threshold,
             rows,
+            ..
         } => {
             let file = read_file(rt, 1, file)?;
             let records = inputs.records(records, 1)?;
@@ -130,16 +134,16 @@ fn status_told(rt: &HostRuntime, told: &Told) -> ExitCode {
     }
 }
 
-/// How far the files of a report are read, where that is to be told.
+/// How far workers read the files of records, where that is to be told.
 fn shared_progress<'a>(rt: &'a HostRuntime, asked: &Invocation) -> Option<SharedProgress<'a>> {
     if !asked.tells_progress {
         return None;
     }
-    SharedProgress::start(rt, &asked.records.files).ok()
+    SharedProgress::start(rt, &asked.records.files, asked.request.passes()).ok()
 }
 
-/// Tells what came of what was asked for, and gives its status. A report whose files are not what
-/// they were before is told of the first one.
+/// Tells what came of what was asked for, and gives its status. Where files of records are not what
+/// they were before, it is told of the first one.
 fn status_of(
     inputs: Inputs<'_>,
     asked: &Invocation,
@@ -147,19 +151,20 @@ fn status_of(
     totals: Option<Totals>,
 ) -> ExitCode {
     let rt = inputs.rt;
-    let is_report = matches!(asked.request, Request::Report { .. });
     match outcome {
         Ok(()) => {
-            if is_report {
-                inputs.look(&asked.records);
-            }
+            inputs.look(asked);
             if let Some(seen) = inputs.seen {
                 tell_format(rt, seen.get(), asked);
             }
             ExitCode::SUCCESS
         }
         Err(fault) => {
-            let least = u64::from(is_report && !asked.records.files.is_empty());
+            let least = if asked.records.files.is_empty() {
+                0
+            } else {
+                asked.request.saved().saturating_add(1)
+            };
             let number = inputs.unread.load(Ordering::SeqCst).max(least);
             status_explained(rt, numbered(fault, number), asked, totals)
         }
@@ -176,7 +181,7 @@ fn main(rt: HostRuntime) -> ExitCode {
     let (unread, seen) = (AtomicU64::new(0), Cell::new(NOTHING));
     let progress = shared_progress(&rt, &asked);
     let watched = watches(&rt, &asked).then_some(&seen);
-    let inputs = Inputs::new(&rt, asked.tells_progress, &unread, watched);
+    let inputs = Inputs::new(&rt, progress.as_ref(), &unread, watched);
     let outcome = match &asked.request {
         Request::Report { options, rows } if asked.records.files.is_empty() => {
             match inputs.records(&asked.records, 0) {
@@ -188,7 +193,7 @@ fn main(rt: HostRuntime) -> ExitCode {
             }
         }
         Request::Report { options, rows } => {
-            match inputs.file_records(&asked.records, progress.as_ref()) {
+            match inputs.file_records(&asked.records) {
                 Ok(records) => {
                     let mut out = Out::new(rt.stdout());
                     report_files(&rt, rt.alloc(), options, rows, records, &mut out)
