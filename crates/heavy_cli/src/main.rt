@@ -17,10 +17,11 @@ mod words;
 use explain::{tell_format, tell_more, tell_own_k, tells_more, watches};
 use files::{read_file, read_files};
 use heavy::{
-    Method, Out, ToolError, Totals, ask_rows, condense_bytes_from, confirm_rows, describe_file,
-    list_rows, merge_bytes, put, report_files, report_rows, summary_bytes_from, table_bytes_from,
+    Method, Out, RowOptions, Share, ToolError, Totals, ask_rows, condense_bytes_from,
+    condense_files, confirm_files, confirm_rows, describe_file, list_rows, merge_bytes, put,
+    report_files, report_rows, summary_bytes_from, table_bytes_from, table_files,
 };
-use inputs::Inputs;
+use inputs::{Inputs, Once};
 use other_format::NOTHING;
 use progress::SharedProgress;
 use request::{Command, Invocation, RecordWords, Request, UsageError, read_request};
@@ -31,6 +32,63 @@ use told::Told;
 
 /// The exit status of the command line's own faults.
 const USAGE: u8 = 2;
+
+/// The bytes that `table` is answered by.
+fn table_answer(
+    inputs: Inputs<'_>,
+    records: &RecordWords,
+    width: u64,
+    depth: u64,
+    seed: u64,
+    workers: u64,
+) -> Result<Vec<u8>, ToolError> {
+    let rt = inputs.rt;
+    let alloc = rt.alloc();
+    match inputs.once(records, 0, workers)? {
+        Once::Files(files) => {
+            table_files(rt, alloc, width, depth, seed, workers, files.records())
+        }
+        Once::Stream(records) => table_bytes_from(alloc, width, depth, seed, records),
+    }
+}
+
+/// The bytes that `condense` is answered by.
+fn condense_answer(
+    inputs: Inputs<'_>,
+    records: &RecordWords,
+    file: &[u8],
+    workers: u64,
+) -> Result<Vec<u8>, ToolError> {
+    let rt = inputs.rt;
+    let alloc = rt.alloc();
+    let file = read_file(rt, 1, file)?;
+    match inputs.once(records, 1, workers)? {
+        Once::Files(files) => condense_files(rt, alloc, &file, workers, files.records()),
+        Once::Stream(records) => condense_bytes_from(alloc, &file, records),
+    }
+}
+
+/// The bytes that `confirm` is answered by. It leaves two totals that it compared.
+fn confirm_answer(
+    inputs: Inputs<'_>,
+    records: &RecordWords,
+    file: &[u8],
+    share: &Share,
+    rows: &RowOptions,
+    workers: u64,
+    totals: &mut Option<Totals>,
+) -> Result<Vec<u8>, ToolError> {
+    let rt = inputs.rt;
+    let alloc = rt.alloc();
+    let file = read_file(rt, 1, file)?;
+    match inputs.once(records, 1, workers)? {
+        Once::Files(files) => {
+            let records = files.records();
+            confirm_files(rt, alloc, &file, share, rows, workers, records, totals)
+        }
+        Once::Stream(records) => confirm_rows(alloc, &file, share, rows, records, totals),
+    }
+}
 
 /// The bytes that a command is answered by. It leaves two totals that it compared.
 fn answer(
@@ -50,8 +108,8 @@ fn answer(
             width,
             depth,
             seed,
-            ..
-        } => { table_bytes_from(alloc, *width, *depth, *seed, inputs.records(records, 0)?) }
+            workers,
+        } => table_answer(inputs, records, *width, *depth, *seed, *workers),
         Command::Merge { first, others } => merge_bytes(alloc, &read_files(rt, first, others)?),
         Command::Ask {
             file,
@@ -62,20 +120,13 @@ fn answer(
             list_rows(alloc, &read_file(rt, 1, file)?, *decimals)
         }
         Command::Describe { file } => describe_file(alloc, &read_file(rt, 1, file)?),
-        Command::Condense { file, .. } => {
-            let file = read_file(rt, 1, file)?;
-            condense_bytes_from(alloc, &file, inputs.records(records, 1)?)
-        }
+        Command::Condense { file, workers } => condense_answer(inputs, records, file, *workers),
         Command::Confirm {
             file,
             threshold,
             rows,
-            ..
-        } => {
-            let file = read_file(rt, 1, file)?;
-            let records = inputs.records(records, 1)?;
-            confirm_rows(alloc, &file, threshold, rows, records, totals)
-        }
+            workers,
+        } => confirm_answer(inputs, records, file, threshold, rows, *workers, totals),
     }
 }
 
