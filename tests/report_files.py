@@ -7,9 +7,11 @@ usage: tests/report_files.py [CASES [SEED]]
 Prints the seed, how many cases ran and differed, of reports and of the other three.
 """
 import os
+import signal
 import sys
 import threading
 import time
+from functools import partial
 from pathlib import Path
 from random import Random
 
@@ -17,6 +19,7 @@ import programs
 
 # a piece of a file has at least so many bytes, but for its last
 LEAST = 65_536
+SECONDS = 60
 KEYS = [b"a", b"b", b"web", b"x,y", b'say ""so""', b"two\nlines", b"end\r\nof", b"\xef\xbb\xbfmark", b"k" * 300]
 RECORDS = b"a,5\nb,3\nc,2\na,1\n"
 # how the random texts are read, of which none is refused before a file is opened
@@ -61,7 +64,7 @@ def feed(path: str, text: bytes) -> None:
         pass
 
 
-def piped(words: list[str], texts: list[bytes], room: str) -> programs.Ended:
+def piped(words: list[str], texts: list[bytes], room: str, **how) -> programs.Ended:
     """The run over the texts as named pipes. All are opened first, so each has a writer of its own."""
     paths = [f"{room}/pipe{place}" for place in range(len(texts))]
     writers = []
@@ -70,7 +73,7 @@ def piped(words: list[str], texts: list[bytes], room: str) -> programs.Ended:
         writer = threading.Thread(target=feed, args=(path, text), daemon=True)
         writer.start()
         writers.append(writer)
-    ended = programs.run([*words, *paths])
+    ended = programs.run([*words, *paths], **how)
     for writer in writers:
         writer.join(10)
     for path in paths:
@@ -123,6 +126,10 @@ class ReportFiles(programs.Checks):
         self.check("standard input named twice", (ended.status, ended.out) == (0, b"a,6\n"), ended)
         ended = piped([program, "report", "--k", "2"], [b"a,5\nb,3\n", b"c,2\na,1\n"], self.room)
         self.check("named pipes", (ended.status, ended.out) == (0, b"a,6\n"), ended)
+        stopped = {"preexec_fn": partial(signal.alarm, SECONDS)}  # a pipe that is opened once more may wait for ever
+        ended = piped([program, "report", "--k", "2", "--explain"], [b"a\tb\n", b'a\tb\n"open'], self.room, **stopped)
+        told = b"heavy: note: a quote is open at the end of %s/pipe1\n" % os.fsencode(self.room)
+        self.check("named pipes that look like another format", ended.status == 0 and ended.err.endswith(told), ended)
 
     def test_unread_files(self) -> None:
         """A file that can't be read is told by its place, and nothing is printed."""
