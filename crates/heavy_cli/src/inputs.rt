@@ -396,10 +396,12 @@ impl<'a> Inputs<'a> {
             return Ok(Once::Files(self.open_files(words, saved)?));
         }
         let records = self.records(words, saved)?;
-        if matches!(workers, 1..=MOST_WORKERS) {
+        if 1 <= workers && workers <= MOST_WORKERS {
             return Ok(Once::Stream(records));
         }
-        let (layout, files) = (records.layout, Vec::new(self.rt.alloc()));
+        let alloc = self.rt.alloc();
+        let layout = layout_of(alloc, &words.layout)?;
+        let files = Vec::new(alloc);
         Ok(Once::Files(OpenFiles { layout, files }))
     }
 }
