@@ -27,14 +27,17 @@ use progress::SharedProgress;
 use request::{Command, Invocation, RecordWords, Request, UsageError, read_request};
 use std::cell::Cell;
 use std::process::ExitCode;
+use std::sync::Wait;
 use std::sync::atomic::{AtomicU64, Ordering};
+use std::thread::Threads;
 use told::Told;
 
 /// The exit status of the command line's own faults.
 const USAGE: u8 = 2;
 
 /// The bytes that `table` is answered by.
-fn table_answer(
+fn table_answer<T: Threads + Wait + Sync>(
+    threads: &T,
     inputs: Inputs<'_>,
     records: &RecordWords,
     width: u64,
@@ -42,34 +45,34 @@ fn table_answer(
     seed: u64,
     workers: u64,
 ) -> Result<Vec<u8>, ToolError> {
-    let rt = inputs.rt;
-    let alloc = rt.alloc();
+    let alloc = inputs.rt.alloc();
     match inputs.once(records, 0, workers)? {
         Once::Files(files) => {
-            table_files(rt, alloc, width, depth, seed, workers, files.records())
+            table_files(threads, alloc, width, depth, seed, workers, files.records())
         }
         Once::Stream(records) => table_bytes_from(alloc, width, depth, seed, records),
     }
 }
 
 /// The bytes that `condense` is answered by.
-fn condense_answer(
+fn condense_answer<T: Threads + Wait + Sync>(
+    threads: &T,
     inputs: Inputs<'_>,
     records: &RecordWords,
     file: &[u8],
     workers: u64,
 ) -> Result<Vec<u8>, ToolError> {
-    let rt = inputs.rt;
-    let alloc = rt.alloc();
-    let file = read_file(rt, 1, file)?;
+    let alloc = inputs.rt.alloc();
+    let file = read_file(inputs.rt, 1, file)?;
     match inputs.once(records, 1, workers)? {
-        Once::Files(files) => condense_files(rt, alloc, &file, workers, files.records()),
+        Once::Files(files) => condense_files(threads, alloc, &file, workers, files.records()),
         Once::Stream(records) => condense_bytes_from(alloc, &file, records),
     }
 }
 
 /// The bytes that `confirm` is answered by. It leaves two totals that it compared.
-fn confirm_answer(
+fn confirm_answer<T: Threads + Wait + Sync>(
+    threads: &T,
     inputs: Inputs<'_>,
     records: &RecordWords,
     file: &[u8],
@@ -78,20 +81,20 @@ fn confirm_answer(
     workers: u64,
     totals: &mut Option<Totals>,
 ) -> Result<Vec<u8>, ToolError> {
-    let rt = inputs.rt;
-    let alloc = rt.alloc();
-    let file = read_file(rt, 1, file)?;
+    let alloc = inputs.rt.alloc();
+    let file = read_file(inputs.rt, 1, file)?;
     match inputs.once(records, 1, workers)? {
         Once::Files(files) => {
             let records = files.records();
-            confirm_files(rt, alloc, &file, share, rows, workers, records, totals)
+            confirm_files(threads, alloc, &file, share, rows, workers, records, totals)
         }
         Once::Stream(records) => confirm_rows(alloc, &file, share, rows, records, totals),
     }
 }
 
 /// The bytes that a command is answered by. It leaves two totals that it compared.
-fn answer(
+fn answer<T: Threads + Wait + Sync>(
+    threads: &T,
     inputs: Inputs<'_>,
     command: &Command,
     records: &RecordWords,
@@ -109,7 +112,7 @@ fn answer(
             depth,
             seed,
             workers,
-        } => table_answer(inputs, records, *width, *depth, *seed, *workers),
+        } => table_answer(threads, inputs, records, *width, *depth, *seed, *workers),
         Command::Merge { first, others } => merge_bytes(alloc, &read_files(rt, first, others)?),
         Command::Ask {
             file,
@@ -120,24 +123,29 @@ fn answer(
             list_rows(alloc, &read_file(rt, 1, file)?, *decimals)
         }
         Command::Describe { file } => describe_file(alloc, &read_file(rt, 1, file)?),
-        Command::Condense { file, workers } => condense_answer(inputs, records, file, *workers),
+        Command::Condense { file, workers } => condense_answer(
+            threads, inputs, records, file, *workers,
+        ),
         Command::Confirm {
             file,
             threshold,
             rows,
             workers,
-        } => confirm_answer(inputs, records, file, threshold, rows, *workers, totals),
+        } => confirm_answer(
+            threads, inputs, records, file, threshold, rows, *workers, totals,
+        ),
     }
 }
 
 /// Writes the bytes that a command is answered by.
-fn write_answer(
+fn write_answer<T: Threads + Wait + Sync>(
+    threads: &T,
     inputs: Inputs<'_>,
     command: &Command,
     records: &RecordWords,
     totals: &mut Option<Totals>,
 ) -> Result<(), ToolError> {
-    let bytes = answer(inputs, command, records, totals)?;
+    let bytes = answer(threads, inputs, command, records, totals)?;
     put(&mut Out::new(inputs.rt.stdout()), &bytes)?;
     Ok(())
 }
@@ -252,7 +260,7 @@ fn main(rt: HostRuntime) -> ExitCode {
                 Err(fault) => Err(fault),
             }
         }
-        Request::Answer(command) => write_answer(inputs, command, &asked.records, &mut totals),
+        Request::Answer(command) => write_answer(&rt, inputs, command, &asked.records, &mut totals),
     };
     status_of(inputs, &asked, outcome, totals)
 }
