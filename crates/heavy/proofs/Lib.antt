@@ -8,3 +8,6 @@ pub mod PieceFacts
 pub mod ReportFacts
 pub mod SourceReportFacts
 pub mod FilePieceFacts
+pub mod WeighFacts
+pub mod FilePassFacts
+pub mod ConfirmFacts
