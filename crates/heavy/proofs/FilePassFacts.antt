@@ -1,18 +1,21 @@
 -- Weights that workers found, as the counts of items.
-use Rattle.std.proofs.Common.{◌≡◌, ◌<◌, ◌≤◌, ◌+◌, ◌-◌, ◌∷◌, ◌++◌, ◌∙◌, ℕ, Bool, true, false, List, [], length, All, cond, filter, map, nat_lt, zip, Option, Some, None, Ok, refl, sym, ap, subst, arith}
+use Rattle.std.proofs.Common.{◌≡◌, ◌<◌, ◌≤◌, ◌+◌, ◌-◌, ◌∷◌, ◌++◌, ◌∙◌, ℕ, Bool, true, false, List, [], length, All, cond, filter, map, nat_lt, zip, take, take_all, append-nil, get_or, Option, Some, None, Ok, refl, sym, ap, subst, arith}
 use Rattle.std.specs.Prelude.{IfSome, IsSome, option_map}
 use Rattle.std.specs.List.{AllByRecursion}
 use Rattle.std.specs.Map.{keys_of}
 use Rattle.std.proofs.lemmas.Bool.{cond_both}
 use Rattle.std.proofs.lemmas.Bool.Decides.{nat_tests}
+use Rattle.std.proofs.lemmas.List.{get_or_default}
+use Rattle.std.proofs.lemmas.Slice.Zip.{length-zip}
 use Rattle.std.proofs.lemmas.List.Elements.{All-append, All-from_recursion, All-weaker, filter_passes}
 use Rattle.hh_stream.specs.Cuttings.{whole_of}
 use Rattle.hh_stream.specs.Weights.{Bytes, Entry, max_total, total_of, weight_of}
 use Rattle.hh_counters.specs.Condensed.{condensed, entry_of, free_name}
 use Rattle.hh_counters.specs.Counters.{Counters, IsCounters, exceeds}
-use Rattle.hh_counters.specs.Counting.{Count, count_of}
-use Rattle.hh_counters.specs.Laws.{CondensedIsCounted, CondensedKeepsWeights}
+use Rattle.hh_counters.specs.Counting.{Count, count_of, count_with}
+use Rattle.hh_counters.specs.Laws.{CondensedIsCounted, CondensedKeepsWeights, CountsFollowItems}
 use Rattle.hh_counters.specs.Report.{weights_at}
+use Rattle.hh_counters.proofs.CountFacts.{rows-absent, rows-came}
 use Rattle.hh_counters.proofs.Weights.{at_here, same_self, weight_of-cons}
 use Rattle.hh_records.specs.CutTexts.{AreReadByPieces}
 use Rattle.hh_records.specs.Layouts.{stream_with}
@@ -81,3 +84,50 @@ module _ (counted : CondensedIsCounted) (keeps : CondensedKeepsWeights) (c : Cou
         reads,
         (weigh, is ∙ weights_count counted keeps c (whole_of lists) ns total counters weigh here all),
       )
+
+-- ---- weights, counted key by key
+module _ (law : CountsFollowItems) (ks : List Bytes) (ns : List ℕ) (i : ℕ) (e : length ns ≡ length ks) (l : i < length ks)
+    (n : ℕ) (number : get_or ns i n ≡ n) (counts : Count)
+    (are : counts ≡ count_of ks (filter (exceeds 0) (take i (zip ks ns)))) where
+  -- the next key came
+  pub key_counted : (k : Bytes) → get_or ks i k ≡ k → 0 < n
+      → count_with counts ((k, n) ∷ []) ≡ count_of ks (filter (exceeds 0) (take (i + 1) (zip ks ns)))
+  key_counted k key some =
+      ap (λ (c : Count). count_with c ((k, n) ∷ [])) are
+      ∙ law ks (filter (exceeds 0) (take i (zip ks ns))) ((k, n) ∷ [])
+      ∙ ap (count_of ks) (sym (rows-came ks ns i n k e l key number some))
+
+  -- the next key did not come
+  pub key_passed : n ≤ 0 → counts ≡ count_of ks (filter (exceeds 0) (take (i + 1) (zip ks ns)))
+  key_passed none =
+      let k = get_or ks i [] in
+      are ∙ ap (count_of ks) (sym (rows-absent ks ns i n k e l (get_or_default ks i k [] l) number none))
+
+-- all keys are counted
+pub keys_counted : (ks : List Bytes) (ns : List ℕ) (i : ℕ) → length ns ≡ length ks → length ks ≤ i → (counts : Count)
+    → counts ≡ count_of ks (filter (exceeds 0) (take i (zip ks ns))) → counts ≡ count_of ks (filter (exceeds 0) (zip ks ns))
+keys_counted ks ns i e l counts are =
+    are ∙ ap (λ es. count_of ks (filter (exceeds 0) es)) (take_all i (zip ks ns) (omega (arith, l, e, length-zip ks ns)))
+
+module _ (c : Counters) (ns : List ℕ) (total : ℕ) (counts : Count) (are : counts ≡ count_of (keys_of c) (weighted c ns)) where
+  -- other keys came
+  pub others_counted : CountsFollowItems → 0 < total - counts.total
+      → count_with counts ((free_name c, total - counts.total) ∷ []) ≡ count_of (keys_of c) (items_of_weights c ns total)
+  others_counted law some =
+      let ws = weighted c ns in
+      let sum : counts.total ≡ total_of ws = ap (λ (n : Count). n.total) are in
+      let test : nat_lt 0 (total - total_of ws) ≡ true = grind (arith, nat_tests, rw sum at some) in
+      let rest : List Entry = (free_name c, total - counts.total) ∷ [] in
+      let entry : rest ≡ entry_of (free_name c) (total - total_of ws) =
+      ap (λ n. (free_name c, total - n) ∷ []) sum
+      ∙ sym (ap (λ b. cond b ((free_name c, total - total_of ws) ∷ []) []) test) in
+      ap (λ (n : Count). count_with n rest) are ∙ law (keys_of c) ws rest ∙ ap (λ es. count_of (keys_of c) (ws ++ es)) entry
+
+  -- no other key came
+  pub no_others : total - counts.total ≤ 0 → counts ≡ count_of (keys_of c) (items_of_weights c ns total)
+  no_others none =
+      let ws = weighted c ns in
+      let sum : counts.total ≡ total_of ws = ap (λ (n : Count). n.total) are in
+      let test : nat_lt 0 (total - total_of ws) ≡ false = grind (arith, nat_tests, rw sum at none) in
+      are ∙ ap (count_of (keys_of c))
+      (sym (ap (λ b. ws ++ cond b ((free_name c, total - total_of ws) ∷ []) []) test ∙ append-nil ws))
