@@ -11,3 +11,4 @@ pub mod FilePieceFacts
 pub mod WeighFacts
 pub mod FilePassFacts
 pub mod ConfirmFacts
+pub mod TableFacts

@@ -18,3 +18,4 @@ pub(crate) mod report;
 pub(crate) mod report_files;
 pub(crate) mod summarise;
 pub(crate) mod table;
+pub(crate) mod table_files;

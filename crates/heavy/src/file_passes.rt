@@ -114,8 +114,9 @@ fn counts_side_by_side<T: Threads + Wait + Sync, S: ReadAt + Sync>(
 {
     condensed_is_counted();
     condensed_keeps_weights();
-    // It tells that the keys are at most as many as a summary may have.
-    let (_, _) = (summary.len(), summary.k());
+    // They bound the number of keys.
+    let _len = summary.len();
+    let _k = summary.k();
     let candidates = Candidates::of(alloc, summary)?;
     if candidates.is_empty() {
         return Ok(None);

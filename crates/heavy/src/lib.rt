@@ -32,6 +32,7 @@ pub use commands::report::{ReportOptions, Tree, report_rows, run_report};
 pub use commands::report_files::report_files;
 pub use commands::summarise::{Method, summary_bytes, summary_bytes_from};
 pub use commands::table::{table_bytes, table_bytes_from};
+pub use commands::table_files::table_files;
 pub use error::{KeyCause, MergeCause, ToolError, TreeFault};
 pub use hh_counters::Heavy;
 pub use hh_records::{

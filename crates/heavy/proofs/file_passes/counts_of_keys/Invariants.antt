@@ -1,6 +1,6 @@
 use Rattle.std.proofs.Common.{◌≡◌, ◌≤◌, filter, take, zip}
 use Rattle.std.specs.Map.{keys_of}
-use Rattle.hh_counters.specs.Counters.{IsCounters, exceeds}
+use Rattle.hh_counters.specs.Counters.{exceeds}
 use Rattle.hh_counters.specs.Counting.{count_of}
 use Rattle.heavy.proofs.file_passes.counts_of_keys.Given as goal
 
