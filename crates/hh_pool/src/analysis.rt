@@ -196,6 +196,19 @@ fn merge_pieces<R: Threads + Wait + Sync, P: Pieces + Sync, G: Gate + Sync>(
     }
 }
 
+/// Refuses another total than the first pass had, where anything was counted. Only pieces that
+/// changed between the passes come to this.
+fn check_totals(candidates: &Candidates, counted: u64, total: u64) -> Result<(), PieceFault>
+    ensures same { OnOk result (0 < length candidates.now → counted ≡ total) }
+    ensures differs { IsErr result → (0 < length candidates.now) × (counted ≢ total) }
+    ensures told { IsErr result → result ≡ Err PieceFault.Refused }
+{
+    if !candidates.is_empty() && counted != total {
+        return Err(PieceFault::Refused);
+    }
+    Ok(())
+}
+
 /// The keys above the options' threshold, by a second pass over those that can be.
 fn heavy_keys<R: Threads + Wait + Sync, P: Pieces + Sync, G: Gate + Sync>(
     rt: &R,
@@ -227,10 +240,7 @@ fn heavy_keys<R: Threads + Wait + Sync, P: Pieces + Sync, G: Gate + Sync>(
     let candidates = candidates(work.alloc, summary, table, p, q)?;
     let total = summary.total();
     let (weights, counted) = weigh(rt, work, &candidates, options.workers())?;
-    // Only pieces that changed between the passes come to this.
-    if !candidates.is_empty() && counted != total {
-        return Err(PieceFault::Refused);
-    }
+    check_totals(&candidates, counted, total)?;
     Ok(candidates.select(&weights, total, p, q)?)
 }
 

@@ -16,13 +16,14 @@ mod pass;
 mod pieces;
 mod plan;
 mod second;
+mod tabulate;
 mod workers;
 
 pub use analysis::{analyse, analyse_pieces};
 pub use first::first_pass;
 pub use gate::{Gate, OpenGate};
 pub use merging::merge_by;
-pub use one_pass::count_pieces;
+pub use one_pass::{count_pieces, tabulate_pieces};
 pub use options::{MAX_WORKERS, Options, OptionsFault};
 pub use outcome::{Outcome, PiecesError, RunError};
 pub use parsing::PlanFault;

@@ -1,7 +1,7 @@
-use Rattle.std.proofs.Common.{◌≡◌, ◌∙◌, length, refl, subst, arith}
+use Rattle.std.proofs.Common.{◌≡◌, ◌<◌, ◌≤◌, ◌∙◌, length, refl, subst, arith}
 use Rattle.hh_stream.specs.Cuttings.{whole_of}
 use Rattle.hh_shared.specs.Tally.{HasAllBelow, IsDistinctBelow}
-use Rattle.hh_stream.specs.Weights.{Entry}
+use Rattle.hh_stream.specs.Weights.{Entry, max_total, total_of}
 use Rattle.hh_pool.proofs.PieceFacts.{sum_by-all_items}
 use Rattle.hh_pool.proofs.Closed.{closed_weights}
 use Rattle.hh_pool.proofs.analysis.weigh.Goals as goal
@@ -16,8 +16,8 @@ returns-clause-weights g c = λ known.
     let cells = c.in_ok-sums.ensures.cells ∙ c.len.ensures.len in
     let closed = c.in_ok-close.ensures in
     let done = c.in_ok-seat.ensures.all_done in
-    let fits = λ some. omega
-        (arith, done.0, (done.1 known).1.whole some, sum_by-all_items (λ (e : Entry). e.1) pieces seat.claims distinct all) in
+    let fits : 0 < length c.args.candidates.now → total_of (whole_of pieces) ≤ max_total = λ some. omega
+    (arith, done.0, (done.1 known).1.whole some, sum_by-all_items (λ (e : Entry). e.1) pieces seat.claims distinct all) in
     closed_weights pieces (whole_of pieces) c.args.candidates.now seat c.in_ok-close.field-0.items refl fits
     (done.1 known).0 distinct all
     (omega (arith, closed.len, c.in_ok-close.field-0.ok))
