@@ -16,7 +16,7 @@ use Rattle.hh_pool.specs.Progress.{AreCounted, IsFirstAloneUpTo, IsSecondAloneUp
 use Rattle.hh_pool.proofs.PieceFacts.{sum_by-flat_map}
 
 -- one piece more
-whole-more : (pieces : List (List Entry)) (n : ℕ) → n < length pieces
+pub whole-more : (pieces : List (List Entry)) (n : ℕ) → n < length pieces
     → whole_of (take (n + 1) pieces) ≡ whole_of (take n pieces) ++ piece_of pieces n
 whole-more pieces n low =
     ap whole_of (take_more pieces n [] low) ∙ (flat_map-append (λ piece. piece) (take n pieces) (piece_of pieces n ∷ [])

@@ -62,7 +62,8 @@ closed_table law reads pieces settings sums seat kept weight values (p, taken) c
 
 -- the closed sums of the second pass are the candidates' weights
 pub closed_weights : (pieces : List (List Entry)) (xs : List Entry) (keys : List Bytes) (seat : Holding)
-    (values : List ℕ) → whole_of pieces ≡ xs → total_of xs ≤ max_total → AreSecondPasses pieces keys seat
+    (values : List ℕ) → whole_of pieces ≡ xs → (0 < length keys → total_of xs ≤ max_total)
+    → AreSecondPasses pieces keys seat
     → IsDistinctBelow (length pieces) seat.claims → HasAllBelow (length pieces) seat.claims
     → length values ≡ length keys → ((cell : ℕ) → cell < length keys → get_or values cell 0 ≡ sum_at seat.adds cell)
     → values ≡ weights_at keys xs
@@ -73,8 +74,9 @@ closed_weights pieces xs keys seat values whole low p distinct all long each =
     let at = slice_get-get_or keys i [] (omega arith) in
     let all_items : cell_total i seat.adds ≡ weight_of key xs =
     p.adds i key at ∙ (sum_by-all_items (at_key key) pieces seat.claims distinct all ∙ ap (weight_of key) whole) in
+    let fits = low (omega (arith, within, long)) in
     each i (omega arith)
-    ∙ (exact (weight_of key xs) (cell_total i seat.adds) all_items (omega (arith, weight_of-le key xs))
+    ∙ (exact (weight_of key xs) (cell_total i seat.adds) all_items (omega (arith, fits, weight_of-le key xs))
     ∙ sym (weight_behind_number keys xs i key at)))
 
 -- each summary found is its piece's

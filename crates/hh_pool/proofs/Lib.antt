@@ -6,6 +6,7 @@ pub mod NumberFacts
 pub mod PieceFacts
 pub mod Taken
 pub mod Tried
+pub mod TableFacts
 pub mod Alone
 pub mod Closed
 pub mod Held

@@ -1,5 +1,5 @@
 -- What takers have taken of a list of items.
-use Rattle.std.proofs.Common.{◌≡◌, ◌+◌, ◌++◌, ◌∷◌, ◌∙◌, ℕ, List, [], refl, sym, ap, arith, fold, append_assoc}
+use Rattle.std.proofs.Common.{◌≡◌, ◌+◌, ◌++◌, ◌∷◌, ◌∙◌, ℕ, List, [], OnOk, Result, Ok, Err, refl, sym, ap, arith, fold, append_assoc}
 use Rattle.std.proofs.lemmas.List.{append-nil}
 use Rattle.std.proofs.lemmas.List.Sums.{sum_by-append}
 use Rattle.hh_stream.specs.Weights.{Bytes, Entry, total_of}
@@ -10,6 +10,11 @@ use Rattle.hh_countmin.specs.Table.{grid_with}
 use Rattle.hh_pool.specs.Progress.{AreCounted, sketches_with}
 use Rattle.hh_pool.specs.declared.first.Sketches.{Sketches}
 use Rattle.hh_pool.proofs.Tried.{counted-weights_at}
+
+-- what follows of an answer from a fact
+pub on_ok : {X E P Q : Type 0} (r : Result X E) → (P → Q) → OnOk r P → OnOk r Q
+on_ok (Ok x) f p = f p
+on_ok (Err e) f p = tt
 
 module _ {A : Type 0} where
   -- where a step makes of the value of some items that of one more, a fold makes that of all

@@ -25,7 +25,7 @@ use Rattle.hh_pool.specs.Settings.{Settings}
 use Rattle.hh_pool.specs.Passes.{piece_of, items_at, summaries_at, HasTried, HaveCounted, HaveTaken, MayRefuse, AreFirstPasses, AreSecondPasses, IsFirstPass, IsSecondPass}
 use Rattle.hh_pool.specs.Progress.{AreCounted, HasTriedUpTo, IsFirstPassUpTo, IsSecondPassUpTo}
 
-items_at-push : (pieces : List (List Entry)) (claims : List ℕ) (i : ℕ)
+pub items_at-push : (pieces : List (List Entry)) (claims : List ℕ) (i : ℕ)
     → items_at pieces (claims ++ i ∷ []) ≡ items_at pieces claims ++ piece_of pieces i
 items_at-push pieces claims i = flat_map-append (piece_of pieces) claims (i ∷ [])
     ∙ ap (λ xs. items_at pieces claims ++ xs) (append-nil (piece_of pieces i))

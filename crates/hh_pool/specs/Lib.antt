@@ -4,5 +4,6 @@ pub mod Plans
 pub mod Trees
 pub mod Passes
 pub mod Progress
+pub mod Tabulated
 pub mod Outcomes
 pub mod Laws

@@ -92,7 +92,7 @@ fn table_of_cells(options: &Options, total: u64, cells: Vec<u64>) -> Result<Tabl
 
 /// The second pass: the weight of each candidate in all items, and the total of all items where
 /// there are candidates.
-fn weigh<R: Threads + Wait + Sync, P: Pieces + Sync, G: Gate + Sync>(
+pub(crate) fn weigh<R: Threads + Wait + Sync, P: Pieces + Sync, G: Gate + Sync>(
     rt: &R,
     work: &Work<P, G>,
     candidates: &Candidates,
@@ -100,8 +100,6 @@ fn weigh<R: Threads + Wait + Sync, P: Pieces + Sync, G: Gate + Sync>(
 ) -> Result<(Vec<u64>, u64), PieceFault>
     requires some { 0 < length (P.pieces work.now.pieces.now) }
     requires few { length (P.pieces work.now.pieces.now) ≤ max_pieces }
-    requires total { let pieces = work.now.pieces.now in
-        P.known pieces → total_of (whole_of (P.pieces pieces)) ≤ max_total }
     requires workers { in_range workers max_workers ≡ true }
     requires few_keys { length candidates.now ≤ max_k }
     ensures count { IfOk result (λ r. length r.0.items ≡ length candidates.now) }
@@ -109,6 +107,7 @@ fn weigh<R: Threads + Wait + Sync, P: Pieces + Sync, G: Gate + Sync>(
         → r.0.items ≡ weights_at candidates.now (whole_of (P.pieces pieces))) }
     ensures total { let pieces = work.now.pieces.now in IfOk result (λ r. P.known pieces
         → 0 < length candidates.now → r.1 ≡ total_of (whole_of (P.pieces pieces))) }
+    ensures bounded { IfOk result (λ r. r.1 ≤ max_total) }
     ensures refused { let pieces = work.now.pieces.now in
         IsErrOf result PieceFault.Refused → P.known pieces
         → MayRefuse (P.refuses pieces) (P.pieces pieces) }
@@ -197,6 +196,19 @@ fn merge_pieces<R: Threads + Wait + Sync, P: Pieces + Sync, G: Gate + Sync>(
     }
 }
 
+/// Refuses another total than the first pass had, where anything was counted. Only pieces that
+/// changed between the passes come to this.
+fn check_totals(candidates: &Candidates, counted: u64, total: u64) -> Result<(), PieceFault>
+    ensures same { OnOk result (0 < length candidates.now → counted ≡ total) }
+    ensures differs { IsErr result → (0 < length candidates.now) × (counted ≢ total) }
+    ensures told { IsErr result → result ≡ Err PieceFault.Refused }
+{
+    if !candidates.is_empty() && counted != total {
+        return Err(PieceFault::Refused);
+    }
+    Ok(())
+}
+
 /// The keys above the options' threshold, by a second pass over those that can be.
 fn heavy_keys<R: Threads + Wait + Sync, P: Pieces + Sync, G: Gate + Sync>(
     rt: &R,
@@ -228,10 +240,7 @@ fn heavy_keys<R: Threads + Wait + Sync, P: Pieces + Sync, G: Gate + Sync>(
     let candidates = candidates(work.alloc, summary, table, p, q)?;
     let total = summary.total();
     let (weights, counted) = weigh(rt, work, &candidates, options.workers())?;
-    // Only pieces that changed between the passes come to this.
-    if !candidates.is_empty() && counted != total {
-        return Err(PieceFault::Refused);
-    }
+    check_totals(&candidates, counted, total)?;
     Ok(candidates.select(&weights, total, p, q)?)
 }
 

@@ -126,6 +126,7 @@ impl<'a, P: Pieces, G: Gate> SecondPass<'a, P, G> {
         ensures total { let pieces = self.now.work.now.pieces.now in IfOk result (λ r.
             P.known pieces → 0 < length self.now.candidates.now
             → r.1 ≡ total_of (whole_of (P.pieces pieces))) }
+        ensures bounded { IfOk result (λ r. r.1 ≤ max_total) }
         ensures refused { let pieces = self.now.work.now.pieces.now in
             IsErrOf result PieceFault.Refused → P.known pieces
             → MayRefuse (P.refuses pieces) (P.pieces pieces) }
@@ -167,6 +168,7 @@ impl<'a, P: Pieces, G: Gate> Pass for SecondPass<'a, P, G> {
     type Kept = u64;
 
     ghost use Rattle.hh_shared.specs.Tally.{IsDistinctBelow};
+    ghost use Rattle.hh_stream.specs.Weights.{max_total};
     ghost use Rattle.hh_pool.specs.Passes.{AreSecondPasses, HaveCounted, IsSecondPass, MayRefuse};
 
     ghost fits = { λ p sums. (sums.claims ≡ length (P.pieces p.work.now.pieces.now))
@@ -175,9 +177,10 @@ impl<'a, P: Pieces, G: Gate> Pass for SecondPass<'a, P, G> {
     ghost done = { λ p seat _. let pieces = p.work.now.pieces.now in P.known pieces
         → IsSecondPass (P.pieces pieces) p.candidates.now seat };
 
-    ghost all_done = { λ p seat total. let pieces = p.work.now.pieces.now in P.known pieces
+    ghost all_done = { λ p seat total. let pieces = p.work.now.pieces.now in
+        (total ≤ max_total) × (P.known pieces
         → AreSecondPasses (P.pieces pieces) p.candidates.now seat
-        × HaveCounted (P.pieces pieces) p.candidates.now seat.claims total };
+        × HaveCounted (P.pieces pieces) p.candidates.now seat.claims total) };
 
     ghost may_refuse = { λ p. let pieces = p.work.now.pieces.now in P.known pieces
         → MayRefuse (P.refuses pieces) (P.pieces pieces) };

@@ -52,7 +52,7 @@ pub(crate) fn analyse_stream<R: Threads + Wait + Abort + Sync, G: Gate + Sync>(
     analyse(rt, alloc, stream, cutting, plan, options, gate)
 }
 
-fn has_cells(table: &Table) -> bool {
+pub(crate) fn has_cells(table: &Table) -> bool {
     table.total() == 11 && table.cells() == [2, 0, 6, 3, 0, 2, 3, 6].as_slice()
 }
 

@@ -9,6 +9,8 @@ mod fixtures;
 #[cfg(test)]
 mod meetings;
 #[cfg(test)]
+mod one_pass;
+#[cfg(test)]
 mod passes;
 #[cfg(test)]
 mod plans;

@@ -1,14 +1,9 @@
-use Rattle.std.proofs.Common.{◌≡◌, OnOk, Result, Ok, Err, arith, length, refl}
+use Rattle.std.proofs.Common.{◌≡◌, arith, length, refl}
 use Rattle.std.proofs.lemmas.Bool.Decides.{nat_tests}
 use Rattle.hh_pool.specs.Passes.{piece_of}
 use Rattle.hh_pool.proofs.Held.{still_counted}
-use Rattle.hh_pool.proofs.Taken.{counted_on}
+use Rattle.hh_pool.proofs.Taken.{counted_on, on_ok}
 use Rattle.hh_pool.proofs.second.SecondPass.count_piece.Goals as goal
-
--- what follows of an answer from a fact
-on_ok : {X E P Q : Type 0} (r : Result X E) → (P → Q) → OnOk r P → OnOk r Q
-on_ok (Ok x) f p = f p
-on_ok (Err e) f p = tt
 
 pub returns-then-is_empty-clause-counted : goal.returns-then-is_empty-clause-counted
 returns-then-is_empty-clause-counted g c =

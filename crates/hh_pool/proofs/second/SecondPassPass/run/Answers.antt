@@ -31,8 +31,11 @@ returns-clause-done g c = λ known.
     ∙ ap (λ xs. cell_total cell seat.adds + get_or xs cell 0) (c.deref.ensures.value ∙ c.into_weights.ensures)) all
 
 pub returns-clause-all_done : goal.returns-clause-all_done
-returns-clause-all_done g c = λ known. (
-  (returns-clause-done g c known).work,
-  second_counted _ _ _ c.loop-piece.seat _ c.loop-piece.counts _ c.add_numbers.ensures.unchanged
-      (c.loop-piece.invariant.so_far known) c.total-total.ensures.total,
+returns-clause-all_done g c = (
+  c.total-total.ensures.bounded,
+  λ known. (
+    (returns-clause-done g c known).work,
+    second_counted _ _ _ c.loop-piece.seat _ c.loop-piece.counts _ c.add_numbers.ensures.unchanged
+        (c.loop-piece.invariant.so_far known) c.total-total.ensures.total,
+  ),
 )
