@@ -1,6 +1,7 @@
 #!/usr/bin/env python3
-"""Processor time and peak memory of `heavy summarise`, `table` and `confirm`, beside plain Rust that keeps no record
-either, and beside mawk (or awk), which groups by key.
+"""Processor time, elapsed time and peak memory of `heavy summarise`, `table` and `confirm`, beside plain Rust that keeps no
+record either, and beside mawk (or awk), which groups by key. All read standard input, but for `table FILE` and `confirm
+FILE`, whose four workers read a file: they are set beside plain Rust, which has one thread, by elapsed time too.
 
 usage: bench/passes.py [RUNS] [--write]
 
@@ -35,14 +36,15 @@ def many(room: Path, shape: str) -> Path:
     return path
 
 
-def seconds(command: list[str], path: Path) -> float:
-    """The processor time of a run."""
+def seconds(command: list[str], path: Path) -> tuple[float, float]:
+    """The processor time of a run, and the time that goes by."""
+    begun = time.monotonic()
     with open(path, "rb") as source:
         running = subprocess.Popen(command, stdin=source, stdout=subprocess.DEVNULL)
         _, status, used = os.wait4(running.pid, 0)
     if status != 0:
         raise SystemExit(f"{command} ended with {status}")
-    return used.ru_utime + used.ru_stime
+    return used.ru_utime + used.ru_stime, time.monotonic() - begun
 
 
 def megabytes(command: list[str], path: Path) -> float:
@@ -68,6 +70,8 @@ def commands(room: Path, path: Path) -> dict[str, list[str]]:
         "summarise ss": [heavy, "summarise", "--k", "100", "--method", "ss"],
         "table": [heavy, "table"],
         "confirm": [heavy, "confirm", str(summary)],
+        "table FILE": [heavy, "table", "--workers", "4", str(path)],
+        "confirm FILE": [heavy, "confirm", "--workers", "4", str(summary), str(path)],
     }
     if plain:
         with open(path, "rb") as source, open(keys, "wb") as out:
@@ -85,19 +89,19 @@ def commands(room: Path, path: Path) -> dict[str, list[str]]:
 
 
 def compare(room: Path, path: Path, runs: int) -> dict[str, list[float]]:
-    """Prints what each command takes, and returns the times of its runs."""
+    """Prints what each command takes, and returns the processor times of its runs."""
     all_commands = commands(room, path)
-    times: dict[str, list[float]] = {name: [] for name in all_commands}
+    times: dict[str, list[tuple[float, float]]] = {name: [] for name in all_commands}
     for _ in range(runs):
         for name, command in all_commands.items():
             times[name].append(seconds(command, path))
-    medians = {name: statistics.median(all) for name, all in times.items()}
-    for name, median in medians.items():
-        line = f"  {name:18} {median:7.3f} s {megabytes(all_commands[name], path):8.1f} MB"
-        if f"plain {name}" in medians:
-            line += f"   {median / medians[f'plain {name}']:5.2f} of plain"
+    medians = {name: [statistics.median(part) for part in zip(*all)] for name, all in times.items()}
+    for name, (used, elapsed) in medians.items():
+        line = f"  {name:18} {used:7.3f} s, {elapsed:7.3f} s elapsed {megabytes(all_commands[name], path):8.1f} MB"
+        if beside := medians.get(f"plain {name.removesuffix(' FILE')}"):
+            line += f"   {used / beside[0]:5.2f} of plain, {elapsed / beside[1]:5.2f} elapsed"
         print(line, flush=True)
-    return times
+    return {name: [used for used, _ in all] for name, all in times.items()}
 
 
 def ratios_of(records: str, times: dict[str, list[float]]) -> list[tuple[str, str, str, list[float]]]:

@@ -15,11 +15,11 @@ _heavy() {
   case ${COMP_WORDS[1]} in
     report) options='--k --threshold --top --share --delimiter --header --key --weight --allow-zero --decimals --workers --pieces --tree --width --depth --seed --progress --explain' ;;
     summarise) options='--k --method --delimiter --header --key --weight --allow-zero --decimals --progress --explain' ;;
-    table) options='--width --depth --seed --delimiter --header --key --weight --allow-zero --decimals --progress --explain' ;;
+    table) options='--width --depth --seed --workers --delimiter --header --key --weight --allow-zero --decimals --progress --explain' ;;
     merge | describe) options='--explain' ;;
     ask | list) options='--decimals --explain' ;;
-    condense) options='--delimiter --header --key --weight --allow-zero --decimals --progress --explain' ;;
-    confirm) options='--threshold --top --share --delimiter --header --key --weight --allow-zero --decimals --progress --explain' ;;
+    condense) options='--workers --delimiter --header --key --weight --allow-zero --decimals --progress --explain' ;;
+    confirm) options='--threshold --top --share --workers --delimiter --header --key --weight --allow-zero --decimals --progress --explain' ;;
     help) mapfile -t COMPREPLY < <(compgen -W "$commands" -- "$cur"); return ;;
   esac
   case $cur in

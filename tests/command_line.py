@@ -85,10 +85,10 @@ def cells_of(table: reference.Table, items: list[reference.Item]) -> list[list[i
 
 
 def watched(program: str, library: str, words: list, given: bytes) -> list[int]:
-    """What a report starts and asks for: 0 for each thread, and the bytes of each request of at least 4,096."""
+    """What a run starts and asks for: 0 for each thread, and the bytes of each request of at least 4,096."""
     ear, mouth = os.pipe()
     env = {"LD_PRELOAD": library, "WATCH_FROM": "4096", "WATCH_TOLD_ON": str(mouth)}
-    ended = programs.run([program, "report", *words], given, env, pass_fds=(mouth,))
+    ended = programs.run([program, *words], given, env, pass_fds=(mouth,))
     os.close(mouth)
     with open(ear, "rb") as told:
         numbers = sorted(map(int, told.read().split()))
@@ -329,16 +329,33 @@ class CommandLine(programs.Checks):
             (["--depth", "12"], 4, 4, 1024 * 12), (["--width", "1300", "--depth", "3"], 4, 4, 1300 * 3),
             (["--workers", "4", "--pieces", "4", "--width", "1024", "--depth", "4"], 4, 4, 1024 * 4),
         ]:
-            told = watched(self.program, library, words, RECORDS)
+            told = watched(self.program, library, ["report", *words], RECORDS)
             found = (told.count(0), 8 * cells in told, 8 * (cells + pieces) in told)
             self.check(f"report {' '.join(words)}", found == (2 * workers, True, True), told)
         many = b"".join(b"k%d,%d\n" % (number, 1 + number % 7) for number in range(5000))
-        options = ["--k", "3000", "--workers", "1", "--width", "4096", "--depth", "1"]
+        options = ["report", "--k", "3000", "--workers", "1", "--width", "4096", "--depth", "1"]
         seeds = ["0", "7", str(2**64 - 1)]
         plain, *told = [watched(self.program, library, options + words, many) for words in ([], *(["--seed", it] for it in seeds))]
         self.check("the default seed of a report is 0", plain == told[0] and plain != [], (plain, told[0]))
         differ = len({tuple(it) for it in told}) == len(seeds)
         self.check("each seed of a report has a table of its own", differ, told)
+
+    def test_file_workers(self) -> None:
+        """How many threads a command starts that reads records once: the workers where all of them are in files that are not
+        empty, and else none."""
+        library = programs.preloaded("watch.c", self.room)
+        self.save("saved", ["summarise", "--k", "2"])
+        one, two, empty = [f"{self.room}/{name}" for name in ("one", "two", "empty")]
+        for path, text in ((one, RECORDS[:8]), (two, RECORDS[8:]), (empty, b"")):
+            Path(path).write_bytes(text)
+        for command in (["table"], ["condense", f"{self.room}/saved"], ["confirm", f"{self.room}/saved"]):
+            for words, given, threads in [
+                ([one, two], b"", 4), (["--workers", "6", one, two], b"", 6), (["--workers", "6", one, "-"], RECORDS[8:], 0),
+                ([one, two, empty], b"", 0), ([], RECORDS, 0),
+            ]:
+                status = self.heavy([*command, *words], given)[0]
+                told = watched(self.program, library, [*command, *words], given)
+                self.check(f"{command[0]} {' '.join(words)}", (status, told.count(0)) == (0, threads), (status, told))
 
     def test_vectors(self) -> None:
         """Files of version 1 and 2 byte by byte: what is merged, asked and confirmed of them, and what is refused."""

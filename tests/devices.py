@@ -114,6 +114,11 @@ class Devices(programs.Checks):
         alone = {"preexec_fn": lambda: resource.setrlimit(resource.RLIMIT_NPROC, (1, 1)), **nobody}
         found = said(programs.run(words, RECORDS, **alone))
         self.check("64 workers, and no thread to be had", found == NO_MEMORY, found)
+        path = Path(self.room, "records.csv")
+        path.write_bytes(RECORDS)
+        for command in (["table"], ["condense", self.summary], ["confirm", self.summary]):
+            found = said(programs.run([self.program, *command, str(path)], **alone))
+            self.check(f"{command[0]} of a file, and no thread to be had", found == NO_MEMORY, found)
 
 
 if __name__ == "__main__":

@@ -1,6 +1,7 @@
 #!/usr/bin/env python3
-"""Summarises, tabulates, condenses and confirms few and many records, and reports those of a file, with limited address
-space: none of the five needs more for many records than for few. What the last three answer is checked beside.
+"""Summarises, tabulates, condenses and confirms few and many records, and has workers tabulate, condense, confirm and report
+those of a file, with limited address space: none of them needs more for many records than for few. What they answer is
+checked beside.
 
 usage: tests/one_pass.py
 """
@@ -42,6 +43,9 @@ class OnePass(programs.Checks):
             "table": lambda of: ["table"],
             "condense": lambda of: ["condense", f"{self.room}/{of}"],
             "confirm": lambda of: ["confirm", f"{self.room}/{of}"],
+            "table FILE": lambda of: ["table", "--workers", "2", f"{self.room}/{of}.csv"],
+            "condense FILE": lambda of: ["condense", "--workers", "2", f"{self.room}/{of}", f"{self.room}/{of}.csv"],
+            "confirm FILE": lambda of: ["confirm", "--workers", "2", f"{self.room}/{of}", f"{self.room}/{of}.csv"],
             "report": lambda of: ["report", "--workers", "2", f"{self.room}/{of}.csv"],
         }
         for name, words in commands.items():
@@ -52,6 +56,10 @@ class OnePass(programs.Checks):
             limited = within([program, *words("many")], many, least + MORE)
             said = f"{least} KB are enough for few records, and 1 MB more was not for many: {limited.err!r}"
             self.check(f"{name} in bounded memory", least < MOST and limited.out == ample.out, said)
+        for name in ("table", "condense", "confirm"):
+            here = programs.run([program, *commands[f"{name} FILE"]("many")])
+            there = programs.run([program, *commands[name]("many")], many)
+            self.check(f"{name} of a file as of standard input", here.out == there.out, (here.status, here.err))
         rows = programs.run([program, *commands["report"]("many")]).out
         self.check("the heavy key of a file", rows == b"heavy,%d\n" % (MANY // 100 * 7), rows)
         rows = programs.run([program, *commands["confirm"]("many")], many).out

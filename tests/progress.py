@@ -17,6 +17,8 @@ import programs
 READ = rb"heavy: (\d+\.\d) MB and (\d+) records read, \d+\.\d MB/s"
 PIPE = re.compile(READ + rb"\n")
 FILE = re.compile(READ + rb", (\d+) % of (\d+\.\d) MB, \d+ s left\n")
+# of files that are named, which workers read
+NAMED = re.compile(rb"heavy: \d+\.\d MB read( in two passes)?, \d+\.\d MB/s(?:, (\d+) % of (\d+\.\d) MB, \d+ s left)?\n")
 PART = b"".join(b"key%d,%d\n" % (number % 977, number) for number in range(1, 20_000))
 STEPS = 14
 SECONDS = 0.2  # between the parts that a pipe is given
@@ -35,6 +37,28 @@ def stopped_in_file(words: list[str], path: Path) -> list[bytes]:
         time.sleep(STOPPED)
         running.send_signal(signal.SIGCONT)
         return running.communicate()[1].splitlines(keepends=True)
+
+
+def bytes_read(process: int) -> int:
+    """How many bytes a process has read; it may have ended."""
+    try:
+        return int(re.search(r"rchar: (\d+)", Path(f"/proc/{process}/io").read_text())[1])
+    except OSError:
+        return 0
+
+
+def stopped_in_named(words: list[str], path: Path) -> tuple[bytes, list[bytes]]:
+    """What a run over a named file answers, and tells that is stopped for more than a second after a tenth of it."""
+    with tempfile.TemporaryFile() as out:
+        running = subprocess.Popen([*words, str(path)], stdin=subprocess.DEVNULL, stdout=out, stderr=subprocess.PIPE, env={})
+        while bytes_read(running.pid) < path.stat().st_size / 10 and running.poll() is None:
+            time.sleep(0.001)
+        running.send_signal(signal.SIGSTOP)
+        time.sleep(STOPPED)
+        running.send_signal(signal.SIGCONT)
+        told = running.communicate()[1].splitlines(keepends=True)
+        out.seek(0)
+        return out.read(), told
 
 
 # the commands that read records and no saved file
@@ -118,6 +142,28 @@ class Progress(programs.Checks):
         many.write_bytes(PART * 100)
         for name, words in {**COMMANDS, **self.by_summary(PART * 100)}.items():
             self.try_file(name, words, many)
+
+    def test_named_file(self) -> None:
+        """A file that is named, which workers read: the share of one pass, or of the two of a report, and the same answer."""
+        many = Path(self.room, "many.csv")
+        many.write_bytes(PART * 100)
+        for name, words in {**COMMANDS, **self.by_summary(PART * 100)}.items():
+            if name != "summarise":
+                self.try_named_file(name, [self.program, *words], many, 2 if name == "report" else 1)
+
+    def try_named_file(self, name: str, words: list[str], path: Path, passes: int) -> None:
+        size = path.stat().st_size * passes
+        wanted = (b" in two passes" if passes == 2 else None, b"%d.%d" % (size // 1_000_000, size % 1_000_000 // 100_000))
+        plain = programs.run([*words, str(path)])
+        for _ in range(TRIES):  # on a busy machine a run may be over before it is stopped
+            out, told = stopped_in_named([*words, "--progress"], path)
+            found = [(found[1], found[3], int(found[2])) for line in told if (found := NAMED.fullmatch(line)) and found[2]]
+            if found:
+                break
+        holds = found and all((pass_, of) == wanted and share < 100 for pass_, of, share in found)
+        self.check(f"{name} tells a named file's share", holds, told)
+        self.check(f"{name} of a named file tells nothing else", all(map(NAMED.fullmatch, told)), told)
+        self.check(f"{name} of a named file answers the same", (plain.status, plain.out, plain.err) == (0, out, b""), plain.err)
 
     def try_file(self, name: str, words: list[str], path: Path) -> None:
         """A file: the share that is read, and the time left."""

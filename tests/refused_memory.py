@@ -115,12 +115,13 @@ def is_lawful_run(ample: programs.Ended, ended: programs.Ended) -> bool:
 def refuse_commands(refusing: Refusing, program: str, room: str) -> list[list[str]]:
     """Runs all commands of a program with each request for memory refused in turn, from the first one of the process on,
     and gives their words."""
-    saved, long, table = f"{room}/summary", f"{room}/long", f"{room}/table"
+    saved, long, twice, table = f"{room}/summary", f"{room}/long", f"{room}/twice", f"{room}/table"
     records, bad = f"{room}/records.csv", f"{room}/bad.csv"
     Path(records).write_bytes(LONG_RECORDS)
     Path(bad).write_bytes(b"a,5\nb,0\n")
     Path(saved).write_bytes(programs.run([program, "summarise", "--k", "2"], RECORDS).out)
     Path(long).write_bytes(programs.run([program, "summarise", "--k", "2"], LONG_RECORDS).out)
+    Path(twice).write_bytes(programs.run([program, "summarise", "--k", "2"], LONG_RECORDS * 2).out)
     Path(table).write_bytes(programs.run([program, "table", "--depth", "2", "--width", "4"], RECORDS).out)
     rows = [
         (["report", "--k", "2"], RECORDS),
@@ -135,6 +136,7 @@ def refuse_commands(refusing: Refusing, program: str, room: str) -> list[list[st
         (["summarise", "--k", "2", "--method", "ss"], LONG_RECORDS),
         (["summarise", "--method", "no"], RECORDS),
         (["table", "--depth", "2", "--width", "4"], LONG_RECORDS),
+        (["table", "--depth", "2", "--width", "4", "--workers", "2", records, records], b""),
         (["report", "--k", "2", "--progress"], RECORDS),
         (["summarise", "--k", "2", "--progress"], RECORDS),
         (["merge", saved, saved], b""),
@@ -151,8 +153,11 @@ def refuse_commands(refusing: Refusing, program: str, room: str) -> list[list[st
         (["describe", table], b""),
         (["condense", saved], RECORDS),
         (["condense", long], LONG_RECORDS),
+        (["condense", "--workers", "2", long, records, records], b""),
         (["confirm", saved], RECORDS),
         (["confirm", long], LONG_RECORDS),
+        (["confirm", "--workers", "2", twice, records, records], b""),
+        (["confirm", "--workers", "2", twice, records, bad], b""),
         (["confirm", "--threshold", "1/2", saved], RECORDS),
         (["--help"], b""),
         (["--version"], b""),

@@ -1,15 +1,17 @@
 #!/usr/bin/env python3
-"""Reports of files, which are read twice and in pieces, beside the reports of the same texts from standard input and of a
-second reader.
+"""Files that workers read in pieces: by `report` twice, by `table`, `condense` and `confirm` once. What comes out is set
+beside rows that were found by hand, and beside what the same texts give from standard input and from pipes.
 
 usage: tests/report_files.py [CASES [SEED]]
 
-Prints the seed, how many cases ran and differed.
+Prints the seed, how many cases ran and differed, of reports and of the other three.
 """
 import os
+import signal
 import sys
 import threading
 import time
+from functools import partial
 from pathlib import Path
 from random import Random
 
@@ -17,7 +19,14 @@ import programs
 
 # a piece of a file has at least so many bytes, but for its last
 LEAST = 65_536
+SECONDS = 60
 KEYS = [b"a", b"b", b"web", b"x,y", b'say ""so""', b"two\nlines", b"end\r\nof", b"\xef\xbb\xbfmark", b"k" * 300]
+RECORDS = b"a,5\nb,3\nc,2\na,1\n"
+# how the random texts are read, of which none is refused before a file is opened
+LAYOUTS = [
+    [], [], ["--allow-zero"], ["--header"], ["--decimals", "2"], ["--key", "1"], ["--delimiter", ";"],
+    ["--header", "--key", "1", "--decimals", "3"], ["--key", "1", "--weight", "2"],
+]
 
 
 def quoted(key: bytes) -> bytes:
@@ -47,21 +56,40 @@ def text_of(random: Random) -> bytes:
     return text.rstrip(b"\r\n") if random.random() < 0.33 else text
 
 
-def piped(words: list[str], texts: list[bytes], room: str) -> programs.Ended:
-    """The run over the texts as named pipes, which are kept whole. All are opened first, so each has a writer of its own."""
+def feed(path: str, text: bytes) -> None:
+    """Writes the text into a pipe, of which a refused run reads no more."""
+    try:
+        Path(path).write_bytes(text)
+    except BrokenPipeError:
+        pass
+
+
+def piped(words: list[str], texts: list[bytes], room: str, **how) -> programs.Ended:
+    """The run over the texts as named pipes. All are opened first, so each has a writer of its own."""
     paths = [f"{room}/pipe{place}" for place in range(len(texts))]
     writers = []
     for path, text in zip(paths, texts):
         os.mkfifo(path)
-        writer = threading.Thread(target=Path(path).write_bytes, args=(text,), daemon=True)
+        writer = threading.Thread(target=feed, args=(path, text), daemon=True)
         writer.start()
         writers.append(writer)
-    ended = programs.run([*words, *paths])
+    ended = programs.run([*words, *paths], **how)
     for writer in writers:
         writer.join(10)
     for path in paths:
         os.unlink(path)
     return ended
+
+
+def chosen() -> tuple[int, int]:
+    """The number of cases and the seed, as the command line has them."""
+    cases = int(sys.argv[1]) if len(sys.argv) > 1 else 60
+    return cases, int(sys.argv[2]) if len(sys.argv) > 2 else time.time_ns() % 1_000_000_007
+
+
+def same(here: programs.Ended, there: programs.Ended) -> bool:
+    """Whether two runs ended alike, and said the same."""
+    return (here.status, here.out, here.err) == (there.status, there.out, there.err)
 
 
 class ReportFiles(programs.Checks):
@@ -98,6 +126,10 @@ class ReportFiles(programs.Checks):
         self.check("standard input named twice", (ended.status, ended.out) == (0, b"a,6\n"), ended)
         ended = piped([program, "report", "--k", "2"], [b"a,5\nb,3\n", b"c,2\na,1\n"], self.room)
         self.check("named pipes", (ended.status, ended.out) == (0, b"a,6\n"), ended)
+        stopped = {"preexec_fn": partial(signal.alarm, SECONDS)}  # a pipe that is opened once more may wait for ever
+        ended = piped([program, "report", "--k", "2", "--explain"], [b"a\tb\n", b'a\tb\n"open'], self.room, **stopped)
+        told = b"heavy: note: a quote is open at the end of %s/pipe1\n" % os.fsencode(self.room)
+        self.check("named pipes that look like another format", ended.status == 0 and ended.err.endswith(told), ended)
 
     def test_unread_files(self) -> None:
         """A file that can't be read is told by its place, and nothing is printed."""
@@ -111,22 +143,95 @@ class ReportFiles(programs.Checks):
     def test_random_files(self) -> None:
         """A file reads as the same text from standard input does, whatever it has; and several files as the pipes do."""
         program = programs.built("heavy_cli")
-        cases = int(sys.argv[1]) if len(sys.argv) > 1 else 60
-        seed = int(sys.argv[2]) if len(sys.argv) > 2 else time.time_ns() % 1_000_000_007
-        random = Random(seed)
-        differed = 0
+        cases, seed = chosen()
+        random, differed = Random(seed), 0
         for _ in range(cases):
             options = ["--k", random.choice(["1", "3", "100"]), "--workers", random.choice(["1", "2", "4"])]
             words = [program, "report", *options, "--pieces", random.choice(["1", "3", "4", "16"])]
             texts = [text_of(random) for _ in range(random.randrange(1, 6))]
             one = self.files(texts[0])
-            here, there = programs.run([*words, *one]), programs.run(words, texts[0])
-            said = (here.status, here.out, here.err) == (there.status, there.out, there.err)
+            said = same(programs.run([*words, *one]), programs.run(words, texts[0]))
             here, there = programs.run([*words, *self.files(*texts)]), piped(words, texts, self.room)
-            same = (here.status, here.out, here.err) == (there.status, there.out, there.err)
-            differed += not (said and same)
-            self.check(f"case of seed {seed}", said and same, (words, texts, here, there))
-        print(f"seed {seed}: {cases} cases, {differed} differ")
+            holds = said and same(here, there)
+            differed += not holds
+            self.check(f"case of seed {seed}", holds, (words, texts, here, there))
+        print(f"seed {seed}: {cases} cases of reports, {differed} differ")
+
+
+class OnePassFiles(programs.Checks):
+    """Tables of files, and files that are condensed and confirmed."""
+
+    files = ReportFiles.files
+
+    def setUp(self) -> None:
+        super().setUp()
+        self.program = programs.built("heavy_cli")
+
+    def saved(self, name: str, words: list[str], text: bytes) -> str:
+        """The path of what these words save of a text."""
+        path = f"{self.room}/{name}"
+        Path(path).write_bytes(programs.run([self.program, *words], text).out)
+        return path
+
+    def by_file(self, saved: str) -> list[list[str]]:
+        """The three commands, two of them by a saved summary."""
+        return [["table"], ["condense", saved], ["confirm", saved]]
+
+    def test_rows(self) -> None:
+        """Four records in files, by hand: some end in no line feed, and with an empty one among them one thread reads."""
+        commands = self.by_file(self.saved("saved", ["summarise", "--k", "2"], RECORDS))
+        table = programs.run([self.program, "table"], RECORDS).out
+        for texts in [
+            [RECORDS], [RECORDS[:-1]], [b"a,5\nb,3\n", b"c,2\na,1\n"], [b"a,5\nb,3", b"c,2\na,1"],
+            [b"a,5\n", b"b,3\n", b"c,2\n", b"a\n"], [b"", b"a,5\nb,3\nc,2\na,1\n", b""],
+        ]:
+            for words, wanted in zip(commands, (table, b"a,6\nb,3\nothers,2\n", b"a,6\n")):
+                for workers in ("1", "4", "64"):
+                    ended = programs.run([self.program, *words[:1], "--workers", workers, *words[1:], *self.files(*texts)])
+                    said = f"{words[0]} of {texts} by {workers}"
+                    self.check(said, (ended.status, ended.out, ended.err) == (0, wanted, b""), ended)
+
+    def test_refused(self) -> None:
+        """A number of workers out of its range is refused, whoever reads; what is tested before it and behind it."""
+        saved, table = self.saved("saved", ["summarise", "--k", "2"], RECORDS), self.saved("table", ["table"], RECORDS)
+        files, none = self.files(b"a,5\n", b"b,0\n"), f"{self.room}/none"
+        workers, share = b"workers must be 1 to 64", b"threshold must be P/Q with 1 <= P <= Q <= 4294967296 and P*(K+1) >= Q"
+        for words, status, text in [
+            (["table"], 2, workers), (["table", "--depth", "0", "--width", "0"], 2, b"depth must be 1 to 16"),
+            (["table", "--width", "0"], 2, b"width must be 1 to 65536"), (["condense", saved], 2, workers),
+            (["condense", table], 3, b"file 1: not a counter summary"), (["confirm", saved], 2, workers),
+            (["confirm", table], 3, b"file 1: not a counter summary"), (["confirm", "--threshold", "1/4", saved], 2, share),
+        ]:
+            for number in ("0", "65", "18446744073709551615"):
+                for paths in (files, [*files, "-"], []):
+                    ended = programs.run([self.program, *words, *paths, "--workers", number], b"c,0\n")
+                    holds = (ended.status, ended.out, ended.err) == (status, b"", b"heavy: %s\n" % text)
+                    self.check(f"{words} of {paths} by {number}", holds, ended)
+        for place, words in ((3, ["table"]), (4, ["condense", saved]), (4, ["confirm", saved])):
+            ended = programs.run([self.program, *words, *files, none, "--workers", "0"])
+            told = b"heavy: file %d: could not be read\n" % place
+            self.check(f"{words} of a file that is missing", (ended.status, ended.out, ended.err) == (1, b"", told), ended)
+
+    def test_random_files(self) -> None:
+        """Files read as pipes with the same texts do, whatever these have, however they are read, and by a summary of them or
+        of other records."""
+        cases, seed = chosen()
+        random, differed = Random(seed), 0
+        other, of_them = self.saved("other", ["summarise", "--k", "3"], b"a,1\nweb,2\n"), f"{self.room}/saved"
+        for _ in range(cases):
+            texts = [text_of(random) for _ in range(random.randrange(1, 6))]
+            if random.random() < 0.8:  # with an empty file among them one thread reads
+                texts = [text or record(random, KEYS) for text in texts]
+            layout, workers = random.choice(LAYOUTS), random.choice(["4", "4", "1", "9"])
+            summary = piped([self.program, "summarise", "--k", "3", *layout], texts, self.room)
+            Path(of_them).write_bytes(summary.out)
+            for words in self.by_file(other if summary.status != 0 or random.random() < 0.1 else of_them):
+                words = [self.program, *words, *layout]
+                here = programs.run([*words, "--workers", workers, *self.files(*texts)])
+                there = piped(words, texts, self.room)
+                differed += not same(here, there)
+                self.check(f"{words[1]} of seed {seed}", same(here, there), (words, workers, texts, here, there))
+        print(f"seed {seed}: {cases} cases of table, condense and confirm, {differed} differ")
 
 
 if __name__ == "__main__":

@@ -8,3 +8,7 @@ pub mod PieceFacts
 pub mod ReportFacts
 pub mod SourceReportFacts
 pub mod FilePieceFacts
+pub mod WeighFacts
+pub mod FilePassFacts
+pub mod ConfirmFacts
+pub mod TableFacts

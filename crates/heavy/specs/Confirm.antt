@@ -60,6 +60,17 @@ ConfirmsPrinted r share file known rows =
     × (threshold_of s.k share ≡ Some (p, q)) × ReadsAs known (Ok xs)
     × (s.total ≡ total_of xs) × (rows ≡ printed_rows (total_of xs) r (confirmed_above p q s xs))
 
+-- what a refusal to print a summary's keys tells, which were counted in items of this total
+abbrev pub TotalsRefused : ℕ → ℕ → ToolError → Type 0
+TotalsRefused summary items tool.TotalDiffers = summary ≢ items
+TotalsRefused summary items tool.Memory = ⊤
+TotalsRefused summary items _ = ⊥
+
+-- and that it leaves both totals, where they differ
+abbrev pub TellsBoth : ℕ → ℕ → Option Totals → ToolError → Type 0
+TellsBoth summary items told tool.TotalDiffers = told ≡ Some (record { summary = summary; records = items })
+TellsBoth summary items told e = ⊤
+
 -- what a refusal tells where a share may be no threshold: that first, and then of the records
 abbrev pub CountAboveRefused : Option (ℕ × ℕ) → SummaryView → Known → ToolError → Type 0
 CountAboveRefused None s known e = e ≡ tool.BadThreshold

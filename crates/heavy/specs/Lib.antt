@@ -7,6 +7,7 @@ pub mod ConfirmShare
 pub mod CountItems
 pub mod Describe
 pub mod Entries
+pub mod FilePasses
 pub mod Files
 pub mod Laws
 pub mod Layouts

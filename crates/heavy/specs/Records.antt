@@ -43,6 +43,10 @@ RefusedAfter (Some f) known e = e ≡ f
 abbrev pub IsCountOf : List Bytes → List Entry → Count → Type 0
 IsCountOf ks xs c = All (λ (e : Entry). 0 < e.1) xs × (c ≡ count_of ks xs)
 
+-- the records read as items, whose count for these keys is this
+abbrev pub CountsRecords : Known → List Bytes → Count → Type 0
+CountsRecords known ks c = (xs : List Entry) × ReadsAs known (Ok xs) × IsCountOf ks xs c
+
 -- the bytes are the spelling in version 2 of what f makes of the stream that the
 -- records are
 abbrev pub SavesStream : (List Entry → Saved) → Known → List ℕ → Type 0

@@ -1,18 +1,23 @@
 -- What a report of files leaves in a sink, and what its refusals tell. Files are read more than once, so
 -- that of files whose bytes no contract knows nothing is said of the keys.
-use Rattle.std.specs.Prelude.{ℕ, List, [], map, replicate, Option, Some, None, IfSome}
-use Rattle.hh_stream.specs.Weights.{Entry}
+use Rattle.std.specs.Prelude.{◌+◌, ◌∷◌, ℕ, List, [], map, replicate, Option, Some, None, IfSome}
+use Rattle.hh_stream.specs.Weights.{Entry, max_total}
 use Rattle.hh_records.specs.Streams.{Known}
 use Rattle.hh_records.specs.declared.printed.RowOptions.{RowOptions}
-use Rattle.heavy.specs.Report.{AreKeysOf, AreWritten, PrintsRows, WriteRefused, items_or_none}
+use Rattle.heavy.specs.Report.{AreKeysOf, AreWritten, PrintsRows, WriteRefused}
 use Rattle.heavy.specs.declared.commands.report.ReportOptions.{ReportOptions}
 use Rattle.heavy.specs.declared.error.ToolError.{ToolError}
 
--- the items of the pieces of files, and none of a piece that can't be read by itself; where the bytes aren't
--- known, so many empty lists
+-- the items of a piece of files, and for one that can't be read by itself more than a total may be
+abbrev pub items_or_too_many : Option (List Entry) → List Entry
+items_or_too_many None = ([], max_total + 1) ∷ []
+items_or_too_many (Some xs) = xs
+
+-- the items of the pieces of files, so that each can be read by itself where they are not too many; where
+-- the bytes aren't known, so many empty lists
 abbrev pub lists_of : ℕ → Option (List (Option (List Entry))) → List (List Entry)
 lists_of count None = replicate count []
-lists_of count (Some pieces) = map items_or_none pieces
+lists_of count (Some pieces) = map items_or_too_many pieces
 
 -- this holds where the bytes of the records are known
 abbrev pub IfKnown : Known → Type 0 → Type 0

@@ -1,7 +1,11 @@
 -- A table of records.
-use Rattle.std.specs.Prelude.{not, ℕ, Option, Some, None, if◌then◌else◌}
+use Rattle.std.specs.Prelude.{◌≡◌, not, ℕ, List, Option, Some, None, Ok, if◌then◌else◌}
 use Rattle.hh_stream.specs.Ranges.{in_range}
-use Rattle.hh_countmin.specs.Family.{max_depth, max_width}
+use Rattle.hh_stream.specs.Weights.{Entry}
+use Rattle.hh_countmin.specs.Family.{Coefficients, max_depth, max_width}
+use Rattle.hh_countmin.specs.Table.{TableView, table_of}
+use Rattle.hh_pool.specs.Settings.{max_workers}
+use Rattle.hh_records.specs.Streams.{Known, ReadsAs}
 use Rattle.heavy.specs.declared.error.ToolError.{ToolError}
 use Rattle.heavy.specs.declared.error.ToolError.TheVariants as tool
 
@@ -11,3 +15,15 @@ bad_table depth width =
     if not (in_range depth max_depth) then Some tool.BadDepth
     else if not (in_range width max_width) then Some tool.BadWidth
     else None
+
+-- the same, and then that of the workers who read files
+abbrev pub bad_table_of_files : ℕ → ℕ → ℕ → Option ToolError
+bad_table_of_files depth width workers =
+    if not (in_range depth max_depth) then Some tool.BadDepth
+    else if not (in_range width max_width) then Some tool.BadWidth
+    else if not (in_range workers max_workers) then Some tool.BadWorkers
+    else None
+
+-- the records read as items that have this table
+abbrev pub TabulatesRecords : Known → Coefficients → ℕ → TableView → Type 0
+TabulatesRecords known family width t = (xs : List Entry) × ReadsAs known (Ok xs) × (t ≡ table_of family width xs)

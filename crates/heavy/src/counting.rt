@@ -1,11 +1,9 @@
 //! The keys of a summary, counted in records.
 
-ghost use Rattle.std.specs.Prelude.{Ok, List, IfOk, IfErr};
+ghost use Rattle.std.specs.Prelude.{IfOk, IfErr};
 ghost use Rattle.std.specs.Map.{keys_of};
-ghost use Rattle.hh_stream.specs.Weights.{Entry};
 ghost use Rattle.hh_counters.specs.Counters.{IsCounters};
-ghost use Rattle.hh_records.specs.Streams.{ReadsAs};
-ghost use Rattle.heavy.specs.Records.{IsCountOf, RecordsRefused};
+ghost use Rattle.heavy.specs.Records.{CountsRecords, RecordsRefused};
 
 use crate::error::ToolError;
 use hh_counters::laws::counts_follow_items;
@@ -19,9 +17,8 @@ pub(crate) fn count_records<R: ReadRecords>(
     summary: &Summary,
     records: R,
 ) -> Result<Counts, ToolError>
-    ensures counts { IfOk result (λ counts. (xs : List Entry)
-        × ReadsAs (R.known records) (Ok xs)
-        × IsCountOf (keys_of summary.now.counters) xs counts) }
+    ensures counts { IfOk result
+        (CountsRecords (R.known records) (keys_of summary.now.counters)) }
     ensures counters { IfOk result (λ counts. IsCounters summary.now.counters) }
     ensures refused { IfErr result (λ fault. RecordsRefused (R.known records) fault) }
 {

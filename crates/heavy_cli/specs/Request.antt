@@ -90,10 +90,11 @@ pub record AreRecordWords (found : Found) (records : RecordWords) : Type 0 where
   pub decimals : AreDecimals found records.layout.decimals
 
 -- the options of a table
-pub record AreTableOptions (found : Found) (width depth seed : ℕ) : Type 0 where
+pub record AreTableOptions (found : Found) (width depth seed workers : ℕ) : Type 0 where
   pub width_given : IsNumberOf found (codes "width") 1024 width
   pub depth_given : IsNumberOf found (codes "depth") 4 depth
   pub seed_given : IsNumberOf found (codes "seed") 0 seed
+  pub workers_given : IsNumberOf found (codes "workers") 4 workers
 
 -- the options of a summary
 pub record AreSummaryOptions (found : Found) (k : ℕ) (method : List ℕ) : Type 0 where
@@ -113,17 +114,21 @@ pub record AreKeys (found : Found) (file : List ℕ) (keys : List (List ℕ)) : 
 -- what the command with a name asks for, but for a report
 abbrev pub Answers : Text → Found → Command → Type 0
 Answers name found (Summarise k method) = (name ≡ codes "summarise") × AreSummaryOptions found k method.items
-Answers name found (Table width depth seed) = (name ≡ codes "table") × AreTableOptions found width depth seed
+Answers name found (Table width depth seed workers) =
+    (name ≡ codes "table") × AreTableOptions found width depth seed workers
 Answers name found (Merge first others) = (name ≡ codes "merge") × AreFiles found first.items (map (λ w. w.items) others.items)
 Answers name found (Ask file keys decimals) =
     (name ≡ codes "ask") × AreKeys found file.items (map (λ w. w.items) keys.items) × AreDecimals found decimals
 Answers name found (ListKeys file decimals) =
     (name ≡ codes "list") × (file.items ≡ first_word [] found (codes "FILE")) × AreDecimals found decimals
 Answers name found (Describe file) = (name ≡ codes "describe") × (file.items ≡ first_word [] found (codes "FILE"))
-Answers name found (Condense file) = (name ≡ codes "condense") × (file.items ≡ first_word [] found (codes "FILE"))
-Answers name found (Confirm file share rows) =
+Answers name found (Condense file workers) =
+    (name ≡ codes "condense") × (file.items ≡ first_word [] found (codes "FILE"))
+    × IsNumberOf found (codes "workers") 4 workers
+Answers name found (Confirm file share rows workers) =
     (name ≡ codes "confirm") × (file.items ≡ first_word [] found (codes "FILE"))
     × GivesShare (first_value found (codes "threshold")) share × AreRowOptions found rows
+    × IsNumberOf found (codes "workers") 4 workers
 
 -- the name is none of the commands that are answered whole
 pub record IsReportName (name : Text) : Type 0 where

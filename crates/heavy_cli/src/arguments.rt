@@ -419,7 +419,8 @@ fn table_command<'a>(alloc: Global) -> Result<Command<'a>, AllocError>
     ensures { IfOk result (λ c. (fields_of c).has_globals ≡ false) }
 {
     let command = reader(alloc, "table", TABLE)?.after_help(DASHES);
-    with_records(alloc, with_table(alloc, command)?)
+    let command = with(with_table(alloc, command)?, WORKERS.argument(alloc))?;
+    with_records(alloc, command)
 }
 
 /// The commands on saved files.
@@ -462,6 +463,7 @@ fn condense_command<'a>(alloc: Global) -> Result<Command<'a>, AllocError>
     ensures { IfOk result (λ c. (fields_of c).has_globals ≡ false) }
 {
     let command = reader(alloc, "condense", CONDENSE)?.after_help(DASHES);
+    let command = with(command, WORKERS.argument(alloc))?;
     with_records(
         alloc,
         with(command, word(alloc, "FILE", "A saved summary"))?,
@@ -473,6 +475,7 @@ fn confirm_command<'a>(alloc: Global) -> Result<Command<'a>, AllocError>
 {
     let command = reader(alloc, "confirm", CONFIRM)?.after_help(DASHES);
     let command = with_rows(alloc, with(command, threshold(alloc))?)?;
+    let command = with(command, WORKERS.argument(alloc))?;
     with_records(
         alloc,
         with(command, word(alloc, "FILE", "A saved summary"))?,

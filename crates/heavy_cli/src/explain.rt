@@ -112,7 +112,7 @@ fn name_of(asked: &Invocation, number: u64) -> &[u8] {
         Command::Ask { file, .. } => file.as_slice(),
         Command::List { file, .. } => file.as_slice(),
         Command::Describe { file } => file.as_slice(),
-        Command::Condense { file } => name_behind(file, records, number),
+        Command::Condense { file, .. } => name_behind(file, records, number),
         Command::Confirm { file, .. } => name_behind(file, records, number),
     }
 }

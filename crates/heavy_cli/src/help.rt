@@ -74,7 +74,10 @@ pub const TABLE: Help = Help {
     about: "Write a Count-Min table of records to standard output",
     whole: "Write a Count-Min table of records to standard output, for `heavy ask` and `heavy
 merge`. It never estimates a key below its weight. Tables can be merged where width,
-depth and seed are the same. Records are those of the files, or of standard input.",
+depth and seed are the same. Records are those of the files, or of standard input.
+Workers read files in pieces. One thread reads standard input, and all files where one
+of them is a pipe, a device or empty. No record is kept, so input can be larger than
+memory.",
     end: "Exit status: 0 the table is whole; 1 input or a file could not be read or output
 not be written; 2 an option is refused; 3 a record is refused, or a header has no
 such column; 4 out of memory.
@@ -167,7 +170,9 @@ summary say, or of standard input: the weight of each key of a saved summary tha
 comes there, by rising key, and then that of all other keys together, under the name
 `others` (or others1, others2 and so on, where that is a key of the summary). Parts
 of a stream that are condensed by one summary, joined in any order, are confirmed as
-the stream is, with the same --decimals. It holds one record at a time.
+the stream is, with the same --decimals. Workers read files in pieces. One thread reads
+standard input, and all files where one of them is a pipe, a device or empty. No record
+is kept, so input can be larger than memory.
 A word that begins with - is given after --",
     end: "Exit status: 0 all rows are written; 1 a file or input could not be read or
 output not be written; 2 wrong usage; 3 the summary is damaged or none, a record is
@@ -189,7 +194,9 @@ order: rows key,weight, by falling weight and then by key. The weights are exact
 no heavy key is missing. Keys are heavy above 1/(k+1) of the total, or above a larger
 share of your own. It has no --k: the summary has a k of its own, which `heavy
 describe` tells. Records are those of the files behind the summary, or of standard
-input. It holds one record at a time.
+input. Workers read files in pieces. One thread reads standard input, and all files
+where one of them is a pipe, a device or empty. No record is kept, so input can be
+larger than memory.
 A word that begins with - is given after --",
     end: "Exit status: 0 all rows are written; 1 a file or input could not be read or
 output not be written; 2 wrong usage, or a threshold is refused; 3 the summary is

@@ -4,10 +4,11 @@ ghost use Rattle.std.specs.Prelude.{None};
 
 use crate::other_format::{Seen, Watch};
 use crate::progress::{Metered, SharedProgress};
-use crate::request::RecordWords;
-use heavy::{FileOrPipe, FileRecords, ReadAt, Records, ToolError, layout_of};
+use crate::request::{Invocation, RecordWords};
+use heavy::{FileOrPipe, FileRecords, Layout, ReadAt, Records, ToolError, layout_of};
+use hh_records::SourceRecords;
 use std::cell::Cell;
-use std::fs::File;
+use std::fs::{self, File};
 use std::io::{self, Read, Stdin};
 use std::os::unix::fs::FileExt;
 use std::sync::atomic::{AtomicU64, Ordering};
@@ -26,9 +27,20 @@ const LOOKS: u64 = 256;
 
 const LOOK_LEN: usize = 65_536;
 
+/// The most workers.
+const MOST_WORKERS: u64 = 64;
+
 /// Whether a name is that of standard input.
 fn is_standard(name: &[u8]) -> bool {
     name == b"-".as_slice()
+}
+
+/// Puts one behind others.
+fn push_behind<T: Drop>(others: &mut Vec<T>, one: T) -> Result<(), ToolError> {
+    match others.push(one) {
+        Ok(()) => Ok(()),
+        Err(_) => Err(ToolError::Memory),
+    }
 }
 
 /// Standard input or a file, which leaves its number where it can't be read.
@@ -108,12 +120,39 @@ impl<'a> ReadAt for OpenFile<'a> {
 /// What reads records, and tells how far it is where that is asked for.
 pub type Reader<'a> = Metered<'a, Input<'a>>;
 
+/// Files of the disk, all of which are open.
+#[derive(Drop)]
+pub struct OpenFiles<'a> {
+    layout: Layout,
+    files: Vec<OpenFile<'a>>,
+}
+
+impl<'a> OpenFiles<'a> {
+    /// Their records, which workers read.
+    pub fn records(&self) -> SourceRecords<'_, OpenFile<'a>> {
+        SourceRecords {
+            layout: &self.layout,
+            sources: &self.files,
+        }
+    }
+}
+
+/// What is read where records are read once.
+#[derive(Drop)]
+pub enum Once<'a> {
+    /// Files of the disk that have a size, by workers; or none, where the number of these is
+    /// refused.
+    Files(OpenFiles<'a>),
+    /// All else, by one thread.
+    Stream(Records<Reader<'a>>),
+}
+
 /// How the inputs of a command are opened.
 #[derive(Clone, Copy)]
 pub struct Inputs<'a> {
     pub rt: &'a HostRuntime,
-    /// Whether it is told how far each of them is read.
-    pub tells_progress: bool,
+    /// How far workers read them, where that is told.
+    pub progress: Option<&'a SharedProgress<'a>>,
     /// Where an input that can't be read leaves its number, which is 0 for standard input.
     pub unread: &'a AtomicU64,
     /// Where it is left what was seen in the inputs, where that is asked for.
@@ -123,13 +162,13 @@ pub struct Inputs<'a> {
 impl<'a> Inputs<'a> {
     pub fn new(
         rt: &'a HostRuntime,
-        tells_progress: bool,
+        progress: Option<&'a SharedProgress<'a>>,
         unread: &'a AtomicU64,
         seen: Option<&'a Cell<Seen>>,
     ) -> Inputs<'a> {
         Inputs {
             rt,
-            tells_progress,
+            progress,
             unread,
             seen,
         }
@@ -144,7 +183,7 @@ impl<'a> Inputs<'a> {
             unread,
             watch: self.seen.map(|seen| Watch::new(seen, number)),
         };
-        Metered::new(self.rt, input, path, self.tells_progress)
+        Metered::new(self.rt, input, path, self.progress.is_some())
     }
 
     /// Standard input.
@@ -182,7 +221,6 @@ impl<'a> Inputs<'a> {
         self,
         name: &[u8],
         number: u64,
-        progress: Option<&'a SharedProgress<'a>>,
     ) -> Result<FileOrPipe<OpenFile<'a>, Reader<'a>>, ToolError> {
         if is_standard(name) {
             return Ok(FileOrPipe::Pipe(self.standard(number)));
@@ -190,13 +228,8 @@ impl<'a> Inputs<'a> {
         let file = self.file(name, number)?;
         match file.metadata() {
             Ok(metadata) if metadata.is_file() && metadata.len() > 0 => {
-                Ok(FileOrPipe::File(OpenFile {
-                    file,
-                    size: metadata.len(),
-                    number,
-                    unread: self.unread,
-                    progress,
-                }))
+                let size = metadata.len();
+                Ok(FileOrPipe::File(self.open_file(file, size, number)))
             }
             _ => {
                 let path = str::from_utf8(name).unwrap_or("");
@@ -205,14 +238,42 @@ impl<'a> Inputs<'a> {
         }
     }
 
+    /// A file that has so many bytes, for workers.
+    fn open_file(self, file: File, size: u64, number: u64) -> OpenFile<'a> {
+        OpenFile {
+            file,
+            size,
+            number,
+            unread: self.unread,
+            progress: self.progress,
+        }
+    }
+
+    /// Whether a name is that of a file of the disk that has a size. A pipe is not opened for it,
+    /// since it can be opened once.
+    fn has_size(self, name: &[u8]) -> bool {
+        let Ok(path) = str::from_utf8(name) else {
+            return false;
+        };
+        match fs::metadata(self.rt, path) {
+            Ok(metadata) => !is_standard(name) && metadata.is_file() && metadata.len() > 0,
+            Err(_) => false,
+        }
+    }
+
+    /// Whether a command line names files of records, and all of them are files of the disk that
+    /// have a size.
+    fn have_size(self, words: &RecordWords) -> bool {
+        !words.files.is_empty() && words.files.iter().all(|name| self.has_size(name))
+    }
+
     /// Reads the begin of a file of the disk, for what sees its bytes.
     fn look_at(self, name: &[u8], number: u64) -> Option<()> {
-        let file = self.file(name, number).ok()?;
-        if is_standard(name) || !file.metadata().ok()?.is_file() {
+        if !self.has_size(name) {
             return None;
         }
         let mut input = Input {
-            source: Source::File(file),
+            source: Source::File(self.file(name, number).ok()?),
             number,
             unread: self.unread,
             watch: self.seen.map(|seen| Watch::new(seen, number)),
@@ -226,14 +287,21 @@ impl<'a> Inputs<'a> {
         None
     }
 
-    /// Sees how the files that a command line names begin, where that is asked for: workers read
-    /// them in no order.
-    pub fn look(self, words: &RecordWords) {
-        if self.seen.is_none() {
+    /// Sees how the files begin that workers have read, where that is asked for: they read them in
+    /// no order.
+    pub fn look(self, asked: &Invocation) {
+        let (words, saved) = (&asked.records, asked.request.saved());
+        let has_workers = match asked.request.passes() {
+            0 => false,
+            1 => self.have_size(words),
+            _ => true,
+        };
+        if self.seen.is_none() || !has_workers {
             return;
         }
         for (place, name) in words.files.iter().enumerate() {
-            let _ = self.look_at(name, (place as u64).saturating_add(1));
+            let number = saved.saturating_add(place as u64).saturating_add(1);
+            let _ = self.look_at(name, number);
         }
     }
 
@@ -242,7 +310,6 @@ impl<'a> Inputs<'a> {
     pub fn file_records(
         self,
         words: &RecordWords,
-        progress: Option<&'a SharedProgress<'a>>,
     ) -> Result<FileRecords<OpenFile<'a>, Reader<'a>>, ToolError> {
         let alloc = self.rt.alloc();
         let layout = layout_of(alloc, &words.layout)?;
@@ -253,13 +320,10 @@ impl<'a> Inputs<'a> {
             let input = if is_taken && is_standard(name) {
                 FileOrPipe::Pipe(self.reader(Source::Nothing, number, "/dev/null"))
             } else {
-                self.file_or_pipe(name, number, progress)?
+                self.file_or_pipe(name, number)?
             };
             is_taken = is_taken || is_standard(name);
-            match inputs.push(input) {
-                Ok(()) => {}
-                Err(_) => return Err(ToolError::Memory),
-            }
+            push_behind(&mut inputs, input)?;
         }
         Ok(FileRecords { layout, inputs })
     }
@@ -292,15 +356,52 @@ impl<'a> Inputs<'a> {
                 self.open(name, number)?
             };
             is_taken = is_taken || is_standard(name);
-            match others.push(reader) {
-                Ok(()) => {}
-                Err(_) => return Err(ToolError::Memory),
-            }
+            push_behind(&mut others, reader)?;
         }
         Ok(Records {
             layout,
             first,
             others,
         })
+    }
+
+    /// The files that a command line names behind so many saved files, which are all opened here.
+    fn open_files(self, words: &RecordWords, saved: u64) -> Result<OpenFiles<'a>, ToolError> {
+        let alloc = self.rt.alloc();
+        let layout = layout_of(alloc, &words.layout)?;
+        let mut files = Vec::new(alloc);
+        for (place, name) in words.files.iter().enumerate() {
+            let number = saved.saturating_add(place as u64).saturating_add(1);
+            let file = self.file(name, number)?;
+            match file.metadata() {
+                Ok(metadata) => {
+                    push_behind(&mut files, self.open_file(file, metadata.len(), number))?
+                }
+                Err(_) => return Err(ToolError::FileFault { number }),
+            }
+        }
+        Ok(OpenFiles { layout, files })
+    }
+
+    /// The same records as [`Inputs::records`] has, for a command that reads them once and has so
+    /// many workers. They read files of the disk that have a size, and all else is read by one
+    /// thread. A number of workers that is refused comes with no files, so that nothing is read.
+    pub fn once(
+        self,
+        words: &RecordWords,
+        saved: u64,
+        workers: u64,
+    ) -> Result<Once<'a>, ToolError> {
+        if self.have_size(words) {
+            return Ok(Once::Files(self.open_files(words, saved)?));
+        }
+        let records = self.records(words, saved)?;
+        if 1 <= workers && workers <= MOST_WORKERS {
+            return Ok(Once::Stream(records));
+        }
+        let alloc = self.rt.alloc();
+        let layout = layout_of(alloc, &words.layout)?;
+        let files = Vec::new(alloc);
+        Ok(Once::Files(OpenFiles { layout, files }))
     }
 }

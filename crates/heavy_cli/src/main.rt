@@ -17,23 +17,84 @@ mod words;
 use explain::{tell_format, tell_more, tell_own_k, tells_more, watches};
 use files::{read_file, read_files};
 use heavy::{
-    Method, Out, ToolError, Totals, ask_rows, condense_bytes_from, confirm_rows, describe_file,
-    list_rows, merge_bytes, put, report_files, report_rows, summary_bytes_from, table_bytes_from,
+    Method, Out, RowOptions, Share, ToolError, Totals, ask_rows, condense_bytes_from,
+    condense_files, confirm_files, confirm_rows, describe_file, list_rows, merge_bytes, put,
+    report_files, report_rows, summary_bytes_from, table_bytes_from, table_files,
 };
-use inputs::Inputs;
+use inputs::{Inputs, Once};
 use other_format::NOTHING;
 use progress::SharedProgress;
 use request::{Command, Invocation, RecordWords, Request, UsageError, read_request};
 use std::cell::Cell;
 use std::process::ExitCode;
+use std::sync::Wait;
 use std::sync::atomic::{AtomicU64, Ordering};
+use std::thread::Threads;
 use told::Told;
 
 /// The exit status of the command line's own faults.
 const USAGE: u8 = 2;
 
+/// The bytes that `table` is answered by.
+fn table_answer<T: Threads + Wait + Sync>(
+    threads: &T,
+    inputs: Inputs<'_>,
+    records: &RecordWords,
+    width: u64,
+    depth: u64,
+    seed: u64,
+    workers: u64,
+) -> Result<Vec<u8>, ToolError> {
+    let alloc = inputs.rt.alloc();
+    match inputs.once(records, 0, workers)? {
+        Once::Files(files) => {
+            table_files(threads, alloc, width, depth, seed, workers, files.records())
+        }
+        Once::Stream(records) => table_bytes_from(alloc, width, depth, seed, records),
+    }
+}
+
+/// The bytes that `condense` is answered by.
+fn condense_answer<T: Threads + Wait + Sync>(
+    threads: &T,
+    inputs: Inputs<'_>,
+    records: &RecordWords,
+    file: &[u8],
+    workers: u64,
+) -> Result<Vec<u8>, ToolError> {
+    let alloc = inputs.rt.alloc();
+    let file = read_file(inputs.rt, 1, file)?;
+    match inputs.once(records, 1, workers)? {
+        Once::Files(files) => condense_files(threads, alloc, &file, workers, files.records()),
+        Once::Stream(records) => condense_bytes_from(alloc, &file, records),
+    }
+}
+
+/// The bytes that `confirm` is answered by. It leaves two totals that it compared.
+fn confirm_answer<T: Threads + Wait + Sync>(
+    threads: &T,
+    inputs: Inputs<'_>,
+    records: &RecordWords,
+    file: &[u8],
+    share: &Share,
+    rows: &RowOptions,
+    workers: u64,
+    totals: &mut Option<Totals>,
+) -> Result<Vec<u8>, ToolError> {
+    let alloc = inputs.rt.alloc();
+    let file = read_file(inputs.rt, 1, file)?;
+    match inputs.once(records, 1, workers)? {
+        Once::Files(files) => {
+            let records = files.records();
+            confirm_files(threads, alloc, &file, share, rows, workers, records, totals)
+        }
+        Once::Stream(records) => confirm_rows(alloc, &file, share, rows, records, totals),
+    }
+}
+
 /// The bytes that a command is answered by. It leaves two totals that it compared.
-fn answer(
+fn answer<T: Threads + Wait + Sync>(
+    threads: &T,
     inputs: Inputs<'_>,
     command: &Command,
     records: &RecordWords,
@@ -46,9 +107,12 @@ fn answer(
             let method = Method::of(method)?;
             summary_bytes_from(alloc, *k, method, inputs.records(records, 0)?)
         }
-        Command::Table { width, depth, seed } => {
-            table_bytes_from(alloc, *width, *depth, *seed, inputs.records(records, 0)?)
-        }
+        Command::Table {
+            width,
+            depth,
+            seed,
+            workers,
+        } => table_answer(threads, inputs, records, *width, *depth, *seed, *workers),
         Command::Merge { first, others } => merge_bytes(alloc, &read_files(rt, first, others)?),
         Command::Ask {
             file,
@@ -59,30 +123,29 @@ fn answer(
             list_rows(alloc, &read_file(rt, 1, file)?, *decimals)
         }
         Command::Describe { file } => describe_file(alloc, &read_file(rt, 1, file)?),
-        Command::Condense { file } => {
-            let file = read_file(rt, 1, file)?;
-            condense_bytes_from(alloc, &file, inputs.records(records, 1)?)
-        }
+        Command::Condense { file, workers } => condense_answer(
+            threads, inputs, records, file, *workers,
+        ),
         Command::Confirm {
             file,
             threshold,
             rows,
-        } => {
-            let file = read_file(rt, 1, file)?;
-            let records = inputs.records(records, 1)?;
-            confirm_rows(alloc, &file, threshold, rows, records, totals)
-        }
+            workers,
+        } => confirm_answer(
+            threads, inputs, records, file, threshold, rows, *workers, totals,
+        ),
     }
 }
 
 /// Writes the bytes that a command is answered by.
-fn write_answer(
+fn write_answer<T: Threads + Wait + Sync>(
+    threads: &T,
     inputs: Inputs<'_>,
     command: &Command,
     records: &RecordWords,
     totals: &mut Option<Totals>,
 ) -> Result<(), ToolError> {
-    let bytes = answer(inputs, command, records, totals)?;
+    let bytes = answer(threads, inputs, command, records, totals)?;
     put(&mut Out::new(inputs.rt.stdout()), &bytes)?;
     Ok(())
 }
@@ -130,16 +193,16 @@ fn status_told(rt: &HostRuntime, told: &Told) -> ExitCode {
     }
 }
 
-/// How far the files of a report are read, where that is to be told.
+/// How far workers read the files of records, where that is to be told.
 fn shared_progress<'a>(rt: &'a HostRuntime, asked: &Invocation) -> Option<SharedProgress<'a>> {
     if !asked.tells_progress {
         return None;
     }
-    SharedProgress::start(rt, &asked.records.files).ok()
+    SharedProgress::start(rt, &asked.records.files, asked.request.passes()).ok()
 }
 
-/// Tells what came of what was asked for, and gives its status. A report whose files are not what
-/// they were before is told of the first one.
+/// Tells what came of what was asked for, and gives its status. Where files of records are not what
+/// they were before, it is told of the first one.
 fn status_of(
     inputs: Inputs<'_>,
     asked: &Invocation,
@@ -147,19 +210,20 @@ fn status_of(
     totals: Option<Totals>,
 ) -> ExitCode {
     let rt = inputs.rt;
-    let is_report = matches!(asked.request, Request::Report { .. });
     match outcome {
         Ok(()) => {
-            if is_report {
-                inputs.look(&asked.records);
-            }
+            inputs.look(asked);
             if let Some(seen) = inputs.seen {
                 tell_format(rt, seen.get(), asked);
             }
             ExitCode::SUCCESS
         }
         Err(fault) => {
-            let least = u64::from(is_report && !asked.records.files.is_empty());
+            let least = if asked.records.files.is_empty() {
+                0
+            } else {
+                asked.request.saved().saturating_add(1)
+            };
             let number = inputs.unread.load(Ordering::SeqCst).max(least);
             status_explained(rt, numbered(fault, number), asked, totals)
         }
@@ -176,7 +240,7 @@ fn main(rt: HostRuntime) -> ExitCode {
     let (unread, seen) = (AtomicU64::new(0), Cell::new(NOTHING));
     let progress = shared_progress(&rt, &asked);
     let watched = watches(&rt, &asked).then_some(&seen);
-    let inputs = Inputs::new(&rt, asked.tells_progress, &unread, watched);
+    let inputs = Inputs::new(&rt, progress.as_ref(), &unread, watched);
     let outcome = match &asked.request {
         Request::Report { options, rows } if asked.records.files.is_empty() => {
             match inputs.records(&asked.records, 0) {
@@ -188,7 +252,7 @@ fn main(rt: HostRuntime) -> ExitCode {
             }
         }
         Request::Report { options, rows } => {
-            match inputs.file_records(&asked.records, progress.as_ref()) {
+            match inputs.file_records(&asked.records) {
                 Ok(records) => {
                     let mut out = Out::new(rt.stdout());
                     report_files(&rt, rt.alloc(), options, rows, records, &mut out)
@@ -196,7 +260,7 @@ fn main(rt: HostRuntime) -> ExitCode {
                 Err(fault) => Err(fault),
             }
         }
-        Request::Answer(command) => write_answer(inputs, command, &asked.records, &mut totals),
+        Request::Answer(command) => write_answer(&rt, inputs, command, &asked.records, &mut totals),
     };
     status_of(inputs, &asked, outcome, totals)
 }

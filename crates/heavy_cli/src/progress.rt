@@ -122,12 +122,13 @@ impl<'a, R: Read> Read for Metered<'a, R> {
     }
 }
 
-/// How far workers are that read files of so many bytes in two passes. It is told at most once in a
-/// pause, whichever worker reads.
+/// How far workers are that read files of so many bytes in one pass or in two. It is told at most
+/// once in a pause, whichever worker reads.
 #[derive(Drop)]
 pub struct SharedProgress<'a> {
     rt: &'a HostRuntime,
-    /// The bytes of both passes.
+    passes: u64,
+    /// The bytes of all passes.
     size: u64,
     read: AtomicU64,
     started: Instant,
@@ -137,7 +138,11 @@ pub struct SharedProgress<'a> {
 
 impl<'a> SharedProgress<'a> {
     /// Nothing is read yet of the files with these names.
-    pub fn start(rt: &'a HostRuntime, names: &[Vec<u8>]) -> io::Result<SharedProgress<'a>> {
+    pub fn start(
+        rt: &'a HostRuntime,
+        names: &[Vec<u8>],
+        passes: u64,
+    ) -> io::Result<SharedProgress<'a>> {
         let mut size = 0u64;
         for name in names {
             if let Ok(path) = str::from_utf8(name) {
@@ -148,7 +153,8 @@ impl<'a> SharedProgress<'a> {
         }
         Ok(SharedProgress {
             rt,
-            size: size.saturating_mul(2),
+            passes,
+            size: size.saturating_mul(passes),
             read: AtomicU64::new(0),
             started: Instant::now(rt)?,
             told: AtomicU64::new(0),
@@ -178,7 +184,7 @@ impl<'a> SharedProgress<'a> {
         }
     }
 
-    /// Tells the share of both passes that is read, and how long the rest takes at the same rate.
+    /// Tells the share of all passes that is read, and how long the rest takes at the same rate.
     fn tell(&self, read: u128, millis: u128) -> io::Result<()>
         requires { 1 ≤ millis }
     {
@@ -191,8 +197,13 @@ impl<'a> SharedProgress<'a> {
         let (share, left) = (read.saturating_mul(100) / size, size - read);
         let seconds = left.saturating_mul(millis) / read / 1000;
         let all = Megabytes(size);
+        let passes = if self.passes == 1 {
+            ""
+        } else {
+            " in two passes"
+        };
         eprintln!(self.rt;
-            "heavy: {done} read in two passes, {rate}/s, {share} % of {all}, {seconds} s left"
+            "heavy: {done} read{passes}, {rate}/s, {share} % of {all}, {seconds} s left"
         )
     }
 }

@@ -48,6 +48,26 @@ pub enum Request {
     Answer(Command),
 }
 
+impl Request {
+    /// How many saved files are named before those of records.
+    pub fn saved(&self) -> u64 {
+        match self {
+            Request::Answer(Command::Condense { .. } | Command::Confirm { .. }) => 1,
+            _ => 0,
+        }
+    }
+
+    /// In how many passes workers read files of records, or 0 where they read none.
+    pub fn passes(&self) -> u64 {
+        match self {
+            Request::Report { .. } => 2,
+            Request::Answer(Command::Table { .. }) => 1,
+            Request::Answer(Command::Condense { .. } | Command::Confirm { .. }) => 1,
+            Request::Answer(_) => 0,
+        }
+    }
+}
+
 /// What bytes are asked for. Words are taken by their bytes.
 #[derive(Drop)]
 pub enum Command {
@@ -61,6 +81,7 @@ pub enum Command {
         width: u64,
         depth: u64,
         seed: u64,
+        workers: u64,
     },
     /// Saved files merged.
     Merge {
@@ -85,12 +106,14 @@ pub enum Command {
     /// Standard input in fewer records, by a saved summary.
     Condense {
         file: Vec<u8>,
+        workers: u64,
     },
     /// The heavy keys of a saved summary in standard input.
     Confirm {
         file: Vec<u8>,
         threshold: Share,
         rows: RowOptions,
+        workers: u64,
     },
 }
 
@@ -247,6 +270,7 @@ fn table(found: &ArgMatches) -> Command
         width: WIDTH.of(found),
         depth: DEPTH.of(found),
         seed: SEED.of(found),
+        workers: WORKERS.of(found),
     }
 }
 
@@ -282,6 +306,7 @@ fn confirm(alloc: Global, found: &ArgMatches) -> Result<Command, AllocError>
         file,
         threshold,
         rows: rows_of(found),
+        workers: WORKERS.of(found),
     })
 }
 
@@ -304,6 +329,7 @@ fn request_of(alloc: Global, name: &str, found: &ArgMatches) -> Result<Request, 
         },
         "condense" => Command::Condense {
             file: file_named(alloc, found)?,
+            workers: WORKERS.of(found),
         },
         "confirm" => confirm(alloc, found)?,
         _ => {

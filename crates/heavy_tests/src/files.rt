@@ -1,11 +1,13 @@
-//! Reports of files that fail in mid-stream, or that aren't the same in two readings.
+//! Reports of files that fail in mid-stream, or that aren't the same in two readings, and files that
+//! workers count.
 
 ghost use Rattle.std.specs.Prelude.{None};
 
 use crate::devices::{Manner, Target};
 use heavy::{
-    FileOrPipe, FileRecords, Layout, Out, ReadAt, ReportOptions, RowOptions, Share, ToolError,
-    Tree, report_files,
+    FileOrPipe, FileRecords, Layout, Method, Out, ReadAt, ReportOptions, RowOptions, Share,
+    SourceRecords, ToolError, Tree, condense_files, confirm_files, report_files, summary_bytes, table_bytes,
+    table_files,
 };
 use std::alloc::AllocError;
 use std::io::{self, Error, ErrorKind, Read};
@@ -132,5 +134,28 @@ fn files_that_are_not_the_same_are_refused(rt: HostRuntime) -> Result<(), Fail> 
         assert_eq!(rt; refusal, Some(ToolError::ReadFault));
         assert!(rt; taken.is_empty());
     }
+    Ok(())
+}
+
+// The summary of a 5, b 1 and a 2 with one counter has a with 6.
+#[test]
+fn files_are_counted_by_workers(rt: HostRuntime) -> Result<(), Fail> {
+    let alloc = rt.alloc();
+    let text = b"a,5\nb,1\na,2\n".as_slice();
+    let file = summary_bytes(alloc, 1, Method::MisraGries, text)?;
+    let sources = [Vec::from_slice(alloc, text)?];
+    let layout = Layout::plain(alloc);
+    let records = SourceRecords {
+        layout: &layout,
+        sources: &sources,
+    };
+    let condensed = condense_files(&rt, alloc, &file, 2, records)?;
+    assert_eq!(rt; condensed.as_slice(), b"a,7\nothers,1\n".as_slice());
+    let rows = RowOptions::plain();
+    let share = Share::OfCounters;
+    let confirmed = confirm_files(&rt, alloc, &file, &share, &rows, 2, records, &mut None)?;
+    assert_eq!(rt; confirmed.as_slice(), b"a,7\n".as_slice());
+    let table = table_files(&rt, alloc, 4, 2, 3, 2, records)?;
+    assert_eq!(rt; table.as_slice(), table_bytes(alloc, 4, 2, 3, text)?.as_slice());
     Ok(())
 }

@@ -1,16 +1,17 @@
 //! A summary confirmed: its keys that are heavy, found by a second pass over the stream.
 
-ghost use Rattle.std.specs.Prelude.{◌≡◌, ◌≢◌, ◌↔◌, Ok, List, IfOk, IfErr, IsErrOf};
+ghost use Rattle.std.specs.Prelude.{◌≡◌, ◌≢◌, ◌↔◌, Ok, List, IfOk, IfErr, OnOk, IsErrOf};
 ghost use Rattle.std.specs.Map.{keys_of};
 ghost use Rattle.hh_stream.specs.Weights.{Entry, total_of};
 ghost use Rattle.hh_counters.specs.Counting.{count_of};
 ghost use Rattle.hh_counters.specs.Report.{IsShare};
 ghost use Rattle.hh_records.specs.Layouts.{records_known};
+ghost use Rattle.hh_records.specs.Printed.{printed_rows};
 ghost use Rattle.hh_records.specs.Streams.{ReadsAs, text_known};
 ghost use Rattle.heavy.specs.Files.{StopsAtHead};
 ghost use Rattle.heavy.specs.Confirm.{ConfirmAboveRefused, ConfirmRefused, ConfirmsAbove};
 ghost use Rattle.heavy.specs.Confirm.{ConfirmsPrinted, ConfirmsRows, CountRefused, TellsTotals};
-ghost use Rattle.heavy.specs.Confirm.{confirmed_above, confirmed_rows};
+ghost use Rattle.heavy.specs.Confirm.{TellsBoth, TotalsRefused, confirmed_above, confirmed_rows};
 ghost use Rattle.heavy.specs.declared.commands.confirm.ConfirmFault.TheVariants.{Memory};
 
 use crate::counting::count_records;
@@ -117,6 +118,37 @@ pub(crate) fn confirm_records<R: Read + Drop>(
     Ok(rows_above(summary, &counts, p, q)?)
 }
 
+/// The rows of a summary's keys above p/q of the total of the items that were counted, where that is
+/// its own. Where it isn't, both are left in `totals`.
+pub(crate) fn confirmed_text(
+    alloc: Global,
+    summary: &Summary,
+    share: (u64, u64),
+    rows: &RowOptions,
+    counts: &Counts,
+    totals: &mut Option<Totals>,
+) -> Result<Vec<u8>, ToolError>
+    requires { IsShare share.0 share.1 }
+    ensures total { OnOk result (summary.now.total ≡ counts.now.total) }
+    ensures rows { IfOk result (λ text. (xs : List Entry)
+        → counts.now ≡ count_of (keys_of summary.now.counters) xs
+        → text.items ≡ printed_rows summary.now.total rows.now
+        (confirmed_above share.0 share.1 summary.now xs)) }
+    ensures refused { IfErr result (TotalsRefused summary.now.total counts.now.total) }
+    ensures totals { IfErr result
+        (TellsBoth summary.now.total counts.now.total totals.new) }
+{
+    if summary.total() != counts.total() {
+        *totals = Some(Totals {
+            summary: summary.total(),
+            records: counts.total(),
+        });
+        return Err(ToolError::TotalDiffers);
+    }
+    let keys = rows_above(summary, counts, share.0, share.1)?;
+    Ok(printed_text(alloc, summary.total(), rows, &keys)?)
+}
+
 /// The report text of the saved summary's keys that are heavy in the stream of the reader's
 /// records, as [`confirm`](crate::confirm) finds them.
 pub fn confirm_bytes<R: Read + Drop>(
@@ -174,17 +206,9 @@ pub fn confirm_rows<R: Read + Drop>(
     ensures early { StopsAtHead 1 file.now result }
 {
     let summary = summary_in(alloc, file)?;
-    let Some((p, q)) = threshold_of(summary.k(), share) else {
+    let Some(share) = threshold_of(summary.k(), share) else {
         return Err(ToolError::BadThreshold);
     };
     let counts = count_records(alloc, &summary, records)?;
-    if summary.total() != counts.total() {
-        *totals = Some(Totals {
-            summary: summary.total(),
-            records: counts.total(),
-        });
-        return Err(ToolError::TotalDiffers);
-    }
-    let keys = rows_above(&summary, &counts, p, q)?;
-    Ok(printed_text(alloc, summary.total(), rows, &keys)?)
+    confirmed_text(alloc, &summary, share, rows, &counts, totals)
 }

@@ -7,13 +7,13 @@ ghost use Rattle.hh_countmin.specs.Table.{empty_table, table_of};
 ghost use Rattle.hh_records.specs.Layouts.{records_known};
 ghost use Rattle.hh_records.specs.Streams.{text_known};
 ghost use Rattle.hh_saved.specs.declared.saved.Saved.TheVariants.{Cells};
-ghost use Rattle.heavy.specs.Records.{RefusedAfter, SavesStream};
-ghost use Rattle.heavy.specs.Table.{bad_table};
+ghost use Rattle.heavy.specs.Records.{RecordsRefused, RefusedAfter, SavesStream};
+ghost use Rattle.heavy.specs.Table.{TabulatesRecords, bad_table};
 
 use crate::error::ToolError;
 use hh_countmin::laws::tables_follow_items;
 use hh_countmin::{Family, MAX_DEPTH, MAX_WIDTH, Table};
-use hh_records::{Records, read_records};
+use hh_records::{ReadRecords, Records};
 use hh_saved::{Saved, write};
 use hh_stream::in_range;
 use std::alloc::{AllocError, Global};
@@ -32,6 +32,25 @@ pub(crate) fn drawn_table(
 {
     let family = Family::of_seed(alloc, seed, depth)?;
     Table::empty(alloc, family, width)
+}
+
+/// The table of some records, in one pass that keeps no record.
+pub(crate) fn table_of_records<R: ReadRecords>(
+    alloc: Global,
+    width: u64,
+    depth: u64,
+    seed: u64,
+    records: R,
+) -> Result<Table, ToolError>
+    requires depth { in_range depth max_depth ≡ true }
+    requires width { in_range width max_width ≡ true }
+    ensures table { IfOk result
+        (TabulatesRecords (R.known records) (drawn_family seed depth) width) }
+    ensures refused { IfErr result (RecordsRefused (R.known records)) }
+{
+    tables_follow_items();
+    let table = drawn_table(alloc, width, depth, seed)?;
+    Ok(records.read_into(alloc, table)?)
 }
 
 /// The saved Count-Min table of the records of a reader (Cormode and Muthukrishnan 2005), with the
@@ -76,8 +95,6 @@ pub fn table_bytes_from<R: Read + Drop>(
     if !in_range(width, MAX_WIDTH) {
         return Err(ToolError::BadWidth);
     }
-    tables_follow_items();
-    let table = drawn_table(alloc, width, depth, seed)?;
-    let table = read_records(alloc, records, table)?;
+    let table = table_of_records(alloc, width, depth, seed, records)?;
     Ok(write(alloc, &Saved::Cells(table))?)
 }

@@ -8,4 +8,4 @@ returns-in-Ok g c =
     let files = c.new-pieces.result.files in
     rw (← c.new-pieces.ensures)
     (found-in-pieces files.count files.pieces c.args.settings.now.p c.args.settings.now.q c.total.result
-    c.in-Ok.outcome.heavy.items all.read all.total (λ known. c.total.ensures.total ∙ (all.summary known).total) all.heavy)
+    c.in-Ok.outcome.heavy.items all.total (λ known. c.total.ensures.total ∙ (all.summary known).total) all.heavy)
