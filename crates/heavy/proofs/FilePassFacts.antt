@@ -1,6 +1,6 @@
 -- Weights that workers found, as the counts of items.
-use Rattle.std.proofs.Common.{◌≡◌, ◌<◌, ◌≤◌, ◌+◌, ◌-◌, ◌∷◌, ◌++◌, ◌∙◌, ℕ, Bool, true, false, List, [], length, All, cond, filter, map, nat_lt, zip, take, take_all, append-nil, get_or, Option, Some, None, Ok, refl, sym, ap, subst, arith}
-use Rattle.std.specs.Prelude.{IfSome, IsSome, option_map}
+use Rattle.std.proofs.Common.{◌≡◌, ◌<◌, ◌≤◌, ◌+◌, ◌-◌, ◌∷◌, ◌++◌, ◌∙◌, ℕ, Bool, true, false, List, [], length, All, cond, filter, map, nat_lt, zip, take, take_all, append-nil, get_or, Option, Some, None, Result, Ok, Err, refl, sym, ap, subst, arith}
+use Rattle.std.specs.Prelude.{IfOk, IfSome, IsSome, option_map}
 use Rattle.std.specs.List.{AllByRecursion}
 use Rattle.std.specs.Map.{keys_of}
 use Rattle.std.proofs.lemmas.Bool.{cond_both}
@@ -84,6 +84,21 @@ module _ (counted : CondensedIsCounted) (keeps : CondensedKeepsWeights) (c : Cou
         reads,
         (weigh, is ∙ weights_count counted keeps c (whole_of lists) ns total counters weigh here all),
       )
+
+  -- so it is with what a call makes of them
+  pub pieces_bring : {E : Type 0} (texts : Option (List (List ℕ))) (count : ℕ) (o : Option (List (Option (List Entry))))
+      → IfSome texts (λ texts. (pieces : List (Option (List Entry))) × (o ≡ Some pieces)
+      × AreReadByPieces layout texts pieces)
+      → (ns : List ℕ) (total : ℕ) → total ≤ max_total
+      → (IsSome o → ns ≡ weights_at (keys_of c) (whole_of (lists_of count o)))
+      → (IsSome o → total ≡ total_of (whole_of (lists_of count o))) → (result : Result (Option Count) E)
+      → IfOk result (λ counts. IfSome counts (λ counts. counts ≡ count_of (keys_of c) (items_of_weights c ns total)))
+      → IfOk result (λ counts. IfSome counts
+      (CountsRecords (record { names_columns = names; reading = option_map (stream_with layout) texts }) (keys_of c)))
+  pieces_bring texts count o read ns total few weights sum (Ok (Some counts)) is =
+      pieces_count texts count o read ns total few weights sum counts is
+  pieces_bring texts count o read ns total few weights sum (Ok None) is = tt
+  pieces_bring texts count o read ns total few weights sum (Err e) is = tt
 
 -- ---- weights, counted key by key
 module _ (law : CountsFollowItems) (ks : List Bytes) (ns : List ℕ) (i : ℕ) (e : length ns ≡ length ks) (l : i < length ks)

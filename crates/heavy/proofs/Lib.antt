@@ -12,3 +12,4 @@ pub mod WeighFacts
 pub mod FilePassFacts
 pub mod ConfirmFacts
 pub mod TableFacts
+pub mod ShareFacts

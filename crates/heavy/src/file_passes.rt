@@ -114,8 +114,7 @@ fn counts_side_by_side<T: Threads + Wait + Sync, S: ReadAt + Sync>(
 {
     condensed_is_counted();
     condensed_keeps_weights();
-    // They bound the number of keys.
-    let _len = summary.len();
+    // It bounds the number of keys.
     let _k = summary.k();
     let candidates = Candidates::of(alloc, summary)?;
     if candidates.is_empty() {

@@ -6,8 +6,8 @@ ghost use Rattle.std.specs.Prelude.{None};
 use crate::devices::{Manner, Target};
 use heavy::{
     FileOrPipe, FileRecords, Layout, Method, Out, ReadAt, ReportOptions, RowOptions, Share,
-    SourceRecords, ToolError, Tree, condense_files, confirm_files, report_files, summary_bytes, table_bytes,
-    table_files,
+    SourceRecords, ToolError, Tree, condense_files, confirm_files, report_files, summary_bytes,
+    table_bytes, table_files,
 };
 use std::alloc::AllocError;
 use std::io::{self, Error, ErrorKind, Read};
@@ -156,6 +156,9 @@ fn files_are_counted_by_workers(rt: HostRuntime) -> Result<(), Fail> {
     let confirmed = confirm_files(&rt, alloc, &file, &share, &rows, 2, records, &mut None)?;
     assert_eq!(rt; confirmed.as_slice(), b"a,7\n".as_slice());
     let table = table_files(&rt, alloc, 4, 2, 3, 2, records)?;
-    assert_eq!(rt; table.as_slice(), table_bytes(alloc, 4, 2, 3, text)?.as_slice());
+    assert_eq!(rt;
+        table.as_slice(),
+        table_bytes(alloc, 4, 2, 3, text)?.as_slice()
+    );
     Ok(())
 }
