@@ -35,6 +35,7 @@ pub use commands::table::{table_bytes, table_bytes_from};
 pub use commands::table_files::table_files;
 pub use error::{KeyCause, MergeCause, ToolError, TreeFault};
 pub use hh_counters::Heavy;
+pub use hh_pool::MAX_WORKERS;
 pub use hh_records::{
     BadRecordCause, Column, FileOrPipe, FileRecords, Layout, Out, ReadAt, ReadError, Records,
     ReportFault, RowOptions, Share, Sink, SinkFault, SourceRecords, WriteFault, printed_text, put,

@@ -5,7 +5,7 @@ ghost use Rattle.std.specs.Prelude.{None};
 use crate::other_format::{Seen, Watch};
 use crate::progress::{Metered, SharedProgress};
 use crate::request::{Invocation, RecordWords};
-use heavy::{FileOrPipe, FileRecords, Layout, ReadAt, Records, ToolError, layout_of};
+use heavy::{FileOrPipe, FileRecords, Layout, MAX_WORKERS, ReadAt, Records, ToolError, layout_of};
 use hh_records::SourceRecords;
 use std::cell::Cell;
 use std::fs::{self, File};
@@ -26,9 +26,6 @@ enum Source {
 const LOOKS: u64 = 256;
 
 const LOOK_LEN: usize = 65_536;
-
-/// The most workers.
-const MOST_WORKERS: u64 = 64;
 
 /// Whether a name is that of standard input.
 fn is_standard(name: &[u8]) -> bool {
@@ -396,7 +393,7 @@ impl<'a> Inputs<'a> {
             return Ok(Once::Files(self.open_files(words, saved)?));
         }
         let records = self.records(words, saved)?;
-        if 1 <= workers && workers <= MOST_WORKERS {
+        if 1 <= workers && workers <= MAX_WORKERS {
             return Ok(Once::Stream(records));
         }
         let alloc = self.rt.alloc();
