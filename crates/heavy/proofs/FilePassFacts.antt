@@ -1,5 +1,5 @@
 -- Weights that workers found, as the counts of items.
-use Rattle.std.proofs.Common.{◌≡◌, ◌<◌, ◌≤◌, ◌+◌, ◌-◌, ◌∷◌, ◌++◌, ◌∙◌, ℕ, Bool, true, false, List, [], length, All, cond, filter, map, nat_lt, zip, take, take_all, append-nil, get_or, Option, Some, None, Result, Ok, Err, refl, sym, ap, arith}
+use Rattle.std.proofs.Common.{◌≡◌, ◌<◌, ◌≤◌, ◌+◌, ◌-◌, ◌∷◌, ◌++◌, ◌∙◌, ℕ, Bool, true, false, List, [], length, All, cond, filter, map, nat_lt, zip, take, take_all, get_or, Option, Some, None, Result, Ok, Err, refl, sym, ap, arith}
 use Rattle.std.specs.Prelude.{IfOk, IfSome, IsSome, option_map}
 use Rattle.std.specs.List.{AllByRecursion}
 use Rattle.std.specs.Map.{keys_of}
@@ -123,26 +123,3 @@ pub keys_counted : (ks : List Bytes) (ns : List ℕ) (i : ℕ) → length ns ≡
     → counts ≡ count_of ks (filter (exceeds 0) (take i (zip ks ns))) → counts ≡ count_of ks (filter (exceeds 0) (zip ks ns))
 keys_counted ks ns i e l counts are =
     are ∙ ap (λ es. count_of ks (filter (exceeds 0) es)) (take_all i (zip ks ns) (omega (arith, l, e, length-zip ks ns)))
-
-module _ (c : Counters) (ns : List ℕ) (total : ℕ) (counts : Count) (are : counts ≡ count_of (keys_of c) (weighted c ns)) where
-  -- other keys came
-  pub others_counted : CountsFollowItems → 0 < total - counts.total
-      → count_with counts ((free_name c, total - counts.total) ∷ []) ≡ count_of (keys_of c) (items_of_weights c ns total)
-  others_counted law some =
-      let ws = weighted c ns in
-      let sum : counts.total ≡ total_of ws = ap (λ (n : Count). n.total) are in
-      let test : nat_lt 0 (total - total_of ws) ≡ true = grind (arith, nat_tests, rw sum at some) in
-      let rest : List Entry = (free_name c, total - counts.total) ∷ [] in
-      let entry : rest ≡ entry_of (free_name c) (total - total_of ws) =
-      ap (λ n. (free_name c, total - n) ∷ []) sum
-      ∙ sym (ap (λ b. cond b ((free_name c, total - total_of ws) ∷ []) []) test) in
-      ap (λ (n : Count). count_with n rest) are ∙ law (keys_of c) ws rest ∙ ap (λ es. count_of (keys_of c) (ws ++ es)) entry
-
-  -- no other key came
-  pub no_others : total - counts.total ≤ 0 → counts ≡ count_of (keys_of c) (items_of_weights c ns total)
-  no_others none =
-      let ws = weighted c ns in
-      let sum : counts.total ≡ total_of ws = ap (λ (n : Count). n.total) are in
-      let test : nat_lt 0 (total - total_of ws) ≡ false = grind (arith, nat_tests, rw sum at none) in
-      are ∙ ap (count_of (keys_of c))
-      (sym (ap (λ b. ws ++ cond b ((free_name c, total - total_of ws) ∷ []) []) test ∙ append-nil ws))

@@ -10,6 +10,5 @@ pub mod SourceReportFacts
 pub mod FilePieceFacts
 pub mod WeighFacts
 pub mod FilePassFacts
-pub mod ConfirmFacts
 pub mod TableFacts
 pub mod ShareFacts
