@@ -346,6 +346,7 @@ def case(draw: Random) -> hostile.Case:
     kind, k = draw.randrange(6), draw.choice([1, 2, 3, 9, 65535])
     records = Records(layout, dict(enumerate(read, 2 if kind in (1, 2) else 1)))
     options, told = words_of(draw, layout), {"reader": items_of}
+    workers = ["--workers", draw.choice("123")]
     match kind:
         case 0:
             words = ["summarise", "--k", str(k), "--method", draw.choice(["mg", "ss"]), *options]
@@ -354,16 +355,16 @@ def case(draw: Random) -> hostile.Case:
             status, saved, _ = reference.answer(reference.summarise, records, k, **told)
             saved = saved if status == 0 else reference.summarise(b"a", k)
             expected = reference.answer(reference.confirm, saved, records, **told, decimals=layout.decimals)
-            return hostile.Case(["confirm", *options], [saved, *files], [], given, expected)
+            return hostile.Case(["confirm", *workers, *options], [saved, *files], [], given, expected)
         case 2:
             saved = reference.summarise(draw.choice([b"a\nb", b"a\n", b'"a,b"\nothers', b""]), k)
             expected = reference.answer(reference.condense, saved, records, **told, decimals=layout.decimals)
-            return hostile.Case(["condense", *options], [saved, *files], [], given, expected)
+            return hostile.Case(["condense", *workers, *options], [saved, *files], [], given, expected)
         case 3:
             words = ("--width", draw.choice("158"), "--depth", draw.choice("13"), "--seed", draw.choice("07"))
             expected = reference.answer(hostile_records.table, records, hostile_records.empty_table(words), **told)
-            return hostile.Case(["table", *words, *options], files, [], given, expected)
-    words = ["report", "--k", str(k), "--workers", draw.choice("123"), "--pieces", draw.choice("125"), "--width", "8"]
+            return hostile.Case(["table", *workers, *words, *options], files, [], given, expected)
+    words = ["report", "--k", str(k), *workers, "--pieces", draw.choice("125"), "--width", "8"]
     expected = reference.answer(reference.report, records, k, **told, decimals=layout.decimals)
     return hostile.Case([*words, *options], files, [], given, expected)
 
