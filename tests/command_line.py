@@ -320,14 +320,17 @@ class CommandLine(programs.Checks):
 
     def test_hidden_options(self) -> None:
         """Options of a report that its rows don't show. Each of two passes starts the workers; a worker's table takes 8
-        bytes for each cell, and the shared words are those cells and a claim for each piece. By the seed keys meet in other
-        cells, and so more or fewer of them are counted in the second pass."""
+        bytes for each cell, and the shared words are those cells and a claim for each piece. There are four pieces for each
+        worker and one for the text, or as many as are asked for where that is more, k is large or a plan is spelled. By the
+        seed keys meet in other cells, and so more or fewer of them are counted in the second pass."""
         library = programs.preloaded("watch.c", self.room)
         for words, workers, pieces, cells in [
-            ([], 4, 4, 1024 * 4), (["--workers", "6"], 6, 4, 1024 * 4), (["--pieces", "9"], 4, 9, 1024 * 4),
-            (["--workers", "5", "--pieces", "7"], 5, 7, 1024 * 4), (["--width", "1100"], 4, 4, 1100 * 4),
-            (["--depth", "12"], 4, 4, 1024 * 12), (["--width", "1300", "--depth", "3"], 4, 4, 1300 * 3),
-            (["--workers", "4", "--pieces", "4", "--width", "1024", "--depth", "4"], 4, 4, 1024 * 4),
+            ([], 4, 17, 1024 * 4), (["--workers", "6"], 6, 25, 1024 * 4), (["--pieces", "19"], 4, 19, 1024 * 4),
+            (["--workers", "5", "--pieces", "27"], 5, 27, 1024 * 4), (["--width", "1100"], 4, 17, 1100 * 4),
+            (["--depth", "12"], 4, 17, 1024 * 12), (["--width", "1300", "--depth", "3"], 4, 17, 1300 * 3),
+            (["--workers", "4", "--pieces", "4", "--width", "1024", "--depth", "4"], 4, 17, 1024 * 4),
+            (["--k", "3855"], 4, 17, 1024 * 4), (["--k", "3856"], 4, 16, 1024 * 4), (["--k", "65535"], 4, 4, 1024 * 4),
+            (["--pieces", "3", "--tree", "((0 1) 2)"], 4, 3, 1024 * 4), (["--tree", "chain"], 4, 17, 1024 * 4),
         ]:
             told = watched(self.program, library, ["report", *words], RECORDS)
             found = (told.count(0), 8 * cells in told, 8 * (cells + pieces) in told)
@@ -356,6 +359,19 @@ class CommandLine(programs.Checks):
                 status = self.heavy([*command, *words], given)[0]
                 told = watched(self.program, library, [*command, *words], given)
                 self.check(f"{command[0]} {' '.join(words)}", (status, told.count(0)) == (0, threads), (status, told))
+
+    def test_report_workers(self) -> None:
+        """How many threads a report of six files starts: the workers of two passes, though fewer pieces are asked for, and none
+        where the plan that is spelled has fewer."""
+        library = programs.preloaded("watch.c", self.room)
+        paths = [f"{self.room}/{place}" for place in range(6)]
+        for path in paths:
+            Path(path).write_bytes(RECORDS)
+        for words, threads in (([], 8), (["--pieces", "2", "--workers", "3"], 6), (["--pieces", "2", "--tree", "(0 1)"], 0)):
+            command = ["report", "--k", "2", *words, *paths]
+            status, out = self.heavy(command)[:2]
+            told = watched(self.program, library, command, b"")
+            self.check(" ".join(words), (status, out, told.count(0)) == (0, b"a,36\n", threads), (status, out, told))
 
     def test_vectors(self) -> None:
         """Files of version 1 and 2 byte by byte: what is merged, asked and confirmed of them, and what is refused."""

@@ -77,7 +77,7 @@ pub const WORKERS: Number = Number {
 
 pub const PIECES: Number = Number {
     name: "pieces",
-    help: "Pieces that the records are cut into, from 1 to 1024 [default: 4]",
+    help: "Pieces that the records are cut into, or more, from 1 to 1024 [default: 4]",
     default: 4,
 };
 
@@ -290,7 +290,7 @@ fn with_decimals<'a>(alloc: Global, command: Command<'a>) -> Result<Command<'a>,
     ensures { IfOk result (λ c. (fields_of c).has_globals ≡ false) }
 {
     let told =
-        "Print numbers with D digits behind the point, as the records had, from 0 to 9 [default: 0]";
+        "Print numbers with D digits behind the point, as the records had, 0 to 9 [default: 0]";
     with(command, decimals(alloc, told))
 }
 

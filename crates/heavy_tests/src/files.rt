@@ -1,5 +1,5 @@
-//! Reports of files that fail in mid-stream, or that aren't the same in two readings, and files that
-//! workers count.
+//! Reports of files that fail in mid-stream, or that aren't the same in two readings, and files
+//! that workers count.
 
 ghost use Rattle.std.specs.Prelude.{None};
 

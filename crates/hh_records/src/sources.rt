@@ -131,7 +131,7 @@ pub fn lengths<S: ReadAt>(alloc: Global, sources: &[S]) -> Result<Vec<u64>, Text
 impl<'s, S: ReadAt> ReadRecords for SourceRecords<'s, S> {
     ghost known = { λ records. texts_known S.bytes records.layout.now records.sources.now };
 
-    // A file that ends before it said so, or has more than it said, fails as one that can't be read.
+    // A file that ends before it said so, or has more than it said, fails: it can't be read.
     fn read_into<T: TakeItems>(self, alloc: Global, taker: T) -> Result<T, TextError> {
         let Some((first, others)) = self.sources.split_first() else {
             return Ok(taker);

@@ -118,8 +118,8 @@ pub(crate) fn confirm_records<R: Read + Drop>(
     Ok(rows_above(summary, &counts, p, q)?)
 }
 
-/// The rows of a summary's keys above p/q of the total of the items that were counted, where that is
-/// its own. Where it isn't, both are left in `totals`.
+/// The rows of a summary's keys above p/q of the total of the items that were counted, where that
+/// is its own. Where it isn't, both are left in `totals`.
 pub(crate) fn confirmed_text(
     alloc: Global,
     summary: &Summary,

@@ -19,6 +19,7 @@ ghost use Rattle.heavy.specs.Report.{IsPrepared, KeysNotWritten, ReportsKeys, St
 ghost use Rattle.heavy.specs.Report.{failed_by, settings_of};
 
 use crate::error::{ToolError, TreeFault};
+use crate::file_passes::piece_count;
 use crate::text_pieces::TextPieces;
 use hh_counters::{Heavy, MAX_K};
 use hh_countmin::{Family, MAX_DEPTH, MAX_WIDTH};
@@ -34,6 +35,10 @@ use std::alloc::{AllocError, Global};
 use std::io::Read;
 use std::sync::Wait;
 use std::thread::Threads;
+
+// How many counters the summaries of all pieces may have, where workers read more pieces than the
+// options say.
+const SPREAD_COUNTERS: u64 = 65_536;
 
 /// How the summaries of the pieces are merged. Every tree gives the same report.
 #[derive(Debug, Drop)]
@@ -55,7 +60,8 @@ pub struct ReportOptions {
     pub threshold: Share,
     /// The number of workers: 1 to 64.
     pub workers: u64,
-    /// The number of pieces that the stream is cut into: 1 to 1,024.
+    /// The number of pieces that the stream is cut into: 1 to 1,024. Where the summaries are small
+    /// and no tree is spelled, workers read more pieces than that.
     pub pieces: u64,
     /// How the summaries of the pieces are merged.
     pub tree: Tree,
@@ -259,6 +265,39 @@ fn keys_of_records<T: Threads + Wait + Sync, R: Read + Drop>(
     keys_of_stream(rt, alloc, read_again(alloc, kept)?, pieces, plan, settings)
 }
 
+/// How many pieces so many texts are read in: as many as the options say or, where that is more and
+/// their summaries are small, as many as one pass has. A tree that is spelled has its own.
+fn pieces_to_read(options: &ReportOptions, texts: usize) -> usize
+    requires { bad_option options.now ≡ None }
+    ensures { in_range result max_pieces ≡ true }
+{
+    let asked = options.pieces as usize;
+    if let Tree::Text(_) = options.tree {
+        return asked;
+    }
+    let small = (SPREAD_COUNTERS / options.k) as usize;
+    piece_count(options.workers, texts).min(small).max(asked)
+}
+
+/// The pieces that so many texts are read in, and their plan: that at hand where they are as many.
+fn plan_to_read(
+    alloc: Global,
+    options: &ReportOptions,
+    plan: Plan,
+    texts: usize,
+) -> Result<(usize, Plan), AllocError>
+    requires options { bad_option options.now ≡ None }
+    requires plan { length (leaves plan) ≡ options.now.pieces }
+    ensures few { IfOk result (λ r. in_range r.0 max_pieces ≡ true) }
+    ensures plan { IfOk result (λ r. length (leaves r.1) ≡ r.0) }
+{
+    let pieces = pieces_to_read(options, texts);
+    if pieces == options.pieces as usize {
+        return Ok((pieces, plan));
+    }
+    Ok((pieces, Plan::balanced(alloc, pieces)?))
+}
+
 /// What a report is made by: a plan of so many pieces, and the settings of the analysis.
 #[derive(Drop)]
 pub(crate) struct Prepared {
@@ -270,20 +309,24 @@ pub(crate) struct Prepared {
     pub(crate) q: u64,
 }
 
-/// Tests the options, before anything is read.
-pub(crate) fn prepare(alloc: Global, options: &ReportOptions) -> Result<Prepared, ToolError>
+/// Tests the options, before anything is read of so many texts.
+pub(crate) fn prepare(
+    alloc: Global,
+    options: &ReportOptions,
+    texts: usize,
+) -> Result<Prepared, ToolError>
     ensures prepared { IfOk result (IsPrepared options.now) }
     ensures refused { IfErr result (λ fault.
         (known : Known) → StartRefused options.now known fault) }
     ensures bad_option { IfSome (bad_option options.now) (λ fault. result ≡ Err fault) }
 {
     let (p, q) = check_options(options)?;
-    let pieces = options.pieces as usize;
-    let plan = match plan_of(alloc, &options.tree, pieces) {
+    let plan = match plan_of(alloc, &options.tree, options.pieces as usize) {
         Ok(plan) => plan,
         Err(NoPlan::Bad(fault)) => return Err(ToolError::BadTree(fault)),
         Err(NoPlan::Memory) => return Err(ToolError::Memory),
     };
+    let (pieces, plan) = plan_to_read(alloc, options, plan, texts)?;
     let settings = settings_of(alloc, options, p, q)?;
     Ok(Prepared {
         pieces,
@@ -308,7 +351,8 @@ fn reported<T: Threads + Wait + Sync, R: Read + Drop>(
         (StartRefused options.now (records_known R.remaining records)) }
     ensures bad_option { IfSome (bad_option options.now) (λ fault. result ≡ Err fault) }
 {
-    match prepare(alloc, options) {
+    let texts = records.others.len().saturating_add(1);
+    match prepare(alloc, options, texts) {
         Ok(
             Prepared {
                 pieces,
