@@ -1,6 +1,7 @@
 #!/usr/bin/env python3
-"""Files that workers read in pieces: by `report` twice, by `table`, `condense` and `confirm` once. What comes out is set
-beside rows that were found by hand, and beside what the same texts give from standard input and from pipes.
+"""Texts and files that workers read in pieces: by `report` twice, by `table`, `condense` and `confirm` once. What comes out
+is set beside rows that were found by hand, beside a report of one piece by one thread, and beside what the same texts give
+from standard input and from pipes.
 
 usage: tests/report_files.py [CASES [SEED]]
 
@@ -22,6 +23,13 @@ LEAST = 65_536
 SECONDS = 60
 KEYS = [b"a", b"b", b"web", b"x,y", b'say ""so""', b"two\nlines", b"end\r\nof", b"\xef\xbb\xbfmark", b"k" * 300]
 RECORDS = b"a,5\nb,3\nc,2\na,1\n"
+# what woven texts are made of, again and again, and what then comes somewhere in between
+WEFT = [
+    b"a,5\n", b"b,7\r\n", b"c\r", b"web,2\n", b'"x,y",3\n', b'"two\nlines",2\r\n', b'"say ""so""",4\n', b'"\n",1\n',
+    b'"end\r\nof",6\n', b'mid"dle,1\n', b'"a"b,2\n', b"\xef\xbb\xbfmark,1\n", b'"\xef\xbb\xbf",8\n', b"\n", b"\r\n\r", b"\n\n",
+]
+STITCHES = [b"\n", b"\r", b"\r\n", b"\xef\xbb\xbf", b'""', b"k" * 300, b"1"]
+FAULTS = [b'"', b",", b"a,0\n", b",7\n", b"\n,\n", b"a,9223372036854775807\n", b'\n"open']
 # how the random texts are read, of which none is refused before a file is opened
 LAYOUTS = [
     [], [], ["--allow-zero"], ["--header"], ["--decimals", "2"], ["--key", "1"], ["--delimiter", ";"],
@@ -54,6 +62,17 @@ def text_of(random: Random) -> bytes:
         parts.insert(random.randrange(len(parts) + 1), fault)
     text = b"".join(parts)
     return text.rstrip(b"\r\n") if random.random() < 0.33 else text
+
+
+def woven(random: Random) -> bytes:
+    """A text of one to five pieces: some records, again and again, with a few bytes more somewhere, of which one in four may be
+    a fault."""
+    unit = b"".join(random.choices(WEFT, k=random.randrange(1, 30)))
+    text = bytearray(unit * (random.randrange(LEAST, 5 * LEAST) // len(unit) + 1))
+    for _ in range(random.randrange(4)):
+        place = random.randrange(len(text) + 1)
+        text[place:place] = random.choice(FAULTS if random.random() < 0.25 else STITCHES)
+    return bytes(text)
 
 
 def feed(path: str, text: bytes) -> None:
@@ -156,6 +175,24 @@ class ReportFiles(programs.Checks):
             differed += not holds
             self.check(f"case of seed {seed}", holds, (words, texts, here, there))
         print(f"seed {seed}: {cases} cases of reports, {differed} differ")
+
+
+class ReportTexts(programs.Checks):
+    """Reports of standard input."""
+
+    def test_random_texts(self) -> None:
+        """Workers that read a text in pieces find what one thread finds in the whole of it, and tell the same of a fault."""
+        program = programs.built("heavy_cli")
+        cases, seed = chosen()
+        random, differed, refused = Random(seed), 0, 0
+        for _ in range(cases):
+            text, words = woven(random), [program, "report", "--k", random.choice(["1", "3", "20"])]
+            here = programs.run([*words, "--workers", random.choice(["1", "2", "3", "4"])], text)
+            there = programs.run([*words, "--workers", "1", "--pieces", "1", "--tree", "0"], text)
+            refused += here.status != 0
+            differed += not same(here, there)
+            self.check(f"text of seed {seed}", same(here, there), (words, text, here, there))
+        print(f"seed {seed}: {cases} texts, {refused} of them refused, {differed} differ")
 
 
 class OnePassFiles(programs.Checks):
