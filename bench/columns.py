@@ -35,7 +35,8 @@ def compare(runs: int, path: Path, commands: dict[str, list[str]]) -> None:
     times: dict[str, list[float]] = {name: [] for name in commands}
     for _ in range(runs):
         for name, command in commands.items():
-            times[name].append(passes.seconds(command, path))
+            used, _ = passes.seconds(command, path)
+            times[name].append(used)
     last = times[[*commands][-1]]
     for name, each in times.items():
         ratio = statistics.median(one / two for one, two in zip(each, last))

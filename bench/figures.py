@@ -1,9 +1,11 @@
 #!/usr/bin/env python3
-"""Draws the figures of docs/figures from runs that it makes: time or peak memory by the number of records, and the
+"""Draws the figures of docs/figures from runs that it makes: time and peak memory by the number of records, and the
 error of estimates by k beside the proved bound. Needs matplotlib (Debian: python3-matplotlib, with /usr/bin/python3);
-time and memory also want rustc and mawk (or awk), and time a machine that does nothing else.
+costs also wants rustc, mawk (or awk), and a machine that does nothing else. `memory` draws that figure alone, on any.
 
-usage: bench/figures.py time|memory|error
+usage: bench/figures.py costs|memory|error [FOLDER]
+
+With FOLDER the files of records are kept there, 3 GB of them, for the next run.
 """
 import os
 import shutil
@@ -31,7 +33,9 @@ COUNTS = [100_000, 1_000_000, 10_000_000, 100_000_000]
 MOST_KEPT = 10_000_000
 KS = [10, 30, 100, 300, 1_000, 3_000, 10_000, 30_000, 65_535]
 RECORDS = 1_000_000
+# how often each program runs on a few records, of which the median counts; on more it runs once
 RUNS = 3
+MOST_OFTEN = 1_000_000
 MOST_LOAD = 3.0
 GROUP_BY = "{ w[$1] += $2; n += $2 } END { for (x in w) if (101 * w[x] > n) print x \",\" w[x] }"
 SHAPES = {"zipf": "100,000 keys by Zipf's law", "different": "all keys different"}
@@ -70,10 +74,13 @@ def two_passes(summary: list[str], confirm: list[str], path: Path, saved: Path) 
     return sum(run[0] for run in runs), max(run[1] for run in runs)
 
 
-def costs(room: Path, shape: str, plain: str, awk: str, runs: int) -> dict[str, list[tuple[float, float]]]:
+Costs = dict[str, list[tuple[float, float]]]
+
+
+def costs(room: Path, shape: str, plain: str, awk: str) -> Costs:
     """For each program the medians of time and memory, by the number of records."""
     heavy, saved = programs.heavy(), room / "saved"
-    found: dict[str, list[tuple[float, float]]] = {}
+    found: Costs = {}
     for count in COUNTS:
         path = programs.records(room, shape, count)
         ways = {
@@ -89,14 +96,13 @@ def costs(room: Path, shape: str, plain: str, awk: str, runs: int) -> dict[str, 
             ways["mawk, group-by"] = lambda: measured([awk, "-F,", GROUP_BY], path)
             ways["plain Rust, group-by"] = lambda: measured([plain, "group", "100"], path)
         all: dict[str, list[tuple[float, float]]] = {name: [] for name in ways}
-        for _ in range(runs):
+        for _ in range(RUNS if count <= MOST_OFTEN else 1):
             for name, way in ways.items():
                 all[name].append(way())
         for name, made in all.items():
             medians = tuple(statistics.median(run[i] for run in made) for i in range(2))
             found.setdefault(name, []).append(medians)
             print(f"{shape} {count:>9} {name:30} {medians[0]:8.3f} s {medians[1]:8.1f} MB", flush=True)
-        path.unlink()
     return found
 
 
@@ -117,15 +123,11 @@ def draw(name: str, figure, handles: list) -> None:
     print(FIGURES / f"{name}.svg")
 
 
-def draw_costs(room: Path, name: str, which: int, up: str, runs: int) -> None:
-    """Time or memory, the first or second number of a run, by the number of records."""
-    plain, awk = programs.plain(room), shutil.which("mawk") or shutil.which("awk")
-    if not plain or not awk:
-        raise SystemExit("rustc and mawk are wanted")
+def draw_by_records(found: dict[str, Costs], name: str, which: int, up: str) -> None:
+    """Time or memory, the first or second number of a run, by the number of records, a panel for each shape."""
     figure, panels = plt.subplots(1, 2, figsize=(9, 4.6), sharey=True)
     for axes, (shape, title) in zip(panels, SHAPES.items()):
-        found = costs(room, shape, plain, awk, runs)
-        for label, medians in found.items():
+        for label, medians in found[shape].items():
             colour, mark, dash = STYLES[label]
             values = [median[which] for median in medians]
             axes.plot(COUNTS[: len(values)], values, color=colour, marker=mark, linestyle=dash, label=label)
@@ -134,14 +136,21 @@ def draw_costs(room: Path, name: str, which: int, up: str, runs: int) -> None:
     draw(name, figure, panels[0].get_legend_handles_labels()[0])
 
 
-def draw_times(room: Path) -> None:
+def draw_memory(room: Path) -> dict[str, Costs]:
+    """The figure of memory, and what was found for it."""
+    plain, awk = programs.plain(room), shutil.which("mawk") or shutil.which("awk")
+    if not plain or not awk:
+        raise SystemExit("rustc and mawk are wanted")
+    found = {shape: costs(room, shape, plain, awk) for shape in SHAPES}
+    draw_by_records(found, "memory", 1, "peak memory in MB")
+    return found
+
+
+def draw_costs(room: Path) -> None:
+    """The figures of memory and time."""
     if os.getloadavg()[0] > MOST_LOAD:
         raise SystemExit(f"the load is {os.getloadavg()[0]}: times of a busy machine say nothing")
-    draw_costs(room, "time", 0, "seconds", RUNS)
-
-
-def draw_memory(room: Path) -> None:
-    draw_costs(room, "memory", 1, "peak memory in MB", 1)
+    draw_by_records(draw_memory(room), "time", 0, "seconds")
 
 
 def errors(path: Path, k: int, weights: dict[bytes, int]) -> tuple[int, int, int]:
@@ -181,7 +190,8 @@ def draw_errors(room: Path) -> None:
 
 def main() -> None:
     with tempfile.TemporaryDirectory() as folder:
-        {"time": draw_times, "memory": draw_memory, "error": draw_errors}[sys.argv[1]](Path(folder))
+        kept = Path(sys.argv[2]) if len(sys.argv) > 2 else Path(folder)
+        {"costs": draw_costs, "memory": draw_memory, "error": draw_errors}[sys.argv[1]](kept)
 
 
 main()

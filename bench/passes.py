@@ -124,7 +124,7 @@ def main() -> None:
             print(shape)
             ratios += ratios_of(name, compare(room, programs.records(room, shape), runs))
             print(many(room, shape).name)
-            compare(room, many(room, shape), runs)
+            compare(room, many(room, shape), 1)
     if "--write" in sys.argv:
         measured.write("passes", ratios)
 
