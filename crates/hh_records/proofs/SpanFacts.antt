@@ -4,9 +4,9 @@ use Rattle.std.specs.Prelude.{IfSome}
 use Rattle.std.specs.List.{AllByRecursion}
 use Rattle.std.proofs.lemmas.Bool.{false≢true}
 use Rattle.std.proofs.lemmas.Grind.{flat_map-append}
-use Rattle.std.proofs.lemmas.List.{drop-drop, map-append, take-append-drop, take_all}
+use Rattle.std.proofs.lemmas.List.{drop-drop, map-append, take-append-drop}
 use Rattle.hh_stream.specs.Cuttings.{whole_of}
-use Rattle.hh_records.specs.CutFiles.{CutsBytes, span_bytes}
+use Rattle.hh_records.specs.CutFiles.{span_bytes}
 use Rattle.hh_records.specs.declared.cut_files.Span.{Span}
 use Rattle.hh_records.specs.Pieces.{LaterBeginWithFeed, begins_with_feed}
 
@@ -69,22 +69,6 @@ one-span-more bytes spans span some feed h =
       whole = rw (more, ← later) (whole-cut (map (span_bytes bytes) spans) (drop span.from bytes) k ∙ h.whole);
       feeds = rw (more, ← later)
           (later-cut (map (span_bytes bytes) spans) (drop span.from bytes) k (omega (arith, some)) (rw later feed) h.feeds);
-    }
-
--- the last span
-pub last-span : (bytes : List ℕ) (spans : List Span) (span : Span) → span.to ≡ length bytes
-    → IsCutSoFar bytes span.from spans → CutsBytes bytes (spans ++ span ∷ [])
-last-span bytes spans span end h =
-    let rest : span_bytes bytes span ≡ drop span.from bytes =
-    take_all (span.to - span.from) (drop span.from bytes) (omega (arith, end, length-drop span.from bytes)) in
-    let more : map (span_bytes bytes) (spans ++ span ∷ []) ≡ map (span_bytes bytes) spans ++ drop span.from bytes ∷ [] =
-    map-append (span_bytes bytes) spans (span ∷ []) ∙ ap (λ (r : List ℕ). map (span_bytes bytes) spans ++ r ∷ []) rest in
-    record {
-      whole =
-          ap whole_of more
-          ∙ flat_map-append (λ (p : List ℕ). p) (map (span_bytes bytes) spans) (drop span.from bytes ∷ [])
-          ∙ ap (λ l. whole_of (map (span_bytes bytes) spans) ++ l) (append-nil (drop span.from bytes)) ∙ h.whole;
-      feeds = rw more h.feeds;
     }
 
 -- the same where the bytes may be known
