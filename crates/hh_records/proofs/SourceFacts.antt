@@ -4,6 +4,7 @@ use Rattle.std.specs.Prelude.{IfErr, IfOk, IfSome, option_map}
 use Rattle.std.specs.Io.Take.{take_remaining}
 use Rattle.std.specs.declared.io.traits.Take.{Take}
 use Rattle.hh_stream.specs.Weights.{Entry}
+use Rattle.hh_records.specs.Files.{length_of}
 use Rattle.hh_records.specs.Kept.{IsKnownStill}
 use Rattle.hh_records.specs.Layouts.{TextsRefused, every, gathered, items_after, stream_with}
 use Rattle.hh_records.specs.Streams.{Reading}
@@ -25,6 +26,21 @@ pub known-next : {A B C : Type 0} (f : A → Option C) (g : B → Option C) (all
 known-next f g all i x ys y l e h k =
     let next : drop i all ≡ x ∷ drop (i + 1) all = rw (add-one, drop-cons all i x) (ap (λ z. z ∷ drop (suc i) all) (sym e)) in
     known-more f g all x (drop (i + 1) all) ys y (rw next at h) k
+
+-- the length that a source tells is known still
+pub length-still : {S : Type 0} (bytes : S → Option (List ℕ)) (source : S) (n : ℕ)
+    → IfSome (bytes source) (λ b. n ≡ length b) → IsKnownStill (length_of bytes source) (Some n)
+length-still bytes source n h = by (bytes source) h
+  where
+    by : (b : Option (List ℕ)) → IfSome b (λ b. n ≡ length b) → IsKnownStill (option_map length b) (Some n)
+    by None h = tt
+    by (Some b) h = ap Some h
+
+-- numbers are what every one of them is
+pub every-some : (ns : List ℕ) → every Some ns ≡ Some ns
+unfolding every
+every-some [] = refl
+every-some (n ∷ ns) = rw (every-some ns) refl
 
 -- no texts are no records
 pub none-read : {S : Type 0} (f : S → Option (List ℕ)) (layout : Layout) (sources : List S) → length sources ≡ 0

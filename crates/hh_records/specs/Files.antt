@@ -1,5 +1,5 @@
 -- Texts of records in files that are read at any place.
-use Rattle.std.specs.Prelude.{◌≡◌, ◌+◌, ◌-◌, ◌<◌, ◌++◌, ℕ, List, [], take, drop, length, Option, Some}
+use Rattle.std.specs.Prelude.{◌≡◌, ◌+◌, ◌-◌, ◌<◌, ◌++◌, ℕ, List, [], take, drop, length, Option, Some, option_map}
 use Rattle.hh_records.specs.declared.read_at.Source.{Source}
 use Rattle.hh_records.specs.declared.read_at.Source.TheVariants as source
 
@@ -11,6 +11,10 @@ pub record GivesFrom (bytes : List ℕ) (at count : ℕ) (buffer : List ℕ) : T
 -- the bytes from a place up to another
 abbrev pub bytes_between : ℕ → ℕ → List ℕ → List ℕ
 bytes_between from to bytes = take (to - from) (drop from bytes)
+
+-- how many bytes what can be read at any place has, where they are known
+abbrev pub length_of : {S : Type 0} → (S → Option (List ℕ)) → S → Option ℕ
+length_of bytes source = option_map length (bytes source)
 
 -- the bytes of a file, where they are known, or those that are kept
 abbrev pub source_bytes : {F : Type 0} → (F → Option (List ℕ)) → Source F → Option (List ℕ)

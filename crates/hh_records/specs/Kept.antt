@@ -16,6 +16,10 @@ rest_left remaining (rest.Failed reader) = remaining reader
 abbrev pub kept_left : {R : Type 0} → (R → Option (List ℕ)) → KeptText R → Option (List ℕ)
 kept_left remaining text = prepend_known text.bytes.items (rest_left remaining text.rest)
 
+-- a text is kept to its end
+abbrev pub IsWhole : {R : Type 0} → KeptText R → Type 0
+IsWhole text = text.rest ≡ rest.Ended
+
 -- what was known is known still
 abbrev pub IsKnownStill : {A : Type 0} → Option A → Option A → Type 0
 IsKnownStill old new = IfSome old (λ known. new ≡ Some known)

@@ -1,9 +1,9 @@
 //! Texts whose bytes are kept, so that they can be read more than once.
 
-ghost use Rattle.std.specs.Prelude.{◌≡◌, ◌<◌, ◌∷◌, true, length, map, IfOk, IfSome, Some};
+ghost use Rattle.std.specs.Prelude.{◌≡◌, ◌<◌, ◌∷◌, true, length, map, All, IfOk, IfSome, IsSome, Some};
 ghost use Rattle.std.specs.Io.Chain.{chain_remaining};
 ghost use Rattle.std.specs.Io.KnownBytes.{Consumes, IsAtEnd};
-ghost use Rattle.hh_records.specs.Kept.{AreKnownStill, IsKnownStill, kept_left, rest_left};
+ghost use Rattle.hh_records.specs.Kept.{AreKnownStill, IsKnownStill, IsWhole, kept_left, rest_left};
 ghost use Rattle.hh_records.specs.Layouts.{every, records_known};
 
 use crate::retrying::read;
@@ -77,7 +77,8 @@ impl<R: Read + Drop> KeptText<R> {
 
     /// All its bytes, where they are kept.
     pub fn whole(&self) -> Option<&[u8]>
-        ensures { IfSome result (λ bytes. kept_left R.remaining self.now ≡ Some bytes.now) }
+        ensures bytes { IfSome result (λ bytes. kept_left R.remaining self.now ≡ Some bytes.now) }
+        ensures whole { IsWhole self.now → IsSome result }
     {
         match self.rest {
             Rest::Ended => Some(self.bytes.as_slice()),
@@ -161,9 +162,11 @@ pub fn whole_texts<R: Read + Drop>(
     alloc: Global,
     records: &Records<KeptText<R>>,
 ) -> Result<Option<Vec<&[u8]>>, AllocError>
-    ensures { IfOk result (λ texts. IfSome texts (λ texts.
+    ensures texts { IfOk result (λ texts. IfSome texts (λ texts.
         every (kept_left R.remaining) (records.now.first ∷ records.now.others.items)
         ≡ Some (map (λ text. text.now) texts.items))) }
+    ensures whole { IfOk result (λ texts.
+        IsWhole records.now.first → All IsWhole records.now.others.items → IsSome texts) }
 {
     let mut texts = Vec::new(alloc);
     let Some(first) = records.first.whole() else {

@@ -1,7 +1,7 @@
 //! Records in files that are read at any place, and in pipes whose text is kept.
 
-ghost use Rattle.std.specs.Prelude.{IfErr, IfOk};
-ghost use Rattle.hh_records.specs.Files.{source_bytes};
+ghost use Rattle.std.specs.Prelude.{◌≡◌, Some, length, IfErr, IfOk};
+ghost use Rattle.hh_records.specs.Files.{length_of, source_bytes};
 ghost use Rattle.hh_records.specs.Kept.{IsKnownStill};
 ghost use Rattle.hh_records.specs.Layouts.{TextsRefused, every, texts_known};
 ghost use Rattle.hh_records.specs.Sources.{KeepRefused, input_bytes};
@@ -113,7 +113,10 @@ fn readers_of<'s, S: ReadAt>(
 
 /// How many bytes each of some sources has.
 pub fn lengths<S: ReadAt>(alloc: Global, sources: &[S]) -> Result<Vec<u64>, TextError>
-    ensures { IfErr result KeepRefused }
+    ensures count { IfOk result (λ lengths. length lengths.items ≡ length sources.now) }
+    ensures known { IfOk result (λ lengths.
+        IsKnownStill (every (length_of S.bytes) sources.now) (Some lengths.items)) }
+    ensures refused { IfErr result KeepRefused }
 {
     let mut lengths = Vec::new(alloc);
     for source in sources {
