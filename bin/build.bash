@@ -40,7 +40,7 @@ is_stale() {
 # The version, which stands in the program's sources alone.
 version_of_program() {
   local version
-  version=$(sed -n 's/^const VERSION: &str = "\(.*\)";$/\1/p' "$top/crates/heavy_cli/src/arguments.rt")
+  version=$(sed -n 's/^const VERSION: &str = "\(.*\)";$/\1/p' "$top/crates/heavy_arguments/src/arguments.rt")
   printf '%s\n' "${version:?the program has no version}"
 }
 

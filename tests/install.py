@@ -142,7 +142,7 @@ class Copy:
         """What bin/install needs besides the program: the other files, and a kit with two archives, of C."""
         for folder in ("include", "man", "completions"):
             shutil.copytree(programs.TOP / folder, self.top / folder)
-        arguments = Path("crates", "heavy_cli", "src", "arguments.rt")
+        arguments = Path("crates", "heavy_arguments", "src", "arguments.rt")
         shutil.copy(programs.TOP / arguments, self.top / arguments)
         (self.kit / "c").mkdir(parents=True)
         sources = {"calls": "".join(f"int {name}(void) {{ return 7; }}\n" for name in (*header.calls(), "hidden"))}

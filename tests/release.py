@@ -22,7 +22,7 @@ from pathlib import Path
 import header
 import programs
 
-SOURCE = "crates/heavy_cli/src/arguments.rt"
+SOURCE = "crates/heavy_arguments/src/arguments.rt"
 VERSION = re.search(r'^const VERSION: &str = "(.*)";$', (programs.TOP / SOURCE).read_text(), re.M)[1]
 NAME = f"heavy-{VERSION}-x86_64-linux"
 PACKAGES = ("heavy", "libheavy1", "libheavy-dev")

@@ -1,3 +1,1 @@
-pub mod FileLemmas
 pub mod RequestLemmas
-pub mod WordLemmas

@@ -1,6 +1,6 @@
 -- What a command line asks for, by what `clap` found in it.
 use Rattle.std.specs.Prelude.{ℕ, ◌≡◌, ◌≢◌, ◌<◌, ◌^◌, ⊤, true, false, List, [], Option, Some, None, codes, map, drop, option_map, unwrap_or}
-use Rattle.std.specs.Str.Parse.{IsNumeral, digits_value, without_leading_plus}
+use Rattle.std.specs.Str.Parse.{IsNumeral, without_leading_plus}
 use Rattle.clap.specs.Words.{App, HasMatchesOf, Text, first_value, matched_of, one_text, raw_values, rows_of, subcommand_rows_of}
 use Rattle.clap.specs.declared.parser.matches.ArgMatches.{ArgMatches}
 use Rattle.clap.specs.declared.parser.matches.Found.{Found}
@@ -10,7 +10,8 @@ use Rattle.heavy.specs.declared.commands.report.Tree.TheVariants as shape
 use Rattle.hh_records.specs.declared.printed.RowOptions.{RowOptions}
 use Rattle.hh_records.specs.declared.threshold.Share.{Share}
 use Rattle.hh_records.specs.declared.threshold.Share.TheVariants as limit
-use Rattle.heavy_cli.specs.Words.{AreAllWords, word_of}
+use Rattle.heavy_arguments.specs.Numbers.{IsNumberOf, number_in}
+use Rattle.heavy_host.specs.Words.{AreAllWords, word_of}
 use Rattle.heavy_cli.specs.declared.request.Command.{Command}
 use Rattle.heavy_cli.specs.declared.request.Command.TheVariants.{Summarise, Table, Merge, Ask, List as ListKeys, Describe, Condense, Confirm}
 use Rattle.heavy_cli.specs.declared.request.RecordWords.{RecordWords}
@@ -25,16 +26,6 @@ first_word other found name = word_of (unwrap_or (first_value found name) other)
 -- all words of a name, in their order
 abbrev pub all_words : Found → Text → List (List ℕ)
 all_words found name = map word_of (unwrap_or (option_map raw_values (matched_of found name)) [])
-
--- the number that a text spells, which may begin with a plus
-abbrev pub number_in : Text → ℕ
-number_in text = digits_value 10 (without_leading_plus text)
-
--- the number of a name: the one that was given, or else the default
-pub record IsNumberOf (found : Found) (name : Text) (default number : ℕ) : Type 0 where
-  pub absent : one_text found name ≡ None → number ≡ default
-  pub given : (text : Text) → one_text found name ≡ Some text → IsNumeral 10 (without_leading_plus text)
-      → number_in text < 2 ^ 64 → number ≡ number_in text
 
 -- the threshold: the text that was given, or else that of the counters
 abbrev pub GivesShare : Option Text → Share → Type 0

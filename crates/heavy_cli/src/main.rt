@@ -1,10 +1,7 @@
 //! The program `heavy`.
 #![tactic(auto)]
 
-mod arguments;
 mod explain;
-mod files;
-mod help;
 mod inputs;
 mod other_format;
 mod progress;
@@ -12,15 +9,14 @@ mod record_count;
 mod record_place;
 mod request;
 mod told;
-mod words;
 
 use explain::{tell_format, tell_more, tell_own_k, tells_more, watches};
-use files::{read_file, read_files};
 use heavy::{
     Method, Out, RowOptions, Share, ToolError, Totals, ask_rows, condense_bytes_from,
     condense_files, confirm_files, confirm_rows, describe_file, list_rows, merge_bytes, put,
     report_files, report_rows, summary_bytes_from, table_bytes_from, table_files,
 };
+use heavy_host::{read_file, read_files};
 use inputs::{Inputs, Once};
 use other_format::NOTHING;
 use progress::SharedProgress;

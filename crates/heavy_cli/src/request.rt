@@ -3,18 +3,18 @@
 ghost use Rattle.std.specs.Prelude.{◌≡◌, [], IfOk, codes, map, option_map};
 ghost use Rattle.clap.specs.Words.{first_value, found_of};
 ghost use Rattle.heavy_cli.specs.Request.{Answers, AreDecimals, AreOptions, AreRecordWords, AreRowOptions, AsksFor, GivesShare};
-ghost use Rattle.heavy_cli.specs.Words.{word_of};
+ghost use Rattle.heavy_host.specs.Words.{word_of};
 ghost use Rattle.heavy_cli.specs.Request.{IsAskedBy, IsAskedFrom, NamesTree, all_words, first_word};
 
-use crate::arguments::{
-    ALLOW_ZERO, DECIMALS, DELIMITER, DEPTH, EXPLAIN, HEADER, K, KEY, PIECES, PROGRESS, RECORDS,
-    SEED, SHARE, TOP, WEIGHT, WIDTH, WORKERS, command_line,
-};
 use crate::told::{Told, told_of};
-use crate::words::{WordSource, bytes_of, read_words, texts_of};
 use clap::ArgMatches;
 use clap::error::ErrorKind;
 use heavy::{LayoutWords, ReportOptions, RowOptions, Share, Tree};
+use heavy_arguments::{
+    ALLOW_ZERO, DECIMALS, DELIMITER, DEPTH, EXPLAIN, HEADER, K, KEY, PIECES, PROGRESS, RECORDS,
+    SEED, SHARE, TOP, WEIGHT, WIDTH, WORKERS, command_line,
+};
+use heavy_host::{WordSource, behind_first, bytes_of, read_words, texts_of};
 use std::alloc::{AllocError, Global};
 
 /// What a command line asks for, and how.
@@ -278,10 +278,7 @@ fn merge(alloc: Global, found: &ArgMatches) -> Result<Command, AllocError>
     ensures { IfOk result (Answers (codes "merge") (found_of found.now)) }
 {
     let first = file_named(alloc, found)?;
-    let mut others = words(alloc, found, "FILE")?;
-    if !others.is_empty() {
-        others.remove(0);
-    }
+    let others = behind_first(words(alloc, found, "FILE")?);
     Ok(Command::Merge { first, others })
 }
 

@@ -1,9 +1,9 @@
 //! What is said of a command line that asks for nothing.
 
-use crate::arguments::command_line;
-use crate::words::texts_of;
 use clap::Error;
 use clap::error::ErrorKind;
+use heavy_arguments::command_line;
+use heavy_host::texts_of;
 use std::alloc::{AllocError, Global};
 
 /// What `clap` says, and what is known of the words.

@@ -4,7 +4,7 @@ use Rattle.std.specs.String.{string_bytes}
 use Rattle.clap.specs.Words.{HasMatchesOf, app_of, found_of, rows_of}
 use Rattle.clap.specs.declared.parser.matches.ArgMatches.TheViews.{out-ArgMatches, out-SubCommand}
 use Rattle.std.specs.Box.{box_value}
-use Rattle.heavy_cli.specs.Words.{word_of}
+use Rattle.heavy_host.specs.Words.{word_of}
 use Rattle.heavy_cli.proofs.RequestLemmas.{found_together}
 use Rattle.heavy_cli.proofs.request.request_in.Goals as goal
 

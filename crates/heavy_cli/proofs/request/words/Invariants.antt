@@ -1,6 +1,6 @@
 -- The words so far are those of the texts.
 use Rattle.std.proofs.Common.{◌≡◌, map, take}
-use Rattle.heavy_cli.specs.Words.{word_of}
+use Rattle.heavy_host.specs.Words.{word_of}
 use Rattle.heavy_cli.proofs.request.words.Given as goal
 
 abbrev pub invariant-loop-text : goal.invariant-loop-text

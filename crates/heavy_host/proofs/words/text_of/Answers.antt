@@ -4,9 +4,9 @@ use Rattle.std.proofs.lemmas.List.{take_more}
 use Rattle.std.proofs.lemmas.Result.{IfOk-weaker}
 use Rattle.std.specs.Str.{chars}
 use Rattle.std.specs.String.{string_bytes}
-use Rattle.heavy_cli.specs.Words.{word_of, spelled_bytes}
-use Rattle.heavy_cli.proofs.WordLemmas.{word_of-push, word_of-plain}
-use Rattle.heavy_cli.proofs.words.text_of.Goals as goal
+use Rattle.heavy_host.specs.Words.{word_of, spelled_bytes}
+use Rattle.heavy_host.proofs.WordLemmas.{word_of-push, word_of-plain}
+use Rattle.heavy_host.proofs.words.text_of.Goals as goal
 
 pub returns-then-spells_no_byte : goal.returns-then-spells_no_byte
 returns-then-spells_no_byte c =

@@ -3,7 +3,7 @@
 ghost use Rattle.std.specs.Prelude.{◌≡◌, ◌⊎◌, ◌∷◌, ◌++◌, [], ⊤, List, ℕ, Option, Some, None, Err};
 ghost use Rattle.std.specs.Prelude.{IfOk, IfErr, OnOk, map};
 ghost use Rattle.heavy.specs.declared.error.ToolError.TheVariants.{FileFault, Memory as NoMemory};
-ghost use Rattle.heavy_cli.specs.Files.{AreRead, TellsFile};
+ghost use Rattle.heavy_host.specs.Files.{AreRead, TellsFile};
 
 use heavy::ToolError;
 use std::alloc::Global;

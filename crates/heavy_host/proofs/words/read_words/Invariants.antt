@@ -1,6 +1,6 @@
 -- The words so far are those of the source, each at its number.
 use Rattle.std.proofs.Common.{◌≡◌, ◌<◌, ℕ, Some, [], length, map, slice_index_or}
-use Rattle.heavy_cli.proofs.words.read_words.Given as goal
+use Rattle.heavy_host.proofs.words.read_words.Given as goal
 
 abbrev pub invariant-loop-number : goal.invariant-loop-number
 invariant-loop-number g l = record {

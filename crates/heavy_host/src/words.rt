@@ -5,12 +5,12 @@
 //! own.
 
 ghost use Rattle.std.specs.Prelude.{◌≡◌, [], ◌∷◌, ◌++◌, ℕ, Option, List, ⊤, IfOk, OnOk, is_none};
-ghost use Rattle.std.specs.Prelude.{map, option_map};
+ghost use Rattle.std.specs.Prelude.{drop, map, option_map};
 ghost use Rattle.std.specs.Char.{IsScalar};
 ghost use Rattle.std.specs.List.{list_all};
 ghost use Rattle.std.specs.Str.{chars};
 ghost use Rattle.std.specs.String.{string_bytes};
-ghost use Rattle.heavy_cli.specs.Words.{AreAllWords, byte_of, spelled_bytes, word_of};
+ghost use Rattle.heavy_host.specs.Words.{AreAllWords, byte_of, spelled_bytes, word_of};
 
 use std::alloc::{AllocError, Global};
 use std::env::{Env, FillError};
@@ -99,6 +99,16 @@ pub fn bytes_of(alloc: Global, text: &str) -> Result<Vec<u8>, AllocError>
         push_bytes(&mut bytes, character)?;
     }
     Ok(bytes)
+}
+
+/// The words behind the first one.
+pub fn behind_first(mut words: Vec<Vec<u8>>) -> Vec<Vec<u8>>
+    ensures { map (λ w. w.items) result.items ≡ drop 1 (map (λ w. w.items) words.items) }
+{
+    if !words.is_empty() {
+        words.remove(0);
+    }
+    words
 }
 
 /// Where words come from, each by its number.

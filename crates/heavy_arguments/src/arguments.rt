@@ -3,7 +3,7 @@
 ghost use Rattle.std.specs.Prelude.{◌≡◌, false, true, IfOk};
 ghost use Rattle.clap.specs.declared.builder.command.Command.TheViews.{out-Command as fields_of};
 ghost use Rattle.clap.specs.Words.{found_of};
-ghost use Rattle.heavy_cli.specs.Request.{IsNumberOf};
+ghost use Rattle.heavy_arguments.specs.Numbers.{IsNumberOf};
 
 use crate::help::{
     ASK, CONDENSE, CONFIRM, DESCRIBE, Help, LIST, MERGE, PROGRAM, REPORT, SUMMARISE, TABLE,
@@ -58,9 +58,10 @@ const DASHES: &str = "A word that begins with - is given after --";
 /// An option with a number. Help says its default, which [`Number::of`] gives.
 #[derive(Clone, Copy)]
 pub struct Number {
-    name: &'static str,
-    help: &'static str,
-    default: u64,
+    pub name: &'static str,
+    pub help: &'static str,
+    /// What it is where it isn't given.
+    pub default: u64,
 }
 
 pub const K: Number = Number {

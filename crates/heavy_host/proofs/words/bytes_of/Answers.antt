@@ -1,8 +1,8 @@
 use Rattle.std.proofs.Common.{flat_map, sym, ap, ◌∙◌, map-id}
 use Rattle.std.proofs.lemmas.Iterator.{YieldsList-from_chars}
 use Rattle.std.proofs.lemmas.Iterator.Consumers.{YieldsList-end}
-use Rattle.heavy_cli.specs.Words.{spelled_bytes}
-use Rattle.heavy_cli.proofs.words.bytes_of.Goals as goal
+use Rattle.heavy_host.specs.Words.{spelled_bytes}
+use Rattle.heavy_host.proofs.words.bytes_of.Goals as goal
 
 pub returns : goal.returns
 returns c =

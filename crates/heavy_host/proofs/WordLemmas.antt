@@ -6,7 +6,7 @@ use Rattle.std.specs.Str.{chars, IsUtf8, encode_utf8_all}
 use Rattle.std.proofs.lemmas.Grind.{flat_map-append}
 use Rattle.std.proofs.lemmas.Str.{chars-append, chars_past_char, chars-nil, encodes-chars, IsUtf8-encode}
 use Rattle.std.specs.Option.{option_map_or}
-use Rattle.heavy_cli.specs.Words.{byte_of, spelled_bytes, word_of}
+use Rattle.heavy_host.specs.Words.{byte_of, spelled_bytes, word_of}
 
 -- a character more stands for a byte more
 pub word_of-push : (text word : List ℕ) (c b : ℕ) → IsUtf8 text → IsScalar c → spelled_bytes c ≡ b ∷ []

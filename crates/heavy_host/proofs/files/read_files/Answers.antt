@@ -1,8 +1,8 @@
 use Rattle.std.proofs.Common.{◌≡◌, ◌∙◌, ◌+◌, ◌∷◌, ◌++◌, [], map, take, slice_index_or, sym, ap, subst}
 use Rattle.std.proofs.lemmas.List.{map-append}
-use Rattle.heavy_cli.specs.Files.{AreRead}
-use Rattle.heavy_cli.proofs.FileLemmas.{AreRead-next, TellsFile-next}
-use Rattle.heavy_cli.proofs.files.read_files.Goals as goal
+use Rattle.heavy_host.specs.Files.{AreRead}
+use Rattle.heavy_host.proofs.FileLemmas.{AreRead-next, TellsFile-next}
+use Rattle.heavy_host.proofs.files.read_files.Goals as goal
 
 pub returns-in-Err-clause-fault : goal.returns-in-Err-clause-fault
 returns-in-Err-clause-fault g c =

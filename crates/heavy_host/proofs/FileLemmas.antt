@@ -3,7 +3,7 @@ use Rattle.std.proofs.Common.{◌≡◌, ◌∙◌, ℕ, suc, ◌+◌, ◌<◌, 
 use Rattle.std.proofs.lemmas.List.{take_more, map-append, length-map, get_or-map}
 use Rattle.heavy.specs.declared.error.ToolError.{ToolError}
 use Rattle.heavy.specs.declared.error.ToolError.TheVariants.{FileFault, Memory}
-use Rattle.heavy_cli.specs.Files.{AreRead, TellsFile}
+use Rattle.heavy_host.specs.Files.{AreRead, TellsFile}
 
 -- a file more behind those that are read
 AreRead-push : (gives : List ℕ → Option (List ℕ) → Type 0) (names files : List (List ℕ)) (name file : List ℕ)

@@ -1,0 +1,11 @@
+//! The command line of the program, as `clap` reads it: its commands, their arguments, and what help
+//! says of them.
+#![tactic(auto)]
+
+mod arguments;
+mod help;
+
+pub use arguments::{
+    ALLOW_ZERO, DECIMALS, DELIMITER, DEPTH, EXPLAIN, HEADER, K, KEY, Number, PIECES, PROGRESS,
+    RECORDS, SEED, SHARE, TOP, WEIGHT, WIDTH, WORKERS, command_line,
+};
