@@ -3,6 +3,7 @@
 ghost use Rattle.std.specs.Prelude.{◌≡◌, false, true, IfOk};
 ghost use Rattle.clap.specs.declared.builder.command.Command.TheViews.{out-Command as fields_of};
 ghost use Rattle.clap.specs.Words.{found_of};
+ghost use Rattle.heavy_arguments.specs.Commands.{HasNoGlobals};
 ghost use Rattle.heavy_arguments.specs.Numbers.{IsNumberOf};
 
 use crate::help::{
@@ -100,6 +101,9 @@ pub const SEED: Number = Number {
     default: 0,
 };
 
+/// A command, unless there was no memory for it. What adds to one hands that on.
+type Built<'a> = Result<Command<'a>, AllocError>;
+
 /// The option with this name and help.
 fn option<'a>(alloc: Global, name: &'a str, help: &'a str) -> Arg<'a>
     ensures { result.global ≡ false }
@@ -155,35 +159,36 @@ fn explain<'a>(alloc: Global) -> Arg<'a>
 }
 
 /// The same command, with an argument more.
-fn with<'a>(command: Command<'a>, argument: Arg<'a>) -> Result<Command<'a>, AllocError>
-    requires command { (fields_of command).has_globals ≡ false }
+fn with<'a>(command: Built<'a>, argument: Arg<'a>) -> Built<'a>
+    requires command { HasNoGlobals command }
     requires argument { argument.global ≡ false }
-    ensures { IfOk result (λ c. (fields_of c).has_globals ≡ false) }
+    ensures { HasNoGlobals result }
 {
-    command.arg(argument)
+    command?.arg(argument)
 }
 
 /// The same command, with a command of its own more.
-fn with_command<'a>(all: Command<'a>, command: Command<'a>) -> Result<Command<'a>, AllocError>
-    requires all { (fields_of all).has_globals ≡ false }
-    requires command { (fields_of command).has_globals ≡ false }
-    ensures { IfOk result (λ c. (fields_of c).has_globals ≡ false) }
+fn with_command<'a>(all: Built<'a>, command: Built<'a>) -> Built<'a>
+    requires all { HasNoGlobals all }
+    requires command { HasNoGlobals command }
+    ensures { HasNoGlobals result }
 {
-    all.subcommand(command)
+    all?.subcommand(command?)
 }
 
 /// The command with this name and help, which can say more about a fault.
-fn explained<'a>(alloc: Global, name: &'a str, help: Help) -> Result<Command<'a>, AllocError>
-    ensures { IfOk result (λ c. (fields_of c).has_globals ≡ false) }
+fn explained<'a>(alloc: Global, name: &'a str, help: Help) -> Built<'a>
+    ensures { HasNoGlobals result }
 {
-    with(described(alloc, name, help), explain(alloc))
+    let command = described(alloc, name, help).after_help(DASHES);
+    with(Ok(command), explain(alloc))
 }
 
 /// The same of a command that reads records and can tell how far it is.
-fn reader<'a>(alloc: Global, name: &'a str, help: Help) -> Result<Command<'a>, AllocError>
-    ensures { IfOk result (λ c. (fields_of c).has_globals ≡ false) }
+fn reader<'a>(alloc: Global, name: &'a str, help: Help) -> Built<'a>
+    ensures { HasNoGlobals result }
 {
-    with(explained(alloc, name, help)?, progress(alloc))
+    with(explained(alloc, name, help), progress(alloc))
 }
 
 /// The words that name files of records.
@@ -286,9 +291,9 @@ fn read_decimals<'a>(alloc: Global) -> Arg<'a>
 }
 
 /// The same command, which prints so many digits behind a point.
-fn with_decimals<'a>(alloc: Global, command: Command<'a>) -> Result<Command<'a>, AllocError>
-    requires { (fields_of command).has_globals ≡ false }
-    ensures { IfOk result (λ c. (fields_of c).has_globals ≡ false) }
+fn with_decimals<'a>(alloc: Global, command: Built<'a>) -> Built<'a>
+    requires { HasNoGlobals command }
+    ensures { HasNoGlobals result }
 {
     let told =
         "Print numbers with D digits behind the point, as the records had, 0 to 9 [default: 0]";
@@ -296,13 +301,13 @@ fn with_decimals<'a>(alloc: Global, command: Command<'a>) -> Result<Command<'a>,
 }
 
 /// The same command, with the options that say how records are read, and the files of these.
-fn with_records<'a>(alloc: Global, command: Command<'a>) -> Result<Command<'a>, AllocError>
-    requires { (fields_of command).has_globals ≡ false }
-    ensures { IfOk result (λ c. (fields_of c).has_globals ≡ false) }
+fn with_records<'a>(alloc: Global, command: Built<'a>) -> Built<'a>
+    requires { HasNoGlobals command }
+    ensures { HasNoGlobals result }
 {
-    let command = with(with(command, delimiter(alloc))?, header(alloc))?;
-    let command = with(with(command, key(alloc))?, weight(alloc))?;
-    let command = with(with(command, allow_zero(alloc))?, read_decimals(alloc))?;
+    let command = with(with(command, delimiter(alloc)), header(alloc));
+    let command = with(with(command, key(alloc)), weight(alloc));
+    let command = with(with(command, allow_zero(alloc)), read_decimals(alloc));
     with(command, records(alloc))
 }
 
@@ -317,12 +322,12 @@ fn word<'a>(alloc: Global, name: &'a str, help: &'a str) -> Arg<'a>
 }
 
 /// The same command, with the options of a table.
-fn with_table<'a>(alloc: Global, command: Command<'a>) -> Result<Command<'a>, AllocError>
-    requires { (fields_of command).has_globals ≡ false }
-    ensures { IfOk result (λ c. (fields_of c).has_globals ≡ false) }
+fn with_table<'a>(alloc: Global, command: Built<'a>) -> Built<'a>
+    requires { HasNoGlobals command }
+    ensures { HasNoGlobals result }
 {
-    let command = with(command, WIDTH.argument(alloc))?;
-    let command = with(command, DEPTH.argument(alloc))?;
+    let command = with(command, WIDTH.argument(alloc));
+    let command = with(command, DEPTH.argument(alloc));
     with(command, SEED.argument(alloc))
 }
 
@@ -335,12 +340,12 @@ fn tree<'a>(alloc: Global) -> Arg<'a>
 }
 
 /// The same command, with the options of workers.
-fn with_workers<'a>(alloc: Global, command: Command<'a>) -> Result<Command<'a>, AllocError>
-    requires { (fields_of command).has_globals ≡ false }
-    ensures { IfOk result (λ c. (fields_of c).has_globals ≡ false) }
+fn with_workers<'a>(alloc: Global, command: Built<'a>) -> Built<'a>
+    requires { HasNoGlobals command }
+    ensures { HasNoGlobals result }
 {
-    let command = with(command, WORKERS.argument(alloc))?;
-    let command = with(command, PIECES.argument(alloc))?;
+    let command = with(command, WORKERS.argument(alloc));
+    let command = with(command, PIECES.argument(alloc));
     with(command, tree(alloc))
 }
 
@@ -358,11 +363,11 @@ with P and Q up to 4294967296; k is the number of counters [default: 1/(k+1)]",
 }
 
 /// The same command, with the options that say which keys are heavy.
-fn with_share<'a>(alloc: Global, command: Command<'a>) -> Result<Command<'a>, AllocError>
-    requires { (fields_of command).has_globals ≡ false }
-    ensures { IfOk result (λ c. (fields_of c).has_globals ≡ false) }
+fn with_share<'a>(alloc: Global, command: Built<'a>) -> Built<'a>
+    requires { HasNoGlobals command }
+    ensures { HasNoGlobals result }
 {
-    with(with(command, K.argument(alloc))?, threshold(alloc))
+    with(with(command, K.argument(alloc)), threshold(alloc))
 }
 
 /// The option that says how many rows are printed.
@@ -383,20 +388,28 @@ fn share<'a>(alloc: Global) -> Arg<'a>
 }
 
 /// The same command, with the options that say how rows are printed.
-fn with_rows<'a>(alloc: Global, command: Command<'a>) -> Result<Command<'a>, AllocError>
-    requires { (fields_of command).has_globals ≡ false }
-    ensures { IfOk result (λ c. (fields_of c).has_globals ≡ false) }
+fn with_rows<'a>(alloc: Global, command: Built<'a>) -> Built<'a>
+    requires { HasNoGlobals command }
+    ensures { HasNoGlobals result }
 {
-    with(with(command, top(alloc))?, share(alloc))
+    with(with(command, top(alloc)), share(alloc))
+}
+
+/// The same command, whose further options stand in help under a heading.
+fn under<'a>(command: Built<'a>, heading: &'a str) -> Built<'a>
+    requires { HasNoGlobals command }
+    ensures { HasNoGlobals result }
+{
+    Ok(command?.next_help_heading(heading))
 }
 
 /// The command that prints a report.
-fn report_command<'a>(alloc: Global) -> Result<Command<'a>, AllocError>
-    ensures { IfOk result (λ c. (fields_of c).has_globals ≡ false) }
+fn report_command<'a>(alloc: Global) -> Built<'a>
+    ensures { HasNoGlobals result }
 {
-    let command = with_share(alloc, reader(alloc, "report", REPORT)?.after_help(DASHES))?;
-    let command = with_records(alloc, with_rows(alloc, command)?)?.next_help_heading(MEANS);
-    with_table(alloc, with_workers(alloc, command)?)
+    let command = with_share(alloc, reader(alloc, "report", REPORT));
+    let command = with_records(alloc, with_rows(alloc, command));
+    with_table(alloc, with_workers(alloc, under(command, MEANS)))
 }
 
 /// The option with the name of an algorithm.
@@ -408,126 +421,112 @@ fn method<'a>(alloc: Global) -> Arg<'a>
 }
 
 /// The commands that make saved files of records.
-fn summarise_command<'a>(alloc: Global) -> Result<Command<'a>, AllocError>
-    ensures { IfOk result (λ c. (fields_of c).has_globals ≡ false) }
+fn summarise_command<'a>(alloc: Global) -> Built<'a>
+    ensures { HasNoGlobals result }
 {
-    let command = reader(alloc, "summarise", SUMMARISE)?.after_help(DASHES);
-    let command = with(with(command, K.argument(alloc))?, method(alloc))?;
+    let command = reader(alloc, "summarise", SUMMARISE);
+    let command = with(with(command, K.argument(alloc)), method(alloc));
     with_records(alloc, command)
 }
 
-fn table_command<'a>(alloc: Global) -> Result<Command<'a>, AllocError>
-    ensures { IfOk result (λ c. (fields_of c).has_globals ≡ false) }
+fn table_command<'a>(alloc: Global) -> Built<'a>
+    ensures { HasNoGlobals result }
 {
-    let command = reader(alloc, "table", TABLE)?.after_help(DASHES);
-    let command = with(with_table(alloc, command)?, WORKERS.argument(alloc))?;
-    with_records(alloc, command)
+    let command = with_table(alloc, reader(alloc, "table", TABLE));
+    with_records(alloc, with(command, WORKERS.argument(alloc)))
 }
 
 /// The commands on saved files.
-fn merge_command<'a>(alloc: Global) -> Result<Command<'a>, AllocError>
-    ensures { IfOk result (λ c. (fields_of c).has_globals ≡ false) }
+fn merge_command<'a>(alloc: Global) -> Built<'a>
+    ensures { HasNoGlobals result }
 {
     let files = word(alloc, "FILE", "A saved file").action(ArgAction::Append);
-    explained(alloc, "merge", MERGE)?
-        .after_help(DASHES)
-        .arg(files.num_args(1..))
+    with(explained(alloc, "merge", MERGE), files.num_args(1..))
 }
 
-fn ask_command<'a>(alloc: Global) -> Result<Command<'a>, AllocError>
-    ensures { IfOk result (λ c. (fields_of c).has_globals ≡ false) }
+fn ask_command<'a>(alloc: Global) -> Built<'a>
+    ensures { HasNoGlobals result }
 {
+    let command = with_decimals(alloc, explained(alloc, "ask", ASK));
+    let command = with(command, word(alloc, "FILE", "A saved file"));
     let keys = word(alloc, "KEY", "A key").action(ArgAction::Append);
-    with_decimals(alloc, explained(alloc, "ask", ASK)?)?
-        .after_help(DASHES)
-        .arg(word(alloc, "FILE", "A saved file"))?
-        .arg(keys.num_args(1..))
+    with(command, keys.num_args(1..))
 }
 
-fn list_command<'a>(alloc: Global) -> Result<Command<'a>, AllocError>
-    ensures { IfOk result (λ c. (fields_of c).has_globals ≡ false) }
+fn list_command<'a>(alloc: Global) -> Built<'a>
+    ensures { HasNoGlobals result }
 {
-    with_decimals(alloc, explained(alloc, "list", LIST)?)?
-        .after_help(DASHES)
-        .arg(word(alloc, "FILE", "A saved summary"))
+    let command = with_decimals(alloc, explained(alloc, "list", LIST));
+    with(command, word(alloc, "FILE", "A saved summary"))
 }
 
-fn describe_command<'a>(alloc: Global) -> Result<Command<'a>, AllocError>
-    ensures { IfOk result (λ c. (fields_of c).has_globals ≡ false) }
+fn describe_command<'a>(alloc: Global) -> Built<'a>
+    ensures { HasNoGlobals result }
 {
-    explained(alloc, "describe", DESCRIBE)?
-        .after_help(DASHES)
-        .arg(word(alloc, "FILE", "A saved file"))
+    let command = explained(alloc, "describe", DESCRIBE);
+    with(command, word(alloc, "FILE", "A saved file"))
 }
 
-fn condense_command<'a>(alloc: Global) -> Result<Command<'a>, AllocError>
-    ensures { IfOk result (λ c. (fields_of c).has_globals ≡ false) }
+fn condense_command<'a>(alloc: Global) -> Built<'a>
+    ensures { HasNoGlobals result }
 {
-    let command = reader(alloc, "condense", CONDENSE)?.after_help(DASHES);
-    let command = with(command, WORKERS.argument(alloc))?;
-    with_records(
-        alloc,
-        with(command, word(alloc, "FILE", "A saved summary"))?,
-    )
+    let command = with(reader(alloc, "condense", CONDENSE), WORKERS.argument(alloc));
+    with_records(alloc, with(command, word(alloc, "FILE", "A saved summary")))
 }
 
-fn confirm_command<'a>(alloc: Global) -> Result<Command<'a>, AllocError>
-    ensures { IfOk result (λ c. (fields_of c).has_globals ≡ false) }
+fn confirm_command<'a>(alloc: Global) -> Built<'a>
+    ensures { HasNoGlobals result }
 {
-    let command = reader(alloc, "confirm", CONFIRM)?.after_help(DASHES);
-    let command = with_rows(alloc, with(command, threshold(alloc))?)?;
-    let command = with(command, WORKERS.argument(alloc))?;
-    with_records(
-        alloc,
-        with(command, word(alloc, "FILE", "A saved summary"))?,
-    )
+    let command = with(reader(alloc, "confirm", CONFIRM), threshold(alloc));
+    let command = with(with_rows(alloc, command), WORKERS.argument(alloc));
+    with_records(alloc, with(command, word(alloc, "FILE", "A saved summary")))
 }
 
 /// The program, which has no command yet.
-fn program<'a>(alloc: Global) -> Result<Command<'a>, AllocError>
-    ensures { IfOk result (λ c. (fields_of c).has_globals ≡ false) }
+fn program<'a>(alloc: Global) -> Built<'a>
+    ensures { HasNoGlobals result }
 {
     let program = described(alloc, "heavy", PROGRAM).bin_name("heavy")?;
     Ok(program.version(VERSION))
 }
 
 /// The same command, with those that read records alone.
-fn with_record_commands<'a>(alloc: Global, all: Command<'a>) -> Result<Command<'a>, AllocError>
-    requires { (fields_of all).has_globals ≡ false }
-    ensures { IfOk result (λ c. (fields_of c).has_globals ≡ false) }
+fn with_record_commands<'a>(alloc: Global, all: Built<'a>) -> Built<'a>
+    requires { HasNoGlobals all }
+    ensures { HasNoGlobals result }
 {
-    let all = with_command(all, report_command(alloc)?)?;
-    let all = with_command(all, summarise_command(alloc)?)?;
-    with_command(all, table_command(alloc)?)
+    let all = with_command(all, report_command(alloc));
+    let all = with_command(all, summarise_command(alloc));
+    with_command(all, table_command(alloc))
 }
 
 /// The same command, with those that read a saved summary and records.
-fn with_pass_commands<'a>(alloc: Global, all: Command<'a>) -> Result<Command<'a>, AllocError>
-    requires { (fields_of all).has_globals ≡ false }
-    ensures { IfOk result (λ c. (fields_of c).has_globals ≡ false) }
+fn with_pass_commands<'a>(alloc: Global, all: Built<'a>) -> Built<'a>
+    requires { HasNoGlobals all }
+    ensures { HasNoGlobals result }
 {
-    let all = with_command(all, condense_command(alloc)?)?;
-    with_command(all, confirm_command(alloc)?)
+    let all = with_command(all, condense_command(alloc));
+    with_command(all, confirm_command(alloc))
 }
 
 /// The same command, with those that read saved files alone.
-fn with_file_commands<'a>(alloc: Global, all: Command<'a>) -> Result<Command<'a>, AllocError>
-    requires { (fields_of all).has_globals ≡ false }
-    ensures { IfOk result (λ c. (fields_of c).has_globals ≡ false) }
+fn with_file_commands<'a>(alloc: Global, all: Built<'a>) -> Built<'a>
+    requires { HasNoGlobals all }
+    ensures { HasNoGlobals result }
 {
-    let all = with_command(all, merge_command(alloc)?)?;
-    let all = with_command(all, ask_command(alloc)?)?;
-    let all = with_command(all, list_command(alloc)?)?;
-    with_command(all, describe_command(alloc)?)
+    let all = with_command(all, merge_command(alloc));
+    let all = with_command(all, ask_command(alloc));
+    let all = with_command(all, list_command(alloc));
+    with_command(all, describe_command(alloc))
 }
 
 /// The command line that the program reads.
 pub fn command_line<'a>(alloc: Global) -> Result<Command<'a>, AllocError>
-    ensures globals { IfOk result (λ c. (fields_of c).has_globals ≡ false) }
+    ensures globals { HasNoGlobals result }
     ensures required { IfOk result (λ c. (fields_of c).subcommand_required ≡ true) }
 {
-    let all = with_record_commands(alloc, program(alloc)?)?;
-    let all = with_file_commands(alloc, all)?;
-    let all = with_pass_commands(alloc, all)?;
-    Ok(all.subcommand_required(true))
+    let all = with_record_commands(alloc, program(alloc));
+    let all = with_file_commands(alloc, all);
+    let all = with_pass_commands(alloc, all);
+    Ok(all?.subcommand_required(true))
 }

@@ -1,0 +1,8 @@
+-- Commands as `clap` is told them.
+use Rattle.std.specs.Prelude.{◌≡◌, false, Result, IfOk}
+use Rattle.clap.specs.declared.builder.command.Command.{Command}
+use Rattle.clap.specs.declared.builder.command.Command.TheViews.{out-Command as fields_of}
+
+-- the command, if it was made, has no argument that its own commands take too
+abbrev pub HasNoGlobals : {E : Type 0} → Result Command E → Type 0
+HasNoGlobals made = IfOk made (λ c. (fields_of c).has_globals ≡ false)
