@@ -1,11 +1,12 @@
 #!/usr/bin/env python3
 """Times the calls that a report is made of, beside plain Rust, and prints medians of interleaved runs.
 
-usage: bench/calls.py [RUNS]
+usage: bench/calls.py [RUNS] [--write]
 
 Prints for each call, file and k the nanoseconds an item (for `merge`: microseconds a merge; for `save` and
 `load`, which write and read a saved summary: nanoseconds a counter), those of bench/plain where it has the
-call, and the ratio. Needs rustc for the plain program; without it that column is empty.
+call, and the ratio. Needs rustc for the plain program; without it that column is empty. --write runs `bucket_saving`
+alone, and also writes bench/results/adds.csv.
 """
 import statistics
 import subprocess
@@ -13,6 +14,7 @@ import sys
 import tempfile
 from pathlib import Path
 
+import measured
 import programs
 
 FEW = 100_000
@@ -35,6 +37,8 @@ ROWS = [
     ("space_saving", ("uniform", FEW, 200_000, 0), [10, 100, 1_000, 10_000]),
     *[(call, shape, [10_000]) for call in ("read", "bucket_saving", "table", "save", "load") for shape in LENGTHS],
 ]
+# what bench/results/adds.csv calls the files of `bucket_saving`
+ADDS = {"zipf": "Zipf", "uniform": "uniform"}
 # what the plain program calls it
 IN_PLAIN = {"read": ["time", "read"], "table": ["time", "table"], "bucket_saving": ["time", "ss"]}
 
@@ -46,12 +50,15 @@ def once(command: list[str], path: Path) -> int:
 
 
 def main() -> None:
-    runs = int(sys.argv[1]) if len(sys.argv) > 1 else 5
+    words = [word for word in sys.argv[1:] if word != "--write"]
+    runs, writes, ratios = int(words[0]) if words else 5, "--write" in sys.argv, []
     with tempfile.TemporaryDirectory() as folder:
         room = Path(folder)
         heavy, plain = programs.heavy_bench(), programs.plain(room)
         print(f"{'call':15} {'records':28} {'k':>6} {'heavy':>9} {'plain':>9} {'ratio':>6}")
         for call, shape, sizes in ROWS:
+            if writes and (call, sizes) != ("bucket_saving", SIZES):
+                continue
             path = programs.records(room, *shape)
             for k in sizes:
                 commands = {"heavy": [heavy, call, str(k)]}
@@ -66,7 +73,11 @@ def main() -> None:
                 cells = f"{medians['heavy'] / unit:9.0f}"
                 if "plain" in medians:
                     cells += f" {medians['plain']:9.0f} {medians['heavy'] / medians['plain']:6.2f}"
+                    each = [ours / theirs for ours, theirs in zip(times["heavy"], times["plain"])]
+                    ratios.append((ADDS.get(shape[0], shape[0]), f"k = {k:,}", "map with a heap", each))
                 print(f"{call:15} {path.name:28} {k:6} {cells}", flush=True)
+    if writes:
+        measured.write("adds", ratios)
 
 
 main()

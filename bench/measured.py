@@ -3,7 +3,7 @@
 
 bench/results/NAME.csv has a row for each program, its records and what it was set beside: the commit and the machine, how many
 runs there were, and of the ratios of interleaved runs the median and both quartiles. Quartiles are empty where they were not
-kept. bench/report.py and bench/passes.py write these files where their last word is --write.
+kept. bench/report.py, bench/passes.py and bench/calls.py write these files where their last word is --write.
 
 usage: bench/measured.py [--write]
 

@@ -302,17 +302,15 @@ impl<'a> Inputs<'a> {
         }
     }
 
-    /// The records of the files that a command line names, which are all opened here. Standard
-    /// input is read where it is named first.
-    pub fn file_records(
+    /// What reads the files with these names, which may be read twice. All are opened here.
+    /// Standard input is read where it is named first.
+    fn open_twice(
         self,
-        words: &RecordWords,
-    ) -> Result<FileRecords<OpenFile<'a>, Reader<'a>>, ToolError> {
-        let alloc = self.rt.alloc();
-        let layout = layout_of(alloc, &words.layout)?;
-        let mut inputs = Vec::new(alloc);
+        names: &[Vec<u8>],
+    ) -> Result<Vec<FileOrPipe<OpenFile<'a>, Reader<'a>>>, ToolError> {
+        let mut inputs = Vec::new(self.rt.alloc());
         let mut is_taken = false;
-        for (place, name) in words.files.iter().enumerate() {
+        for (place, name) in names.iter().enumerate() {
             let number = (place as u64).saturating_add(1);
             let input = if is_taken && is_standard(name) {
                 FileOrPipe::Pipe(self.reader(Source::Nothing, number, "/dev/null"))
@@ -322,39 +320,52 @@ impl<'a> Inputs<'a> {
             is_taken = is_taken || is_standard(name);
             push_behind(&mut inputs, input)?;
         }
-        Ok(FileRecords { layout, inputs })
+        Ok(inputs)
     }
 
-    /// The records that a command line names behind so many saved files: those of its files, which
-    /// are all opened here, or else those of standard input. That is read where it is named first.
-    pub fn records(
+    /// The records of the files that a command line names.
+    pub fn file_records(
         self,
         words: &RecordWords,
-        saved: u64,
-    ) -> Result<Records<Reader<'a>>, ToolError> {
-        let alloc = self.rt.alloc();
-        let layout = layout_of(alloc, &words.layout)?;
-        let mut others = Vec::new(alloc);
-        let Some((name, names)) = words.files.split_first() else {
-            let first = self.standard(0);
-            return Ok(Records {
-                layout,
-                first,
-                others,
-            });
-        };
-        let first = self.open(name, saved.saturating_add(1))?;
-        let mut is_taken = is_standard(name);
+    ) -> Result<FileRecords<OpenFile<'a>, Reader<'a>>, ToolError> {
+        Ok(FileRecords {
+            layout: layout_of(self.rt.alloc(), &words.layout)?,
+            inputs: self.open_twice(&words.files)?,
+        })
+    }
+
+    /// What reads the files with these names behind so many saved files. All are opened here.
+    /// Standard input is read where it is named first.
+    fn open_once(self, names: &[Vec<u8>], saved: u64) -> Result<Vec<Reader<'a>>, ToolError> {
+        let mut readers = Vec::new(self.rt.alloc());
+        let mut is_taken = false;
         for (place, name) in names.iter().enumerate() {
-            let number = saved.saturating_add(place as u64).saturating_add(2);
+            let number = saved.saturating_add(place as u64).saturating_add(1);
             let reader = if is_taken && is_standard(name) {
                 self.reader(Source::Nothing, number, "/dev/null")
             } else {
                 self.open(name, number)?
             };
             is_taken = is_taken || is_standard(name);
-            push_behind(&mut others, reader)?;
+            push_behind(&mut readers, reader)?;
         }
+        Ok(readers)
+    }
+
+    /// The records that a command line names behind so many saved files: those of its files, or
+    /// else those of standard input.
+    pub fn records(
+        self,
+        words: &RecordWords,
+        saved: u64,
+    ) -> Result<Records<Reader<'a>>, ToolError> {
+        let layout = layout_of(self.rt.alloc(), &words.layout)?;
+        let mut others = self.open_once(&words.files, saved)?;
+        let first = if others.is_empty() {
+            self.standard(0)
+        } else {
+            others.remove(0)
+        };
         Ok(Records {
             layout,
             first,
@@ -362,22 +373,23 @@ impl<'a> Inputs<'a> {
         })
     }
 
-    /// The files that a command line names behind so many saved files, which are all opened here.
-    fn open_files(self, words: &RecordWords, saved: u64) -> Result<OpenFiles<'a>, ToolError> {
-        let alloc = self.rt.alloc();
-        let layout = layout_of(alloc, &words.layout)?;
-        let mut files = Vec::new(alloc);
-        for (place, name) in words.files.iter().enumerate() {
-            let number = saved.saturating_add(place as u64).saturating_add(1);
-            let file = self.file(name, number)?;
-            match file.metadata() {
-                Ok(metadata) => {
-                    push_behind(&mut files, self.open_file(file, metadata.len(), number))?
-                }
-                Err(_) => return Err(ToolError::FileFault { number }),
-            }
+    /// The file of the disk with this name and number.
+    fn disk_file(self, name: &[u8], number: u64) -> Result<OpenFile<'a>, ToolError> {
+        let file = self.file(name, number)?;
+        match file.metadata() {
+            Ok(metadata) => Ok(self.open_file(file, metadata.len(), number)),
+            Err(_) => Err(ToolError::FileFault { number }),
         }
-        Ok(OpenFiles { layout, files })
+    }
+
+    /// The files of the disk with these names behind so many saved files. All are opened here.
+    fn disk_files(self, names: &[Vec<u8>], saved: u64) -> Result<Vec<OpenFile<'a>>, ToolError> {
+        let mut files = Vec::new(self.rt.alloc());
+        for (place, name) in names.iter().enumerate() {
+            let number = saved.saturating_add(place as u64).saturating_add(1);
+            push_behind(&mut files, self.disk_file(name, number)?)?;
+        }
+        Ok(files)
     }
 
     /// The same records as [`Inputs::records`] has, for a command that reads them once and has so
@@ -390,15 +402,19 @@ impl<'a> Inputs<'a> {
         workers: u64,
     ) -> Result<Once<'a>, ToolError> {
         if self.have_size(words) {
-            return Ok(Once::Files(self.open_files(words, saved)?));
+            return Ok(Once::Files(OpenFiles {
+                layout: layout_of(self.rt.alloc(), &words.layout)?,
+                files: self.disk_files(&words.files, saved)?,
+            }));
         }
         let records = self.records(words, saved)?;
         if 1 <= workers && workers <= MAX_WORKERS {
             return Ok(Once::Stream(records));
         }
-        let alloc = self.rt.alloc();
-        let layout = layout_of(alloc, &words.layout)?;
-        let files = Vec::new(alloc);
-        Ok(Once::Files(OpenFiles { layout, files }))
+        let files = Vec::new(self.rt.alloc());
+        Ok(Once::Files(OpenFiles {
+            layout: records.layout,
+            files,
+        }))
     }
 }
