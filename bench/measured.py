@@ -2,8 +2,8 @@
 """Measurements as data, and the tables of bench/README.md that are made from it.
 
 bench/results/NAME.csv has a row for each program, its records and what it was set beside: the commit and the machine, how many
-runs there were, and of the ratios of interleaved runs the median and both quartiles. Quartiles are empty where they were not
-kept. bench/report.py, bench/passes.py and bench/calls.py write these files where their last word is --write.
+runs there were, and of the ratios of interleaved runs the median and both quartiles. bench/report.py, bench/passes.py and
+bench/calls.py write these files where their last word is --write.
 
 usage: bench/measured.py [--write]
 
@@ -60,8 +60,8 @@ def table_of(name: str) -> str:
     columns = list(dict.fromkeys(named(row, of_column) for row in rows))
     cells = {}
     for row in rows:
-        spread = f" ({row['lower']} to {row['upper']})" if row["lower"] else ""
-        cells[named(row, of_row), named(row, of_column)] = row["median"] + spread
+        spread = f"{row['median']} ({row['lower']} to {row['upper']})"
+        cells[named(row, of_row), named(row, of_column)] = spread
     head = "| " + " | ".join([*of_row, *map(": ".join, columns)]) + " |\n"
     rule = "|" + "---|" * (len(of_row) + len(columns)) + "\n"
     return head + rule + "".join(
