@@ -224,7 +224,7 @@ class Install(programs.Checks):
         status, out, err = copy.run(1)
         self.check("a first build runs the program", (status, out) == (0, b"built: report\n"), (status, out, err))
         self.check("it says at once what it does", err.startswith(BEGIN), err)
-        self.check("it tells the crate", b"heavy: proving hh_stream, crate 1 of 9, " in err, err)
+        self.check("it tells the crate", b"heavy: proving hh_stream, crate 1 of 11, " in err, err)
         self.check("it has a line for each crate", b"\r" not in err and err.count(b"hh_stream") == 1, err)
         begun = sorted(line.split()[1] for line in copy.proof_lines() if line.startswith("begin"))
         below = sorted(set(crates_below("heavy_cli")))
@@ -327,7 +327,7 @@ class Install(programs.Checks):
             pass  # the other side is closed
         os.close(terminal)
         said = said.replace(b"\r\n", b"\n")
-        line = rb"\r\x1b\[Kheavy: 0:0\d min, \d of 9 crates proved, hh_stream 3/37"
+        line = rb"\r\x1b\[Kheavy: 0:0\d min, \d+ of 11 crates proved, hh_stream 3/37"
         told = len(re.findall(line, said))
         self.check("a terminal's line is written over", out == b"built: report\n" and told > 1, said)
         self.check("nothing of it is left", said.count(b"\n") == 3 and b"\r\x1b[Kheavy: built in " in said, said)
