@@ -1,11 +1,12 @@
 //! Where records come from: standard input, or files that the command line names.
 
-ghost use Rattle.std.specs.Prelude.{None};
+ghost use Rattle.std.specs.Prelude.{◌≡◌, ◌<◌, ℕ, None, IfOk, length};
 
 use crate::other_format::{Seen, Watch};
 use crate::progress::{Metered, SharedProgress};
 use crate::request::{Invocation, RecordWords};
 use heavy::{FileOrPipe, FileRecords, Layout, MAX_WORKERS, ReadAt, Records, ToolError, layout_of};
+use heavy_host::{FileFault, read_file, read_files};
 use hh_records::SourceRecords;
 use std::cell::Cell;
 use std::fs::{self, File};
@@ -37,6 +38,18 @@ fn push_behind<T: Drop>(others: &mut Vec<T>, one: T) -> Result<(), ToolError> {
     match others.push(one) {
         Ok(()) => Ok(()),
         Err(_) => Err(ToolError::Memory),
+    }
+}
+
+/// The fault of a saved file, as the library has it.
+fn fault_of(fault: FileFault) -> ToolError
+    ensures unread { (number : ℕ) → fault ≡ FileFault.Unreadable number
+        → result ≡ ToolError.FileFault number }
+    ensures memory { fault ≡ FileFault.Memory → result ≡ ToolError.Memory }
+{
+    match fault {
+        FileFault::Unreadable { number } => ToolError::FileFault { number },
+        FileFault::Memory => ToolError::Memory,
     }
 }
 
@@ -186,6 +199,18 @@ impl<'a> Inputs<'a> {
     /// Standard input.
     fn standard(self, number: u64) -> Reader<'a> {
         self.reader(Source::Standard(self.rt.stdin()), number, "/dev/stdin")
+    }
+
+    /// The bytes of the saved file with this name.
+    pub fn saved_file(self, name: &[u8]) -> Result<Vec<u8>, ToolError> {
+        read_file(self.rt, 1, name).map_err(fault_of)
+    }
+
+    /// The bytes of the saved files with these names, in their order.
+    pub fn saved_files(self, first: &[u8], others: &[Vec<u8>]) -> Result<Vec<Vec<u8>>, ToolError>
+        ensures some { IfOk result (λ files. 0 < length files.items) }
+    {
+        read_files(self.rt, first, others).map_err(fault_of)
     }
 
     /// The open file with this name and number.

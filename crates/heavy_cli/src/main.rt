@@ -16,7 +16,6 @@ use heavy::{
     condense_files, confirm_files, confirm_rows, describe_file, list_rows, merge_bytes, put,
     report_files, report_rows, summary_bytes_from, table_bytes_from, table_files,
 };
-use heavy_host::{read_file, read_files};
 use inputs::{Inputs, Once};
 use other_format::NOTHING;
 use progress::SharedProgress;
@@ -59,7 +58,7 @@ fn condense_answer<T: Threads + Wait + Sync>(
     workers: u64,
 ) -> Result<Vec<u8>, ToolError> {
     let alloc = inputs.rt.alloc();
-    let file = read_file(inputs.rt, 1, file)?;
+    let file = inputs.saved_file(file)?;
     match inputs.once(records, 1, workers)? {
         Once::Files(files) => condense_files(threads, alloc, &file, workers, files.records()),
         Once::Stream(records) => condense_bytes_from(alloc, &file, records),
@@ -78,7 +77,7 @@ fn confirm_answer<T: Threads + Wait + Sync>(
     totals: &mut Option<Totals>,
 ) -> Result<Vec<u8>, ToolError> {
     let alloc = inputs.rt.alloc();
-    let file = read_file(inputs.rt, 1, file)?;
+    let file = inputs.saved_file(file)?;
     match inputs.once(records, 1, workers)? {
         Once::Files(files) => {
             let records = files.records();
@@ -96,8 +95,7 @@ fn answer<T: Threads + Wait + Sync>(
     records: &RecordWords,
     totals: &mut Option<Totals>,
 ) -> Result<Vec<u8>, ToolError> {
-    let rt = inputs.rt;
-    let alloc = rt.alloc();
+    let alloc = inputs.rt.alloc();
     match command {
         Command::Summarise { k, method } => {
             let method = Method::of(method)?;
@@ -109,16 +107,16 @@ fn answer<T: Threads + Wait + Sync>(
             seed,
             workers,
         } => table_answer(threads, inputs, records, *width, *depth, *seed, *workers),
-        Command::Merge { first, others } => merge_bytes(alloc, &read_files(rt, first, others)?),
+        Command::Merge { first, others } => merge_bytes(alloc, &inputs.saved_files(first, others)?),
         Command::Ask {
             file,
             keys,
             decimals,
-        } => ask_rows(alloc, &read_file(rt, 1, file)?, keys, *decimals),
+        } => ask_rows(alloc, &inputs.saved_file(file)?, keys, *decimals),
         Command::List { file, decimals } => {
-            list_rows(alloc, &read_file(rt, 1, file)?, *decimals)
+            list_rows(alloc, &inputs.saved_file(file)?, *decimals)
         }
-        Command::Describe { file } => describe_file(alloc, &read_file(rt, 1, file)?),
+        Command::Describe { file } => describe_file(alloc, &inputs.saved_file(file)?),
         Command::Condense { file, workers } => condense_answer(
             threads, inputs, records, file, *workers,
         ),

@@ -2,10 +2,8 @@
 
 ghost use Rattle.std.specs.Prelude.{◌≡◌, ◌⊎◌, ◌∷◌, ◌++◌, [], ⊤, List, ℕ, Option, Some, None, Err};
 ghost use Rattle.std.specs.Prelude.{IfOk, IfErr, OnOk, map};
-ghost use Rattle.heavy.specs.declared.error.ToolError.TheVariants.{FileFault, Memory as NoMemory};
 ghost use Rattle.heavy_host.specs.Files.{AreRead, TellsFile};
 
-use heavy::ToolError;
 use std::alloc::Global;
 use std::{fs, io};
 
@@ -14,6 +12,15 @@ use std::{fs, io};
 pub enum FileError {
     /// The file can't be read.
     Unreadable,
+    /// The allocator had no memory.
+    Memory,
+}
+
+/// Why there are no bytes of several files.
+#[derive(Clone, Copy)]
+pub enum FileFault {
+    /// The file in this place, from 1 on, can't be read.
+    Unreadable { number: u64 },
     /// The allocator had no memory.
     Memory,
 }
@@ -56,26 +63,26 @@ impl FileSource for HostRuntime {
 }
 
 /// The bytes of a file with its number, from 1 on.
-pub fn read_file<F: FileSource>(source: &F, number: u64, name: &[u8]) -> Result<Vec<u8>, ToolError>
+pub fn read_file<F: FileSource>(source: &F, number: u64, name: &[u8]) -> Result<Vec<u8>, FileFault>
     ensures read { IfOk result (λ bytes. F.gives source.now name.now (Some bytes.items)) }
-    ensures fault { IfErr result (λ fault. (fault ≡ NoMemory)
-        ⊎ ((fault ≡ FileFault number) × F.gives source.now name.now None)) }
+    ensures fault { IfErr result (λ fault. (fault ≡ FileFault.Memory)
+        ⊎ ((fault ≡ FileFault.Unreadable number) × F.gives source.now name.now None)) }
 {
     match source.bytes(name) {
         Ok(bytes) => Ok(bytes),
-        Err(FileError::Unreadable) => Err(ToolError::FileFault { number }),
-        Err(FileError::Memory) => Err(ToolError::Memory),
+        Err(FileError::Unreadable) => Err(FileFault::Unreadable { number }),
+        Err(FileError::Memory) => Err(FileFault::Memory),
     }
 }
 
 /// Puts a file behind others.
-fn push_file(files: &mut Vec<Vec<u8>>, file: Vec<u8>) -> Result<(), ToolError>
+fn push_file(files: &mut Vec<Vec<u8>>, file: Vec<u8>) -> Result<(), FileFault>
     ensures pushed { OnOk result (files.new.items ≡ files.old.items ++ file ∷ []) }
-    ensures memory { IfErr result (λ fault. fault ≡ NoMemory) }
+    ensures memory { IfErr result (λ fault. fault ≡ FileFault.Memory) }
 {
     match files.push(file) {
         Ok(()) => Ok(()),
-        Err(_) => Err(ToolError::Memory),
+        Err(_) => Err(FileFault::Memory),
     }
 }
 
@@ -84,7 +91,7 @@ pub fn read_files<F: FileSource>(
     source: &F,
     first: &[u8],
     others: &[Vec<u8>],
-) -> Result<Vec<Vec<u8>>, ToolError>
+) -> Result<Vec<Vec<u8>>, FileFault>
     ensures read { IfOk result (λ files. AreRead (F.gives source.now)
         (first.now ∷ map (λ w. w.items) others.now) (map (λ f. f.items) files.items)) }
     ensures fault { IfErr result
