@@ -109,15 +109,21 @@ impl<'a> Watch<'a> {
         }
     }
 
+    /// Takes the next byte into its line.
+    fn with_byte(&mut self, seen: Seen, byte: u8) -> Seen {
+        if !matches!(byte, b'\r' | b'\n') {
+            self.line = self.line.with(byte);
+            return seen;
+        }
+        let seen = seen.with_line(self.line);
+        self.line = EMPTY;
+        seen
+    }
+
     /// Takes the next bytes into the lines.
     fn with_lines(&mut self, mut seen: Seen, bytes: &[u8]) -> Seen {
         for byte in bytes {
-            if matches!(*byte, b'\r' | b'\n') {
-                seen = seen.with_line(self.line);
-                self.line = EMPTY;
-            } else {
-                self.line = self.line.with(*byte);
-            }
+            seen = self.with_byte(seen, *byte);
         }
         seen
     }
