@@ -209,6 +209,35 @@ fn check_totals(candidates: &Candidates, counted: u64, total: u64) -> Result<(),
     Ok(())
 }
 
+/// Those of the candidates that are above the options' threshold, by a second pass. The total is
+/// that of the first.
+fn heavy_among<R: Threads + Wait + Sync, P: Pieces + Sync, G: Gate + Sync>(
+    rt: &R,
+    work: &Work<P, G>,
+    candidates: &Candidates,
+    total: u64,
+    options: &Options,
+) -> Result<Vec<Heavy>, PieceFault>
+    requires some { 0 < length (P.pieces work.now.pieces.now) }
+    requires few { length (P.pieces work.now.pieces.now) ≤ max_pieces }
+    requires few_keys { length candidates.now ≤ max_k }
+    requires total { let pieces = work.now.pieces.now in
+        P.known pieces → total ≡ total_of (whole_of (P.pieces pieces)) }
+    requires enough { let pieces = work.now.pieces.now in P.known pieces
+        → AreEnough candidates.now (whole_of (P.pieces pieces)) options.now.p options.now.q }
+    ensures heavy { let pieces = work.now.pieces.now in let xs = whole_of (P.pieces pieces) in
+        IfOk result (λ rows. P.known pieces
+        → rows.items ≡ heavy xs options.now.p options.now.q) }
+    ensures refused { let pieces = work.now.pieces.now in
+        IsErrOf result PieceFault.Refused → P.known pieces
+        → MayRefuse (P.refuses pieces) (P.pieces pieces) }
+{
+    let (p, q) = options.threshold();
+    let (weights, counted) = weigh(rt, work, candidates, options.workers())?;
+    check_totals(candidates, counted, total)?;
+    Ok(candidates.select(&weights, total, p, q)?)
+}
+
 /// The keys above the options' threshold, by a second pass over those that can be.
 fn heavy_keys<R: Threads + Wait + Sync, P: Pieces + Sync, G: Gate + Sync>(
     rt: &R,
@@ -238,10 +267,7 @@ fn heavy_keys<R: Threads + Wait + Sync, P: Pieces + Sync, G: Gate + Sync>(
 {
     let (p, q) = options.threshold();
     let candidates = candidates(work.alloc, summary, table, p, q)?;
-    let total = summary.total();
-    let (weights, counted) = weigh(rt, work, &candidates, options.workers())?;
-    check_totals(&candidates, counted, total)?;
-    Ok(candidates.select(&weights, total, p, q)?)
+    heavy_among(rt, work, &candidates, summary.total(), options)
 }
 
 /// The outcome, where the plan has as many pieces as there are.

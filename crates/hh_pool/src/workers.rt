@@ -26,6 +26,26 @@ impl<P: Pass> Promise<Result<(SumSeat, P::Kept), PieceFault>> for Promised<P> {
         p.sums.value r };
 }
 
+/// What two halves of the workers bring back, as one: their joined seats, and what both kept.
+fn join_halves<P: Pass>(
+    sums: &SharedSums,
+    pass: &P,
+    one: (SumSeat, P::Kept),
+    other: (SumSeat, P::Kept),
+) -> Result<(SumSeat, P::Kept), PieceFault>
+    requires seats { (one.0.sums ≡ sums.now) × (other.0.sums ≡ sums.now) }
+    requires done { P.all_done pass.now one.0 one.1 × P.all_done pass.now other.0 other.1 }
+    ensures sums { IfOk result (λ r. r.0.sums ≡ sums.now) }
+    ensures all_done { IfOk result (λ r. P.all_done pass.now r.0 r.1) }
+    ensures refused { IsErrOf result PieceFault.Refused → P.may_refuse pass.now }
+{
+    let (mut seat, kept) = one;
+    let (half, rest) = other;
+    sums.join(&mut seat, half);
+    let both = pass.together(kept, rest)?;
+    Ok((seat, both))
+}
+
 /// Runs so many workers with one seat, numbered from `first` on: where they are more than one, half
 /// of them in a thread of their own. Memory also where the system refuses a thread; all threads are
 /// joined.
@@ -86,11 +106,7 @@ fn run_workers<R: Threads + Wait + Sync, P: Pass + Sync>(
             Ok((child.join(rt), other))
         },
     )?;
-    let (mut seat, kept) = one?;
-    let (half, rest) = other?;
-    sums.join(&mut seat, half);
-    let both = pass.together(kept, rest)?;
-    Ok((seat, both))
+    join_halves(sums, pass, one?, other?)
 }
 
 /// Runs so many workers in a thread of their own, numbered from 0. Memory also where the system
