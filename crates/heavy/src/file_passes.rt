@@ -97,7 +97,42 @@ fn counts_of_weights(
 }
 
 /// The counts of a summary's keys in files, by workers, where each piece of the files can be read
-/// by itself. Without keys there is no count, since then no piece is read.
+/// by itself.
+fn counts_in_pieces<T: Threads + Wait + Sync, S: ReadAt + Sync>(
+    rt: &T,
+    alloc: Global,
+    summary: &Summary,
+    candidates: &Candidates,
+    workers: u64,
+    records: SourceRecords<'_, S>,
+) -> Result<Option<Counts>, AllocError>
+    requires keys { candidates.now ≡ keys_of summary.now.counters }
+    requires some { 0 < length candidates.now }
+    requires workers { in_range workers max_workers ≡ true }
+    ensures counts { IfOk result (λ counts. IfSome counts (CountsRecords
+        (texts_known S.bytes records.entry.layout.now records.entry.sources.now)
+        (keys_of summary.now.counters))) }
+    ensures counters { IfOk result (λ counts. IfSome counts (λ _.
+        IsCounters summary.now.counters)) }
+{
+    condensed_is_counted();
+    condensed_keeps_weights();
+    // It bounds the number of keys.
+    let _k = summary.k();
+    let most = piece_count(workers, records.sources.len());
+    let Some(files) = CutFiles::new(alloc, records.layout, records.sources, most)? else {
+        return Ok(None);
+    };
+    let pieces = FilePieces::new(files);
+    let (weights, total) = match count_pieces(rt, alloc, &pieces, candidates, workers) {
+        Ok(numbers) => numbers,
+        Err(PieceFault::Refused) => return Ok(None),
+        Err(PieceFault::Memory) => return Err(AllocError),
+    };
+    counts_of_weights(alloc, summary, candidates, &weights, total)
+}
+
+/// The same of any summary. Without keys there is no count, since then no piece is read.
 fn counts_side_by_side<T: Threads + Wait + Sync, S: ReadAt + Sync>(
     rt: &T,
     alloc: Global,
@@ -112,25 +147,11 @@ fn counts_side_by_side<T: Threads + Wait + Sync, S: ReadAt + Sync>(
     ensures counters { IfOk result (λ counts. IfSome counts (λ _.
         IsCounters summary.now.counters)) }
 {
-    condensed_is_counted();
-    condensed_keeps_weights();
-    // It bounds the number of keys.
-    let _k = summary.k();
     let candidates = Candidates::of(alloc, summary)?;
     if candidates.is_empty() {
         return Ok(None);
     }
-    let most = piece_count(workers, records.sources.len());
-    let Some(files) = CutFiles::new(alloc, records.layout, records.sources, most)? else {
-        return Ok(None);
-    };
-    let pieces = FilePieces::new(files);
-    let (weights, total) = match count_pieces(rt, alloc, &pieces, &candidates, workers) {
-        Ok(numbers) => numbers,
-        Err(PieceFault::Refused) => return Ok(None),
-        Err(PieceFault::Memory) => return Err(AllocError),
-    };
-    counts_of_weights(alloc, summary, &candidates, &weights, total)
+    counts_in_pieces(rt, alloc, summary, &candidates, workers, records)
 }
 
 /// The counts of a summary's keys in files. Workers read the files in pieces, once; where a piece

@@ -1,15 +1,16 @@
 //! Fewer records that say of a summary's keys what many records say.
 
-ghost use Rattle.std.specs.Prelude.{◌≡◌, ◌<◌, ◌^◌, Ok, List, IfOk, IfErr};
+ghost use Rattle.std.specs.Prelude.{◌≡◌, ◌<◌, ◌^◌, List, IfOk, IfErr};
 ghost use Rattle.std.specs.Map.{keys_of};
 ghost use Rattle.hh_stream.specs.Weights.{Entry, total_of};
 ghost use Rattle.hh_counters.specs.Condensed.{condensed, free_name, other_name};
 ghost use Rattle.hh_counters.specs.Counters.{IsCounters};
 ghost use Rattle.hh_records.specs.Layouts.{records_known};
-ghost use Rattle.hh_records.specs.Streams.{ReadsAs, text_known};
+ghost use Rattle.hh_records.specs.Rows.{condensed_by};
+ghost use Rattle.hh_records.specs.Streams.{text_known};
 ghost use Rattle.heavy.specs.Condense.{CondenseRefused, CondensesRows};
 ghost use Rattle.heavy.specs.Files.{StopsAtHead};
-ghost use Rattle.heavy.specs.Records.{IsCountOf, RecordsRefused};
+ghost use Rattle.heavy.specs.Records.{IsCountOf};
 
 use crate::counting::count_records;
 use crate::error::ToolError;
@@ -85,20 +86,21 @@ pub(crate) fn condensed_rows(
     Ok(rows)
 }
 
-/// The condensed items of some records, in one pass that keeps no record.
-fn condense_records<R: Read + Drop>(
+/// The condensed rows of counted items as text, in units of 10^-decimals.
+pub(crate) fn condensed_counts(
     alloc: Global,
     summary: &Summary,
-    records: Records<R>,
-) -> Result<Vec<Heavy>, ToolError>
-    ensures rows { IfOk result (λ rows. (xs : List Entry)
-        × ReadsAs (records_known R.remaining records) (Ok xs)
-        × (rows.items ≡ condensed summary.now.counters xs)) }
-    ensures refused { IfErr result (λ fault.
-        RecordsRefused (records_known R.remaining records) fault) }
+    counts: &Counts,
+    decimals: u8,
+) -> Result<Vec<u8>, AllocError>
+    requires counters { IsCounters summary.now.counters }
+    requires counted { (xs : List Entry) × IsCountOf (keys_of summary.now.counters) xs counts.now }
+    ensures { IfOk result (λ text. (xs : List Entry)
+        → IsCountOf (keys_of summary.now.counters) xs counts.now
+        → text.items ≡ condensed_by decimals (condensed summary.now.counters xs)) }
 {
-    let counts = count_records(alloc, summary, records)?;
-    Ok(condensed_rows(alloc, summary, &counts)?)
+    let rows = condensed_rows(alloc, summary, counts)?;
+    condensed_rows_text(alloc, &rows, decimals)
 }
 
 /// Records that say the same to [`confirm_bytes`] with the same file as those of the reader, at
@@ -143,6 +145,6 @@ pub fn condense_bytes_from<R: Read + Drop>(
 {
     let summary = summary_in(alloc, file)?;
     let decimals = records.layout.decimals;
-    let rows = condense_records(alloc, &summary, records)?;
-    Ok(condensed_rows_text(alloc, &rows, decimals)?)
+    let counts = count_records(alloc, &summary, records)?;
+    Ok(condensed_counts(alloc, &summary, &counts, decimals)?)
 }

@@ -6,12 +6,12 @@ ghost use Rattle.heavy.specs.Condense.{CondensesRows};
 ghost use Rattle.heavy.specs.FilePasses.{CondenseFilesRefused};
 ghost use Rattle.heavy.specs.Files.{StopsAtHead};
 
-use crate::commands::condense::condensed_rows;
+use crate::commands::condense::condensed_counts;
 use crate::error::ToolError;
 use crate::file_passes::count_sources;
 use crate::files::summary_in;
 use hh_pool::MAX_WORKERS;
-use hh_records::{ReadAt, SourceRecords, condensed_rows_text};
+use hh_records::{ReadAt, SourceRecords};
 use hh_stream::in_range;
 use std::alloc::Global;
 use std::sync::Wait;
@@ -49,6 +49,5 @@ pub fn condense_files<T: Threads + Wait + Sync, S: ReadAt + Sync>(
         return Err(ToolError::BadWorkers);
     }
     let counts = count_sources(rt, alloc, &summary, workers, records)?;
-    let rows = condensed_rows(alloc, &summary, &counts)?;
-    Ok(condensed_rows_text(alloc, &rows, records.layout.decimals)?)
+    Ok(condensed_counts(alloc, &summary, &counts, records.layout.decimals)?)
 }

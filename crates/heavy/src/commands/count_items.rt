@@ -1,10 +1,10 @@
 //! Items in memory, condensed and confirmed by a saved summary.
 
-ghost use Rattle.std.specs.Prelude.{◌≡◌, Ok, true, IfOk, IfErr, IfSome, map};
+ghost use Rattle.std.specs.Prelude.{◌≡◌, Ok, Some, true, IfOk, IfErr, IfSome, map};
 ghost use Rattle.hh_counters.specs.Counters.{max_k};
 ghost use Rattle.hh_counters.specs.Report.{IsShare};
 ghost use Rattle.hh_stream.specs.Ranges.{in_range};
-ghost use Rattle.heavy.specs.CountItems.{condensed_items, confirmed_items, share_or_least};
+ghost use Rattle.heavy.specs.CountItems.{condensed_items, confirmed_in, confirmed_items, share_or_least};
 ghost use Rattle.heavy.specs.Files.{Refuses, StopsAtHead};
 
 use crate::commands::condense::condensed_rows;
@@ -12,7 +12,7 @@ use crate::commands::confirm::rows_above;
 use crate::error::ToolError;
 use crate::files::summary_in;
 use crate::items::count_items;
-use hh_counters::is_threshold;
+use hh_counters::{Summary, is_threshold};
 use hh_records::{condensed_text, report_text};
 use std::alloc::Global;
 
@@ -59,6 +59,27 @@ fn share_or_least(share: Option<(u64, u64)>, k: u64) -> Option<(u64, u64)>
     }
 }
 
+/// The rows of a summary's keys above a share of the total of items, where that is its own.
+fn confirmed_text(
+    alloc: Global,
+    summary: &Summary,
+    share: (u64, u64),
+    items: &[(&[u8], u64)],
+) -> Result<Vec<u8>, ToolError>
+    requires { IsShare share.0 share.1 }
+    ensures rows { IfOk result (λ rows. confirmed_in summary.now (Some share)
+        (map (λ item. (item.0.now, item.1)) items.now) ≡ Ok rows.items) }
+    ensures refused { IfErr result (Refuses (confirmed_in summary.now (Some share)
+        (map (λ item. (item.0.now, item.1)) items.now))) }
+{
+    let counts = count_items(alloc, summary, items)?;
+    if summary.total() != counts.total() {
+        return Err(ToolError::TotalDiffers);
+    }
+    let rows = rows_above(summary, &counts, share.0, share.1)?;
+    Ok(report_text(alloc, &rows)?)
+}
+
 /// [`confirm_share`](crate::confirm_share) over items in memory, each a key and its weight, which
 /// are those of the summary's stream, and of any stream that has its keys' weights and its total.
 /// Without a share it is 1/(k + 1), the least for the summary's k.
@@ -79,13 +100,8 @@ pub fn confirm_items(
     ensures early { StopsAtHead 1 file.now result }
 {
     let summary = summary_in(alloc, file)?;
-    let Some((p, q)) = share_or_least(share, summary.k()) else {
+    let Some(share) = share_or_least(share, summary.k()) else {
         return Err(ToolError::BadThreshold);
     };
-    let counts = count_items(alloc, &summary, items)?;
-    if summary.total() != counts.total() {
-        return Err(ToolError::TotalDiffers);
-    }
-    let rows = rows_above(&summary, &counts, p, q)?;
-    Ok(report_text(alloc, &rows)?)
+    confirmed_text(alloc, &summary, share, items)
 }

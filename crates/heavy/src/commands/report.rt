@@ -242,6 +242,26 @@ fn keys_of_stream<T: Threads + Wait + Sync, R: Read + Drop>(
     Ok((stream.total(), keys))
 }
 
+/// The same of records that were kept as text, from their start.
+fn keys_read_again<T: Threads + Wait + Sync, R: Read + Drop>(
+    rt: &T,
+    alloc: Global,
+    kept: Records<KeptText<R>>,
+    pieces: usize,
+    plan: &Plan,
+    settings: &Options,
+) -> Result<(u64, Vec<Heavy>), ToolError>
+    requires pieces { in_range pieces max_pieces ≡ true }
+    requires plan { length (leaves plan.now) ≡ pieces }
+    ensures keys { IfOk result (λ keys. AreKeysOf (records_known (kept_left R.remaining) kept)
+        settings.now.p settings.now.q keys.0 keys.1.items) }
+    ensures refused { IfErr result
+        (RecordsRefused (records_known (kept_left R.remaining) kept)) }
+{
+    let again = read_again(alloc, kept)?;
+    keys_of_stream(rt, alloc, again, pieces, plan, settings)
+}
+
 /// The total of records and their heavy keys. What is read is kept as text, which workers read in
 /// pieces. Where a piece can't be read by itself, one thread reads the text.
 fn keys_of_records<T: Threads + Wait + Sync, R: Read + Drop>(
@@ -259,10 +279,10 @@ fn keys_of_records<T: Threads + Wait + Sync, R: Read + Drop>(
     ensures refused { IfErr result (RecordsRefused (records_known R.remaining records)) }
 {
     let kept = keep_records(alloc, records)?;
-    if let Some(keys) = keys_of_kept(rt, alloc, &kept, pieces, plan, settings)? {
-        return Ok(keys);
+    match keys_of_kept(rt, alloc, &kept, pieces, plan, settings)? {
+        Some(keys) => Ok(keys),
+        None => keys_read_again(rt, alloc, kept, pieces, plan, settings),
     }
-    keys_of_stream(rt, alloc, read_again(alloc, kept)?, pieces, plan, settings)
 }
 
 /// How many pieces so many texts are read in: as many as the options say or, where that is more and

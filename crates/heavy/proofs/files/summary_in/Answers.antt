@@ -1,4 +1,4 @@
-use Rattle.std.proofs.Common.{◌≡◌, ◌∙◌, ap}
+use Rattle.std.proofs.Common.{◌≡◌, ◌∙◌, ap, rules}
 use Rattle.heavy.specs.Files.{file_fault}
 use Rattle.heavy.proofs.FileFacts.{summary_refused}
 use Rattle.heavy.proofs.files.summary_in.Goals as goal
@@ -11,3 +11,9 @@ pub returns-clause-early : goal.returns-clause-early
 returns-clause-early c = λ f fails.
     let same : c.in-Err.fault ≡ f = cc (c.in-Err.ensures.early f fails) in
     c.file_fault.ensures ∙ ap (file_fault 1) same
+
+pub returns-in-Ok-Cells-clause-summary : goal.returns-in-Ok-Cells-clause-summary
+returns-in-Ok-Cells-clause-summary c = search rules
+
+pub returns-in-Ok-Cells-clause-spelled : goal.returns-in-Ok-Cells-clause-spelled
+returns-in-Ok-Cells-clause-spelled c = search rules
