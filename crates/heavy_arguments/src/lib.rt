@@ -1,5 +1,5 @@
-//! The command line of the program, as `clap` reads it: its commands, their arguments, and what help
-//! says of them.
+//! The command line of the program, as `clap` reads it: its commands, their arguments, and what
+//! help says of them.
 #![tactic(auto)]
 
 mod arguments;
