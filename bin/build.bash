@@ -5,8 +5,9 @@
 top=$(cd "$(dirname "$(readlink -f "${BASH_SOURCE[0]}")")/.." && pwd)
 program="$top/crates/heavy_cli"
 built="$program/out/heavy_cli"
-# for each crate that is being proved, the process group that does it, and its jobs
-declare -A provers=() jobs=()
+# for each crate the lines of its longest chain of crates upwards; and for each that is being proved, the process group
+# that does it, and its jobs
+declare -A chain=() provers=() jobs=()
 # the crates that are proved, those that were told, and the one that failed
 proved=()
 told=()
@@ -71,7 +72,7 @@ tell_over() {
 # Whether a word is among others.
 is_among() { [[ " ${*:2} " == *" $1 "* ]]; }
 
-# These crates, first the one with the longest chain of crates from it upwards, by their lines of code.
+# The longest chain of crates from each of these upwards, in lines of code, and its name; the longest first.
 by_chain() {
   local name
   for name in "$@"; do
@@ -84,7 +85,16 @@ by_chain() {
     }
     NR == FNR { split($0, halves, ":"); split(halves[1], head, " "); below[head[1]] = halves[2]; next }
     { lines[$1] = $2 }
-    END { for (name in lines) print chain(name), name }' "$top/crates.txt" - | sort -k 1,1nr -k 2 | awk '{ print $2 }'
+    END { for (name in lines) print chain(name), name }' "$top/crates.txt" - | sort -k 1,1nr -k 2
+}
+
+# Whether a crate can wait: one that is not proved has a chain of more than twice its lines.
+can_wait() {
+  local name
+  for name in "${crates[@]}"; do
+    is_among "$name" "${proved[@]}" || [ "${chain[$name]}" -le $((2 * chain[$1])) ] || return 0
+  done
+  return 1
 }
 
 # How many provers memory has room for, at 2 GB each.
@@ -99,10 +109,12 @@ is_ready() {
   for name in $(crates_of "$1"); do is_among "$name" "$1" "${proved[@]}" || return 1; done
 }
 
-# Starts to prove a crate with so many jobs, as a process group of its own. The program is built by `rt run`.
+# Starts to prove a crate with so many jobs, as a process group of its own. The program is built by `rt run`. A crate
+# that can wait has what processors the others leave.
 start_prover() {
   local words=("$top/bin/prove-crate" "$top/crates/$1" "$2")
   [ "$1" != heavy_cli ] || words=(rt run -- --help)
+  ! can_wait "$1" || words=(nice "${words[@]}")
   : > "$top/crates/$1/build.log"
   set -m
   (cd "$top/crates/$1" && exec "${words[@]}") > "$top/crates/$1/build.log" 2>&1 < /dev/null 9>&- &
@@ -111,12 +123,16 @@ start_prover() {
   jobs[$1]=$2
 }
 
-# Starts those of these crates that are ready, while a processor is free and memory has room. What is proved first or
-# alone has a job for each processor, what joins it half as many, and fewer where another that is ready needs the room.
+# Starts those of these crates that are ready, while a processor is free and memory has room. What is proved first,
+# alone or beside crates that can wait has a job for each processor, what joins others half as many, and fewer where
+# another that is ready needs the room.
 start_ready() {
   local name most=$cores free=$room ready=()
   for name in "$@"; do ! is_ready "$name" || ready+=("$name"); done
-  for name in "${!provers[@]}"; do free=$((free - jobs[$name])) most=$(((cores + 1) / 2)); done
+  for name in "${!provers[@]}"; do
+    free=$((free - jobs[$name]))
+    can_wait "$name" || most=$(((cores + 1) / 2))
+  done
   for name in "${ready[@]}"; do
     if [ "$free" -lt 1 ] || [ "${#provers[@]}" -ge "$cores" ]; then return; fi
     ready=("${ready[@]:1}")
@@ -190,7 +206,7 @@ prove_libraries() {
 }
 
 build_heavy() {
-  local crates start=$SECONDS
+  local crates lines name sorted=() start=$SECONDS
   mapfile -t crates < <(crates_of heavy_cli)
   is_stale "$built" "${crates[@]}" || return 0
   command -v rt > /dev/null || { tell "the toolchain's command, rt, is not on the path"; return 1; }
@@ -202,7 +218,8 @@ build_heavy() {
   if is_stale "$built" "${crates[@]}"; then
     tell "proving and building the program, once and after each change of its sources"
     tell "a first build takes some minutes; crates/*/build.log have its lines"
-    mapfile -t crates < <(by_chain "${crates[@]}")
+    while read -r lines name; do chain[$name]=$lines sorted+=("$name"); done < <(by_chain "${crates[@]}")
+    crates=("${sorted[@]}")
     prove_libraries "${crates[@]:0:${#crates[@]}-1}"
     [ -n "$failed" ] || prove heavy_cli
     if [ -z "$failed" ] && [ ! -x "$built" ]; then failed=heavy_cli; fi

@@ -36,7 +36,7 @@ LEFT_OUT = b"heavy: the library for C is left out: it needs a C compiler, cc or 
 # what the scripts call, besides a C compiler and ar
 TOOLS = [
     "bash", "env", "dirname", "readlink", "awk", "find", "sed", "cp", "chmod", "mv", "mkdir", "mktemp", "rm", "ln",
-    "cat", "tail", "touch", "sleep", "sh", "sort", "nproc",
+    "cat", "tail", "touch", "sleep", "sh", "sort", "nproc", "nice",
 ]
 # It tells what rt tells, notes what it does, and leaves a program. Of a slow crate it waits, with a process below it.
 STAND_IN = """#!/usr/bin/env bash
