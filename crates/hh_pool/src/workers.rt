@@ -1,7 +1,7 @@
 //! Workers by halves: half of them run in a thread of their own.
 
 ghost use Rattle.std.specs.Prelude.{◌≡◌, ◌+◌, ◌^◌, ◌<◌, ◌≤◌, IfOk, IsErrOf};
-ghost use Rattle.hh_shared.specs.Seats.{fresh};
+ghost use Rattle.hh_shared.specs.Seats.{fresh, seat_of_both};
 ghost use Rattle.hh_pool.specs.Passes.{BringBack, CanRun};
 ghost use Rattle.hh_pool.specs.Settings.{max_workers};
 
@@ -35,7 +35,7 @@ fn join_halves<P: Pass>(
 ) -> Result<(SumSeat, P::Kept), PieceFault>
     requires seats { (one.0.sums ≡ sums.now) × (other.0.sums ≡ sums.now) }
     requires done { P.all_done pass.now one.0 one.1 × P.all_done pass.now other.0 other.1 }
-    ensures sums { IfOk result (λ r. r.0.sums ≡ sums.now) }
+    ensures joined { IfOk result (λ r. r.0 ≡ seat_of_both one.0 other.0) }
     ensures all_done { IfOk result (λ r. P.all_done pass.now r.0 r.1) }
     ensures refused { IsErrOf result PieceFault.Refused → P.may_refuse pass.now }
 {
