@@ -101,25 +101,296 @@ pub const SEED: Number = Number {
     default: 0,
 };
 
-/// A command, unless there was no memory for it. What adds to one hands that on.
+/// A command, unless there was no memory for it.
 type Built<'a> = Result<Command<'a>, AllocError>;
 
-/// The option with this name and help.
-fn option<'a>(alloc: Global, name: &'a str, help: &'a str) -> Arg<'a>
-    ensures { result.global ≡ false }
-{
-    Arg::new(alloc, name).long(name).help(help)
+/// What a command takes.
+#[derive(Clone, Copy)]
+enum Argument {
+    /// An option with a number that has a default.
+    Number(Number),
+    /// An option with a number that has none, by its name and help.
+    Limit(&'static str, &'static str),
+    /// An option with a text, by its name, that of the text, and its help.
+    Text(&'static str, &'static str, &'static str),
+    /// An option that is given or not, by its name and help.
+    Flag(&'static str, &'static str),
+    /// The same, below the command's own in help.
+    LastFlag(&'static str, &'static str),
+    /// How many digits stand behind a point, by its help.
+    Decimals(&'static str),
+    /// The byte between two fields.
+    Delimiter,
+    /// The columns of the key.
+    Key,
+    /// The share above which keys are heavy.
+    Threshold,
+    /// A word that has to be given, by its name and help.
+    Word(&'static str, &'static str),
+    /// One such word or more.
+    Words(&'static str, &'static str),
+    /// The names of files of records.
+    Records,
 }
 
-impl Number {
-    fn argument<'a>(self, alloc: Global) -> Arg<'a>
-        ensures { result.global ≡ false }
-    {
-        option(alloc, self.name, self.help)
-            .value_name("N")
-            .value_parser(value_parser!(u64))
-    }
+/// Arguments that have a heading of their own in help.
+#[derive(Clone, Copy)]
+struct Group {
+    heading: &'static str,
+    arguments: &'static [Argument],
+}
 
+/// What `clap` is told of a command.
+#[derive(Clone, Copy)]
+struct Words {
+    name: &'static str,
+    help: Help,
+    arguments: &'static [Argument],
+    groups: &'static [Group],
+}
+
+/// A command of the program.
+#[derive(Clone, Copy)]
+enum Name {
+    Report,
+    Summarise,
+    Table,
+    Merge,
+    Ask,
+    List,
+    Describe,
+    Condense,
+    Confirm,
+}
+
+/// The commands in the order of help.
+const NAMES: [Name; 9] = [
+    Name::Report,
+    Name::Summarise,
+    Name::Table,
+    Name::Merge,
+    Name::Ask,
+    Name::List,
+    Name::Describe,
+    Name::Condense,
+    Name::Confirm,
+];
+
+/// The option that tells more about a fault.
+const EXPLAIN_FLAG: Argument = Argument::LastFlag(
+    EXPLAIN,
+    "Say more about a fault, in a second line, as is done on a terminal",
+);
+
+/// The option that tells how far the input is read.
+const PROGRESS_FLAG: Argument = Argument::LastFlag(
+    PROGRESS,
+    "Tell on standard error how far the input is read, about once a second",
+);
+
+/// The option that says how many rows are printed.
+const TOP_ROWS: Argument = Argument::Limit(TOP, "Print at most the first N rows [default: all]");
+
+/// The option that adds shares of the total to rows.
+const SHARE_FLAG: Argument = Argument::Flag(
+    SHARE,
+    "Print in a third column the weight's share of the total in percent, rounded down",
+);
+
+/// The option with the name of an algorithm.
+const METHOD: Argument = Argument::Text(
+    "method",
+    "METHOD",
+    "How: mg (Misra-Gries) or ss (Space-Saving), with the same result [default: mg]",
+);
+
+/// The option that says how pieces are merged.
+const TREE: Argument = Argument::Text(
+    "tree",
+    "TREE",
+    "How to merge the pieces: balanced, chain or as in ((0 1) 2) [default: balanced]",
+);
+
+/// The option by which numbers are printed as the records had them.
+const PRINTED_DECIMALS: Argument = Argument::Decimals(
+    "Print numbers with D digits behind the point, as the records had, 0 to 9 [default: 0]",
+);
+
+const SAVED_FILE: Argument = Argument::Word("FILE", "A saved file");
+
+const SAVED_SUMMARY: Argument = Argument::Word("FILE", "A saved summary");
+
+/// The options that say how records are read.
+const COLUMN_ARGUMENTS: [Argument; 6] = [
+    Argument::Delimiter,
+    Argument::Flag(
+        HEADER,
+        "The first record of each file names the columns, and is no record",
+    ),
+    Argument::Key,
+    Argument::Text(
+        WEIGHT,
+        "COLUMN",
+        "The column of the weight; with --key alone each record weighs 1",
+    ),
+    Argument::Flag(
+        ALLOW_ZERO,
+        "A record of weight 0 or - adds nothing, and is no fault",
+    ),
+    Argument::Decimals(
+        "Weights may have a point and up to D digits behind it, D from 0 to 9 [default: 0]",
+    ),
+];
+
+const COLUMN_GROUP: Group = Group {
+    heading: COLUMNS,
+    arguments: &COLUMN_ARGUMENTS,
+};
+
+/// The options of workers and of a table.
+const MEANS_ARGUMENTS: [Argument; 6] = [
+    Argument::Number(WORKERS),
+    Argument::Number(PIECES),
+    TREE,
+    Argument::Number(WIDTH),
+    Argument::Number(DEPTH),
+    Argument::Number(SEED),
+];
+
+const REPORT_ARGUMENTS: [Argument; 7] = [
+    EXPLAIN_FLAG,
+    PROGRESS_FLAG,
+    Argument::Number(K),
+    Argument::Threshold,
+    TOP_ROWS,
+    SHARE_FLAG,
+    Argument::Records,
+];
+
+const REPORT_GROUPS: [Group; 2] = [
+    COLUMN_GROUP,
+    Group {
+        heading: MEANS,
+        arguments: &MEANS_ARGUMENTS,
+    },
+];
+
+const RECORD_GROUPS: [Group; 1] = [COLUMN_GROUP];
+
+const SUMMARISE_ARGUMENTS: [Argument; 5] = [
+    EXPLAIN_FLAG,
+    PROGRESS_FLAG,
+    Argument::Number(K),
+    METHOD,
+    Argument::Records,
+];
+
+const TABLE_ARGUMENTS: [Argument; 7] = [
+    EXPLAIN_FLAG,
+    PROGRESS_FLAG,
+    Argument::Number(WIDTH),
+    Argument::Number(DEPTH),
+    Argument::Number(SEED),
+    Argument::Number(WORKERS),
+    Argument::Records,
+];
+
+const MERGE_ARGUMENTS: [Argument; 2] = [EXPLAIN_FLAG, Argument::Words("FILE", "A saved file")];
+
+const ASK_ARGUMENTS: [Argument; 4] = [
+    EXPLAIN_FLAG,
+    PRINTED_DECIMALS,
+    SAVED_FILE,
+    Argument::Words("KEY", "A key"),
+];
+
+const LIST_ARGUMENTS: [Argument; 3] = [EXPLAIN_FLAG, PRINTED_DECIMALS, SAVED_SUMMARY];
+
+const DESCRIBE_ARGUMENTS: [Argument; 2] = [EXPLAIN_FLAG, SAVED_FILE];
+
+const CONDENSE_ARGUMENTS: [Argument; 5] = [
+    EXPLAIN_FLAG,
+    PROGRESS_FLAG,
+    Argument::Number(WORKERS),
+    SAVED_SUMMARY,
+    Argument::Records,
+];
+
+const CONFIRM_ARGUMENTS: [Argument; 8] = [
+    EXPLAIN_FLAG,
+    PROGRESS_FLAG,
+    Argument::Threshold,
+    TOP_ROWS,
+    SHARE_FLAG,
+    Argument::Number(WORKERS),
+    SAVED_SUMMARY,
+    Argument::Records,
+];
+
+const REPORT_WORDS: Words = Words {
+    name: "report",
+    help: REPORT,
+    arguments: &REPORT_ARGUMENTS,
+    groups: &REPORT_GROUPS,
+};
+
+const SUMMARISE_WORDS: Words = Words {
+    name: "summarise",
+    help: SUMMARISE,
+    arguments: &SUMMARISE_ARGUMENTS,
+    groups: &RECORD_GROUPS,
+};
+
+const TABLE_WORDS: Words = Words {
+    name: "table",
+    help: TABLE,
+    arguments: &TABLE_ARGUMENTS,
+    groups: &RECORD_GROUPS,
+};
+
+const MERGE_WORDS: Words = Words {
+    name: "merge",
+    help: MERGE,
+    arguments: &MERGE_ARGUMENTS,
+    groups: &[],
+};
+
+const ASK_WORDS: Words = Words {
+    name: "ask",
+    help: ASK,
+    arguments: &ASK_ARGUMENTS,
+    groups: &[],
+};
+
+const LIST_WORDS: Words = Words {
+    name: "list",
+    help: LIST,
+    arguments: &LIST_ARGUMENTS,
+    groups: &[],
+};
+
+const DESCRIBE_WORDS: Words = Words {
+    name: "describe",
+    help: DESCRIBE,
+    arguments: &DESCRIBE_ARGUMENTS,
+    groups: &[],
+};
+
+const CONDENSE_WORDS: Words = Words {
+    name: "condense",
+    help: CONDENSE,
+    arguments: &CONDENSE_ARGUMENTS,
+    groups: &RECORD_GROUPS,
+};
+
+const CONFIRM_WORDS: Words = Words {
+    name: "confirm",
+    help: CONFIRM,
+    arguments: &CONFIRM_ARGUMENTS,
+    groups: &RECORD_GROUPS,
+};
+
+impl Number {
     /// The number that was given, or else the default.
     pub fn of(self, found: &ArgMatches) -> u64
         ensures { IsNumberOf (found_of found.now) self.name.now self.default result }
@@ -128,149 +399,30 @@ impl Number {
     }
 }
 
-/// The command with this name and help.
-fn described<'a>(alloc: Global, name: &'a str, help: Help) -> Command<'a>
-    ensures { (fields_of result).has_globals ≡ false }
-{
-    Command::new(alloc, name)
-        .about(help.about)
-        .long_about(help.whole)
-        .after_long_help(help.end)
-}
-
-/// The option that tells how far the input is read.
-fn progress<'a>(alloc: Global) -> Arg<'a>
+/// The option with this name and help.
+fn option<'a>(alloc: Global, name: &'a str, help: &'a str) -> Arg<'a>
     ensures { result.global ≡ false }
 {
-    let told = "Tell on standard error how far the input is read, about once a second";
-    option(alloc, PROGRESS, told)
-        .action(ArgAction::SetTrue)
-        .display_order(LAST)
+    Arg::new(alloc, name).long(name).help(help)
 }
 
-/// The option that tells more about a fault.
-fn explain<'a>(alloc: Global) -> Arg<'a>
+/// The option with this name and help, and a number.
+fn numbered<'a>(alloc: Global, name: &'a str, help: &'a str) -> Arg<'a>
     ensures { result.global ≡ false }
 {
-    let told = "Say more about a fault, in a second line, as is done on a terminal";
-    option(alloc, EXPLAIN, told)
-        .action(ArgAction::SetTrue)
-        .display_order(LAST)
+    option(alloc, name, help)
+        .value_name("N")
+        .value_parser(value_parser!(u64))
 }
 
-/// The same command, with an argument more.
-fn with<'a>(command: Built<'a>, argument: Arg<'a>) -> Built<'a>
-    requires command { HasNoGlobals command }
-    requires argument { argument.global ≡ false }
-    ensures { HasNoGlobals result }
-{
-    command?.arg(argument)
-}
-
-/// The same command, with a command of its own more.
-fn with_command<'a>(all: Built<'a>, command: Built<'a>) -> Built<'a>
-    requires all { HasNoGlobals all }
-    requires command { HasNoGlobals command }
-    ensures { HasNoGlobals result }
-{
-    all?.subcommand(command?)
-}
-
-/// The command with this name and help, which can say more about a fault.
-fn explained<'a>(alloc: Global, name: &'a str, help: Help) -> Built<'a>
-    ensures { HasNoGlobals result }
-{
-    let command = described(alloc, name, help).after_help(DASHES);
-    with(Ok(command), explain(alloc))
-}
-
-/// The same of a command that reads records and can tell how far it is.
-fn reader<'a>(alloc: Global, name: &'a str, help: Help) -> Built<'a>
-    ensures { HasNoGlobals result }
-{
-    with(explained(alloc, name, help), progress(alloc))
-}
-
-/// The words that name files of records.
-fn records<'a>(alloc: Global) -> Arg<'a>
+/// The option that is given or not.
+fn flag<'a>(alloc: Global, name: &'a str, help: &'a str) -> Arg<'a>
     ensures { result.global ≡ false }
 {
-    Arg::new(alloc, RECORDS)
-        .value_name("FILE")
-        .help("Files of records, read one after the other; - is standard input [default: -]")
-        .action(ArgAction::Append)
-        .num_args(1..)
+    option(alloc, name, help).action(ArgAction::SetTrue)
 }
 
-/// The option that says which byte stands between fields.
-fn delimiter<'a>(alloc: Global) -> Arg<'a>
-    ensures { result.global ≡ false }
-{
-    option(
-        alloc,
-        DELIMITER,
-        "The byte between two fields, \\t for a tab [default: ,]",
-    )
-    .value_name("BYTE")
-    .allow_hyphen_values(true)
-    .help_heading(COLUMNS)
-}
-
-/// The option that says that texts begin with the names of their columns.
-fn header<'a>(alloc: Global) -> Arg<'a>
-    ensures { result.global ≡ false }
-{
-    option(
-        alloc,
-        HEADER,
-        "The first record of each file names the columns, and is no record",
-    )
-    .action(ArgAction::SetTrue)
-    .help_heading(COLUMNS)
-}
-
-/// The option that says which columns are the key.
-fn key<'a>(alloc: Global) -> Arg<'a>
-    ensures { result.global ≡ false }
-{
-    option(
-        alloc,
-        KEY,
-        "The column of the key, by number or name; several, as 4,5, are one key",
-    )
-    .value_name("COLUMN")
-    .action(ArgAction::Append)
-    .value_delimiter(',')
-    .help_heading(COLUMNS)
-}
-
-/// The option that says which column is the weight.
-fn weight<'a>(alloc: Global) -> Arg<'a>
-    ensures { result.global ≡ false }
-{
-    option(
-        alloc,
-        WEIGHT,
-        "The column of the weight; with --key alone each record weighs 1",
-    )
-    .value_name("COLUMN")
-    .help_heading(COLUMNS)
-}
-
-/// The option by which a weight may be 0.
-fn allow_zero<'a>(alloc: Global) -> Arg<'a>
-    ensures { result.global ≡ false }
-{
-    option(
-        alloc,
-        ALLOW_ZERO,
-        "A record of weight 0 or - adds nothing, and is no fault",
-    )
-    .action(ArgAction::SetTrue)
-    .help_heading(COLUMNS)
-}
-
-/// The option that says how many digits stand behind a point, with this help.
+/// The option that says how many digits stand behind a point.
 fn decimals<'a>(alloc: Global, help: &'a str) -> Arg<'a>
     ensures { result.global ≡ false }
 {
@@ -279,74 +431,25 @@ fn decimals<'a>(alloc: Global, help: &'a str) -> Arg<'a>
         .value_parser(value_parser!(u8).range(0..=9))
 }
 
-/// The same where records are read.
-fn read_decimals<'a>(alloc: Global) -> Arg<'a>
+/// The option that says which byte stands between fields.
+fn delimiter<'a>(alloc: Global) -> Arg<'a>
     ensures { result.global ≡ false }
 {
-    decimals(
-        alloc,
-        "Weights may have a point and up to D digits behind it, D from 0 to 9 [default: 0]",
-    )
-    .help_heading(COLUMNS)
+    let told = "The byte between two fields, \\t for a tab [default: ,]";
+    option(alloc, DELIMITER, told)
+        .value_name("BYTE")
+        .allow_hyphen_values(true)
 }
 
-/// The same command, which prints so many digits behind a point.
-fn with_decimals<'a>(alloc: Global, command: Built<'a>) -> Built<'a>
-    requires { HasNoGlobals command }
-    ensures { HasNoGlobals result }
-{
-    let told =
-        "Print numbers with D digits behind the point, as the records had, 0 to 9 [default: 0]";
-    with(command, decimals(alloc, told))
-}
-
-/// The same command, with the options that say how records are read, and the files of these.
-fn with_records<'a>(alloc: Global, command: Built<'a>) -> Built<'a>
-    requires { HasNoGlobals command }
-    ensures { HasNoGlobals result }
-{
-    let command = with(with(command, delimiter(alloc)), header(alloc));
-    let command = with(with(command, key(alloc)), weight(alloc));
-    let command = with(with(command, allow_zero(alloc)), read_decimals(alloc));
-    with(command, records(alloc))
-}
-
-/// A word that has to be given.
-fn word<'a>(alloc: Global, name: &'a str, help: &'a str) -> Arg<'a>
+/// The option that says which columns are the key.
+fn key<'a>(alloc: Global) -> Arg<'a>
     ensures { result.global ≡ false }
 {
-    Arg::new(alloc, name)
-        .value_name(name)
-        .help(help)
-        .required(true)
-}
-
-/// The same command, with the options of a table.
-fn with_table<'a>(alloc: Global, command: Built<'a>) -> Built<'a>
-    requires { HasNoGlobals command }
-    ensures { HasNoGlobals result }
-{
-    let command = with(command, WIDTH.argument(alloc));
-    let command = with(command, DEPTH.argument(alloc));
-    with(command, SEED.argument(alloc))
-}
-
-/// The option that says how pieces are merged.
-fn tree<'a>(alloc: Global) -> Arg<'a>
-    ensures { result.global ≡ false }
-{
-    let shapes = "How to merge the pieces: balanced, chain or as in ((0 1) 2) [default: balanced]";
-    option(alloc, "tree", shapes).value_name("TREE")
-}
-
-/// The same command, with the options of workers.
-fn with_workers<'a>(alloc: Global, command: Built<'a>) -> Built<'a>
-    requires { HasNoGlobals command }
-    ensures { HasNoGlobals result }
-{
-    let command = with(command, WORKERS.argument(alloc));
-    let command = with(command, PIECES.argument(alloc));
-    with(command, tree(alloc))
+    let told = "The column of the key, by number or name; several, as 4,5, are one key";
+    option(alloc, KEY, told)
+        .value_name("COLUMN")
+        .action(ArgAction::Append)
+        .value_delimiter(',')
 }
 
 /// The option with a share of the total.
@@ -362,124 +465,156 @@ with P and Q up to 4294967296; k is the number of counters [default: 1/(k+1)]",
         )
 }
 
-/// The same command, with the options that say which keys are heavy.
-fn with_share<'a>(alloc: Global, command: Built<'a>) -> Built<'a>
-    requires { HasNoGlobals command }
-    ensures { HasNoGlobals result }
-{
-    with(with(command, K.argument(alloc)), threshold(alloc))
-}
-
-/// The option that says how many rows are printed.
-fn top<'a>(alloc: Global) -> Arg<'a>
+/// A word that has to be given.
+fn word<'a>(alloc: Global, name: &'a str, help: &'a str) -> Arg<'a>
     ensures { result.global ≡ false }
 {
-    option(alloc, TOP, "Print at most the first N rows [default: all]")
-        .value_name("N")
-        .value_parser(value_parser!(u64))
+    Arg::new(alloc, name)
+        .value_name(name)
+        .help(help)
+        .required(true)
 }
 
-/// The option that adds shares of the total to rows.
-fn share<'a>(alloc: Global) -> Arg<'a>
+/// The words that name files of records.
+fn records<'a>(alloc: Global) -> Arg<'a>
     ensures { result.global ≡ false }
 {
-    let column = "Print in a third column the weight's share of the total in percent, rounded down";
-    option(alloc, SHARE, column).action(ArgAction::SetTrue)
+    Arg::new(alloc, RECORDS)
+        .value_name("FILE")
+        .help("Files of records, read one after the other; - is standard input [default: -]")
+        .action(ArgAction::Append)
+        .num_args(1..)
 }
 
-/// The same command, with the options that say how rows are printed.
-fn with_rows<'a>(alloc: Global, command: Built<'a>) -> Built<'a>
-    requires { HasNoGlobals command }
+impl Argument {
+    /// What `clap` is told of it.
+    fn told<'a>(self, alloc: Global) -> Arg<'a>
+        ensures { result.global ≡ false }
+    {
+        match self {
+            Argument::Number(it) => numbered(alloc, it.name, it.help),
+            Argument::Limit(name, help) => numbered(alloc, name, help),
+            Argument::Text(name, value, help) => option(alloc, name, help).value_name(value),
+            Argument::Flag(name, help) => flag(alloc, name, help),
+            Argument::LastFlag(name, help) => flag(alloc, name, help).display_order(LAST),
+            Argument::Decimals(help) => decimals(alloc, help),
+            Argument::Delimiter => delimiter(alloc),
+            Argument::Key => key(alloc),
+            Argument::Threshold => threshold(alloc),
+            Argument::Word(name, help) => word(alloc, name, help),
+            Argument::Words(name, help) => word(alloc, name, help)
+                .action(ArgAction::Append)
+                .num_args(1..),
+            Argument::Records => records(alloc),
+        }
+    }
+}
+
+/// The command with this name and help.
+fn described<'a>(alloc: Global, name: &'a str, help: Help) -> Command<'a>
+    ensures { (fields_of result).has_globals ≡ false }
+{
+    Command::new(alloc, name)
+        .about(help.about)
+        .long_about(help.whole)
+        .after_long_help(help.end)
+}
+
+/// The same command, with these arguments more.
+fn with<'a>(alloc: Global, mut command: Command<'a>, arguments: &[Argument]) -> Built<'a>
+    requires { (fields_of command).has_globals ≡ false }
     ensures { HasNoGlobals result }
 {
-    with(with(command, top(alloc)), share(alloc))
+    for argument in arguments {
+        command = command.arg(argument.told(alloc))?;
+    }
+    Ok(command)
 }
 
-/// The same command, whose further options stand in help under a heading.
-fn under<'a>(command: Built<'a>, heading: &'a str) -> Built<'a>
-    requires { HasNoGlobals command }
+/// The command of these words.
+fn command_of<'a>(alloc: Global, words: &Words) -> Built<'a>
     ensures { HasNoGlobals result }
 {
-    Ok(command?.next_help_heading(heading))
+    let command = described(alloc, words.name, words.help).after_help(DASHES);
+    let mut command = with(alloc, command, words.arguments)?;
+    for group in words.groups {
+        command = with(alloc, command.next_help_heading(group.heading), group.arguments)?;
+    }
+    Ok(command)
 }
 
-/// The command that prints a report.
-fn report_command<'a>(alloc: Global) -> Built<'a>
+/// The commands.
+fn report<'a>(alloc: Global) -> Built<'a>
     ensures { HasNoGlobals result }
 {
-    let command = with_share(alloc, reader(alloc, "report", REPORT));
-    let command = with_records(alloc, with_rows(alloc, command));
-    with_table(alloc, with_workers(alloc, under(command, MEANS)))
+    command_of(alloc, &REPORT_WORDS)
 }
 
-/// The option with the name of an algorithm.
-fn method<'a>(alloc: Global) -> Arg<'a>
-    ensures { result.global ≡ false }
-{
-    let methods = "How: mg (Misra-Gries) or ss (Space-Saving), with the same result [default: mg]";
-    option(alloc, "method", methods).value_name("METHOD")
-}
-
-/// The commands that make saved files of records.
-fn summarise_command<'a>(alloc: Global) -> Built<'a>
+fn summarise<'a>(alloc: Global) -> Built<'a>
     ensures { HasNoGlobals result }
 {
-    let command = reader(alloc, "summarise", SUMMARISE);
-    let command = with(with(command, K.argument(alloc)), method(alloc));
-    with_records(alloc, command)
+    command_of(alloc, &SUMMARISE_WORDS)
 }
 
-fn table_command<'a>(alloc: Global) -> Built<'a>
+fn table<'a>(alloc: Global) -> Built<'a>
     ensures { HasNoGlobals result }
 {
-    let command = with_table(alloc, reader(alloc, "table", TABLE));
-    with_records(alloc, with(command, WORKERS.argument(alloc)))
+    command_of(alloc, &TABLE_WORDS)
 }
 
-/// The commands on saved files.
-fn merge_command<'a>(alloc: Global) -> Built<'a>
+fn merge<'a>(alloc: Global) -> Built<'a>
     ensures { HasNoGlobals result }
 {
-    let files = word(alloc, "FILE", "A saved file").action(ArgAction::Append);
-    with(explained(alloc, "merge", MERGE), files.num_args(1..))
+    command_of(alloc, &MERGE_WORDS)
 }
 
-fn ask_command<'a>(alloc: Global) -> Built<'a>
+fn ask<'a>(alloc: Global) -> Built<'a>
     ensures { HasNoGlobals result }
 {
-    let command = with_decimals(alloc, explained(alloc, "ask", ASK));
-    let command = with(command, word(alloc, "FILE", "A saved file"));
-    let keys = word(alloc, "KEY", "A key").action(ArgAction::Append);
-    with(command, keys.num_args(1..))
+    command_of(alloc, &ASK_WORDS)
 }
 
-fn list_command<'a>(alloc: Global) -> Built<'a>
+fn list<'a>(alloc: Global) -> Built<'a>
     ensures { HasNoGlobals result }
 {
-    let command = with_decimals(alloc, explained(alloc, "list", LIST));
-    with(command, word(alloc, "FILE", "A saved summary"))
+    command_of(alloc, &LIST_WORDS)
 }
 
-fn describe_command<'a>(alloc: Global) -> Built<'a>
+fn describe<'a>(alloc: Global) -> Built<'a>
     ensures { HasNoGlobals result }
 {
-    let command = explained(alloc, "describe", DESCRIBE);
-    with(command, word(alloc, "FILE", "A saved file"))
+    command_of(alloc, &DESCRIBE_WORDS)
 }
 
-fn condense_command<'a>(alloc: Global) -> Built<'a>
+fn condense<'a>(alloc: Global) -> Built<'a>
     ensures { HasNoGlobals result }
 {
-    let command = with(reader(alloc, "condense", CONDENSE), WORKERS.argument(alloc));
-    with_records(alloc, with(command, word(alloc, "FILE", "A saved summary")))
+    command_of(alloc, &CONDENSE_WORDS)
 }
 
-fn confirm_command<'a>(alloc: Global) -> Built<'a>
+fn confirm<'a>(alloc: Global) -> Built<'a>
     ensures { HasNoGlobals result }
 {
-    let command = with(reader(alloc, "confirm", CONFIRM), threshold(alloc));
-    let command = with(with_rows(alloc, command), WORKERS.argument(alloc));
-    with_records(alloc, with(command, word(alloc, "FILE", "A saved summary")))
+    command_of(alloc, &CONFIRM_WORDS)
+}
+
+impl Name {
+    /// What `clap` is told of the command.
+    fn told<'a>(self, alloc: Global) -> Built<'a>
+        ensures { HasNoGlobals result }
+    {
+        match self {
+            Name::Report => report(alloc),
+            Name::Summarise => summarise(alloc),
+            Name::Table => table(alloc),
+            Name::Merge => merge(alloc),
+            Name::Ask => ask(alloc),
+            Name::List => list(alloc),
+            Name::Describe => describe(alloc),
+            Name::Condense => condense(alloc),
+            Name::Confirm => confirm(alloc),
+        }
+    }
 }
 
 /// The program, which has no command yet.
@@ -490,43 +625,14 @@ fn program<'a>(alloc: Global) -> Built<'a>
     Ok(program.version(VERSION))
 }
 
-/// The same command, with those that read records alone.
-fn with_record_commands<'a>(alloc: Global, all: Built<'a>) -> Built<'a>
-    requires { HasNoGlobals all }
-    ensures { HasNoGlobals result }
-{
-    let all = with_command(all, report_command(alloc));
-    let all = with_command(all, summarise_command(alloc));
-    with_command(all, table_command(alloc))
-}
-
-/// The same command, with those that read a saved summary and records.
-fn with_pass_commands<'a>(alloc: Global, all: Built<'a>) -> Built<'a>
-    requires { HasNoGlobals all }
-    ensures { HasNoGlobals result }
-{
-    let all = with_command(all, condense_command(alloc));
-    with_command(all, confirm_command(alloc))
-}
-
-/// The same command, with those that read saved files alone.
-fn with_file_commands<'a>(alloc: Global, all: Built<'a>) -> Built<'a>
-    requires { HasNoGlobals all }
-    ensures { HasNoGlobals result }
-{
-    let all = with_command(all, merge_command(alloc));
-    let all = with_command(all, ask_command(alloc));
-    let all = with_command(all, list_command(alloc));
-    with_command(all, describe_command(alloc))
-}
-
 /// The command line that the program reads.
 pub fn command_line<'a>(alloc: Global) -> Result<Command<'a>, AllocError>
     ensures globals { HasNoGlobals result }
     ensures required { IfOk result (λ c. (fields_of c).subcommand_required ≡ true) }
 {
-    let all = with_record_commands(alloc, program(alloc));
-    let all = with_file_commands(alloc, all);
-    let all = with_pass_commands(alloc, all);
-    Ok(all?.subcommand_required(true))
+    let mut all = program(alloc)?;
+    for name in NAMES {
+        all = all.subcommand(name.told(alloc)?)?;
+    }
+    Ok(all.subcommand_required(true))
 }

@@ -11,12 +11,12 @@ ghost use Rattle.hh_saved.specs.declared.saved.Saved.TheVariants.{Counters};
 use crate::commands::grow_table::table_with_items;
 use crate::error::ToolError;
 use crate::files::file_of;
+use crate::items::item_fault;
 use hh_counters::laws::summaries_follow_items;
-use hh_counters::{AddFault, MAX_K, Summary};
+use hh_counters::{MAX_K, Summary};
 use hh_countmin::laws::tables_follow_items;
-use hh_records::BadRecordCause;
 use hh_saved::{Saved, write};
-use hh_stream::{MAX_KEY_LEN, in_range};
+use hh_stream::in_range;
 use std::alloc::Global;
 
 /// The saved summary of no items, with k counters.
@@ -41,20 +41,10 @@ fn add_item(summary: &mut Summary, number: u64, key: &[u8], weight: u64) -> Resu
     ensures refused { IfErr result (Refuses
         (unless (item_fault number summary.old.total (key.now, weight)) summary.old)) }
 {
-    let cause = if key.is_empty() {
-        BadRecordCause::EmptyKey
-    } else if key.len() > MAX_KEY_LEN {
-        BadRecordCause::KeyTooLong
-    } else if weight == 0 {
-        BadRecordCause::ZeroWeight
-    } else {
-        match summary.add_bytes(key, weight) {
-            Ok(()) => return Ok(()),
-            Err(AddFault::TotalTooLarge) => BadRecordCause::TotalTooLarge,
-            Err(AddFault::Memory) => return Err(ToolError::Memory),
-        }
-    };
-    Err(ToolError::BadRecord { number, cause })
+    if let Some(fault) = item_fault(number, summary.total(), key, weight) {
+        return Err(fault);
+    }
+    summary.add_bytes(key, weight).map_err(|_| ToolError::Memory)
 }
 
 /// A summary with items added, in order.
