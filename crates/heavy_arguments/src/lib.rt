@@ -4,6 +4,7 @@
 
 mod arguments;
 mod help;
+mod options;
 
 pub use arguments::{
     ALLOW_ZERO, DECIMALS, DELIMITER, DEPTH, EXPLAIN, HEADER, K, KEY, Number, PIECES, PROGRESS,

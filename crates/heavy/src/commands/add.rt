@@ -44,7 +44,9 @@ fn add_item(summary: &mut Summary, number: u64, key: &[u8], weight: u64) -> Resu
     if let Some(fault) = item_fault(number, summary.total(), key, weight) {
         return Err(fault);
     }
-    summary.add_bytes(key, weight).map_err(|_| ToolError::Memory)
+    summary
+        .add_bytes(key, weight)
+        .map_err(|_| ToolError::Memory)
 }
 
 /// A summary with items added, in order.
