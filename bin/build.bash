@@ -123,22 +123,30 @@ start_prover() {
   jobs[$1]=$2
 }
 
-# Starts those of these crates that are ready, while a processor is free and memory has room. What is proved first,
-# alone or beside crates that can wait has a job for each processor, what joins others half as many, and fewer where
-# another that is ready needs the room.
+# How many jobs the provers of crates that can't wait have.
+jobs_at_work() {
+  local name all=0
+  for name in "${!provers[@]}"; do can_wait "$name" || all=$((all + jobs[$name])); done
+  printf '%s\n' "$all"
+}
+
+# Starts those of these crates that are ready, while a processor is free and memory has room. Each has one job, since
+# more of them take more of the processors in all. The first one has besides the jobs that processors are left for.
 start_ready() {
-  local name most=$cores free=$room ready=()
-  for name in "$@"; do ! is_ready "$name" || ready+=("$name"); done
-  for name in "${!provers[@]}"; do
-    free=$((free - jobs[$name]))
-    can_wait "$name" || most=$(((cores + 1) / 2))
+  local name idle most free=$room ready=() waiting=()
+  for name in "$@"; do
+    ! is_ready "$name" || if can_wait "$name"; then waiting+=("$name"); else ready+=("$name"); fi
   done
-  for name in "${ready[@]}"; do
+  for name in "${!provers[@]}"; do free=$((free - jobs[$name])); done
+  idle=$((cores - $(jobs_at_work)))
+  for name in "${ready[@]}" "${waiting[@]}"; do
     if [ "$free" -lt 1 ] || [ "${#provers[@]}" -ge "$cores" ]; then return; fi
     ready=("${ready[@]:1}")
-    while [ "$most" -gt 1 ] && [ "$most" -gt $((free - ${#ready[@]})) ]; do most=$((most - 1)); done
+    most=$((idle - ${#ready[@]}))
+    [ "$most" -le $((free - ${#ready[@]})) ] || most=$((free - ${#ready[@]}))
+    if [ "$most" -lt 1 ] || can_wait "$name"; then most=1; fi
     start_prover "$name" "$most"
-    free=$((free - most)) most=$(((cores + 1) / 2))
+    free=$((free - most)) idle=$((idle - most))
   done
 }
 

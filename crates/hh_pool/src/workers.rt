@@ -8,7 +8,6 @@ ghost use Rattle.hh_pool.specs.Settings.{max_workers};
 use crate::pass::Pass;
 use crate::pieces::PieceFault;
 use hh_shared::{SharedSums, SumSeat};
-use std::alloc::AllocError;
 use std::snapshot::Snapshot;
 use std::sync::Wait;
 use std::thread;
@@ -26,21 +25,22 @@ impl<P: Pass> Promise<Result<(SumSeat, P::Kept), PieceFault>> for Promised<P> {
         p.sums.value r };
 }
 
-/// What two halves of the workers bring back, as one: their joined seats, and what both kept.
+/// What two halves of the workers bring back, as one: their joined seats, and what both kept. Where
+/// one brings nothing back, it is told why.
 fn join_halves<P: Pass>(
     sums: &SharedSums,
     pass: &P,
-    one: (SumSeat, P::Kept),
-    other: (SumSeat, P::Kept),
+    one: Result<(SumSeat, P::Kept), PieceFault>,
+    other: Result<(SumSeat, P::Kept), PieceFault>,
 ) -> Result<(SumSeat, P::Kept), PieceFault>
-    requires seats { (one.0.sums ≡ sums.now) × (other.0.sums ≡ sums.now) }
-    requires done { P.all_done pass.now one.0 one.1 × P.all_done pass.now other.0 other.1 }
-    ensures joined { IfOk result (λ r. r.0 ≡ seat_of_both one.0 other.0) }
-    ensures all_done { IfOk result (λ r. P.all_done pass.now r.0 r.1) }
-    ensures refused { IsErrOf result PieceFault.Refused → P.may_refuse pass.now }
+    requires one { BringBack (P.all_done pass.now) (P.may_refuse pass.now) sums.now one }
+    requires other { BringBack (P.all_done pass.now) (P.may_refuse pass.now) sums.now other }
+    ensures joined { IfOk one (λ a. IfOk other (λ b.
+        IfOk result (λ r. r.0 ≡ seat_of_both a.0 b.0))) }
+    ensures both { BringBack (P.all_done pass.now) (P.may_refuse pass.now) sums.now result }
 {
-    let (mut seat, kept) = one;
-    let (half, rest) = other;
+    let (mut seat, kept) = one?;
+    let (half, rest) = other?;
     sums.join(&mut seat, half);
     let both = pass.together(kept, rest)?;
     Ok((seat, both))
@@ -73,23 +73,15 @@ fn run_workers<R: Threads + Wait + Sync, P: Pass + Sync>(
     let high = count - low;
     let next = first + low;
     let half = sums.split(&mut seat);
-    let (one, other) = thread::scope(
+    thread::scope(
         thread::scope_env(),
         rt,
-        |scope| -> Result<
-            (
-                Result<(SumSeat, P::Kept), PieceFault>,
-                Result<(SumSeat, P::Kept), PieceFault>,
-            ),
-            AllocError,
-        >
+        |scope| -> Result<(SumSeat, P::Kept), PieceFault>
             requires { let fits = P.fits pass.now sums.now in
                 let can = CanRun R.row P.row P.Kept.row fits sums.now in
                 can seat first low × can half next high }
-            ensures { IfOk result (λ both.
-                let refuses = P.may_refuse pass.entry.now in
-                let brings = BringBack (P.all_done pass.entry.now) refuses sums.entry.now in
-                brings both.0 × brings both.1) }
+            ensures { BringBack (P.all_done pass.entry.now) (P.may_refuse pass.entry.now)
+                sums.entry.now result }
         {
             let promise = Promised {
                 sums: Snapshot::of(sums),
@@ -101,12 +93,13 @@ fn run_workers<R: Threads + Wait + Sync, P: Pass + Sync>(
                 ensures { BringBack (P.all_done pass.entry.now) (P.may_refuse pass.entry.now)
                     sums.entry.now result }
             { run_workers(rt, sums, seat, pass, first, low) };
-            let child = scope.spawn_with(promise, front)?;
+            let Ok(child) = scope.spawn_with(promise, front) else {
+                return Err(PieceFault::Memory);
+            };
             let other = run_workers(rt, sums, half, pass, next, high);
-            Ok((child.join(rt), other))
+            join_halves(sums, pass, child.join(rt), other)
         },
-    )?;
-    join_halves(sums, pass, one?, other?)
+    )
 }
 
 /// Runs so many workers in a thread of their own, numbered from 0. Memory also where the system
