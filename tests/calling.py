@@ -15,7 +15,8 @@ CALLERS = CRATES / "heavy_example" / "src" / "callers.rt"
 # each library with the function that calls it
 LIBRARIES = {
     "hh_stream": "stream_of_one", "hh_counters": "bounds_of", "hh_countmin": "is_rare", "hh_saved": "summary_in",
-    "hh_records": "total_of_records", "hh_shared": "add_once", "hh_pool": "heavy_keys", "heavy": "saved_summary",
+    "hh_records": "total_of_records", "hh_shared": "add_once", "hh_pool": "heavy_keys", "hh_commands": "saved_summary",
+    "heavy": "saved_summary",
 }
 MADE = re.compile(r"^## A caller\n.*", re.MULTILINE | re.DOTALL)
 OWNER = re.compile(r"^(?P<shown>pub trait|impl)(?:<[^{]*?>)? (?P<name>\w+)[^{]*\{$")

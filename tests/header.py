@@ -52,7 +52,7 @@ def numbers() -> dict[str, int]:
     for name, number in re.findall(r"^(\w+)_kind = (\d+)$", items, re.M):
         made[f"HEAVY_{name.upper()}"] = int(number)
     for name, fault in STATUSES.items():
-        status = found(rf"^status_of \(?tool\.{fault}\b[^=\n]*= (\d)$", CRATES / "heavy" / "specs" / "Status.antt")
+        status = found(rf"^status_of \(?tool\.{fault}\b[^=\n]*= (\d)$", CRATES / "hh_commands" / "specs" / "Status.antt")
         made[f"HEAVY_{name}"] = int(status)
     for name in ("DONE", "TOO_SMALL"):
         made[f"HEAVY_{name}"] = int(found(rf"^pub\(crate\) const {name}: u32 = (\d);$", FFI / "src" / "room.rt"))

@@ -327,7 +327,7 @@ class Install(programs.Checks):
             pass  # the other side is closed
         os.close(terminal)
         said = said.replace(b"\r\n", b"\n")
-        line = rb"\r\x1b\[Kheavy: 0:0\d min, \d+ of 11 crates proved, hh_stream 3/37"
+        line = rb"\r\x1b\[Kheavy: 0:0\d min, \d+ of 12 crates proved, hh_stream 3/37"
         told = len(re.findall(line, said))
         self.check("a terminal's line is written over", out == b"built: report\n" and told > 1, said)
         self.check("nothing of it is left", said.count(b"\n") == 3 and b"\r\x1b[Kheavy: built in " in said, said)
@@ -405,7 +405,7 @@ class Install(programs.Checks):
             self.check(f"crates {name}", well and [it.split()[0] for it in runs] == [wanted], (ended, runs))
             if wanted == "build":
                 words = [f"dependency={place}" for place in places.values()]
-                words += [f"heavy={places['heavy']}/heavy.rlib", f"std={copy.kit}/rlibs/std.rlib"]
+                words += [f"hh_commands={places['hh_commands']}/hh_commands.rlib", f"std={copy.kit}/rlibs/std.rlib"]
                 self.check("what it is built over", not {*words} - {*runs[0].split()}, runs)
             copy.runs.unlink()
             (crates / "heavy_ffi" / "out" / "libheavy_ffi.a").unlink()

@@ -44,7 +44,7 @@ def preloaded(source: str, room: str) -> str:
 
 def has_library() -> bool:
     """Whether the library for C was built, or all that it stands on: `rt ci` leaves that."""
-    places = ("heavy_ffi/out/libheavy_ffi.a", "heavy/out/rlib/heavy.rlib")
+    places = ("heavy_ffi/out/libheavy_ffi.a", "hh_commands/out/rlib/hh_commands.rlib")
     return any((TOP / "crates" / place).exists() for place in places)
 
 

@@ -21,7 +21,7 @@ use Rattle.hh_records.specs.CutTexts.{AreReadByPieces}
 use Rattle.hh_records.specs.Layouts.{stream_with}
 use Rattle.hh_records.specs.declared.layout.Layout.{Layout}
 use Rattle.heavy.specs.FilePasses.{items_of_weights, weighted}
-use Rattle.heavy.specs.Records.{CountsRecords}
+use Rattle.hh_commands.specs.Records.{CountsRecords}
 use Rattle.heavy.specs.ReportFiles.{items_or_too_many, lists_of}
 use Rattle.heavy.proofs.FilePieceFacts.{each_is_read}
 use Rattle.heavy.proofs.WeighFacts.{Weighs, texts_weigh}

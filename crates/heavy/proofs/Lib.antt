@@ -1,9 +1,4 @@
-pub mod AddFacts
-mod CountFacts
-pub mod FileFacts
-pub mod KeyFacts
 pub mod MergeFacts
-pub mod NameFacts
 pub mod PieceFacts
 pub mod ReportFacts
 pub mod SourceReportFacts

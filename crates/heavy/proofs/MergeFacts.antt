@@ -15,12 +15,11 @@ use Rattle.hh_saved.specs.Spelling.{Spells}
 use Rattle.hh_saved.specs.declared.format.Version.{Version}
 use Rattle.hh_saved.specs.declared.saved.Saved.{Saved}
 use Rattle.hh_saved.specs.declared.saved.Saved.TheVariants.{Counters}
-use Rattle.heavy.specs.declared.error.MergeCause.TheVariants as cause
-use Rattle.heavy.specs.declared.error.ToolError.{ToolError}
-use Rattle.heavy.specs.declared.error.ToolError.TheVariants as tool
-use Rattle.heavy.specs.Merge.{merge_saved, merged_files, merged_from}
+use Rattle.hh_commands.specs.declared.error.MergeCause.TheVariants as cause
+use Rattle.hh_commands.specs.declared.error.ToolError.{ToolError}
+use Rattle.hh_commands.specs.declared.error.ToolError.TheVariants as tool
+use Rattle.hh_commands.specs.Merge.{merge_saved, merged_files, merged_from}
 use Rattle.heavy.specs.Laws.{HeldTreesReport, HoldsTree, MergesHoldTrees, PartsHoldPieces}
-use Rattle.heavy.proofs.FileFacts.{ok-no_err}
 
 -- two saved summaries merge to what a node of a tree makes of them, or are refused
 both_merge : (n : ℕ) (s t : SummaryView)
@@ -62,7 +61,7 @@ rest_merge ss n t u (f ∷ fs) saved is ((v, made, read), holds) all = elim (bot
       rest_merge ss (n + 1) (Merge t f.0) (merge_of u v) fs saved (rw (is, made) node) holds (sym step ∙ all)
   | inr (e, refused) ↦
       let step : merged_from n (Counters u) (map (λ g. g.1) (f ∷ fs)) ≡ Err e = rw (read, refused) refl in
-      absurd (ok-no_err (sym all ∙ step))
+      let never = sym all ∙ step in absurd cc
 ]
 
 -- files that hold trees, merged, hold the tree that merges those

@@ -7,8 +7,8 @@ use Rattle.hh_records.specs.Streams.{Known}
 use Rattle.hh_records.specs.declared.printed.RowOptions.{RowOptions}
 use Rattle.heavy.specs.Report.{AreOptions, AreWritten, IsPrinted, IsReported, KeysNotWritten, PrintRefused, ReportRefused, WriteRefused}
 use Rattle.heavy.specs.declared.commands.report.ReportOptions.{ReportOptions}
-use Rattle.heavy.specs.declared.error.ToolError.{ToolError}
-use Rattle.heavy.specs.declared.error.ToolError.TheVariants as tool
+use Rattle.hh_commands.specs.declared.error.ToolError.{ToolError}
+use Rattle.hh_commands.specs.declared.error.ToolError.TheVariants as tool
 
 fault_same : (A : Type 0) {E : Type 0} (e f : E) → ◌≡◌ {A = Result A E} (Err e) (Err f) → e ≡ f
 fault_same A e f h = cc

@@ -19,14 +19,14 @@ use Rattle.hh_records.specs.declared.printed.RowOptions.{RowOptions}
 use Rattle.hh_records.specs.declared.texts.TextError.{TextError}
 use Rattle.hh_records.specs.declared.texts.TextError.TheVariants as text
 use Rattle.hh_records.proofs.SourceFacts.{reads-still, refused-still}
-use Rattle.heavy.specs.Confirm.{confirmed_above}
-use Rattle.heavy.specs.Records.{IsCountOf, RecordsRefused, text_fault}
+use Rattle.hh_commands.specs.Confirm.{confirmed_above}
+use Rattle.hh_commands.specs.Records.{IsCountOf, RecordsRefused, text_fault}
 use Rattle.heavy.specs.Report.{AreOptions, ReportsKeys, StartRefused}
 use Rattle.heavy.specs.ReportFiles.{FindsKeys, IfKnown, PrintsFileRows}
-use Rattle.heavy.specs.Summarise.{IsSummaryOf}
+use Rattle.hh_commands.specs.Summarise.{IsSummaryOf}
 use Rattle.heavy.specs.declared.commands.report.ReportOptions.{ReportOptions}
-use Rattle.heavy.specs.declared.error.ToolError.{ToolError}
-use Rattle.heavy.specs.declared.error.ToolError.TheVariants as tool
+use Rattle.hh_commands.specs.declared.error.ToolError.{ToolError}
+use Rattle.hh_commands.specs.declared.error.ToolError.TheVariants as tool
 
 -- a summary's keys, counted in a second reading of the records that it is of, are the report where both readings are one
 pub counted_twice : MisraGriesIsHonest → CandidatesSuffice → (names : Bool) (o : Option (Option Reading)) (k p q : ℕ)

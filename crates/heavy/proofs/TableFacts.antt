@@ -13,18 +13,12 @@ use Rattle.hh_records.specs.declared.layout.Layout.{Layout}
 use Rattle.hh_saved.specs.Spelling.{Spells}
 use Rattle.hh_saved.specs.declared.format.Version.TheVariants as version
 use Rattle.hh_saved.specs.declared.saved.Saved.TheVariants.{Cells}
-use Rattle.heavy.specs.Records.{SavesStream}
+use Rattle.hh_commands.specs.Records.{SavesStream}
 use Rattle.heavy.specs.ReportFiles.{items_or_too_many, lists_of}
-use Rattle.heavy.specs.Table.{TabulatesRecords}
+use Rattle.hh_commands.specs.Table.{TabulatesRecords}
 use Rattle.heavy.proofs.FilePieceFacts.{each_is_read}
 
 module _ (family : Coefficients) (width : ℕ) (t : TableView) where
-  -- what is spelled of a table of records is their saved table
-  pub spells_table : (known : Known) (bytes : List ℕ) → TabulatesRecords known family width t
-      → Spells version.Two bytes (Cells t) → SavesStream (λ xs. Cells (table_of family width xs)) known bytes
-  spells_table known bytes (xs, reads, is) spells =
-      (xs, reads, subst (λ (table : TableView). Spells version.Two bytes (Cells table)) is spells)
-
   -- a table that workers bring back is that of the records
   pub pieces_tabulate : (layout : Layout) (names : Bool) (texts : Option (List (List ℕ))) (count : ℕ)
       (o : Option (List (Option (List Entry))))

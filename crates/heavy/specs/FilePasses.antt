@@ -9,11 +9,11 @@ use Rattle.hh_pool.specs.Settings.{max_workers}
 use Rattle.hh_records.specs.Streams.{Known}
 use Rattle.hh_records.specs.Thresholds.{threshold_of}
 use Rattle.hh_records.specs.declared.threshold.Share.{Share}
-use Rattle.heavy.specs.Confirm.{CountRefused}
-use Rattle.heavy.specs.Files.{RefusedFrom}
-use Rattle.heavy.specs.Records.{RecordsRefused}
-use Rattle.heavy.specs.declared.error.ToolError.{ToolError}
-use Rattle.heavy.specs.declared.error.ToolError.TheVariants as tool
+use Rattle.hh_commands.specs.Confirm.{CountRefused}
+use Rattle.hh_commands.specs.Files.{RefusedFrom}
+use Rattle.hh_commands.specs.Records.{RecordsRefused}
+use Rattle.hh_commands.specs.declared.error.ToolError.{ToolError}
+use Rattle.hh_commands.specs.declared.error.ToolError.TheVariants as tool
 
 -- the keys of counters that have a weight, each with it
 abbrev pub weighted : Counters → List ℕ → List Entry

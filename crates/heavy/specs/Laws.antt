@@ -11,9 +11,9 @@ use Rattle.hh_saved.specs.Spelling.{Spells}
 use Rattle.hh_saved.specs.declared.format.Version.{Version}
 use Rattle.hh_saved.specs.declared.saved.Saved.{Saved}
 use Rattle.hh_saved.specs.declared.saved.Saved.TheVariants.{Counters}
-use Rattle.heavy.specs.Confirm.{confirmed_above}
-use Rattle.heavy.specs.Files.{HoldsSummary}
-use Rattle.heavy.specs.Merge.{merged_files}
+use Rattle.hh_commands.specs.Confirm.{confirmed_above}
+use Rattle.hh_commands.specs.Files.{HoldsSummary}
+use Rattle.hh_commands.specs.Merge.{merged_files}
 
 -- parts that are condensed one by one, and joined in any order, are confirmed as the parts are
 abbrev pub CondensedPartsConfirm : Type 0

@@ -18,11 +18,11 @@ use Rattle.hh_records.specs.Sinks.{TakesFirst}
 use Rattle.hh_records.specs.Streams.{Known, ReadsAs}
 use Rattle.hh_records.specs.Thresholds.{threshold_of}
 use Rattle.hh_records.specs.declared.printed.RowOptions.{RowOptions}
-use Rattle.heavy.specs.Records.{RecordsRefused}
-use Rattle.heavy.specs.declared.error.ToolError.{ToolError}
-use Rattle.heavy.specs.declared.error.ToolError.TheVariants as tool
-use Rattle.heavy.specs.declared.error.TreeFault.{TreeFault}
-use Rattle.heavy.specs.declared.error.TreeFault.TheVariants as bad
+use Rattle.hh_commands.specs.Records.{RecordsRefused}
+use Rattle.hh_commands.specs.declared.error.ToolError.{ToolError}
+use Rattle.hh_commands.specs.declared.error.ToolError.TheVariants as tool
+use Rattle.hh_commands.specs.declared.error.TreeFault.{TreeFault}
+use Rattle.hh_commands.specs.declared.error.TreeFault.TheVariants as bad
 use Rattle.heavy.specs.declared.commands.report.Prepared.{Prepared}
 use Rattle.heavy.specs.declared.commands.report.ReportOptions.{ReportOptions}
 use Rattle.heavy.specs.declared.commands.report.Tree.{Tree}

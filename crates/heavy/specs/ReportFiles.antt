@@ -6,7 +6,7 @@ use Rattle.hh_records.specs.Streams.{Known}
 use Rattle.hh_records.specs.declared.printed.RowOptions.{RowOptions}
 use Rattle.heavy.specs.Report.{AreKeysOf, AreWritten, PrintsRows, WriteRefused}
 use Rattle.heavy.specs.declared.commands.report.ReportOptions.{ReportOptions}
-use Rattle.heavy.specs.declared.error.ToolError.{ToolError}
+use Rattle.hh_commands.specs.declared.error.ToolError.{ToolError}
 
 -- the items of a piece of files, and for one that can't be read by itself more than a total may be
 abbrev pub items_or_too_many : Option (List Entry) → List Entry

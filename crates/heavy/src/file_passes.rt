@@ -10,12 +10,10 @@ ghost use Rattle.hh_counters.specs.Counting.{count_of};
 ghost use Rattle.hh_pool.specs.Settings.{max_workers};
 ghost use Rattle.hh_records.specs.Layouts.{texts_known};
 ghost use Rattle.heavy.specs.FilePasses.{items_of_weights, weighted};
-ghost use Rattle.heavy.specs.Records.{CountsRecords, RecordsRefused};
+ghost use Rattle.hh_commands.specs.Records.{CountsRecords, RecordsRefused};
 
-use crate::commands::condense::free_name;
-use crate::counting::count_records;
-use crate::error::ToolError;
 use crate::file_pieces::FilePieces;
+use hh_commands::{ToolError, count_records, free_name};
 use hh_counters::laws::{condensed_is_counted, condensed_keeps_weights, counts_follow_items};
 use hh_counters::{Candidates, Counts, Summary};
 use hh_pool::{PieceFault, count_pieces};

@@ -8,9 +8,9 @@ ghost use Rattle.hh_countmin.specs.Table.{estimate_in};
 ghost use Rattle.hh_saved.specs.Reading.{saved_of};
 ghost use Rattle.hh_saved.specs.declared.saved.Saved.TheVariants.{Counters};
 ghost use Rattle.hh_records.specs.Streams.{ReadsAs, text_known};
-ghost use Rattle.heavy.specs.Records.{SavesStream};
+ghost use Rattle.hh_commands.specs.Records.{SavesStream};
 
-use heavy::{Method, ToolError, summary_bytes};
+use hh_commands::{Method, ToolError, summary_bytes};
 use hh_counters::laws::counters_bound_weights;
 use hh_counters::{Heavy, Summary};
 use hh_countmin::Table;

@@ -2,8 +2,8 @@
 use Rattle.std.proofs.Common.{◌≡◌, ◌∙◌, ◌⊎◌, inl, inr, ℕ, List, length, Result, Ok, Err, IfOk, IfErr, subst, sym}
 use Rattle.std.specs.Prelude.{IsOkAnd}
 use Rattle.std.specs.Global.{Vec}
-use Rattle.heavy.specs.Files.{StopsAtHead, file_fault}
-use Rattle.heavy.specs.declared.error.ToolError.{ToolError}
+use Rattle.hh_commands.specs.Files.{StopsAtHead, file_fault}
+use Rattle.hh_commands.specs.declared.error.ToolError.{ToolError}
 use Rattle.heavy_ffi.specs.Faults.{IsTold}
 use Rattle.heavy_ffi.specs.declared.fault.Fault.{Fault}
 use Rattle.heavy_ffi.specs.Outcomes.{IsGiven, IsOutcome, TellsHead}

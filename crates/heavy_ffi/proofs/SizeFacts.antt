@@ -9,11 +9,11 @@ use Rattle.hh_counters.specs.Laws.{SummariesFollowItems}
 use Rattle.hh_saved.specs.declared.format.Version.TheVariants as version
 use Rattle.hh_saved.specs.declared.saved.Saved.TheVariants.{Counters}
 use Rattle.hh_saved.specs.Spelling.{Spells}
-use Rattle.heavy.specs.Add.{IsEmpty}
-use Rattle.heavy.specs.Summarise.{bad_k}
-use Rattle.heavy.specs.Table.{bad_table}
-use Rattle.heavy.proofs.AddFacts.{came_of}
-use Rattle.heavy.specs.declared.error.ToolError.{ToolError}
+use Rattle.hh_commands.specs.Add.{IsEmpty}
+use Rattle.hh_commands.specs.Summarise.{bad_k}
+use Rattle.hh_commands.specs.Table.{bad_table}
+use Rattle.hh_commands.proofs.AddFacts.{came_of}
+use Rattle.hh_commands.specs.declared.error.ToolError.{ToolError}
 
 -- what holds of an answer that came, by two clauses
 pub came : {X : Type 0} (r : Result X ToolError) {P Q : X → Type 0} → IfOk r P → IsOkAnd r Q

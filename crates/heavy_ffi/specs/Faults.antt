@@ -4,13 +4,13 @@ use Rattle.hh_saved.specs.declared.fault.SavedFault.{SavedFault}
 use Rattle.hh_saved.specs.declared.fault.SavedFault.TheVariants as saved
 use Rattle.hh_records.specs.declared.records.BadRecordCause.{BadRecordCause}
 use Rattle.hh_records.specs.declared.records.BadRecordCause.TheVariants as bad
-use Rattle.heavy.specs.Status.{status_of}
-use Rattle.heavy.specs.declared.error.MergeCause.{MergeCause}
-use Rattle.heavy.specs.declared.error.MergeCause.TheVariants as merge
-use Rattle.heavy.specs.declared.error.KeyCause.{KeyCause}
-use Rattle.heavy.specs.declared.error.KeyCause.TheVariants as key
-use Rattle.heavy.specs.declared.error.ToolError.{ToolError}
-use Rattle.heavy.specs.declared.error.ToolError.TheVariants as tool
+use Rattle.hh_commands.specs.Status.{status_of}
+use Rattle.hh_commands.specs.declared.error.MergeCause.{MergeCause}
+use Rattle.hh_commands.specs.declared.error.MergeCause.TheVariants as merge
+use Rattle.hh_commands.specs.declared.error.KeyCause.{KeyCause}
+use Rattle.hh_commands.specs.declared.error.KeyCause.TheVariants as key
+use Rattle.hh_commands.specs.declared.error.ToolError.{ToolError}
+use Rattle.hh_commands.specs.declared.error.ToolError.TheVariants as tool
 use Rattle.heavy_ffi.specs.declared.fault.Fault.{Fault}
 
 -- which fault it is

@@ -8,12 +8,12 @@ use Rattle.hh_saved.specs.declared.format.Version.TheVariants as version
 use Rattle.hh_saved.specs.declared.saved.Saved.{Saved}
 use Rattle.hh_stream.specs.Weights.{Bytes}
 use Rattle.hh_stream.specs.Ranges.{in_range}
-use Rattle.heavy.specs.Ask.{answer, answers_of}
-use Rattle.heavy.specs.Files.{file_fault}
-use Rattle.heavy.specs.Merge.{merged_files}
-use Rattle.heavy.specs.Summarise.{bad_k}
-use Rattle.heavy.specs.declared.error.ToolError.{ToolError}
-use Rattle.heavy.specs.declared.error.ToolError.TheVariants as tool
+use Rattle.hh_commands.specs.Ask.{answer, answers_of}
+use Rattle.hh_commands.specs.Files.{file_fault}
+use Rattle.hh_commands.specs.Merge.{merged_files}
+use Rattle.hh_commands.specs.Summarise.{bad_k}
+use Rattle.hh_commands.specs.declared.error.ToolError.{ToolError}
+use Rattle.hh_commands.specs.declared.error.ToolError.TheVariants as tool
 use Rattle.heavy_ffi.specs.Faults.{IsTold, TellsNone}
 use Rattle.heavy_ffi.specs.declared.fault.Fault.{Fault}
 use Rattle.heavy_ffi.specs.declared.room.Bounds.{Bounds}

@@ -4,7 +4,8 @@ ghost use Rattle.std.specs.Prelude.{◌≡◌};
 ghost use Rattle.heavy_ffi.specs.Faults.{IsTold, cause_of, file_cause, key_cause, kind_of};
 ghost use Rattle.heavy_ffi.specs.Faults.{merge_cause, no_fault, number_of, record_cause};
 
-use heavy::{BadRecordCause, KeyCause, MergeCause, ToolError};
+use hh_commands::{KeyCause, MergeCause, ToolError};
+use hh_records::BadRecordCause;
 use hh_saved::SavedFault;
 
 /// Why a call refused: which fault, its cause, and the number of the record, file or key, from 1

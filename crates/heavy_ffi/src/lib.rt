@@ -20,21 +20,21 @@ ghost use Rattle.hh_records.specs.Pieces.{AreWholeRecords};
 ghost use Rattle.hh_records.specs.Streams.{text_known};
 ghost use Rattle.hh_saved.specs.Sizes.{most_summary_bytes, table_bytes};
 ghost use Rattle.hh_saved.specs.declared.saved.Saved.TheVariants.{Cells, Counters};
-ghost use Rattle.heavy.specs.Add.{IsEmpty, IsEmptyTable, added, empty_of, empty_table_of};
-ghost use Rattle.heavy.specs.AddText.{AddTextRefused, AddsText};
-ghost use Rattle.heavy.specs.Ask.{answer, answers_of};
-ghost use Rattle.heavy.specs.Condense.{CondenseRefused, CondensesRows};
-ghost use Rattle.heavy.specs.Confirm.{ConfirmRefused, ConfirmsRows};
-ghost use Rattle.heavy.specs.ConfirmShare.{ConfirmShareRefused, ConfirmsShare};
-ghost use Rattle.heavy.specs.CountItems.{condensed_items, confirmed_items};
-ghost use Rattle.heavy.specs.Describe.{description};
-ghost use Rattle.heavy.specs.Entries.{ListsEntries};
-ghost use Rattle.heavy.specs.Files.{HoldsSummary, HoldsTable, Refuses, StopsAtHead, SummaryRefused, file_of};
-ghost use Rattle.heavy.specs.List.{ListsKeys};
-ghost use Rattle.heavy.specs.Merge.{merged_files};
-ghost use Rattle.heavy.specs.Records.{RefusedAfter, SavesStream};
-ghost use Rattle.heavy.specs.Summarise.{bad_k};
-ghost use Rattle.heavy.specs.Table.{bad_table};
+ghost use Rattle.hh_commands.specs.Add.{IsEmpty, IsEmptyTable, added, empty_of, empty_table_of};
+ghost use Rattle.hh_commands.specs.AddText.{AddTextRefused, AddsText};
+ghost use Rattle.hh_commands.specs.Ask.{answer, answers_of};
+ghost use Rattle.hh_commands.specs.Condense.{CondenseRefused, CondensesRows};
+ghost use Rattle.hh_commands.specs.Confirm.{ConfirmRefused, ConfirmsRows};
+ghost use Rattle.hh_commands.specs.ConfirmShare.{ConfirmShareRefused, ConfirmsShare};
+ghost use Rattle.hh_commands.specs.CountItems.{condensed_items, confirmed_items};
+ghost use Rattle.hh_commands.specs.Describe.{description};
+ghost use Rattle.hh_commands.specs.Entries.{ListsEntries};
+ghost use Rattle.hh_commands.specs.Files.{HoldsSummary, HoldsTable, Refuses, StopsAtHead, SummaryRefused, file_of};
+ghost use Rattle.hh_commands.specs.List.{ListsKeys};
+ghost use Rattle.hh_commands.specs.Merge.{merged_files};
+ghost use Rattle.hh_commands.specs.Records.{RefusedAfter, SavesStream};
+ghost use Rattle.hh_commands.specs.Summarise.{bad_k};
+ghost use Rattle.hh_commands.specs.Table.{bad_table};
 ghost use Rattle.heavy_ffi.specs.Faults.{IsTold, no_fault};
 ghost use Rattle.heavy_ffi.specs.Items.{AddsItems, items_of, shape_fault};
 ghost use Rattle.heavy_ffi.specs.Outcomes.{AreAnswers, IsAnswer, IsMergeOf, IsOutcome};
@@ -42,16 +42,16 @@ ghost use Rattle.heavy_ffi.specs.Outcomes.{TellsFault, TellsHead, bad_summary, b
 
 pub use fault::Fault;
 use fault::tell;
-use heavy::{
-    Method, Place, ToolError, add_items, add_text, ask_key, ask_keys, condense_bytes,
-    condense_items, confirm_bytes, confirm_items, confirm_share, describe_file, empty_summary,
-    empty_table, list_entries, list_keys, merge_bytes, summary_bytes, table_bytes,
+use hh_commands::{
+    Method, ToolError, add_items, add_text, ask_key, ask_keys, condense_bytes, condense_items,
+    confirm_bytes, confirm_items, confirm_share, describe_file, empty_summary, empty_table,
+    list_entries, list_keys, merge_bytes, summary_bytes, table_bytes,
 };
 use hh_counters::laws::summaries_follow_items;
 use hh_countmin::laws::drawn_families_are_families;
 use hh_records::whole_records;
 use hh_saved::laws::sizes_are_bounded;
-use hh_saved::{SavedFault, read};
+use hh_saved::{Place, SavedFault, read};
 use items::{items_of, shape_fault};
 use parts::files_of;
 pub use room::Bounds;

@@ -2,14 +2,12 @@
 
 ghost use Rattle.std.specs.Prelude.{IfOk, IfErr};
 ghost use Rattle.hh_records.specs.Layouts.{texts_known};
-ghost use Rattle.heavy.specs.Condense.{CondensesRows};
+ghost use Rattle.hh_commands.specs.Condense.{CondensesRows};
 ghost use Rattle.heavy.specs.FilePasses.{CondenseFilesRefused};
-ghost use Rattle.heavy.specs.Files.{StopsAtHead};
+ghost use Rattle.hh_commands.specs.Files.{StopsAtHead};
 
-use crate::commands::condense::condensed_counts;
-use crate::error::ToolError;
 use crate::file_passes::count_sources;
-use crate::files::summary_in;
+use hh_commands::{ToolError, condensed_counts, summary_in};
 use hh_pool::MAX_WORKERS;
 use hh_records::{ReadAt, SourceRecords};
 use hh_stream::in_range;

@@ -2,14 +2,12 @@
 
 ghost use Rattle.std.specs.Prelude.{IfOk, IfErr};
 ghost use Rattle.hh_records.specs.Layouts.{texts_known};
-ghost use Rattle.heavy.specs.Confirm.{ConfirmsPrinted, TellsTotals};
+ghost use Rattle.hh_commands.specs.Confirm.{ConfirmsPrinted, TellsTotals};
 ghost use Rattle.heavy.specs.FilePasses.{ConfirmFilesRefused};
-ghost use Rattle.heavy.specs.Files.{StopsAtHead};
+ghost use Rattle.hh_commands.specs.Files.{StopsAtHead};
 
-use crate::commands::confirm::{Totals, confirmed_text};
-use crate::error::ToolError;
 use crate::file_passes::count_sources;
-use crate::files::summary_in;
+use hh_commands::{ToolError, Totals, confirmed_text, summary_in};
 use hh_pool::MAX_WORKERS;
 use hh_records::{ReadAt, RowOptions, Share, SourceRecords, threshold_of};
 use hh_stream::in_range;

@@ -12,15 +12,15 @@ ghost use Rattle.hh_records.specs.Printed.{printed_rows};
 ghost use Rattle.hh_records.specs.Layouts.{records_known};
 ghost use Rattle.hh_records.specs.Streams.{Known, ReadsAs, text_known};
 ghost use Rattle.hh_records.specs.Thresholds.{threshold_of};
-ghost use Rattle.heavy.specs.Records.{RecordsRefused};
+ghost use Rattle.hh_commands.specs.Records.{RecordsRefused};
 ghost use Rattle.heavy.specs.Report.{AreKeysOf, AreKeysOfPieces, AreOptions, IsOptionFault, IsPrinted, IsReported, Names};
 ghost use Rattle.heavy.specs.Report.{PrintRefused, ReportRefused};
 ghost use Rattle.heavy.specs.Report.{IsPrepared, KeysNotWritten, ReportsKeys, StartRefused, TreeRefused, bad_option};
 ghost use Rattle.heavy.specs.Report.{failed_by, settings_of};
 
-use crate::error::{ToolError, TreeFault};
 use crate::file_passes::piece_count;
 use crate::text_pieces::TextPieces;
+use hh_commands::{ToolError, TreeFault};
 use hh_counters::{Heavy, MAX_K};
 use hh_countmin::{Family, MAX_DEPTH, MAX_WIDTH};
 use hh_pool::{

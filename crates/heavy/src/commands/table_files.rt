@@ -7,13 +7,13 @@ ghost use Rattle.hh_countmin.specs.Table.{table_of};
 ghost use Rattle.hh_pool.specs.Settings.{max_workers};
 ghost use Rattle.hh_records.specs.Layouts.{texts_known};
 ghost use Rattle.hh_saved.specs.declared.saved.Saved.TheVariants.{Cells};
-ghost use Rattle.heavy.specs.Records.{RecordsRefused, RefusedAfter, SavesStream};
-ghost use Rattle.heavy.specs.Table.{TabulatesRecords, bad_table_of_files};
+ghost use Rattle.hh_commands.specs.Records.{RecordsRefused, RefusedAfter, SavesStream};
+ghost use Rattle.hh_commands.specs.Table.{TabulatesRecords};
+ghost use Rattle.heavy.specs.TableFiles.{bad_table_of_files};
 
-use crate::commands::table::table_of_records;
-use crate::error::ToolError;
 use crate::file_passes::piece_count;
 use crate::file_pieces::FilePieces;
+use hh_commands::{ToolError, table_of_records};
 use hh_countmin::{Family, MAX_DEPTH, MAX_WIDTH, Table};
 use hh_pool::{MAX_WORKERS, PieceFault, tabulate_pieces};
 use hh_records::{CutFiles, ReadAt, SourceRecords, lengths};

@@ -3,7 +3,7 @@ use Rattle.hh_countmin.specs.Family.{drawn_family}
 use Rattle.hh_countmin.specs.Table.{table_of}
 use Rattle.hh_saved.specs.declared.format.Version.TheVariants as version
 use Rattle.hh_saved.specs.Sizes.{table_bytes}
-use Rattle.heavy.specs.Table.{bad_table}
+use Rattle.hh_commands.specs.Table.{bad_table}
 use Rattle.heavy_ffi.proofs.OutcomeFacts.{outcome_of}
 use Rattle.heavy_ffi.proofs.SizeFacts.{came, depth_passed, passed}
 use Rattle.heavy_ffi.proofs.heavy_table.Goals as goal

@@ -1,5 +1,0 @@
-use Rattle.std.proofs.Common.{rules}
-use Rattle.heavy.proofs.commands.condense.condensed_rows.Goals as goal
-
-pub returns : goal.returns
-returns c = search rules

@@ -1,0 +1,6 @@
+pub mod AddFacts
+mod CountFacts
+pub mod FileFacts
+pub mod KeyFacts
+pub mod NameFacts
+pub mod TableFacts

@@ -1,0 +1,28 @@
+use Rattle.std.proofs.Common.{◌+◌, ◌∙◌, ap, map, refl}
+use Rattle.std.proofs.lemmas.Result.{err_from_is_err_and}
+use Rattle.std.specs.Prelude.{vec_items}
+use Rattle.hh_commands.specs.Ask.{asked_value}
+use Rattle.hh_commands.proofs.FileFacts.{refuses}
+use Rattle.hh_commands.proofs.KeyFacts.{keys_go_on, keys_stop, keys_end}
+use Rattle.hh_commands.proofs.commands.ask.asked.Goals as goal
+
+pub loop-i-preserved : goal.loop-i-preserved
+loop-i-preserved c =
+    let is = c.deref.ensures.value ∙ ap vec_items c.index-words-i.is in (
+      c.loop-i.invariant.0,
+      keys_go_on vec_items c.args.words.now c.loop-i.i c.index-words-i.result _ is c.loop-i-test.true _
+          c.loop-i.invariant.1 c.in_ok-check_key.ensures,
+    )
+
+pub returns-in_err-check_key-clause-refused : goal.returns-in_err-check_key-clause-refused
+returns-in_err-check_key-clause-refused c =
+    let p = err_from_is_err_and c.from_residual-in_err-check_key.result c.from_residual-in_err-check_key.ensures.1 in
+    let is = c.deref.ensures.value ∙ ap vec_items c.index-words-i.is in
+    let bad = keys_stop vec_items c.args.words.now c.loop-i.i c.index-words-i.result _ is c.loop-i-test.true
+    _ c.loop-i.invariant.1 c.in_err-check_key.ensures in
+    rw (p.1, p.2) (refuses (asked_value c.args.file.now (map vec_items c.args.words.now)) c.in_err-check_key.field-0.0
+    (rw (c.loop-i.invariant.0, bad) refl))
+
+pub returns-clause-keys : goal.returns-clause-keys
+returns-clause-keys c =
+    keys_end vec_items c.args.words.now c.loop-i.i (c.loop-i.i + 1) _ c.loop-i-test.false c.loop-i.invariant.1

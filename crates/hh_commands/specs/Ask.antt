@@ -1,0 +1,80 @@
+-- What a saved file tells of keys.
+use Rattle.std.specs.Prelude.{◌==◌, ◌+◌, nat_le, ℕ, List, [], ◌∷◌, length, map, Option, Some, None, Result, Ok, Err, if◌then◌else◌}
+use Rattle.std.specs.List.{flat_map}
+use Rattle.csv.specs.Writing.{default_writer, row_text}
+use Rattle.hh_stream.specs.Weights.{Bytes, weight_of, max_key_len}
+use Rattle.hh_counters.specs.Counters.{slack}
+use Rattle.hh_countmin.specs.Table.{estimate_in}
+use Rattle.hh_records.specs.Decimals.{pointed}
+use Rattle.hh_saved.specs.declared.saved.Saved.{Saved}
+use Rattle.hh_saved.specs.declared.saved.Saved.TheVariants.{Counters, Cells}
+use Rattle.hh_commands.specs.Files.{file_of, ◌>>=◌}
+use Rattle.hh_commands.specs.declared.error.KeyCause.TheVariants as key
+use Rattle.hh_commands.specs.declared.error.ToolError.{ToolError}
+use Rattle.hh_commands.specs.declared.error.ToolError.TheVariants as tool
+
+-- a key's weight is at least the first number, and at most the second
+abbrev pub answer_of : Saved → Bytes → ℕ × ℕ
+answer_of (Counters s) x =
+    (weight_of x s.counters, weight_of x s.counters + slack s.counters s.total s.k)
+answer_of (Cells t) x = (0, estimate_in t x)
+
+-- the text of one row: a key and the two numbers, in units of 10^-d, as csv's default writer writes
+-- them, and a line feed
+abbrev pub bounds_row : ℕ → Bytes → ℕ × ℕ → List ℕ
+bounds_row d x bounds = row_text default_writer (x ∷ pointed d bounds.0 ∷ pointed d bounds.1 ∷ [])
+
+-- the row of a key that is asked
+abbrev pub answer_row : ℕ → Saved → Bytes → List ℕ
+answer_row d v x = bounds_row d x (answer_of v x)
+
+abbrev pub answer_rows : ℕ → Saved → List Bytes → List ℕ
+answer_rows d v keys = flat_map (answer_row d v) keys
+
+-- what is wrong with key n
+abbrev pub key_fault : ℕ → Bytes → Option ToolError
+key_fault n x =
+    if length x == 0 then Some (tool.BadKey n key.Empty)
+    else if nat_le (length x) max_key_len then None
+    else Some (tool.BadKey n key.TooLong)
+
+abbrev pub or_else : Option ToolError → Option ToolError → Option ToolError
+or_else (Some e) other = Some e
+or_else None other = other
+
+-- the first fault of the keys from number n on
+unfoldable pub bad_key : ℕ → List Bytes → Option ToolError
+bad_key n [] = None
+bad_key n (x ∷ xs) = or_else (key_fault n x) (bad_key (n + 1) xs)
+
+abbrev pub unless : {X : Type 0} → Option ToolError → X → Result X ToolError
+unless None x = Ok x
+unless (Some e) x = Err e
+
+-- the value of the file, or the first refusal: of the file, and then of the keys
+abbrev pub asked_value : List ℕ → List Bytes → Result Saved ToolError
+asked_value file keys = do
+  v ← file_of 1 file
+  unless (bad_key 1 keys) v
+
+-- the rows of all keys, in units of 10^-d, or the first refusal
+abbrev pub answers_in : ℕ → List ℕ → List Bytes → Result (List ℕ) ToolError
+answers_in d file keys = do
+  v ← asked_value file keys
+  Ok (answer_rows d v keys)
+
+-- the same of whole numbers
+abbrev pub answers : List ℕ → List Bytes → Result (List ℕ) ToolError
+answers file keys = answers_in 0 file keys
+
+-- the two numbers of each key, or the first refusal
+abbrev pub answers_of : List ℕ → List Bytes → Result (List (ℕ × ℕ)) ToolError
+answers_of file keys = do
+  v ← asked_value file keys
+  Ok (map (answer_of v) keys)
+
+-- the two numbers of one key, or the first refusal: of the file, and then of the key
+abbrev pub answer : List ℕ → Bytes → Result (ℕ × ℕ) ToolError
+answer file x = do
+  v ← file_of 1 file
+  unless (key_fault 1 x) (answer_of v x)

@@ -1,0 +1,49 @@
+-- What is in a saved file, in rows of a name and a value.
+use Rattle.std.specs.Prelude.{ℕ, List, [], ◌∷◌, ◌++◌, codes, length, nat_eq, Result, Ok, if◌then◌else◌}
+use Rattle.std.specs.List.{flat_map, starts_with}
+use Rattle.std.specs.Fmt.{decimal}
+use Rattle.csv.specs.Writing.{default_writer, row_text}
+use Rattle.hh_stream.specs.Weights.{total_of}
+use Rattle.hh_counters.specs.Counters.{slack}
+use Rattle.hh_saved.specs.declared.saved.Saved.{Saved}
+use Rattle.hh_saved.specs.declared.saved.Saved.TheVariants.{Counters, Cells}
+use Rattle.hh_commands.specs.Files.{file_of, ◌>>=◌}
+use Rattle.hh_commands.specs.declared.error.ToolError.{ToolError}
+
+-- a name and a number
+abbrev pub Fact : Type 0
+Fact = List ℕ × ℕ
+
+-- the row of a name and a number
+abbrev pub fact_row : Fact → List ℕ
+fact_row f = row_text default_writer (f.0 ∷ decimal f.1 ∷ [])
+
+-- the version of a saved file, of which there are two
+abbrev pub version_number : List ℕ → ℕ
+version_number file = if starts_with nat_eq file (codes "HHS1") then 1 else 2
+
+-- the name of the kind of a value
+abbrev pub kind_name : Saved → List ℕ
+kind_name (Counters s) = codes "summary"
+kind_name (Cells t) = codes "table"
+
+-- what is told of a value: of a summary k, how many keys it has, the total, the sum of the counters,
+-- and how far one may be below its key's weight; of a table its shape and the total
+abbrev pub facts_of : Saved → List Fact
+facts_of (Counters s) =
+    (codes "k", s.k) ∷ (codes "keys", length s.counters) ∷ (codes "total", s.total)
+    ∷ (codes "counters", total_of s.counters) ∷ (codes "slack", slack s.counters s.total s.k) ∷ []
+facts_of (Cells t) =
+    (codes "depth", length t.family.rows) ∷ (codes "width", t.width) ∷ (codes "total", t.total) ∷ []
+
+-- the rows of a file of this version that holds this value
+abbrev pub description_of : ℕ → Saved → List ℕ
+description_of version v =
+    fact_row (codes "version", version)
+    ++ row_text default_writer (codes "kind" ∷ kind_name v ∷ []) ++ flat_map fact_row (facts_of v)
+
+-- the rows of a file, or its refusal
+abbrev pub description : List ℕ → Result (List ℕ) ToolError
+description file = do
+  v ← file_of 1 file
+  Ok (description_of (version_number file) v)

@@ -1,0 +1,17 @@
+pub mod Add
+pub mod AddText
+pub mod Ask
+pub mod Condense
+pub mod Confirm
+pub mod ConfirmShare
+pub mod CountItems
+pub mod Describe
+pub mod Entries
+pub mod Files
+pub mod Layouts
+pub mod List
+pub mod Merge
+pub mod Records
+pub mod Status
+pub mod Summarise
+pub mod Table

@@ -1,0 +1,150 @@
+//! Fewer records that say of a summary's keys what many records say.
+
+ghost use Rattle.std.specs.Prelude.{◌≡◌, ◌<◌, ◌^◌, List, IfOk, IfErr};
+ghost use Rattle.std.specs.Map.{keys_of};
+ghost use Rattle.hh_stream.specs.Weights.{Entry, total_of};
+ghost use Rattle.hh_counters.specs.Condensed.{condensed, free_name, other_name};
+ghost use Rattle.hh_counters.specs.Counters.{IsCounters};
+ghost use Rattle.hh_records.specs.Layouts.{records_known};
+ghost use Rattle.hh_records.specs.Rows.{condensed_by};
+ghost use Rattle.hh_records.specs.Streams.{text_known};
+ghost use Rattle.hh_commands.specs.Condense.{CondenseRefused, CondensesRows};
+ghost use Rattle.hh_commands.specs.Files.{StopsAtHead};
+ghost use Rattle.hh_commands.specs.Records.{IsCountOf};
+
+use crate::counting::count_records;
+use crate::error::ToolError;
+use crate::files::summary_in;
+use hh_counters::laws::{condensed_is_counted, free_name_is_first};
+use hh_counters::{Counts, Heavy, Summary};
+use hh_records::{Records, condensed_rows_text};
+use hh_stream::Key;
+use itoa::Buffer;
+use std::alloc::{AllocError, Global};
+use std::io::Read;
+
+/// Name number i for the keys without a counter: `others` and the digits of i, where 0 has none.
+fn other_name(alloc: Global, number: u64) -> Result<Key, AllocError>
+    ensures { IfOk result (λ key. key ≡ other_name number) }
+{
+    let mut name = Vec::from_slice(alloc, b"others")?;
+    if number > 0 {
+        let mut digits = Buffer::new();
+        name.extend_from_slice(digits.format(number).as_bytes())?;
+    }
+    Key::of_bytes(alloc, name.as_slice())
+}
+
+/// The first of the names `others`, `others1`, `others2` and so on that has no counter.
+pub fn free_name(alloc: Global, summary: &Summary) -> Result<Key, AllocError>
+    ensures { IfOk result (λ key. key ≡ free_name summary.now.counters) }
+{
+    free_name_is_first();
+    for number in 0..summary.k() + 1 {
+        let name = other_name(alloc, number)?;
+        if summary.get(&name) == 0 {
+            return Ok(name);
+        }
+    }
+    unreachable!()
+}
+
+/// The sum of the weights of rows.
+fn total_of(rows: &[Heavy]) -> u64
+    requires { total_of rows.now < 2 ^ 64 }
+    ensures { result ≡ total_of rows.now }
+{
+    let mut total = 0;
+    for row in rows {
+        total += row.weight;
+    }
+    total
+}
+
+/// The rows of counted items, condensed.
+pub(crate) fn condensed_rows(
+    alloc: Global,
+    summary: &Summary,
+    counts: &Counts,
+) -> Result<Vec<Heavy>, AllocError>
+    requires counters { IsCounters summary.now.counters }
+    requires counted { (xs : List Entry) × IsCountOf (keys_of summary.now.counters) xs counts.now }
+    ensures { IfOk result (λ rows. (xs : List Entry)
+        → IsCountOf (keys_of summary.now.counters) xs counts.now
+        → rows.items ≡ condensed summary.now.counters xs) }
+{
+    condensed_is_counted();
+    let mut rows = counts.rows(alloc)?;
+    let others = counts.total() - total_of(&rows);
+    if others > 0 {
+        let key = free_name(alloc, summary)?;
+        rows.push(Heavy {
+            key,
+            weight: others,
+        })?;
+    }
+    Ok(rows)
+}
+
+/// The condensed rows of counted items as text, in units of 10^-decimals.
+pub fn condensed_counts(
+    alloc: Global,
+    summary: &Summary,
+    counts: &Counts,
+    decimals: u8,
+) -> Result<Vec<u8>, AllocError>
+    requires counters { IsCounters summary.now.counters }
+    requires counted { (xs : List Entry) × IsCountOf (keys_of summary.now.counters) xs counts.now }
+    ensures { IfOk result (λ text. (xs : List Entry)
+        → IsCountOf (keys_of summary.now.counters) xs counts.now
+        → text.items ≡ condensed_by decimals (condensed summary.now.counters xs)) }
+{
+    let rows = condensed_rows(alloc, summary, counts)?;
+    condensed_rows_text(alloc, &rows, decimals)
+}
+
+/// Records that say the same to [`confirm_bytes`] with the same file as those of the reader, at
+/// most one more than the summary has keys: each key of the summary that comes, with its weight, by
+/// rising key, and then, where other keys come, one record of what they weigh. Its key is the first
+/// of `others`, `others1`, `others2` and so on that is no key of the summary.
+///
+/// So parts of a stream may be condensed one by one by the summary of the whole, and their
+/// condensed records joined in any order. The rows are as [`report_text`](crate::report_text)
+/// writes them, but that the first key is in quotes where it begins with the three bytes of a byte
+/// order mark.
+///
+/// The file is tested first ([`ToolError::BadFile`], as file 1, and [`ToolError::NotCounters`]),
+/// and then the records, whose total need not be the summary's.
+pub fn condense_bytes<R: Read + Drop>(
+    alloc: Global,
+    file: &[u8],
+    reader: R,
+) -> Result<Vec<u8>, ToolError>
+    ensures rows { IfOk result (λ rows.
+        CondensesRows 0 file.now (text_known (R.remaining reader)) rows.items) }
+    ensures refused { IfErr result (λ fault.
+        CondenseRefused file.now (text_known (R.remaining reader)) fault) }
+    ensures early { StopsAtHead 1 file.now result }
+{
+    condense_bytes_from(alloc, file, Records::of_reader(alloc, reader))
+}
+
+/// [`condense_bytes`] of records in texts and columns of one's own. The condensed records are a key
+/// and a weight each, whatever these were, with as many digits behind the point as these may have.
+pub fn condense_bytes_from<R: Read + Drop>(
+    alloc: Global,
+    file: &[u8],
+    records: Records<R>,
+) -> Result<Vec<u8>, ToolError>
+    ensures rows { IfOk result (λ rows.
+        CondensesRows records.layout.decimals file.now
+        (records_known R.remaining records) rows.items) }
+    ensures refused { IfErr result (λ fault.
+        CondenseRefused file.now (records_known R.remaining records) fault) }
+    ensures early { StopsAtHead 1 file.now result }
+{
+    let summary = summary_in(alloc, file)?;
+    let decimals = records.layout.decimals;
+    let counts = count_records(alloc, &summary, records)?;
+    Ok(condensed_counts(alloc, &summary, &counts, decimals)?)
+}

@@ -1,0 +1,113 @@
+//! Saved files, merged.
+
+ghost use Rattle.std.specs.Prelude.{◌≡◌, ◌<◌, Ok, Err, IfOk, IfErr, OnOk, MatchResult, [], map, length, slice_index_or, vec_items};
+ghost use Rattle.hh_saved.specs.Spelling.{Spells};
+ghost use Rattle.hh_saved.specs.declared.format.Version.TheVariants as version;
+ghost use Rattle.hh_saved.specs.declared.saved.Saved.{Saved};
+ghost use Rattle.hh_saved.specs.declared.saved.Saved.TheVariants.{Counters, Cells};
+ghost use Rattle.hh_commands.specs.declared.error.ToolError.{ToolError};
+ghost use Rattle.hh_commands.specs.Files.{Refuses, StopsAtHead};
+ghost use Rattle.hh_commands.specs.Merge.{merge_saved, merged_files};
+
+use crate::error::{MergeCause, ToolError};
+use crate::files::file_of;
+use hh_counters::Summary;
+use hh_countmin::Table;
+use hh_countmin::laws::equal_families_are_one;
+use hh_saved::{Saved, write};
+use std::alloc::Global;
+
+/// Merges the summary of the file with this number.
+fn merge_counters(summary: &mut Summary, number: u64, other: &Summary) -> Result<(), ToolError>
+    ensures merged { OnOk result
+        (merge_saved number (Counters summary.old) (Counters other.now)
+        ≡ Ok (Counters summary.new)) }
+    ensures refused { IfErr result (λ fault.
+        Refuses (merge_saved number (Counters summary.old) (Counters other.now)) fault) }
+    ensures told { (fault : ToolError)
+        → merge_saved number (Counters summary.old) (Counters other.now) ≡ Err fault
+        → result ≡ Err fault }
+{
+    let cause = match summary.merge(other) {
+        Ok(()) => return Ok(()),
+        Err(hh_counters::MergeFault::DifferentK) => MergeCause::DifferentK,
+        Err(hh_counters::MergeFault::TotalTooLarge) => MergeCause::TotalTooLarge,
+        Err(hh_counters::MergeFault::Memory) => return Err(ToolError::Memory),
+    };
+    Err(ToolError::CannotMerge { number, cause })
+}
+
+/// Merges the table of the file with this number.
+fn merge_cells(table: &mut Table, number: u64, other: &Table) -> Result<(), ToolError>
+    ensures { MatchResult result
+        (λ _. merge_saved number (Cells table.old) (Cells other.now) ≡ Ok (Cells table.new))
+        (λ fault. merge_saved number (Cells table.old) (Cells other.now) ≡ Err fault) }
+{
+    equal_families_are_one();
+    let cause = match table.merge(other) {
+        Ok(()) => return Ok(()),
+        Err(hh_countmin::MergeFault::DifferentFamily) => MergeCause::DifferentFamily,
+        Err(hh_countmin::MergeFault::DifferentWidth) => MergeCause::DifferentWidth,
+        Err(hh_countmin::MergeFault::TotalTooLarge) => MergeCause::TotalTooLarge,
+    };
+    Err(ToolError::CannotMerge { number, cause })
+}
+
+/// Merges the value of the file with this number.
+fn merge_saved(merged: &mut Saved, number: u64, next: &Saved) -> Result<(), ToolError>
+    ensures merged { OnOk result (merge_saved number merged.old next.now ≡ Ok merged.new) }
+    ensures refused { IfErr result (λ fault.
+        Refuses (merge_saved number merged.old next.now) fault) }
+    ensures told { (fault : ToolError)
+        → merge_saved number merged.old next.now ≡ Err fault → result ≡ Err fault }
+{
+    match merged {
+        Saved::Counters(summary) => match next {
+            Saved::Counters(other) => merge_counters(summary, number, other),
+            Saved::Cells(_) => Err(ToolError::MixedKinds { number }),
+        },
+        Saved::Cells(table) => match next {
+            Saved::Counters(_) => Err(ToolError::MixedKinds { number }),
+            Saved::Cells(other) => merge_cells(table, number, other),
+        },
+    }
+}
+
+/// The first file with each next one.
+fn merge_files(alloc: Global, files: &[Vec<u8>]) -> Result<Saved, ToolError>
+    requires { 0 < length files.now }
+    ensures merged { IfOk result (λ saved. merged_files (map vec_items files.now) ≡ Ok saved) }
+    ensures refused { IfErr result (λ fault.
+        Refuses (merged_files (map vec_items files.now)) fault) }
+    ensures early { StopsAtHead 1 (slice_index_or (map vec_items files.now) 0 []) result }
+{
+    let mut merged = file_of(alloc, 1, &files[0])?;
+    for i in 1..files.len() {
+        let number = i as u64 + 1;
+        let next = file_of(alloc, number, &files[i])?;
+        merge_saved(&mut merged, number, &next)?;
+    }
+    Ok(merged)
+}
+
+/// Merges saved files: the first with each next one, in order. There is at least one. The result is
+/// the spelling in version 2 of a summary or a table, as the files are, which may be of either
+/// version.
+///
+/// Files are numbered from 1. The first file that is refused is told, and why: first
+/// [`ToolError::BadFile`], its bytes are no spelling; then [`ToolError::MixedKinds`], it is a table
+/// where the first file is a summary, or the other way round; then [`ToolError::CannotMerge`], it
+/// is of another k, hash family or width than the first, or the total of the files up to it is too
+/// large.
+pub fn merge_bytes(alloc: Global, files: &[Vec<u8>]) -> Result<Vec<u8>, ToolError>
+    requires { 0 < length files.now }
+    ensures merged { IfOk result (λ bytes. (saved : Saved)
+        × (merged_files (map vec_items files.now) ≡ Ok saved)
+        × Spells version.Two bytes.items saved) }
+    ensures refused { IfErr result (λ fault.
+        Refuses (merged_files (map vec_items files.now)) fault) }
+    ensures early { StopsAtHead 1 (slice_index_or (map vec_items files.now) 0 []) result }
+{
+    let saved = merge_files(alloc, files)?;
+    Ok(write(alloc, &saved)?)
+}

@@ -1,0 +1,134 @@
+//! Records summarised into a saved file.
+
+ghost use Rattle.std.specs.Prelude.{◌≡◌, true, IsErr, IfOk, IfErr, IfSome, Ok, Err};
+ghost use Rattle.hh_stream.specs.Ranges.{in_range};
+ghost use Rattle.hh_counters.specs.Counters.{max_k, sketch_of};
+ghost use Rattle.hh_records.specs.Layouts.{records_known};
+ghost use Rattle.hh_records.specs.Streams.{text_known};
+ghost use Rattle.hh_saved.specs.declared.saved.Saved.TheVariants.{Counters};
+ghost use Rattle.hh_commands.specs.Records.{RecordsRefused, RefusedAfter, SavesStream};
+ghost use Rattle.hh_commands.specs.Summarise.{IsSummaryOf, bad_k, word_of};
+
+use crate::error::ToolError;
+use hh_counters::laws::summaries_follow_items;
+use hh_counters::{BucketSaving, MAX_K, Monitor, Summary};
+use hh_records::{ReadRecords, Records, read_records};
+use hh_saved::{Saved, write};
+use hh_stream::in_range;
+use std::alloc::Global;
+use std::io::Read;
+
+/// How a stream is summarised. Both ways give the same summary.
+#[derive(Clone, Copy, Debug, PartialEq, Eq)]
+pub enum Method {
+    /// As Misra and Gries do (1982).
+    MisraGries,
+    /// By Space-Saving (Metwally, Agrawal and El Abbadi 2005), translated at the end.
+    SpaceSaving,
+}
+
+impl Method {
+    /// The method of the word `mg` or `ss`.
+    pub fn of(word: &[u8]) -> Result<Method, ToolError>
+        ensures method { IfOk result (λ method. word.now ≡ word_of method) }
+        ensures bad_method { IsErr result → result ≡ Err ToolError.BadMethod }
+        ensures only { (method : Method) → word.now ≡ word_of method → result ≡ Ok method }
+    {
+        match word {
+            b"mg" => Ok(Method::MisraGries),
+            b"ss" => Ok(Method::SpaceSaving),
+            _ => Err(ToolError::BadMethod),
+        }
+    }
+}
+
+/// The summary of some records, by one method or the other.
+fn summary_of<R: Read + Drop>(
+    alloc: Global,
+    k: u64,
+    method: Method,
+    records: Records<R>,
+) -> Result<Summary, ToolError>
+    requires { in_range k max_k ≡ true }
+    ensures summary { IfOk result (IsSummaryOf k (records_known R.remaining records)) }
+    ensures refused { IfErr result (λ fault.
+        RecordsRefused (records_known R.remaining records) fault) }
+{
+    match method {
+        Method::MisraGries => summary_by_counting(alloc, k, records),
+        Method::SpaceSaving => summary_by_monitoring(alloc, k, records),
+    }
+}
+
+/// The summary of some records, whose items are added to it one by one.
+fn summary_by_counting<R: Read + Drop>(
+    alloc: Global,
+    k: u64,
+    records: Records<R>,
+) -> Result<Summary, ToolError>
+    requires { in_range k max_k ≡ true }
+    ensures summary { IfOk result (IsSummaryOf k (records_known R.remaining records)) }
+    ensures refused { IfErr result (λ fault.
+        RecordsRefused (records_known R.remaining records) fault) }
+{
+    summaries_follow_items();
+    let summary = Summary::empty(alloc, k);
+    Ok(read_records(alloc, records, summary)?)
+}
+
+/// The summary of some records, whose items are monitored and translated at the end.
+pub fn summary_by_monitoring<R: ReadRecords>(
+    alloc: Global,
+    k: u64,
+    records: R,
+) -> Result<Summary, ToolError>
+    requires { in_range k max_k ≡ true }
+    ensures summary { IfOk result (IsSummaryOf k (R.known records)) }
+    ensures refused { IfErr result (λ fault. RecordsRefused (R.known records) fault) }
+{
+    summaries_follow_items();
+    let start = BucketSaving::empty(alloc, k)?;
+    let monitor = records.read_into(alloc, start)?;
+    match monitor.into_summary() {
+        Ok(summary) => Ok(summary),
+        Err(_) => Err(ToolError::Memory),
+    }
+}
+
+/// The saved summary of the records of a reader: Misra-Gries with k counters.
+///
+/// k is tested before anything is read. Both methods give the same bytes.
+pub fn summary_bytes<R: Read + Drop>(
+    alloc: Global,
+    k: u64,
+    method: Method,
+    reader: R,
+) -> Result<Vec<u8>, ToolError>
+    ensures saved { IfOk result (λ bytes. SavesStream (λ xs. Counters (sketch_of k xs))
+        (text_known (R.remaining reader)) bytes.items) }
+    ensures refused { IfErr result (λ fault.
+        RefusedAfter (bad_k k) (text_known (R.remaining reader)) fault) }
+    ensures bad_k { IfSome (bad_k k) (λ fault. result ≡ Err fault) }
+{
+    summary_bytes_from(alloc, k, method, Records::of_reader(alloc, reader))
+}
+
+/// [`summary_bytes`] of records in texts and columns of one's own.
+pub fn summary_bytes_from<R: Read + Drop>(
+    alloc: Global,
+    k: u64,
+    method: Method,
+    records: Records<R>,
+) -> Result<Vec<u8>, ToolError>
+    ensures saved { IfOk result (λ bytes. SavesStream (λ xs. Counters (sketch_of k xs))
+        (records_known R.remaining records) bytes.items) }
+    ensures refused { IfErr result (λ fault.
+        RefusedAfter (bad_k k) (records_known R.remaining records) fault) }
+    ensures bad_k { IfSome (bad_k k) (λ fault. result ≡ Err fault) }
+{
+    if !in_range(k, MAX_K) {
+        return Err(ToolError::BadK);
+    }
+    let summary = summary_of(alloc, k, method, records)?;
+    Ok(write(alloc, &Saved::Counters(summary))?)
+}
