@@ -109,7 +109,7 @@ pub fn condensed_counts(
 /// of `others`, `others1`, `others2` and so on that is no key of the summary.
 ///
 /// So parts of a stream may be condensed one by one by the summary of the whole, and their
-/// condensed records joined in any order. The rows are as [`report_text`](crate::report_text)
+/// condensed records joined in any order. The rows are as [`report_text`](hh_records::report_text)
 /// writes them, but that the first key is in quotes where it begins with the three bytes of a byte
 /// order mark.
 ///
