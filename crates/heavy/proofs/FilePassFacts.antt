@@ -17,7 +17,7 @@ use Rattle.hh_counters.specs.Laws.{CondensedIsCounted, CondensedKeepsWeights, Co
 use Rattle.hh_counters.specs.Report.{weights_at}
 use Rattle.hh_counters.proofs.CountFacts.{rows-absent, rows-came}
 use Rattle.hh_counters.proofs.Weights.{at_here, same_self, weight_of-cons}
-use Rattle.hh_records.specs.CutTexts.{AreReadByPieces}
+use Rattle.hh_pieces.specs.CutTexts.{AreReadByPieces}
 use Rattle.hh_records.specs.Layouts.{stream_with}
 use Rattle.hh_records.specs.declared.layout.Layout.{Layout}
 use Rattle.heavy.specs.FilePasses.{items_of_weights, weighted}

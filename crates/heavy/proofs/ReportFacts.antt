@@ -2,9 +2,9 @@
 use Rattle.std.proofs.Common.{◌≡◌, ℕ, List, Option, Some, None, Result, Ok, Err, ap, subst}
 use Rattle.std.specs.Prelude.{IfErr, IfSome, OnOk}
 use Rattle.std.specs.Io.KnownBytes.{Appends}
-use Rattle.hh_records.specs.Printed.{plain_rows}
+use Rattle.hh_rows.specs.Printed.{plain_rows}
 use Rattle.hh_records.specs.Streams.{Known}
-use Rattle.hh_records.specs.declared.printed.RowOptions.{RowOptions}
+use Rattle.hh_rows.specs.declared.printed.RowOptions.{RowOptions}
 use Rattle.heavy.specs.Report.{AreOptions, AreWritten, IsPrinted, IsReported, KeysNotWritten, PrintRefused, ReportRefused, WriteRefused}
 use Rattle.heavy.specs.declared.commands.report.ReportOptions.{ReportOptions}
 use Rattle.hh_commands.specs.declared.error.ToolError.{ToolError}

@@ -4,9 +4,9 @@ use Rattle.std.specs.Prelude.{if◌then◌else◌}
 use Rattle.std.proofs.lemmas.Bool.Decides.{nat_tests}
 use Rattle.hh_counters.specs.Counters.{max_k}
 use Rattle.hh_counters.specs.Report.{IsShare, is_threshold}
-use Rattle.hh_records.specs.Thresholds.{numbers_of, threshold_for, threshold_of}
-use Rattle.hh_records.specs.declared.threshold.Share.{Share}
-use Rattle.hh_records.specs.declared.threshold.Share.TheVariants as share
+use Rattle.hh_rows.specs.Thresholds.{numbers_of, threshold_for, threshold_of}
+use Rattle.hh_rows.specs.declared.threshold.Share.{Share}
+use Rattle.hh_rows.specs.declared.threshold.Share.TheVariants as share
 
 -- the p and q of a threshold are a share
 pub threshold_is_share : (k : ℕ) (s : Share) (t : ℕ × ℕ) → k ≤ max_k → threshold_of k s ≡ Some t → IsShare t.0 t.1

@@ -8,17 +8,17 @@ use Rattle.hh_counters.specs.Counting.{Count, count_of}
 use Rattle.hh_counters.specs.Laws.{CandidatesSuffice, MisraGriesIsHonest}
 use Rattle.hh_counters.specs.Report.{heavy}
 use Rattle.hh_counters.specs.declared.report.Heavy.{Heavy}
-use Rattle.hh_records.specs.Kept.{IsKnownStill}
+use Rattle.hh_pieces.specs.Kept.{IsKnownStill}
 use Rattle.hh_records.specs.Layouts.{stream_with}
-use Rattle.hh_records.specs.Printed.{printed_rows}
-use Rattle.hh_records.specs.Sources.{KeepRefused}
+use Rattle.hh_rows.specs.Printed.{printed_rows}
+use Rattle.hh_pieces.specs.Sources.{KeepRefused}
 use Rattle.hh_records.specs.Streams.{Known, Reading, ReadsAs}
-use Rattle.hh_records.specs.Thresholds.{threshold_of}
+use Rattle.hh_rows.specs.Thresholds.{threshold_of}
 use Rattle.hh_records.specs.declared.layout.Layout.{Layout}
-use Rattle.hh_records.specs.declared.printed.RowOptions.{RowOptions}
+use Rattle.hh_rows.specs.declared.printed.RowOptions.{RowOptions}
 use Rattle.hh_records.specs.declared.texts.TextError.{TextError}
 use Rattle.hh_records.specs.declared.texts.TextError.TheVariants as text
-use Rattle.hh_records.proofs.SourceFacts.{reads-still, refused-still}
+use Rattle.hh_pieces.proofs.SourceFacts.{reads-still, refused-still}
 use Rattle.hh_commands.specs.Confirm.{confirmed_above}
 use Rattle.hh_commands.specs.Records.{IsCountOf, RecordsRefused, text_fault}
 use Rattle.heavy.specs.Report.{AreOptions, ReportsKeys, StartRefused}

@@ -6,7 +6,7 @@ use Rattle.hh_stream.specs.Weights.{Entry, max_total, total_of}
 use Rattle.hh_countmin.specs.Family.{Coefficients}
 use Rattle.hh_countmin.specs.Table.{TableView, table_of}
 use Rattle.hh_pool.specs.Tabulated.{IsTable}
-use Rattle.hh_records.specs.CutTexts.{AreReadByPieces}
+use Rattle.hh_pieces.specs.CutTexts.{AreReadByPieces}
 use Rattle.hh_records.specs.Layouts.{stream_with}
 use Rattle.hh_records.specs.Streams.{Known}
 use Rattle.hh_records.specs.declared.layout.Layout.{Layout}

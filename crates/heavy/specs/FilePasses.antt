@@ -7,8 +7,8 @@ use Rattle.hh_counters.specs.Condensed.{entry_of, free_name}
 use Rattle.hh_counters.specs.Counters.{Counters, SummaryView, exceeds}
 use Rattle.hh_pool.specs.Settings.{max_workers}
 use Rattle.hh_records.specs.Streams.{Known}
-use Rattle.hh_records.specs.Thresholds.{threshold_of}
-use Rattle.hh_records.specs.declared.threshold.Share.{Share}
+use Rattle.hh_rows.specs.Thresholds.{threshold_of}
+use Rattle.hh_rows.specs.declared.threshold.Share.{Share}
 use Rattle.hh_commands.specs.Confirm.{CountRefused}
 use Rattle.hh_commands.specs.Files.{RefusedFrom}
 use Rattle.hh_commands.specs.Records.{RecordsRefused}

@@ -12,12 +12,12 @@ use Rattle.hh_pool.specs.Trees.{IsBalanced, IsMergeTree, MergeTree, chain_of, le
 use Rattle.hh_pool.specs.declared.parsing.PlanFault.{PlanFault}
 use Rattle.hh_pool.specs.declared.parsing.PlanFault.TheVariants as plan
 use Rattle.hh_stream.specs.Ranges.{in_range}
-use Rattle.hh_records.specs.Printed.{printed_rows}
-use Rattle.hh_records.specs.Rows.{rows_of}
-use Rattle.hh_records.specs.Sinks.{TakesFirst}
+use Rattle.hh_rows.specs.Printed.{printed_rows}
+use Rattle.hh_rows.specs.Rows.{rows_of}
+use Rattle.hh_rows.specs.Sinks.{TakesFirst}
 use Rattle.hh_records.specs.Streams.{Known, ReadsAs}
-use Rattle.hh_records.specs.Thresholds.{threshold_of}
-use Rattle.hh_records.specs.declared.printed.RowOptions.{RowOptions}
+use Rattle.hh_rows.specs.Thresholds.{threshold_of}
+use Rattle.hh_rows.specs.declared.printed.RowOptions.{RowOptions}
 use Rattle.hh_commands.specs.Records.{RecordsRefused}
 use Rattle.hh_commands.specs.declared.error.ToolError.{ToolError}
 use Rattle.hh_commands.specs.declared.error.ToolError.TheVariants as tool

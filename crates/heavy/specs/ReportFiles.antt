@@ -3,7 +3,7 @@
 use Rattle.std.specs.Prelude.{◌+◌, ◌∷◌, ℕ, List, [], map, replicate, Option, Some, None, IfSome}
 use Rattle.hh_stream.specs.Weights.{Entry, max_total}
 use Rattle.hh_records.specs.Streams.{Known}
-use Rattle.hh_records.specs.declared.printed.RowOptions.{RowOptions}
+use Rattle.hh_rows.specs.declared.printed.RowOptions.{RowOptions}
 use Rattle.heavy.specs.Report.{AreKeysOf, AreWritten, PrintsRows, WriteRefused}
 use Rattle.heavy.specs.declared.commands.report.ReportOptions.{ReportOptions}
 use Rattle.hh_commands.specs.declared.error.ToolError.{ToolError}

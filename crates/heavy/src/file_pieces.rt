@@ -3,8 +3,8 @@
 ghost use Rattle.std.specs.Prelude.{◌≡◌, IsSome, length};
 ghost use Rattle.heavy.specs.ReportFiles.{lists_of};
 
+use hh_pieces::{CutFiles, ReadAt};
 use hh_pool::{PieceFault, Pieces};
-use hh_records::{CutFiles, ReadAt};
 use hh_stream::TakeItems;
 use std::alloc::Global;
 
@@ -47,8 +47,8 @@ impl<'t, S: ReadAt> Pieces for FilePieces<'t, S> {
     ) -> Result<(), PieceFault> {
         match self.files.feed(alloc, piece, taker) {
             Ok(()) => Ok(()),
-            Err(hh_records::PieceFault::Refused) => Err(PieceFault::Refused),
-            Err(hh_records::PieceFault::Memory) => Err(PieceFault::Memory),
+            Err(hh_pieces::PieceFault::Refused) => Err(PieceFault::Refused),
+            Err(hh_pieces::PieceFault::Memory) => Err(PieceFault::Memory),
         }
     }
 }

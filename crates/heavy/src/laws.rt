@@ -4,7 +4,8 @@ ghost use Rattle.heavy.specs.Laws.{CondensedPartsConfirm, HeldTreesReport, Hones
 
 use hh_counters::laws::condensed_parts_suffice;
 use hh_pool::laws::{parts_report_by_any_tree, trees_merge_summaries};
-pub use hh_records::laws::{condensed_files_are_read, texts_are_items};
+pub use hh_records::laws::texts_are_items;
+pub use hh_rows::laws::condensed_files_are_read;
 use hh_saved::laws::spellings_are_read;
 
 /// Over several machines: each part is condensed where it lies, and the condensed parts, joined in

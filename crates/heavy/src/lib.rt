@@ -21,10 +21,11 @@ pub use hh_commands::{
     table_bytes, table_bytes_from,
 };
 pub use hh_counters::Heavy;
+pub use hh_pieces::{FileOrPipe, FileRecords, ReadAt, SourceRecords};
 pub use hh_pool::MAX_WORKERS;
-pub use hh_records::{
-    BadRecordCause, Column, FileOrPipe, FileRecords, Layout, Out, ReadAt, ReadError, Records,
-    ReportFault, RowOptions, Share, Sink, SinkFault, SourceRecords, WriteFault, printed_text, put,
-    read_stream, report_text, write_printed, write_report,
+pub use hh_records::{BadRecordCause, Column, Layout, ReadError, Records, read_stream};
+pub use hh_rows::{
+    Out, ReportFault, RowOptions, Share, Sink, SinkFault, WriteFault, printed_text, put,
+    report_text, write_printed, write_report,
 };
 pub use hh_saved::Place;

@@ -4,8 +4,8 @@ ghost use Rattle.std.specs.Prelude.{◌≡◌, Some, None, get_or, map};
 ghost use Rattle.hh_pool.specs.Passes.{piece_of};
 ghost use Rattle.heavy.specs.Report.{items_or_none};
 
+use hh_pieces::CutTexts;
 use hh_pool::{PieceFault, Pieces};
-use hh_records::CutTexts;
 use hh_stream::TakeItems;
 use std::alloc::Global;
 
@@ -37,8 +37,8 @@ impl<'t> Pieces for TextPieces<'t> {
     ) -> Result<(), PieceFault> {
         match self.texts.feed(alloc, piece, taker) {
             Ok(()) => Ok(()),
-            Err(hh_records::PieceFault::Refused) => Err(PieceFault::Refused),
-            Err(hh_records::PieceFault::Memory) => Err(PieceFault::Memory),
+            Err(hh_pieces::PieceFault::Refused) => Err(PieceFault::Refused),
+            Err(hh_pieces::PieceFault::Memory) => Err(PieceFault::Memory),
         }
     }
 }

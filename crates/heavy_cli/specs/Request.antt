@@ -7,9 +7,9 @@ use Rattle.clap.specs.declared.parser.matches.Found.{Found}
 use Rattle.heavy.specs.declared.commands.report.ReportOptions.{ReportOptions}
 use Rattle.heavy.specs.declared.commands.report.Tree.{Tree}
 use Rattle.heavy.specs.declared.commands.report.Tree.TheVariants as shape
-use Rattle.hh_records.specs.declared.printed.RowOptions.{RowOptions}
-use Rattle.hh_records.specs.declared.threshold.Share.{Share}
-use Rattle.hh_records.specs.declared.threshold.Share.TheVariants as limit
+use Rattle.hh_rows.specs.declared.printed.RowOptions.{RowOptions}
+use Rattle.hh_rows.specs.declared.threshold.Share.{Share}
+use Rattle.hh_rows.specs.declared.threshold.Share.TheVariants as limit
 use Rattle.heavy_arguments.specs.Numbers.{IsNumberOf, number_in}
 use Rattle.heavy_host.specs.Words.{AreAllWords, word_of}
 use Rattle.heavy_cli.specs.declared.request.Command.{Command}

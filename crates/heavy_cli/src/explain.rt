@@ -6,7 +6,8 @@ use crate::record_place::place_of;
 use crate::request::{Command, Invocation, RecordWords, Request};
 use crate::told::Told;
 use heavy::{BadRecordCause, Share, ToolError, Totals};
-use hh_records::{pointed, threshold_of};
+use hh_records::pointed;
+use hh_rows::threshold_of;
 use std::io::IsTerminal;
 use std::{fmt, fs};
 

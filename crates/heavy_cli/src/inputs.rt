@@ -7,7 +7,7 @@ use crate::progress::{Metered, SharedProgress};
 use crate::request::{Invocation, RecordWords};
 use heavy::{FileOrPipe, FileRecords, Layout, MAX_WORKERS, ReadAt, Records, ToolError, layout_of};
 use heavy_host::{FileFault, read_file, read_files};
-use hh_records::SourceRecords;
+use hh_pieces::SourceRecords;
 use std::cell::Cell;
 use std::fs::{self, File};
 use std::io::{self, Read, Stdin};

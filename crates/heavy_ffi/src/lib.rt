@@ -16,7 +16,7 @@ ghost use Rattle.hh_stream.specs.Weights.{max_key_len};
 ghost use Rattle.hh_counters.specs.Counters.{SummaryView, sketch_of};
 ghost use Rattle.hh_countmin.specs.Family.{drawn_family};
 ghost use Rattle.hh_countmin.specs.Table.{TableView, table_of};
-ghost use Rattle.hh_records.specs.Pieces.{AreWholeRecords};
+ghost use Rattle.hh_pieces.specs.Pieces.{AreWholeRecords};
 ghost use Rattle.hh_records.specs.Streams.{text_known};
 ghost use Rattle.hh_saved.specs.Sizes.{most_summary_bytes, table_bytes};
 ghost use Rattle.hh_saved.specs.declared.saved.Saved.TheVariants.{Cells, Counters};
@@ -49,7 +49,7 @@ use hh_commands::{
 };
 use hh_counters::laws::summaries_follow_items;
 use hh_countmin::laws::drawn_families_are_families;
-use hh_records::whole_records;
+use hh_pieces::whole_records;
 use hh_saved::laws::sizes_are_bounded;
 use hh_saved::{Place, SavedFault, read};
 use items::{items_of, shape_fault};

@@ -3,7 +3,7 @@ use Rattle.std.specs.Prelude.{◌≡◌, ℕ, List, Ok}
 use Rattle.hh_stream.specs.Weights.{Entry}
 use Rattle.hh_counters.specs.Condensed.{condensed}
 use Rattle.hh_counters.specs.Counters.{SummaryView}
-use Rattle.hh_records.specs.Rows.{condensed_by}
+use Rattle.hh_rows.specs.Rows.{condensed_by}
 use Rattle.hh_records.specs.Streams.{Known, ReadsAs}
 use Rattle.hh_commands.specs.Files.{HoldsSummary, RefusedFrom}
 use Rattle.hh_commands.specs.Records.{RecordsRefused}

@@ -3,12 +3,12 @@ use Rattle.std.specs.Prelude.{◌≡◌, ◌≢◌, ◌+◌, ℕ, List, filter, 
 use Rattle.hh_stream.specs.Weights.{Entry, total_of}
 use Rattle.hh_counters.specs.Counters.{SummaryView}
 use Rattle.hh_counters.specs.Report.{has_counter, heavy}
-use Rattle.hh_records.specs.Printed.{printed_rows}
-use Rattle.hh_records.specs.Rows.{rows_of}
+use Rattle.hh_rows.specs.Printed.{printed_rows}
+use Rattle.hh_rows.specs.Rows.{rows_of}
 use Rattle.hh_records.specs.Streams.{Known, ReadsAs}
-use Rattle.hh_records.specs.Thresholds.{threshold_of}
-use Rattle.hh_records.specs.declared.printed.RowOptions.{RowOptions}
-use Rattle.hh_records.specs.declared.threshold.Share.{Share}
+use Rattle.hh_rows.specs.Thresholds.{threshold_of}
+use Rattle.hh_rows.specs.declared.printed.RowOptions.{RowOptions}
+use Rattle.hh_rows.specs.declared.threshold.Share.{Share}
 use Rattle.hh_commands.specs.Files.{HoldsSummary, RefusedFrom}
 use Rattle.hh_commands.specs.Records.{RecordsRefused}
 use Rattle.hh_commands.specs.declared.commands.confirm.ConfirmFault.{ConfirmFault}

@@ -3,7 +3,7 @@ use Rattle.std.specs.Prelude.{◌≡◌, ℕ, true, List, Option, Some, None, Ok
 use Rattle.hh_stream.specs.Weights.{Entry, total_of}
 use Rattle.hh_counters.specs.Counters.{SummaryView}
 use Rattle.hh_counters.specs.Report.{is_threshold}
-use Rattle.hh_records.specs.Rows.{rows_of}
+use Rattle.hh_rows.specs.Rows.{rows_of}
 use Rattle.hh_records.specs.Streams.{Known, ReadsAs}
 use Rattle.hh_commands.specs.Confirm.{CountAboveRefused, confirmed_above}
 use Rattle.hh_commands.specs.Files.{HoldsSummary, RefusedFrom}

@@ -3,7 +3,7 @@ use Rattle.std.specs.Prelude.{◌==◌, ◌+◌, ℕ, List, Option, Some, None, 
 use Rattle.hh_stream.specs.Weights.{Entry, total_of}
 use Rattle.hh_counters.specs.Condensed.{condensed}
 use Rattle.hh_counters.specs.Counters.{SummaryView}
-use Rattle.hh_records.specs.Rows.{condensed_text, rows_of}
+use Rattle.hh_rows.specs.Rows.{condensed_text, rows_of}
 use Rattle.hh_saved.specs.declared.saved.Saved.{Saved}
 use Rattle.hh_saved.specs.declared.saved.Saved.TheVariants.{Counters, Cells}
 use Rattle.hh_commands.specs.Add.{bad_item}

@@ -7,7 +7,8 @@ ghost use Rattle.hh_commands.specs.Status.{status_of};
 ghost use Rattle.hh_commands.specs.declared.error.ToolError.TheVariants.{Memory, WriteFault as NotWritten};
 
 use crate::commands::confirm::ConfirmFault;
-use hh_records::{BadRecordCause, ReadError, TextError, WriteFault};
+use hh_records::{BadRecordCause, ReadError, TextError};
+use hh_rows::WriteFault;
 use hh_saved::SavedFault;
 use std::alloc::AllocError;
 use thiserror::Error;

@@ -14,7 +14,7 @@ use Rattle.hh_stream.specs.Digits.{is_digit, is_number, value_of}
 use Rattle.hh_records.specs.Decimals.{is_whole, last_digits, point_from, units_at, units_of}
 use Rattle.hh_records.specs.Laws.{PrintedNumbersAreRead}
 use Rattle.hh_records.specs.Streams.{weight_of}
-use Rattle.hh_records.proofs.TextFacts.{written}
+use Rattle.hh_records.proofs.WrittenFacts.{written}
 
 -- ---- digits and points
 second : (a b : Bool) → (a && b) ≡ true → b ≡ true

@@ -320,3 +320,25 @@ TextsRefused known text.ReadFault = ⊤
 TextsRefused known text.NoColumn = (known.names_columns ≡ true) × IfSome known.reading (λ r. r ≡ None)
 TextsRefused known (text.BadRecord n c) = ReadsAs known (Err (n, c))
 TextsRefused known text.Memory = ⊤
+
+-- ---- the columns of a text
+abbrev pub first_of : {A : Type 0} → List A → Option A
+first_of [] = None
+first_of (x ∷ xs) = Some x
+
+-- the header by which a layout finds its columns: the first of some records, where it has a header,
+-- and no fields where it has none
+abbrev pub header_of : Layout → List Fields → Option Fields
+header_of layout rows = if layout.has_header then first_of rows else Some []
+
+abbrev pub columns_of : Layout → List Fields → Option Places
+columns_of layout rows = option_and_then (places_in layout) (header_of layout rows)
+
+-- these are a layout's columns in a text of these records, or the text has no record for a header
+abbrev pub FindsColumns : Layout → List Fields → Option Places → Type 0
+FindsColumns layout rows None = header_of layout rows ≡ None
+FindsColumns layout rows (Some at) = columns_of layout rows ≡ Some at
+
+-- the records of a text as csv reads it by a layout, with the header
+abbrev pub rows_in : Layout → List ℕ → List Fields
+rows_in layout bytes = records (delimited layout.delimiter) (strip_bom bytes)

@@ -82,9 +82,9 @@ pub fn column_of(alloc: Global, word: &[u8], has_header: bool) -> Result<Option<
 
 /// The places of the columns that a layout chooses, from 0 on.
 #[derive(Drop)]
-pub(crate) struct Chosen {
-    pub(crate) key: Vec<usize>,
-    pub(crate) weight: Option<usize>,
+pub struct Chosen {
+    pub key: Vec<usize>,
+    pub weight: Option<usize>,
 }
 
 /// Why the columns of a layout were not found.

@@ -59,13 +59,13 @@ pub enum ReadError {
 
 /// Why a record was not taken.
 #[derive(Clone, Copy)]
-pub(crate) enum RecordFault {
+pub enum RecordFault {
     Bad(BadRecordCause),
     Memory,
 }
 
 /// The number that 1 to so many digits write, at most the largest `u64`.
-pub(crate) fn number_in(field: &[u8], most: usize) -> Option<u64>
+pub fn number_in(field: &[u8], most: usize) -> Option<u64>
     ensures number { MatchOption result
         (is_number most field.now ≡ false)
         (λ number. (is_number most field.now ≡ true)
@@ -124,7 +124,7 @@ fn parts_of(row: &ByteRecord) -> Option<(&[u8], Option<&[u8]>)>
 }
 
 /// Hands on what a record adds: its item or, where it weighs 0 and that is allowed, nothing.
-pub(crate) fn take_item<T: TakeItems>(
+pub fn take_item<T: TakeItems>(
     alloc: Global,
     taker: &mut T,
     key: &[u8],
@@ -266,7 +266,7 @@ fn take_record<T: TakeItems>(
 }
 
 /// The error that tells a record's number with its fault.
-pub(crate) fn numbered_fault(number: u64, fault: RecordFault) -> ReadError
+pub fn numbered_fault(number: u64, fault: RecordFault) -> ReadError
     ensures { result ≡ numbered_fault number fault }
 {
     match fault {
@@ -292,7 +292,7 @@ pub(crate) fn fault_of(fault: &ErrorKind) -> ReadError
 }
 
 /// Hands on what each record of a text adds, where so many records came before, and counts them.
-pub(crate) fn read_rows<R: Read + Drop, T: TakeItems>(
+pub fn read_rows<R: Read + Drop, T: TakeItems>(
     alloc: Global,
     mut text: Text<R>,
     before: u64,

@@ -15,12 +15,12 @@ const MOST_TRIES: u64 = u64::MAX;
 /// A reader whose reads are tried again where a signal interrupts them. It has the bytes of the
 /// reader that it is made of.
 #[derive(Drop)]
-pub(crate) struct Retrying<R> {
-    inner: R,
+pub struct Retrying<R> {
+    pub inner: R,
 }
 
 impl<R: Read> Retrying<R> {
-    pub(crate) fn new(inner: R) -> Retrying<R>
+    pub fn new(inner: R) -> Retrying<R>
         ensures { ⟦<Retrying<R> as Read>⟧.remaining result ≡ R.remaining inner }
     {
         Retrying { inner }
@@ -36,7 +36,7 @@ impl<R: Read> Read for Retrying<R> {
 }
 
 /// One read.
-pub(crate) fn read<R: Read>(reader: &mut R, buf: &mut [u8]) -> io::Result<usize>
+pub fn read<R: Read>(reader: &mut R, buf: &mut [u8]) -> io::Result<usize>
     ensures bound { ReadsAtMost result buf.new }
     ensures bytes { ReadConsumes (R.remaining reader.old) (R.remaining reader.new) result buf.new }
     ensures retried { IfErr result (λ error. error_kind error ≢ ErrorKind.Interrupted) }
@@ -55,7 +55,7 @@ pub(crate) fn read<R: Read>(reader: &mut R, buf: &mut [u8]) -> io::Result<usize>
 }
 
 /// One write.
-pub(crate) fn write<W: Write>(writer: &mut W, bytes: &[u8]) -> io::Result<usize>
+pub fn write<W: Write>(writer: &mut W, bytes: &[u8]) -> io::Result<usize>
     ensures bound { WritesAtMost result bytes.now }
     ensures bytes { WriteAppends (W.contents writer.old) (W.contents writer.new) result bytes.now }
     ensures retried { IfErr result (λ error. error_kind error ≢ ErrorKind.Interrupted) }
@@ -74,7 +74,7 @@ pub(crate) fn write<W: Write>(writer: &mut W, bytes: &[u8]) -> io::Result<usize>
 }
 
 /// One flush.
-pub(crate) fn flush<W: Write>(writer: &mut W) -> io::Result<()>
+pub fn flush<W: Write>(writer: &mut W) -> io::Result<()>
     ensures bytes { Keeps (W.contents writer.old) (W.contents writer.new) }
     ensures retried { IfErr result (λ error. error_kind error ≢ ErrorKind.Interrupted) }
 {

@@ -8,7 +8,7 @@ ghost use Rattle.hh_records.specs.Layouts.{RowsRefused, TakesAdded, TextsRefused
 ghost use Rattle.hh_records.specs.Layouts.{choice_fault, chosen_places, delimited, every, headed_parts, items_after};
 ghost use Rattle.hh_records.specs.Layouts.{names_columns, records_known, text_fault, texts_known};
 ghost use Rattle.hh_records.specs.Layouts.{text_parts, texts_parts, unread};
-ghost use Rattle.hh_records.specs.Pieces.{FindsColumns, rows_in};
+ghost use Rattle.hh_records.specs.Layouts.{FindsColumns, rows_in};
 ghost use Rattle.hh_records.specs.Streams.{Known, text_known};
 ghost use Rattle.hh_records.specs.Taking.{TakesItems};
 
@@ -64,9 +64,9 @@ impl From<ChoiceFault> for TextError {
 
 /// A text whose records are still to come.
 #[derive(Drop)]
-pub(crate) struct Text<R> {
-    pub(crate) rows: Reader<Retrying<R>>,
-    pub(crate) chosen: Option<Chosen>,
+pub struct Text<R> {
+    pub rows: Reader<Retrying<R>>,
+    pub chosen: Option<Chosen>,
 }
 
 /// A text behind its header, by which the places of its columns are chosen. A text that has no
@@ -104,7 +104,7 @@ fn behind_header<R: Read + Drop>(
 }
 
 /// A text whose records are to be read by a layout, behind its header where it is to have one.
-pub(crate) fn open<R: Read + Drop>(
+pub fn open<R: Read + Drop>(
     alloc: Global,
     reader: R,
     layout: &Layout,
@@ -256,7 +256,7 @@ impl<R: Read + Drop> ReadRecords for Records<R> {
 }
 
 /// Hands the item of each record of some texts to a taker of none, in order, and returns the taker.
-pub(crate) fn read_texts<R: Read + Drop, T: TakeItems>(
+pub fn read_texts<R: Read + Drop, T: TakeItems>(
     alloc: Global,
     layout: &Layout,
     first: R,

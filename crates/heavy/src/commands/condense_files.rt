@@ -8,8 +8,8 @@ ghost use Rattle.hh_commands.specs.Files.{StopsAtHead};
 
 use crate::file_passes::count_sources;
 use hh_commands::{ToolError, condensed_counts, summary_in};
+use hh_pieces::{ReadAt, SourceRecords};
 use hh_pool::MAX_WORKERS;
-use hh_records::{ReadAt, SourceRecords};
 use hh_stream::in_range;
 use std::alloc::Global;
 use std::sync::Wait;

@@ -7,11 +7,11 @@ ghost use Rattle.hh_counters.specs.Report.{IsShare, heavy};
 ghost use Rattle.hh_stream.specs.Ranges.{in_range};
 ghost use Rattle.hh_stream.specs.Weights.{Entry, total_of};
 ghost use Rattle.std.specs.Io.KnownBytes.{Appends};
-ghost use Rattle.hh_records.specs.Kept.{kept_left};
-ghost use Rattle.hh_records.specs.Printed.{printed_rows};
+ghost use Rattle.hh_pieces.specs.Kept.{kept_left};
+ghost use Rattle.hh_rows.specs.Printed.{printed_rows};
 ghost use Rattle.hh_records.specs.Layouts.{records_known};
 ghost use Rattle.hh_records.specs.Streams.{Known, ReadsAs, text_known};
-ghost use Rattle.hh_records.specs.Thresholds.{threshold_of};
+ghost use Rattle.hh_rows.specs.Thresholds.{threshold_of};
 ghost use Rattle.hh_commands.specs.Records.{RecordsRefused};
 ghost use Rattle.heavy.specs.Report.{AreKeysOf, AreKeysOfPieces, AreOptions, IsOptionFault, IsPrinted, IsReported, Names};
 ghost use Rattle.heavy.specs.Report.{PrintRefused, ReportRefused};
@@ -23,13 +23,12 @@ use crate::text_pieces::TextPieces;
 use hh_commands::{ToolError, TreeFault};
 use hh_counters::{Heavy, MAX_K};
 use hh_countmin::{Family, MAX_DEPTH, MAX_WIDTH};
+use hh_pieces::{CutTexts, KeptText, keep_records, read_again, whole_texts};
 use hh_pool::{
     MAX_WORKERS, OpenGate, Options, PiecesError, Plan, PlanFault, RunError, analyse, analyse_pieces,
 };
-use hh_records::{
-    CutTexts, KeptText, Records, ReportFault, RowOptions, Share, Sink, keep_records, read_again,
-    read_records, threshold_of, whole_texts, write_printed,
-};
+use hh_records::{Records, read_records};
+use hh_rows::{ReportFault, RowOptions, Share, Sink, threshold_of, write_printed};
 use hh_stream::{Cutting, MAX_PIECES, Stream, in_range};
 use std::alloc::{AllocError, Global};
 use std::io::Read;

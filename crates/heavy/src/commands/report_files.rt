@@ -6,7 +6,7 @@ ghost use Rattle.hh_counters.specs.Report.{IsShare};
 ghost use Rattle.hh_stream.specs.Ranges.{in_range};
 ghost use Rattle.hh_stream.specs.Weights.{Entry, total_of};
 ghost use Rattle.hh_records.specs.Layouts.{texts_known};
-ghost use Rattle.hh_records.specs.Sources.{files_known};
+ghost use Rattle.hh_pieces.specs.Sources.{files_known};
 ghost use Rattle.hh_commands.specs.Records.{RecordsRefused};
 ghost use Rattle.heavy.specs.Report.{AreKeysOfPieces, AreOptions, ReportsKeys};
 ghost use Rattle.heavy.specs.Report.{StartRefused, bad_option, failed_by};
@@ -17,11 +17,10 @@ use crate::file_pieces::FilePieces;
 use hh_commands::{ToolError, count_records, rows_above, summary_by_monitoring};
 use hh_counters::Heavy;
 use hh_counters::laws::{candidates_suffice, misra_gries_is_honest};
+use hh_pieces::{CutFiles, FileRecords, ReadAt, SourceRecords, keep_pipes, lengths};
 use hh_pool::{OpenGate, Options, PiecesError, Plan, analyse_pieces};
-use hh_records::{
-    CutFiles, FileRecords, ReadAt, ReadRecords, RowOptions, Sink, SourceRecords, keep_pipes,
-    lengths,
-};
+use hh_records::ReadRecords;
+use hh_rows::{RowOptions, Sink};
 use std::alloc::{AllocError, Global};
 use std::io::Read;
 use std::sync::Wait;

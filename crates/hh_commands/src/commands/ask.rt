@@ -4,7 +4,7 @@ ghost use Rattle.std.specs.Prelude.{◌≡◌, ◌<◌, Ok, Some, None, IfOk, If
 ghost use Rattle.std.specs.List.{flat_map};
 ghost use Rattle.std.specs.Io.KnownBytes.{Appends};
 ghost use Rattle.csv.specs.Writing.{text_written};
-ghost use Rattle.hh_records.specs.Rows.{IsBetweenRows};
+ghost use Rattle.hh_rows.specs.Rows.{IsBetweenRows};
 ghost use Rattle.hh_commands.specs.Ask.{answer, answer_of, answer_row, answers, answers_in, answers_of};
 ghost use Rattle.hh_commands.specs.Ask.{asked_value, bad_key, bounds_row, key_fault};
 ghost use Rattle.hh_commands.specs.Files.{Refuses, StopsAtHead, file_of};

@@ -6,7 +6,7 @@ ghost use Rattle.hh_stream.specs.Weights.{Entry, total_of};
 ghost use Rattle.hh_counters.specs.Condensed.{condensed, free_name, other_name};
 ghost use Rattle.hh_counters.specs.Counters.{IsCounters};
 ghost use Rattle.hh_records.specs.Layouts.{records_known};
-ghost use Rattle.hh_records.specs.Rows.{condensed_by};
+ghost use Rattle.hh_rows.specs.Rows.{condensed_by};
 ghost use Rattle.hh_records.specs.Streams.{text_known};
 ghost use Rattle.hh_commands.specs.Condense.{CondenseRefused, CondensesRows};
 ghost use Rattle.hh_commands.specs.Files.{StopsAtHead};
@@ -17,7 +17,8 @@ use crate::error::ToolError;
 use crate::files::summary_in;
 use hh_counters::laws::{condensed_is_counted, free_name_is_first};
 use hh_counters::{Counts, Heavy, Summary};
-use hh_records::{Records, condensed_rows_text};
+use hh_records::Records;
+use hh_rows::condensed_rows_text;
 use hh_stream::Key;
 use itoa::Buffer;
 use std::alloc::{AllocError, Global};
@@ -109,7 +110,7 @@ pub fn condensed_counts(
 /// of `others`, `others1`, `others2` and so on that is no key of the summary.
 ///
 /// So parts of a stream may be condensed one by one by the summary of the whole, and their
-/// condensed records joined in any order. The rows are as [`report_text`](hh_records::report_text)
+/// condensed records joined in any order. The rows are as [`report_text`](hh_rows::report_text)
 /// writes them, but that the first key is in quotes where it begins with the three bytes of a byte
 /// order mark.
 ///

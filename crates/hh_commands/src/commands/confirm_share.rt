@@ -9,7 +9,8 @@ use crate::commands::confirm::confirm_records;
 use crate::error::ToolError;
 use crate::files::summary_in;
 use hh_counters::is_threshold;
-use hh_records::{Records, report_text};
+use hh_records::Records;
+use hh_rows::report_text;
 use std::alloc::Global;
 use std::io::Read;
 

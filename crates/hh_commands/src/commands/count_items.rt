@@ -13,7 +13,7 @@ use crate::error::ToolError;
 use crate::files::summary_in;
 use crate::items::count_items;
 use hh_counters::{Summary, is_threshold};
-use hh_records::{condensed_text, report_text};
+use hh_rows::{condensed_text, report_text};
 use std::alloc::Global;
 
 /// [`condense_bytes`](crate::condense_bytes) of items in memory, each a key and its weight: records

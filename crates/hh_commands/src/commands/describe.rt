@@ -4,7 +4,7 @@ ghost use Rattle.std.specs.Prelude.{◌≡◌, ◌++◌, ◌∷◌, [], Ok, Some
 ghost use Rattle.std.specs.List.{flat_map};
 ghost use Rattle.std.specs.Io.KnownBytes.{Appends};
 ghost use Rattle.csv.specs.Writing.{default_writer, row_text, text_written};
-ghost use Rattle.hh_records.specs.Rows.{IsBetweenRows};
+ghost use Rattle.hh_rows.specs.Rows.{IsBetweenRows};
 ghost use Rattle.hh_commands.specs.Describe.{description, description_of, fact_row, version_number};
 ghost use Rattle.hh_commands.specs.Files.{Refuses, StopsAtHead};
 

@@ -1,6 +1,6 @@
 use Rattle.std.proofs.Common.{◌∙◌, inl, refl}
 use Rattle.hh_records.specs.Layouts.{chosen_places}
-use Rattle.hh_records.proofs.PieceFacts.{columns-none, columns-some}
+use Rattle.hh_records.proofs.HeaderFacts.{columns-none, columns-some}
 use Rattle.hh_records.proofs.ReadFacts.{opened-none, opened-some, opened-refused}
 use Rattle.hh_records.proofs.texts.behind_header.Goals as goal
 

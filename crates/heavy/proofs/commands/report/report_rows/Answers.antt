@@ -1,6 +1,6 @@
 use Rattle.std.proofs.Common.{refl}
 use Rattle.hh_records.specs.Layouts.{records_known}
-use Rattle.hh_records.specs.Printed.{printed_rows}
+use Rattle.hh_rows.specs.Printed.{printed_rows}
 use Rattle.heavy.specs.Report.{PrintsRows}
 use Rattle.heavy.proofs.ReportFacts.{keys_not_written, keys_written}
 use Rattle.heavy.proofs.commands.report.report_rows.Goals as goal

@@ -1,6 +1,6 @@
 use Rattle.std.proofs.Common.{ap}
-use Rattle.hh_records.specs.Printed.{printed_rows}
-use Rattle.hh_records.specs.Sources.{files_known}
+use Rattle.hh_rows.specs.Printed.{printed_rows}
+use Rattle.hh_pieces.specs.Sources.{files_known}
 use Rattle.heavy.specs.ReportFiles.{PrintsFileRows}
 use Rattle.heavy.proofs.ReportFacts.{keys_not_written, keys_written}
 use Rattle.heavy.proofs.SourceReportFacts.{printed_keys}

@@ -1,6 +1,6 @@
-use Rattle.hh_records.specs.Files.{source_bytes}
+use Rattle.hh_pieces.specs.Files.{source_bytes}
 use Rattle.hh_records.specs.Layouts.{every, names_columns}
-use Rattle.hh_records.specs.Sources.{files_known, input_bytes}
+use Rattle.hh_pieces.specs.Sources.{files_known, input_bytes}
 use Rattle.heavy.specs.Report.{bad_option}
 use Rattle.heavy.proofs.ReportFacts.{fault_is}
 use Rattle.heavy.proofs.SourceReportFacts.{keys_of_kept, refused_of_kept}

@@ -1,7 +1,7 @@
 use Rattle.std.proofs.Common.{◌≡◌, Some, take}
 use Rattle.std.specs.List.{flat_map}
 use Rattle.csv.specs.Writing.{text_written}
-use Rattle.hh_records.specs.Rows.{IsBetweenRows}
+use Rattle.hh_rows.specs.Rows.{IsBetweenRows}
 use Rattle.hh_commands.specs.List.{entry_row}
 use Rattle.hh_commands.proofs.commands.list.entries_text.Given as goal
 

@@ -1,0 +1,289 @@
+-- Records of a text that is cut before line feeds.
+use Rattle.std.proofs.Common.{◌≡◌, ◌≤◌, ◌+◌, ◌∷◌, ◌++◌, ◌∙◌, ℕ, suc, zero, List, [], length, Bool, true, false, Option, Some, None, refl, sym, ap, arith, append-nil}
+use Rattle.std.specs.Prelude.{◌==◌, ◌&&◌, not, if◌then◌else◌}
+use Rattle.std.proofs.lemmas.Bool.{eqb-false, eqb-true, false≢true, ne_eqb}
+use Rattle.std.proofs.lemmas.Grind.{fold-append}
+use Rattle.csv.specs.Machine.{Read, after_end, ends_at_end, ends_with, field_after, fields_after, in_field, is_byte, is_end, next_record, start_field, start_record, step}
+use Rattle.csv.specs.Reading.{is_bom, records, records_from, records_next, strip_bom}
+use Rattle.csv.specs.declared.parser.Config.{Config}
+use Rattle.csv.specs.declared.parser.State.{State}
+use Rattle.csv.specs.declared.parser.State.TheVariants as st
+use Rattle.csv.specs.declared.parser.Action.{Action}
+use Rattle.csv.specs.declared.parser.Action.TheVariants as act
+use Rattle.hh_records.specs.Streams.{Fields}
+use Rattle.hh_stream.specs.Cuttings.{whole_of}
+use Rattle.hh_records.specs.Layouts.{delimited}
+use Rattle.hh_pieces.specs.Laws.{FeedsOutsideQuotesAreCuts, PiecesHaveTheRecords}
+use Rattle.hh_pieces.specs.Pieces.{IsCut, begins_with_feed, ends_outside, is_outside, state_behind}
+
+-- ---- all records of a text, with no bound on their number
+unfoldable pub runs : Config → State → Fields → List ℕ → List ℕ → List Fields
+runs cfg s f p [] = if ends_at_end s then (f ++ (p ∷ [])) ∷ [] else []
+runs cfg s f p (c ∷ rest) =
+    if is_end (step cfg s c).1 then fields_after (step cfg s c).1 f p ∷ runs cfg (step cfg s c).0 [] [] rest
+    else runs cfg (step cfg s c).0 (fields_after (step cfg s c).1 f p) (field_after (step cfg s c).1 c p) rest
+
+at_end : (cfg : Config) (n : ℕ) → records_from cfg n st.StartRecord [] ≡ []
+unfolding records_from next_record
+at_end cfg zero = refl
+at_end cfg (suc n) = refl
+
+-- as many records as there are bytes behind the first one are all
+runs-next : (cfg : Config) (s : State) (f : Fields) (p xs : List ℕ) (n : ℕ) → length xs ≤ n
+    → records_next (records_from cfg n) (next_record cfg s f p xs) ≡ runs cfg s f p xs
+unfolding next_record records_from runs
+runs-next cfg s f p [] n l = by (ends_at_end s)
+  where
+    by : (b : Bool)
+        → records_next (records_from cfg n) (if b then Some (f ++ (p ∷ []), st.StartRecord, []) else None)
+        ≡ (if b then (f ++ (p ∷ [])) ∷ [] else [])
+    by true = ap (λ (rs : List Fields). (f ++ (p ∷ [])) ∷ rs) (at_end cfg n)
+    by false = refl
+runs-next cfg s f p (c ∷ rest) zero l = absurd (omega (arith, l))
+runs-next cfg s f p (c ∷ rest) (suc n) l =
+    by (is_end (step cfg s c).1) _ _ _ (runs-next cfg (step cfg s c).0 [] [] rest n (omega (arith, l)))
+    (runs-next cfg (step cfg s c).0 _ _ rest (suc n) (omega (arith, l)))
+  where
+    by : (b : Bool) (g : Fields) (next : Option Read) (more : List Fields)
+        → records_from cfg (suc n) (step cfg s c).0 rest ≡ runs cfg (step cfg s c).0 [] [] rest
+        → records_next (records_from cfg (suc n)) next ≡ more
+        → records_next (records_from cfg (suc n)) (if b then Some (g, (step cfg s c).0, rest) else next)
+        ≡ (if b then g ∷ runs cfg (step cfg s c).0 [] [] rest else more)
+    by true g next more new on = ap (λ (rs : List Fields). g ∷ rs) new
+    by false g next more new on = on
+
+pub runs-all : (cfg : Config) (xs : List ℕ) → records cfg xs ≡ runs cfg st.StartRecord [] [] xs
+unfolding records_from
+runs-all cfg xs =
+    let one : length xs + 1 ≡ suc (length xs) = omega arith in
+    ap (λ n. records_from cfg n st.StartRecord xs) one ∙ runs-next cfg st.StartRecord [] [] xs (length xs) (omega arith)
+
+-- ---- between two records there is no field at hand
+abbrev is_between : State → Bool
+is_between st.StartRecord = true
+is_between st.AfterCr = true
+is_between st.InComment = true
+is_between st.StartField = false
+is_between st.InField = false
+is_between st.InQuoted = false
+is_between st.AfterQuote = false
+is_between st.InEscape = false
+
+-- a byte that ends no record comes to stand between two records only from there, and adds nothing
+Stays : State → State × Action → Type 0
+Stays s p = is_end p.1 ≡ false → is_between p.0 ≡ true → (is_between s ≡ true) × (p.1 ≡ act.Skip)
+
+stays-if : (s : State) (b : Bool) (p q : State × Action) → Stays s p → Stays s q → Stays s (if b then p else q)
+unfolding Stays
+stays-if s true p q h k = h
+stays-if s false p q h k = k
+
+stays-end : (s t : State) → Stays s (t, act.EndRecord)
+unfolding Stays
+stays-end s t e h = absurd (false≢true (sym e))
+
+stays-inside : (s t : State) (a : Action) → is_between t ≡ false → Stays s (t, a)
+unfolding Stays
+stays-inside s t a n e h = absurd (false≢true (sym n ∙ h))
+
+stays-skip : (s t : State) → is_between s ≡ true → Stays s (t, act.Skip)
+unfolding Stays
+stays-skip s t b e h = (b, refl)
+
+stays-in-field : (cfg : Config) (s : State) (c : ℕ) → Stays s (in_field cfg c)
+stays-in-field cfg s c =
+    stays-if s (c == cfg.delimiter) _ _ (stays-inside s st.StartField act.EndField refl)
+    (stays-if s (ends_with cfg.terminator c) _ _ (stays-end s (after_end cfg.terminator c))
+    (stays-inside s st.InField act.Copy refl))
+
+stays-start-field : (cfg : Config) (s : State) (c : ℕ) → Stays s (start_field cfg c)
+stays-start-field cfg s c =
+    stays-if s (cfg.quoting && (c == cfg.quote)) _ _ (stays-inside s st.InQuoted act.Skip refl) (stays-in-field cfg s c)
+
+stays-start-record : (cfg : Config) (s : State) (c : ℕ) → is_between s ≡ true → Stays s (start_record cfg c)
+stays-start-record cfg s c b =
+    stays-if s (ends_with cfg.terminator c) _ _ (stays-skip s st.StartRecord b)
+    (stays-if s (is_byte cfg.comment c) _ _ (stays-skip s st.InComment b) (stays-start-field cfg s c))
+
+stays-step : (cfg : Config) (s : State) (c : ℕ) → Stays s (step cfg s c)
+stays-step cfg st.StartRecord c = stays-start-record cfg st.StartRecord c refl
+stays-step cfg st.StartField c = stays-start-field cfg st.StartField c
+stays-step cfg st.InField c = stays-in-field cfg st.InField c
+stays-step cfg st.InQuoted c =
+    stays-if st.InQuoted (cfg.quoting && (c == cfg.quote)) _ _ (stays-inside st.InQuoted st.AfterQuote act.Skip refl)
+    (stays-if st.InQuoted (cfg.quoting && is_byte cfg.escape c) _ _ (stays-inside st.InQuoted st.InEscape act.Skip refl)
+    (stays-inside st.InQuoted st.InQuoted act.Copy refl))
+stays-step cfg st.InEscape c = stays-inside st.InEscape st.InQuoted act.Copy refl
+stays-step cfg st.AfterQuote c =
+    stays-if st.AfterQuote (cfg.quoting && cfg.double_quote && (c == cfg.quote)) _ _
+    (stays-inside st.AfterQuote st.InQuoted act.Copy refl) (stays-in-field cfg st.AfterQuote c)
+stays-step cfg st.InComment c =
+    stays-if st.InComment (c == 10) _ _ (stays-skip st.InComment st.StartRecord refl)
+    (stays-skip st.InComment st.InComment refl)
+stays-step cfg st.AfterCr c =
+    stays-if st.AfterCr (c == 10) _ _ (stays-skip st.AfterCr st.StartRecord refl)
+    (stays-start-record cfg st.AfterCr c refl)
+
+Fresh : State → Fields → List ℕ → Type 0
+Fresh s f p = is_between s ≡ true → (f ≡ []) × (p ≡ [])
+
+fresh-next : (s : State) (f : Fields) (p : List ℕ) (c : ℕ) (q : State × Action) → Stays s q → is_end q.1 ≡ false
+    → Fresh s f p → Fresh q.0 (fields_after q.1 f p) (field_after q.1 c p)
+unfolding Fresh Stays
+fresh-next s f p c q stays e fresh b =
+    let (was, skip) = stays e b in
+    rw skip (fresh was)
+
+-- ---- the cut
+one-end : (e : Bool) (g : Fields) (a1 a2 b1 b2 more : List Fields) → a1 ≡ b1 ++ more → (e ≡ false → a2 ≡ b2 ++ more)
+    → (if e then g ∷ a1 else a2) ≡ (if e then g ∷ b1 else b2) ++ more
+one-end true g a1 a2 b1 b2 more new on = ap (λ (rs : List Fields). g ∷ rs) new
+one-end false g a1 a2 b1 b2 more new on = on refl
+
+module _ (d : ℕ) (other : (10 == d) ≡ false) where
+  abbrev cfg : Config
+  cfg = delimited d
+
+  -- the text from a line feed on, where the machine is not in quotes
+  cut-here : (s : State) (f : Fields) (p b : List ℕ) → Fresh s f p → is_outside s ≡ true
+      → runs cfg s f p (10 ∷ b) ≡ runs cfg s f p [] ++ runs cfg st.StartRecord [] [] (10 ∷ b)
+  unfolding runs Fresh
+  cut-here st.StartRecord f p b fresh h = let (a, c) = fresh refl in rw (a, c) refl
+  cut-here st.AfterCr f p b fresh h = let (a, c) = fresh refl in rw (a, c) refl
+  cut-here st.StartField f p b fresh h = rw other refl
+  cut-here st.InField f p b fresh h = rw other refl
+  cut-here st.AfterQuote f p b fresh h = rw other refl
+  cut-here st.InQuoted f p b fresh h = absurd (false≢true h)
+  cut-here st.InEscape f p b fresh h = absurd (false≢true h)
+  cut-here st.InComment f p b fresh h = absurd (false≢true h)
+
+  runs-cut : (s : State) (f : Fields) (p a b : List ℕ) → Fresh s f p → is_outside (state_behind cfg s a) ≡ true
+      → runs cfg s f p (a ++ (10 ∷ b)) ≡ runs cfg s f p a ++ runs cfg st.StartRecord [] [] (10 ∷ b)
+  unfolding runs Fresh
+  runs-cut s f p [] b fresh h = cut-here s f p b fresh h
+  runs-cut s f p (c ∷ a) b fresh h =
+      let q = step cfg s c in
+      one-end (is_end q.1) (fields_after q.1 f p) _ _ _ _ _ (runs-cut q.0 [] [] a b (λ t. (refl, refl)) h)
+      (λ e. runs-cut q.0 _ _ a b (fresh-next s f p c q (stays-step cfg s c) e fresh) h)
+
+  records-cut : (a b : List ℕ) → is_outside (state_behind cfg st.StartRecord a) ≡ true
+      → records cfg (a ++ (10 ∷ b)) ≡ records cfg a ++ records cfg (10 ∷ b)
+  unfolding Fresh
+  records-cut a b h =
+      runs-all cfg (a ++ (10 ∷ b))
+      ∙ runs-cut st.StartRecord [] [] a b (λ t. (refl, refl)) h
+      ∙ ap (λ (rs : List Fields). rs ++ runs cfg st.StartRecord [] [] (10 ∷ b)) (sym (runs-all cfg a))
+      ∙ ap (λ (rs : List Fields). records cfg a ++ rs) (sym (runs-all cfg (10 ∷ b)))
+
+-- ---- the byte order mark
+strip-line : (b : List ℕ) → strip_bom (10 ∷ b) ≡ 10 ∷ b
+unfolding strip_bom
+strip-line [] = refl
+strip-line (x ∷ []) = refl
+strip-line (x ∷ y ∷ b) = refl
+
+-- a line feed is no byte of the mark
+strip-cut : (a b : List ℕ) → strip_bom (a ++ (10 ∷ b)) ≡ strip_bom a ++ (10 ∷ b)
+unfolding strip_bom
+strip-cut [] b = strip-line b
+strip-cut (x ∷ []) [] = refl
+strip-cut (x ∷ []) (y ∷ b) = by (x == 0xEF)
+  where
+    by : (e : Bool) → (if e && false && (y == 0xBF) then b else x ∷ 10 ∷ y ∷ b) ≡ x ∷ 10 ∷ y ∷ b
+    by true = refl
+    by false = refl
+strip-cut (x ∷ y ∷ []) b = by (x == 0xEF) (y == 0xBB)
+  where
+    by : (e f : Bool) → (if e && f && false then b else x ∷ y ∷ 10 ∷ b) ≡ x ∷ y ∷ 10 ∷ b
+    by true true = refl
+    by true false = refl
+    by false f = refl
+strip-cut (x ∷ y ∷ z ∷ a) b = by (is_bom x y z)
+  where
+    by : (e : Bool) → (if e then a ++ (10 ∷ b) else x ∷ y ∷ z ∷ (a ++ (10 ∷ b)))
+        ≡ (if e then a else x ∷ y ∷ z ∷ a) ++ (10 ∷ b)
+    by true = refl
+    by false = refl
+
+-- ---- pieces
+-- what begins with a line feed, as the line feed and the rest
+feed-rest : (b : List ℕ) → begins_with_feed b ≡ true → (rest : List ℕ) × (b ≡ 10 ∷ rest)
+feed-rest [] h = absurd (false≢true h)
+feed-rest (c ∷ rest) h = (rest, ap (λ x. x ∷ rest) (eqb-true c 10 h))
+
+pub feed-append : (b c : List ℕ) → begins_with_feed b ≡ true → begins_with_feed (b ++ c) ≡ true
+feed-append [] c h = absurd (false≢true h)
+feed-append (x ∷ b) c h = h
+
+-- a text that ends outside quotes has another byte than a line feed between its fields
+outside-both : (d : ℕ) (bytes : List ℕ) → ends_outside d bytes ≡ true
+    → ((10 == d) ≡ false) × (is_outside (state_behind (delimited d) st.StartRecord (strip_bom bytes)) ≡ true)
+outside-both d bytes h = by (d == 10) refl h
+  where
+    by : (e : Bool) → (d == 10) ≡ e
+        → not e && is_outside (state_behind (delimited d) st.StartRecord (strip_bom bytes)) ≡ true
+        → ((10 == d) ≡ false) × (is_outside (state_behind (delimited d) st.StartRecord (strip_bom bytes)) ≡ true)
+    by true e h = absurd (false≢true h)
+    by false e h = (ne_eqb 10 d (λ same. eqb-false d 10 e (sym same)), h)
+
+-- the records of two parts of a text that is cut there
+pub parts-records : (d : ℕ) (a b : List ℕ) → IsCut d a b
+    → records (delimited d) (strip_bom (a ++ b))
+    ≡ records (delimited d) (strip_bom a) ++ records (delimited d) (strip_bom b)
+parts-records d a b cut =
+    let (other, outside) = outside-both d a cut.outside in
+    let (rest, is) = feed-rest b cut.feed in
+    ap (λ (u : List ℕ). records (delimited d) (strip_bom (a ++ u))) is
+    ∙ ap (records (delimited d)) (strip-cut a rest)
+    ∙ records-cut d other (strip_bom a) rest outside
+    ∙ ap (λ (u : List ℕ). records (delimited d) (strip_bom a) ++ records (delimited d) u)
+    (sym (ap strip_bom is ∙ strip-line rest))
+
+-- a line feed outside quotes leads to the start of a record
+feed-starts : (d : ℕ) → (10 == d) ≡ false → (s : State) → is_outside s ≡ true
+    → (step (delimited d) s 10).0 ≡ st.StartRecord
+feed-starts d other st.StartRecord h = refl
+feed-starts d other st.AfterCr h = refl
+feed-starts d other st.StartField h = rw other refl
+feed-starts d other st.InField h = rw other refl
+feed-starts d other st.AfterQuote h = rw other refl
+feed-starts d other st.InQuoted h = absurd (false≢true h)
+feed-starts d other st.InEscape h = absurd (false≢true h)
+feed-starts d other st.InComment h = absurd (false≢true h)
+
+-- a text that is cut ends outside quotes where its last part does
+pub outside-more : (d : ℕ) (a b : List ℕ) → IsCut d a b → ends_outside d b ≡ true → ends_outside d (a ++ b) ≡ true
+outside-more d a b cut h =
+    let (other, outside) = outside-both d a cut.outside in
+    let (rest, is) = feed-rest b cut.feed in
+    let start = feed-starts d other (state_behind (delimited d) st.StartRecord (strip_bom a)) outside in
+    let behind : state_behind (delimited d) st.StartRecord (strip_bom (a ++ b)) ≡ state_behind (delimited d) st.StartRecord rest =
+    ap (λ (u : List ℕ). state_behind (delimited d) st.StartRecord (strip_bom (a ++ u))) is
+    ∙ ap (state_behind (delimited d) st.StartRecord) (strip-cut a rest)
+    ∙ fold-append (λ s c. (step (delimited d) s c).0) st.StartRecord (strip_bom a) (10 ∷ rest)
+    ∙ ap (λ s. state_behind (delimited d) s rest) start in
+    let alone : state_behind (delimited d) st.StartRecord (strip_bom b) ≡ state_behind (delimited d) st.StartRecord rest =
+    ap (λ (u : List ℕ). state_behind (delimited d) st.StartRecord (strip_bom u)) is
+    ∙ ap (state_behind (delimited d) st.StartRecord) (strip-line rest) in
+    ap (λ s. not (d == 10) && is_outside s) (behind ∙ sym alone) ∙ h
+
+no-records : (d : ℕ) → records (delimited d) (strip_bom []) ≡ []
+unfolding strip_bom
+no-records d = at_end (delimited d) 1
+
+pub pieces-records : PiecesHaveTheRecords
+pieces-records d [] cut = no-records d
+pieces-records d (a ∷ []) cut =
+    let one = records (delimited d) (strip_bom a) in
+    ap (λ (u : List ℕ). records (delimited d) (strip_bom u)) (append-nil a) ∙ sym (append-nil one)
+pieces-records d (a ∷ b ∷ rest) cut =
+    let behind : IsCut d a (whole_of (b ∷ rest)) =
+    record { outside = cut.0.outside; feed = feed-append b (whole_of rest) cut.0.feed } in
+    parts-records d a (whole_of (b ∷ rest)) behind
+    ∙ ap (λ (rs : List Fields). records (delimited d) (strip_bom a) ++ rs) (pieces-records d (b ∷ rest) cut.1)
+
+pub feeds-cut : FeedsOutsideQuotesAreCuts
+feeds-cut d [] later outside = tt
+feeds-cut d (a ∷ []) later outside = tt
+feeds-cut d (a ∷ b ∷ rest) later outside =
+    (record { outside = outside.0; feed = later.0 }, feeds-cut d (b ∷ rest) later.1 outside.1)

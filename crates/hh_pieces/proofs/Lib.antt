@@ -1,0 +1,12 @@
+pub mod ChunkFacts
+pub mod CutFacts
+pub mod CutTextFacts
+pub mod FileFacts
+pub mod KeptFacts
+pub mod LineFacts
+pub mod PieceFacts
+pub mod PlaceFacts
+pub mod QuoteFacts
+pub mod SourceFacts
+pub mod SpanFacts
+pub mod SplitFacts

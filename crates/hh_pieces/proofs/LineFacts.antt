@@ -1,0 +1,166 @@
+-- The records of a text without quotes, line by line.
+use Rattle.std.proofs.Common.{◌≡◌, ◌∷◌, ◌++◌, ◌∙◌, ℕ, List, [], Bool, true, false, refl, sym, ap, append-nil, append_assoc}
+use Rattle.std.specs.Prelude.{◌==◌, ◌&&◌, not, if◌then◌else◌}
+use Rattle.std.specs.List.{onto_first, slice_split}
+use Rattle.std.proofs.lemmas.Bool.{eqb-true, false≢true}
+use Rattle.csv.specs.Machine.{step, after_end}
+use Rattle.csv.specs.declared.parser.Config.{Config}
+use Rattle.csv.specs.declared.parser.State.{State}
+use Rattle.csv.specs.declared.parser.State.TheVariants as st
+use Rattle.hh_records.specs.Layouts.{delimited}
+use Rattle.hh_pieces.specs.Laws.{UnquotedTextsAreSplit}
+use Rattle.hh_pieces.specs.Lines.{IsUnquoted, is_line_end, is_separator, line_fields, line_rows}
+use Rattle.hh_records.specs.Streams.{Fields}
+use Rattle.hh_pieces.proofs.CutFacts.{runs, runs-all}
+
+-- these bytes before the first of some fields
+before_first_field : List ℕ → Fields → Fields
+before_first_field p [] = p ∷ []
+before_first_field p (x ∷ xs) = (p ++ x) ∷ xs
+
+module _ (d : ℕ) where
+  no-bytes-before : (line : List ℕ) → before_first_field [] (line_fields d line) ≡ line_fields d line
+  unfolding before_first_field
+  no-bytes-before [] = refl
+  no-bytes-before (c ∷ line) = by (c == d) (line_fields d line)
+    where
+      by : (b : Bool) (fields : Fields)
+          → before_first_field [] (if b then [] ∷ fields else onto_first c fields) ≡ (if b then [] ∷ fields else onto_first c fields)
+      by true fields = refl
+      by false [] = refl
+      by false (x ∷ xs) = refl
+
+  -- the record of the first of some lines, behind the fields f and the bytes p of the next, and those
+  -- of the other lines
+  rows_behind : Fields → List ℕ → List (List ℕ) → List Fields
+  rows_behind f p [] = (f ++ (p ∷ [])) ∷ []
+  rows_behind f p (line ∷ lines) = (f ++ before_first_field p (line_fields d line)) ∷ line_rows d lines
+
+  -- a delimiter ends the field
+  behind-delimiter : (f : Fields) (p : List ℕ) (c : ℕ) (lines : List (List ℕ)) → (c == d) ≡ true
+      → rows_behind (f ++ (p ∷ [])) [] lines ≡ rows_behind f p (onto_first c lines)
+  unfolding rows_behind before_first_field
+  behind-delimiter f p c [] is = rw (is, append-nil p, append_assoc f (p ∷ []) ([] ∷ [])) refl
+  behind-delimiter f p c (line ∷ lines) is =
+      rw (is, append-nil p, no-bytes-before line, append_assoc f (p ∷ []) (line_fields d line)) refl
+
+  -- any other byte joins it
+  behind-byte : (f : Fields) (p : List ℕ) (c : ℕ) (lines : List (List ℕ)) → (c == d) ≡ false
+      → rows_behind f (p ++ (c ∷ [])) lines ≡ rows_behind f p (onto_first c lines)
+  unfolding rows_behind before_first_field
+  behind-byte f p c [] joins = rw joins refl
+  behind-byte f p c (line ∷ lines) joins = rw joins (by (line_fields d line))
+    where
+      by : (fields : Fields)
+          → (f ++ before_first_field (p ++ (c ∷ [])) fields) ∷ line_rows d lines
+          ≡ (f ++ before_first_field p (onto_first c fields)) ∷ line_rows d lines
+      by [] = refl
+      by (x ∷ xs) = rw (append_assoc p (c ∷ []) x) refl
+
+  abbrev cfg : Config
+  cfg = delimited d
+
+  abbrev lines_in : List ℕ → List (List ℕ)
+  lines_in xs = slice_split is_line_end xs
+
+  -- in a record: what is read of these bytes, from each of the two states there
+  record Inside (xs : List ℕ) : Type 0 where
+    in_field : (f : Fields) (p : List ℕ) → runs cfg st.InField f p xs ≡ rows_behind f p (lines_in xs)
+    start_field : (f : Fields) (p : List ℕ) → runs cfg st.StartField f p xs ≡ rows_behind f p (lines_in xs)
+
+  -- between two records
+  record Between (xs : List ℕ) : Type 0 where
+    start : runs cfg st.StartRecord [] [] xs ≡ line_rows d (lines_in xs)
+    after_cr : runs cfg st.AfterCr [] [] xs ≡ line_rows d (lines_in xs)
+
+  runs-same : (s t : State) (f : Fields) (p : List ℕ) (c : ℕ) (rest : List ℕ) → step cfg s c ≡ step cfg t c
+      → runs cfg s f p (c ∷ rest) ≡ runs cfg t f p (c ∷ rest)
+  unfolding runs
+  runs-same s t f p c rest e = rw e refl
+
+  -- behind a byte that ends a record
+  after-end-rows : (c : ℕ) (rest : List ℕ) → Between rest
+      → runs cfg (after_end cfg.terminator c) [] [] rest ≡ line_rows d (lines_in rest)
+  after-end-rows c rest between = by (c == 13)
+    where
+      by : (b : Bool) → runs cfg (if b then st.AfterCr else st.StartRecord) [] [] rest ≡ line_rows d (lines_in rest)
+      by true = between.after_cr
+      by false = between.start
+
+  rows-begin : (c : ℕ) (lines : List (List ℕ)) → rows_behind [] [] (onto_first c lines) ≡ line_rows d (onto_first c lines)
+  unfolding rows_behind
+  rows-begin c [] = rw (no-bytes-before (c ∷ [])) refl
+  rows-begin c (line ∷ lines) = rw (no-bytes-before (c ∷ line)) refl
+
+  module _ (separator : is_line_end d ≡ false) (c : ℕ) (rest : List ℕ) (plain : (c == 34) ≡ false) where
+    field-more : Inside rest → Between rest → (f : Fields) (p : List ℕ)
+        → runs cfg st.InField f p (c ∷ rest) ≡ rows_behind f p (lines_in (c ∷ rest))
+    unfolding runs rows_behind before_first_field
+    field-more inside between f p = by (c == d) refl (is_line_end c) refl
+      where
+        by : (a : Bool) → (c == d) ≡ a → (b : Bool) → is_line_end c ≡ b
+            → runs cfg st.InField f p (c ∷ rest) ≡ rows_behind f p (lines_in (c ∷ rest))
+        by true is b e =
+            let inner : is_line_end c ≡ false = ap is_line_end (eqb-true c d is) ∙ separator in
+            let more = inside.start_field (f ++ (p ∷ [])) [] ∙ behind-delimiter f p c (lines_in rest) is in
+            rw (is, inner) more
+        by false is true e = rw (is, e, append-nil p, after-end-rows c rest between) refl
+        by false is false e = rw (is, e) (inside.in_field f (p ++ (c ∷ [])) ∙ behind-byte f p c (lines_in rest) is)
+
+    inside-more : Inside rest → Between rest → Inside (c ∷ rest)
+    inside-more inside between =
+        let begun : step cfg st.StartField c ≡ step cfg st.InField c = rw plain refl in
+        record {
+          in_field = λ f p. field-more inside between f p;
+          start_field = λ f p. runs-same st.StartField st.InField f p c rest begun ∙ field-more inside between f p;
+        }
+
+    start-more : Inside (c ∷ rest) → Between rest → runs cfg st.StartRecord [] [] (c ∷ rest) ≡ line_rows d (lines_in (c ∷ rest))
+    unfolding runs
+    start-more inside between = by (is_line_end c) refl
+      where
+        by : (b : Bool) → is_line_end c ≡ b → runs cfg st.StartRecord [] [] (c ∷ rest) ≡ line_rows d (lines_in (c ∷ rest))
+        by true e = rw e between.start
+        by false e =
+            let begun : step cfg st.StartRecord c ≡ step cfg st.InField c = rw (e, plain) refl in
+            let first : lines_in (c ∷ rest) ≡ onto_first c (lines_in rest) = rw e refl in
+            runs-same st.StartRecord st.InField [] [] c rest begun
+            ∙ inside.in_field [] []
+            ∙ ap (rows_behind [] []) first
+            ∙ rows-begin c (lines_in rest)
+            ∙ ap (line_rows d) (sym first)
+
+    between-more : Inside (c ∷ rest) → Between rest → Between (c ∷ rest)
+    unfolding runs
+    between-more inside between =
+        record { start = start-more inside between; after_cr = by (c == 10) refl }
+      where
+        by : (b : Bool) → (c == 10) ≡ b → runs cfg st.AfterCr [] [] (c ∷ rest) ≡ line_rows d (lines_in (c ∷ rest))
+        by true e = rw (eqb-true c 10 e) between.start
+        by false e =
+            let begun : step cfg st.AfterCr c ≡ step cfg st.StartRecord c = rw e refl in
+            runs-same st.AfterCr st.StartRecord [] [] c rest begun ∙ start-more inside between
+
+  unquoted-rows : is_line_end d ≡ false → (xs : List ℕ) → IsUnquoted xs → Inside xs × Between xs
+  unfolding runs rows_behind before_first_field
+  unquoted-rows separator [] plain = (
+    record { in_field = λ f p. rw (append-nil p) refl; start_field = λ f p. rw (append-nil p) refl },
+    record { start = refl; after_cr = refl },
+  )
+  unquoted-rows separator (c ∷ rest) plain =
+      let (inside, between) = unquoted-rows separator rest plain.1 in
+      let here = inside-more separator c rest plain.0 inside between in
+      (here, between-more separator c rest plain.0 here between)
+
+-- a separator ends no line
+separator-ends-none : (d : ℕ) → is_separator d ≡ true → is_line_end d ≡ false
+separator-ends-none d h = by (d == 34) (is_line_end d) h
+  where
+    by : (a b : Bool) → not a && not b ≡ true → b ≡ false
+    by a false h = refl
+    by true true h = absurd (false≢true h)
+    by false true h = absurd (false≢true h)
+
+pub unquoted-split : UnquotedTextsAreSplit
+unquoted-split d text separator plain =
+    runs-all (delimited d) text ∙ (unquoted-rows d (separator-ends-none d separator) text plain).1.start

@@ -1,0 +1,322 @@
+-- What pieces of texts read as, one after the other.
+use Rattle.std.proofs.Common.{◌≡◌, ◌≤◌, ◌+◌, ◌∷◌, ◌++◌, ◌∙◌, ℕ, List, [], length, map, Bool, true, false, Option, Some, None, Result, Ok, Err, refl, sym, ap, arith}
+use Rattle.std.specs.Prelude.{◌==◌, ⊤, IfSome, nat_le, option_map, option_and_then, if◌then◌else◌}
+use Rattle.std.specs.List.{AllByRecursion, flat_map}
+use Rattle.std.proofs.lemmas.Bool.Decides.{nat_tests}
+use Rattle.std.proofs.lemmas.List.{map-append}
+use Rattle.std.proofs.lemmas.List.Sums.{sum_by-append, sum_by-cons}
+use Rattle.hh_stream.specs.Cuttings.{whole_of}
+use Rattle.hh_stream.specs.Weights.{Entry, max_key_len, max_total, total_of}
+use Rattle.hh_records.specs.declared.layout.Layout.{Layout}
+use Rattle.hh_records.specs.declared.records.BadRecordCause.{BadRecordCause}
+use Rattle.hh_records.specs.declared.records.BadRecordCause.TheVariants as cause
+use Rattle.hh_pieces.specs.Laws.{PiecesAreRead}
+use Rattle.hh_records.specs.Layouts.{Places, added, adding_next, adds, gathered, headed_parts, item_by, items_after, joined, parts_at, places_in, text_parts, texts_parts, weight_by}
+use Rattle.hh_pieces.specs.Chunks.{Follows}
+use Rattle.hh_pieces.specs.Pieces.{InPieces, IsCut, IsInPieces, all_pieces, first_piece, piece_parts, piece_reading, text_of, with_columns}
+use Rattle.hh_records.specs.Layouts.{columns_of, first_of, rows_in}
+use Rattle.hh_records.specs.Streams.{Fields, Parts, Reading, item_of_key, item_of_pair, weight_after, weight_or_cause}
+use Rattle.hh_pieces.proofs.CutFacts.{parts-records, pieces-records}
+use Rattle.hh_records.proofs.OpenFacts.{map-nothing, map-twice, some-is}
+use Rattle.hh_records.proofs.ReadFacts.{items-more, ok-eq}
+
+-- ---- records after another total
+-- what is said after one total is said after the total u too, where the weight fits there
+Moves : {A : Type 0} → (A → ℕ) → ℕ → Result A BadRecordCause → Result A BadRecordCause → Type 0
+Moves weight u (Ok a) r = u + weight a ≤ max_total → r ≡ Ok a
+Moves weight u (Err cause.TotalTooLarge) r = ⊤
+Moves weight u (Err c) r = r ≡ Err c
+
+abbrev itself : ℕ → ℕ
+itself w = w
+
+abbrev weight_in : Entry → ℕ
+weight_in e = e.1
+
+weight-or-moves : (t u w : ℕ) → Moves itself u (weight_or_cause t w) (weight_or_cause u w)
+unfolding Moves
+weight-or-moves t u w = by (w == 0) (nat_le (t + w) max_total)
+  where
+    by : (z fits : Bool)
+        → Moves itself u (if z then Err cause.ZeroWeight else if fits then Ok w else Err cause.TotalTooLarge)
+        (if z then Err cause.ZeroWeight else if nat_le (u + w) max_total then Ok w else Err cause.TotalTooLarge)
+    by true fits = refl
+    by false false = tt
+    by false true = λ l. let room : nat_le (u + w) max_total ≡ true = grind (arith, nat_tests, l) in rw room refl
+
+weight-moves : (t u : ℕ) (f : Option ℕ) → Moves itself u (weight_after t f) (weight_after u f)
+unfolding Moves
+weight-moves t u None = refl
+weight-moves t u (Some w) = weight-or-moves t u w
+
+pair-moves : (u : ℕ) (k : List ℕ) (r s : Result ℕ BadRecordCause) → Moves itself u r s
+    → Moves weight_in u (item_of_pair k r) (item_of_pair k s)
+unfolding Moves
+pair-moves u k (Ok w) s h = λ l. rw (h l) refl
+pair-moves u k (Err cause.FieldCount) s h = rw h refl
+pair-moves u k (Err cause.EmptyKey) s h = rw h refl
+pair-moves u k (Err cause.KeyTooLong) s h = rw h refl
+pair-moves u k (Err cause.BadWeight) s h = rw h refl
+pair-moves u k (Err cause.ZeroWeight) s h = rw h refl
+pair-moves u k (Err cause.TotalTooLarge) s h = tt
+
+key-moves : (t u : ℕ) (k : List ℕ) (w : Option ℕ) → Moves weight_in u (item_of_key t k w) (item_of_key u k w)
+unfolding Moves
+key-moves t u k w = by (length k == 0) (nat_le (length k) max_key_len)
+  where
+    by : (z few : Bool)
+        → Moves weight_in u
+        (if z then Err cause.EmptyKey else if few then item_of_pair k (weight_after t w) else Err cause.KeyTooLong)
+        (if z then Err cause.EmptyKey else if few then item_of_pair k (weight_after u w) else Err cause.KeyTooLong)
+    by true few = refl
+    by false false = refl
+    by false true = pair-moves u k (weight_after t w) (weight_after u w) (weight-moves t u w)
+
+item-moves : (layout : Layout) (t u : ℕ) (p : Parts) → Moves weight_in u (item_by layout t p) (item_by layout u p)
+unfolding Moves
+item-moves layout t u None = refl
+item-moves layout t u (Some (k, f)) = key-moves t u k (weight_by layout f)
+
+-- what a record adds is the same after another total, where it fits
+adds-moves : (layout : Layout) (t u : ℕ) (p : Parts) (es : List Entry) → adds layout t p ≡ Ok es
+    → u + total_of es ≤ max_total → adds layout u p ≡ Ok es
+unfolding Moves
+adds-moves layout t u p es e l =
+    by (item_by layout t p) (item_by layout u p) (item-moves layout t u p) e
+  where
+    by : (r s : Result Entry BadRecordCause) → Moves weight_in u r s → added layout.allow_zero r ≡ Ok es
+        → added layout.allow_zero s ≡ Ok es
+    by (Ok a) s h e =
+        let one : a ∷ [] ≡ es = cc e in
+        let sum = sum_by-cons weight_in a [] in
+        let fits : u + a.1 ≤ max_total = omega (arith, l, sum, ap total_of one) in
+        rw (h fits) e
+    by (Err cause.FieldCount) s h e = rw h e
+    by (Err cause.EmptyKey) s h e = rw h e
+    by (Err cause.KeyTooLong) s h e = rw h e
+    by (Err cause.BadWeight) s h e = rw h e
+    by (Err cause.ZeroWeight) s h e = rw h e
+    by (Err cause.TotalTooLarge) s h e = cc e
+
+-- so is what records add, whatever their numbers
+pub items-move : (layout : Layout) (n m t u : ℕ) (ps : List Parts) (xs : List Entry) → items_after layout n t ps ≡ Ok xs
+    → u + total_of xs ≤ max_total → items_after layout m u ps ≡ Ok xs
+unfolding items_after
+items-move layout n m t u [] xs e l = e
+items-move layout n m t u (p ∷ ps) xs e l =
+    by (adds layout t p) refl e
+    (λ es ys f fits. items-move layout (n + 1) (m + 1) (t + total_of es) (u + total_of es) ps ys f fits)
+  where
+    Later : Type 0
+    Later = (es ys : List Entry) → items_after layout (n + 1) (t + total_of es) ps ≡ Ok ys
+        → u + total_of es + total_of ys ≤ max_total → items_after layout (m + 1) (u + total_of es) ps ≡ Ok ys
+
+    go : (es : List Entry) (r : Reading) → items_after layout (n + 1) (t + total_of es) ps ≡ r → joined es r ≡ Ok xs
+        → adds layout t p ≡ Ok es → Later
+        → adding_next (adds layout u p) m (λ es. items_after layout (m + 1) (u + total_of es) ps) ≡ Ok xs
+    go es (Err x) f e is later = cc e
+    go es (Ok ys) f e is later =
+        let both : es ++ ys ≡ xs = ok-eq (es ++ ys) xs e in
+        let sum = sum_by-append weight_in es ys in
+        let fits : u + (total_of es + total_of ys) ≤ max_total = omega (arith, l, sum, ap total_of both) in
+        let now = adds-moves layout t u p es is (omega (arith, fits)) in
+        let rest = later es ys f (omega (arith, fits)) in
+        rw (now, rest) e
+
+    by : (o : Result (List Entry) BadRecordCause) → adds layout t p ≡ o
+        → adding_next o n (λ es. items_after layout (n + 1) (t + total_of es) ps) ≡ Ok xs → Later
+        → adding_next (adds layout u p) m (λ es. items_after layout (m + 1) (u + total_of es) ps) ≡ Ok xs
+    by (Ok es) is e later = go es (items_after layout (n + 1) (t + total_of es) ps) refl e is later
+    by (Err x) is e later = cc e
+
+-- what a piece reads as, by what its records add after a total of t
+module _ (layout : Layout) (columns : Option Places) (bytes : List ℕ) where
+  pub piece-none : (ps : List Parts) → ◌≡◌ {A = Option (List Parts)} (Some []) (Some ps)
+      → piece_parts layout columns bytes ≡ Some ps → piece_reading layout columns bytes ≡ Some (Ok [])
+  unfolding items_after
+  piece-none ps left e = ap (option_map (items_after layout 1 0)) (e ∙ sym left)
+
+  pub piece-some : (t : ℕ) (xs : List Entry) (ps : List Parts) → piece_parts layout columns bytes ≡ Some ps
+      → items_after layout 1 t ps ≡ Ok xs → total_of xs ≤ max_total
+      → piece_reading layout columns bytes ≡ Some (Ok xs)
+  piece-some t xs ps e h l =
+      ap (option_map (items_after layout 1 0)) e
+      ∙ ap Some (items-move layout 1 1 t 0 ps xs h (omega (arith, l)))
+
+-- the same of a reader's bytes, where they are known
+module _ (layout : Layout) (columns : Option Places) where
+  pub left-none : (bytes : Option (List ℕ))
+      → IfSome (option_map (piece_parts layout columns) bytes)
+      (λ known. (ps : List Parts) × (◌≡◌ {A = Option (List Parts)} (Some []) (Some ps)) × (known ≡ Some ps))
+      → IfSome bytes (λ bytes. piece_reading layout columns bytes ≡ Some (Ok []))
+  left-none None h = tt
+  left-none (Some bytes) (ps, left, e) = piece-none layout columns bytes ps left e
+
+  pub left-some : (t before after : ℕ) (xs : List Entry) (bytes : Option (List ℕ)) (left : Option (List Parts))
+      → IfSome (option_map (piece_parts layout columns) bytes)
+      (λ known. (ps : List Parts) × (left ≡ Some ps) × (known ≡ Some ps))
+      → IfSome left (λ ps. (items_after layout 1 t ps ≡ Ok xs) × (after ≡ before + length ps))
+      → total_of xs ≤ max_total → IfSome bytes (λ bytes. piece_reading layout columns bytes ≡ Some (Ok xs))
+  left-some t before after xs None left h items l = tt
+  left-some t before after xs (Some bytes) left (ps, is, e) items l =
+      let added = rw is at items in piece-some layout columns bytes t xs ps e added.0 l
+
+-- ---- the records of pieces
+module _ {A B : Type 0} (f : A → Option (List B)) where
+  gathered-append : (xs ys : List A)
+      → gathered f (xs ++ ys)
+      ≡ option_and_then (λ (ps : List B). option_map (λ qs. ps ++ qs) (gathered f ys)) (gathered f xs)
+  unfolding gathered
+  gathered-append [] ys = sym (map-nothing (gathered f ys))
+  gathered-append (x ∷ xs) ys = rw (gathered-append xs ys) (by (f x) (gathered f xs))
+    where
+      by : (o p : Option (List B))
+          → option_and_then (λ (zs : List B). option_map (λ qs. zs ++ qs)
+          (option_and_then (λ (ps : List B). option_map (λ qs. ps ++ qs) (gathered f ys)) p)) o
+          ≡ option_and_then (λ (ps : List B). option_map (λ qs. ps ++ qs) (gathered f ys))
+          (option_and_then (λ (zs : List B). option_map (λ qs. zs ++ qs) p) o)
+      by None p = refl
+      by (Some zs) None = refl
+      by (Some zs) (Some ps) = map-twice zs ps (gathered f ys)
+
+module _ (layout : Layout) where
+  -- the records of a text, of which some were the header
+  parts_in : List Fields → Option (List Parts)
+  parts_in rows =
+      if layout.has_header then headed_parts layout rows
+      else option_map (λ at. map (parts_at at) rows) (places_in layout [])
+
+  -- records behind those that have the header are read by its columns
+  rows-more : (rows : List Fields) (at : Places) → columns_of layout rows ≡ Some at
+      → (ps : List Parts) × (parts_in rows ≡ Some ps)
+      × ((more : List Fields) → parts_in (rows ++ more) ≡ Some (ps ++ map (parts_at at) more))
+  unfolding parts_in
+  rows-more rows at e = by layout.has_header rows e
+    where
+      by : (b : Bool) (rows : List Fields)
+          → option_and_then (places_in layout) (if b then first_of rows else Some []) ≡ Some at
+          → (ps : List Parts)
+          × ((if b then headed_parts layout rows else option_map (λ at. map (parts_at at) rows) (places_in layout [])) ≡ Some ps)
+          × ((more : List Fields)
+          → (if b then headed_parts layout (rows ++ more) else option_map (λ at. map (parts_at at) (rows ++ more)) (places_in layout []))
+          ≡ Some (ps ++ map (parts_at at) more))
+      by true [] e = cc e
+      by true (h ∷ rows) e = (
+        map (parts_at at) rows,
+        rw e refl,
+        λ more. rw (e, map-append (parts_at at) rows more) refl,
+      )
+      by false rows e = (
+        map (parts_at at) rows,
+        rw e refl,
+        λ more. rw (e, map-append (parts_at at) rows more) refl,
+      )
+
+  -- the records of a text that is cut are those of a part and, by the columns that follow it, of the rest
+  pub parts-more : (columns : Option Places) (at : Places) (a b : List ℕ) (ps : List Parts) → IsCut layout.delimiter a b
+      → Follows layout columns at a → piece_parts layout columns a ≡ Some ps
+      → piece_parts layout columns (a ++ b) ≡ Some (ps ++ map (parts_at at) (rows_in layout b))
+  unfolding parts_in
+  parts-more None at a b ps cut follows e =
+      let (qs, first, more) = rows-more (rows_in layout a) at follows in
+      let same : qs ≡ ps = some-is (sym first ∙ e) in
+      ap parts_in (parts-records layout.delimiter a b cut)
+      ∙ more (rows_in layout b)
+      ∙ ap (λ (l : List Parts). Some (l ++ map (parts_at at) (rows_in layout b))) same
+  parts-more (Some columns) at a b ps cut follows e =
+      ap (λ (rows : List Fields). Some (map (parts_at columns) rows)) (parts-records layout.delimiter a b cut)
+      ∙ ap Some (map-append (parts_at columns) (rows_in layout a) (rows_in layout b))
+      ∙ ap (λ (l : List Parts). Some (l ++ map (parts_at columns) (rows_in layout b))) (some-is e)
+      ∙ ap (λ (c : Places). Some (ps ++ map (parts_at c) (rows_in layout b))) (sym follows)
+
+  no-parts : (at : Places) → columns_of layout [] ≡ Some at → parts_in [] ≡ Some []
+  unfolding parts_in
+  no-parts at e = by layout.has_header e
+    where
+      by : (b : Bool) → option_and_then (places_in layout) (if b then first_of [] else Some []) ≡ Some at
+          → (if b then headed_parts layout [] else option_map (λ at. map (parts_at at) []) (places_in layout [])) ≡ Some []
+      by true e = refl
+      by false e = rw e refl
+
+  parts_of_piece : Option Places × List ℕ → Option (List Parts)
+  parts_of_piece piece = piece_parts layout piece.0 piece.1
+
+  later-parts : (at : Places) (pieces : List (List ℕ))
+      → gathered parts_of_piece (map (λ q. (Some at, q)) pieces)
+      ≡ Some (map (parts_at at) (flat_map (rows_in layout) pieces))
+  unfolding gathered parts_of_piece
+  later-parts at [] = refl
+  later-parts at (q ∷ pieces) =
+      rw (later-parts at pieces, map-append (parts_at at) (rows_in layout q) (flat_map (rows_in layout) pieces)) refl
+
+  -- the records of a text are those of its pieces
+  text-pieces : (t : InPieces) → IsInPieces layout t
+      → text_parts layout (text_of t) ≡ gathered parts_of_piece (with_columns t.columns t.pieces)
+  unfolding gathered parts_of_piece parts_in
+  text-pieces t is = by t.pieces (pieces-records layout.delimiter t.pieces is.cut) is.columns
+    where
+      by : (pieces : List (List ℕ)) → rows_in layout (whole_of pieces) ≡ flat_map (rows_in layout) pieces
+          → columns_of layout (rows_in layout (first_piece pieces)) ≡ Some t.columns
+          → parts_in (rows_in layout (whole_of pieces)) ≡ gathered parts_of_piece (with_columns t.columns pieces)
+      by [] rows columns =
+          let none : rows_in layout [] ≡ [] = rows in
+          ap parts_in none ∙ no-parts t.columns (rw none at columns)
+      by (a ∷ rest) rows columns =
+          let (ps, first, more) = rows-more (rows_in layout a) t.columns columns in
+          ap parts_in rows
+          ∙ more (flat_map (rows_in layout) rest)
+          ∙ rw (first, later-parts t.columns rest) refl
+
+  -- so are those of all texts
+  texts-pieces : (texts : List InPieces) → AllByRecursion (IsInPieces layout) texts
+      → texts_parts layout (map text_of texts) ≡ gathered parts_of_piece (all_pieces texts)
+  unfolding gathered
+  texts-pieces [] are = refl
+  texts-pieces (t ∷ texts) are =
+      rw (text-pieces t are.0, texts-pieces texts are.1)
+      (sym (gathered-append parts_of_piece (with_columns t.columns t.pieces) (all_pieces texts)))
+
+  reading_of : Option Places × List ℕ → Option Reading
+  reading_of piece = piece_reading layout piece.0 piece.1
+
+  abbrev read_as : List Entry → Option Reading
+  read_as xs = Some (Ok xs)
+
+  -- pieces that are read by themselves are read one after the other
+  pieces-read : (n t : ℕ) (pieces : List (Option Places × List ℕ)) (parts : List (List Entry))
+      → map (λ piece. piece_reading layout piece.0 piece.1) pieces ≡ map read_as parts
+      → t + total_of (whole_of parts) ≤ max_total
+      → (ps : List Parts) × (gathered parts_of_piece pieces ≡ Some ps)
+      × (items_after layout n t ps ≡ Ok (whole_of parts))
+  unfolding gathered items_after parts_of_piece
+  pieces-read n t [] [] e l = ([], refl, refl)
+  pieces-read n t [] (xs ∷ parts) e l = cc e
+  pieces-read n t (p ∷ pieces) [] e l = cc e
+  pieces-read n t (p ∷ pieces) (xs ∷ parts) e l =
+      let head : piece_reading layout p.0 p.1 ≡ read_as xs = cc e in
+      let tail : map (λ piece. piece_reading layout piece.0 piece.1) pieces ≡ map read_as parts = cc e in
+      let sum = sum_by-append weight_in xs (whole_of parts) in
+      by (piece_parts layout p.0 p.1) refl head
+      (λ qs. pieces-read (n + length qs) (t + total_of xs) pieces parts tail (omega (arith, l, sum)))
+    where
+      by : (o : Option (List Parts)) → piece_parts layout p.0 p.1 ≡ o
+          → option_map (items_after layout 1 0) o ≡ read_as xs
+          → ((qs : List Parts) → (ps : List Parts) × (gathered parts_of_piece pieces ≡ Some ps)
+          × (items_after layout (n + length qs) (t + total_of xs) ps ≡ Ok (whole_of parts)))
+          → (ps : List Parts) × (gathered parts_of_piece (p ∷ pieces) ≡ Some ps)
+          × (items_after layout n t ps ≡ Ok (whole_of (xs ∷ parts)))
+      by None is head later = cc head
+      by (Some qs) is head later =
+          let alone : items_after layout 1 0 qs ≡ Ok xs = cc head in
+          let sum = sum_by-append weight_in xs (whole_of parts) in
+          let here = items-move layout 1 n 0 t qs xs alone (omega (arith, l, sum)) in
+          let (ps, are, rest) = later qs in (
+            qs ++ ps,
+            rw (is, are) refl,
+            items-more layout n t xs qs ps here ∙ ap (joined xs) rest,
+          )
+
+pub pieces-are-read : PiecesAreRead
+pieces-are-read layout texts parts are e l =
+    let (ps, gives, items) = pieces-read layout 1 0 (all_pieces texts) parts e (omega (arith, l)) in
+    rw (texts-pieces layout texts are, gives) (ap Some items)

@@ -1,0 +1,21 @@
+use Rattle.std.proofs.Common.{arith}
+use Rattle.std.specs.Prelude.{map, option_map}
+use Rattle.hh_pieces.specs.Lines.{split_rows}
+use Rattle.hh_records.specs.Streams.{parts_of}
+use Rattle.hh_pieces.proofs.PieceFacts.{piece-some}
+use Rattle.hh_pieces.proofs.pieces.read_piece.Goals as goal
+
+-- a piece that is read line by line
+pub returns-in-Ok-clause-items : goal.returns-in-Ok-clause-items
+returns-in-Ok-clause-items g c =
+    let t = c.in-Ok.ensures.items in
+    record {
+      xs = t.xs;
+      adds = piece-some c.args.layout.now (option_map (λ c. c.now) c.args.columns) c.args.piece.now
+          (g.T.TakeItems.weight_taken c.args.taker.now) t.xs
+          (map parts_of (split_rows c.args.layout.now.delimiter c.in-Some.text.now)) c.in-Some.ensures t.adds
+          (omega (arith, t.weight, c.in-Ok.ensures.bounded));
+      positive = t.positive;
+      weight = t.weight;
+      taken = t.taken;
+    }

@@ -1,0 +1,11 @@
+pub mod Chunks
+pub mod CutFiles
+pub mod CutTexts
+pub mod Files
+pub mod Kept
+pub mod Laws
+pub mod Lines
+pub mod Pieces
+pub mod Quotes
+pub mod Sources
+pub mod Windows

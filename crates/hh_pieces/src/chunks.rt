@@ -1,0 +1,126 @@
+//! Pieces that are read from a reader chunk by chunk.
+
+ghost use Rattle.std.specs.Prelude.{◌≡◌, ◌≤◌, ◌++◌, ℕ, List, Some, drop, length, option_map, IfOk, IfSome, OnOk};
+ghost use Rattle.hh_stream.specs.Weights.{max_total};
+ghost use Rattle.hh_pieces.specs.Chunks.{Follows, LeadsTo};
+ghost use Rattle.hh_pieces.specs.CutTexts.{piece_items};
+ghost use Rattle.hh_records.specs.Layouts.{TakesAdded};
+
+use crate::cut_texts::{PieceFault, feed_bytes};
+use crate::cuts::whole_records;
+use crate::pieces::{Columns, read_piece};
+use crate::window::Window;
+use hh_records::Layout;
+use hh_stream::TakeItems;
+use std::alloc::{AllocError, Global};
+use std::io::Read;
+
+// How many bytes of a piece are in memory at once, where no record is longer.
+const CHUNK_LEN: usize = 262_144;
+
+/// The same columns, if any.
+fn copy_columns(alloc: Global, columns: Option<&Columns>) -> Result<Option<Columns>, AllocError>
+    ensures { IfOk result (λ copy. copy ≡ option_map (λ c. c.now) columns.entry) }
+{
+    match columns {
+        Some(columns) => Ok(Some(columns.copy(alloc)?)),
+        None => Ok(None),
+    }
+}
+
+/// The columns of what stands behind a chunk. The first chunk of a text chooses them: there are
+/// none where the layout has a header and the chunk has no record for it.
+fn next_columns(
+    alloc: Global,
+    layout: &Layout,
+    columns: Option<&Columns>,
+    chunk: &[u8],
+) -> Result<Option<Columns>, PieceFault>
+    ensures { IfOk result (λ next. IfSome next (λ at.
+        Follows layout.now (option_map (λ c. c.now) columns.entry) at chunk.now)) }
+{
+    let Some(columns) = columns else {
+        return match Columns::of_text(alloc, layout, chunk) {
+            Ok(next) => Ok(next),
+            Err(error) => Err(PieceFault::from(error)),
+        };
+    };
+    match columns.copy(alloc) {
+        Ok(next) => Ok(Some(next)),
+        Err(AllocError) => Err(PieceFault::Memory),
+    }
+}
+
+/// Hands on the whole records at the front of what is left of a piece, of which these bytes are
+/// held, and tells how many bytes they are. There are none where no columns are found.
+fn take_chunk<T: TakeItems>(
+    alloc: Global,
+    layout: &Layout,
+    columns: &mut Option<Columns>,
+    held: &[u8],
+    taker: &mut T,
+) -> Result<usize, PieceFault>
+    requires bounded { T.weight_taken taker.old ≤ max_total }
+    ensures within { IfOk result (λ count. count ≤ length held.now) }
+    ensures taken { IfOk result (λ count.
+        TakesAdded T.with_item T.weight_taken taker.old taker.new (λ xs.
+        (behind : List ℕ) → LeadsTo layout.now (columns.old, held.now ++ behind) xs
+        (columns.new, drop count held.now ++ behind))) }
+    ensures bounded { IfOk result (λ _. T.weight_taken taker.new ≤ max_total) }
+{
+    let Some(count) = whole_records(held, layout.delimiter) else {
+        return Ok(0);
+    };
+    let chunk = &held[..count];
+    let Some(next) = next_columns(alloc, layout, columns.as_ref(), chunk)? else {
+        return Ok(0);
+    };
+    match read_piece(alloc, layout, columns.as_ref(), chunk, taker) {
+        Ok(()) => {}
+        Err(error) => return Err(PieceFault::from(error)),
+    }
+    *columns = Some(next);
+    Ok(count)
+}
+
+/// Hands on the items of a piece that a reader has left, which has about so many bytes. Each of
+/// them is read once, into a buffer that gets longer only where a record is longer than it.
+pub(crate) fn feed_left<R: Read + Drop, T: TakeItems>(
+    alloc: Global,
+    layout: &Layout,
+    columns: Option<&Columns>,
+    piece: R,
+    len: usize,
+    taker: &mut T,
+) -> Result<(), PieceFault>
+    ensures items { OnOk result
+        (TakesAdded T.with_item T.weight_taken taker.old taker.new (λ xs.
+        IfSome (R.remaining piece) (λ bytes. piece_items layout.now
+        (option_map (λ c. c.now) columns.entry, bytes) ≡ Some xs))) }
+    ensures bounded { OnOk result (T.weight_taken taker.new ≤ max_total) }
+{
+    // What was taken before is in range, as this call's clause says.
+    let _total = taker.total();
+    let mut piece = piece;
+    let most = len.saturating_add(1);
+    let Ok(mut chosen) = copy_columns(alloc, columns) else {
+        return Err(PieceFault::Memory);
+    };
+    let Ok(mut window) = Window::new(alloc, most.min(CHUNK_LEN)) else {
+        return Err(PieceFault::Memory);
+    };
+    for _ in 0..u64::MAX {
+        let Ok(()) = window.make_room(most) else {
+            return Err(PieceFault::Memory);
+        };
+        let Ok(count) = window.read_more(&mut piece) else {
+            return Err(PieceFault::Refused);
+        };
+        if count == 0 {
+            return feed_bytes(alloc, layout, chosen.as_ref(), window.held(), taker);
+        }
+        let taken = take_chunk(alloc, layout, &mut chosen, window.held(), taker)?;
+        window.remove(taken);
+    }
+    Err(PieceFault::Refused)
+}

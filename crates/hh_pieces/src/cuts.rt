@@ -1,0 +1,190 @@
+//! Where a text of records may be cut.
+
+ghost use Rattle.std.specs.Prelude.{◌≡◌, ◌≤◌, ◌<◌, length, map, take, IfOk};
+ghost use Rattle.memchr.specs.Find.{IsLast};
+ghost use Rattle.hh_stream.specs.Cuttings.{whole_of};
+ghost use Rattle.hh_pieces.specs.Pieces.{IsCutAt, LaterBeginWithFeed, ends_outside};
+ghost use Rattle.hh_pieces.specs.Quotes as spec;
+ghost use Rattle.hh_pieces.specs.Quotes.{IsFeedAt, NoQuote, place_behind};
+
+use memchr::{memchr, memrchr};
+use std::alloc::{AllocError, Global};
+
+/// A place in a text, as far as it tells what a quote does there.
+#[derive(Clone, Copy)]
+enum Place {
+    /// At the start of a field: a quote opens it.
+    Start,
+    /// In a field with no quotes around it: a quote is a byte of the field.
+    Field,
+    /// In quotes: a quote closes them.
+    Quoted,
+    /// Right behind a quote that closed a field: one more quote opens it again.
+    Left,
+}
+
+/// Whether a line feed ends a record here.
+fn is_open(place: Place) -> bool
+    ensures { result ≡ spec.is_open place }
+{
+    match place {
+        Place::Start | Place::Field | Place::Left => true,
+        Place::Quoted => false,
+    }
+}
+
+/// The place behind a byte that is no quote, outside quotes.
+fn plain_after(byte: u8, delimiter: u8) -> Place
+    ensures { result ≡ spec.plain_after delimiter byte }
+{
+    if byte == delimiter || byte == b'\r' || byte == b'\n' {
+        Place::Start
+    } else {
+        Place::Field
+    }
+}
+
+/// The place behind a quote.
+fn quote_after(place: Place, delimiter: u8) -> Place
+    ensures { result ≡ spec.place_next delimiter place 34 }
+{
+    match place {
+        Place::Start => Place::Quoted,
+        Place::Field => plain_after(b'"', delimiter),
+        Place::Quoted => Place::Left,
+        Place::Left => Place::Quoted,
+    }
+}
+
+/// The place behind a run with no quote.
+fn run_after(text: &[u8], from: usize, to: usize, place: Place, delimiter: u8) -> Place
+    requires order { from ≤ to }
+    requires within { to ≤ length text.now }
+    requires place { place ≡ place_behind delimiter (take from text.now) }
+    requires plain { NoQuote text.now from to }
+    ensures { result ≡ place_behind delimiter (take to text.now) }
+{
+    if from < to && is_open(place) {
+        plain_after(text[to - 1], delimiter)
+    } else {
+        place
+    }
+}
+
+/// The last line feed outside quotes, of a text that goes on with a run with no quote.
+fn feed_after(
+    text: &[u8],
+    from: usize,
+    to: usize,
+    place: Place,
+    last: Option<usize>,
+    delimiter: u8,
+) -> Option<usize>
+    requires order { from ≤ to }
+    requires within { to ≤ length text.now }
+    requires place { place ≡ place_behind delimiter (take from text.now) }
+    requires plain { NoQuote text.now from to }
+    requires last { IsLast (IsFeedAt delimiter text.now) 0 from last }
+    ensures { IsLast (IsFeedAt delimiter text.now) 0 to result }
+{
+    if !is_open(place) {
+        return last;
+    }
+    match memrchr(b'\n', &text[from..to]) {
+        Some(at) => Some(from + at),
+        None => last,
+    }
+}
+
+/// The place behind a text, and the last line feed in it that is outside quotes.
+fn scan(text: &[u8], delimiter: u8) -> (Place, Option<usize>)
+    ensures place { result.0 ≡ place_behind delimiter text.now }
+    ensures last { IsLast (IsFeedAt delimiter text.now) 0 (length text.now) result.1 }
+{
+    let mut place = Place::Start;
+    let mut from = 0;
+    let mut last = None;
+    while let Some(run) = memchr(b'"', &text[from..]) {
+        let quote = from + run;
+        last = feed_after(text, from, quote, place, last, delimiter);
+        place = quote_after(run_after(text, from, quote, place, delimiter), delimiter);
+        from = quote + 1;
+    }
+    let end = text.len();
+    (
+        run_after(text, from, end, place, delimiter),
+        feed_after(text, from, end, place, last, delimiter),
+    )
+}
+
+/// How many bytes of a byte order mark a text begins with.
+pub(crate) fn mark_len(text: &[u8]) -> usize
+    ensures { result ≡ spec.mark_len text.now }
+{
+    if text.len() >= 3 && text[0] == 0xEF && text[1] == 0xBB && text[2] == 0xBF {
+        3
+    } else {
+        0
+    }
+}
+
+/// Whether a text with this byte between its fields ends outside quotes, so that it may be cut
+/// there before a line feed. It may not where the byte is itself a line feed.
+pub fn ends_outside_quotes(text: &[u8], delimiter: u8) -> bool
+    ensures { result ≡ ends_outside delimiter text.now }
+{
+    if delimiter == b'\n' {
+        return false;
+    }
+    let mark = mark_len(text);
+    let (place, _) = scan(&text[mark..], delimiter);
+    is_open(place)
+}
+
+/// How many bytes of a part of a text are whole records: those before the last line feed outside
+/// quotes, where the text may be cut. There is no such place in a part of one record, or in quotes.
+pub fn whole_records(text: &[u8], delimiter: u8) -> Option<usize>
+    ensures { IsLast (IsCutAt delimiter text.now) 0 (length text.now) result }
+{
+    if delimiter == b'\n' {
+        return None;
+    }
+    let mark = mark_len(text);
+    let (_, last) = scan(&text[mark..], delimiter);
+    match last {
+        Some(at) => Some(mark + at),
+        None => None,
+    }
+}
+
+/// Cuts a text into pieces of about equal size, at most so many. Each piece but the first begins
+/// with a line feed, the first from an even place on; nothing is copied.
+///
+/// A line feed may stand in quotes: [`ends_outside_quotes`] tells, of each piece by itself, whether
+/// the text may be cut behind it.
+pub fn cut_text<'t>(alloc: Global, text: &'t [u8], most: usize) -> Result<Vec<&'t [u8]>, AllocError>
+    requires some { 0 < most }
+    ensures whole { IfOk result (λ pieces.
+        whole_of (map (λ p. p.now) pieces.items) ≡ text.now) }
+    ensures some { IfOk result (λ pieces. 0 < length pieces.items) }
+    ensures few { IfOk result (λ pieces. length pieces.items ≤ most) }
+    ensures feeds { IfOk result (λ pieces.
+        LaterBeginWithFeed (map (λ p. p.now) pieces.items)) }
+{
+    let size = text.len() / most + 1;
+    let mut pieces = Vec::new(alloc);
+    let mut rest = text;
+    for _ in 1..most {
+        if rest.len() <= size {
+            break;
+        }
+        let Some(after) = memchr(b'\n', &rest[size..]) else {
+            break;
+        };
+        let (piece, later) = rest.split_at(size + after);
+        pieces.push(piece)?;
+        rest = later;
+    }
+    pieces.push(rest)?;
+    Ok(pieces)
+}

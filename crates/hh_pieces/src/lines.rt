@@ -1,0 +1,113 @@
+//! Records of texts without quotes: each line is one, and its fields are what stands between
+//! separators.
+
+ghost use Rattle.std.specs.Bool.{OnTrue};
+ghost use Rattle.std.specs.Prelude.{◌≡◌, ◌≤◌, IfErr, OnOk, Ok, Some, length, map, option_map};
+ghost use Rattle.hh_stream.specs.Weights.{max_total};
+ghost use Rattle.hh_records.specs.Layouts.{PartsRefused, RowsRefused, TakesAdded, adds, items_after};
+ghost use Rattle.hh_pieces.specs.Lines as spec;
+ghost use Rattle.hh_pieces.specs.Lines.{IsUnquoted, line_fields, split_rows};
+ghost use Rattle.hh_records.specs.Streams.{parts_of};
+
+use hh_records::{BadRecordCause, Layout, ReadError, RecordFault, numbered_fault, take_item};
+use hh_stream::TakeItems;
+use memchr::{memchr, memchr2};
+use std::alloc::Global;
+
+/// Whether a byte may stand between fields where no quote does.
+pub(crate) fn is_separator(byte: u8) -> bool
+    ensures { result ≡ spec.is_separator byte }
+{
+    byte != b'"' && byte != b'\r' && byte != b'\n'
+}
+
+/// Whether a text has no quote.
+pub(crate) fn is_unquoted(text: &[u8]) -> bool
+    ensures { OnTrue result (IsUnquoted text.now) }
+{
+    memchr(b'"', text).is_none()
+}
+
+/// Where the line ends that begins at this place.
+fn line_end(text: &[u8], from: usize) -> usize
+    requires within { from ≤ length text.now }
+    ensures end { result ≡ spec.line_end text.now from }
+    ensures behind { from ≤ result }
+    ensures within { result ≤ length text.now }
+{
+    match memchr2(b'\r', b'\n', &text[from..]) {
+        Some(run) => from + run,
+        None => text.len(),
+    }
+}
+
+/// The key and the weight's field of a line of one or two fields.
+fn line_parts(line: &[u8], delimiter: u8) -> Option<(&[u8], Option<&[u8]>)>
+    ensures { option_map (λ parts. (parts.0.now, option_map (λ field. field.now) parts.1)) result
+        ≡ parts_of (line_fields delimiter line.now) }
+{
+    let Some(end) = memchr(delimiter, line) else {
+        return Some((line, None));
+    };
+    let field = &line[end + 1..];
+    match memchr(delimiter, field) {
+        Some(_) => None,
+        None => Some((&line[..end], Some(field))),
+    }
+}
+
+/// Hands on what the record of a line adds.
+fn take_line<T: TakeItems>(
+    alloc: Global,
+    taker: &mut T,
+    line: &[u8],
+    layout: &Layout,
+) -> Result<(), RecordFault>
+    requires bounded { T.weight_taken taker.old ≤ max_total }
+    ensures taken { OnOk result
+        (TakesAdded T.with_item T.weight_taken taker.old taker.new (λ xs.
+        adds layout.now (T.weight_taken taker.old)
+        (parts_of (line_fields layout.now.delimiter line.now)) ≡ Ok xs)) }
+    ensures bounded { OnOk result (T.weight_taken taker.new ≤ max_total) }
+    ensures refused { IfErr result (λ fault.
+        PartsRefused layout.now (T.weight_taken taker.old)
+        (parts_of (line_fields layout.now.delimiter line.now)) fault) }
+{
+    match line_parts(line, layout.delimiter) {
+        Some((key, field)) => take_item(alloc, taker, key, field, layout),
+        None => Err(RecordFault::Bad(BadRecordCause::FieldCount)),
+    }
+}
+
+/// Hands on what each line of a text adds, blank ones aside.
+pub(crate) fn read_lines<T: TakeItems>(
+    alloc: Global,
+    text: &[u8],
+    taker: &mut T,
+    layout: &Layout,
+) -> Result<(), ReadError>
+    requires bounded { T.weight_taken taker.old ≤ max_total }
+    ensures items { OnOk result
+        (TakesAdded T.with_item T.weight_taken taker.old taker.new (λ xs.
+        items_after layout.now 1 (T.weight_taken taker.old)
+        (map parts_of (split_rows layout.now.delimiter text.now)) ≡ Ok xs)) }
+    ensures bounded { OnOk result (T.weight_taken taker.new ≤ max_total) }
+    ensures refused { IfErr result (λ error.
+        RowsRefused layout.now 0 (T.weight_taken taker.old)
+        (Some (map parts_of (split_rows layout.now.delimiter text.now))) error) }
+{
+    let mut from = 0;
+    let mut number = 0;
+    while from < text.len() {
+        let end = line_end(text, from);
+        if from < end {
+            number += 1;
+            match take_line(alloc, taker, &text[from..end], layout) {
+                Ok(()) => {}
+                Err(fault) => return Err(numbered_fault(number, fault)),
+            }
+        }
+        from = end + 1;
+    }
+    Ok(())
+}

@@ -1,0 +1,231 @@
+//! Pieces of a text of records, each of which is read by itself.
+
+ghost use Rattle.std.specs.Bool.{OnTrue};
+ghost use Rattle.std.specs.Prelude.{◌≡◌, ◌≤◌, ℕ, List, Ok, Some, true, map, IfOk, IfErr, IfSome, OnOk, option_and_then, option_map};
+ghost use Rattle.hh_stream.specs.Weights.{max_total};
+ghost use Rattle.hh_records.specs.Layouts.{IsText, OpenRefused, Opens, Places, TakesAdded, chosen_places};
+ghost use Rattle.hh_records.specs.Layouts.{names_columns, parts_left, text_parts};
+ghost use Rattle.hh_pieces.specs.Lines as spec;
+ghost use Rattle.hh_pieces.specs.Lines.{split_rows};
+ghost use Rattle.hh_pieces.specs.Pieces.{PieceRefused, piece_parts, piece_reading};
+ghost use Rattle.hh_records.specs.Layouts.{FindsColumns, rows_in};
+ghost use Rattle.hh_records.specs.Streams.{parts_of};
+
+use crate::cuts::mark_len;
+use crate::lines::{is_separator, is_unquoted, read_lines};
+use csv::ReaderBuilder;
+use hh_records::retrying::Retrying;
+use hh_records::{Chosen, Layout, Text, TextError, open, read_rows};
+use hh_stream::TakeItems;
+use std::alloc::{AllocError, Global};
+use std::io::Read;
+use std::marker::Model;
+
+/// The columns that a layout chooses in a text, by its header where it has one.
+#[derive(Drop)]
+pub struct Columns {
+    chosen: Option<Chosen>,
+}
+
+impl Model for Columns {
+    ghost use Rattle.hh_records.specs.Layouts.{Places, chosen_places};
+
+    ghost Value = { Places };
+
+    ghost view = { λ columns. chosen_places columns.chosen };
+}
+
+impl Columns {
+    // The same columns.
+    pub(crate) fn copy(&self, alloc: Global) -> Result<Columns, AllocError>
+        ensures { IfOk result (λ copy. copy ≡ self.now) }
+    {
+        let chosen = copy_of(alloc, &self.chosen)?;
+        Ok(Columns { chosen })
+    }
+
+    /// The columns of a text that begins with this piece. There are none where the layout has a
+    /// header and the piece has no record for it.
+    pub fn of_text(
+        alloc: Global,
+        layout: &Layout,
+        first: &[u8],
+    ) -> Result<Option<Columns>, TextError>
+        ensures columns { IfOk result (λ columns.
+            FindsColumns layout.now (rows_in layout.now first.now) columns) }
+        ensures refused { IfErr result (λ error.
+            OpenRefused (names_columns layout.now)
+            (Some (text_parts layout.now first.now)) error) }
+    {
+        Columns::of_reader(alloc, layout, first)
+    }
+
+    // The same of what a reader has left.
+    pub(crate) fn of_reader<R: Read + Drop>(
+        alloc: Global,
+        layout: &Layout,
+        first: R,
+    ) -> Result<Option<Columns>, TextError>
+        ensures columns { IfOk result (λ columns. IfSome (R.remaining first) (λ bytes.
+            FindsColumns layout.now (rows_in layout.now bytes) columns)) }
+        ensures refused { IfErr result (λ error.
+            OpenRefused (names_columns layout.now)
+            (option_map (text_parts layout.now) (R.remaining first)) error) }
+    {
+        match open(alloc, first, layout)? {
+            None => Ok(None),
+            Some(text) => {
+                let Text { rows: _, chosen } = text;
+                Ok(Some(Columns { chosen }))
+            }
+        }
+    }
+}
+
+/// The columns once more.
+fn copy_of(alloc: Global, chosen: &Option<Chosen>) -> Result<Option<Chosen>, AllocError>
+    ensures { IfOk result (λ copy. chosen_places copy ≡ chosen_places chosen.now) }
+{
+    match chosen {
+        None => Ok(None),
+        Some(chosen) => Ok(Some(Chosen {
+            key: Vec::from_slice(alloc, chosen.key.as_slice())?,
+            weight: chosen.weight,
+        })),
+    }
+}
+
+/// A later piece of a text, whose records are to be read by the columns of the text.
+fn open_later<R: Read + Drop>(
+    alloc: Global,
+    layout: &Layout,
+    columns: &Columns,
+    piece: R,
+) -> Result<Text<R>, AllocError>
+    ensures text { IfOk result IsText }
+    ensures opened { IfOk result (λ text. parts_left R.remaining text
+        ≡ option_and_then (piece_parts layout.now (Some columns.now)) (R.remaining piece)) }
+{
+    let chosen = copy_of(alloc, &columns.chosen)?;
+    let rows = ReaderBuilder::new()
+        .delimiter(layout.delimiter)
+        .has_headers(false)
+        .flexible(true)
+        .from_reader(alloc, Retrying::new(piece));
+    Ok(Text { rows, chosen })
+}
+
+/// A piece of a text whose records are to be read: the first one, with no columns, as a text.
+fn open_piece<R: Read + Drop>(
+    alloc: Global,
+    layout: &Layout,
+    columns: Option<&Columns>,
+    piece: R,
+) -> Result<Option<Text<R>>, TextError>
+    ensures text { IfOk result (λ text. IfSome text IsText) }
+    ensures opened { IfOk result (Opens R.remaining
+        (option_map (piece_parts layout.now (option_map (λ c. c.now) columns.entry))
+        (R.remaining piece))) }
+    ensures refused { IfErr result (λ error. OpenRefused (names_columns layout.now)
+        (option_map (piece_parts layout.now (option_map (λ c. c.now) columns.entry))
+        (R.remaining piece)) error) }
+{
+    let Some(columns) = columns else {
+        return open(alloc, piece, layout);
+    };
+    match open_later(alloc, layout, columns, piece) {
+        Ok(text) => Ok(Some(text)),
+        Err(AllocError) => Err(TextError::Memory),
+    }
+}
+
+/// Whether a piece of a text is read by keys and weights, with a byte between them that may
+/// separate fields without quotes.
+fn has_plain_records(layout: &Layout, columns: Option<&Columns>) -> bool
+    ensures separated { OnTrue result (spec.is_separator layout.now.delimiter ≡ true) }
+    ensures parts { (bytes : List ℕ) → OnTrue result (
+        piece_parts layout.now (option_map (λ c. c.now) columns.entry) bytes
+        ≡ Some (map parts_of (rows_in layout.now bytes))) }
+{
+    let plain = match columns {
+        Some(columns) => columns.chosen.is_none(),
+        None => !layout.has_header && layout.key.is_empty() && layout.weight.is_none(),
+    };
+    plain && is_separator(layout.delimiter)
+}
+
+/// What stands behind a byte order mark, where a piece of a text can be read line by line.
+fn plain_text<'t>(layout: &Layout, columns: Option<&Columns>, piece: &'t [u8]) -> Option<&'t [u8]>
+    ensures { IfSome result (λ text.
+        piece_parts layout.now (option_map (λ c. c.now) columns.entry) piece.now
+        ≡ Some (map parts_of (split_rows layout.now.delimiter text.now))) }
+{
+    let text = &piece[mark_len(piece)..];
+    if has_plain_records(layout, columns) && is_unquoted(text) {
+        Some(text)
+    } else {
+        None
+    }
+}
+
+/// Hands on what the records of one piece of a text add. The first piece of a text is read with no
+/// columns: its header, where the layout has one, chooses them. Each later piece is read by the
+/// columns that the first one chose ([`Columns::of_text`]), and has no header.
+///
+/// Records are those of [`read_records`](crate::read_records), and they are numbered from 1 in each
+/// piece. The first that fails a test, or that the taker has no memory for, ends the reading.
+pub fn read_piece<T: TakeItems>(
+    alloc: Global,
+    layout: &Layout,
+    columns: Option<&Columns>,
+    piece: &[u8],
+    taker: &mut T,
+) -> Result<(), TextError>
+    ensures items { OnOk result
+        (TakesAdded T.with_item T.weight_taken taker.old taker.new (λ xs.
+        piece_reading layout.now (option_map (λ c. c.now) columns.entry) piece.now
+        ≡ Some (Ok xs))) }
+    ensures bounded { OnOk result (T.weight_taken taker.new ≤ max_total) }
+    ensures refused { IfErr result (λ error.
+        PieceRefused layout.now (option_map (λ c. c.now) columns.entry) piece.now
+        (T.weight_taken taker.old) error) }
+{
+    // What was taken before is in range, as this call's clause says.
+    let _ = taker.total();
+    if let Some(text) = plain_text(layout, columns, piece) {
+        return match read_lines(alloc, text, taker, layout) {
+            Ok(()) => Ok(()),
+            Err(error) => Err(TextError::from(error)),
+        };
+    }
+    read_left(alloc, layout, columns, piece, taker)
+}
+
+/// The same of what a reader has left.
+pub(crate) fn read_left<R: Read + Drop, T: TakeItems>(
+    alloc: Global,
+    layout: &Layout,
+    columns: Option<&Columns>,
+    piece: R,
+    taker: &mut T,
+) -> Result<(), TextError>
+    ensures items { OnOk result
+        (TakesAdded T.with_item T.weight_taken taker.old taker.new (λ xs.
+        IfSome (R.remaining piece) (λ bytes.
+        piece_reading layout.now (option_map (λ c. c.now) columns.entry) bytes
+        ≡ Some (Ok xs)))) }
+    ensures bounded { OnOk result (T.weight_taken taker.new ≤ max_total) }
+    ensures refused { IfErr result (λ error. IfSome (R.remaining piece) (λ bytes.
+        PieceRefused layout.now (option_map (λ c. c.now) columns.entry) bytes
+        (T.weight_taken taker.old) error)) }
+{
+    // What was taken before is in range, as this call's clause says.
+    let _ = taker.total();
+    let Some(text) = open_piece(alloc, layout, columns, piece)? else {
+        return Ok(());
+    };
+    match read_rows(alloc, text, 0, taker, layout) {
+        Ok(_) => Ok(()),
+        Err(error) => Err(TextError::from(error)),
+    }
+}

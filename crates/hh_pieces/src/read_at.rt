@@ -1,0 +1,115 @@
+//! Bytes that are read at any place.
+
+ghost use Rattle.std.specs.Prelude.{◌≡◌, List, ℕ, None, Option, Some, drop, length, option_map, IfOk, IfSome};
+ghost use Rattle.std.specs.Io.{ReadsAtMost};
+ghost use Rattle.hh_pieces.specs.Files.{GivesFrom, bytes_between, source_bytes};
+
+use std::fs::{File, OpenFile};
+use std::io::{self, Error, ErrorKind, Read, Take};
+use std::os::unix::fs::FileExt;
+
+/// Bytes that can be read at any place, also by several threads at once.
+pub trait ReadAt {
+    // all the bytes, where they are known
+    ghost bytes: { Self → Option (List ℕ) };
+
+    /// How many bytes there are.
+    fn len(&self) -> io::Result<u64>
+        ensures { IfOk result (λ len. IfSome (bytes self.now) (λ bytes. len ≡ length bytes)) };
+
+    /// Reads bytes from a place on, and none only at the end or with no room.
+    fn read_at(&self, buf: &mut [u8], at: u64) -> io::Result<usize>
+        ensures bound { ReadsAtMost result buf.new }
+        ensures bytes { IfOk result (λ count. IfSome (bytes self.now) (λ bytes.
+            GivesFrom bytes at count buf.new)) };
+}
+
+// Nothing is known of a file's bytes: it may change between two reads.
+impl ReadAt for File {
+    ghost bytes = { λ _. None };
+
+    fn len(&self) -> io::Result<u64> {
+        let metadata = self.metadata()?;
+        Ok(metadata.len())
+    }
+
+    fn read_at(&self, buf: &mut [u8], at: u64) -> io::Result<usize> {
+        FileExt::read_at(self, buf, at)
+    }
+}
+
+impl ReadAt for Vec<u8> {
+    ghost bytes = { λ bytes. Some bytes.items };
+
+    fn len(&self) -> io::Result<u64> {
+        Ok(self.as_slice().len() as u64)
+    }
+
+    fn read_at(&self, buf: &mut [u8], at: u64) -> io::Result<usize> {
+        let at = at.min(self.as_slice().len() as u64) as usize;
+        let mut rest = &self.as_slice()[at..];
+        rest.read(buf)
+    }
+}
+
+/// A file, or bytes that are kept because they can be read only once.
+#[derive(Drop)]
+pub enum Source<F> {
+    /// What is read from its place each time.
+    File(F),
+    /// Kept bytes.
+    Kept(Vec<u8>),
+}
+
+impl<F: ReadAt> ReadAt for Source<F> {
+    ghost bytes = { source_bytes F.bytes };
+
+    fn len(&self) -> io::Result<u64> {
+        match self {
+            Source::File(file) => file.len(),
+            Source::Kept(bytes) => ReadAt::len(bytes),
+        }
+    }
+
+    fn read_at(&self, buf: &mut [u8], at: u64) -> io::Result<usize> {
+        match self {
+            Source::File(file) => file.read_at(buf, at),
+            Source::Kept(bytes) => bytes.read_at(buf, at),
+        }
+    }
+}
+
+/// What reads bytes from a place on, and fails where they end.
+#[derive(Drop)]
+pub(crate) struct FromPlace<'s, S> {
+    source: &'s S,
+    at: u64,
+}
+
+impl<'s, S: ReadAt> Read for FromPlace<'s, S> {
+    ghost remaining = { λ reader. option_map (drop reader.at) (S.bytes reader.source.now) };
+
+    fn read(&mut self, buf: &mut [u8]) -> io::Result<usize> {
+        let count = self.source.read_at(buf, self.at)?;
+        if count == 0 && !buf.is_empty() {
+            return Err(Error::from(ErrorKind::UnexpectedEof));
+        }
+        let Some(at) = self.at.checked_add(count as u64) else {
+            return Err(Error::from(ErrorKind::InvalidInput));
+        };
+        self.at = at;
+        Ok(count)
+    }
+}
+
+/// What reads the bytes from a place up to another. It fails where they end before it.
+pub(crate) fn read_between<'s, S: ReadAt>(
+    source: &'s S,
+    from: u64,
+    to: u64,
+) -> Take<FromPlace<'s, S>>
+    ensures { ⟦<Take<FromPlace<'s, S>> as Read>⟧.remaining result
+        ≡ option_map (bytes_between from to) (S.bytes source.now) }
+{
+    FromPlace { source, at: from }.take(to.saturating_sub(from))
+}

@@ -1,0 +1,145 @@
+//! Records in files that are read at any place, and in pipes whose text is kept.
+
+ghost use Rattle.std.specs.Prelude.{◌≡◌, Some, length, IfErr, IfOk};
+ghost use Rattle.hh_pieces.specs.Files.{length_of, source_bytes};
+ghost use Rattle.hh_pieces.specs.Kept.{IsKnownStill};
+ghost use Rattle.hh_records.specs.Layouts.{TextsRefused, every, texts_known};
+ghost use Rattle.hh_pieces.specs.Sources.{KeepRefused, input_bytes};
+ghost use Rattle.hh_records.specs.Taking.{TakesItems};
+
+use crate::kept::{KeptText, Rest};
+use crate::read_at::{FromPlace, ReadAt, Source, read_between};
+use hh_records::{Layout, ReadRecords, TextError, read_texts};
+use hh_stream::TakeItems;
+use std::alloc::Global;
+use std::io::{Read, Take};
+
+/// Where records come from: a file, which is read at any place, or a pipe, which is read once.
+#[derive(Drop)]
+pub enum FileOrPipe<F, R> {
+    File(F),
+    Pipe(R),
+}
+
+/// Records of files and pipes, one after the other, each of which is read as a text of its own.
+#[derive(Drop)]
+pub struct FileRecords<F, R> {
+    pub layout: Layout,
+    pub inputs: Vec<FileOrPipe<F, R>>,
+}
+
+/// Records of what can be read at any place, so that they can be read again.
+#[derive_where(Clone, Copy)]
+pub struct SourceRecords<'s, S> {
+    pub layout: &'s Layout,
+    pub sources: &'s [S],
+}
+
+/// What is read of an input: the file, or the text of a pipe, which is kept whole.
+fn source_of<F: ReadAt, R: Read + Drop>(
+    alloc: Global,
+    input: FileOrPipe<F, R>,
+) -> Result<Source<F>, TextError>
+    ensures kept { IfOk result (λ source.
+        IsKnownStill (input_bytes F.bytes R.remaining input) (source_bytes F.bytes source)) }
+    ensures refused { IfErr result KeepRefused }
+{
+    let pipe = match input {
+        FileOrPipe::File(file) => return Ok(Source::File(file)),
+        FileOrPipe::Pipe(pipe) => pipe,
+    };
+    let Ok(text) = KeptText::of_reader(alloc, pipe) else {
+        return Err(TextError::Memory);
+    };
+    match text.rest {
+        Rest::Ended => Ok(Source::Kept(text.bytes)),
+        Rest::Unread(_) | Rest::Failed(_) => Err(TextError::ReadFault),
+    }
+}
+
+/// What is read of some inputs. Pipes are read here, in their order, and their texts are kept.
+pub fn keep_pipes<F: ReadAt + Drop, R: Read + Drop>(
+    alloc: Global,
+    inputs: Vec<FileOrPipe<F, R>>,
+) -> Result<Vec<Source<F>>, TextError>
+    ensures kept { IfOk result (λ sources. IsKnownStill
+        (every (input_bytes F.bytes R.remaining) inputs.items)
+        (every (source_bytes F.bytes) sources.items)) }
+    ensures refused { IfErr result KeepRefused }
+{
+    let mut sources = Vec::new(alloc);
+    for input in inputs {
+        let source = source_of(alloc, input)?;
+        match sources.push(source) {
+            Ok(()) => {}
+            Err(_) => return Err(TextError::Memory),
+        }
+    }
+    Ok(sources)
+}
+
+/// A reader of all bytes of a source, from its start.
+fn reader_of<'s, S: ReadAt>(source: &'s S) -> Result<Take<FromPlace<'s, S>>, TextError>
+    ensures reader { IfOk result (λ reader. IsKnownStill (S.bytes source.now)
+        (⟦<Take<FromPlace<'s, S>> as Read>⟧.remaining reader)) }
+    ensures refused { IfErr result KeepRefused }
+{
+    match source.len() {
+        Ok(len) => Ok(read_between(source, 0, len)),
+        Err(_) => Err(TextError::ReadFault),
+    }
+}
+
+/// The same of each of some sources.
+fn readers_of<'s, S: ReadAt>(
+    alloc: Global,
+    sources: &'s [S],
+) -> Result<Vec<Take<FromPlace<'s, S>>>, TextError>
+    ensures readers { IfOk result (λ readers. IsKnownStill (every S.bytes sources.now)
+        (every ⟦<Take<FromPlace<'s, S>> as Read>⟧.remaining readers.items)) }
+    ensures refused { IfErr result KeepRefused }
+{
+    let mut readers = Vec::new(alloc);
+    for source in sources {
+        let reader = reader_of(source)?;
+        match readers.push(reader) {
+            Ok(()) => {}
+            Err(_) => return Err(TextError::Memory),
+        }
+    }
+    Ok(readers)
+}
+
+/// How many bytes each of some sources has.
+pub fn lengths<S: ReadAt>(alloc: Global, sources: &[S]) -> Result<Vec<u64>, TextError>
+    ensures count { IfOk result (λ lengths. length lengths.items ≡ length sources.now) }
+    ensures known { IfOk result (λ lengths.
+        IsKnownStill (every (length_of S.bytes) sources.now) (Some lengths.items)) }
+    ensures refused { IfErr result KeepRefused }
+{
+    let mut lengths = Vec::new(alloc);
+    for source in sources {
+        let Ok(len) = source.len() else {
+            return Err(TextError::ReadFault);
+        };
+        match lengths.push(len) {
+            Ok(()) => {}
+            Err(_) => return Err(TextError::Memory),
+        }
+    }
+    Ok(lengths)
+}
+
+impl<'s, S: ReadAt> ReadRecords for SourceRecords<'s, S> {
+    ghost known = { λ records. texts_known S.bytes records.layout.now records.sources.now };
+
+    // A file that ends before it said so, or has more than it said, fails: it can't be read.
+    fn read_into<T: TakeItems>(self, alloc: Global, taker: T) -> Result<T, TextError> {
+        let Some((first, others)) = self.sources.split_first() else {
+            return Ok(taker);
+        };
+        let first = reader_of(first)?;
+        let others = readers_of(alloc, others)?;
+        read_texts(alloc, self.layout, first, others, taker)
+    }
+}

@@ -1,5 +1,0 @@
-use Rattle.std.proofs.Common.{rules}
-use Rattle.hh_records.proofs.cuts.is_open.Goals as goal
-
-pub returns-in-Quoted : goal.returns-in-Quoted
-returns-in-Quoted c = search rules

@@ -1,5 +1,0 @@
-use Rattle.hh_records.proofs.CutFacts.{pieces-records}
-use Rattle.hh_records.proofs.laws.pieces_have_the_records.Goals as goal
-
-pub returns : goal.returns
-returns c = pieces-records

@@ -1,5 +1,0 @@
-use Rattle.std.proofs.Common.{refl}
-use Rattle.hh_records.proofs.laws.plain_rows_are_rows.Goals as goal
-
-pub returns : goal.returns
-returns c = λ total es. refl

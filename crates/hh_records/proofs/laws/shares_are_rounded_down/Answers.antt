@@ -1,5 +1,0 @@
-use Rattle.hh_records.proofs.ShareFacts.{shares_are_rounded_down}
-use Rattle.hh_records.proofs.laws.shares_are_rounded_down.Goals as goal
-
-pub returns : goal.returns
-returns c = shares_are_rounded_down

@@ -1,5 +1,0 @@
-use Rattle.hh_records.proofs.LineFacts.{unquoted-split}
-use Rattle.hh_records.proofs.laws.unquoted_texts_are_split.Goals as goal
-
-pub returns : goal.returns
-returns c = unquoted-split

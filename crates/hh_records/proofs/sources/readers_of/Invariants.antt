@@ -1,8 +1,0 @@
-use Rattle.std.proofs.Common.{drop}
-use Rattle.hh_records.proofs.KeptFacts.{KnownSoFar}
-use Rattle.hh_records.proofs.SourceFacts.{reader_left}
-use Rattle.hh_records.proofs.sources.readers_of.Given as goal
-
-abbrev pub invariant-loop-source : goal.invariant-loop-source
-invariant-loop-source g l =
-    KnownSoFar g.S.ReadAt.bytes (reader_left g.S.ReadAt.bytes) l.sources (drop l.source-index l.sources) l.readers.items

@@ -1,0 +1,4 @@
+pub mod RowFacts
+pub mod ShareFacts
+pub mod TakeFacts
+pub mod TextFacts

@@ -1,0 +1,5 @@
+pub mod Laws
+pub mod Printed
+pub mod Rows
+pub mod Sinks
+pub mod Thresholds
