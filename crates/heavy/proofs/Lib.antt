@@ -1,9 +1,1 @@
 pub mod MergeFacts
-pub mod PieceFacts
-pub mod ReportFacts
-pub mod SourceReportFacts
-pub mod FilePieceFacts
-pub mod WeighFacts
-pub mod FilePassFacts
-pub mod TableFacts
-pub mod ShareFacts

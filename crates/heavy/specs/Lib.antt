@@ -1,5 +1,1 @@
-pub mod FilePasses
 pub mod Laws
-pub mod Report
-pub mod ReportFiles
-pub mod TableFiles

@@ -1,31 +1,22 @@
 //! The program `heavy`.
 #![tactic(auto)]
 
-mod explain;
-mod inputs;
-mod other_format;
-mod progress;
-mod record_count;
-mod record_place;
-mod request;
-mod told;
-
-use explain::{tell_format, tell_more, tell_own_k, tells_more, watches};
-use heavy::{
-    Method, Out, RowOptions, Share, ToolError, Totals, ask_rows, condense_bytes_from,
-    condense_files, confirm_files, confirm_rows, describe_file, list_rows, merge_bytes, put,
-    report_files, report_rows, summary_bytes_from, table_bytes_from, table_files,
+use heavy_progress::{NOTHING, SharedProgress};
+use heavy_requests::{
+    Command, Inputs, Invocation, Once, RecordWords, Request, Told, UsageError, read_request,
+    tell_format, tell_more, tell_own_k, tells_more, watches,
 };
-use inputs::{Inputs, Once};
-use other_format::NOTHING;
-use progress::SharedProgress;
-use request::{Command, Invocation, RecordWords, Request, UsageError, read_request};
+use hh_commands::{
+    Method, ToolError, Totals, ask_rows, condense_bytes_from, confirm_rows, describe_file,
+    list_rows, merge_bytes, summary_bytes_from, table_bytes_from,
+};
+use hh_reports::{condense_files, confirm_files, report_files, report_rows, table_files};
+use hh_rows::{Out, RowOptions, Share, put};
 use std::cell::Cell;
 use std::process::ExitCode;
 use std::sync::Wait;
 use std::sync::atomic::{AtomicU64, Ordering};
 use std::thread::Threads;
-use told::Told;
 
 /// The exit status of the command line's own faults.
 const USAGE: u8 = 2;

@@ -1,6 +1,6 @@
 //! A caller of each library, as its page CALLING.md shows it.
 
-ghost use Rattle.std.specs.Prelude.{◌≡◌, ◌<◌, ◌≤◌, ◌↔◌, ◌∷◌, [], List, Ok, Some, IsTrue, IfOk, IfSome};
+ghost use Rattle.std.specs.Prelude.{◌≡◌, ◌<◌, ◌≤◌, ◌↔◌, ◌∷◌, [], List, Ok, Some, false, IsTrue, IfOk, IfSome, OnOk};
 ghost use Rattle.hh_stream.specs.Weights.{Entry, total_of, weight_of};
 ghost use Rattle.hh_counters.specs.Counters.{IsHonest, sketch_of};
 ghost use Rattle.hh_counters.specs.Report.{heavy};
@@ -8,14 +8,23 @@ ghost use Rattle.hh_countmin.specs.Table.{estimate_in};
 ghost use Rattle.hh_saved.specs.Reading.{saved_of};
 ghost use Rattle.hh_saved.specs.declared.saved.Saved.TheVariants.{Counters};
 ghost use Rattle.hh_records.specs.Streams.{ReadsAs, text_known};
+ghost use Rattle.csv.specs.Writing.{comma};
+ghost use Rattle.hh_rows.specs.Rows.{rows_of};
+ghost use Rattle.hh_pieces.specs.Pieces.{ends_outside};
 ghost use Rattle.hh_commands.specs.Records.{SavesStream};
+ghost use Rattle.hh_items.specs.Add.{IsAdded};
+ghost use Rattle.hh_reports.specs.Report.{IsReported};
 
-use hh_commands::{Method, ToolError, summary_bytes};
+use hh_commands::{Method, ReportOptions, ToolError, summary_bytes};
 use hh_counters::laws::counters_bound_weights;
 use hh_counters::{Heavy, Summary};
 use hh_countmin::Table;
+use hh_items::add_items;
+use hh_pieces::ends_outside_quotes;
 use hh_pool::{OpenGate, Options, Plan, RunError, analyse};
 use hh_records::{ReadError, read_stream};
+use hh_reports::run_report;
+use hh_rows::{Sink, report_text};
 use hh_saved::{Saved, SavedFault, read};
 use hh_shared::{SharedSums, SumSeat};
 use hh_stream::{Cutting, Key, PushRefused, Stream};
@@ -71,6 +80,20 @@ pub fn total_of_records<R: Read + Drop>(alloc: Global, reader: R) -> Result<u64,
     Ok(stream.total())
 }
 
+/// The rows of a report.
+pub fn text_of_rows(alloc: Global, rows: &[Heavy]) -> Result<Vec<u8>, AllocError>
+    ensures { IfOk result (λ text. text.items ≡ rows_of rows.now) }
+{
+    report_text(alloc, rows)
+}
+
+/// Whether a line feed behind a text of records ends a record.
+pub fn ends_a_record(text: &[u8]) -> bool
+    ensures { result ≡ ends_outside comma text.now }
+{
+    ends_outside_quotes(text, b',')
+}
+
 /// Adds to the first cell, if nobody else has claimed to do so.
 pub fn add_once(sums: &SharedSums, seat: &mut SumSeat, amount: u64)
     requires seat { seat.old.sums ≡ sums.now }
@@ -106,4 +129,31 @@ pub fn saved_summary<R: Read + Drop>(alloc: Global, reader: R) -> Result<Vec<u8>
         (text_known (R.remaining reader)) bytes.items) }
 {
     summary_bytes(alloc, 100, Method::MisraGries, reader)
+}
+
+/// A saved summary or table with one more item.
+pub fn with_item(
+    alloc: Global,
+    file: &[u8],
+    key: &[u8],
+    weight: u64,
+) -> Result<Vec<u8>, ToolError>
+    ensures { IfOk result (λ bytes. IsAdded file.now ((key.now, weight) ∷ []) bytes.items) }
+{
+    add_items(alloc, file, &[(key, weight)])
+}
+
+/// Writes the report of a reader's records.
+pub fn report_of<T: Threads + Wait + Sync, R: Read + Drop, S: Sink>(
+    rt: &T,
+    alloc: Global,
+    options: &ReportOptions,
+    reader: R,
+    sink: &mut S,
+) -> Result<(), ToolError>
+    requires { S.has_failed sink.old ≡ false }
+    ensures { OnOk result (IsReported options.now (text_known (R.remaining reader))
+        (S.taken sink.old) (S.taken sink.new)) }
+{
+    run_report(rt, alloc, options, reader, sink)
 }

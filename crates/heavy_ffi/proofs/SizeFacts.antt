@@ -9,10 +9,10 @@ use Rattle.hh_counters.specs.Laws.{SummariesFollowItems}
 use Rattle.hh_saved.specs.declared.format.Version.TheVariants as version
 use Rattle.hh_saved.specs.declared.saved.Saved.TheVariants.{Counters}
 use Rattle.hh_saved.specs.Spelling.{Spells}
-use Rattle.hh_commands.specs.Add.{IsEmpty}
+use Rattle.hh_items.specs.Add.{IsEmpty}
 use Rattle.hh_commands.specs.Summarise.{bad_k}
 use Rattle.hh_commands.specs.Table.{bad_table}
-use Rattle.hh_commands.proofs.AddFacts.{came_of}
+use Rattle.hh_items.proofs.AddFacts.{came_of}
 use Rattle.hh_commands.specs.declared.error.ToolError.{ToolError}
 
 -- what holds of an answer that came, by two clauses

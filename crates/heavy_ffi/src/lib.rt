@@ -20,15 +20,15 @@ ghost use Rattle.hh_pieces.specs.Pieces.{AreWholeRecords};
 ghost use Rattle.hh_records.specs.Streams.{text_known};
 ghost use Rattle.hh_saved.specs.Sizes.{most_summary_bytes, table_bytes};
 ghost use Rattle.hh_saved.specs.declared.saved.Saved.TheVariants.{Cells, Counters};
-ghost use Rattle.hh_commands.specs.Add.{IsEmpty, IsEmptyTable, added, empty_of, empty_table_of};
-ghost use Rattle.hh_commands.specs.AddText.{AddTextRefused, AddsText};
+ghost use Rattle.hh_items.specs.Add.{IsEmpty, IsEmptyTable, added, empty_of, empty_table_of};
+ghost use Rattle.hh_items.specs.AddText.{AddTextRefused, AddsText};
 ghost use Rattle.hh_commands.specs.Ask.{answer, answers_of};
 ghost use Rattle.hh_commands.specs.Condense.{CondenseRefused, CondensesRows};
 ghost use Rattle.hh_commands.specs.Confirm.{ConfirmRefused, ConfirmsRows};
-ghost use Rattle.hh_commands.specs.ConfirmShare.{ConfirmShareRefused, ConfirmsShare};
-ghost use Rattle.hh_commands.specs.CountItems.{condensed_items, confirmed_items};
+ghost use Rattle.hh_items.specs.ConfirmShare.{ConfirmShareRefused, ConfirmsShare};
+ghost use Rattle.hh_items.specs.CountItems.{condensed_items, confirmed_items};
 ghost use Rattle.hh_commands.specs.Describe.{description};
-ghost use Rattle.hh_commands.specs.Entries.{ListsEntries};
+ghost use Rattle.hh_items.specs.Entries.{ListsEntries};
 ghost use Rattle.hh_commands.specs.Files.{HoldsSummary, HoldsTable, Refuses, StopsAtHead, SummaryRefused, file_of};
 ghost use Rattle.hh_commands.specs.List.{ListsKeys};
 ghost use Rattle.hh_commands.specs.Merge.{merged_files};
@@ -43,12 +43,15 @@ ghost use Rattle.heavy_ffi.specs.Outcomes.{TellsFault, TellsHead, bad_summary, b
 pub use fault::Fault;
 use fault::tell;
 use hh_commands::{
-    Method, ToolError, add_items, add_text, ask_key, ask_keys, condense_bytes, condense_items,
-    confirm_bytes, confirm_items, confirm_share, describe_file, empty_summary, empty_table,
-    list_entries, list_keys, merge_bytes, summary_bytes, table_bytes,
+    Method, ToolError, ask_key, ask_keys, condense_bytes, confirm_bytes, describe_file, list_keys,
+    merge_bytes, summary_bytes, table_bytes,
 };
 use hh_counters::laws::summaries_follow_items;
 use hh_countmin::laws::drawn_families_are_families;
+use hh_items::{
+    add_items, add_text, condense_items, confirm_items, confirm_share, empty_summary, empty_table,
+    list_entries,
+};
 use hh_pieces::whole_records;
 use hh_saved::laws::sizes_are_bounded;
 use hh_saved::{Place, SavedFault, read};

@@ -1,5 +1,3 @@
-pub mod AddFacts
-mod CountFacts
 pub mod FileFacts
 pub mod KeyFacts
 pub mod NameFacts

@@ -1,12 +1,7 @@
-pub mod Add
-pub mod AddText
 pub mod Ask
 pub mod Condense
 pub mod Confirm
-pub mod ConfirmShare
-pub mod CountItems
 pub mod Describe
-pub mod Entries
 pub mod Files
 pub mod Layouts
 pub mod List

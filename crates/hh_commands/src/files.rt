@@ -22,7 +22,7 @@ fn file_fault(number: u64, fault: SavedFault) -> ToolError
 }
 
 /// The value of the file with this number.
-pub(crate) fn file_of(alloc: Global, number: u64, bytes: &[u8]) -> Result<Saved, ToolError>
+pub fn file_of(alloc: Global, number: u64, bytes: &[u8]) -> Result<Saved, ToolError>
     ensures value { IfOk result (λ saved. file_of number bytes.now ≡ Ok saved) }
     ensures refused { IfErr result (λ fault. Refuses (file_of number bytes.now) fault) }
     ensures early { StopsAtHead number bytes.now result }

@@ -6,27 +6,24 @@ mod commands;
 mod counting;
 mod error;
 mod files;
-mod items;
 mod layouts;
+mod report_options;
 
-pub use commands::add::{add_items, empty_summary};
-pub use commands::add_text::add_text;
 pub use commands::ask::{ask_bytes, ask_key, ask_keys, ask_rows};
-pub use commands::condense::{condense_bytes, condense_bytes_from, condensed_counts, free_name};
-pub use commands::confirm::{
-    ConfirmFault, Totals, confirm, confirm_above, confirm_bytes, confirm_rows, confirmed_text,
-    rows_above,
+pub use commands::condense::{
+    condense_bytes, condense_bytes_from, condensed_counts, condensed_rows, free_name,
 };
-pub use commands::confirm_share::confirm_share;
-pub use commands::count_items::{condense_items, confirm_items};
+pub use commands::confirm::{
+    ConfirmFault, Totals, confirm, confirm_above, confirm_bytes, confirm_records, confirm_rows,
+    confirmed_text, rows_above,
+};
 pub use commands::describe::describe_file;
-pub use commands::entries::list_entries;
-pub use commands::grow_table::empty_table;
 pub use commands::list::{list_keys, list_rows};
 pub use commands::merge::merge_bytes;
 pub use commands::summarise::{Method, summary_by_monitoring, summary_bytes, summary_bytes_from};
-pub use commands::table::{table_bytes, table_bytes_from, table_of_records};
+pub use commands::table::{drawn_table, table_bytes, table_bytes_from, table_of_records};
 pub use counting::count_records;
 pub use error::{KeyCause, MergeCause, ToolError, TreeFault};
-pub use files::summary_in;
+pub use files::{file_of, summary_in};
 pub use layouts::{LayoutWords, layout_of};
+pub use report_options::{ReportOptions, Tree};

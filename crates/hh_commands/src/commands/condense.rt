@@ -63,7 +63,7 @@ fn total_of(rows: &[Heavy]) -> u64
 }
 
 /// The rows of counted items, condensed.
-pub(crate) fn condensed_rows(
+pub fn condensed_rows(
     alloc: Global,
     summary: &Summary,
     counts: &Counts,

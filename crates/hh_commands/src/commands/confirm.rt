@@ -98,7 +98,7 @@ pub fn rows_above(
 
 /// The keys of a summary above p/q of the total of some records, in one pass that keeps no
 /// record.
-pub(crate) fn confirm_records<R: Read + Drop>(
+pub fn confirm_records<R: Read + Drop>(
     alloc: Global,
     summary: &Summary,
     p: u64,

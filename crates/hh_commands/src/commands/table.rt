@@ -20,12 +20,7 @@ use std::alloc::{AllocError, Global};
 use std::io::Read;
 
 /// The table of no items, with the family that is drawn from the seed.
-pub(crate) fn drawn_table(
-    alloc: Global,
-    width: u64,
-    depth: u64,
-    seed: u64,
-) -> Result<Table, AllocError>
+pub fn drawn_table(alloc: Global, width: u64, depth: u64, seed: u64) -> Result<Table, AllocError>
     requires depth { in_range depth max_depth ≡ true }
     requires width { in_range width max_width ≡ true }
     ensures { IfOk result (λ table. table ≡ empty_table (drawn_family seed depth) width) }

@@ -1,0 +1,159 @@
+-- What a command line asks for, by what `clap` found in it.
+use Rattle.std.specs.Prelude.{ℕ, ◌≡◌, ◌≢◌, ◌<◌, ◌^◌, ⊤, true, false, List, [], Option, Some, None, codes, map, drop, option_map, unwrap_or}
+use Rattle.std.specs.Str.Parse.{IsNumeral, without_leading_plus}
+use Rattle.clap.specs.Words.{App, HasMatchesOf, Text, first_value, matched_of, one_text, raw_values, rows_of, subcommand_rows_of}
+use Rattle.clap.specs.declared.parser.matches.ArgMatches.{ArgMatches}
+use Rattle.clap.specs.declared.parser.matches.Found.{Found}
+use Rattle.hh_commands.specs.declared.report_options.ReportOptions.{ReportOptions}
+use Rattle.hh_commands.specs.declared.report_options.Tree.{Tree}
+use Rattle.hh_commands.specs.declared.report_options.Tree.TheVariants as shape
+use Rattle.hh_rows.specs.declared.printed.RowOptions.{RowOptions}
+use Rattle.hh_rows.specs.declared.threshold.Share.{Share}
+use Rattle.hh_rows.specs.declared.threshold.Share.TheVariants as limit
+use Rattle.heavy_arguments.specs.Numbers.{IsNumberOf, number_in}
+use Rattle.heavy_host.specs.Words.{AreAllWords, word_of}
+use Rattle.heavy_requests.specs.declared.request.Command.{Command}
+use Rattle.heavy_requests.specs.declared.request.Command.TheVariants.{Summarise, Table, Merge, Ask, List as ListKeys, Describe, Condense, Confirm}
+use Rattle.heavy_requests.specs.declared.request.RecordWords.{RecordWords}
+use Rattle.heavy_requests.specs.declared.request.Request.{Request}
+use Rattle.heavy_requests.specs.declared.request.Request.TheVariants.{Report, Answer}
+use Rattle.heavy_requests.specs.declared.request.Invocation.{Invocation}
+
+-- the first word of a name, or else another
+abbrev pub first_word : Text → Found → Text → List ℕ
+first_word other found name = word_of (unwrap_or (first_value found name) other)
+
+-- all words of a name, in their order
+abbrev pub all_words : Found → Text → List (List ℕ)
+all_words found name = map word_of (unwrap_or (option_map raw_values (matched_of found name)) [])
+
+-- the threshold: the text that was given, or else that of the counters
+abbrev pub GivesShare : Option Text → Share → Type 0
+GivesShare None limit.OfCounters = ⊤
+GivesShare None (limit.Text word) = ⊥
+GivesShare (Some text) limit.OfCounters = ⊥
+GivesShare (Some text) (limit.Text word) = word.items ≡ word_of text
+
+-- the tree that a word names
+abbrev pub NamesTree : List ℕ → Tree → Type 0
+NamesTree word shape.Balanced = word ≡ codes "balanced"
+NamesTree word shape.Chain = word ≡ codes "chain"
+NamesTree word (shape.Text text) = (text.items ≡ word) × (word ≢ codes "balanced") × (word ≢ codes "chain")
+
+-- the options of a report
+pub record AreOptions (found : Found) (options : ReportOptions) : Type 0 where
+  pub k : IsNumberOf found (codes "k") 100 options.k
+  pub threshold : GivesShare (first_value found (codes "threshold")) options.threshold
+  pub workers : IsNumberOf found (codes "workers") 4 options.workers
+  pub pieces : IsNumberOf found (codes "pieces") 4 options.pieces
+  pub tree : NamesTree (first_word (codes "balanced") found (codes "tree")) options.tree
+  pub width : IsNumberOf found (codes "width") 1024 options.width
+  pub depth : IsNumberOf found (codes "depth") 4 options.depth
+  pub seed : IsNumberOf found (codes "seed") 0 options.seed
+
+-- how many digits a weight may have behind a point: those that were given, or else none
+pub record AreDecimals (found : Found) (decimals : ℕ) : Type 0 where
+  pub absent : one_text found (codes "decimals") ≡ None → decimals ≡ 0
+  pub given : (text : Text) → one_text found (codes "decimals") ≡ Some text → IsNumeral 10 (without_leading_plus text)
+      → number_in text < 2 ^ 8 → decimals ≡ number_in text
+
+-- the options of the rows that are printed
+pub record AreRowOptions (found : Found) (rows : RowOptions) : Type 0 where
+  pub all : one_text found (codes "top") ≡ None → rows.top ≡ None
+  pub first : (text : Text) → one_text found (codes "top") ≡ Some text → IsNumeral 10 (without_leading_plus text)
+      → number_in text < 2 ^ 64 → rows.top ≡ Some (number_in text)
+  pub shared : one_text found (codes "share") ≡ Some (codes "true") → rows.share ≡ true
+  pub unshared : one_text found (codes "share") ≡ None → rows.share ≡ false
+  pub decimals : AreDecimals found rows.decimals
+
+-- the records that are read: their files in order, and where their columns stand
+pub record AreRecordWords (found : Found) (records : RecordWords) : Type 0 where
+  pub files : map (λ w. w.items) records.files.items ≡ all_words found (codes "RECORDS")
+  pub delimiter : option_map (λ w. w.items) records.layout.delimiter
+      ≡ option_map word_of (first_value found (codes "delimiter"))
+  pub headed : one_text found (codes "header") ≡ Some (codes "true") → records.layout.has_header ≡ true
+  pub unheaded : one_text found (codes "header") ≡ None → records.layout.has_header ≡ false
+  pub key : map (λ w. w.items) records.layout.key.items ≡ all_words found (codes "key")
+  pub weight : option_map (λ w. w.items) records.layout.weight
+      ≡ option_map word_of (first_value found (codes "weight"))
+  pub zeros : one_text found (codes "allow-zero") ≡ Some (codes "true") → records.layout.allow_zero ≡ true
+  pub no_zeros : one_text found (codes "allow-zero") ≡ None → records.layout.allow_zero ≡ false
+  pub decimals : AreDecimals found records.layout.decimals
+
+-- the options of a table
+pub record AreTableOptions (found : Found) (width depth seed workers : ℕ) : Type 0 where
+  pub width_given : IsNumberOf found (codes "width") 1024 width
+  pub depth_given : IsNumberOf found (codes "depth") 4 depth
+  pub seed_given : IsNumberOf found (codes "seed") 0 seed
+  pub workers_given : IsNumberOf found (codes "workers") 4 workers
+
+-- the options of a summary
+pub record AreSummaryOptions (found : Found) (k : ℕ) (method : List ℕ) : Type 0 where
+  pub k_given : IsNumberOf found (codes "k") 100 k
+  pub method_given : method ≡ first_word (codes "mg") found (codes "method")
+
+-- the first of the files and the others, in their order
+pub record AreFiles (found : Found) (first : List ℕ) (others : List (List ℕ)) : Type 0 where
+  pub first_given : first ≡ first_word [] found (codes "FILE")
+  pub others_given : others ≡ drop 1 (all_words found (codes "FILE"))
+
+-- the file and the keys, in their order
+pub record AreKeys (found : Found) (file : List ℕ) (keys : List (List ℕ)) : Type 0 where
+  pub file_given : file ≡ first_word [] found (codes "FILE")
+  pub keys_given : keys ≡ all_words found (codes "KEY")
+
+-- what the command with a name asks for, but for a report
+abbrev pub Answers : Text → Found → Command → Type 0
+Answers name found (Summarise k method) = (name ≡ codes "summarise") × AreSummaryOptions found k method.items
+Answers name found (Table width depth seed workers) =
+    (name ≡ codes "table") × AreTableOptions found width depth seed workers
+Answers name found (Merge first others) = (name ≡ codes "merge") × AreFiles found first.items (map (λ w. w.items) others.items)
+Answers name found (Ask file keys decimals) =
+    (name ≡ codes "ask") × AreKeys found file.items (map (λ w. w.items) keys.items) × AreDecimals found decimals
+Answers name found (ListKeys file decimals) =
+    (name ≡ codes "list") × (file.items ≡ first_word [] found (codes "FILE")) × AreDecimals found decimals
+Answers name found (Describe file) = (name ≡ codes "describe") × (file.items ≡ first_word [] found (codes "FILE"))
+Answers name found (Condense file workers) =
+    (name ≡ codes "condense") × (file.items ≡ first_word [] found (codes "FILE"))
+    × IsNumberOf found (codes "workers") 4 workers
+Answers name found (Confirm file share rows workers) =
+    (name ≡ codes "confirm") × (file.items ≡ first_word [] found (codes "FILE"))
+    × GivesShare (first_value found (codes "threshold")) share × AreRowOptions found rows
+    × IsNumberOf found (codes "workers") 4 workers
+
+-- the name is none of the commands that are answered whole
+pub record IsReportName (name : Text) : Type 0 where
+  pub not_summarise : name ≢ codes "summarise"
+  pub not_table : name ≢ codes "table"
+  pub not_merge : name ≢ codes "merge"
+  pub not_ask : name ≢ codes "ask"
+  pub not_list : name ≢ codes "list"
+  pub not_describe : name ≢ codes "describe"
+  pub not_condense : name ≢ codes "condense"
+  pub not_confirm : name ≢ codes "confirm"
+
+-- what the command with a name asks for
+abbrev pub AsksFor : Text → Found → Request → Type 0
+AsksFor name found (Report options rows) = IsReportName name × AreOptions found options × AreRowOptions found rows
+AsksFor name found (Answer command) = Answers name found command
+
+-- these words ask for it: clap found in their texts a command, with its name and its arguments
+pub record IsAskedBy (words : List (List ℕ)) (asked : Invocation) : Type 0 where
+  pub texts : List Text
+  pub spelled : map word_of texts ≡ words
+  pub program : App
+  pub matches : ArgMatches
+  pub read : HasMatchesOf program texts matches
+  pub name : Text
+  pub found : Found
+  pub command : subcommand_rows_of matches ≡ Some (name, rows_of found)
+  pub request : AsksFor name found asked.request
+  pub records : AreRecordWords found asked.records
+  pub told : one_text found (codes "progress") ≡ Some (codes "true") → asked.tells_progress ≡ true
+  pub untold : one_text found (codes "progress") ≡ None → asked.tells_progress ≡ false
+  pub explained : one_text found (codes "explain") ≡ Some (codes "true") → asked.explains ≡ true
+  pub unexplained : one_text found (codes "explain") ≡ None → asked.explains ≡ false
+
+-- all words of a source ask for it
+abbrev pub IsAskedFrom : (ℕ → Option (List ℕ) → Type 0) → Invocation → Type 0
+IsAskedFrom gives asked = (words : List (List ℕ)) × AreAllWords gives words × IsAskedBy words asked

@@ -1,0 +1,372 @@
+//! What a command line asks for.
+
+ghost use Rattle.std.specs.Prelude.{◌≡◌, [], IfOk, codes, map, option_map};
+ghost use Rattle.clap.specs.Words.{first_value, found_of};
+ghost use Rattle.heavy_requests.specs.Request.{Answers, AreDecimals, AreOptions, AreRecordWords, AreRowOptions, AsksFor, GivesShare};
+ghost use Rattle.heavy_host.specs.Words.{word_of};
+ghost use Rattle.heavy_requests.specs.Request.{IsAskedBy, IsAskedFrom, NamesTree, all_words, first_word};
+
+use crate::told::{Told, told_of};
+use clap::ArgMatches;
+use clap::error::ErrorKind;
+use heavy_arguments::{
+    ALLOW_ZERO, DECIMALS, DELIMITER, DEPTH, EXPLAIN, HEADER, K, KEY, PIECES, PROGRESS, RECORDS,
+    SEED, SHARE, TOP, WEIGHT, WIDTH, WORKERS, command_line,
+};
+use heavy_host::{WordSource, behind_first, bytes_of, read_words, texts_of};
+use hh_commands::{LayoutWords, ReportOptions, Tree};
+use hh_rows::{RowOptions, Share};
+use std::alloc::{AllocError, Global};
+
+/// What a command line asks for, and how.
+#[derive(Drop)]
+pub struct Invocation {
+    pub request: Request,
+    pub records: RecordWords,
+    /// Whether it is told how far standard input is read.
+    pub tells_progress: bool,
+    /// Whether more is told about a fault.
+    pub explains: bool,
+}
+
+/// Which records are read, in words.
+#[derive(Drop)]
+pub struct RecordWords {
+    /// The names of their files. None is standard input, and so is `-`.
+    pub files: Vec<Vec<u8>>,
+    pub layout: LayoutWords,
+}
+
+/// What a command line asks for.
+#[derive(Drop)]
+pub enum Request {
+    /// The report of standard input, written as it is made.
+    Report {
+        options: ReportOptions,
+        rows: RowOptions,
+    },
+    /// Bytes that are made whole, and then written.
+    Answer(Command),
+}
+
+impl Request {
+    /// How many saved files are named before those of records.
+    pub fn saved(&self) -> u64 {
+        match self {
+            Request::Answer(Command::Condense { .. } | Command::Confirm { .. }) => 1,
+            _ => 0,
+        }
+    }
+
+    /// In how many passes workers read files of records, or 0 where they read none.
+    pub fn passes(&self) -> u64 {
+        match self {
+            Request::Report { .. } => 2,
+            Request::Answer(Command::Table { .. }) => 1,
+            Request::Answer(Command::Condense { .. } | Command::Confirm { .. }) => 1,
+            Request::Answer(_) => 0,
+        }
+    }
+}
+
+/// What bytes are asked for. Words are taken by their bytes.
+#[derive(Drop)]
+pub enum Command {
+    /// The saved summary of standard input.
+    Summarise {
+        k: u64,
+        method: Vec<u8>,
+    },
+    /// The saved table of standard input.
+    Table {
+        width: u64,
+        depth: u64,
+        seed: u64,
+        workers: u64,
+    },
+    /// Saved files merged.
+    Merge {
+        first: Vec<u8>,
+        others: Vec<Vec<u8>>,
+    },
+    /// What a saved file says of keys.
+    Ask {
+        file: Vec<u8>,
+        keys: Vec<Vec<u8>>,
+        decimals: u8,
+    },
+    /// All keys of a saved summary.
+    List {
+        file: Vec<u8>,
+        decimals: u8,
+    },
+    /// What is in a saved file.
+    Describe {
+        file: Vec<u8>,
+    },
+    /// Standard input in fewer records, by a saved summary.
+    Condense {
+        file: Vec<u8>,
+        workers: u64,
+    },
+    /// The heavy keys of a saved summary in standard input.
+    Confirm {
+        file: Vec<u8>,
+        threshold: Share,
+        rows: RowOptions,
+        workers: u64,
+    },
+}
+
+/// Why a command line asks for nothing.
+#[derive(Drop)]
+pub enum UsageError {
+    /// It asks for help, or has a fault: what is said of it.
+    Told(Told),
+    /// The allocator had no memory.
+    Memory,
+}
+
+impl From<AllocError> for UsageError {
+    fn from(_: AllocError) -> UsageError {
+        UsageError::Memory
+    }
+}
+
+/// The bytes of the first word of this name, or else of another.
+fn word_or(
+    alloc: Global,
+    found: &ArgMatches,
+    name: &str,
+    other: &str,
+) -> Result<Vec<u8>, AllocError>
+    ensures { IfOk result (λ word.
+        word.items ≡ first_word other.now (found_of found.now) name.now) }
+{
+    bytes_of(alloc, found.get_str(name).unwrap_or(other))
+}
+
+/// The bytes of all words of this name.
+fn words(alloc: Global, found: &ArgMatches, name: &str) -> Result<Vec<Vec<u8>>, AllocError>
+    ensures { IfOk result (λ words.
+        map (λ w. w.items) words.items ≡ all_words (found_of found.now) name.now) }
+{
+    let mut words = Vec::new(alloc);
+    let Some(texts) = found.get_strs(name) else {
+        return Ok(words);
+    };
+    for text in texts {
+        words.push(bytes_of(alloc, text)?)?;
+    }
+    Ok(words)
+}
+
+/// The bytes of the first word of this name, if one is given.
+fn word_given(alloc: Global, found: &ArgMatches, name: &str) -> Result<Option<Vec<u8>>, AllocError>
+    ensures { IfOk result (λ word. option_map (λ w. w.items) word
+        ≡ option_map word_of (first_value (found_of found.now) name.now)) }
+{
+    match found.get_str(name) {
+        Some(text) => Ok(Some(bytes_of(alloc, text)?)),
+        None => Ok(None),
+    }
+}
+
+/// How many digits a weight may have behind a point.
+fn decimals_of(found: &ArgMatches) -> u8
+    ensures { AreDecimals (found_of found.now) result }
+{
+    found.get_one(DECIMALS).unwrap_or(0)
+}
+
+/// Which records are read.
+fn records_of(alloc: Global, found: &ArgMatches) -> Result<RecordWords, AllocError>
+    ensures { IfOk result (AreRecordWords (found_of found.now)) }
+{
+    let layout = LayoutWords {
+        delimiter: word_given(alloc, found, DELIMITER)?,
+        has_header: found.get_flag(HEADER),
+        key: words(alloc, found, KEY)?,
+        weight: word_given(alloc, found, WEIGHT)?,
+        allow_zero: found.get_flag(ALLOW_ZERO),
+        decimals: decimals_of(found),
+    };
+    Ok(RecordWords {
+        files: words(alloc, found, RECORDS)?,
+        layout,
+    })
+}
+
+/// The tree that a word names.
+fn tree_of(word: Vec<u8>) -> Tree
+    ensures { NamesTree word.items result }
+{
+    match word.as_slice() {
+        b"balanced" => Tree::Balanced,
+        b"chain" => Tree::Chain,
+        _ => Tree::Text(word),
+    }
+}
+
+/// The threshold that is asked for, if one is.
+fn threshold_of(alloc: Global, found: &ArgMatches) -> Result<Share, AllocError>
+    ensures { IfOk result
+        (GivesShare (first_value (found_of found.now) (codes "threshold"))) }
+{
+    match found.get_str("threshold") {
+        Some(text) => Ok(Share::Text(bytes_of(alloc, text)?)),
+        None => Ok(Share::OfCounters),
+    }
+}
+
+/// Which rows are printed, and how.
+fn rows_of(found: &ArgMatches) -> RowOptions
+    ensures { AreRowOptions (found_of found.now) result }
+{
+    RowOptions {
+        top: found.get_one(TOP),
+        share: found.get_flag(SHARE),
+        decimals: decimals_of(found),
+    }
+}
+
+/// The file that is named. One that is not, which `clap` lets not come, is one without a name: it
+/// can't be read.
+fn file_named(alloc: Global, found: &ArgMatches) -> Result<Vec<u8>, AllocError>
+    ensures { IfOk result (λ word.
+        word.items ≡ first_word [] (found_of found.now) (codes "FILE")) }
+{
+    word_or(alloc, found, "FILE", "")
+}
+
+fn report(alloc: Global, found: &ArgMatches) -> Result<ReportOptions, AllocError>
+    ensures { IfOk result (AreOptions (found_of found.now)) }
+{
+    Ok(ReportOptions {
+        k: K.of(found),
+        threshold: threshold_of(alloc, found)?,
+        workers: WORKERS.of(found),
+        pieces: PIECES.of(found),
+        tree: tree_of(word_or(alloc, found, "tree", "balanced")?),
+        width: WIDTH.of(found),
+        depth: DEPTH.of(found),
+        seed: SEED.of(found),
+    })
+}
+
+fn summarise(alloc: Global, found: &ArgMatches) -> Result<Command, AllocError>
+    ensures { IfOk result (Answers (codes "summarise") (found_of found.now)) }
+{
+    let method = word_or(alloc, found, "method", "mg")?;
+    Ok(Command::Summarise {
+        k: K.of(found),
+        method,
+    })
+}
+
+fn table(found: &ArgMatches) -> Command
+    ensures { Answers (codes "table") (found_of found.now) result }
+{
+    Command::Table {
+        width: WIDTH.of(found),
+        depth: DEPTH.of(found),
+        seed: SEED.of(found),
+        workers: WORKERS.of(found),
+    }
+}
+
+fn merge(alloc: Global, found: &ArgMatches) -> Result<Command, AllocError>
+    ensures { IfOk result (Answers (codes "merge") (found_of found.now)) }
+{
+    let first = file_named(alloc, found)?;
+    let others = behind_first(words(alloc, found, "FILE")?);
+    Ok(Command::Merge { first, others })
+}
+
+fn ask(alloc: Global, found: &ArgMatches) -> Result<Command, AllocError>
+    ensures { IfOk result (Answers (codes "ask") (found_of found.now)) }
+{
+    let file = file_named(alloc, found)?;
+    let keys = words(alloc, found, "KEY")?;
+    Ok(Command::Ask {
+        file,
+        keys,
+        decimals: decimals_of(found),
+    })
+}
+
+fn confirm(alloc: Global, found: &ArgMatches) -> Result<Command, AllocError>
+    ensures { IfOk result (Answers (codes "confirm") (found_of found.now)) }
+{
+    let file = file_named(alloc, found)?;
+    let threshold = threshold_of(alloc, found)?;
+    Ok(Command::Confirm {
+        file,
+        threshold,
+        rows: rows_of(found),
+        workers: WORKERS.of(found),
+    })
+}
+
+/// What a command with these words asks for. `clap` lets these nine names come: the one that is
+/// none of the other eight is the report's.
+fn request_of(alloc: Global, name: &str, found: &ArgMatches) -> Result<Request, AllocError>
+    ensures { IfOk result (AsksFor name.now (found_of found.now)) }
+{
+    let command = match name {
+        "summarise" => summarise(alloc, found)?,
+        "table" => table(found),
+        "merge" => merge(alloc, found)?,
+        "ask" => ask(alloc, found)?,
+        "list" => Command::List {
+            file: file_named(alloc, found)?,
+            decimals: decimals_of(found),
+        },
+        "describe" => Command::Describe {
+            file: file_named(alloc, found)?,
+        },
+        "condense" => Command::Condense {
+            file: file_named(alloc, found)?,
+            workers: WORKERS.of(found),
+        },
+        "confirm" => confirm(alloc, found)?,
+        _ => {
+            return Ok(Request::Report {
+                options: report(alloc, found)?,
+                rows: rows_of(found),
+            });
+        }
+    };
+    Ok(Request::Answer(command))
+}
+
+/// What these words ask for, the first of which is the program's name.
+fn request_in(alloc: Global, words: &[Vec<u8>]) -> Result<Invocation, UsageError>
+    ensures { IfOk result (IsAskedBy (map (λ w. w.items) words.now)) }
+{
+    let texts = texts_of(alloc, words)?;
+    let matches = match command_line(alloc)?.try_get_matches_from(texts.as_slice()) {
+        Ok(matches) => matches,
+        Err(error) if matches!(error.kind(), ErrorKind::OutOfMemory) => {
+            return Err(UsageError::Memory);
+        }
+        Err(error) => return Err(UsageError::Told(told_of(alloc, words, error)?)),
+    };
+    let Some((name, found)) = matches.subcommand() else {
+        unreachable!("a command is required");
+    };
+    Ok(Invocation {
+        request: request_of(alloc, name, found)?,
+        records: records_of(alloc, found)?,
+        tells_progress: found.get_flag(PROGRESS),
+        explains: found.get_flag(EXPLAIN),
+    })
+}
+
+/// What the words of a source ask for.
+pub fn read_request<W: WordSource>(source: &W, alloc: Global) -> Result<Invocation, UsageError>
+    ensures { IfOk result (IsAskedFrom (W.gives source.now)) }
+{
+    let words = read_words(source, alloc)?;
+    request_in(alloc, &words)
+}

@@ -1,0 +1,2 @@
+pub mod AddFacts
+pub mod CountFacts

@@ -1,0 +1,8 @@
+pub mod FilePassFacts
+pub mod FilePieceFacts
+pub mod PieceFacts
+pub mod ReportFacts
+pub mod ShareFacts
+pub mod SourceReportFacts
+pub mod TableFacts
+pub mod WeighFacts

@@ -1,0 +1,4 @@
+pub mod FilePasses
+pub mod Report
+pub mod ReportFiles
+pub mod TableFiles

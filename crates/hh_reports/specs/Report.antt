@@ -1,0 +1,187 @@
+-- What a report leaves in a sink, and what its refusals tell.
+use Rattle.std.specs.Prelude.{◌≡◌, ◌≤◌, ◌-◌, not, ℕ, List, [], map, Bool, true, false, length, Option, Some, None, is_none, Result, Ok, Err, ⊤, if◌then◌else◌}
+use Rattle.std.specs.Io.KnownBytes.{Appends, Keeps}
+use Rattle.hh_stream.specs.Cuttings.{max_pieces, whole_of}
+use Rattle.hh_stream.specs.Weights.{Entry, max_total, total_of}
+use Rattle.hh_counters.specs.Report.{IsShare, heavy}
+use Rattle.hh_counters.specs.Counters.{max_k}
+use Rattle.hh_countmin.specs.Family.{drawn_family, max_depth, max_width}
+use Rattle.hh_pool.specs.PlanTexts.{PlanRefused, SpellsTree}
+use Rattle.hh_pool.specs.Settings.{Settings, max_workers}
+use Rattle.hh_pool.specs.Trees.{IsBalanced, IsMergeTree, MergeTree, chain_of, leaves}
+use Rattle.hh_pool.specs.declared.parsing.PlanFault.{PlanFault}
+use Rattle.hh_pool.specs.declared.parsing.PlanFault.TheVariants as plan
+use Rattle.hh_stream.specs.Ranges.{in_range}
+use Rattle.hh_rows.specs.Printed.{printed_rows}
+use Rattle.hh_rows.specs.Rows.{rows_of}
+use Rattle.hh_rows.specs.Sinks.{TakesFirst}
+use Rattle.hh_records.specs.Streams.{Known, ReadsAs}
+use Rattle.hh_rows.specs.Thresholds.{threshold_of}
+use Rattle.hh_rows.specs.declared.printed.RowOptions.{RowOptions}
+use Rattle.hh_commands.specs.Records.{RecordsRefused}
+use Rattle.hh_commands.specs.declared.error.ToolError.{ToolError}
+use Rattle.hh_commands.specs.declared.error.ToolError.TheVariants as tool
+use Rattle.hh_commands.specs.declared.error.TreeFault.{TreeFault}
+use Rattle.hh_commands.specs.declared.error.TreeFault.TheVariants as bad
+use Rattle.hh_reports.specs.declared.commands.report.Prepared.{Prepared}
+use Rattle.hh_commands.specs.declared.report_options.ReportOptions.{ReportOptions}
+use Rattle.hh_commands.specs.declared.report_options.Tree.{Tree}
+use Rattle.hh_commands.specs.declared.report_options.Tree.TheVariants as tree
+
+-- whether a command failed by its sink
+abbrev pub failed_by : {T : Type 0} → Result T ToolError → Bool
+failed_by (Err (tool.WriteFault n)) = true
+failed_by (Err _) = false
+failed_by (Ok x) = false
+
+-- the first test that options fail, before their tree
+abbrev pub bad_option : ReportOptions → Option ToolError
+bad_option o =
+    if not (in_range o.depth max_depth) then Some tool.BadDepth
+    else if not (in_range o.k max_k) then Some tool.BadK
+    else if not (in_range o.workers max_workers) then Some tool.BadWorkers
+    else if not (in_range o.width max_width) then Some tool.BadWidth
+    else if is_none (threshold_of o.k o.threshold) then Some tool.BadThreshold
+    else if not (in_range o.pieces max_pieces) then Some tool.BadPieces
+    else None
+
+-- a fault that options have, before their tree
+abbrev pub IsOptionFault : ToolError → Type 0
+IsOptionFault tool.BadDepth = ⊤
+IsOptionFault tool.BadK = ⊤
+IsOptionFault tool.BadWorkers = ⊤
+IsOptionFault tool.BadWidth = ⊤
+IsOptionFault tool.BadThreshold = ⊤
+IsOptionFault tool.BadPieces = ⊤
+IsOptionFault _ = ⊥
+
+-- the settings of an analysis for these options and the threshold p/q
+abbrev pub settings_of : ReportOptions → ℕ → ℕ → Settings
+settings_of o p q = record {
+  k = o.k;
+  p = p;
+  q = q;
+  workers = o.workers;
+  width = o.width;
+  family = drawn_family o.seed o.depth;
+}
+
+-- the merge tree that a tree names over so many pieces
+abbrev pub Names : Tree → ℕ → MergeTree → Type 0
+Names tree.Chain pieces plan = plan ≡ chain_of (pieces - 1)
+Names tree.Balanced pieces plan = IsBalanced plan 0 pieces
+Names (tree.Text t) pieces plan = SpellsTree t.items plan × IsMergeTree plan pieces
+
+-- the tree is one of so many pieces
+abbrev pub IsTree : Tree → ℕ → Type 0
+IsTree t pieces = (plan : MergeTree) × Names t pieces plan
+
+-- a fault of a plan's text as a fault of its tree
+abbrev pub plan_fault : TreeFault → PlanFault
+plan_fault (bad.Syntax n) = plan.Syntax n
+plan_fault (bad.UnknownPiece n) = plan.UnknownPiece n
+plan_fault (bad.RepeatedPiece n) = plan.RepeatedPiece n
+plan_fault (bad.MissingPiece n) = plan.MissingPiece n
+
+abbrev pub TreeRefused : Tree → ℕ → TreeFault → Type 0
+TreeRefused tree.Chain pieces f = ⊥
+TreeRefused tree.Balanced pieces f = ⊥
+TreeRefused (tree.Text t) pieces f = PlanRefused t.items pieces (plan_fault f)
+
+-- the options pass all tests
+abbrev pub AreOptions : ReportOptions → Type 0
+AreOptions o = (bad_option o ≡ None) × IsTree o.tree o.pieces
+
+-- the records are the stream xs, and these are its keys above the threshold
+-- p/q of the options
+abbrev pub ReportsKeys : ReportOptions → Known → List Entry → List Entry → Type 0
+ReportsKeys o known xs keys =
+    (p : ℕ) × (q : ℕ) × (threshold_of o.k o.threshold ≡ Some (p, q))
+    × ReadsAs known (Ok xs) × (keys ≡ heavy xs p q)
+
+-- the items of a piece, and none of a piece that can't be read by itself
+abbrev pub items_or_none : Option (List Entry) → List Entry
+items_or_none None = []
+items_or_none (Some xs) = xs
+
+-- each piece has items, and these are the total of them all and their keys above p/q
+abbrev pub AreKeysOfPieces : List (Option (List Entry)) → ℕ → ℕ → ℕ → List Entry → Type 0
+AreKeysOfPieces pieces p q total keys =
+    (parts : List (List Entry)) × (pieces ≡ map Some parts) × (total_of (whole_of parts) ≤ max_total)
+    × (total ≡ total_of (whole_of parts)) × (keys ≡ heavy (whole_of parts) p q)
+
+-- the records are a stream, and these are its total and its keys above p/q
+abbrev pub AreKeysOf : Known → ℕ → ℕ → ℕ → List Entry → Type 0
+AreKeysOf known p q total keys =
+    (xs : List Entry) × ReadsAs known (Ok xs) × (total ≡ total_of xs) × (keys ≡ heavy xs p q)
+
+-- the options pass all tests, and by these a report is made: a plan of their tree over their pieces, and
+-- the settings for their threshold
+pub record IsPrepared (o : ReportOptions) (prepared : Prepared) : Type 0 where
+  pub options : AreOptions o
+  pub threshold : threshold_of o.k o.threshold ≡ Some (prepared.p, prepared.q)
+  pub share : IsShare prepared.p prepared.q
+  pub settings : prepared.settings ≡ settings_of o prepared.p prepared.q
+  pub few : in_range prepared.pieces max_pieces ≡ true
+  pub plan : length (leaves prepared.plan) ≡ prepared.pieces
+
+-- what a refusal to write the rows of some keys tells, and what it leaves in the sink
+abbrev pub KeysNotWritten : List ℕ → Option (List ℕ) → Option (List ℕ) → ToolError → Type 0
+KeysNotWritten rows old new (tool.WriteFault n) = TakesFirst old new rows n
+KeysNotWritten rows old new tool.Memory = Keeps old new
+KeysNotWritten rows old new _ = ⊥
+
+-- these are the rows of the keys of a report
+abbrev pub ReportsRows : ReportOptions → Known → List ℕ → Type 0
+ReportsRows o known rows =
+    (xs : List Entry) × (keys : List Entry) × ReportsKeys o known xs keys × (rows ≡ rows_of keys)
+
+-- these are the rows of the keys of a report, as the options of rows want them, with shares of the
+-- stream's total
+abbrev pub PrintsRows : RowOptions → ReportOptions → Known → List ℕ → Type 0
+PrintsRows r o known rows =
+    (xs : List Entry) × (keys : List Entry) × ReportsKeys o known xs keys
+    × (rows ≡ printed_rows (total_of xs) r keys)
+
+-- rows of which this holds were written whole
+abbrev pub AreWritten : ReportOptions → (List ℕ → Type 0) → Option (List ℕ) → Option (List ℕ) → Type 0
+AreWritten o holds old new = AreOptions o × (rows : List ℕ) × holds rows × Appends old new rows
+
+-- a whole report was written
+abbrev pub IsReported : ReportOptions → Known → Option (List ℕ) → Option (List ℕ) → Type 0
+IsReported o known old new = AreWritten o (ReportsRows o known) old new
+
+-- a whole report was written as the options of rows want it
+abbrev pub IsPrinted : RowOptions → ReportOptions
+    → Known → Option (List ℕ) → Option (List ℕ) → Type 0
+IsPrinted r o known old new = AreWritten o (PrintsRows r o known) old new
+
+-- what a refusal of the options tells: the first test that they fail, the tree's last
+abbrev pub OptionsRefused : ReportOptions → ToolError → Type 0
+OptionsRefused o (tool.BadTree f) = (bad_option o ≡ None) × TreeRefused o.tree o.pieces f
+OptionsRefused o e = IsOptionFault e × (bad_option o ≡ Some e)
+
+-- what a refusal before anything is written tells: of the options, or of the records behind them
+abbrev pub StartRefused : ReportOptions → Known → ToolError → Type 0
+StartRefused o known tool.ReadFault = AreOptions o × RecordsRefused known tool.ReadFault
+StartRefused o known (tool.BadRecord n c) = AreOptions o × RecordsRefused known (tool.BadRecord n c)
+StartRefused o known tool.NoColumn = AreOptions o × RecordsRefused known tool.NoColumn
+StartRefused o known tool.Memory = bad_option o ≡ None
+StartRefused o known e = OptionsRefused o e
+
+-- what each refusal to write rows of which this holds tells, and what it leaves in the sink
+abbrev pub WriteRefused : ReportOptions → Known → (List ℕ → Type 0)
+    → Option (List ℕ) → Option (List ℕ) → ToolError → Type 0
+WriteRefused o known holds old new (tool.WriteFault n) =
+    AreOptions o × (rows : List ℕ) × holds rows × TakesFirst old new rows n
+WriteRefused o known holds old new e = StartRefused o known e × Keeps old new
+
+-- what each refusal of a report tells, and what it leaves in the sink
+abbrev pub ReportRefused : ReportOptions
+    → Known → Option (List ℕ) → Option (List ℕ) → ToolError → Type 0
+ReportRefused o known old new e = WriteRefused o known (ReportsRows o known) old new e
+
+-- the same of a report whose rows are as the options of rows want them
+abbrev pub PrintRefused : RowOptions → ReportOptions
+    → Known → Option (List ℕ) → Option (List ℕ) → ToolError → Type 0
+PrintRefused r o known old new e = WriteRefused o known (PrintsRows r o known) old new e
