@@ -14,9 +14,9 @@ use Rattle.hh_counters.specs.Report.{weights_at}
 use Rattle.hh_countmin.specs.Table.{at_cell, cell_sum, table_of}
 use Rattle.hh_countmin.specs.Laws.{CellsAreCellSums}
 use Rattle.hh_shared.specs.Tally.{cell_total, sum_at, IsDistinctBelow, HasAllBelow}
-use Rattle.hh_shared.specs.Seats.{Holding, Sums}
+use Rattle.hh_shared.specs.Seats.{Holding}
 use Rattle.hh_pool.specs.Settings.{Settings}
-use Rattle.hh_pool.specs.Passes.{piece_of, summaries_at, AreFirstPasses, AreSecondPasses, HaveTaken}
+use Rattle.hh_pool.specs.Passes.{items_at, piece_of, summaries_at, AreFirstPasses, AreSecondPasses, AreSummaries, HasEach, HaveTaken}
 use Rattle.hh_pool.proofs.PieceFacts.{sum_by-all_items, weight_of-le, cell_sum-le}
 use Rattle.hh_pool.proofs.Tried.{weight_behind_number}
 
@@ -44,20 +44,18 @@ closed_cells law pieces xs settings seat kept values whole low p distinct all lo
 
 -- so the closed sums, with the total of what was taken, are the parts of the whole table
 pub closed_table : CellsAreCellSums → (reads : ℕ → Type 0) (pieces : List (List Entry)) (settings : Settings)
-    (sums : Sums) (seat : Holding) (kept : List (ℕ × SummaryView)) (weight : ℕ) (values : List ℕ)
+    (seat : Holding) (kept : List (ℕ × SummaryView)) (weight : ℕ) (values : List ℕ)
     → AreFirstPasses pieces settings seat kept × HaveTaken reads pieces seat.claims weight
-    → sums.claims ≡ length pieces → sums.cells ≡ length settings.family.rows * settings.width
-    → HasAllBelow sums.claims seat.claims → length values ≡ sums.cells
-    → ((cell : ℕ) → cell < sums.cells → get_or values cell 0 ≡ sum_at seat.adds cell)
+    → HasEach (length pieces) seat.claims → length values ≡ length settings.family.rows * settings.width
+    → ((cell : ℕ) → cell < length settings.family.rows * settings.width → get_or values cell 0 ≡ sum_at seat.adds cell)
     → (weight ≡ total_of (whole_of pieces))
     × (values ≡ (table_of settings.family settings.width (whole_of pieces)).cells)
-closed_table law reads pieces settings sums seat kept weight values (p, taken) count cells all long each =
-    let every = subst (λ n. HasAllBelow n seat.claims) count all in
+closed_table law reads pieces settings seat kept weight values (p, taken) each long sums =
     let total : weight ≡ total_of (whole_of pieces) =
-    taken.total ∙ sum_by-all_items (λ (e : Entry). e.1) pieces seat.claims taken.distinct every in (
+    taken.total ∙ sum_by-all_items (λ (e : Entry). e.1) pieces seat.claims each.distinct each.all in (
       total,
       closed_cells law pieces (whole_of pieces) settings seat kept values refl (omega (arith, total, taken.bounded)) p
-          taken.distinct every (long ∙ cells) (λ cell inside. each cell (omega (arith, inside, cells))),
+          each.distinct each.all long sums,
     )
 
 -- the closed sums of the second pass are the candidates' weights
@@ -79,18 +77,29 @@ closed_weights pieces xs keys seat values whole low p distinct all long each =
     ∙ (exact (weight_of key xs) (cell_total i seat.adds) all_items (omega (arith, fits, weight_of-le key xs))
     ∙ sym (weight_behind_number keys xs i key at)))
 
--- each summary found is its piece's
-pub found_are : (k : ℕ) (pieces : List (List Entry)) (claims : List ℕ) (found : List (ℕ × SummaryView))
-    → found ≡ summaries_at k pieces claims → All (λ (it : ℕ × SummaryView). it.1 ≡ sketch_of k (piece_of pieces it.0)) found
-found_are k pieces claims found e =
-    let P : ℕ × SummaryView → Type 0 = λ it. it.1 ≡ sketch_of k (piece_of pieces it.0) in
-    subst (All P) (sym e) (All-map P (λ i. (i, sketch_of k (piece_of pieces i))) claims (λ j d low. refl))
+-- the weights in each piece are those in all items
+pub whole_weights : (pieces : List (List Entry)) (keys : List Bytes) (numbers : List ℕ) → HasEach (length pieces) numbers
+    → weights_at keys (items_at pieces numbers) ≡ weights_at keys (whole_of pieces)
+whole_weights pieces keys numbers each =
+    λ i. map (λ (x : Bytes). sum_by-all_items (at_key x) pieces numbers each.distinct each.all i) keys
 
--- the numbers of the summaries are the claimed ones
-pub numbers_at : (k : ℕ) (pieces : List (List Entry)) (claims : List ℕ)
-    → map (λ (it : ℕ × SummaryView). it.0) (summaries_at k pieces claims) ≡ claims
+-- the numbers of the summaries are those of the pieces
+numbers_at : (k : ℕ) (pieces : List (List Entry)) (numbers : List ℕ)
+    → map (λ (it : ℕ × SummaryView). it.0) (summaries_at k pieces numbers) ≡ numbers
 numbers_at k pieces [] = refl
 numbers_at k pieces (i ∷ is) = λ j. i ∷ numbers_at k pieces is j
+
+-- summaries of each piece
+pub each_summary : (k : ℕ) (pieces : List (List Entry)) (numbers : List ℕ) (found : List (ℕ × SummaryView))
+    → found ≡ summaries_at k pieces numbers → HasEach (length pieces) numbers → AreSummaries k pieces found
+each_summary k pieces numbers found e each =
+    let P : ℕ × SummaryView → Type 0 = λ it. it.1 ≡ sketch_of k (piece_of pieces it.0) in
+    let same = sym (ap (map (λ (it : ℕ × SummaryView). it.0)) e ∙ numbers_at k pieces numbers) in
+    record {
+      theirs = subst (All P) (sym e) (All-map P (λ i. (i, sketch_of k (piece_of pieces i))) numbers (λ j d low. refl));
+      distinct = subst (IsDistinctBelow (length pieces)) same each.distinct;
+      all = subst (HasAllBelow (length pieces)) same each.all;
+    }
 
 -- the summaries by number are those of the pieces
 pub by_number : (k : ℕ) (pieces : List (List Entry))

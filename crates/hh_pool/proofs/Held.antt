@@ -7,41 +7,31 @@ use Rattle.hh_counters.specs.Counters.{SummaryView}
 use Rattle.hh_counters.specs.Counting.{Count, count_of}
 use Rattle.hh_counters.specs.Report.{weights_at}
 use Rattle.hh_countmin.specs.Table.{TableView, table_of}
-use Rattle.hh_shared.specs.Seats.{Holding}
 use Rattle.hh_pool.specs.Settings.{Settings}
 use Rattle.hh_pool.specs.Progress.{AreCounted, HasCounted, HoldsItems, IsCountedOn, IsSummarised}
 use Rattle.hh_pool.proofs.Tried.{all_zero, none_counted}
 
 -- a list that ends with a number isn't empty
-not_empty : {A : Type 0} (xs ys : List ℕ) (n : ℕ) (zs : List A) → ys ≡ xs ++ n ∷ [] → ys ≡ [] → zs ≡ []
-not_empty xs ys n zs e none = absurd (omega (arith, ap length e, ap length none, length-append xs (n ∷ [])))
+not_empty : {A : Type 0} (xs : List ℕ) (n : ℕ) (zs : List A) → xs ++ n ∷ [] ≡ [] → zs ≡ []
+not_empty xs n zs none = absurd (omega (arith, ap length none, length-append xs (n ∷ [])))
 
--- a worker begins with nothing
+-- no piece has nothing
 pub holds_begins : (settings : Settings) (grid : TableView) → grid ≡ table_of settings.family settings.width []
     → HoldsItems settings [] [] grid
 holds_begins settings grid e = record { xs = []; table = e; none = λ _. refl; one_each = refl }
 
--- another's claim changes nothing
-pub holds_met : (settings : Settings) (n : ℕ) (seat after : Holding) (kept : List (ℕ × SummaryView)) (grid : TableView)
-    → after ≡ record seat { met = seat.met ++ n ∷ [] } → HoldsItems settings seat.claims kept grid
-    → HoldsItems settings after.claims kept grid
-holds_met settings n seat after kept grid e p = rw e p
-
--- a piece more was claimed and summarised
-pub holds_claimed : (settings : Settings) (n : ℕ) (seat after : Holding) (kept more : List (ℕ × SummaryView))
-    (was grid : TableView) (s : SummaryView) (gives : List Entry → Type 0)
-    → after ≡ record seat { claims = seat.claims ++ n ∷ [] } → more ≡ kept ++ (n, s) ∷ []
-    → HoldsItems settings seat.claims kept was → IsSummarised gives settings.k s was grid
-    → HoldsItems settings after.claims more grid
-holds_claimed settings n seat after kept more was grid s gives e f p q =
-    let claims = ap (λ h. h.claims) e in
-    record {
-      xs = p.xs ++ q.xs;
-      table = q.table settings.family settings.width p.xs p.table;
-      none = not_empty seat.claims after.claims n (p.xs ++ q.xs) claims;
-      one_each = omega
-          (arith, ap length f, ap length claims, length-append kept ((n, s) ∷ []), length-append seat.claims (n ∷ []), p.one_each);
-    }
+-- a piece more was summarised
+pub holds_more : (settings : Settings) (numbers : List ℕ) (n : ℕ) (kept more : List (ℕ × SummaryView))
+    (was grid : TableView) (s : SummaryView) (gives : List Entry → Type 0) → more ≡ kept ++ (n, s) ∷ []
+    → HoldsItems settings numbers kept was → IsSummarised gives settings.k s was grid
+    → HoldsItems settings (numbers ++ n ∷ []) more grid
+holds_more settings numbers n kept more was grid s gives f p q = record {
+  xs = p.xs ++ q.xs;
+  table = q.table settings.family settings.width p.xs p.table;
+  none = not_empty numbers n (p.xs ++ q.xs);
+  one_each = omega
+      (arith, ap length f, length-append kept ((n, s) ∷ []), length-append numbers (n ∷ []), p.one_each);
+}
 
 -- only who has claimed a piece has something to add
 pub claim-behind_cell : (settings : Settings) (claims : List ℕ) (kept : List (ℕ × SummaryView)) (grid : TableView)
@@ -56,20 +46,11 @@ claim-behind_cell settings (i ∷ is) kept grid p cell some = omega arith
 pub counted_begins : (keys : List Bytes) (counts : Count) → counts ≡ count_of keys [] → HasCounted keys [] counts
 counted_begins keys counts e = record { xs = []; counted = none_counted keys counts e; none = λ _. refl }
 
-pub counted_met : (keys : List Bytes) (n : ℕ) (seat after : Holding) (counts : Count)
-    → after ≡ record seat { met = seat.met ++ n ∷ [] } → HasCounted keys seat.claims counts
-    → HasCounted keys after.claims counts
-counted_met keys n seat after counts e p = rw e p
-
-pub counted_claimed : (keys : List Bytes) (n : ℕ) (seat after : Holding) (counts more : Count)
-    (gives : List Entry → Type 0)
-    → after ≡ record seat { claims = seat.claims ++ n ∷ [] } → HasCounted keys seat.claims counts
-    → IsCountedOn gives keys counts more → HasCounted keys after.claims more
-counted_claimed keys n seat after counts more gives e p q = record {
-  xs = p.xs ++ q.xs;
-  counted = q.on p.xs p.counted;
-  none = not_empty seat.claims after.claims n (p.xs ++ q.xs) (ap (λ h. h.claims) e);
-}
+pub counted_more : (keys : List Bytes) (numbers : List ℕ) (n : ℕ) (counts more : Count)
+    (gives : List Entry → Type 0) → HasCounted keys numbers counts → IsCountedOn gives keys counts more
+    → HasCounted keys (numbers ++ n ∷ []) more
+counted_more keys numbers n counts more gives p q =
+    record { xs = p.xs ++ q.xs; counted = q.on p.xs p.counted; none = not_empty numbers n (p.xs ++ q.xs) }
 
 -- where the items are known, they are counted
 pub counted_known : (gives : List Entry → Type 0) (keys : List Bytes) (before more : Count) (ys piece : List Entry)

@@ -7,7 +7,6 @@ pub mod PieceFacts
 pub mod Taken
 pub mod Tried
 pub mod TableFacts
-pub mod Alone
 pub mod Closed
 pub mod Held
 pub mod Merged

@@ -1,5 +1,5 @@
 -- Tables that workers fill and merge.
-use Rattle.std.proofs.Common.{◌≡◌, ℕ, ◌+◌, ◌<◌, ◌≤◌, List, [], ◌∷◌, ◌++◌, length, take, sym, ap, ◌∙◌, subst, arith}
+use Rattle.std.proofs.Common.{◌≡◌, ℕ, ◌≤◌, List, [], ◌∷◌, ◌++◌, length, sym, ap, ◌∙◌, subst, arith}
 use Rattle.std.proofs.lemmas.Grind.{flat_map-append}
 use mathlib.Core.Logic.{dite}
 use native.Mathlib.Decide.{ℕ_discrete}
@@ -8,11 +8,10 @@ use Rattle.hh_stream.specs.Cuttings.{whole_of}
 use Rattle.hh_countmin.specs.Family.{Coefficients}
 use Rattle.hh_countmin.specs.Laws.{TablesFollowItems}
 use Rattle.hh_countmin.specs.Table.{TableView, at_cell, cells_by, grid_sum, table_of}
-use Rattle.hh_shared.specs.Tally.{times, AreDisjoint, HasAllBelow, IsDistinctBelow}
+use Rattle.hh_shared.specs.Tally.{AreDisjoint, IsDistinctBelow}
 use Rattle.hh_shared.proofs.Tallies.{times-append, times-elsewhere}
-use Rattle.hh_pool.specs.Passes.{items_at, piece_of}
-use Rattle.hh_pool.specs.Tabulated.{HasTabulated, IsAdded, IsTable, IsTabulatedUpTo}
-use Rattle.hh_pool.proofs.Alone.{whole-more}
+use Rattle.hh_pool.specs.Passes.{HasEach, items_at, piece_of}
+use Rattle.hh_pool.specs.Tabulated.{HasTabulated, IsAdded, IsTable}
 use Rattle.hh_pool.proofs.PieceFacts.{sum_by-all_items}
 use Rattle.hh_pool.proofs.Tried.{items_at-push, taken_joined}
 
@@ -30,22 +29,24 @@ module _ (reads : ℕ → Type 0) (pieces : List (List Entry)) (family : Coeffic
     table = e;
   }
 
-  -- a piece more was claimed, and its items added
-  pub tabulated_claimed : (claims after : List ℕ) (n : ℕ) (was grid : TableView)
+  -- the items of a piece more were added
+  pub tabulated_more : (numbers : List ℕ) (n : ℕ) (was grid : TableView)
       (q : IsAdded (λ xs. xs ≡ piece_of pieces n) family width was grid)
-      → after ≡ claims ++ n ∷ [] → IsDistinctBelow (length pieces) after → reads n → grid.total ≤ max_total
-      → HasTabulated reads pieces family width claims was → HasTabulated reads pieces family width after grid
-  tabulated_claimed claims after n was grid q e distinct could low p =
-      let table : grid ≡ table_of family width (items_at pieces after) = q.on (items_at pieces claims) p.table
-      ∙ ap (λ xs. table_of family width (items_at pieces claims ++ xs)) q.given
-      ∙ ap (table_of family width) (sym (items_at-push pieces claims n) ∙ ap (items_at pieces) (sym e)) in
+      → IsDistinctBelow (length pieces) (numbers ++ n ∷ []) → reads n → grid.total ≤ max_total
+      → HasTabulated reads pieces family width numbers was
+      → HasTabulated reads pieces family width (numbers ++ n ∷ []) grid
+  tabulated_more numbers n was grid q distinct could low p =
+      let table : grid ≡ table_of family width (items_at pieces (numbers ++ n ∷ [])) =
+      q.on (items_at pieces numbers) p.table
+      ∙ ap (λ xs. table_of family width (items_at pieces numbers ++ xs)) q.given
+      ∙ ap (table_of family width) (sym (items_at-push pieces numbers n)) in
       record {
         taken = record {
           distinct = distinct;
           read = λ i some. dite (ℕ_discrete i n)
               (λ is. subst reads (sym is) could)
               (λ ne. p.taken.read i (omega
-              (arith, some, ap (times i) e, times-append i claims (n ∷ []), times-elsewhere i n [] (λ q. ne (sym q)))));
+              (arith, some, times-append i numbers (n ∷ []), times-elsewhere i n [] (λ q. ne (sym q)))));
           total = ap (λ (g : TableView). g.total) table;
           bounded = low;
         };
@@ -67,30 +68,18 @@ module _ (reads : ℕ → Type 0) (pieces : List (List Entry)) (family : Coeffic
             ∙ ap (table_of family width) (sym (flat_map-append (piece_of pieces) one other))));
       }
 
-  -- where each piece was claimed once, the table is that of all items
-  pub tabulated_all : (claims : List ℕ) (grid : TableView) → HasAllBelow (length pieces) claims
-      → HasTabulated reads pieces family width claims grid → grid ≡ table_of family width (whole_of pieces)
-  tabulated_all claims grid all p =
-      let sums = λ (f : Entry → ℕ). sum_by-all_items f pieces claims p.taken.distinct all in
-      p.table ∙ (λ i. record {
-        family = family;
-        width = width;
-        total = sums (λ (e : Entry). e.1) i;
-        cells = cells_by (λ r c. sums (at_cell family width r c) i) (length family.rows) width;
-      })
-
-  -- the calling thread has added a piece more
-  pub tabulated_more : (n : ℕ) (was grid : TableView) (q : IsAdded (λ xs. xs ≡ piece_of pieces n) family width was grid)
-      → n < length pieces → reads n → IsTabulatedUpTo reads pieces family width n was
-      → IsTabulatedUpTo reads pieces family width (n + 1) grid
-  tabulated_more n was grid q low could p = record {
-    read = λ i within. dite (ℕ_discrete i n)
-        (λ is. subst reads (sym is) could)
-        (λ ne. p.read i (omega (arith, within)));
-    table = q.on (whole_of (take n pieces)) p.table
-        ∙ ap (λ xs. table_of family width (whole_of (take n pieces) ++ xs)) q.given
-        ∙ ap (table_of family width) (sym (whole-more pieces n low));
-  }
+-- the table of each piece's items, taken once, is that of all items
+pub whole_table : (pieces : List (List Entry)) (family : Coefficients) (width : ℕ) (numbers : List ℕ)
+    → HasEach (length pieces) numbers
+    → table_of family width (items_at pieces numbers) ≡ table_of family width (whole_of pieces)
+whole_table pieces family width numbers each =
+    let sums = λ (f : Entry → ℕ). sum_by-all_items f pieces numbers each.distinct each.all in
+    λ i. record {
+      family = family;
+      width = width;
+      total = sums (λ (e : Entry). e.1) i;
+      cells = cells_by (λ r c. sums (at_cell family width r c) i) (length family.rows) width;
+    }
 
 -- two tables of some items make one
 pub both_tables : TablesFollowItems → (family : Coefficients) (width : ℕ) (a b both : TableView) → both ≡ grid_sum a b

@@ -1,5 +1,5 @@
 -- What takers have taken of a list of items.
-use Rattle.std.proofs.Common.{◌≡◌, ◌+◌, ◌++◌, ◌∷◌, ◌∙◌, ℕ, List, [], OnOk, Result, Ok, Err, refl, sym, ap, arith, fold, append_assoc}
+use Rattle.std.proofs.Common.{◌≡◌, ◌+◌, ◌++◌, ◌∷◌, ◌∙◌, ℕ, List, [], IfOk, OnOk, Result, Ok, Err, refl, sym, ap, arith, fold, append_assoc}
 use Rattle.std.proofs.lemmas.List.{append-nil}
 use Rattle.std.proofs.lemmas.List.Sums.{sum_by-append}
 use Rattle.hh_stream.specs.Weights.{Bytes, Entry, total_of}
@@ -15,6 +15,10 @@ use Rattle.hh_pool.proofs.Tried.{counted-weights_at}
 pub on_ok : {X E P Q : Type 0} (r : Result X E) → (P → Q) → OnOk r P → OnOk r Q
 on_ok (Ok x) f p = f p
 on_ok (Err e) f p = tt
+
+pub ok_tells : {X E Q : Type 0} (r : Result X E) (P : X → Type 0) → ((x : X) → P x → Q) → IfOk r P → OnOk r Q
+ok_tells (Ok x) P f p = f x p
+ok_tells (Err e) P f p = tt
 
 module _ {A : Type 0} where
   -- where a step makes of the value of some items that of one more, a fold makes that of all

@@ -11,7 +11,7 @@ use mathlib.Core.Logic.{dite}
 use native.Mathlib.Decide.{ℕ_discrete}
 use Rattle.hh_stream.specs.Weights.{Bytes, Entry, at_key, max_total, weight_of, total_of}
 use Rattle.hh_stream.specs.Cuttings.{whole_of}
-use Rattle.hh_shared.proofs.Tallies.{times-append, times-elsewhere, times-push, added-append}
+use Rattle.hh_shared.proofs.Tallies.{times-append, times-elsewhere, times-push, times-push_other, added-append}
 use Rattle.hh_pool.proofs.PieceFacts.{sum_by-items}
 use Rattle.std.proofs.lemmas.List.Sums.{sum_by-append}
 use Rattle.hh_counters.specs.Counting.{Count, count_of}
@@ -22,8 +22,8 @@ use Rattle.hh_countmin.specs.Laws.{CellsAreCellSums}
 use Rattle.hh_shared.specs.Tally.{times, cell_total, AreDisjoint, IsDistinctBelow}
 use Rattle.hh_shared.specs.Seats.{Sums, Holding, fresh, seat_of_both}
 use Rattle.hh_pool.specs.Settings.{Settings}
-use Rattle.hh_pool.specs.Passes.{piece_of, items_at, summaries_at, HasTried, HaveCounted, HaveTaken, MayRefuse, AreFirstPasses, AreSecondPasses, IsFirstPass, IsSecondPass}
-use Rattle.hh_pool.specs.Progress.{AreCounted, HasTriedUpTo, IsFirstPassUpTo, IsSecondPassUpTo}
+use Rattle.hh_pool.specs.Passes.{piece_of, items_at, summaries_at, HasEach, HasTried, HaveCounted, HaveTaken, MayRefuse, AreFirstPasses, AreSecondPasses}
+use Rattle.hh_pool.specs.Progress.{AreCounted, HasTriedUpTo, IsFirstMade}
 
 pub items_at-push : (pieces : List (List Entry)) (claims : List ℕ) (i : ℕ)
     → items_at pieces (claims ++ i ∷ []) ≡ items_at pieces claims ++ piece_of pieces i
@@ -45,6 +45,40 @@ tried-met n seat tried i low = dite (ℕ_discrete i n)
 tried-joined : (n : ℕ) (one other : Holding) → HasTried n one → HasTried n (seat_of_both one other)
 tried-joined n one other tried i low =
     omega (arith, tried i low, times-append i one.claims other.claims, times-append i one.met other.met)
+
+-- no numbers are distinct
+pub none_distinct : (n : ℕ) → IsDistinctBelow n []
+none_distinct n = record { once = λ j. omega arith; below = λ j some. absurd (omega arith) }
+
+-- each number below n, and n itself
+pub each_none : HasEach 0 []
+each_none = record { distinct = none_distinct 0; all = record { has = λ j low. absurd (omega arith) } }
+
+none_of-next : (n : ℕ) (numbers : List ℕ) → IsDistinctBelow n numbers → times n numbers ≡ 0
+none_of-next n numbers p = ⊎_elim
+    (λ (some : 0 < times n numbers). absurd (omega (arith, p.below n some)))
+    (λ (none : times n numbers ≤ 0). omega arith)
+    (cases_lt 0 (times n numbers))
+
+pub each_more : (n : ℕ) (numbers : List ℕ) → HasEach n numbers → HasEach (n + 1) (numbers ++ n ∷ [])
+each_more n numbers p = record {
+  distinct = record {
+    once = λ j. dite (ℕ_discrete j n)
+        (λ e. rw e (omega (arith, times-push n numbers, none_of-next n numbers p.distinct)))
+        (λ ne. omega (arith, times-push_other n j numbers ne, p.distinct.once j));
+    below = λ j some. dite (ℕ_discrete j n)
+        (λ e. omega arith)
+        (λ ne. omega (arith, p.distinct.below j (omega (arith, some, times-push_other n j numbers ne))));
+  };
+  all = record {
+    has = λ j low. dite (ℕ_discrete j n)
+        (λ e. rw e (omega (arith, times-push n numbers)))
+        (λ ne. omega (arith, times-push_other n j numbers ne, p.all.has j (omega (arith, low))));
+  };
+}
+
+pub distinct_below : (n most : ℕ) (numbers : List ℕ) → n ≤ most → IsDistinctBelow n numbers → IsDistinctBelow most numbers
+distinct_below n most numbers low p = record { once = p.once; below = λ j some. omega (arith, low, p.below j some) }
 
 abbrev nothing : {A : Type 0} → A → ℕ
 nothing x = 0
@@ -68,29 +102,28 @@ rising-push xs n rises low k within = ⊎_elim
     (cases_lt (k + 1) (length xs))
 
 -- what a worker has tried: nothing, one piece more that it met, and one more that it claimed
-nothing_tried : (pieces : List (List Entry)) (sums : Sums) → HasTriedUpTo pieces 0 (fresh sums)
-nothing_tried pieces sums = record {
+pub nothing_tried : (count : ℕ) (sums : Sums) → HasTriedUpTo count 0 (fresh sums)
+nothing_tried count sums = record {
   tried = λ i low. absurd (omega arith);
-  distinct = record { once = λ j. omega arith; below = λ j some. absurd (omega arith) };
+  distinct = none_distinct count;
   rising = λ k low. absurd (omega arith);
   low = All-nil (λ (i : ℕ). i < 0);
   none_added = refl;
 }
 
-one_more_met : (pieces : List (List Entry)) (n : ℕ) (seat : Holding) → HasTriedUpTo pieces n seat
-    → HasTriedUpTo pieces (n + 1) (record seat { met = seat.met ++ n ∷ [] })
-one_more_met pieces n seat p = record {
+pub one_more_met : (count n : ℕ) (seat after : Holding) → after ≡ record seat { met = seat.met ++ n ∷ [] }
+    → HasTriedUpTo count n seat → HasTriedUpTo count (n + 1) after
+one_more_met count n seat after e p = rw e (record {
   tried = tried-met n seat p.tried;
   distinct = p.distinct;
   rising = p.rising;
   low = λ k d within. omega (arith, p.low k d within);
   none_added = p.none_added;
-}
+})
 
-one_more_claimed : (pieces : List (List Entry)) (n : ℕ) (seat after : Holding)
-    → after ≡ record seat { claims = seat.claims ++ n ∷ [] } → IsDistinctBelow (length pieces) after.claims
-    → HasTriedUpTo pieces n seat → HasTriedUpTo pieces (n + 1) after
-one_more_claimed pieces n seat after e distinct p =
+pub one_more_claimed : (count n : ℕ) (seat after : Holding) → after ≡ record seat { claims = seat.claims ++ n ∷ [] }
+    → IsDistinctBelow count after.claims → HasTriedUpTo count n seat → HasTriedUpTo count (n + 1) after
+one_more_claimed count n seat after e distinct p =
     let claims = ap (λ h. h.claims) e in
     record {
       tried = rw e (tried-claim n seat p.tried);
@@ -101,80 +134,57 @@ one_more_claimed pieces n seat after e distinct p =
       none_added = ap (λ h. h.adds) e ∙ p.none_added;
     }
 
--- a worker of the first pass begins with empty lists and the table of no items
-pub first_begins : (reads : ℕ → Type 0) (pieces : List (List Entry)) (settings : Settings) (sums : Sums) (grid : TableView)
-    → grid ≡ table_of settings.family settings.width [] → IsFirstPassUpTo reads pieces settings 0 (fresh sums) [] grid
-first_begins reads pieces settings sums grid e = record {
-  so_far = nothing_tried pieces sums;
-  read = λ i some. absurd (omega arith);
-  summaries = refl;
-  table = e;
+-- the first pass begins with no summary and the table of no items
+pub first_begins : (reads : ℕ → Type 0) (pieces : List (List Entry)) (settings : Settings) (grid : TableView)
+    → grid ≡ table_of settings.family settings.width [] → IsFirstMade reads pieces settings [] [] grid
+first_begins reads pieces settings grid e =
+    record { read = λ i some. absurd (omega arith); summaries = refl; table = e }
+
+-- it has summarised one piece more and added its items to the table
+pub first_more : (reads : ℕ → Type 0) (pieces : List (List Entry)) (settings : Settings) (numbers : List ℕ) (n : ℕ)
+    (kept more : List (ℕ × SummaryView)) (was grid : TableView) → reads n
+    → more ≡ kept ++ (n, sketch_of settings.k (piece_of pieces n)) ∷ []
+    → grid ≡ table_of settings.family settings.width (items_at pieces numbers ++ piece_of pieces n)
+    → IsFirstMade reads pieces settings numbers kept was
+    → IsFirstMade reads pieces settings (numbers ++ n ∷ []) more grid
+first_more reads pieces settings numbers n kept more was grid could f g p = record {
+  read = λ i some. dite (ℕ_discrete i n)
+      (λ is. subst reads (sym is) could)
+      (λ ne. p.read i (omega
+      (arith, some, times-append i numbers (n ∷ []), times-elsewhere i n [] (λ q. ne (sym q)))));
+  summaries = f ∙ (ap (λ k. k ++ (n, sketch_of settings.k (piece_of pieces n)) ∷ []) p.summaries
+      ∙ sym (map-append _ numbers (n ∷ [])));
+  table = g ∙ ap (table_of settings.family settings.width) (sym (items_at-push pieces numbers n));
 }
-
--- it has met one piece more
-pub first_met : (reads : ℕ → Type 0) (pieces : List (List Entry)) (settings : Settings) (n : ℕ) (seat after : Holding)
-    (kept : List (ℕ × SummaryView)) (grid : TableView) → after ≡ record seat { met = seat.met ++ n ∷ [] }
-    → IsFirstPassUpTo reads pieces settings n seat kept grid
-    → IsFirstPassUpTo reads pieces settings (n + 1) after kept grid
-first_met reads pieces settings n seat after kept grid e p = rw e (record {
-  so_far = one_more_met pieces n seat p.so_far;
-  read = p.read;
-  summaries = p.summaries;
-  table = p.table;
-})
-
--- it has claimed one piece more, summarised it and added its items to the table
-pub first_claimed : (reads : ℕ → Type 0) (pieces : List (List Entry)) (settings : Settings) (n : ℕ) (seat after : Holding)
-    (kept more : List (ℕ × SummaryView)) (grid : TableView)
-    → after ≡ record seat { claims = seat.claims ++ n ∷ [] } → IsDistinctBelow (length pieces) after.claims
-    → reads n → more ≡ kept ++ (n, sketch_of settings.k (piece_of pieces n)) ∷ []
-    → grid ≡ table_of settings.family settings.width (items_at pieces seat.claims ++ piece_of pieces n)
-    → (was : TableView) → IsFirstPassUpTo reads pieces settings n seat kept was
-    → IsFirstPassUpTo reads pieces settings (n + 1) after more grid
-first_claimed reads pieces settings n seat after kept more grid e distinct could f g was p =
-    let claims = ap (λ h. h.claims) e in
-    record {
-      so_far = one_more_claimed pieces n seat after e distinct p.so_far;
-      read = λ i some. dite (ℕ_discrete i n)
-          (λ is. subst reads (sym is) could)
-          (λ ne. p.read i (omega
-          (arith, some, ap (times i) claims, times-append i seat.claims (n ∷ []), times-elsewhere i n [] (λ q. ne (sym q)))));
-      summaries = f ∙ (ap (λ k. k ++ (n, sketch_of settings.k (piece_of pieces n)) ∷ []) p.summaries
-          ∙ (sym (map-append _ seat.claims (n ∷ [])) ∙ ap (summaries_at settings.k pieces) (sym claims)));
-      table = g ∙ ap (table_of settings.family settings.width) (sym (items_at-push pieces seat.claims n)
-          ∙ ap (items_at pieces) (sym claims));
-    }
 
 -- the cells of the worker's own table are added to the shared ones
 pub first_ends : CellsAreCellSums → (reads : ℕ → Type 0)
     → (pieces : List (List Entry)) (settings : Settings) (seat after : Holding) (kept : List (ℕ × SummaryView)) (grid : TableView)
     → after ≡ record seat { adds = after.adds }
     → ((cell : ℕ) → cell_total cell after.adds ≡ cell_total cell seat.adds + get_or grid.cells cell 0)
-    → IsFirstPassUpTo reads pieces settings (length pieces) seat kept grid → IsFirstPass pieces settings after kept
-first_ends law reads pieces settings seat after kept grid e adds p =
+    → HasTriedUpTo (length pieces) (length pieces) seat
+    → IsFirstMade reads pieces settings seat.claims kept grid → AreFirstPasses pieces settings after kept
+first_ends law reads pieces settings seat after kept grid e adds tried p =
     let claims = ap (λ h. h.claims) e in
     record {
-      rising = subst IsStrictlyIncreasing (sym claims) p.so_far.rising;
-      work = record {
-        tried = subst (HasTried (length pieces)) (sym e) p.so_far.tried;
-        adds = λ r c row cell.
-            let cells = ap (λ g. cell_at settings.width g.cells r c) p.table
-            ∙ (law settings.family settings.width (items_at pieces seat.claims)).0 r c row cell in
-            let items = ap (λ is. cell_sum settings.family settings.width r c (items_at pieces is)) claims in
-            omega (arith, adds (r * settings.width + c), ap (cell_total (r * settings.width + c)) p.so_far.none_added);
-        summaries = p.summaries ∙ ap (summaries_at settings.k pieces) (sym claims);
-      };
+      tried = subst (HasTried (length pieces)) (sym e) tried.tried;
+      adds = λ r c row cell.
+          let cells = ap (λ g. cell_at settings.width g.cells r c) p.table
+          ∙ (law settings.family settings.width (items_at pieces seat.claims)).0 r c row cell in
+          let items = ap (λ is. cell_sum settings.family settings.width r c (items_at pieces is)) claims in
+          omega (arith, adds (r * settings.width + c), ap (cell_total (r * settings.width + c)) tried.none_added);
+      summaries = p.summaries ∙ ap (summaries_at settings.k pieces) (sym claims);
     }
 
 -- and the total of what the worker has taken is its table's
 pub first_taken : (reads : ℕ → Type 0) (pieces : List (List Entry)) (settings : Settings) (seat after : Holding)
     (kept : List (ℕ × SummaryView)) (grid : TableView) (weight : ℕ) → after ≡ record seat { adds = after.adds }
-    → IsFirstPassUpTo reads pieces settings (length pieces) seat kept grid → weight ≡ grid.total → weight ≤ max_total
-    → HaveTaken reads pieces after.claims weight
-first_taken reads pieces settings seat after kept grid weight e p is low =
+    → IsDistinctBelow (length pieces) seat.claims → IsFirstMade reads pieces settings seat.claims kept grid
+    → weight ≡ grid.total → weight ≤ max_total → HaveTaken reads pieces after.claims weight
+first_taken reads pieces settings seat after kept grid weight e distinct p is low =
     let claims = ap (λ h. h.claims) e in
     subst (λ claims. HaveTaken reads pieces claims weight) (sym claims) (record {
-      distinct = p.so_far.distinct;
+      distinct = distinct;
       read = p.read;
       total = is ∙ ap (λ (g : TableView). g.total) p.table;
       bounded = low;
@@ -247,16 +257,15 @@ next_refused refuses pieces n before taken low fits most refused = elim refused 
   | inr high ↦ inr (omega (arith, high, fits, most))
 ]
 
--- the pieces claimed so far and the next one weigh at most what all do
-pub claimed_total : (pieces : List (List Entry)) (n : ℕ) (seat after : Holding)
-    → after ≡ record seat { claims = seat.claims ++ n ∷ [] } → IsDistinctBelow (length pieces) after.claims
-    → total_of (items_at pieces seat.claims) + total_of (piece_of pieces n) ≤ total_of (whole_of pieces)
-claimed_total pieces n seat after e distinct =
+-- different pieces and one more weigh at most what all do
+pub more_total : (pieces : List (List Entry)) (numbers : List ℕ) (n : ℕ)
+    → IsDistinctBelow (length pieces) (numbers ++ n ∷ [])
+    → total_of (items_at pieces numbers) + total_of (piece_of pieces n) ≤ total_of (whole_of pieces)
+more_total pieces numbers n distinct =
     let weight : Entry → ℕ = λ e. e.1 in
-    let all = sum_by-items weight pieces after.claims distinct in
-    let claims = ap (λ h. total_of (items_at pieces h.claims)) e ∙ ap total_of (items_at-push pieces seat.claims n) in
-    let sum = sum_by-append weight (items_at pieces seat.claims) (piece_of pieces n) in
-    omega (arith, all, claims, sum)
+    let all = sum_by-items weight pieces (numbers ++ n ∷ []) distinct in
+    let sum = sum_by-append weight (items_at pieces numbers) (piece_of pieces n) in
+    omega (arith, all, ap total_of (items_at-push pieces numbers n), sum)
 
 -- no items have no weights
 pub no_weights : (keys : List Bytes) → replicate (length keys) 0 ≡ weights_at keys []
@@ -272,38 +281,18 @@ none_counted keys counts e = record {
   whole = λ some. omega (arith, ap (λ (c : Count). c.total) e);
 }
 
--- the same of the second pass
-pub second_begins : (pieces : List (List Entry)) (keys : List Bytes) (sums : Sums) (counts : Count)
-    → counts ≡ count_of keys [] → IsSecondPassUpTo pieces keys 0 (fresh sums) counts
-second_begins pieces keys sums counts e =
-    record { so_far = nothing_tried pieces sums; counted = none_counted keys counts e }
-
--- one piece more was met
-pub second_met : (pieces : List (List Entry)) (keys : List Bytes) (n : ℕ) (seat after : Holding) (counts : Count)
-    → after ≡ record seat { met = seat.met ++ n ∷ [] } → IsSecondPassUpTo pieces keys n seat counts
-    → IsSecondPassUpTo pieces keys (n + 1) after counts
-second_met pieces keys n seat after counts e p =
-    rw e (record { so_far = one_more_met pieces n seat p.so_far; counted = p.counted })
-
 -- counting goes on where it stopped
 pub counted-weights_at : (keys : List Bytes) (xs ys : List Entry)
     → counts_with keys ys (weights_at keys xs) ≡ weights_at keys (xs ++ ys)
 counted-weights_at [] xs ys = refl
 counted-weights_at (k ∷ ks) xs ys = (λ i. sym (sum_by-append (at_key k) xs ys) i ∷ counted-weights_at ks xs ys i)
 
--- one piece more was claimed and counted
-pub second_claimed : (pieces : List (List Entry)) (keys : List Bytes) (n : ℕ) (seat after : Holding)
-    (counts more : Count)
-    → after ≡ record seat { claims = seat.claims ++ n ∷ [] } → IsDistinctBelow (length pieces) after.claims
-    → AreCounted keys (items_at pieces seat.claims ++ piece_of pieces n) more
-    → IsSecondPassUpTo pieces keys n seat counts → IsSecondPassUpTo pieces keys (n + 1) after more
-second_claimed pieces keys n seat after counts more e distinct counted p =
-    let claims = ap (λ h. h.claims) e in
-    record {
-      so_far = one_more_claimed pieces n seat after e distinct p.so_far;
-      counted = subst (λ xs. AreCounted keys xs more)
-          (sym (items_at-push pieces seat.claims n) ∙ ap (items_at pieces) (sym claims)) counted;
-    }
+-- one piece more is counted
+pub second_more : (pieces : List (List Entry)) (keys : List Bytes) (numbers : List ℕ) (n : ℕ) (more : Count)
+    → AreCounted keys (items_at pieces numbers ++ piece_of pieces n) more
+    → AreCounted keys (items_at pieces (numbers ++ n ∷ [])) more
+second_more pieces keys numbers n more =
+    subst (λ xs. AreCounted keys xs more) (sym (items_at-push pieces numbers n))
 
 -- the number at a key's place is the key's weight
 pub weight_behind_number : (keys : List Bytes) (xs : List Entry) (i : ℕ) (key : Bytes) → slice_get keys i ≡ Some key
@@ -316,19 +305,17 @@ weight_behind_number keys xs i key at =
 pub second_ends : (pieces : List (List Entry)) (keys : List Bytes) (seat after : Holding) (counts : Count)
     → after ≡ record seat { adds = after.adds }
     → ((cell : ℕ) → cell_total cell after.adds ≡ cell_total cell seat.adds + get_or counts.weights cell 0)
-    → IsSecondPassUpTo pieces keys (length pieces) seat counts → IsSecondPass pieces keys after
-second_ends pieces keys seat after counts e adds p =
+    → HasTriedUpTo (length pieces) (length pieces) seat
+    → AreCounted keys (items_at pieces seat.claims) counts → AreSecondPasses pieces keys after
+second_ends pieces keys seat after counts e adds tried p =
     let claims = ap (λ h. h.claims) e in
     record {
-      rising = subst IsStrictlyIncreasing (sym claims) p.so_far.rising;
-      work = record {
-        tried = subst (HasTried (length pieces)) (sym e) p.so_far.tried;
-        adds = λ i key at.
-            let weight = weight_behind_number keys (items_at pieces seat.claims) i key at in
-            let numbers = ap (λ ns. get_or ns i 0) p.counted.weights in
-            let items = ap (λ is. weight_of key (items_at pieces is)) claims in
-            omega (arith, adds i, ap (cell_total i) p.so_far.none_added, numbers, weight, items);
-      };
+      tried = subst (HasTried (length pieces)) (sym e) tried.tried;
+      adds = λ i key at.
+          let weight = weight_behind_number keys (items_at pieces seat.claims) i key at in
+          let numbers = ap (λ ns. get_or ns i 0) p.weights in
+          let items = ap (λ is. weight_of key (items_at pieces is)) claims in
+          omega (arith, adds i, ap (cell_total i) tried.none_added, numbers, weight, items);
     }
 
 -- what two workers brought back, joined
@@ -344,15 +331,16 @@ second_joined pieces keys one other p q = record {
 }
 
 -- and the total of what a worker of the second pass has counted
-pub second_counted : (pieces : List (List Entry)) (keys : List Bytes) (n : ℕ) (seat after : Holding) (counts : Count)
-    (weight : ℕ) → after ≡ record seat { adds = after.adds } → IsSecondPassUpTo pieces keys n seat counts
+pub second_counted : (pieces : List (List Entry)) (keys : List Bytes) (seat after : Holding) (counts : Count)
+    (weight : ℕ) → after ≡ record seat { adds = after.adds } → IsDistinctBelow (length pieces) seat.claims
+    → AreCounted keys (items_at pieces seat.claims) counts
     → weight ≡ counts.total → HaveCounted pieces keys after.claims weight
-second_counted pieces keys n seat after counts weight e p is =
+second_counted pieces keys seat after counts weight e distinct p is =
     let claims = ap (λ h. h.claims) e in
     subst (λ claims. HaveCounted pieces keys claims weight) (sym claims) (record {
-      distinct = p.so_far.distinct;
-      most = omega (arith, is, p.counted.total);
-      whole = λ some. is ∙ p.counted.whole some;
+      distinct = distinct;
+      most = omega (arith, is, p.total);
+      whole = λ some. is ∙ p.whole some;
     })
 
 -- what two workers have counted, together

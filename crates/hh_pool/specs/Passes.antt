@@ -1,5 +1,5 @@
 -- What the workers of a pass bring back.
-use Rattle.std.specs.Prelude.{◌≡◌, ◌⊎◌, ℕ, ◌+◌, ◌*◌, ◌^◌, ◌<◌, ◌≤◌, All, List, [], fold, length, map, slice_get, slice_index_or, Some, Result, IfOk, IsErrOf}
+use Rattle.std.specs.Prelude.{◌≡◌, ◌⊎◌, ℕ, ◌+◌, ◌*◌, ◌^◌, ◌<◌, ◌≤◌, All, List, [], fold, length, map, slice_get, slice_index, slice_index_or, Some, Result, IfOk, IsErrOf}
 use Rattle.std.specs.Borrow.{RattleType}
 use Rattle.std.specs.List.{flat_map}
 use Rattle.std.specs.List.Sorted.{IsStrictlyIncreasing}
@@ -8,7 +8,7 @@ use Rattle.hh_stream.specs.Weights.{Bytes, Entry, max_total, total_of, weight_of
 use Rattle.hh_stream.specs.Cuttings.{whole_of}
 use Rattle.hh_counters.specs.Counters.{SummaryView, sketch_of}
 use Rattle.hh_countmin.specs.Table.{cell_sum}
-use Rattle.hh_shared.specs.Tally.{HasAllBelow, IsDistinctBelow, times, cell_total}
+use Rattle.hh_shared.specs.Tally.{HasAllBelow, IsDistinctBelow, times, cell_total, sum_at}
 use Rattle.hh_shared.specs.Seats.{Holding, Sums, fresh}
 use Rattle.hh_pool.specs.Settings.{Settings}
 use Rattle.hh_pool.specs.declared.pieces.PieceFault.{PieceFault}
@@ -86,6 +86,26 @@ pub record HaveCounted (pieces : List (List Entry)) (keys : List Bytes) (claims 
   pub distinct : IsDistinctBelow (length pieces) claims
   pub most : weight ≤ total_of (items_at pieces claims)
   pub whole : 0 < length keys → weight ≡ total_of (items_at pieces claims)
+
+-- sums with a claim for each of so many pieces, and so many cells
+pub record AreSumsFor (pieces width : ℕ) (sums : Sums) : Type 0 where
+  pub claims : sums.claims ≡ pieces
+  pub cells : sums.cells ≡ width
+
+-- each number below n stands in the list once
+pub record HasEach (n : ℕ) (numbers : List ℕ) : Type 0 where
+  pub distinct : IsDistinctBelow n numbers
+  pub all : HasAllBelow n numbers
+
+-- What workers bring back who claimed each piece: what the pass says of a seat, and each cell's sum of what was added
+-- through it
+pub record AreDone {K : Type 0} (all_done : Holding → K → Type 0) (pieces cells : ℕ) (values : List ℕ) (kept : K)
+    : Type 0 where
+  pub seat : Holding
+  pub each : HasEach pieces seat.claims
+  pub done : all_done seat kept
+  pub len : length values ≡ cells
+  pub sums : (cell : ℕ) → cell < cells → slice_index values cell ≡ sum_at seat.adds cell
 
 -- What is asked where a thread of so many workers, numbered from `first` on, is started: the runtime and the pass may be
 -- shared with it, what the workers keep may be sent, and the pass fits the sums, of which they have a fresh seat

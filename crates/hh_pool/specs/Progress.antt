@@ -1,8 +1,7 @@
 -- How far a pass has come.
-use Rattle.std.specs.Prelude.{◌≡◌, ℕ, ◌<◌, ◌≤◌, All, List, [], ◌++◌, length, map, take}
+use Rattle.std.specs.Prelude.{◌≡◌, ℕ, ◌<◌, ◌≤◌, All, List, [], ◌++◌, length}
 use Rattle.std.specs.List.Sorted.{IsStrictlyIncreasing}
 use Rattle.hh_stream.specs.Weights.{Bytes, Entry, total_of}
-use Rattle.hh_stream.specs.Cuttings.{whole_of}
 use Rattle.hh_counters.specs.Counters.{SummaryView, sketch_of}
 use Rattle.hh_counters.specs.Counting.{Count}
 use Rattle.hh_counters.specs.Report.{weights_at}
@@ -22,21 +21,20 @@ sketches_with sketches item = record {
   table = grid_with sketches.table item;
 }
 
--- a worker has tried the first n pieces from the lowest on, each once
-pub record HasTriedUpTo (pieces : List (List Entry)) (n : ℕ) (seat : Holding) : Type 0 where
+-- a worker has tried the first n of so many pieces from the lowest on, each once, and has added nothing
+pub record HasTriedUpTo (pieces n : ℕ) (seat : Holding) : Type 0 where
   pub tried : HasTried n seat
-  pub distinct : IsDistinctBelow (length pieces) seat.claims
+  pub distinct : IsDistinctBelow pieces seat.claims
   pub rising : IsStrictlyIncreasing seat.claims
   pub low : All (λ i. i < n) seat.claims
   pub none_added : seat.adds ≡ []
 
--- a worker of the first pass has tried n pieces, and hasn't yet added what its table holds
-pub record IsFirstPassUpTo (reads : ℕ → Type 0) (pieces : List (List Entry)) (settings : Settings) (n : ℕ)
-    (seat : Holding) (kept : List (ℕ × SummaryView)) (grid : TableView) : Type 0 where
-  pub so_far : HasTriedUpTo pieces n seat
-  pub read : (i : ℕ) → 0 < times i seat.claims → reads i
-  pub summaries : kept ≡ summaries_at settings.k pieces seat.claims
-  pub table : grid ≡ table_of settings.family settings.width (items_at pieces seat.claims)
+-- what the first pass makes of the pieces with these numbers, one after the other
+pub record IsFirstMade (reads : ℕ → Type 0) (pieces : List (List Entry)) (settings : Settings) (numbers : List ℕ)
+    (kept : List (ℕ × SummaryView)) (grid : TableView) : Type 0 where
+  pub read : (i : ℕ) → 0 < times i numbers → reads i
+  pub summaries : kept ≡ summaries_at settings.k pieces numbers
+  pub table : grid ≡ table_of settings.family settings.width (items_at pieces numbers)
 
 -- these keys are counted in the items, whose total may not be counted to the end where there are no keys
 pub record AreCounted (ks : List Bytes) (xs : List Entry) (counts : Count) : Type 0 where
@@ -44,23 +42,6 @@ pub record AreCounted (ks : List Bytes) (xs : List Entry) (counts : Count) : Typ
   pub keys : counts.keys ≡ ks
   pub total : counts.total ≤ total_of xs
   pub whole : 0 < length ks → counts.total ≡ total_of xs
-
--- a worker of the second pass has tried n pieces, and hasn't yet added its numbers
-pub record IsSecondPassUpTo (pieces : List (List Entry)) (keys : List Bytes) (n : ℕ) (seat : Holding)
-    (counts : Count) : Type 0 where
-  pub so_far : HasTriedUpTo pieces n seat
-  pub counted : AreCounted keys (items_at pieces seat.claims) counts
-
--- what the calling thread has made of the first n pieces
-pub record IsFirstAloneUpTo (reads : ℕ → Type 0) (pieces : List (List Entry)) (settings : Settings) (n : ℕ)
-    (sketches : List SummaryView) (grid : TableView) : Type 0 where
-  pub read : (i : ℕ) → i < n → reads i
-  pub summaries : sketches ≡ map (sketch_of settings.k) (take n pieces)
-  pub table : grid ≡ table_of settings.family settings.width (whole_of (take n pieces))
-
--- the calling thread has counted in the first n pieces
-abbrev pub IsSecondAloneUpTo : List (List Entry) → List Bytes → ℕ → Count → Type 0
-IsSecondAloneUpTo pieces keys n counts = AreCounted keys (whole_of (take n pieces)) counts
 
 -- one piece has been summarised, and its items added to a table; something is given of them
 pub record IsSummarised (gives : List Entry → Type 0) (k : ℕ) (s : SummaryView) (before after : TableView)
@@ -77,8 +58,8 @@ pub record IsCountedOn (gives : List Entry → Type 0) (keys : List Bytes) (befo
   pub given : gives xs
   pub on : (ys : List Entry) → AreCounted keys ys before → AreCounted keys (ys ++ xs) after
 
--- Whatever the items of the pieces are, a worker of the first pass has a summary for each piece that it claimed, and its
--- table is that of some items, of none where it claimed nothing
+-- Whatever the items of the pieces are, the first pass has a summary for each of these, and its
+-- table is that of some items, of none where there are no pieces
 pub record HoldsItems (settings : Settings) (claims : List ℕ) (kept : List (ℕ × SummaryView)) (grid : TableView)
     : Type 0 where
   pub xs : List Entry
@@ -86,7 +67,7 @@ pub record HoldsItems (settings : Settings) (claims : List ℕ) (kept : List (�
   pub none : claims ≡ [] → xs ≡ []
   pub one_each : length kept ≡ length claims
 
--- whatever the items are, a worker of the second pass has counted in some, in none where it claimed nothing
+-- whatever the items are, the second pass has counted in some, in none where there are no pieces
 pub record HasCounted (keys : List Bytes) (claims : List ℕ) (counts : Count) : Type 0 where
   pub xs : List Entry
   pub counted : AreCounted keys xs counts

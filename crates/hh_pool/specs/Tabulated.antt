@@ -1,7 +1,6 @@
 -- What workers have added to tables, and the calling thread.
-use Rattle.std.specs.Prelude.{◌≡◌, ℕ, ◌<◌, ◌++◌, List, take}
+use Rattle.std.specs.Prelude.{◌≡◌, ℕ, ◌++◌, List}
 use Rattle.hh_stream.specs.Weights.{Entry}
-use Rattle.hh_stream.specs.Cuttings.{whole_of}
 use Rattle.hh_countmin.specs.Family.{Coefficients}
 use Rattle.hh_countmin.specs.Table.{TableView, table_of}
 use Rattle.hh_pool.specs.Passes.{HaveTaken, items_at}
@@ -22,9 +21,3 @@ pub record HasTabulated (reads : ℕ → Type 0) (pieces : List (List Entry)) (f
     (claims : List ℕ) (grid : TableView) : Type 0 where
   pub taken : HaveTaken reads pieces claims grid.total
   pub table : grid ≡ table_of family width (items_at pieces claims)
-
--- the calling thread has added the items of the first n pieces to a table
-pub record IsTabulatedUpTo (reads : ℕ → Type 0) (pieces : List (List Entry)) (family : Coefficients) (width n : ℕ)
-    (grid : TableView) : Type 0 where
-  pub read : (i : ℕ) → i < n → reads i
-  pub table : grid ≡ table_of family width (whole_of (take n pieces))

@@ -23,12 +23,11 @@ use crate::pass::Work;
 use crate::pieces::{CutStream, PieceFault, Pieces};
 use crate::plan::Plan;
 use crate::second::SecondPass;
-use crate::workers::run_apart;
+use crate::workers::share_work;
 use hh_counters::laws::{contenders_suffice, misra_gries_is_honest, pruned_suffice};
 use hh_counters::{Candidates, Heavy, MergeFault, Summary};
 use hh_countmin::Table;
 use hh_countmin::laws::{cells_are_cell_sums, estimate_is_never_below, tables_fit};
-use hh_shared::SharedSums;
 use hh_stream::laws::pieces_make_the_whole;
 use hh_stream::{Cutting, Stream};
 use std::alloc::{AllocError, Global};
@@ -59,14 +58,13 @@ fn summarise<R: Threads + Wait + Sync, P: Pieces + Sync, G: Gate + Sync>(
     cells_are_cell_sums();
     let pass = FirstPass { work, options };
     let cells = (options.family().depth() * options.width()) as usize;
-    let (sums, seat) = SharedSums::new(work.alloc, work.pieces.count(), cells)?;
-    let (seat, found) = run_apart(rt, &sums, seat, &pass, options.workers())?;
-    if !sums.holds_all(&seat) {
-        return pass.alone();
+    match share_work(rt, work.alloc, &pass, cells, options.workers())? {
+        Some((cells, found)) => {
+            let summaries = pass.in_order(found.summaries)?;
+            Ok((summaries, table_of_cells(options, found.total, cells)?))
+        }
+        None => pass.alone(),
     }
-    let summaries = pass.in_order(found.summaries)?;
-    let cells = sums.close(seat)?;
-    Ok((summaries, table_of_cells(options, found.total, cells)?))
 }
 
 /// The table with these cells and this total. It is refused where they make none, as where a piece
@@ -113,12 +111,10 @@ pub(crate) fn weigh<R: Threads + Wait + Sync, P: Pieces + Sync, G: Gate + Sync>(
         → MayRefuse (P.refuses pieces) (P.pieces pieces) }
 {
     let pass = SecondPass { work, candidates };
-    let (sums, seat) = SharedSums::new(work.alloc, work.pieces.count(), candidates.len())?;
-    let (seat, counted) = run_apart(rt, &sums, seat, &pass, workers)?;
-    if !sums.holds_all(&seat) {
-        return pass.alone(workers);
+    match share_work(rt, work.alloc, &pass, candidates.len(), workers)? {
+        Some(weighed) => Ok(weighed),
+        None => pass.alone(workers),
     }
-    Ok((sums.close(seat)?, counted))
 }
 
 /// The estimate of each candidate.

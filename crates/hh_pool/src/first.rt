@@ -9,12 +9,11 @@ ghost use Rattle.hh_countmin.specs.Family.{Coefficients};
 ghost use Rattle.hh_countmin.specs.Table.{table_of};
 ghost use Rattle.hh_shared.specs.Seats.{fresh};
 ghost use Rattle.hh_pool.specs.Passes.{piece_of, AreRead, AreSummaries, IsFirstPass, MayRefuse};
-ghost use Rattle.hh_pool.specs.Progress.{HoldsItems, IsFirstAloneUpTo, IsFirstPassUpTo};
 ghost use Rattle.hh_pool.specs.Progress.{IsSummarised, sketches_with};
 
 use crate::gate::Gate;
 use crate::options::Options;
-use crate::pass::{Pass, Work, add_numbers};
+use crate::pass::{Pass, Work, add_numbers, run_alone, run_worker};
 use crate::pieces::{CutStream, PieceFault, Pieces, only_memory};
 use hh_counters::laws::summaries_follow_items;
 use hh_counters::{BucketSaving, Monitor, Summary};
@@ -67,7 +66,7 @@ pub fn first_pass<G: Gate>(
         work: &work,
         options,
     };
-    let (seat, summarised) = only_memory(pass.run(sums, seat, worker))?;
+    let (seat, summarised) = only_memory(run_worker(&pass, sums, seat, worker))?;
     Ok((seat, summarised.summaries))
 }
 
@@ -106,7 +105,7 @@ impl TakeItems for Sketches {
 
 /// The summaries and the table that a worker has made so far.
 #[derive(Drop)]
-struct Made {
+pub(crate) struct Made {
     summaries: Vec<(usize, Summary)>,
     table: Table,
 }
@@ -159,49 +158,6 @@ impl<'a, P: Pieces, G: Gate> FirstPass<'a, P, G> {
         }
     }
 
-    // Claims a piece, and works on it where no other worker has claimed it.
-    fn try_piece(
-        &self,
-        sums: &SharedSums,
-        seat: &mut SumSeat,
-        made: Made,
-        worker: u64,
-        piece: usize,
-    ) -> Result<Made, PieceFault>
-        requires seat { seat.old.sums ≡ sums.now }
-        requires piece { piece < sums.now.claims }
-        requires claims { sums.now.claims ≡ length (P.pieces self.now.work.now.pieces.now) }
-        requires before { let pieces = self.now.work.now.pieces.now in P.known pieces
-            → IsFirstPassUpTo (P.reads pieces) (P.pieces pieces) self.now.options.now
-            piece seat.old made.summaries.items made.table }
-        requires held { HoldsItems self.now.options.now seat.old.claims
-            made.summaries.items made.table }
-        ensures sums { seat.new.sums ≡ seat.old.sums }
-        ensures after { let pieces = self.now.work.now.pieces.now in IfOk result (λ made.
-            P.known pieces
-            → IsFirstPassUpTo (P.reads pieces) (P.pieces pieces) self.now.options.now
-            (piece + 1) seat.new made.summaries.items made.table) }
-        ensures held { IfOk result (λ made. HoldsItems self.now.options.now seat.new.claims
-            made.summaries.items made.table) }
-        ensures refused { let pieces = self.now.work.now.pieces.now in
-            IsErrOf result PieceFault.Refused → P.known pieces
-            → MayRefuse (P.refuses pieces) (P.pieces pieces) }
-    {
-        if !sums.claim(seat, piece) {
-            return Ok(made);
-        }
-        self.work.gate.before(1, worker, piece as u64);
-        let Made {
-            mut summaries,
-            table,
-        } = made;
-        let (summary, table) = self.summarise(table, piece)?;
-        let Ok(()) = summaries.push((piece, summary)) else {
-            return Err(PieceFault::Memory);
-        };
-        Ok(Made { summaries, table })
-    }
-
     /// The summaries that all workers kept, in the order of the pieces.
     pub(crate) fn in_order(
         &self,
@@ -222,7 +178,7 @@ impl<'a, P: Pieces, G: Gate> FirstPass<'a, P, G> {
         Ok(summaries)
     }
 
-    /// The same by the calling thread, without sums: the summaries of the pieces, in order, and the
+    /// What the calling thread makes without sums: the summaries of the pieces, in order, and the
     /// table of all items.
     pub(crate) fn alone(&self) -> Result<(Vec<Summary>, Table), PieceFault>
         ensures count { let pieces = self.now.work.now.pieces.now in
@@ -239,56 +195,28 @@ impl<'a, P: Pieces, G: Gate> FirstPass<'a, P, G> {
             IsErrOf result PieceFault.Refused → P.known pieces
             → MayRefuse (P.refuses pieces) (P.pieces pieces) }
     {
-        let mut summaries = Vec::new(self.work.alloc);
-        let mut table = empty_table(self.work.alloc, self.options)?;
-        for piece in 0..self.work.pieces.count() {
-            table = self.do_piece(&mut summaries, table, piece)?;
-        }
-        Ok((summaries, table))
-    }
-
-    // Does the next piece.
-    fn do_piece(
-        &self,
-        summaries: &mut Vec<Summary>,
-        table: Table,
-        piece: usize,
-    ) -> Result<Table, PieceFault>
-        requires piece { piece < length (P.pieces self.now.work.now.pieces.now) }
-        requires before { let pieces = self.now.work.now.pieces.now in P.known pieces
-            → IsFirstAloneUpTo (P.reads pieces) (P.pieces pieces) self.now.options.now
-            piece summaries.old.items table }
-        ensures count { OnOk result
-            (length summaries.new.items ≡ length summaries.old.items + 1) }
-        ensures after { let pieces = self.now.work.now.pieces.now in IfOk result (λ table.
-            P.known pieces
-            → IsFirstAloneUpTo (P.reads pieces) (P.pieces pieces) self.now.options.now
-            (piece + 1) summaries.new.items table) }
-        ensures refused { let pieces = self.now.work.now.pieces.now in
-            IsErrOf result PieceFault.Refused → P.known pieces
-            → MayRefuse (P.refuses pieces) (P.pieces pieces) }
-    {
-        self.work
-            .gate
-            .before(1, self.options.workers(), piece as u64);
-        let (summary, table) = self.summarise(table, piece)?;
-        let Ok(()) = summaries.push(summary) else {
-            return Err(PieceFault::Memory);
-        };
-        Ok(table)
+        let Made { summaries, table } = run_alone(self, self.options.workers())?;
+        Ok((self.in_order(summaries)?, table))
     }
 }
 
 impl<'a, P: Pieces, G: Gate> Pass for FirstPass<'a, P, G> {
+    type Made = Made;
+
     type Kept = Summarised;
 
-    ghost use Rattle.hh_pool.specs.Passes.{AreFirstPasses, HaveTaken, IsFirstPass, MayRefuse};
+    ghost use Rattle.std.specs.Prelude.{◌*◌, length};
+    ghost use Rattle.hh_pool.specs.Passes.{AreFirstPasses, HaveTaken, MayRefuse};
+    ghost use Rattle.hh_pool.specs.Progress.{HoldsItems, IsFirstMade};
 
-    ghost fits = { λ p sums. (sums.claims ≡ length (P.pieces p.work.now.pieces.now))
-        × (sums.cells ≡ length p.options.now.family.rows * p.options.now.width) };
+    ghost pieces = { λ p. length (P.pieces p.work.now.pieces.now) };
 
-    ghost done = { λ p seat kept. let pieces = p.work.now.pieces.now in P.known pieces
-        → IsFirstPass (P.pieces pieces) p.options.now seat kept.summaries.items };
+    ghost cells = { λ p. length p.options.now.family.rows * p.options.now.width };
+
+    ghost is_made = { λ p numbers made. let pieces = p.work.now.pieces.now in
+        HoldsItems p.options.now numbers made.summaries.items made.table × (P.known pieces
+        → IsFirstMade (P.reads pieces) (P.pieces pieces) p.options.now numbers
+        made.summaries.items made.table) };
 
     ghost all_done = { λ p seat kept. let pieces = p.work.now.pieces.now in
         (length kept.summaries.items ≡ length seat.claims) × (P.known pieces
@@ -298,24 +226,35 @@ impl<'a, P: Pieces, G: Gate> Pass for FirstPass<'a, P, G> {
     ghost may_refuse = { λ p. let pieces = p.work.now.pieces.now in P.known pieces
         → MayRefuse (P.refuses pieces) (P.pieces pieces) };
 
-    fn run(
-        &self,
-        sums: &SharedSums,
-        mut seat: SumSeat,
-        worker: u64,
-    ) -> Result<(SumSeat, Summarised), PieceFault> {
-        cells_are_cell_sums();
-        let mut made = Made {
-            summaries: Vec::new(self.work.alloc),
-            table: empty_table(self.work.alloc, self.options)?,
+    fn count(&self) -> usize {
+        self.work.pieces.count()
+    }
+
+    fn begin(&self) -> Result<Made, AllocError> {
+        let table = empty_table(self.work.alloc, self.options)?;
+        let summaries = Vec::new(self.work.alloc);
+        Ok(Made { summaries, table })
+    }
+
+    fn take(&self, made: Made, worker: u64, piece: usize) -> Result<Made, PieceFault> {
+        self.work.gate.before(1, worker, piece as u64);
+        let Made {
+            mut summaries,
+            table,
+        } = made;
+        let (summary, table) = self.summarise(table, piece)?;
+        let Ok(()) = summaries.push((piece, summary)) else {
+            return Err(PieceFault::Memory);
         };
-        for piece in 0..self.work.pieces.count() {
-            made = self.try_piece(sums, &mut seat, made, worker, piece)?;
-        }
+        Ok(Made { summaries, table })
+    }
+
+    fn hand_over(&self, sums: &SharedSums, seat: &mut SumSeat, made: Made) -> Summarised {
+        cells_are_cell_sums();
         let Made { summaries, table } = made;
-        add_numbers(sums, &mut seat, table.cells());
+        add_numbers(sums, seat, table.cells());
         let total = table.total();
-        Ok((seat, Summarised { summaries, total }))
+        Summarised { summaries, total }
     }
 
     fn together(

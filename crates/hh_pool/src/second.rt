@@ -7,12 +7,11 @@ ghost use Rattle.hh_stream.specs.Cuttings.{pieces_of, whole_of};
 ghost use Rattle.hh_counters.specs.Report.{weights_at};
 ghost use Rattle.hh_shared.specs.Seats.{fresh};
 ghost use Rattle.hh_pool.specs.Passes.{piece_of, AreSecondPasses, IsSecondPass, MayRefuse};
-ghost use Rattle.hh_pool.specs.Progress.{AreCounted, HasCounted, IsCountedOn, IsSecondAloneUpTo};
-ghost use Rattle.hh_pool.specs.Progress.{IsSecondPassUpTo};
+ghost use Rattle.hh_pool.specs.Progress.{AreCounted, IsCountedOn};
 
 use crate::first::sum_of_totals;
 use crate::gate::Gate;
-use crate::pass::{Pass, Work, add_numbers};
+use crate::pass::{Pass, Work, add_numbers, run_alone, run_worker};
 use crate::pieces::{CutStream, PieceFault, Pieces, only_memory};
 use hh_counters::{CandidateCounts, Candidates};
 use hh_shared::{SharedSums, SumSeat};
@@ -22,9 +21,9 @@ use std::alloc::{AllocError, Global};
 
 /// What each worker of the second pass works on.
 #[derive(Drop)]
-pub(crate) struct SecondPass<'a, P, G> {
+pub(crate) struct SecondPass<'a, 'c, P, G> {
     pub(crate) work: &'a Work<'a, P, G>,
-    pub(crate) candidates: &'a Candidates,
+    pub(crate) candidates: &'c Candidates,
 }
 
 /// What a worker of the second pass runs: it claims pieces from the lowest on, and of each that it
@@ -61,11 +60,11 @@ pub fn second_pass<G: Gate>(
         work: &work,
         candidates,
     };
-    let (seat, _) = only_memory(pass.run(sums, seat, worker))?;
+    let (seat, _) = only_memory(run_worker(&pass, sums, seat, worker))?;
     Ok(seat)
 }
 
-impl<'a, P: Pieces, G: Gate> SecondPass<'a, P, G> {
+impl<'a, 'c, P: Pieces, G: Gate> SecondPass<'a, 'c, P, G> {
     // Counts the candidates of a piece, which isn't read where there are none.
     fn count_piece(&self, counts: &mut CandidateCounts, piece: usize) -> Result<(), PieceFault>
         requires { piece < length (P.pieces self.now.work.now.pieces.now) }
@@ -82,40 +81,7 @@ impl<'a, P: Pieces, G: Gate> SecondPass<'a, P, G> {
         self.work.pieces.feed(self.work.alloc, piece, counts)
     }
 
-    // Claims a piece, and counts it where no other worker has claimed it.
-    fn try_piece(
-        &self,
-        sums: &SharedSums,
-        seat: &mut SumSeat,
-        counts: &mut CandidateCounts,
-        worker: u64,
-        piece: usize,
-    ) -> Result<(), PieceFault>
-        requires seat { seat.old.sums ≡ sums.now }
-        requires piece { piece < sums.now.claims }
-        requires claims { sums.now.claims ≡ length (P.pieces self.now.work.now.pieces.now) }
-        requires before { let pieces = self.now.work.now.pieces.now in P.known pieces
-            → IsSecondPassUpTo (P.pieces pieces) self.now.candidates.now
-            piece seat.old counts.old }
-        requires held { HasCounted self.now.candidates.now seat.old.claims counts.old }
-        ensures sums { seat.new.sums ≡ seat.old.sums }
-        ensures after { let pieces = self.now.work.now.pieces.now in OnOk result (P.known pieces
-            → IsSecondPassUpTo (P.pieces pieces) self.now.candidates.now
-            (piece + 1) seat.new counts.new) }
-        ensures held { OnOk result
-            (HasCounted self.now.candidates.now seat.new.claims counts.new) }
-        ensures refused { let pieces = self.now.work.now.pieces.now in
-            IsErrOf result PieceFault.Refused → P.known pieces
-            → MayRefuse (P.refuses pieces) (P.pieces pieces) }
-    {
-        if sums.claim(seat, piece) {
-            self.work.gate.before(2, worker, piece as u64);
-            self.count_piece(counts, piece)?;
-        }
-        Ok(())
-    }
-
-    /// The same by the calling thread, without sums: the candidates' weights in all pieces, and the
+    /// What the calling thread counts without sums: the candidates' weights in all pieces, and the
     /// total of all items where there are candidates. `workers` is what the gate hears.
     pub(crate) fn alone(&self, workers: u64) -> Result<(Vec<u64>, u64), PieceFault>
         ensures count { IfOk result (λ r.
@@ -131,51 +97,29 @@ impl<'a, P: Pieces, G: Gate> SecondPass<'a, P, G> {
             IsErrOf result PieceFault.Refused → P.known pieces
             → MayRefuse (P.refuses pieces) (P.pieces pieces) }
     {
-        let mut counts = CandidateCounts::new(self.work.alloc, self.candidates)?;
-        for piece in 0..self.work.pieces.count() {
-            self.do_piece(&mut counts, workers, piece)?;
-        }
+        let counts = run_alone(self, workers)?;
         let total = counts.total();
         Ok((counts.into_weights(), total))
     }
-
-    // Counts the next piece.
-    fn do_piece(
-        &self,
-        counts: &mut CandidateCounts,
-        workers: u64,
-        piece: usize,
-    ) -> Result<(), PieceFault>
-        requires piece { piece < length (P.pieces self.now.work.now.pieces.now) }
-        requires before { let pieces = self.now.work.now.pieces.now in P.known pieces
-            → IsSecondAloneUpTo (P.pieces pieces) self.now.candidates.now piece counts.old }
-        requires counted { (xs : List Entry) × AreCounted self.now.candidates.now xs counts.old }
-        ensures counted { OnOk result
-            ((xs : List Entry) × AreCounted self.now.candidates.now xs counts.new) }
-        ensures after { let pieces = self.now.work.now.pieces.now in OnOk result (P.known pieces
-            → IsSecondAloneUpTo (P.pieces pieces) self.now.candidates.now
-            (piece + 1) counts.new) }
-        ensures refused { let pieces = self.now.work.now.pieces.now in
-            IsErrOf result PieceFault.Refused → P.known pieces
-            → MayRefuse (P.refuses pieces) (P.pieces pieces) }
-    {
-        self.work.gate.before(2, workers, piece as u64);
-        self.count_piece(counts, piece)
-    }
 }
 
-impl<'a, P: Pieces, G: Gate> Pass for SecondPass<'a, P, G> {
+impl<'a, 'c, P: Pieces, G: Gate> Pass for SecondPass<'a, 'c, P, G> {
+    type Made = CandidateCounts<'c>;
+
     type Kept = u64;
 
-    ghost use Rattle.hh_shared.specs.Tally.{IsDistinctBelow};
+    ghost use Rattle.std.specs.Prelude.{length};
     ghost use Rattle.hh_stream.specs.Weights.{max_total};
-    ghost use Rattle.hh_pool.specs.Passes.{AreSecondPasses, HaveCounted, IsSecondPass, MayRefuse};
+    ghost use Rattle.hh_pool.specs.Passes.{AreSecondPasses, HaveCounted, MayRefuse, items_at};
+    ghost use Rattle.hh_pool.specs.Progress.{AreCounted, HasCounted};
 
-    ghost fits = { λ p sums. (sums.claims ≡ length (P.pieces p.work.now.pieces.now))
-        × (sums.cells ≡ length p.candidates.now) };
+    ghost pieces = { λ p. length (P.pieces p.work.now.pieces.now) };
 
-    ghost done = { λ p seat _. let pieces = p.work.now.pieces.now in P.known pieces
-        → IsSecondPass (P.pieces pieces) p.candidates.now seat };
+    ghost cells = { λ p. length p.candidates.now };
+
+    ghost is_made = { λ p numbers counts. let pieces = p.work.now.pieces.now in
+        HasCounted p.candidates.now numbers counts × (P.known pieces
+        → AreCounted p.candidates.now (items_at (P.pieces pieces) numbers) counts) };
 
     ghost all_done = { λ p seat total. let pieces = p.work.now.pieces.now in
         (total ≤ max_total) × (P.known pieces
@@ -185,19 +129,29 @@ impl<'a, P: Pieces, G: Gate> Pass for SecondPass<'a, P, G> {
     ghost may_refuse = { λ p. let pieces = p.work.now.pieces.now in P.known pieces
         → MayRefuse (P.refuses pieces) (P.pieces pieces) };
 
-    fn run(
+    fn count(&self) -> usize {
+        self.work.pieces.count()
+    }
+
+    fn begin(&self) -> Result<CandidateCounts<'c>, AllocError> {
+        CandidateCounts::new(self.work.alloc, self.candidates)
+    }
+
+    fn take(
         &self,
-        sums: &SharedSums,
-        mut seat: SumSeat,
+        mut made: CandidateCounts<'c>,
         worker: u64,
-    ) -> Result<(SumSeat, u64), PieceFault> {
-        let mut counts = CandidateCounts::new(self.work.alloc, self.candidates)?;
-        for piece in 0..self.work.pieces.count() {
-            self.try_piece(sums, &mut seat, &mut counts, worker, piece)?;
-        }
-        let total = counts.total();
-        add_numbers(sums, &mut seat, &counts.into_weights());
-        Ok((seat, total))
+        piece: usize,
+    ) -> Result<CandidateCounts<'c>, PieceFault> {
+        self.work.gate.before(2, worker, piece as u64);
+        self.count_piece(&mut made, piece)?;
+        Ok(made)
+    }
+
+    fn hand_over(&self, sums: &SharedSums, seat: &mut SumSeat, made: CandidateCounts<'c>) -> u64 {
+        let total = made.total();
+        add_numbers(sums, seat, &made.into_weights());
+        total
     }
 
     fn together(&self, one: u64, other: u64) -> Result<u64, PieceFault> {

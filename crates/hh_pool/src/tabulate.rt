@@ -8,13 +8,13 @@ ghost use Rattle.hh_stream.specs.Cuttings.{max_pieces, whole_of};
 ghost use Rattle.hh_countmin.specs.Family.{max_width};
 ghost use Rattle.hh_countmin.specs.Table.{table_of};
 ghost use Rattle.hh_pool.specs.Passes.{piece_of, AreRead, MayRefuse};
-ghost use Rattle.hh_pool.specs.Tabulated.{HasTabulated, IsAdded, IsTable, IsTabulatedUpTo};
+ghost use Rattle.hh_pool.specs.Tabulated.{IsAdded, IsTable};
 ghost use Rattle.hh_pool.specs.Settings.{max_workers};
 
 use crate::gate::Gate;
-use crate::pass::{Pass, Work};
+use crate::pass::{Pass, Work, run_alone};
 use crate::pieces::{PieceFault, Pieces};
-use crate::workers::run_apart;
+use crate::workers::share_work;
 use hh_countmin::laws::tables_follow_items;
 use hh_countmin::{Family, MergeFault, Table};
 use hh_shared::{SharedSums, SumSeat};
@@ -32,16 +32,6 @@ struct TablePass<'a, P, G> {
 }
 
 impl<'a, P: Pieces, G: Gate> TablePass<'a, P, G> {
-    // The table of no items.
-    fn empty(&self) -> Result<Table, AllocError>
-        ensures { IfOk result
-            (λ table. table ≡ table_of self.now.family.now self.now.width []) }
-    {
-        tables_follow_items();
-        let family = self.family.copy()?;
-        Table::empty(self.work.alloc, family, self.width)
-    }
-
     // Adds the items of a piece.
     fn add_piece(&self, table: &mut Table, piece: usize) -> Result<(), PieceFault>
         requires { piece < length (P.pieces self.now.work.now.pieces.now) }
@@ -57,89 +47,25 @@ impl<'a, P: Pieces, G: Gate> TablePass<'a, P, G> {
         tables_follow_items();
         self.work.pieces.feed(self.work.alloc, piece, table)
     }
-
-    // Claims a piece, and adds its items where no other worker has claimed it.
-    fn try_piece(
-        &self,
-        sums: &SharedSums,
-        seat: &mut SumSeat,
-        table: &mut Table,
-        worker: u64,
-        piece: usize,
-    ) -> Result<(), PieceFault>
-        requires seat { seat.old.sums ≡ sums.now }
-        requires piece { piece < sums.now.claims }
-        requires claims { sums.now.claims ≡ length (P.pieces self.now.work.now.pieces.now) }
-        requires before { let pieces = self.now.work.now.pieces.now in P.known pieces
-            → HasTabulated (P.reads pieces) (P.pieces pieces)
-            self.now.family.now self.now.width seat.old.claims table.old }
-        requires table { IsTable self.now.family.now self.now.width table.old }
-        ensures sums { seat.new.sums ≡ seat.old.sums }
-        ensures after { let pieces = self.now.work.now.pieces.now in OnOk result (P.known pieces
-            → HasTabulated (P.reads pieces) (P.pieces pieces)
-            self.now.family.now self.now.width seat.new.claims table.new) }
-        ensures table { OnOk result (IsTable self.now.family.now self.now.width table.new) }
-        ensures refused { let pieces = self.now.work.now.pieces.now in
-            IsErrOf result PieceFault.Refused → P.known pieces
-            → MayRefuse (P.refuses pieces) (P.pieces pieces) }
-    {
-        if sums.claim(seat, piece) {
-            self.work.gate.before(1, worker, piece as u64);
-            self.add_piece(table, piece)?;
-            // It bounds the total.
-            let _total = table.total();
-        }
-        Ok(())
-    }
-
-    // The same by the calling thread, without sums. `workers` is what the gate hears.
-    fn alone(&self, workers: u64) -> Result<Table, PieceFault>
-        ensures some { IfOk result (IsTable self.now.family.now self.now.width) }
-        ensures table { let pieces = self.now.work.now.pieces.now in
-            IfOk result (λ table. P.known pieces
-            → table ≡ table_of self.now.family.now self.now.width (whole_of (P.pieces pieces))) }
-        ensures read { let pieces = self.now.work.now.pieces.now in
-            OnOk result (P.known pieces → AreRead (P.reads pieces) (P.pieces pieces)) }
-        ensures refused { let pieces = self.now.work.now.pieces.now in
-            IsErrOf result PieceFault.Refused → P.known pieces
-            → MayRefuse (P.refuses pieces) (P.pieces pieces) }
-    {
-        let mut table = self.empty()?;
-        for piece in 0..self.work.pieces.count() {
-            self.do_piece(&mut table, workers, piece)?;
-        }
-        Ok(table)
-    }
-
-    // Adds the next piece.
-    fn do_piece(&self, table: &mut Table, workers: u64, piece: usize) -> Result<(), PieceFault>
-        requires piece { piece < length (P.pieces self.now.work.now.pieces.now) }
-        requires before { let pieces = self.now.work.now.pieces.now in P.known pieces
-            → IsTabulatedUpTo (P.reads pieces) (P.pieces pieces)
-            self.now.family.now self.now.width piece table.old }
-        requires table { IsTable self.now.family.now self.now.width table.old }
-        ensures after { let pieces = self.now.work.now.pieces.now in OnOk result (P.known pieces
-            → IsTabulatedUpTo (P.reads pieces) (P.pieces pieces)
-            self.now.family.now self.now.width (piece + 1) table.new) }
-        ensures table { OnOk result (IsTable self.now.family.now self.now.width table.new) }
-        ensures refused { let pieces = self.now.work.now.pieces.now in
-            IsErrOf result PieceFault.Refused → P.known pieces
-            → MayRefuse (P.refuses pieces) (P.pieces pieces) }
-    {
-        self.work.gate.before(1, workers, piece as u64);
-        self.add_piece(table, piece)
-    }
 }
 
 impl<'a, P: Pieces, G: Gate> Pass for TablePass<'a, P, G> {
+    type Made = Table;
+
     type Kept = Table;
 
+    ghost use Rattle.std.specs.Prelude.{length};
     ghost use Rattle.hh_pool.specs.Passes.{MayRefuse};
     ghost use Rattle.hh_pool.specs.Tabulated.{HasTabulated, IsTable};
 
-    ghost fits = { λ p sums. sums.claims ≡ length (P.pieces p.work.now.pieces.now) };
+    ghost pieces = { λ p. length (P.pieces p.work.now.pieces.now) };
 
-    ghost done = { λ _ _ _. Unit };
+    ghost cells = { λ _. 0 };
+
+    ghost is_made = { λ p numbers table. let pieces = p.work.now.pieces.now in
+        IsTable p.family.now p.width table × (P.known pieces
+        → HasTabulated (P.reads pieces) (P.pieces pieces)
+        p.family.now p.width numbers table) };
 
     ghost all_done = { λ p seat table. let pieces = p.work.now.pieces.now in
         IsTable p.family.now p.width table × (P.known pieces
@@ -149,17 +75,26 @@ impl<'a, P: Pieces, G: Gate> Pass for TablePass<'a, P, G> {
     ghost may_refuse = { λ p. let pieces = p.work.now.pieces.now in P.known pieces
         → MayRefuse (P.refuses pieces) (P.pieces pieces) };
 
-    fn run(
-        &self,
-        sums: &SharedSums,
-        mut seat: SumSeat,
-        worker: u64,
-    ) -> Result<(SumSeat, Table), PieceFault> {
-        let mut table = self.empty()?;
-        for piece in 0..self.work.pieces.count() {
-            self.try_piece(sums, &mut seat, &mut table, worker, piece)?;
-        }
-        Ok((seat, table))
+    fn count(&self) -> usize {
+        self.work.pieces.count()
+    }
+
+    fn begin(&self) -> Result<Table, AllocError> {
+        tables_follow_items();
+        let family = self.family.copy()?;
+        Table::empty(self.work.alloc, family, self.width)
+    }
+
+    fn take(&self, mut made: Table, worker: u64, piece: usize) -> Result<Table, PieceFault> {
+        self.work.gate.before(1, worker, piece as u64);
+        self.add_piece(&mut made, piece)?;
+        // It bounds the total.
+        let _total = made.total();
+        Ok(made)
+    }
+
+    fn hand_over(&self, _sums: &SharedSums, _seat: &mut SumSeat, made: Table) -> Table {
+        made
     }
 
     fn together(&self, mut one: Table, other: Table) -> Result<Table, PieceFault> {
@@ -205,10 +140,8 @@ pub(crate) fn tabulate<R: Threads + Wait + Sync, P: Pieces + Sync, G: Gate + Syn
         family,
         width,
     };
-    let (sums, seat) = SharedSums::new(work.alloc, work.pieces.count(), 0)?;
-    let (seat, table) = run_apart(rt, &sums, seat, &pass, workers)?;
-    if !sums.holds_all(&seat) {
-        return pass.alone(workers);
+    match share_work(rt, work.alloc, &pass, 0, workers)? {
+        Some((_, table)) => Ok(table),
+        None => run_alone(&pass, workers),
     }
-    Ok(table)
 }

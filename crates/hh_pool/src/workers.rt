@@ -1,13 +1,15 @@
 //! Workers by halves: half of them run in a thread of their own.
 
-ghost use Rattle.std.specs.Prelude.{◌≡◌, ◌+◌, ◌^◌, ◌<◌, ◌≤◌, IfOk, IsErrOf};
-ghost use Rattle.hh_shared.specs.Seats.{fresh, seat_of_both};
-ghost use Rattle.hh_pool.specs.Passes.{BringBack, CanRun};
+ghost use Rattle.std.specs.Prelude.{◌≡◌, ◌+◌, ◌^◌, ◌<◌, ◌≤◌, true, IfOk, IfSome, IsErrOf};
+ghost use Rattle.hh_stream.specs.Ranges.{in_range};
+ghost use Rattle.hh_shared.specs.Seats.{fresh, max_cells, max_claims, seat_of_both};
+ghost use Rattle.hh_pool.specs.Passes.{AreDone, AreSumsFor, BringBack, CanRun};
 ghost use Rattle.hh_pool.specs.Settings.{max_workers};
 
-use crate::pass::Pass;
+use crate::pass::{Pass, run_worker};
 use crate::pieces::PieceFault;
 use hh_shared::{SharedSums, SumSeat};
+use std::alloc::Global;
 use std::snapshot::Snapshot;
 use std::sync::Wait;
 use std::thread;
@@ -60,14 +62,14 @@ fn run_workers<R: Threads + Wait + Sync, P: Pass + Sync>(
 ) -> Result<(SumSeat, P::Kept), PieceFault>
     requires count { 0 < count }
     requires numbers { first + count < 2 ^ 64 }
-    requires fits { P.fits pass.now sums.now }
+    requires fits { AreSumsFor (P.pieces pass.now) (P.cells pass.now) sums.now }
     requires seat { seat ≡ fresh sums.now }
     ensures sums { IfOk result (λ r. r.0.sums ≡ sums.now) }
     ensures all_done { IfOk result (λ r. P.all_done pass.now r.0 r.1) }
     ensures refused { IsErrOf result PieceFault.Refused → P.may_refuse pass.now }
 {
     if count == 1 {
-        return pass.run(sums, seat, first);
+        return run_worker(pass, sums, seat, first);
     }
     let low = count / 2;
     let high = count - low;
@@ -77,7 +79,7 @@ fn run_workers<R: Threads + Wait + Sync, P: Pass + Sync>(
         thread::scope_env(),
         rt,
         |scope| -> Result<(SumSeat, P::Kept), PieceFault>
-            requires { let fits = P.fits pass.now sums.now in
+            requires { let fits = AreSumsFor (P.pieces pass.now) (P.cells pass.now) sums.now in
                 let can = CanRun R.row P.row P.Kept.row fits sums.now in
                 can seat first low × can half next high }
             ensures { BringBack (P.all_done pass.entry.now) (P.may_refuse pass.entry.now)
@@ -88,7 +90,7 @@ fn run_workers<R: Threads + Wait + Sync, P: Pass + Sync>(
                 pass: Snapshot::of(pass),
             };
             let front = move || -> Result<(SumSeat, P::Kept), PieceFault>
-                requires { CanRun R.row P.row P.Kept.row (P.fits pass.now sums.now)
+                requires { CanRun R.row P.row P.Kept.row (AreSumsFor (P.pieces pass.now) (P.cells pass.now) sums.now)
                     sums.now seat first low }
                 ensures { BringBack (P.all_done pass.entry.now) (P.may_refuse pass.entry.now)
                     sums.entry.now result }
@@ -113,7 +115,7 @@ pub(crate) fn run_apart<R: Threads + Wait + Sync, P: Pass + Sync>(
 ) -> Result<(SumSeat, P::Kept), PieceFault>
     requires some { 0 < workers }
     requires few { workers ≤ max_workers }
-    requires fits { P.fits pass.now sums.now }
+    requires fits { AreSumsFor (P.pieces pass.now) (P.cells pass.now) sums.now }
     requires seat { seat ≡ fresh sums.now }
     ensures sums { IfOk result (λ r. r.0.sums ≡ sums.now) }
     ensures all_done { IfOk result (λ r. P.all_done pass.now r.0 r.1) }
@@ -123,7 +125,7 @@ pub(crate) fn run_apart<R: Threads + Wait + Sync, P: Pass + Sync>(
         thread::scope_env(),
         rt,
         |scope| -> Result<(SumSeat, P::Kept), PieceFault>
-            requires { CanRun R.row P.row P.Kept.row (P.fits pass.now sums.now)
+            requires { CanRun R.row P.row P.Kept.row (AreSumsFor (P.pieces pass.now) (P.cells pass.now) sums.now)
                 sums.now seat 0 workers }
             ensures { BringBack (P.all_done pass.entry.now) (P.may_refuse pass.entry.now)
                 sums.entry.now result }
@@ -133,7 +135,7 @@ pub(crate) fn run_apart<R: Threads + Wait + Sync, P: Pass + Sync>(
                 pass: Snapshot::of(pass),
             };
             let all = move || -> Result<(SumSeat, P::Kept), PieceFault>
-                requires { CanRun R.row P.row P.Kept.row (P.fits pass.now sums.now)
+                requires { CanRun R.row P.row P.Kept.row (AreSumsFor (P.pieces pass.now) (P.cells pass.now) sums.now)
                     sums.now seat 0 workers }
                 ensures { BringBack (P.all_done pass.entry.now) (P.may_refuse pass.entry.now)
                     sums.entry.now result }
@@ -144,4 +146,30 @@ pub(crate) fn run_apart<R: Threads + Wait + Sync, P: Pass + Sync>(
             child.join(rt)
         },
     )
+}
+
+/// Has so many workers go over the pieces, with sums of their own: each cell's sum, and what the
+/// workers kept. Nothing where a piece was claimed by no worker, as where a step failed by chance.
+pub(crate) fn share_work<R: Threads + Wait + Sync, P: Pass + Sync>(
+    rt: &R,
+    alloc: Global,
+    pass: &P,
+    cells: usize,
+    workers: u64,
+) -> Result<Option<(Vec<u64>, P::Kept)>, PieceFault>
+    requires some { 0 < P.pieces pass.now }
+    requires few { P.pieces pass.now ≤ max_claims }
+    requires cells { cells ≡ P.cells pass.now }
+    requires few_cells { cells ≤ max_cells }
+    requires workers { in_range workers max_workers ≡ true }
+    ensures done { IfOk result (λ found. IfSome found (λ r.
+        AreDone (P.all_done pass.now) (P.pieces pass.now) cells r.0.items r.1)) }
+    ensures refused { IsErrOf result PieceFault.Refused → P.may_refuse pass.now }
+{
+    let (sums, seat) = SharedSums::new(alloc, pass.count(), cells)?;
+    let (seat, kept) = run_apart(rt, &sums, seat, pass, workers)?;
+    if !sums.holds_all(&seat) {
+        return Ok(None);
+    }
+    Ok(Some((sums.close(seat)?, kept)))
 }

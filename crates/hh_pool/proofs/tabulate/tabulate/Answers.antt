@@ -1,20 +1,38 @@
-use Rattle.std.proofs.Common.{◌≡◌, ◌∙◌, length, refl, subst}
-use Rattle.hh_shared.specs.Tally.{HasAllBelow}
-use Rattle.hh_pool.proofs.TableFacts.{tabulated_all}
+use Rattle.std.proofs.Common.{◌≡◌, ◌∙◌}
+use Rattle.std.proofs.lemmas.Result.{IfOk-weaker}
+use Rattle.hh_stream.specs.Cuttings.{whole_of}
+use Rattle.hh_countmin.specs.Table.{TableView, table_of}
+use Rattle.hh_pool.specs.Passes.{AreRead}
+use Rattle.hh_pool.proofs.TableFacts.{whole_table}
+use Rattle.hh_pool.proofs.Taken.{ok_tells}
 use Rattle.hh_pool.proofs.tabulate.tabulate.Goals as goal
 
-pub returns-clause-table : goal.returns-clause-table
-returns-clause-table g c = λ known.
+pub returns-in-Some-clause-table : goal.returns-in-Some-clause-table
+returns-in-Some-clause-table g c = λ known.
     let pieces = g.P.Pieces.pieces c.args.work.now.pieces.now in
-    let seat = c.in_ok-seat.seat in
-    let count : c.in_ok-sums.sums.claims ≡ length pieces = c.in_ok-sums.ensures.claims ∙ c.count.ensures in
-    let all = subst (λ n. HasAllBelow n seat.claims) count (c.if-not-holds_all.ensures.all.0 refl) in
-    tabulated_all _ pieces _ _ seat.claims _ all (c.in_ok-seat.ensures.all_done.1 known)
+    let shared = rw c.in-Some.is at c.in_ok-table.ensures.done in
+    (shared.done.1 known).table ∙ whole_table pieces c.args.family.now c.args.width shared.seat.claims shared.each
+
+pub returns-in-Some-clause-read : goal.returns-in-Some-clause-read
+returns-in-Some-clause-read g c = λ known i low.
+    let shared = rw c.in-Some.is at c.in_ok-table.ensures.done in
+    (shared.done.1 known).taken.read i (shared.each.all.has i low)
+
+pub returns-clause-table : goal.returns-clause-table
+returns-clause-table g c =
+    let work = c.args.work.now.pieces.now in
+    let pieces = g.P.Pieces.pieces work in
+    let family = c.args.family.now in
+    let width = c.args.width in
+    IfOk-weaker _ _ (λ (table : TableView). g.P.Pieces.known work → table ≡ table_of family width (whole_of pieces))
+    (λ table made known.
+    let (numbers, each, is) = made in
+    (is.1 known).table ∙ whole_table pieces family width numbers each) c.run_alone.ensures.made
 
 pub returns-clause-read : goal.returns-clause-read
-returns-clause-read g c = λ known i low.
-    let pieces = g.P.Pieces.pieces c.args.work.now.pieces.now in
-    let seat = c.in_ok-seat.seat in
-    let count : c.in_ok-sums.sums.claims ≡ length pieces = c.in_ok-sums.ensures.claims ∙ c.count.ensures in
-    let all = subst (λ n. HasAllBelow n seat.claims) count (c.if-not-holds_all.ensures.all.0 refl) in
-    (c.in_ok-seat.ensures.all_done.1 known).taken.read i (all.has i low)
+returns-clause-read g c =
+    let work = c.args.work.now.pieces.now in
+    let pieces = g.P.Pieces.pieces work in
+    ok_tells {Q = g.P.Pieces.known work → AreRead (g.P.Pieces.reads work) pieces} _ _ (λ table made known i low.
+    let (numbers, each, is) = made in
+    (is.1 known).taken.read i (each.all.has i low)) c.run_alone.ensures.made

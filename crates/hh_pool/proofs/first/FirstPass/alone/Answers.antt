@@ -1,31 +1,30 @@
-use Rattle.std.proofs.Common.{◌≤◌, ◌∙◌, length, map, ap, arith}
-use Rattle.std.proofs.lemmas.List.{take_all}
-use Rattle.hh_stream.specs.Cuttings.{whole_of}
-use Rattle.hh_counters.specs.Counters.{sketch_of}
-use Rattle.hh_countmin.specs.Table.{table_of}
-use Rattle.hh_pool.proofs.Alone.{alone_begins}
+use Rattle.std.proofs.Common.{◌∙◌, length, arith}
+use Rattle.hh_shared.proofs.Tallies.{all-length}
+use Rattle.hh_pool.proofs.Closed.{each_summary}
+use Rattle.hh_pool.proofs.TableFacts.{whole_table}
 use Rattle.hh_pool.proofs.first.FirstPass.alone.Goals as goal
 
-pub loop-piece-init : goal.loop-piece-init
-loop-piece-init g c =
-    let pieces = c.args.self.now.work.now.pieces.now in
-    record {
-      so_far = λ known. rw c.new-summaries.ensures.items (alone_begins (g.P.Pieces.reads pieces)
-          (g.P.Pieces.pieces pieces) c.args.self.now.options.now _ c.in_ok-table.ensures);
-      count = ap length c.new-summaries.ensures.items;
-    }
-
-pub returns-clause-summaries : goal.returns-clause-summaries
-returns-clause-summaries g c = λ known.
+pub in_order-requires : goal.in_order-requires
+in_order-requires g c known =
     let pieces = g.P.Pieces.pieces c.args.self.now.work.now.pieces.now in
-    let all : length pieces ≤ c.loop-piece.piece = omega arith in
-    (c.loop-piece.invariant.so_far known).summaries
-    ∙ ap (map (sketch_of c.args.self.now.options.now.k)) (take_all c.loop-piece.piece pieces all)
+    let (numbers, each, made) = c.in_ok-summaries.ensures.made in
+    each_summary c.args.self.now.options.now.k pieces numbers _ (made.1 known).summaries each
+
+pub returns-clause-count : goal.returns-clause-count
+returns-clause-count g c =
+    let pieces = g.P.Pieces.pieces c.args.self.now.work.now.pieces.now in
+    let (numbers, each, made) = c.in_ok-summaries.ensures.made in
+    let all = all-length (length pieces) numbers each.distinct each.all in
+    omega (arith, all, made.0.one_each, c.in_ok-in_order.ensures.count)
 
 pub returns-clause-table : goal.returns-clause-table
 returns-clause-table g c = λ known.
-    let options = c.args.self.now.options.now in
     let pieces = g.P.Pieces.pieces c.args.self.now.work.now.pieces.now in
-    let all : length pieces ≤ c.loop-piece.piece = omega arith in
-    (c.loop-piece.invariant.so_far known).table
-    ∙ ap (table_of options.family options.width) (ap whole_of (take_all c.loop-piece.piece pieces all))
+    let options = c.args.self.now.options.now in
+    let (numbers, each, made) = c.in_ok-summaries.ensures.made in
+    (made.1 known).table ∙ whole_table pieces options.family options.width numbers each
+
+pub returns-clause-reads : goal.returns-clause-reads
+returns-clause-reads g c = λ known i low.
+    let (numbers, each, made) = c.in_ok-summaries.ensures.made in
+    (made.1 known).read i (each.all.has i low)

@@ -1,0 +1,37 @@
+use Rattle.std.proofs.Common.{◌++◌, ◌∷◌, ◌∙◌, [], ap, arith, rules, IsErrOf}
+use Rattle.hh_stream.specs.Weights.{total_of}
+use Rattle.hh_countmin.specs.Table.{TableView, table_of}
+use Rattle.hh_counters.specs.Counters.{sketch_of}
+use Rattle.hh_pool.specs.Passes.{items_at}
+use Rattle.hh_pool.specs.declared.pieces.PieceFault.TheVariants as fault
+use Rattle.hh_pool.proofs.Held.{holds_more}
+use Rattle.hh_pool.proofs.Tried.{first_more, more_total, next_refused}
+use Rattle.hh_pool.proofs.first.FirstPassPass.take.Goals as goal
+
+pub returns-in_err-summary-clause-refused : goal.returns-in_err-summary-clause-refused
+returns-in_err-summary-clause-refused g c is numbers distinct made known =
+    let work = c.args.self.now.work.now.pieces.now in
+    let pieces = g.P.Pieces.pieces work in
+    let total = ap (λ (t : TableView). t.total) (made.1 known).table in
+    let refused : IsErrOf c.summarise.result fault.Refused = search rules in
+    next_refused (g.P.Pieces.refuses work) pieces c.args.piece (total_of (items_at pieces numbers)) c.args.made.table.total
+    c.requires (more_total pieces numbers c.args.piece distinct) (omega (arith, total))
+    (c.summarise.ensures.refused refused known)
+
+pub returns-clause-more : goal.returns-clause-more
+returns-clause-more g c numbers distinct made =
+    let summarised = c.in_ok-summary.ensures.summarised in (
+      holds_more _ _ _ _ _ _ _ _ _ c.in-Ok.ensures.items made.0 summarised,
+      λ known.
+          let work = c.args.self.now.work.now.pieces.now in
+          let pieces = g.P.Pieces.pieces work in
+          let options = c.args.self.now.options.now in
+          let before = items_at pieces numbers in
+          let kept = c.in-Ok.ensures.items
+          ∙ ap (λ s. c.args.made.summaries.items ++ (c.args.piece, s) ∷ [])
+          (summarised.summary ∙ ap (sketch_of options.k) (summarised.given known)) in
+          let table = summarised.table options.family options.width before (made.1 known).table
+          ∙ ap (λ xs. table_of options.family options.width (before ++ xs)) (summarised.given known) in
+          first_more (g.P.Pieces.reads work) pieces options numbers c.args.piece _ _ _ _ (c.in_ok-summary.ensures.reads known)
+          kept table (made.1 known),
+    )

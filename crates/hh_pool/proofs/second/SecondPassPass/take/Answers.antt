@@ -1,0 +1,25 @@
+use Rattle.std.proofs.Common.{rules, IsErrOf}
+use Rattle.hh_stream.specs.Weights.{total_of}
+use Rattle.hh_pool.specs.Passes.{items_at}
+use Rattle.hh_pool.specs.declared.pieces.PieceFault.TheVariants as fault
+use Rattle.hh_pool.proofs.Held.{counted_known, counted_more}
+use Rattle.hh_pool.proofs.Tried.{more_total, next_refused, second_more}
+use Rattle.hh_pool.proofs.second.SecondPassPass.take.Goals as goal
+
+pub returns-in_err-count_piece-clause-refused : goal.returns-in_err-count_piece-clause-refused
+returns-in_err-count_piece-clause-refused g c is numbers distinct made known =
+    let work = c.args.self.now.work.now.pieces.now in
+    let pieces = g.P.Pieces.pieces work in
+    let refused : IsErrOf c.count_piece.result fault.Refused = search rules in
+    next_refused (g.P.Pieces.refuses work) pieces c.args.piece (total_of (items_at pieces numbers)) c.args.made.total
+    c.requires (more_total pieces numbers c.args.piece distinct) (made.1 known).total
+    (c.count_piece.ensures.refused refused known)
+
+pub returns-clause-more : goal.returns-clause-more
+returns-clause-more g c numbers distinct made =
+    let pieces = g.P.Pieces.pieces c.args.self.now.work.now.pieces.now in
+    let counted = c.in_ok-count_piece.ensures.counted in (
+      counted_more _ _ _ _ _ _ made.0 counted,
+      λ known. second_more pieces c.args.self.now.candidates.now numbers c.args.piece _
+          (counted_known _ _ _ _ _ _ counted (counted.given known) (made.1 known)),
+    )
