@@ -49,13 +49,12 @@ fn join_halves<P: Pass>(
 }
 
 /// Runs so many workers with one seat, numbered from `first` on: where they are more than one, half
-/// of them in a thread of their own. Memory also where the system refuses a thread; all threads are
-/// joined.
+/// of them in a thread of their own.
 #[cycle(workers)]
 fn run_workers<R: Threads + Wait + Sync, P: Pass + Sync>(
     rt: &R,
     sums: &SharedSums,
-    mut seat: SumSeat,
+    seat: SumSeat,
     pass: &P,
     first: u64,
     count: u64,
@@ -64,16 +63,34 @@ fn run_workers<R: Threads + Wait + Sync, P: Pass + Sync>(
     requires numbers { first + count < 2 ^ 64 }
     requires fits { AreSumsFor (P.pieces pass.now) (P.cells pass.now) sums.now }
     requires seat { seat ≡ fresh sums.now }
-    ensures sums { IfOk result (λ r. r.0.sums ≡ sums.now) }
-    ensures all_done { IfOk result (λ r. P.all_done pass.now r.0 r.1) }
-    ensures refused { IsErrOf result PieceFault.Refused → P.may_refuse pass.now }
+    ensures done { BringBack (P.all_done pass.now) (P.may_refuse pass.now) sums.now result }
 {
     if count == 1 {
         return run_worker(pass, sums, seat, first);
     }
-    let low = count / 2;
-    let high = count - low;
-    let next = first + low;
+    let there = count / 2;
+    run_apart(rt, sums, seat, pass, first, there, count - there)
+}
+
+/// Runs so many workers in a thread of their own, numbered from `first` on, and so many more, if
+/// any, in this one. Memory also where the system refuses a thread; all threads are joined.
+#[cycle(workers)]
+fn run_apart<R: Threads + Wait + Sync, P: Pass + Sync>(
+    rt: &R,
+    sums: &SharedSums,
+    mut seat: SumSeat,
+    pass: &P,
+    first: u64,
+    there: u64,
+    here: u64,
+) -> Result<(SumSeat, P::Kept), PieceFault>
+    requires some { 0 < there }
+    requires numbers { first + there + here < 2 ^ 64 }
+    requires fits { AreSumsFor (P.pieces pass.now) (P.cells pass.now) sums.now }
+    requires seat { seat ≡ fresh sums.now }
+    ensures done { BringBack (P.all_done pass.now) (P.may_refuse pass.now) sums.now result }
+{
+    let next = first + there;
     let half = sums.split(&mut seat);
     thread::scope(
         thread::scope_env(),
@@ -81,7 +98,7 @@ fn run_workers<R: Threads + Wait + Sync, P: Pass + Sync>(
         |scope| -> Result<(SumSeat, P::Kept), PieceFault>
             requires { let fits = AreSumsFor (P.pieces pass.now) (P.cells pass.now) sums.now in
                 let can = CanRun R.row P.row P.Kept.row fits sums.now in
-                can seat first low × can half next high }
+                can seat first there × (0 < here → can half next here) }
             ensures { BringBack (P.all_done pass.entry.now) (P.may_refuse pass.entry.now)
                 sums.entry.now result }
         {
@@ -90,60 +107,20 @@ fn run_workers<R: Threads + Wait + Sync, P: Pass + Sync>(
                 pass: Snapshot::of(pass),
             };
             let front = move || -> Result<(SumSeat, P::Kept), PieceFault>
-                requires { CanRun R.row P.row P.Kept.row (AreSumsFor (P.pieces pass.now) (P.cells pass.now) sums.now)
-                    sums.now seat first low }
+                requires { CanRun R.row P.row P.Kept.row
+                    (AreSumsFor (P.pieces pass.now) (P.cells pass.now) sums.now)
+                    sums.now seat first there }
                 ensures { BringBack (P.all_done pass.entry.now) (P.may_refuse pass.entry.now)
                     sums.entry.now result }
-            { run_workers(rt, sums, seat, pass, first, low) };
+            { run_workers(rt, sums, seat, pass, first, there) };
             let Ok(child) = scope.spawn_with(promise, front) else {
                 return Err(PieceFault::Memory);
             };
-            let other = run_workers(rt, sums, half, pass, next, high);
+            if here == 0 {
+                return child.join(rt);
+            }
+            let other = run_workers(rt, sums, half, pass, next, here);
             join_halves(sums, pass, child.join(rt), other)
-        },
-    )
-}
-
-/// Runs so many workers in a thread of their own, numbered from 0. Memory also where the system
-/// refuses a thread; all threads are joined.
-pub(crate) fn run_apart<R: Threads + Wait + Sync, P: Pass + Sync>(
-    rt: &R,
-    sums: &SharedSums,
-    seat: SumSeat,
-    pass: &P,
-    workers: u64,
-) -> Result<(SumSeat, P::Kept), PieceFault>
-    requires some { 0 < workers }
-    requires few { workers ≤ max_workers }
-    requires fits { AreSumsFor (P.pieces pass.now) (P.cells pass.now) sums.now }
-    requires seat { seat ≡ fresh sums.now }
-    ensures sums { IfOk result (λ r. r.0.sums ≡ sums.now) }
-    ensures all_done { IfOk result (λ r. P.all_done pass.now r.0 r.1) }
-    ensures refused { IsErrOf result PieceFault.Refused → P.may_refuse pass.now }
-{
-    thread::scope(
-        thread::scope_env(),
-        rt,
-        |scope| -> Result<(SumSeat, P::Kept), PieceFault>
-            requires { CanRun R.row P.row P.Kept.row (AreSumsFor (P.pieces pass.now) (P.cells pass.now) sums.now)
-                sums.now seat 0 workers }
-            ensures { BringBack (P.all_done pass.entry.now) (P.may_refuse pass.entry.now)
-                sums.entry.now result }
-        {
-            let promise = Promised {
-                sums: Snapshot::of(sums),
-                pass: Snapshot::of(pass),
-            };
-            let all = move || -> Result<(SumSeat, P::Kept), PieceFault>
-                requires { CanRun R.row P.row P.Kept.row (AreSumsFor (P.pieces pass.now) (P.cells pass.now) sums.now)
-                    sums.now seat 0 workers }
-                ensures { BringBack (P.all_done pass.entry.now) (P.may_refuse pass.entry.now)
-                    sums.entry.now result }
-            { run_workers(rt, sums, seat, pass, 0, workers) };
-            let Ok(child) = scope.spawn_with(promise, all) else {
-                return Err(PieceFault::Memory);
-            };
-            child.join(rt)
         },
     )
 }
@@ -167,7 +144,7 @@ pub(crate) fn share_work<R: Threads + Wait + Sync, P: Pass + Sync>(
     ensures refused { IsErrOf result PieceFault.Refused → P.may_refuse pass.now }
 {
     let (sums, seat) = SharedSums::new(alloc, pass.count(), cells)?;
-    let (seat, kept) = run_apart(rt, &sums, seat, pass, workers)?;
+    let (seat, kept) = run_apart(rt, &sums, seat, pass, 0, workers, 0)?;
     if !sums.holds_all(&seat) {
         return Ok(None);
     }
