@@ -9,7 +9,7 @@ ghost use Rattle.hh_pool.specs.PlanTexts.{AreMarked, NumbersRefused, PlanRefused
 ghost use Rattle.hh_pool.specs.PlanTexts.{SpellsTree, after_tree, at_start, read_tree, step};
 ghost use Rattle.hh_pool.specs.Trees.{IsMergeTree, leaves};
 
-use crate::plan::Tree;
+use crate::plan::{Tree, node};
 use std::alloc::{AllocError, Global};
 use std::collections::VecDeque;
 use thiserror::Error;
@@ -85,8 +85,7 @@ fn after_tree(
             Ok(Some(Reading { now, outer }))
         }
         Some(Open::Right(left)) if byte == b')' => {
-            let node = Tree::Node(Box::new(alloc, left)?, Box::new(alloc, tree)?);
-            let now = Now::Done(node);
+            let now = Now::Done(node(alloc, left, tree)?);
             Ok(Some(Reading { now, outer }))
         }
         _ => Ok(None),

@@ -4,7 +4,7 @@ ghost use Rattle.std.specs.Prelude.{◌≡◌, ◌+◌, ◌-◌, ◌≤◌, leng
 ghost use Rattle.hh_stream.specs.Cuttings.{max_pieces};
 ghost use Rattle.hh_pool.specs.PlanTexts.{PlanRefused, SpellsTree};
 ghost use Rattle.hh_pool.specs.Plans.{shape};
-ghost use Rattle.hh_pool.specs.Trees.{IsBalanced, IsMergeTree, chain_of, leaves};
+ghost use Rattle.hh_pool.specs.Trees.{IsBalanced, IsMergeTree, Merge, chain_of, leaves};
 
 use crate::parsing::{PlanFault, read_merge_tree};
 use std::alloc::{AllocError, Global};
@@ -41,6 +41,13 @@ impl Model for Plan {
         × (plan.count ≤ max_pieces) };
 }
 
+/// The tree of two others.
+pub(crate) fn node(alloc: Global, left: Tree, right: Tree) -> Result<Tree, AllocError>
+    ensures { IfOk result (λ tree. shape tree ≡ Merge (shape left) (shape right)) }
+{
+    Ok(Tree::Node(Box::new(alloc, left)?, Box::new(alloc, right)?))
+}
+
 /// The chain of so many pieces.
 fn chain_tree(alloc: Global, pieces: usize) -> Result<Tree, AllocError>
     requires { 1 ≤ pieces }
@@ -48,7 +55,7 @@ fn chain_tree(alloc: Global, pieces: usize) -> Result<Tree, AllocError>
 {
     let mut tree = Tree::Leaf(0);
     for i in 1..pieces {
-        tree = Tree::Node(Box::new(alloc, tree)?, Box::new(alloc, Tree::Leaf(i))?);
+        tree = node(alloc, tree, Tree::Leaf(i))?;
     }
     Ok(tree)
 }
@@ -63,9 +70,9 @@ fn balanced_tree(alloc: Global, first: usize, pieces: usize) -> Result<Tree, All
         return Ok(Tree::Leaf(first));
     }
     let half = (pieces + 1) / 2;
-    let left = Box::new(alloc, balanced_tree(alloc, first, half)?)?;
-    let right = Box::new(alloc, balanced_tree(alloc, first + half, pieces - half)?)?;
-    Ok(Tree::Node(left, right))
+    let left = balanced_tree(alloc, first, half)?;
+    let right = balanced_tree(alloc, first + half, pieces - half)?;
+    node(alloc, left, right)
 }
 
 impl Plan {
