@@ -153,8 +153,7 @@ fn candidates(
     cells_are_cell_sums();
     let contenders = Candidates::contenders(alloc, summary, p, q)?;
     let estimates = estimates(alloc, table, &contenders)?;
-    let candidates = contenders.pruned(&estimates, table.total(), p, q)?;
-    Ok(candidates)
+    contenders.pruned(&estimates, table.total(), p, q)
 }
 
 /// The summaries of the pieces, merged as the plan says, and the table of all items.
