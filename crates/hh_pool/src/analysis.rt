@@ -2,7 +2,7 @@
 //! them.
 
 ghost use Rattle.std.specs.Prelude.{◌≡◌, ◌≢◌, ◌+◌, ◌*◌, ◌≤◌, ◌<◌, ◌↔◌, true};
-ghost use Rattle.std.specs.Prelude.{List, length, map, sum, IfOk, IsErr, IsErrOf, OnErr, OnOk, Err};
+ghost use Rattle.std.specs.Prelude.{List, length, map, sum, IfOk, IsErr, IsErrOf, OnErr, OnOk, Err, Ok};
 ghost use Rattle.hh_stream.specs.Weights.{Entry, max_total, total_of};
 ghost use Rattle.hh_stream.specs.Cuttings.{max_pieces, pieces_of, whole_of};
 ghost use Rattle.hh_stream.specs.Ranges.{in_range};
@@ -359,6 +359,21 @@ pub fn analyse_pieces<R: Threads + Wait + Sync, P: Pieces + Sync, G: Gate + Sync
     Ok(run_passes(rt, &work, plan, options)?)
 }
 
+/// The outcome of a stream, whose pieces are never refused.
+fn of_stream(given: Result<Outcome, PiecesError>) -> Result<Outcome, RunError>
+    requires { ¬ IsErrOf given PiecesError.Refused }
+    ensures outcome { IfOk result (λ outcome. given ≡ Ok outcome) }
+    ensures plan_mismatch { IsErrOf result RunError.PlanMismatch
+        ↔ IsErrOf given PiecesError.PlanMismatch }
+{
+    match given {
+        Ok(outcome) => Ok(outcome),
+        Err(PiecesError::PlanMismatch) => Err(RunError::PlanMismatch),
+        Err(PiecesError::Memory) => Err(RunError::Memory),
+        Err(PiecesError::Refused) => unreachable!("pieces that fit are not refused"),
+    }
+}
+
 /// Analyses a stream, with workers that share nothing but atomic sums: they summarise the pieces
 /// and fill the table, the summaries are merged as the plan says, and the workers count those of
 /// the merged summary's keys that can be above the threshold, as far as counters and table tell.
@@ -391,10 +406,5 @@ pub fn analyse<R: Threads + Wait + Sync, G: Gate + Sync>(
     // It bounds the weights of the pieces.
     let _total = stream.total();
     let pieces = CutStream::new(stream, cutting);
-    match analyse_pieces(rt, alloc, &pieces, plan, options, gate) {
-        Ok(outcome) => Ok(outcome),
-        Err(PiecesError::PlanMismatch) => Err(RunError::PlanMismatch),
-        Err(PiecesError::Memory) => Err(RunError::Memory),
-        Err(PiecesError::Refused) => unreachable!("pieces that fit are not refused"),
-    }
+    of_stream(analyse_pieces(rt, alloc, &pieces, plan, options, gate))
 }
