@@ -3,26 +3,27 @@
 ghost use Rattle.std.specs.Prelude.{◌≡◌, length};
 ghost use Rattle.hh_counters.specs.Report.{IsShare};
 
-use crate::fixtures::{FOUR_RECORDS, key_of, stream_of, summary_of};
+use crate::fixtures::{FOUR_RECORDS, assert_same, key_of, show_counter, stream_of, summary_of};
 use hh_counters::Candidates;
 use hh_stream::Stream;
-use std::alloc::Global;
-use std::test::Fail;
+use std::process::Abort;
 
 // The candidates of the four records.
-fn candidates_of(alloc: Global) -> Result<Candidates, Fail> {
-    let summary = summary_of(alloc, 2, &FOUR_RECORDS)?;
-    Ok(Candidates::of(alloc, &summary)?)
+fn candidates_of(rt: &(impl Abort + AllocGlobal)) -> Candidates {
+    let summary = summary_of(rt, 2, &FOUR_RECORDS);
+    Candidates::of(rt.alloc(), &summary).expect(rt, "candidates")
+}
+
+fn place_of(rt: &(impl Abort + AllocGlobal), candidates: &Candidates, text: &str) -> Option<usize> {
+    candidates.place(&key_of(rt, text.as_bytes()))
 }
 
 #[test]
-fn candidates_have_places(rt: HostRuntime) -> Result<(), Fail> {
-    let candidates = candidates_of(rt.alloc())?;
-    for (text, place) in [("a", Some(0)), ("b", Some(1)), ("c", None)] {
-        let key = key_of(rt.alloc(), text)?;
-        assert_eq!(rt; candidates.place(&key), place);
+fn candidates_have_places(rt: HostRuntime) {
+    let candidates = candidates_of(&rt);
+    for (text, place) in &[("a", Some(0)), ("b", Some(1)), ("c", None)] {
+        assert_same(&rt, place_of(&rt, &candidates, text), *place);
     }
-    Ok(())
 }
 
 // The weights of two candidates in the stream.
@@ -35,49 +36,49 @@ fn weights_of(candidates: &Candidates, stream: &Stream) -> [u64; 2]
 }
 
 #[test]
-fn candidates_are_counted(rt: HostRuntime) -> Result<(), Fail> {
-    let stream = stream_of(rt.alloc(), &FOUR_RECORDS)?;
-    let candidates = candidates_of(rt.alloc())?;
-    assert_eq!(rt; candidates.len(), 2);
-    assert_eq!(rt; weights_of(&candidates, &stream), [6, 3]);
-    Ok(())
+fn candidates_are_counted(rt: HostRuntime) {
+    let stream = stream_of(&rt, &FOUR_RECORDS);
+    let candidates = candidates_of(&rt);
+    assert!(rt; candidates.len() == 2);
+    assert_same(&rt, weights_of(&candidates, &stream), [6, 3]);
 }
 
 // The rows that are selected of these numbers of two candidates, those above p/q of 11, as
 // "a 6 b 6 ".
 fn selected(
-    alloc: Global,
+    rt: &(impl Abort + AllocGlobal),
     candidates: &Candidates,
     numbers: &[u64; 2],
     p: u64,
     q: u64,
-) -> Result<String, Fail>
+) -> String
     requires two { length candidates.now ≡ 2 }
     requires share { IsShare p q }
 {
-    let mut text = String::new(alloc);
-    for row in &candidates.select(numbers, 11, p, q)? {
-        for byte in row.key.bytes() {
-            text.push(char::from(*byte))?;
-        }
-        write!(text, " {} ", row.weight)?;
+    let mut text = String::new(rt.alloc());
+    for row in &candidates.select(numbers, 11, p, q).expect(rt, "rows") {
+        show_counter(rt, &mut text, row.key.bytes(), row.weight);
     }
-    Ok(text)
+    text
+}
+
+// Those above 1/q of 11.
+fn selected_above(rt: &(impl Abort + AllocGlobal), numbers: &[u64; 2], q: u64) -> String {
+    let candidates = candidates_of(rt);
+    assert!(rt; candidates.len() == 2);
+    assert!(rt; 1 <= q && q <= 4);
+    selected(rt, &candidates, numbers, 1, q)
 }
 
 #[test]
-fn report_lists_candidates_above_a_share(rt: HostRuntime) -> Result<(), Fail> {
-    let candidates = candidates_of(rt.alloc())?;
-    assert_eq!(rt; candidates.len(), 2);
-    for (numbers, p, q, rows) in [
-        ([6, 3], 1, 3, "a 6 "),
-        ([6, 6], 1, 3, "a 6 b 6 "),
-        ([4, 7], 1, 3, "b 7 a 4 "),
-        ([6, 3], 1, 4, "a 6 b 3 "),
+fn report_lists_candidates_above_a_share(rt: HostRuntime) {
+    for (numbers, q, rows) in &[
+        ([6, 3], 3, "a 6 "),
+        ([6, 6], 3, "a 6 b 6 "),
+        ([4, 7], 3, "b 7 a 4 "),
+        ([6, 3], 4, "a 6 b 3 "),
     ] {
-        assert!(rt; 1 <= p && p <= q && q <= 4);
-        let text = selected(rt.alloc(), &candidates, &numbers, p, q)?;
-        assert_eq!(rt; text.as_str(), rows);
+        let text = selected_above(&rt, numbers, *q);
+        assert_same(&rt, text.as_str(), rows);
     }
-    Ok(())
 }

@@ -1,41 +1,63 @@
-//! Streams and summaries of a few items, and what they show.
+//! Streams and summaries of a few items, and what they show. Where something can't be made, as for
+//! want of memory, the test fails.
 
 use hh_counters::Summary;
 use hh_stream::{Key, Stream};
-use std::alloc::Global;
-use std::test::Fail;
+use std::fmt::Debug;
+use std::process::Abort;
 
 pub(crate) const FOUR_RECORDS: [(&str, u64); 4] = [("a", 5), ("b", 3), ("c", 2), ("a", 1)];
 
-pub(crate) fn key_of(alloc: Global, text: &str) -> Result<Key, Fail> {
-    Ok(Key::new(alloc, text.as_bytes())?)
+// Asserts that both are the same. Each assertion makes the proof of its function longer, and a call
+// hardly does.
+pub(crate) fn assert_same<T: Debug + PartialEq + Drop>(rt: &impl Abort, found: T, expected: T) {
+    assert_eq!(rt; found, expected);
+}
+
+pub(crate) fn key_of(rt: &(impl Abort + AllocGlobal), bytes: &[u8]) -> Key {
+    Key::new(rt.alloc(), bytes).expect(rt, "a key")
 }
 
 // The stream of these items.
-pub(crate) fn stream_of(alloc: Global, items: &[(&str, u64)]) -> Result<Stream, Fail> {
-    let mut stream = Stream::new(alloc);
-    for item in items {
-        stream.push(key_of(alloc, item.0)?, item.1)?;
+pub(crate) fn stream_of(rt: &(impl Abort + AllocGlobal), items: &[(&str, u64)]) -> Stream {
+    let mut stream = Stream::new(rt.alloc());
+    for (text, weight) in items {
+        let key = key_of(rt, text.as_bytes());
+        stream.push(key, *weight).expect(rt, "an item");
     }
-    Ok(stream)
+    stream
 }
 
 // The summary of these items.
-pub(crate) fn summary_of(alloc: Global, k: u64, items: &[(&str, u64)]) -> Result<Summary, Fail> {
-    let stream = stream_of(alloc, items)?;
-    Ok(Summary::of_items(alloc, k, stream.items())?)
+pub(crate) fn summary_of(
+    rt: &(impl Abort + AllocGlobal),
+    k: u64,
+    items: &[(&str, u64)],
+) -> Summary {
+    let stream = stream_of(rt, items);
+    Summary::of_items(rt.alloc(), k, stream.items()).expect(rt, "a summary")
+}
+
+// Writes a key and its counter, as "a 4 ".
+pub(crate) fn show_counter(rt: &impl Abort, text: &mut String, key: &[u8], counter: u64) {
+    for byte in key {
+        text.push(char::from(*byte)).expect(rt, "room");
+    }
+    write!(text, " {counter} ").expect(rt, "room");
 }
 
 // The summary as text, as "a 4 b 1 of 11, slack 2".
-pub(crate) fn shown(alloc: Global, summary: &Summary) -> Result<String, Fail> {
-    let mut text = String::new(alloc);
+pub(crate) fn shown(rt: &(impl Abort + AllocGlobal), summary: &Summary) -> String {
+    let mut text = String::new(rt.alloc());
     for i in 0..summary.len() {
         let (key, counter) = summary.entry(i);
-        for byte in key.bytes() {
-            text.push(char::from(*byte))?;
-        }
-        write!(text, " {counter} ")?;
+        show_counter(rt, &mut text, key.bytes(), counter);
     }
-    write!(text, "of {}, slack {}", summary.total(), summary.slack())?;
-    Ok(text)
+    write!(text, "of {}, slack {}", summary.total(), summary.slack()).expect(rt, "room");
+    text
+}
+
+// Asserts that the summary shows this text.
+pub(crate) fn assert_shows(rt: &(impl Abort + AllocGlobal), summary: &Summary, expected: &str) {
+    assert_same(rt, shown(rt, summary).as_str(), expected);
 }

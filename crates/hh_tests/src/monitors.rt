@@ -1,61 +1,70 @@
 //! The forms of Space-Saving on small streams, and side by side on a longer one.
 
-use crate::fixtures::{FOUR_RECORDS, shown, stream_of};
-use hh_counters::{
-    AddFault, BadK, BucketSaving, Monitor, NewFault, SpaceSaving, Summary, monitored_summary,
-};
+use crate::fixtures::{FOUR_RECORDS, assert_same, assert_shows, key_of, shown, stream_of};
+use hh_counters::{BadK, BucketSaving, Monitor, NewFault, SpaceSaving, Summary, monitored_summary};
 use hh_stream::{Item, Key, Stream};
-use std::alloc::Global;
-use std::test::Fail;
+use std::process::Abort;
+
+// The plain form.
+fn plain(rt: &(impl Abort + AllocGlobal), k: u64) -> SpaceSaving {
+    SpaceSaving::new(rt.alloc(), k).expect(rt, "counters")
+}
+
+// The form with buckets.
+fn buckets(rt: &(impl Abort + AllocGlobal), k: u64) -> BucketSaving {
+    BucketSaving::new(rt.alloc(), k).expect(rt, "buckets")
+}
 
 // Adds the items.
-fn add_all<M: Monitor>(monitor: &mut M, items: &[Item]) -> Result<(), AddFault> {
+fn add_all<M: Monitor>(rt: &impl Abort, monitor: &mut M, items: &[Item]) {
     for item in items {
-        monitor.add(item.key(), item.weight())?;
+        monitor.add(item.key(), item.weight()).expect(rt, "an item");
     }
-    Ok(())
 }
 
 // The counters of a to d as text, as "a 6 b 3 of 9, least 0".
-fn counters<M: Monitor>(alloc: Global, monitor: &M) -> Result<String, Fail> {
-    let mut text = String::new(alloc);
+fn counters<M: Monitor>(rt: &(impl Abort + AllocGlobal), monitor: &M) -> String {
+    let mut text = String::new(rt.alloc());
     for byte in b'a'..=b'd' {
-        let counter = monitor.get(&Key::new(alloc, &[byte])?);
+        let counter = monitor.get(&key_of(rt, &[byte]));
         if counter > 0 {
-            write!(text, "{} {counter} ", char::from(byte))?;
+            write!(text, "{} {counter} ", char::from(byte)).expect(rt, "room");
         }
     }
-    write!(text, "of {}, least {}", monitor.total(), monitor.least())?;
-    Ok(text)
+    let (total, least) = (monitor.total(), monitor.least());
+    write!(text, "of {total}, least {least}").expect(rt, "room");
+    text
 }
 
 // The summary as text.
-fn translated<M: Monitor>(alloc: Global, monitor: M) -> Result<String, Fail> {
-    let summary = monitor.into_summary().ok().ok_or("no memory")?;
-    shown(alloc, &summary)
+fn translated<M: Monitor>(rt: &(impl Abort + AllocGlobal), monitor: M) -> String {
+    let summary = monitor.into_summary().ok().expect(rt, "a summary");
+    shown(rt, &summary)
 }
 
 // The counters after these items, and then the summary.
-fn run<M: Monitor>(alloc: Global, mut monitor: M, items: &[(&str, u64)]) -> Result<String, Fail> {
-    add_all(&mut monitor, stream_of(alloc, items)?.items())?;
-    let mut text = counters(alloc, &monitor)?;
-    write!(text, " to {}", translated(alloc, monitor)?)?;
-    Ok(text)
+fn run<M: Monitor>(
+    rt: &(impl Abort + AllocGlobal),
+    mut monitor: M,
+    items: &[(&str, u64)],
+) -> String {
+    add_all(rt, &mut monitor, stream_of(rt, items).items());
+    let mut text = counters(rt, &monitor);
+    write!(text, " to {}", translated(rt, monitor)).expect(rt, "room");
+    text
 }
 
 // The same run by each form, which both say the same.
-fn each_form(alloc: Global, k: u64, items: &[(&str, u64)]) -> Result<String, Fail> {
-    let plain = run(alloc, SpaceSaving::new(alloc, k)?, items)?;
-    let buckets = run(alloc, BucketSaving::new(alloc, k)?, items)?;
-    if plain != buckets {
-        return Err(Fail::new("the forms differ"));
-    }
-    Ok(plain)
+fn each_form(rt: &(impl Abort + AllocGlobal), k: u64, items: &[(&str, u64)]) -> String {
+    let text = run(rt, plain(rt, k), items);
+    let other = run(rt, buckets(rt, k), items);
+    assert_same(rt, other.as_str(), text.as_str());
+    text
 }
 
 #[test]
-fn each_form_counts_small_streams(rt: HostRuntime) -> Result<(), Fail> {
-    for (k, items, expected) in [
+fn each_form_counts_small_streams(rt: HostRuntime) {
+    for (k, items, expected) in &[
         (
             2,
             FOUR_RECORDS.as_slice(),
@@ -82,92 +91,90 @@ fn each_form_counts_small_streams(rt: HostRuntime) -> Result<(), Fail> {
             "a 4 c 3 of 7, least 3 to a 1 of 7, slack 3",
         ),
     ] {
-        let text = each_form(rt.alloc(), k, items)?;
-        assert_eq!(rt; text.as_str(), expected);
+        let text = each_form(&rt, *k, items);
+        assert_same(&rt, text.as_str(), expected);
     }
-    Ok(())
 }
 
 #[test]
 fn k_is_1_to_65535(rt: HostRuntime) {
-    for (k, refused) in [(0, true), (1, false), (65_535, false), (65_536, true)] {
-        let plain = SpaceSaving::new(rt.alloc(), k).err();
-        assert_eq!(rt; plain, refused.then_some(BadK));
-        let buckets = BucketSaving::new(rt.alloc(), k).err();
-        assert_eq!(rt; buckets, refused.then_some(NewFault::BadK));
+    for (k, refused) in &[(0, true), (1, false), (65_535, false), (65_536, true)] {
+        let plain = SpaceSaving::new(rt.alloc(), *k).err();
+        assert_same(&rt, plain, refused.then_some(BadK));
+        let buckets = BucketSaving::new(rt.alloc(), *k).err();
+        assert_same(&rt, buckets, refused.then_some(NewFault::BadK));
     }
 }
 
 // The one-byte keys 0 to 40.
-fn keys_of_one_byte(alloc: Global) -> Result<Vec<Key>, Fail> {
-    let mut keys = Vec::new(alloc);
+fn keys_of_one_byte(rt: &(impl Abort + AllocGlobal)) -> Vec<Key> {
+    let mut keys = Vec::new(rt.alloc());
     for byte in 0..41u8 {
-        keys.push(Key::new(alloc, &[byte])?)?;
+        keys.push(key_of(rt, &[byte])).expect(rt, "room");
     }
-    Ok(keys)
+    keys
 }
 
 // 10,000 items on 21 of these keys.
-fn long_stream(alloc: Global) -> Result<Stream, Fail> {
-    let mut stream = Stream::new(alloc);
+fn long_stream(rt: &(impl Abort + AllocGlobal)) -> Stream {
+    let mut stream = Stream::new(rt.alloc());
     for i in 0..10_000u64 {
-        let byte = (i * i % 41) as u8;
-        stream.push(Key::new(alloc, &[byte])?, 1 + i % 7)?;
+        let key = key_of(rt, &[(i * i % 41) as u8]);
+        stream.push(key, 1 + i % 7).expect(rt, "an item");
     }
-    Ok(stream)
+    stream
 }
 
 // Whether both have the same total, length, least counter and counters of these keys.
-fn agree<M: Monitor>(plain: &SpaceSaving, other: &M, keys: &[Key]) -> bool {
-    plain.total() == other.total()
-        && plain.len() == other.len()
-        && plain.least() == other.least()
-        && keys.iter().all(|key| plain.get(key) == other.get(key))
+fn agree(plain: &SpaceSaving, buckets: &BucketSaving, keys: &[Key]) -> bool {
+    plain.total() == buckets.total()
+        && plain.len() == buckets.len()
+        && plain.least() == buckets.least()
+        && keys.iter().all(|key| plain.get(key) == buckets.get(key))
 }
 
-// Whether the plain form and this one agree after each of the items.
-fn agree_after_each<M: Monitor>(
-    alloc: Global,
-    mut other: M,
-    items: &[Item],
-    keys: &[Key],
-) -> Result<bool, Fail> {
-    let mut plain = SpaceSaving::new(alloc, 10)?;
+// Whether both forms agree after each of the items.
+fn agree_after_each(rt: &(impl Abort + AllocGlobal), items: &[Item], keys: &[Key]) -> bool {
+    let mut plain = plain(rt, 10);
+    let mut buckets = buckets(rt, 10);
     for item in items {
-        plain.add(item.key(), item.weight())?;
-        other.add(item.key(), item.weight())?;
-        if !agree(&plain, &other, keys) {
-            return Ok(false);
+        plain.add(item.key(), item.weight()).expect(rt, "an item");
+        buckets.add(item.key(), item.weight()).expect(rt, "an item");
+        if !agree(&plain, &buckets, keys) {
+            return false;
         }
     }
-    Ok(true)
+    true
 }
 
 #[test]
-fn buckets_agree_after_each_of_10000_items(rt: HostRuntime) -> Result<(), Fail> {
-    let keys = keys_of_one_byte(rt.alloc())?;
-    let stream = long_stream(rt.alloc())?;
-    let buckets = BucketSaving::new(rt.alloc(), 10)?;
-    assert!(rt; agree_after_each(rt.alloc(), buckets, stream.items(), &keys)?);
-    Ok(())
+fn buckets_agree_after_each_of_10000_items(rt: HostRuntime) {
+    let stream = long_stream(&rt);
+    let keys = keys_of_one_byte(&rt);
+    assert!(rt; agree_after_each(&rt, stream.items(), &keys));
 }
 
 // The summary of the 10,000 items, worked out apart: the keys 2, 8, 10, 18, 21, 25, 36, 37, 39, 40.
 const LONG_SUMMARY: &str =
     "\u{2} 6 \u{8} 2 \u{a} 5 \u{12} 4 \u{15} 2 \u{19} 4 $ 3 % 6 ' 4 ( 6 of 39994, slack 3632";
 
+// The summary by the plain form.
+fn plain_summary(rt: &(impl Abort + AllocGlobal), stream: &Stream) -> Summary {
+    let plain = SpaceSaving::new(rt.alloc(), 10).expect(rt, "counters");
+    monitored_summary(plain, stream.items()).expect(rt, "a summary")
+}
+
+// The summary by the form with buckets.
+fn bucket_summary(rt: &(impl Abort + AllocGlobal), stream: &Stream) -> Summary {
+    let buckets = BucketSaving::new(rt.alloc(), 10).expect(rt, "buckets");
+    monitored_summary(buckets, stream.items()).expect(rt, "a summary")
+}
+
 #[test]
-fn each_form_translates_10000_items(rt: HostRuntime) -> Result<(), Fail> {
-    let alloc = rt.alloc();
-    let stream = long_stream(alloc)?;
-    let items = stream.items();
-    for summary in [
-        Summary::of_items(alloc, 10, items)?,
-        monitored_summary(SpaceSaving::new(alloc, 10)?, items)?,
-        monitored_summary(BucketSaving::new(alloc, 10)?, items)?,
-    ] {
-        let text = shown(alloc, &summary)?;
-        assert_eq!(rt; text.as_str(), LONG_SUMMARY);
-    }
-    Ok(())
+fn each_form_translates_10000_items(rt: HostRuntime) {
+    let stream = long_stream(&rt);
+    let whole = Summary::of_items(rt.alloc(), 10, stream.items()).expect(&rt, "a summary");
+    assert_shows(&rt, &whole, LONG_SUMMARY);
+    assert_shows(&rt, &plain_summary(&rt, &stream), LONG_SUMMARY);
+    assert_shows(&rt, &bucket_summary(&rt, &stream), LONG_SUMMARY);
 }

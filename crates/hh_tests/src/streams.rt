@@ -1,118 +1,153 @@
 //! The worked rows on keys, items, streams and cuttings.
 
-use hh_stream::{Cutting, CuttingFault, Key, KeyFault, PushFault, Stream};
-use std::alloc::Global;
+use crate::fixtures::{assert_same, key_of};
+use hh_stream::{Cutting, CuttingFault, Item, Key, KeyFault, PushFault, Stream};
 use std::hash::{BuildHasher, BuildHasherDefault, FoldHasher};
 use std::process::Abort;
-use std::test::Fail;
+
+// So many bytes.
+fn bytes_of(rt: &(impl Abort + AllocGlobal), len: usize) -> Vec<u8> {
+    let bytes = vec![in rt.alloc(); b'x'; len];
+    bytes.expect(rt, "bytes")
+}
+
+// Whether the key of so many bytes has a copy with these.
+fn has_copy(rt: &(impl Abort + AllocGlobal), len: usize) -> bool {
+    let bytes = bytes_of(rt, len);
+    let key = key_of(rt, &bytes);
+    let copy = key.copy().expect(rt, "a copy");
+    copy == key && copy.bytes() == bytes.as_slice()
+}
 
 #[test]
-fn keys_have_1_to_4096_bytes(rt: HostRuntime) -> Result<(), Fail> {
-    let alloc = rt.alloc();
-    let long = vec![in alloc; b'x'; 4097]?;
-    assert_eq!(rt; Key::new(alloc, b"").err(), Some(KeyFault::Empty));
-    assert_eq!(rt; Key::new(alloc, &long).err(), Some(KeyFault::TooLong));
-    for len in [1, 24, 25, 255, 256, 4096] {
-        let bytes = vec![in alloc; b'x'; len]?;
-        let key = Key::new(alloc, &bytes)?;
-        let copy = key.copy()?;
-        assert_eq!(rt; copy.bytes(), bytes.as_slice());
-        assert!(rt; copy == key, "length {len}");
+fn keys_have_1_to_4096_bytes(rt: HostRuntime) {
+    for len in &[1, 24, 25, 255, 256, 4096] {
+        assert!(rt; has_copy(&rt, *len), "length {len}");
     }
-    Ok(())
 }
 
 #[test]
-fn keys_are_ordered_by_bytes(rt: HostRuntime) -> Result<(), Fail> {
+fn keys_of_other_lengths_are_refused(rt: HostRuntime) {
     let alloc = rt.alloc();
-    let key = Key::new(alloc, b"ab")?;
-    let longer = Key::new(alloc, b"aba")?;
-    let other = Key::new(alloc, b"\xff")?;
-    assert!(rt; key < longer && longer < other && key != longer);
-    let hasher = BuildHasherDefault::<FoldHasher>::new();
-    assert_eq!(rt; hasher.hash_one(&key), hasher.hash_one(&key.copy()?));
-    assert!(rt; hasher.hash_one(&key) != hasher.hash_one(&longer));
-    Ok(())
+    let long = bytes_of(&rt, 4097);
+    assert_same(&rt, Key::new(alloc, b"").err(), Some(KeyFault::Empty));
+    assert_same(&rt, Key::new(alloc, &long).err(), Some(KeyFault::TooLong));
 }
 
 #[test]
-fn refused_push_hands_the_key_back(rt: HostRuntime) -> Result<(), Fail> {
-    let alloc = rt.alloc();
-    let mut stream = Stream::new(alloc);
-    let Err(refused) = stream.push(Key::new(alloc, b"a")?, 0) else {
-        panic!(rt; "a weight of 0 was taken");
-    };
-    assert_eq!(rt; refused.fault, PushFault::ZeroWeight);
-    assert_eq!(rt; refused.key.bytes(), b"a".as_slice());
+fn keys_are_ordered_by_bytes(rt: HostRuntime) {
+    let key = key_of(&rt, b"ab");
+    let longer = key_of(&rt, b"aba");
+    let other = key_of(&rt, b"\xff");
+    assert_same(
+        &rt,
+        (key < longer, longer < other, key != longer),
+        (true, true, true),
+    );
+}
+
+fn hash_of(key: &Key) -> u64 {
+    BuildHasherDefault::<FoldHasher>::new().hash_one(key)
+}
+
+#[test]
+fn same_keys_have_the_same_hash(rt: HostRuntime) {
+    let key = key_of(&rt, b"ab");
+    let copy = key.copy().expect(&rt, "a copy");
+    assert_same(&rt, hash_of(&copy), hash_of(&key));
+    assert!(rt; hash_of(&key_of(&rt, b"aba")) != hash_of(&key));
+}
+
+#[test]
+fn refused_push_hands_the_key_back(rt: HostRuntime) {
+    let mut stream = Stream::new(rt.alloc());
+    let pushed = stream.push(key_of(&rt, b"a"), 0);
+    let refused = pushed.expect_err(&rt, "a weight of 0 was taken");
+    assert_same(&rt, refused.fault, PushFault::ZeroWeight);
+    assert_same(&rt, refused.key.bytes(), b"a".as_slice());
     assert!(rt; stream.is_empty());
-    Ok(())
 }
 
 // The stream of so many items, which weigh 1, 2, 3 and so on.
-fn rising_stream(alloc: Global, len: usize) -> Result<Stream, Fail> {
-    let mut stream = Stream::new(alloc);
+fn rising_stream(rt: &(impl Abort + AllocGlobal), len: usize) -> Stream {
+    let mut stream = Stream::new(rt.alloc());
     for i in 0..len {
-        stream.push(Key::new(alloc, b"a")?, i as u64 + 1)?;
+        stream
+            .push(key_of(rt, b"a"), i as u64 + 1)
+            .expect(rt, "an item");
     }
-    Ok(stream)
+    stream
+}
+
+// Writes the weights of a piece, as "1 2 | ".
+fn show_piece(rt: &impl Abort, text: &mut String, piece: &[Item]) {
+    for item in piece {
+        write!(text, "{} ", item.weight()).expect(rt, "room");
+    }
+    text.push_str("| ").expect(rt, "room");
 }
 
 // The weights in the pieces of such a stream, as "1 2 | 3 | ".
-fn pieces_of(
-    rt: &(impl Abort + AllocGlobal),
-    made: Result<Cutting, CuttingFault>,
-) -> Result<String, Fail> {
-    let cutting = made?;
-    let stream = rising_stream(rt.alloc(), cutting.len())?;
-    assert_eq!(rt; cutting.len(), stream.len());
+fn pieces_of(rt: &(impl Abort + AllocGlobal), cutting: &Cutting) -> String {
+    let stream = rising_stream(rt, cutting.len());
+    assert!(rt; cutting.len() == stream.len());
     let mut text = String::new(rt.alloc());
     for i in 0..cutting.count() {
-        for item in cutting.piece(&stream, i) {
-            write!(text, "{} ", item.weight())?;
-        }
-        text.push_str("| ")?;
+        show_piece(rt, &mut text, cutting.piece(&stream, i));
     }
-    Ok(text)
+    text
+}
+
+// The pieces of an even cutting.
+fn even(rt: &(impl Abort + AllocGlobal), len: usize, pieces: usize) -> String {
+    pieces_of(
+        rt,
+        &Cutting::even(rt.alloc(), len, pieces).expect(rt, "a cutting"),
+    )
 }
 
 #[test]
-fn even_pieces(rt: HostRuntime) -> Result<(), Fail> {
-    for (len, pieces, expected) in [
-        (10, 4, "1 2 3 | 4 5 6 | 7 8 | 9 10 | "),
-        (4, 7, "1 | 2 | 3 | 4 | | | | "),
-    ] {
-        let text = pieces_of(&rt, Cutting::even(rt.alloc(), len, pieces))?;
-        assert_eq!(rt; text.as_str(), expected);
-    }
-    for (pieces, fault) in [
-        (0, CuttingFault::NoPieces),
-        (1025, CuttingFault::TooManyPieces),
-    ] {
-        assert_eq!(rt; Cutting::even(rt.alloc(), 4, pieces).err(), Some(fault));
-    }
-    Ok(())
+fn even_pieces(rt: HostRuntime) {
+    let text = even(&rt, 10, 4);
+    assert_same(&rt, text.as_str(), "1 2 3 | 4 5 6 | 7 8 | 9 10 | ");
+    let text = even(&rt, 4, 7);
+    assert_same(&rt, text.as_str(), "1 | 2 | 3 | 4 | | | | ");
 }
 
 #[test]
-fn pieces_by_lengths(rt: HostRuntime) -> Result<(), Fail> {
-    for (len, lengths, expected) in [
-        (4, [3, 1].as_slice(), "1 2 3 | 4 | "),
-        (0, [0].as_slice(), "| "),
-    ] {
-        let text = pieces_of(&rt, Cutting::by_lengths(rt.alloc(), len, lengths))?;
-        assert_eq!(rt; text.as_str(), expected);
-    }
-    for (len, lengths, fault) in [
+fn even_pieces_are_1_to_1024(rt: HostRuntime) {
+    let none = Cutting::even(rt.alloc(), 4, 0).err();
+    assert_same(&rt, none, Some(CuttingFault::NoPieces));
+    let many = Cutting::even(rt.alloc(), 4, 1025).err();
+    assert_same(&rt, many, Some(CuttingFault::TooManyPieces));
+}
+
+// The pieces of a cutting with these lengths.
+fn cut(rt: &(impl Abort + AllocGlobal), len: usize, lengths: &[usize]) -> String {
+    pieces_of(
+        rt,
+        &Cutting::by_lengths(rt.alloc(), len, lengths).expect(rt, "a cutting"),
+    )
+}
+
+#[test]
+fn pieces_by_lengths(rt: HostRuntime) {
+    let text = cut(&rt, 4, &[3, 1]);
+    assert_same(&rt, text.as_str(), "1 2 3 | 4 | ");
+    let text = cut(&rt, 0, &[0]);
+    assert_same(&rt, text.as_str(), "| ");
+}
+
+#[test]
+fn lengths_add_up(rt: HostRuntime) {
+    for (len, lengths, fault) in &[
         (4, [].as_slice(), CuttingFault::NoPieces),
         (4, [3, 2].as_slice(), CuttingFault::WrongSum),
         (4, [3].as_slice(), CuttingFault::WrongSum),
         (4, [usize::MAX, 5].as_slice(), CuttingFault::WrongSum),
         (0, [0; 1025].as_slice(), CuttingFault::TooManyPieces),
     ] {
-        assert_eq!(rt;
-            Cutting::by_lengths(rt.alloc(), len, lengths).err(),
-            Some(fault)
-        );
+        let refused = Cutting::by_lengths(rt.alloc(), *len, lengths).err();
+        assert_same(&rt, refused, Some(*fault));
     }
-    Ok(())
 }

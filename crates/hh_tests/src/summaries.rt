@@ -2,20 +2,16 @@
 
 ghost use Rattle.std.specs.Prelude.{◌<◌};
 
-use crate::fixtures::{FOUR_RECORDS, key_of, shown, stream_of, summary_of};
+use crate::fixtures::{
+    FOUR_RECORDS, assert_same, assert_shows, key_of, shown, stream_of, summary_of,
+};
 use hh_counters::{AddFault, MergeFault, Summary};
 use hh_stream::{Item, Key, MAX_TOTAL};
-use std::alloc::Global;
-use std::test::Fail;
-
-// The summary of these items as text.
-fn counters(alloc: Global, k: u64, items: &[(&str, u64)]) -> Result<String, Fail> {
-    shown(alloc, &summary_of(alloc, k, items)?)
-}
+use std::process::Abort;
 
 #[test]
-fn items_leave_their_counters(rt: HostRuntime) -> Result<(), Fail> {
-    for (items, expected) in [
+fn items_leave_their_counters(rt: HostRuntime) {
+    for (items, expected) in &[
         (FOUR_RECORDS.as_slice(), "a 4 b 1 of 11, slack 2"),
         ([("a", 1), ("b", 1), ("c", 1)].as_slice(), "of 3, slack 1"),
         (
@@ -27,86 +23,81 @@ fn items_leave_their_counters(rt: HostRuntime) -> Result<(), Fail> {
             "a 3 d 3 of 15, slack 3",
         ),
     ] {
-        let text = counters(rt.alloc(), 2, items)?;
-        assert_eq!(rt; text.as_str(), expected);
+        assert_shows(&rt, &summary_of(&rt, 2, items), expected);
     }
-    Ok(())
 }
 
 // The summary of the items, added one by one.
-fn added(alloc: Global, items: &[Item]) -> Result<Summary, Fail> {
-    let mut summary = Summary::new(alloc, 2)?;
+fn added(rt: &(impl Abort + AllocGlobal), items: &[Item]) -> Summary {
+    let mut summary = Summary::new(rt.alloc(), 2).expect(rt, "a summary");
     for item in items {
-        summary.add(item.key(), item.weight())?;
+        summary.add(item.key(), item.weight()).expect(rt, "an item");
     }
-    Ok(summary)
+    summary
 }
 
 #[test]
-fn items_are_added_one_by_one(rt: HostRuntime) -> Result<(), Fail> {
-    let stream = stream_of(rt.alloc(), &FOUR_RECORDS)?;
-    let summary = added(rt.alloc(), stream.items())?;
-    let text = shown(rt.alloc(), &summary)?;
-    assert_eq!(rt; text.as_str(), "a 4 b 1 of 11, slack 2");
-    Ok(())
+fn items_are_added_one_by_one(rt: HostRuntime) {
+    let stream = stream_of(&rt, &FOUR_RECORDS);
+    let summary = added(&rt, stream.items());
+    assert_shows(&rt, &summary, "a 4 b 1 of 11, slack 2");
 }
 
 #[test]
 fn k_is_1_to_65535(rt: HostRuntime) {
-    for (k, refused) in [(0, true), (1, false), (65_535, false), (65_536, true)] {
-        let summary = Summary::new(rt.alloc(), k);
-        assert_eq!(rt; summary.is_err(), refused);
+    for (k, refused) in &[(0, true), (1, false), (65_535, false), (65_536, true)] {
+        assert!(rt; Summary::new(rt.alloc(), *k).is_err() == *refused, "{k}");
     }
 }
 
 // What comes of one more item a with this weight after the four records.
-fn raised(alloc: Global, weight: u64) -> Result<(Option<AddFault>, String), Fail>
+fn raised(rt: &(impl Abort + AllocGlobal), weight: u64) -> (Option<AddFault>, String)
     requires { 0 < weight }
 {
-    let key = key_of(alloc, "a")?;
-    let mut summary = summary_of(alloc, 2, &FOUR_RECORDS)?;
-    let fault = summary.add(&key, weight).err();
-    Ok((fault, shown(alloc, &summary)?))
+    let mut summary = summary_of(rt, 2, &FOUR_RECORDS);
+    let fault = summary.add(&key_of(rt, b"a"), weight).err();
+    (fault, shown(rt, &summary))
 }
 
 #[test]
-fn total_has_a_largest_value(rt: HostRuntime) -> Result<(), Fail> {
+fn total_has_a_largest_value(rt: HostRuntime) {
+    let (fault, text) = raised(&rt, MAX_TOTAL - 10);
+    assert_same(&rt, fault, Some(AddFault::TotalTooLarge));
+    assert_same(&rt, text.as_str(), "a 4 b 1 of 11, slack 2");
+    let (fault, text) = raised(&rt, MAX_TOTAL - 11);
+    assert_same(&rt, fault, None);
     let full = "a 9223372036854775800 b 1 of 9223372036854775807, slack 2";
-    for (less, fault, expected) in [
-        (10, Some(AddFault::TotalTooLarge), "a 4 b 1 of 11, slack 2"),
-        (11, None, full),
-    ] {
-        let (found, text) = raised(rt.alloc(), MAX_TOTAL - less)?;
-        assert_eq!(rt; found, fault);
-        assert_eq!(rt; text.as_str(), expected);
-    }
-    Ok(())
+    assert_same(&rt, text.as_str(), full);
 }
 
 #[test]
-fn summaries_with_different_k_do_not_merge(rt: HostRuntime) -> Result<(), Fail> {
-    let mut summary = summary_of(rt.alloc(), 2, &FOUR_RECORDS)?;
-    let wider = summary_of(rt.alloc(), 3, &[("b", 2), ("c", 3)])?;
-    assert_eq!(rt; summary.merge(&wider).err(), Some(MergeFault::DifferentK));
-    let text = shown(rt.alloc(), &summary)?;
-    assert_eq!(rt; text.as_str(), "a 4 b 1 of 11, slack 2");
-    let text = shown(rt.alloc(), &wider)?;
-    assert_eq!(rt; text.as_str(), "b 2 c 3 of 5, slack 0");
-    Ok(())
+fn summaries_with_different_k_do_not_merge(rt: HostRuntime) {
+    let mut summary = summary_of(&rt, 2, &FOUR_RECORDS);
+    let wider = summary_of(&rt, 3, &[("b", 2), ("c", 3)]);
+    let fault = summary.merge(&wider).err();
+    assert_same(&rt, fault, Some(MergeFault::DifferentK));
+    assert_shows(&rt, &summary, "a 4 b 1 of 11, slack 2");
+    assert_shows(&rt, &wider, "b 2 c 3 of 5, slack 0");
 }
 
 // Keys with counters, in this order.
-fn entries_of(alloc: Global, items: &[(&str, u64)]) -> Result<Vec<(Key, u64)>, Fail> {
-    let mut entries = Vec::new(alloc);
-    for item in items {
-        entries.push((key_of(alloc, item.0)?, item.1))?;
+fn entries_of(rt: &(impl Abort + AllocGlobal), items: &[(&str, u64)]) -> Vec<(Key, u64)> {
+    let mut entries = Vec::new(rt.alloc());
+    for (text, counter) in items {
+        let key = key_of(rt, text.as_bytes());
+        entries.push((key, *counter)).expect(rt, "room");
     }
-    Ok(entries)
+    entries
+}
+
+// Whether these counters fit a summary.
+fn fits(rt: &(impl Abort + AllocGlobal), k: u64, total: u64, items: &[(&str, u64)]) -> bool {
+    Summary::fits(k, total, &entries_of(rt, items))
 }
 
 #[test]
-fn entries_that_fit_a_summary(rt: HostRuntime) -> Result<(), Fail> {
-    for (k, total, items, fits) in [
+fn entries_that_fit_a_summary(rt: HostRuntime) {
+    for (k, total, items, expected) in &[
         (2, 11, [("a", 4), ("b", 1)].as_slice(), true),
         (2, 11, [("b", 1), ("a", 4)].as_slice(), false),
         (2, 11, [("a", 4), ("b", 0)].as_slice(), false),
@@ -115,8 +106,6 @@ fn entries_that_fit_a_summary(rt: HostRuntime) -> Result<(), Fail> {
         (2, MAX_TOTAL + 1, [("a", 4), ("b", 1)].as_slice(), false),
         (0, 11, [].as_slice(), false),
     ] {
-        let entries = entries_of(rt.alloc(), items)?;
-        assert_eq!(rt; Summary::fits(k, total, &entries), fits);
+        assert!(rt; fits(&rt, *k, *total, items) == *expected);
     }
-    Ok(())
 }
