@@ -1,15 +1,11 @@
 //! A gate that hears of each piece, and that only workers at once can pass.
 
-ghost use Rattle.std.specs.Prelude.{◌≤◌};
-
-use crate::fixtures::is_as_ever;
+use crate::fixtures::{assert_same, is_as_ever};
 use hh_pool::{Gate, Plan};
-use std::alloc::Global;
 use std::process::Abort;
 use std::sync::Wait;
 use std::sync::atomic::AtomicU64;
 use std::sync::atomic::Ordering::SeqCst;
-use std::test::Fail;
 use std::thread::{Threads, yield_now};
 
 // The calls of a pass: one in the digit of its piece, and one in that of its worker, to the base of
@@ -90,18 +86,25 @@ impl Meeting {
         self.reached.store(1, SeqCst);
     }
 
-    // Whether each piece was called for once in each pass, and by a worker.
+    // Whether each piece was called for once in each pass, by a worker, and each of eight workers
+    // called once.
     fn is_exact(&self) -> bool {
-        let first = self.first.pieces.load(SeqCst);
-        let second = self.second.pieces.load(SeqCst);
-        first == self.wanted && second == self.wanted && self.strangers.load(SeqCst) == 0
+        let pieces = (
+            self.first.pieces.load(SeqCst),
+            self.second.pieces.load(SeqCst),
+        );
+        pieces == (self.wanted, self.wanted)
+            && self.strangers.load(SeqCst) == 0
+            && (self.workers < 8 || self.heard_eight())
     }
 
     // Whether each of eight workers called once in each pass.
     fn heard_eight(&self) -> bool {
-        let first = self.first.workers.load(SeqCst);
-        let second = self.second.workers.load(SeqCst);
-        first == EIGHT && second == EIGHT
+        let workers = (
+            self.first.workers.load(SeqCst),
+            self.second.workers.load(SeqCst),
+        );
+        workers == (EIGHT, EIGHT)
     }
 }
 
@@ -121,36 +124,29 @@ impl Gate for Meeting {
 
 // The four items in so many even pieces, for k = 2, with a gate. Whether the outcome is as ever,
 // with one call of the gate for each piece and pass.
-fn meets<R: Threads + Wait + Abort + Sync>(
+fn meets<R: AllocGlobal + Threads + Wait + Abort + Sync>(
     rt: &R,
-    alloc: Global,
     pieces: usize,
-    workers: u64,
     gate: &Meeting,
-) -> Result<bool, Fail>
-    requires { (1 ≤ pieces) × (pieces ≤ 8) }
-{
-    let plan = Plan::chain(alloc, pieces)?;
-    Ok(is_as_ever(rt, alloc, &plan, workers, gate)? && gate.is_exact())
+) -> bool {
+    assert!(rt; 1 <= pieces && pieces <= 8);
+    let plan = Plan::chain(rt.alloc(), pieces).expect(rt, "a plan");
+    is_as_ever(rt, &plan, gate.workers, gate) && gate.is_exact()
 }
 
 // Each of eight workers has one piece in hand, so each one's number comes.
 #[test]
-fn workers_meet_at_once(rt: HostRuntime) -> Result<(), Fail> {
-    let meetings = [
+fn workers_meet_at_once(rt: HostRuntime) {
+    for (pieces, workers, wanted, held, limit, reached) in &[
         // pieces, workers, calls to wait for, pieces held, turns, and whether these run out
         (2, 2, TWO, 1, 10_000_000, 0),
         (2, 1, TWO, 1, 1_000, 1),
         (4, 4, FOUR, 4, 10_000_000, 0),
         (8, 8, EIGHT, 8, 10_000_000, 0),
         (7, 4, SEVEN, 0, 0, 0),
-    ];
-    for (pieces, workers, wanted, held, limit, reached) in meetings {
-        let gate = Meeting::new(workers, wanted, held, limit);
-        assert!(rt; 1 <= pieces && pieces <= 8);
-        assert!(rt; meets(&rt, rt.alloc(), pieces, workers, &gate)?);
-        assert_eq!(rt; gate.reached.load(SeqCst), reached, "{workers} workers");
-        assert!(rt; workers < 8 || gate.heard_eight());
+    ] {
+        let gate = Meeting::new(*workers, *wanted, *held, *limit);
+        assert!(rt; meets(&rt, *pieces, &gate), "{workers} workers");
+        assert_same(&rt, gate.reached.load(SeqCst), *reached);
     }
-    Ok(())
 }

@@ -10,7 +10,6 @@ use hh_stream::{Cutting, TakeItems};
 use std::alloc::Global;
 use std::process::Abort;
 use std::sync::Wait;
-use std::test::Fail;
 use std::thread::Threads;
 
 // The pieces of a stream, of which the one with this number is refused.
@@ -47,46 +46,37 @@ impl<'a> Pieces for Torn<'a> {
 }
 
 // What becomes of the four items in four pieces, of which this one is refused.
-fn outcome_torn_at<R: Threads + Wait + Abort + Sync>(
+fn outcome_torn_at<R: AllocGlobal + Threads + Wait + Abort + Sync>(
     rt: &R,
-    alloc: Global,
     at: usize,
     workers: u64,
-) -> Result<Result<Outcome, PiecesError>, Fail> {
-    let stream = four_items(alloc)?;
-    let cutting = Cutting::even(alloc, stream.len(), 4)?;
-    assert_eq!(rt; cutting.len(), stream.len());
+) -> Result<Outcome, PiecesError> {
+    let stream = four_items(rt);
+    let cutting = Cutting::even(rt.alloc(), stream.len(), 4).expect(rt, "pieces");
     let pieces = Torn {
         pieces: CutStream::new(&stream, &cutting),
         at,
     };
-    let plan = Plan::balanced(alloc, 4)?;
-    let options = options(alloc, 2, workers)?;
-    Ok(analyse_pieces(rt, alloc, &pieces, &plan, &options, &OpenGate))
+    let plan = Plan::balanced(rt.alloc(), 4).expect(rt, "a plan");
+    let options = options(rt, 2, workers);
+    analyse_pieces(rt, rt.alloc(), &pieces, &plan, &options, &OpenGate)
 }
 
 #[test]
-fn torn_piece_is_refused(rt: HostRuntime) -> Result<(), Fail> {
-    let alloc = rt.alloc();
-    for (at, workers) in [(0, 1), (3, 1), (0, 2), (3, 2), (2, 7)] {
-        let outcome = outcome_torn_at(&rt, alloc, at, workers)?;
-        assert_eq!(rt;
-            outcome.err(),
-            Some(PiecesError::Refused),
+fn torn_piece_is_refused(rt: HostRuntime) {
+    for (at, workers) in &[(0, 1), (3, 1), (0, 2), (3, 2), (2, 7)] {
+        let refused = outcome_torn_at(&rt, *at, *workers).err();
+        assert!(rt;
+            refused == Some(PiecesError::Refused),
             "piece {at}, {workers} workers"
         );
     }
-    Ok(())
 }
 
 #[test]
-fn pieces_that_are_whole_are_analysed(rt: HostRuntime) -> Result<(), Fail> {
-    let alloc = rt.alloc();
-    for workers in [1, 2, 7] {
-        let Ok(outcome) = outcome_torn_at(&rt, alloc, 4, workers)? else {
-            panic!(rt; "{workers} workers");
-        };
-        assert!(rt; is_of_four_items(alloc, &outcome)?, "{workers} workers");
+fn pieces_that_are_whole_are_analysed(rt: HostRuntime) {
+    for workers in &[1, 2, 7] {
+        let outcome = outcome_torn_at(&rt, 4, *workers).expect(&rt, "an outcome");
+        assert!(rt; is_of_four_items(&rt, &outcome), "{workers} workers");
     }
-    Ok(())
 }
