@@ -100,12 +100,20 @@ entries_at version (suc n) before left bytes = do
   others ← entries_at version n first.0.0 (left - first.0.1) first.1
   Ok (first.0 ∷ others.0, others.1)
 
+-- k is at least 1
+abbrev pub k_at : List ℕ → Result (ℕ × List ℕ) SavedFault
+k_at bytes = number_where w16 (λ n. nat_lt 0 n) faults.BadK bytes
+
+-- how many counters there are, at most k
+abbrev pub count_at : ℕ → List ℕ → Result (ℕ × List ℕ) SavedFault
+count_at k bytes = number_where w16 (λ n. nat_le n k) faults.BadCount bytes
+
 -- k, the total, how many counters there are, and the entries
 unfoldable pub sketch_at : Version → List ℕ → Result (SummaryView × List ℕ) SavedFault
 sketch_at version bytes = do
-  k ← number_where w16 (λ n. nat_lt 0 n) faults.BadK bytes
+  k ← k_at bytes
   total ← total_at k.1
-  count ← number_where w16 (λ n. nat_le n k.0) faults.BadCount total.1
+  count ← count_at k.0 total.1
   entries ← entries_at version count.0 [] total.0 count.1
   Ok (record { k = k.0; total = total.0; counters = entries.0 }, entries.1)
 
@@ -224,9 +232,9 @@ entries_head_at version (suc n) left bytes = do
 -- the head of a summary, with its first entry
 unfoldable pub sketch_head_at : Version → List ℕ → Result (List ℕ) SavedFault
 sketch_head_at version bytes = do
-  k ← number_where w16 (λ n. nat_lt 0 n) faults.BadK bytes
+  k ← k_at bytes
   total ← total_at k.1
-  count ← number_where w16 (λ n. nat_le n k.0) faults.BadCount total.1
+  count ← count_at k.0 total.1
   entries_head_at version count.0 total.0 count.1
 
 -- the bytes of the family, whose coefficients take the first memory

@@ -8,7 +8,7 @@ ghost use Rattle.hh_countmin.specs.Family.{max_depth, max_width};
 ghost use Rattle.hh_saved.specs.declared.format.Version.{Version};
 ghost use Rattle.hh_saved.specs.declared.saved.Saved.{Saved};
 ghost use Rattle.hh_saved.specs.Spelling.{Spells, len_width};
-ghost use Rattle.hh_saved.specs.Reading.{Gives, Reads, StopsAt, number_at, bytes_at, total_at, with_front, last_key_of, version_at, len_at, key_at, entry_at, entries_at, sketch_at, blocks_in, pair_of, family_at, cells_in, row_at, rows_at, grid_at, body_at, value_at, saved_of, entries_head_at, sketch_head_at, grid_head_at, body_head_at, head_at};
+ghost use Rattle.hh_saved.specs.Reading.{Gives, Reads, StopsAt, number_at, bytes_at, total_at, with_front, last_key_of, version_at, len_at, key_at, entry_at, entries_at, k_at, count_at, sketch_at, blocks_in, pair_of, family_at, cells_in, row_at, rows_at, grid_at, body_at, value_at, saved_of, entries_head_at, sketch_head_at, grid_head_at, body_head_at, head_at};
 
 use crate::fault::SavedFault;
 use crate::format::{CELLS, COUNTERS, Version};
@@ -280,20 +280,35 @@ fn entries_of(
     Ok((entries, rest))
 }
 
-#[tactic(auto, unfolding(crate::specs::Reading::sketch_at, crate::specs::Reading::sketch_head_at))]
-fn summary_of(alloc: Global, version: Version, bytes: &[u8]) -> Result<(Summary, &[u8]), SavedFault>
-    ensures summary { Gives (λ x. (x.0, x.1.now)) result (sketch_at version bytes.now) }
-    ensures early { StopsAt result (sketch_head_at version bytes.now) }
+fn k_of(bytes: &[u8]) -> Result<(u16, &[u8]), SavedFault>
+    ensures { Reads (λ x. (x.0, x.1.now)) result (k_at bytes.now) }
 {
     let (k, rest) = u16_of(bytes)?;
     if k == 0 {
         return Err(SavedFault::BadK);
     }
-    let (total, rest) = total_of(rest)?;
-    let (count, rest) = u16_of(rest)?;
+    Ok((k, rest))
+}
+
+// How many counters there are.
+fn count_of(k: u16, bytes: &[u8]) -> Result<(u16, &[u8]), SavedFault>
+    ensures { Reads (λ x. (x.0, x.1.now)) result (count_at k bytes.now) }
+{
+    let (count, rest) = u16_of(bytes)?;
     if count > k {
         return Err(SavedFault::BadCount);
     }
+    Ok((count, rest))
+}
+
+#[tactic(auto, unfolding(crate::specs::Reading::sketch_at, crate::specs::Reading::sketch_head_at))]
+fn summary_of(alloc: Global, version: Version, bytes: &[u8]) -> Result<(Summary, &[u8]), SavedFault>
+    ensures summary { Gives (λ x. (x.0, x.1.now)) result (sketch_at version bytes.now) }
+    ensures early { StopsAt result (sketch_head_at version bytes.now) }
+{
+    let (k, rest) = k_of(bytes)?;
+    let (total, rest) = total_of(rest)?;
+    let (count, rest) = count_of(k, rest)?;
     let (entries, rest) = entries_of(alloc, version, u64::from(count), total, rest)?;
     Ok((Summary::from_entries(u64::from(k), total, entries), rest))
 }
