@@ -103,14 +103,12 @@ pub const SEED: Number = Number {
 type Built<'a> = Result<Command<'a>, AllocError>;
 
 /// Arguments that have a heading of their own in help.
-#[derive(Clone, Copy)]
 struct Group {
     heading: &'static str,
     arguments: &'static [Argument],
 }
 
 /// What `clap` is told of a command.
-#[derive(Clone, Copy)]
 struct Words {
     name: &'static str,
     help: Help,
@@ -405,76 +403,21 @@ fn command_of<'a>(alloc: Global, words: &Words) -> Built<'a>
     Ok(command)
 }
 
-/// The commands.
-fn report<'a>(alloc: Global) -> Built<'a>
-    ensures { HasNoGlobals result }
-{
-    command_of(alloc, &REPORT_WORDS)
-}
-
-fn summarise<'a>(alloc: Global) -> Built<'a>
-    ensures { HasNoGlobals result }
-{
-    command_of(alloc, &SUMMARISE_WORDS)
-}
-
-fn table<'a>(alloc: Global) -> Built<'a>
-    ensures { HasNoGlobals result }
-{
-    command_of(alloc, &TABLE_WORDS)
-}
-
-fn merge<'a>(alloc: Global) -> Built<'a>
-    ensures { HasNoGlobals result }
-{
-    command_of(alloc, &MERGE_WORDS)
-}
-
-fn ask<'a>(alloc: Global) -> Built<'a>
-    ensures { HasNoGlobals result }
-{
-    command_of(alloc, &ASK_WORDS)
-}
-
-fn list<'a>(alloc: Global) -> Built<'a>
-    ensures { HasNoGlobals result }
-{
-    command_of(alloc, &LIST_WORDS)
-}
-
-fn describe<'a>(alloc: Global) -> Built<'a>
-    ensures { HasNoGlobals result }
-{
-    command_of(alloc, &DESCRIBE_WORDS)
-}
-
-fn condense<'a>(alloc: Global) -> Built<'a>
-    ensures { HasNoGlobals result }
-{
-    command_of(alloc, &CONDENSE_WORDS)
-}
-
-fn confirm<'a>(alloc: Global) -> Built<'a>
-    ensures { HasNoGlobals result }
-{
-    command_of(alloc, &CONFIRM_WORDS)
-}
-
 impl Name {
     /// What `clap` is told of the command.
     fn told<'a>(self, alloc: Global) -> Built<'a>
         ensures { HasNoGlobals result }
     {
         match self {
-            Name::Report => report(alloc),
-            Name::Summarise => summarise(alloc),
-            Name::Table => table(alloc),
-            Name::Merge => merge(alloc),
-            Name::Ask => ask(alloc),
-            Name::List => list(alloc),
-            Name::Describe => describe(alloc),
-            Name::Condense => condense(alloc),
-            Name::Confirm => confirm(alloc),
+            Name::Report => command_of(alloc, &REPORT_WORDS),
+            Name::Summarise => command_of(alloc, &SUMMARISE_WORDS),
+            Name::Table => command_of(alloc, &TABLE_WORDS),
+            Name::Merge => command_of(alloc, &MERGE_WORDS),
+            Name::Ask => command_of(alloc, &ASK_WORDS),
+            Name::List => command_of(alloc, &LIST_WORDS),
+            Name::Describe => command_of(alloc, &DESCRIBE_WORDS),
+            Name::Condense => command_of(alloc, &CONDENSE_WORDS),
+            Name::Confirm => command_of(alloc, &CONFIRM_WORDS),
         }
     }
 }
@@ -483,8 +426,9 @@ impl Name {
 fn program<'a>(alloc: Global) -> Built<'a>
     ensures { HasNoGlobals result }
 {
-    let program = described(alloc, "heavy", PROGRAM).bin_name("heavy")?;
-    Ok(program.version(VERSION))
+    described(alloc, "heavy", PROGRAM)
+        .version(VERSION)
+        .bin_name("heavy")
 }
 
 /// The command line that the program reads.
