@@ -16,7 +16,7 @@ CALLERS = CRATES / "heavy_example" / "src" / "callers.rt"
 LIBRARIES = {
     "hh_stream": "stream_of_one", "hh_counters": "bounds_of", "hh_countmin": "is_rare", "hh_saved": "summary_in",
     "hh_records": "total_of_records", "hh_rows": "text_of_rows", "hh_pieces": "ends_a_record", "hh_shared": "add_once",
-    "hh_pool": "heavy_keys", "hh_commands": "saved_summary", "hh_items": "with_item", "hh_reports": "report_of",
+    "hh_workers": "plan_of_three", "hh_pool": "heavy_keys", "hh_commands": "saved_summary", "hh_items": "with_item", "hh_reports": "report_of",
     "heavy": "saved_summary",
 }
 MADE = re.compile(r"^## A caller\n.*", re.MULTILINE | re.DOTALL)

@@ -224,7 +224,7 @@ class Install(programs.Checks):
         status, out, err = copy.run(1)
         self.check("a first build runs the program", (status, out) == (0, b"built: report\n"), (status, out, err))
         self.check("it says at once what it does", err.startswith(BEGIN), err)
-        self.check("it tells the crate", b"heavy: proving hh_stream, crate 1 of 16, " in err, err)
+        self.check("it tells the crate", b"heavy: proving hh_stream, crate 1 of 17, " in err, err)
         self.check("it has a line for each crate", b"\r" not in err and err.count(b"hh_stream") == 1, err)
         begun = sorted(line.split()[1] for line in copy.proof_lines() if line.startswith("begin"))
         below = sorted(set(crates_below("heavy_cli")))

@@ -8,7 +8,8 @@ use Rattle.hh_stream.specs.Weights.{max_total}
 use Rattle.hh_counters.specs.Counters.{SummaryView, merge_of, sketch_of}
 use Rattle.hh_counters.specs.Laws.{CondensedPartsSuffice}
 use Rattle.hh_pool.specs.Laws.{PartsReportByAnyTree, TreesMergeSummaries}
-use Rattle.hh_pool.specs.Trees.{MergeTree, Merge, merge_result, no_sketch, tree_result}
+use Rattle.hh_pool.specs.Trees.{merge_result, no_sketch, tree_result}
+use Rattle.hh_workers.specs.Trees.{MergeTree, Merge}
 use Rattle.hh_saved.specs.Laws.{SpellingsAreRead}
 use Rattle.hh_saved.specs.Reading.{saved_of}
 use Rattle.hh_saved.specs.Spelling.{Spells}

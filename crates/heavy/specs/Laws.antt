@@ -6,7 +6,8 @@ use Rattle.hh_stream.specs.Cuttings.{whole_of}
 use Rattle.hh_counters.specs.Counters.{SummaryView, IsHonest, misra_gries, sketch_of}
 use Rattle.hh_counters.specs.Report.{heavy}
 use Rattle.hh_counters.specs.Condensed.{condensed}
-use Rattle.hh_pool.specs.Trees.{MergeTree, Piece, Merge, IsMergeTree, tree_result, tree_value}
+use Rattle.hh_pool.specs.Trees.{tree_result, tree_value}
+use Rattle.hh_workers.specs.Trees.{MergeTree, Piece, Merge, IsMergeTree}
 use Rattle.hh_saved.specs.Spelling.{Spells}
 use Rattle.hh_saved.specs.declared.format.Version.{Version}
 use Rattle.hh_saved.specs.declared.saved.Saved.{Saved}

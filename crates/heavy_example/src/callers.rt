@@ -11,6 +11,7 @@ ghost use Rattle.hh_records.specs.Streams.{ReadsAs, text_known};
 ghost use Rattle.csv.specs.Writing.{comma};
 ghost use Rattle.hh_rows.specs.Rows.{rows_of};
 ghost use Rattle.hh_pieces.specs.Pieces.{ends_outside};
+ghost use Rattle.hh_workers.specs.PlanTexts.{SpellsTree};
 ghost use Rattle.hh_commands.specs.Records.{SavesStream};
 ghost use Rattle.hh_items.specs.Add.{IsAdded};
 ghost use Rattle.hh_reports.specs.Report.{IsReported};
@@ -28,6 +29,7 @@ use hh_rows::{Sink, report_text};
 use hh_saved::{Saved, SavedFault, read};
 use hh_shared::{SharedSums, SumSeat};
 use hh_stream::{Cutting, Key, PushRefused, Stream};
+use hh_workers::PlanFault;
 use std::alloc::{AllocError, Global};
 use std::io::Read;
 use std::sync::Wait;
@@ -103,6 +105,13 @@ pub fn add_once(sums: &SharedSums, seat: &mut SumSeat, amount: u64)
     if sums.claim(seat, 0) {
         sums.add(seat, 0, amount);
     }
+}
+
+/// The plan that a text spells for three pieces.
+pub fn plan_of_three(alloc: Global, text: &[u8]) -> Result<Plan, PlanFault>
+    ensures { IfOk result (λ plan. SpellsTree text.now plan) }
+{
+    Plan::parse(alloc, text, 3)
 }
 
 /// The heavy keys of a stream, by workers over four pieces.

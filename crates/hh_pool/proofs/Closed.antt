@@ -16,7 +16,9 @@ use Rattle.hh_countmin.specs.Laws.{CellsAreCellSums}
 use Rattle.hh_shared.specs.Tally.{cell_total, sum_at, IsDistinctBelow, HasAllBelow}
 use Rattle.hh_shared.specs.Seats.{Holding}
 use Rattle.hh_pool.specs.Settings.{Settings}
-use Rattle.hh_pool.specs.Passes.{items_at, piece_of, summaries_at, AreFirstPasses, AreSecondPasses, AreSummaries, HasEach, HaveTaken}
+use Rattle.hh_pool.specs.Passes.{items_at, summaries_at, AreFirstPasses, AreSecondPasses, AreSummaries, HaveTaken}
+use Rattle.hh_workers.specs.Workers.{HasEach}
+use Rattle.hh_workers.specs.Pieces.{piece_of}
 use Rattle.hh_pool.proofs.PieceFacts.{sum_by-all_items, weight_of-le, cell_sum-le}
 use Rattle.hh_pool.proofs.Tried.{weight_behind_number}
 

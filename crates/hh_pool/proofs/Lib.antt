@@ -1,8 +1,5 @@
-pub mod TreeFacts
 pub mod MergeFacts
 pub mod ValueFacts
-pub mod ParsingFacts
-pub mod NumberFacts
 pub mod PieceFacts
 pub mod Taken
 pub mod Tried

@@ -11,11 +11,12 @@ use Rattle.hh_counters.specs.declared.summary.MergeFault.{MergeFault}
 use Rattle.hh_counters.specs.Report.{contenders, heavy, rows_above, keys_above, weights_at}
 use Rattle.hh_counters.specs.Laws.{MisraGriesIsHonest, JoinOfHonestIsHonest, ContendersSuffice, PrunedSuffice}
 use Rattle.hh_shared.specs.Tally.{times}
-use Rattle.hh_pool.specs.Trees.{MergeTree, Piece, Merge, IsMergeTree, leaves, merge_both, merge_result, no_sketch, tree_result, tree_value}
+use Rattle.hh_pool.specs.Trees.{merge_both, merge_result, no_sketch, tree_result, tree_value}
+use Rattle.hh_workers.specs.Trees.{MergeTree, Piece, Merge, IsMergeTree, leaves}
 use Rattle.hh_pool.specs.Laws.{TreesMergeSummaries}
 use Rattle.hh_pool.specs.Outcomes.{AreEnough, IsMerged}
 use Rattle.hh_shared.proofs.Tallies.{times-here}
-use Rattle.hh_pool.proofs.MergeFacts.{at-left, at-right, distinct-leaves, length_leaves, sum-leaves}
+use Rattle.hh_workers.proofs.LeafFacts.{at-left, at-right, distinct-leaves, length_leaves, sum-leaves}
 use Rattle.hh_pool.proofs.ValueFacts.{IsMergeOf, merge-of}
 
 abbrev total_at : List SummaryView → ℕ → ℕ

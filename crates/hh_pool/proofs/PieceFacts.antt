@@ -1,5 +1,5 @@
 -- Sums over the items of pieces.
-use Rattle.std.proofs.Common.{◌≡◌, ℕ, suc, ◌+◌, ◌≤◌, cond, Bool, true, false, List, [], ◌∷◌, length, refl, sym, ap, ◌∙◌, subst, arith, sum_by}
+use Rattle.std.proofs.Common.{◌≡◌, ℕ, ◌+◌, ◌≤◌, cond, Bool, true, false, List, [], ◌∷◌, length, refl, sym, ap, ◌∙◌, subst, arith, sum_by}
 use Rattle.std.specs.List.{flat_map}
 use Rattle.std.proofs.lemmas.List.Sums.{sum_by-cons, sum_by-append, sum_by-le-sum_by}
 use Rattle.hh_stream.specs.Weights.{Bytes, Entry, at_key, weight_of, total_of}
@@ -7,8 +7,10 @@ use Rattle.hh_stream.specs.Cuttings.{pieces_of, whole_of}
 use Rattle.hh_countmin.specs.Family.{Coefficients}
 use Rattle.hh_countmin.specs.Table.{at_cell, cell_sum}
 use Rattle.hh_shared.specs.Tally.{IsDistinctBelow, HasAllBelow}
-use Rattle.hh_pool.specs.Passes.{piece_of, items_at}
+use Rattle.hh_pool.specs.Passes.{items_at}
+use Rattle.hh_workers.specs.Pieces.{piece_of}
 use Rattle.hh_shared.proofs.Tallies.{sum_by-all, sum_by-distinct}
+use Rattle.hh_workers.proofs.CutFacts.{length-pieces_of}
 
 module _ {X A : Type 0} where
   -- a sum over the parts is a sum of the parts' sums
@@ -44,11 +46,6 @@ sum_by-items f pieces claims d =
     let parts = sum_by-flat_map f (piece_of pieces) claims in
     let whole = sum_by-flat_map f (λ piece. piece) pieces in
     omega (arith, parts, sum_by-distinct (sum_by f) [] pieces claims d, whole)
-
--- a cutting gives as many pieces as it has lengths
-pub length-pieces_of : {A : Type 0} (ns : List ℕ) (xs : List A) → length (pieces_of ns xs) ≡ length ns
-length-pieces_of [] xs = refl
-length-pieces_of (n ∷ ns) xs = ap suc (length-pieces_of ns _)
 
 -- numbers that are different and below the count of a cutting's lengths are so below the count of its pieces
 pub distinct_pieces : {A : Type 0} (ns : List ℕ) (xs : List A) (count : ℕ) (claims : List ℕ) → count ≡ length ns

@@ -10,7 +10,9 @@ use Rattle.hh_countmin.specs.Laws.{TablesFollowItems}
 use Rattle.hh_countmin.specs.Table.{TableView, at_cell, cells_by, grid_sum, table_of}
 use Rattle.hh_shared.specs.Tally.{AreDisjoint, IsDistinctBelow}
 use Rattle.hh_shared.proofs.Tallies.{times-append, times-elsewhere}
-use Rattle.hh_pool.specs.Passes.{HasEach, items_at, piece_of}
+use Rattle.hh_pool.specs.Passes.{items_at}
+use Rattle.hh_workers.specs.Workers.{HasEach}
+use Rattle.hh_workers.specs.Pieces.{piece_of}
 use Rattle.hh_pool.specs.Tabulated.{HasTabulated, IsAdded, IsTable}
 use Rattle.hh_pool.proofs.PieceFacts.{sum_by-all_items}
 use Rattle.hh_pool.proofs.Tried.{items_at-push, taken_joined}

@@ -9,10 +9,11 @@ use Rattle.hh_stream.specs.Weights.{Bytes, Entry, at_key, max_total, weight_of}
 use Rattle.hh_counters.specs.Counters.{Counters, IsHonest, SummaryView, merge_of}
 use Rattle.hh_counters.specs.Laws.{JoinOfHonestIsHonest}
 use Rattle.hh_counters.specs.declared.summary.MergeFault.{MergeFault}
-use Rattle.hh_pool.specs.Trees.{IsMergeTree, MergeTree, MergesHonestly, Piece, Merge, items_of, leaves, merge_both, no_sketch, tree_result, tree_value}
+use Rattle.hh_pool.specs.Trees.{MergesHonestly, items_of, merge_both, no_sketch, tree_result, tree_value}
+use Rattle.hh_workers.specs.Trees.{IsMergeTree, MergeTree, Piece, Merge, leaves}
 use Rattle.hh_shared.specs.Tally.{times}
 use Rattle.hh_shared.proofs.Tallies.{times-append, times-elsewhere, times-here}
-use Rattle.hh_pool.proofs.MergeFacts.{at-left, at-right, distinct-leaves, sum-leaves}
+use Rattle.hh_workers.proofs.LeafFacts.{at-left, at-right, distinct-leaves, sum-leaves}
 use Rattle.hh_pool.proofs.PieceFacts.{sum_by-flat_map}
 
 -- a merge that went well had two results with one k

@@ -7,8 +7,9 @@ use Rattle.hh_counters.specs.Counters.{Counters, IsHonest, SummaryView, misra_gr
 use Rattle.hh_counters.specs.Report.{has_counter, heavy}
 use Rattle.hh_counters.specs.Condensed.{condensed}
 use Rattle.hh_pool.specs.Outcomes.{IsMerged}
-use Rattle.hh_pool.specs.PlanTexts.{SpellsTree}
-use Rattle.hh_pool.specs.Trees.{MergeTree, IsMergeTree, tree_result, tree_value}
+use Rattle.hh_workers.specs.PlanTexts.{SpellsTree}
+use Rattle.hh_pool.specs.Trees.{tree_result, tree_value}
+use Rattle.hh_workers.specs.Trees.{MergeTree, IsMergeTree}
 
 -- what any tree makes of counters that are each honest for its part is honest for the whole
 abbrev pub TreesAreHonest : Type 0

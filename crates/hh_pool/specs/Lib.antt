@@ -1,6 +1,4 @@
 pub mod Settings
-pub mod PlanTexts
-pub mod Plans
 pub mod Trees
 pub mod Passes
 pub mod Progress

@@ -3,11 +3,12 @@ use Rattle.std.specs.Prelude.{◌≡◌, ℕ, List, map, zip}
 use Rattle.hh_stream.specs.Weights.{Bytes, Entry, total_of}
 use Rattle.hh_counters.specs.Counters.{SummaryView, misra_gries, IsHonest}
 use Rattle.hh_counters.specs.Report.{heavy, rows_above, weights_at}
-use Rattle.hh_pool.specs.Trees.{MergeTree, tree_value}
+use Rattle.hh_pool.specs.Trees.{tree_value}
+use Rattle.hh_workers.specs.Trees.{MergeTree}
 use Rattle.hh_pool.specs.declared.outcome.PiecesError.{PiecesError}
 use Rattle.hh_pool.specs.declared.outcome.PiecesError.TheVariants as error
-use Rattle.hh_pool.specs.declared.pieces.PieceFault.{PieceFault}
-use Rattle.hh_pool.specs.declared.pieces.PieceFault.TheVariants as fault
+use Rattle.hh_workers.specs.declared.pieces.PieceFault.{PieceFault}
+use Rattle.hh_workers.specs.declared.pieces.PieceFault.TheVariants as fault
 
 -- counted in xs, these keys give the report above p/q
 abbrev pub AreEnough : List Bytes → List Entry → ℕ → ℕ → Type 0

@@ -1,31 +1,16 @@
 -- What the workers of a pass bring back.
-use Rattle.std.specs.Prelude.{◌≡◌, ◌⊎◌, ℕ, ◌+◌, ◌*◌, ◌^◌, ◌<◌, ◌≤◌, All, List, [], fold, length, map, slice_get, slice_index, slice_index_or, Some, Result, IfOk, IsErrOf}
-use Rattle.std.specs.Borrow.{RattleType}
+use Rattle.std.specs.Prelude.{◌≡◌, ◌⊎◌, ℕ, ◌+◌, ◌*◌, ◌<◌, ◌≤◌, All, List, length, map, slice_get, Some}
 use Rattle.std.specs.List.{flat_map}
 use Rattle.std.specs.List.Sorted.{IsStrictlyIncreasing}
-use Rattle.std.specs.Thread.{IsSend, IsSync}
 use Rattle.hh_stream.specs.Weights.{Bytes, Entry, max_total, total_of, weight_of}
 use Rattle.hh_stream.specs.Cuttings.{whole_of}
 use Rattle.hh_counters.specs.Counters.{SummaryView, sketch_of}
 use Rattle.hh_countmin.specs.Table.{cell_sum}
-use Rattle.hh_shared.specs.Tally.{HasAllBelow, IsDistinctBelow, times, cell_total, sum_at}
-use Rattle.hh_shared.specs.Seats.{Holding, Sums, fresh}
+use Rattle.hh_shared.specs.Tally.{HasAllBelow, IsDistinctBelow, times, cell_total}
+use Rattle.hh_shared.specs.Seats.{Holding}
 use Rattle.hh_pool.specs.Settings.{Settings}
-use Rattle.hh_pool.specs.declared.pieces.PieceFault.{PieceFault}
-use Rattle.hh_pool.specs.declared.pieces.PieceFault.TheVariants as fault
-
--- the items of piece i
-abbrev pub piece_of : List (List Entry) → ℕ → List Entry
-piece_of pieces i = slice_index_or pieces i []
-
--- a taker has taken some items, of which something is given, and each item weighs something
-pub record Takes {A : Type 0} (with_item : A → Entry → A) (weight_taken : A → ℕ) (old new : A)
-    (gives : List Entry → Type 0) : Type 0 where
-  pub xs : List Entry
-  pub given : gives xs
-  pub positive : All (λ (e : Entry). 0 < e.1) xs
-  pub weight : weight_taken new ≡ weight_taken old + total_of xs
-  pub taken : new ≡ fold with_item old xs
+use Rattle.hh_workers.specs.Pieces.{piece_of}
+use Rattle.hh_workers.specs.Workers.{HasTried}
 
 -- the items of the pieces with these numbers, one piece after the other
 abbrev pub items_at : List (List Entry) → List ℕ → List Entry
@@ -43,10 +28,6 @@ MayRefuse refuses pieces =
 -- the summaries of the pieces with these numbers, each with its number
 abbrev pub summaries_at : ℕ → List (List Entry) → List ℕ → List (ℕ × SummaryView)
 summaries_at k pieces numbers = map (λ i. (i, sketch_of k (piece_of pieces i))) numbers
-
--- each number below n was claimed, or met as another's claim
-abbrev pub HasTried : ℕ → Holding → Type 0
-HasTried n seat = (i : ℕ) → i < n → 0 < times i seat.claims + times i seat.met
 
 -- these are the summaries of all pieces, each with its piece's number, in any order
 pub record AreSummaries (k : ℕ) (pieces : List (List Entry)) (found : List (ℕ × SummaryView)) : Type 0 where
@@ -86,43 +67,6 @@ pub record HaveCounted (pieces : List (List Entry)) (keys : List Bytes) (claims 
   pub distinct : IsDistinctBelow (length pieces) claims
   pub most : weight ≤ total_of (items_at pieces claims)
   pub whole : 0 < length keys → weight ≡ total_of (items_at pieces claims)
-
--- sums with a claim for each of so many pieces, and so many cells
-pub record AreSumsFor (pieces width : ℕ) (sums : Sums) : Type 0 where
-  pub claims : sums.claims ≡ pieces
-  pub cells : sums.cells ≡ width
-
--- each number below n stands in the list once
-pub record HasEach (n : ℕ) (numbers : List ℕ) : Type 0 where
-  pub distinct : IsDistinctBelow n numbers
-  pub all : HasAllBelow n numbers
-
--- What workers bring back who claimed each piece: what the pass says of a seat, and each cell's sum of what was added
--- through it
-pub record AreDone {K : Type 0} (all_done : Holding → K → Type 0) (pieces cells : ℕ) (values : List ℕ) (kept : K)
-    : Type 0 where
-  pub seat : Holding
-  pub each : HasEach pieces seat.claims
-  pub done : all_done seat kept
-  pub len : length values ≡ cells
-  pub sums : (cell : ℕ) → cell < cells → slice_index values cell ≡ sum_at seat.adds cell
-
--- What is asked where a thread of so many workers, numbered from `first` on, is started: the runtime and the pass may be
--- shared with it, what the workers keep may be sent, and the pass fits the sums, of which they have a fresh seat
-pub record CanRun (runtime pass kept : RattleType) (fits : Type 0) (sums : Sums) (seat : Holding) (first count : ℕ)
-    : Type 0 where
-  pub runtime_shared : IsSync runtime
-  pub pass_shared : IsSync pass
-  pub kept_sent : IsSend kept
-  pub pass_fits : fits
-  pub seat_fresh : seat ≡ fresh sums
-  pub some : 0 < count
-  pub numbers : first + count < 2 ^ 64
-
--- what workers bring back: a seat of these sums, of which the pass says all that it does, or why there is none
-abbrev pub BringBack : {K : Type 0} → (Holding → K → Type 0) → Type 0 → Sums → Result (Holding × K) PieceFault → Type 0
-BringBack all_done may_refuse sums result =
-    IfOk result (λ r. (r.0.sums ≡ sums) × all_done r.0 r.1) × (IsErrOf result fault.Refused → may_refuse)
 
 -- One worker takes the lowest piece that it finds unclaimed: each piece that it claims is above those that it claimed
 -- before

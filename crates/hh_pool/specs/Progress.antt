@@ -11,7 +11,8 @@ use Rattle.hh_shared.specs.Tally.{times, IsDistinctBelow}
 use Rattle.hh_shared.specs.Seats.{Holding}
 use Rattle.hh_counters.specs.SpaceSaving.{monitor_with}
 use Rattle.hh_pool.specs.Settings.{Settings}
-use Rattle.hh_pool.specs.Passes.{items_at, summaries_at, HasTried}
+use Rattle.hh_pool.specs.Passes.{items_at, summaries_at}
+use Rattle.hh_workers.specs.Workers.{HasTried}
 use Rattle.hh_pool.specs.declared.first.Sketches.{Sketches}
 
 -- an item more, in both sketches
@@ -20,14 +21,6 @@ sketches_with sketches item = record {
   monitor = monitor_with sketches.monitor item;
   table = grid_with sketches.table item;
 }
-
--- a worker has tried the first n of so many pieces from the lowest on, each once, and has added nothing
-pub record HasTriedUpTo (pieces n : ℕ) (seat : Holding) : Type 0 where
-  pub tried : HasTried n seat
-  pub distinct : IsDistinctBelow pieces seat.claims
-  pub rising : IsStrictlyIncreasing seat.claims
-  pub low : All (λ i. i < n) seat.claims
-  pub none_added : seat.adds ≡ []
 
 -- what the first pass makes of the pieces with these numbers, one after the other
 pub record IsFirstMade (reads : ℕ → Type 0) (pieces : List (List Entry)) (settings : Settings) (numbers : List ℕ)

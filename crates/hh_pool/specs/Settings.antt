@@ -10,7 +10,3 @@ pub record Settings : Type 0 where
   pub workers : ℕ
   pub width : ℕ
   pub family : Coefficients
-
--- the most workers
-abbrev pub max_workers : ℕ
-max_workers = 64

@@ -8,13 +8,11 @@ ghost use Rattle.hh_counters.specs.Counters.{sketch_of};
 ghost use Rattle.hh_countmin.specs.Family.{Coefficients};
 ghost use Rattle.hh_countmin.specs.Table.{table_of};
 ghost use Rattle.hh_shared.specs.Seats.{fresh};
-ghost use Rattle.hh_pool.specs.Passes.{piece_of, AreRead, AreSummaries, IsFirstPass, MayRefuse};
+ghost use Rattle.hh_pool.specs.Passes.{AreRead, AreSummaries, IsFirstPass, MayRefuse};
+ghost use Rattle.hh_workers.specs.Pieces.{piece_of};
 ghost use Rattle.hh_pool.specs.Progress.{IsSummarised, sketches_with};
 
-use crate::gate::Gate;
 use crate::options::Options;
-use crate::pass::{Pass, Work, add_numbers, run_alone, run_worker};
-use crate::pieces::{CutStream, PieceFault, Pieces, only_memory};
 use hh_counters::laws::summaries_follow_items;
 use hh_counters::{BucketSaving, Monitor, Summary};
 use hh_countmin::Table;
@@ -22,6 +20,10 @@ use hh_countmin::laws::{cells_are_cell_sums, tables_follow_items};
 use hh_shared::{SharedSums, SumSeat};
 use hh_stream::laws::pieces_make_the_whole;
 use hh_stream::{Cutting, MAX_TOTAL, Stream, TakeItems};
+use hh_workers::{
+    CutStream, Gate, Pass, PieceFault, Pieces, Work, add_numbers, only_memory, run_alone,
+    run_worker,
+};
 use std::alloc::{AllocError, Global};
 
 /// What each worker of the first pass works on.

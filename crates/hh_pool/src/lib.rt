@@ -5,28 +5,19 @@
 
 mod analysis;
 mod first;
-mod gate;
 pub mod laws;
 mod merging;
 mod one_pass;
 mod options;
 mod outcome;
-mod parsing;
-mod pass;
-mod pieces;
-mod plan;
 mod second;
 mod tabulate;
-mod workers;
 
 pub use analysis::{analyse, analyse_pieces};
 pub use first::first_pass;
-pub use gate::{Gate, OpenGate};
+pub use hh_workers::{CutStream, Gate, OpenGate, PieceFault, Pieces, Plan, PlanFault};
 pub use merging::merge_by;
 pub use one_pass::{count_pieces, tabulate_pieces};
 pub use options::{MAX_WORKERS, Options, OptionsFault};
 pub use outcome::{Outcome, PiecesError, RunError};
-pub use parsing::PlanFault;
-pub use pieces::{CutStream, PieceFault, Pieces};
-pub use plan::Plan;
 pub use second::second_pass;

@@ -4,13 +4,15 @@ ghost use Rattle.std.specs.Prelude.{◌≡◌, ◌≤◌, ℕ, length, map, sum_
 ghost use Rattle.std.specs.Prelude.{All, Ok, IfOk, IfErr};
 ghost use Rattle.hh_stream.specs.Cuttings.{max_pieces};
 ghost use Rattle.hh_shared.specs.Tally.{times, IsDistinctBelow};
-ghost use Rattle.hh_pool.specs.Plans.{shape};
-ghost use Rattle.hh_pool.specs.Trees.{IsMergeTree, MergesHonestly, Refuses};
-ghost use Rattle.hh_pool.specs.Trees.{leaves, merge_result, no_sketch, tree_result, tree_value};
+ghost use Rattle.hh_workers.specs.Plans.{shape};
+ghost use Rattle.hh_pool.specs.Trees.{MergesHonestly, Refuses};
+ghost use Rattle.hh_workers.specs.Trees.{IsMergeTree};
+ghost use Rattle.hh_pool.specs.Trees.{merge_result, no_sketch, tree_result, tree_value};
+ghost use Rattle.hh_workers.specs.Trees.{leaves};
 
-use crate::plan::{Plan, Tree};
 use hh_counters::laws::join_of_honest_is_honest;
 use hh_counters::{MergeFault, Summary};
+use hh_workers::{Plan, Tree};
 use std::alloc::Global;
 use std::mem;
 

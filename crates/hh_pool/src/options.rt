@@ -5,7 +5,7 @@ ghost use Rattle.hh_stream.specs.Ranges.{in_range};
 ghost use Rattle.hh_counters.specs.Counters.{max_k};
 ghost use Rattle.hh_counters.specs.Report.{is_threshold, IsShare};
 ghost use Rattle.hh_countmin.specs.Family.{max_width, IsFamily};
-ghost use Rattle.hh_pool.specs.Settings.{max_workers};
+ghost use Rattle.hh_workers.specs.Workers.{max_workers};
 
 use hh_counters::{MAX_K, is_threshold};
 use hh_countmin::{Family, MAX_WIDTH};
@@ -34,7 +34,8 @@ impl Model for Options {
     ghost use Rattle.hh_counters.specs.Counters.{max_k};
     ghost use Rattle.hh_countmin.specs.Family.{max_width};
     ghost use Rattle.hh_counters.specs.Report.{is_threshold};
-    ghost use Rattle.hh_pool.specs.Settings.{Settings, max_workers};
+    ghost use Rattle.hh_pool.specs.Settings.{Settings};
+    ghost use Rattle.hh_workers.specs.Workers.{max_workers};
 
     ghost Value = { Settings };
 

@@ -3,9 +3,9 @@
 ghost use Rattle.std.specs.Prelude.{◌≡◌};
 ghost use Rattle.hh_pool.specs.Outcomes.{error_of};
 
-use crate::pieces::PieceFault;
 use hh_counters::{Heavy, Summary};
 use hh_countmin::Table;
+use hh_workers::PieceFault;
 use thiserror::Error;
 
 /// What an analysis of a stream comes to.

@@ -6,17 +6,19 @@ ghost use Rattle.hh_stream.specs.Weights.{Entry, max_total, total_of};
 ghost use Rattle.hh_stream.specs.Cuttings.{pieces_of, whole_of};
 ghost use Rattle.hh_counters.specs.Report.{weights_at};
 ghost use Rattle.hh_shared.specs.Seats.{fresh};
-ghost use Rattle.hh_pool.specs.Passes.{piece_of, AreSecondPasses, IsSecondPass, MayRefuse};
+ghost use Rattle.hh_pool.specs.Passes.{AreSecondPasses, IsSecondPass, MayRefuse};
+ghost use Rattle.hh_workers.specs.Pieces.{piece_of};
 ghost use Rattle.hh_pool.specs.Progress.{AreCounted, IsCountedOn};
 
 use crate::first::sum_of_totals;
-use crate::gate::Gate;
-use crate::pass::{Pass, Work, add_numbers, run_alone, run_worker};
-use crate::pieces::{CutStream, PieceFault, Pieces, only_memory};
 use hh_counters::{CandidateCounts, Candidates};
 use hh_shared::{SharedSums, SumSeat};
 use hh_stream::laws::pieces_make_the_whole;
 use hh_stream::{Cutting, Stream, TakeItems};
+use hh_workers::{
+    CutStream, Gate, Pass, PieceFault, Pieces, Work, add_numbers, only_memory, run_alone,
+    run_worker,
+};
 use std::alloc::{AllocError, Global};
 
 /// What each worker of the second pass works on.

@@ -5,7 +5,7 @@ use Rattle.hh_stream.specs.Ranges.{in_range}
 use Rattle.hh_stream.specs.Weights.{Entry, total_of}
 use Rattle.hh_counters.specs.Condensed.{entry_of, free_name}
 use Rattle.hh_counters.specs.Counters.{Counters, SummaryView, exceeds}
-use Rattle.hh_pool.specs.Settings.{max_workers}
+use Rattle.hh_workers.specs.Workers.{max_workers}
 use Rattle.hh_records.specs.Streams.{Known}
 use Rattle.hh_rows.specs.Thresholds.{threshold_of}
 use Rattle.hh_rows.specs.declared.threshold.Share.{Share}

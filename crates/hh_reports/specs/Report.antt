@@ -6,11 +6,12 @@ use Rattle.hh_stream.specs.Weights.{Entry, max_total, total_of}
 use Rattle.hh_counters.specs.Report.{IsShare, heavy}
 use Rattle.hh_counters.specs.Counters.{max_k}
 use Rattle.hh_countmin.specs.Family.{drawn_family, max_depth, max_width}
-use Rattle.hh_pool.specs.PlanTexts.{PlanRefused, SpellsTree}
-use Rattle.hh_pool.specs.Settings.{Settings, max_workers}
-use Rattle.hh_pool.specs.Trees.{IsBalanced, IsMergeTree, MergeTree, chain_of, leaves}
-use Rattle.hh_pool.specs.declared.parsing.PlanFault.{PlanFault}
-use Rattle.hh_pool.specs.declared.parsing.PlanFault.TheVariants as plan
+use Rattle.hh_workers.specs.PlanTexts.{PlanRefused, SpellsTree}
+use Rattle.hh_pool.specs.Settings.{Settings}
+use Rattle.hh_workers.specs.Workers.{max_workers}
+use Rattle.hh_workers.specs.Trees.{IsBalanced, IsMergeTree, MergeTree, chain_of, leaves}
+use Rattle.hh_workers.specs.declared.parsing.PlanFault.{PlanFault}
+use Rattle.hh_workers.specs.declared.parsing.PlanFault.TheVariants as plan
 use Rattle.hh_stream.specs.Ranges.{in_range}
 use Rattle.hh_rows.specs.Printed.{printed_rows}
 use Rattle.hh_rows.specs.Rows.{rows_of}

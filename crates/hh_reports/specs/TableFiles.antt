@@ -2,7 +2,7 @@
 use Rattle.std.specs.Prelude.{not, ℕ, Option, Some, None, if◌then◌else◌}
 use Rattle.hh_stream.specs.Ranges.{in_range}
 use Rattle.hh_countmin.specs.Family.{max_depth, max_width}
-use Rattle.hh_pool.specs.Settings.{max_workers}
+use Rattle.hh_workers.specs.Workers.{max_workers}
 use Rattle.hh_commands.specs.declared.error.ToolError.{ToolError}
 use Rattle.hh_commands.specs.declared.error.ToolError.TheVariants as tool
 

@@ -7,7 +7,7 @@ ghost use Rattle.hh_stream.specs.Ranges.{in_range};
 ghost use Rattle.hh_stream.specs.Weights.{max_total};
 ghost use Rattle.hh_counters.specs.Counters.{IsCounters};
 ghost use Rattle.hh_counters.specs.Counting.{count_of};
-ghost use Rattle.hh_pool.specs.Settings.{max_workers};
+ghost use Rattle.hh_workers.specs.Workers.{max_workers};
 ghost use Rattle.hh_records.specs.Layouts.{texts_known};
 ghost use Rattle.hh_reports.specs.FilePasses.{items_of_weights, weighted};
 ghost use Rattle.hh_commands.specs.Records.{CountsRecords, RecordsRefused};

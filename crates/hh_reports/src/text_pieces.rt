@@ -1,7 +1,7 @@
 //! Texts in pieces, as the workers of a report read them.
 
 ghost use Rattle.std.specs.Prelude.{◌≡◌, Some, None, get_or, map};
-ghost use Rattle.hh_pool.specs.Passes.{piece_of};
+ghost use Rattle.hh_workers.specs.Pieces.{piece_of};
 ghost use Rattle.hh_reports.specs.Report.{items_or_none};
 
 use hh_pieces::CutTexts;

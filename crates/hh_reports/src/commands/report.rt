@@ -2,7 +2,7 @@
 
 ghost use Rattle.std.specs.Prelude.{◌≡◌, List, false, true, length, IfOk, IfErr, IfSome, OnOk, MatchResult, Err, None, Ok, Some};
 ghost use Rattle.hh_stream.specs.Cuttings.{max_pieces};
-ghost use Rattle.hh_pool.specs.Trees.{leaves};
+ghost use Rattle.hh_workers.specs.Trees.{leaves};
 ghost use Rattle.hh_counters.specs.Report.{IsShare, heavy};
 ghost use Rattle.hh_stream.specs.Ranges.{in_range};
 ghost use Rattle.hh_stream.specs.Weights.{Entry, total_of};

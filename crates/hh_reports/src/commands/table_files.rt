@@ -4,7 +4,7 @@ ghost use Rattle.std.specs.Prelude.{◌≡◌, true, IfOk, IfErr, IfSome, Err};
 ghost use Rattle.hh_stream.specs.Ranges.{in_range};
 ghost use Rattle.hh_countmin.specs.Family.{drawn_family, max_depth, max_width};
 ghost use Rattle.hh_countmin.specs.Table.{table_of};
-ghost use Rattle.hh_pool.specs.Settings.{max_workers};
+ghost use Rattle.hh_workers.specs.Workers.{max_workers};
 ghost use Rattle.hh_records.specs.Layouts.{texts_known};
 ghost use Rattle.hh_saved.specs.declared.saved.Saved.TheVariants.{Cells};
 ghost use Rattle.hh_commands.specs.Records.{RecordsRefused, RefusedAfter, SavesStream};

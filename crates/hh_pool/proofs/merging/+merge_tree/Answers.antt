@@ -1,9 +1,10 @@
 use Rattle.std.proofs.Common.{◌≡◌, ◌+◌, refl, arith}
 use Rattle.std.proofs.lemmas.List.{get_or_default}
 use Rattle.std.proofs.lemmas.Result.{err_from_is_err_and}
-use Rattle.hh_pool.specs.Plans.{shape}
+use Rattle.hh_workers.specs.Plans.{shape}
 use Rattle.hh_pool.specs.Trees.{merge_result, no_sketch, tree_result}
-use Rattle.hh_pool.proofs.MergeFacts.{left-places, merges, node-refusal, node-result, piece-place, right-places}
+use Rattle.hh_pool.proofs.MergeFacts.{node-refusal, node-result}
+use Rattle.hh_workers.proofs.LeafFacts.{left-places, merges, piece-place, right-places}
 use Rattle.hh_pool.proofs.merging.+merge_tree.Goals as goal
 
 pub bounds-summaries-i : goal.bounds-summaries-i

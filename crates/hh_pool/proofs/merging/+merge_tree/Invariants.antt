@@ -1,5 +1,5 @@
-use Rattle.hh_pool.specs.Plans.{shape}
-use Rattle.hh_pool.proofs.MergeFacts.{merges}
+use Rattle.hh_workers.specs.Plans.{shape}
+use Rattle.hh_workers.proofs.LeafFacts.{merges}
 use Rattle.hh_pool.proofs.merging.+merge_tree.Given as goal
 
 abbrev pub decreases-merge_tree : goal.decreases-merge_tree

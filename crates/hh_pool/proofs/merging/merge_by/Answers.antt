@@ -1,6 +1,6 @@
 use Rattle.std.proofs.Common.{ap, arith, length, IfOk}
 use Rattle.std.proofs.lemmas.Result.{IfOk-weaker}
-use Rattle.hh_pool.proofs.MergeFacts.{distinct-leaves, length_leaves}
+use Rattle.hh_workers.proofs.LeafFacts.{distinct-leaves, length_leaves}
 use Rattle.hh_pool.proofs.ValueFacts.{IsMergeOf, merge-of}
 use Rattle.hh_pool.proofs.merging.merge_by.Goals as goal
 

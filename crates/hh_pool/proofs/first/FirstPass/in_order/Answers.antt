@@ -6,7 +6,7 @@ use Rattle.std.proofs.lemmas.List.{append_assoc, append-nil, length-append, leng
 use Rattle.std.proofs.lemmas.List.MinMax.{ranks_by}
 use Rattle.std.proofs.lemmas.List.Sorted.{length_permutation}
 use Rattle.hh_counters.specs.Counters.{SummaryView, sketch_of}
-use Rattle.hh_pool.specs.Passes.{piece_of}
+use Rattle.hh_workers.specs.Pieces.{piece_of}
 use Rattle.hh_pool.proofs.Closed.{by_number}
 use Rattle.hh_pool.proofs.Ordered.{ordered}
 use Rattle.hh_pool.proofs.first.FirstPass.in_order.Goals as goal

@@ -1,6 +1,6 @@
 use Rattle.std.proofs.Common.{◌≡◌, arith, length, refl}
 use Rattle.std.proofs.lemmas.Bool.Decides.{nat_tests}
-use Rattle.hh_pool.specs.Passes.{piece_of}
+use Rattle.hh_workers.specs.Pieces.{piece_of}
 use Rattle.hh_pool.proofs.Held.{still_counted}
 use Rattle.hh_pool.proofs.Taken.{counted_on, on_ok}
 use Rattle.hh_pool.proofs.second.SecondPass.count_piece.Goals as goal

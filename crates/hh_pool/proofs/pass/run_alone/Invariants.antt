@@ -1,6 +1,0 @@
-use Rattle.std.proofs.Common.{ℕ, List}
-use Rattle.hh_pool.specs.Passes.{HasEach}
-use Rattle.hh_pool.proofs.pass.run_alone.Given as goal
-
-abbrev pub invariant-loop-piece : goal.invariant-loop-piece
-invariant-loop-piece g l = (numbers : List ℕ) × HasEach l.piece numbers × g.P.Pass.is_made l.pass numbers l.made

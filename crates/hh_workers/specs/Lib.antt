@@ -1,0 +1,5 @@
+pub mod Pieces
+pub mod PlanTexts
+pub mod Plans
+pub mod Trees
+pub mod Workers

@@ -1,0 +1,17 @@
+//! What an analysis by threads is made of, whatever it counts: pieces of any kind, plans to merge by,
+//! and workers that claim pieces and share sums.
+#![tactic(auto)]
+
+mod gate;
+mod parsing;
+mod pass;
+mod pieces;
+mod plan;
+mod workers;
+
+pub use gate::{Gate, OpenGate};
+pub use parsing::PlanFault;
+pub use pass::{Pass, Work, add_numbers, run_alone, run_worker};
+pub use pieces::{CutStream, PieceFault, Pieces, only_memory};
+pub use plan::{Plan, Tree};
+pub use workers::share_work;

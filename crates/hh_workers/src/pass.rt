@@ -1,0 +1,133 @@
+//! What workers that share sums run.
+
+ghost use Rattle.std.specs.Prelude.{◌≡◌, ◌+◌, ◌<◌, ◌≤◌, ◌++◌, ◌∷◌, [], ℕ, List, length, slice_index};
+ghost use Rattle.std.specs.Prelude.{IfOk, IsErrOf};
+ghost use Rattle.std.specs.List.Sorted.{IsStrictlyIncreasing};
+ghost use Rattle.hh_shared.specs.Tally.{AreDisjoint, IsDistinctBelow, cell_total};
+ghost use Rattle.hh_shared.specs.Seats.{Sums, Holding, fresh, seat_of_both};
+ghost use Rattle.hh_workers.specs.Workers.{AreSumsFor, HasEach};
+ghost use Rattle.hh_workers.specs.Workers.{HasTriedUpTo};
+
+use crate::pieces::PieceFault;
+use hh_shared::{SharedSums, SumSeat};
+use std::alloc::{AllocError, Global};
+
+/// What every pass works on: pieces, and the gate that hears of each.
+#[derive(Drop)]
+pub struct Work<'a, P, G> {
+    pub alloc: Global,
+    pub pieces: &'a P,
+    pub gate: &'a G,
+}
+
+/// A pass over pieces, of which each worker makes something of its own.
+pub trait Pass {
+    /// What is made of pieces.
+    type Made: Send + Drop;
+    /// What a worker hands over beside its seat.
+    type Kept: Send + Drop + 'static;
+
+    /// How many pieces there are.
+    ghost pieces: { Self → ℕ };
+    /// How many cells the sums have.
+    ghost cells: { Self → ℕ };
+    /// What was made of the pieces with these numbers, one after the other.
+    ghost is_made: { Self → List ℕ → Self.Made → Type 0 };
+    /// What the joined seat of workers and what they kept say of the pieces that they claimed.
+    ghost all_done: { Self → Holding → Self.Kept → Type 0 };
+    /// What is known where a piece was refused, or the weights of all are too large.
+    ghost may_refuse: { Self → Type 0 };
+
+    /// How many pieces there are.
+    fn count(&self) -> usize
+        ensures { result ≡ pieces self.now };
+
+    /// What is made of no piece.
+    fn begin(&self) -> Result<Self::Made, AllocError>
+        ensures { IfOk result (is_made self.now []) };
+
+    /// Takes one more piece, of which the gate hears first.
+    fn take(&self, made: Self::Made, worker: u64, piece: usize) -> Result<Self::Made, PieceFault>
+        requires { piece < pieces self.now }
+        ensures more { IfOk result (λ more. (numbers : List ℕ)
+            → IsDistinctBelow (pieces self.now) (numbers ++ piece ∷ [])
+            → is_made self.now numbers made → is_made self.now (numbers ++ piece ∷ []) more) }
+        ensures refused { IsErrOf result PieceFault.Refused → (numbers : List ℕ)
+            → IsDistinctBelow (pieces self.now) (numbers ++ piece ∷ [])
+            → is_made self.now numbers made → may_refuse self.now };
+
+    /// Adds what a worker made of its pieces to the sums, and gives what it keeps.
+    fn hand_over(&self, sums: &SharedSums, seat: &mut SumSeat, made: Self::Made) -> Self::Kept
+        requires seat { seat.old.sums ≡ sums.now }
+        requires fits { AreSumsFor (pieces self.now) (cells self.now) sums.now }
+        requires tried { HasTriedUpTo (pieces self.now) (pieces self.now) seat.old }
+        requires made { is_made self.now seat.old.claims made }
+        ensures unchanged { seat.new ≡ record seat.old { adds = seat.new.adds } }
+        ensures done { all_done self.now seat.new result };
+
+    /// What two workers kept, for their joined seats, which had no claim in common.
+    fn together(&self, one: Self::Kept, other: Self::Kept) -> Result<Self::Kept, PieceFault>
+        ensures both { IfOk result (λ both. (a b : Holding) → AreDisjoint a.claims b.claims
+            → all_done self.now a one → all_done self.now b other
+            → all_done self.now (seat_of_both a b) both) }
+        ensures refused { IsErrOf result PieceFault.Refused → (a b : Holding)
+            → AreDisjoint a.claims b.claims
+            → all_done self.now a one → all_done self.now b other → may_refuse self.now };
+}
+
+/// What the worker of this number runs: it claims pieces from the lowest on, takes those that no
+/// other worker has claimed, and hands over what it made.
+pub fn run_worker<P: Pass>(
+    pass: &P,
+    sums: &SharedSums,
+    mut seat: SumSeat,
+    worker: u64,
+) -> Result<(SumSeat, P::Kept), PieceFault>
+    requires fits { AreSumsFor (P.pieces pass.now) (P.cells pass.now) sums.now }
+    requires seat { seat ≡ fresh sums.now }
+    ensures sums { IfOk result (λ r. r.0.sums ≡ sums.now) }
+    ensures rising { IfOk result (λ r. IsStrictlyIncreasing r.0.claims) }
+    ensures all_done { IfOk result (λ r. P.all_done pass.now r.0 r.1) }
+    ensures refused { IsErrOf result PieceFault.Refused → P.may_refuse pass.now }
+{
+    let mut made = pass.begin()?;
+    for piece in 0..pass.count() {
+        if !sums.claim(&mut seat, piece) {
+            continue;
+        }
+        made = pass.take(made, worker, piece)?;
+    }
+    let kept = pass.hand_over(sums, &mut seat, made);
+    Ok((seat, kept))
+}
+
+/// What is made of all pieces by the calling thread, without sums. `workers` is what the gate
+/// hears.
+pub fn run_alone<P: Pass>(pass: &P, workers: u64) -> Result<P::Made, PieceFault>
+    ensures made { IfOk result (λ made. (numbers : List ℕ)
+        × HasEach (P.pieces pass.now) numbers × P.is_made pass.now numbers made) }
+    ensures refused { IsErrOf result PieceFault.Refused → P.may_refuse pass.now }
+{
+    let mut made = pass.begin()?;
+    for piece in 0..pass.count() {
+        made = pass.take(made, workers, piece)?;
+    }
+    Ok(made)
+}
+
+/// Adds to each cell the number at its place, those that are not 0.
+pub fn add_numbers(sums: &SharedSums, seat: &mut SumSeat, numbers: &[u64])
+    requires seat { seat.old.sums ≡ sums.now }
+    requires cells { length numbers.now ≤ sums.now.cells }
+    requires holds_a_claim { (cell : ℕ) → 0 < slice_index numbers.now cell
+        → 0 < length seat.old.claims }
+    ensures unchanged { seat.new ≡ record seat.old { adds = seat.new.adds } }
+    ensures added { (cell : ℕ) → cell_total cell seat.new.adds
+        ≡ cell_total cell seat.old.adds + slice_index numbers.now cell }
+{
+    for (cell, &number) in numbers.iter().enumerate() {
+        if number != 0 {
+            sums.add(seat, cell, number);
+        }
+    }
+}
