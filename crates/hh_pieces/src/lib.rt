@@ -22,4 +22,4 @@ pub use cuts::{cut_text, ends_outside_quotes, whole_records};
 pub use kept::{KeptReader, KeptText, Rest, keep_records, read_again, whole_texts};
 pub use pieces::{Columns, read_piece};
 pub use read_at::{ReadAt, Source};
-pub use sources::{FileOrPipe, FileRecords, SourceRecords, keep_pipes, lengths};
+pub use sources::{FileOrPipe, FileRecords, SourceRecords, are_as_long, keep_pipes, lengths};

@@ -1,6 +1,6 @@
 //! Records in files that are read at any place, and in pipes whose text is kept.
 
-ghost use Rattle.std.specs.Prelude.{◌≡◌, Some, length, IfErr, IfOk};
+ghost use Rattle.std.specs.Prelude.{◌≡◌, Some, true, length, IfErr, IfOk};
 ghost use Rattle.hh_pieces.specs.Files.{length_of, source_bytes};
 ghost use Rattle.hh_pieces.specs.Kept.{IsKnownStill};
 ghost use Rattle.hh_records.specs.Layouts.{TextsRefused, every, texts_known};
@@ -128,6 +128,20 @@ pub fn lengths<S: ReadAt>(alloc: Global, sources: &[S]) -> Result<Vec<u64>, Text
         }
     }
     Ok(lengths)
+}
+
+/// Whether each of some sources has as many bytes as before.
+pub fn are_as_long<S: ReadAt>(
+    alloc: Global,
+    sources: &[S],
+    before: &[u64],
+) -> Result<bool, TextError>
+    ensures still { IfOk result (λ same. same ≡ true
+        → IsKnownStill (every (length_of S.bytes) sources.now) (Some before.now)) }
+    ensures refused { IfErr result KeepRefused }
+{
+    let after = lengths(alloc, sources)?;
+    Ok(after.as_slice() == before)
 }
 
 impl<'s, S: ReadAt> ReadRecords for SourceRecords<'s, S> {

@@ -1,18 +1,15 @@
 -- How far a pass has come.
-use Rattle.std.specs.Prelude.{◌≡◌, ℕ, ◌<◌, ◌≤◌, All, List, [], ◌++◌, length}
-use Rattle.std.specs.List.Sorted.{IsStrictlyIncreasing}
+use Rattle.std.specs.Prelude.{◌≡◌, ℕ, ◌<◌, ◌≤◌, List, [], ◌++◌, length}
 use Rattle.hh_stream.specs.Weights.{Bytes, Entry, total_of}
 use Rattle.hh_counters.specs.Counters.{SummaryView, sketch_of}
 use Rattle.hh_counters.specs.Counting.{Count}
 use Rattle.hh_counters.specs.Report.{weights_at}
 use Rattle.hh_countmin.specs.Family.{Coefficients}
 use Rattle.hh_countmin.specs.Table.{TableView, grid_with, table_of}
-use Rattle.hh_shared.specs.Tally.{times, IsDistinctBelow}
-use Rattle.hh_shared.specs.Seats.{Holding}
+use Rattle.hh_shared.specs.Tally.{times}
 use Rattle.hh_counters.specs.SpaceSaving.{monitor_with}
 use Rattle.hh_pool.specs.Settings.{Settings}
 use Rattle.hh_pool.specs.Passes.{items_at, summaries_at}
-use Rattle.hh_workers.specs.Workers.{HasTried}
 use Rattle.hh_pool.specs.declared.first.Sketches.{Sketches}
 
 -- an item more, in both sketches

@@ -16,7 +16,7 @@ use crate::file_pieces::FilePieces;
 use hh_commands::{ToolError, count_records, free_name};
 use hh_counters::laws::{condensed_is_counted, condensed_keeps_weights, counts_follow_items};
 use hh_counters::{Candidates, Counts, Summary};
-use hh_pieces::{CutFiles, ReadAt, SourceRecords, lengths};
+use hh_pieces::{CutFiles, ReadAt, SourceRecords, are_as_long, lengths};
 use hh_pool::{PieceFault, count_pieces};
 use hh_stream::MAX_PIECES;
 use std::alloc::{AllocError, Global};
@@ -173,8 +173,7 @@ pub(crate) fn count_sources<T: Threads + Wait + Sync, S: ReadAt + Sync>(
     let Some(counts) = counts_side_by_side(rt, alloc, summary, workers, records)? else {
         return count_records(alloc, summary, records);
     };
-    let after = lengths(alloc, records.sources)?;
-    if before.as_slice() != after.as_slice() {
+    if !are_as_long(alloc, records.sources, &before)? {
         return count_records(alloc, summary, records);
     }
     Ok(counts)

@@ -17,7 +17,7 @@ use crate::file_pieces::FilePieces;
 use hh_commands::{ReportOptions, ToolError, count_records, rows_above, summary_by_monitoring};
 use hh_counters::Heavy;
 use hh_counters::laws::{candidates_suffice, misra_gries_is_honest};
-use hh_pieces::{CutFiles, FileRecords, ReadAt, SourceRecords, keep_pipes, lengths};
+use hh_pieces::{CutFiles, FileRecords, ReadAt, SourceRecords, are_as_long, keep_pipes, lengths};
 use hh_pool::{OpenGate, Options, PiecesError, Plan, analyse_pieces};
 use hh_records::ReadRecords;
 use hh_rows::{RowOptions, Sink};
@@ -123,8 +123,7 @@ fn keys_of_sources<T: Threads + Wait + Sync, S: ReadAt + Sync>(
         Some(keys) => keys,
         None => keys_in_turn(alloc, records, k, *p, *q)?,
     };
-    let after = lengths(alloc, records.sources)?;
-    if before.as_slice() != after.as_slice() {
+    if !are_as_long(alloc, records.sources, &before)? {
         return Err(ToolError::ReadFault);
     }
     Ok(keys)

@@ -15,7 +15,7 @@ use crate::file_passes::piece_count;
 use crate::file_pieces::FilePieces;
 use hh_commands::{ToolError, table_of_records};
 use hh_countmin::{Family, MAX_DEPTH, MAX_WIDTH, Table};
-use hh_pieces::{CutFiles, ReadAt, SourceRecords, lengths};
+use hh_pieces::{CutFiles, ReadAt, SourceRecords, are_as_long, lengths};
 use hh_pool::{MAX_WORKERS, PieceFault, tabulate_pieces};
 use hh_saved::{Saved, write};
 use hh_stream::in_range;
@@ -75,8 +75,7 @@ fn table_of_sources<T: Threads + Wait + Sync, S: ReadAt + Sync>(
     let Some(table) = table_side_by_side(rt, alloc, &family, width, workers, records)? else {
         return table_of_records(alloc, width, depth, seed, records);
     };
-    let after = lengths(alloc, records.sources)?;
-    if before.as_slice() != after.as_slice() {
+    if !are_as_long(alloc, records.sources, &before)? {
         return table_of_records(alloc, width, depth, seed, records);
     }
     Ok(table)
