@@ -15,11 +15,6 @@ use Rattle.hh_pool.proofs.Tried.{all_zero, none_counted}
 not_empty : {A : Type 0} (xs : List ℕ) (n : ℕ) (zs : List A) → xs ++ n ∷ [] ≡ [] → zs ≡ []
 not_empty xs n zs none = absurd (omega (arith, ap length none, length-append xs (n ∷ [])))
 
--- no piece has nothing
-pub holds_begins : (settings : Settings) (grid : TableView) → grid ≡ table_of settings.family settings.width []
-    → HoldsItems settings [] [] grid
-holds_begins settings grid e = record { xs = []; table = e; none = λ _. refl; one_each = refl }
-
 -- a piece more was summarised
 pub holds_more : (settings : Settings) (numbers : List ℕ) (n : ℕ) (kept more : List (ℕ × SummaryView))
     (was grid : TableView) (s : SummaryView) (gives : List Entry → Type 0) → more ≡ kept ++ (n, s) ∷ []
@@ -42,10 +37,11 @@ claim-behind_cell settings [] kept grid p cell some =
     absurd (omega (arith, ap (λ g. get_or g.cells cell 0) none, zeros))
 claim-behind_cell settings (i ∷ is) kept grid p cell some = omega arith
 
--- the same of the second pass
+-- the second pass has counted nothing in no piece
 pub counted_begins : (keys : List Bytes) (counts : Count) → counts ≡ count_of keys [] → HasCounted keys [] counts
 counted_begins keys counts e = record { xs = []; counted = none_counted keys counts e; none = λ _. refl }
 
+-- a piece more was counted
 pub counted_more : (keys : List Bytes) (numbers : List ℕ) (n : ℕ) (counts more : Count)
     (gives : List Entry → Type 0) → HasCounted keys numbers counts → IsCountedOn gives keys counts more
     → HasCounted keys (numbers ++ n ∷ []) more

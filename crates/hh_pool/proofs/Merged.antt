@@ -1,5 +1,5 @@
 -- The merged summary can be made, and is what the analysis says.
-use Rattle.std.proofs.Common.{◌≡◌, ℕ, ◌+◌, ◌*◌, ◌<◌, ◌≤◌, List, [], ◌∷◌, length, length-append, get_or, map, refl, sym, ap, ◌∙◌, subst, arith, Ok, Err, sum_by, zip}
+use Rattle.std.proofs.Common.{◌≡◌, ℕ, ◌+◌, ◌*◌, ◌<◌, ◌≤◌, List, [], ◌∷◌, length, length-append, get_or, map, refl, sym, ap, ◌∙◌, subst, arith, Ok, Err, sum_by}
 use Rattle.std.specs.Map.{keys_of}
 use Rattle.std.proofs.lemmas.List.{get_or-map, length-map}
 use Rattle.std.proofs.lemmas.List.Sums.{sum_by-append, sum_by-cons}
@@ -8,7 +8,7 @@ use Rattle.hh_stream.specs.Weights.{Bytes, Entry, weight_of, total_of, max_total
 use Rattle.hh_stream.specs.Cuttings.{whole_of}
 use Rattle.hh_counters.specs.Counters.{SummaryView, sketch_of, merge_of, misra_gries, IsHonest}
 use Rattle.hh_counters.specs.declared.summary.MergeFault.{MergeFault}
-use Rattle.hh_counters.specs.Report.{contenders, heavy, rows_above, keys_above, weights_at}
+use Rattle.hh_counters.specs.Report.{contenders, keys_above}
 use Rattle.hh_counters.specs.Laws.{MisraGriesIsHonest, JoinOfHonestIsHonest, ContendersSuffice, PrunedSuffice}
 use Rattle.hh_shared.specs.Tally.{times}
 use Rattle.hh_pool.specs.Trees.{merge_both, merge_result, no_sketch, tree_result, tree_value}
@@ -114,12 +114,6 @@ pruned_enough contend thin s xs p q total ks keys numbers bound honest enough mo
     let here : keys ≡ keys_above p q (total_of xs) all (map bound all) = keys_are
     ∙ (λ i. keys_above p q (total_is i) (ks_are i) ((numbers_are ∙ ap (map bound) ks_are) i)) in
     rw here (thin all bound xs p q most ∙ contend s xs p q honest enough)
-
--- the second pass over candidates that are enough finds the heavy keys
-pub heavy_is : (xs : List Entry) (p q total : ℕ) (keys : List Bytes) (weights : List ℕ) → AreEnough keys xs p q
-    → total ≡ total_of xs → weights ≡ weights_at keys xs → rows_above p q total (zip keys weights) ≡ heavy xs p q
-heavy_is xs p q total keys weights enough total_is weights_are =
-    (λ i. rows_above p q (total_is i) (zip keys (weights_are i))) ∙ enough
 
 -- so no refusal comes
 pub no_refusal : (t : MergeTree) (k : ℕ) (pieces : List (List Entry)) (ss : List SummaryView) (e : MergeFault)

@@ -1,16 +1,15 @@
 -- Sums over the items of pieces.
-use Rattle.std.proofs.Common.{◌≡◌, ℕ, ◌+◌, ◌≤◌, cond, Bool, true, false, List, [], ◌∷◌, length, refl, sym, ap, ◌∙◌, subst, arith, sum_by}
+use Rattle.std.proofs.Common.{◌≡◌, ℕ, ◌+◌, ◌≤◌, cond, Bool, true, false, List, [], ◌∷◌, length, refl, sym, ap, ◌∙◌, arith, sum_by}
 use Rattle.std.specs.List.{flat_map}
 use Rattle.std.proofs.lemmas.List.Sums.{sum_by-cons, sum_by-append, sum_by-le-sum_by}
 use Rattle.hh_stream.specs.Weights.{Bytes, Entry, at_key, weight_of, total_of}
-use Rattle.hh_stream.specs.Cuttings.{pieces_of, whole_of}
+use Rattle.hh_stream.specs.Cuttings.{whole_of}
 use Rattle.hh_countmin.specs.Family.{Coefficients}
 use Rattle.hh_countmin.specs.Table.{at_cell, cell_sum}
 use Rattle.hh_shared.specs.Tally.{IsDistinctBelow, HasAllBelow}
 use Rattle.hh_pool.specs.Passes.{items_at}
 use Rattle.hh_workers.specs.Pieces.{piece_of}
 use Rattle.hh_shared.proofs.Tallies.{sum_by-all, sum_by-distinct}
-use Rattle.hh_workers.proofs.CutFacts.{length-pieces_of}
 
 module _ {X A : Type 0} where
   -- a sum over the parts is a sum of the parts' sums
@@ -46,13 +45,3 @@ sum_by-items f pieces claims d =
     let parts = sum_by-flat_map f (piece_of pieces) claims in
     let whole = sum_by-flat_map f (λ piece. piece) pieces in
     omega (arith, parts, sum_by-distinct (sum_by f) [] pieces claims d, whole)
-
--- numbers that are different and below the count of a cutting's lengths are so below the count of its pieces
-pub distinct_pieces : {A : Type 0} (ns : List ℕ) (xs : List A) (count : ℕ) (claims : List ℕ) → count ≡ length ns
-    → IsDistinctBelow count claims → IsDistinctBelow (length (pieces_of ns xs)) claims
-distinct_pieces ns xs count claims e = subst (λ n. IsDistinctBelow n claims) (e ∙ sym (length-pieces_of ns xs))
-
--- and all of those are all of these
-pub all_pieces : {A : Type 0} (ns : List ℕ) (xs : List A) (count : ℕ) (claims : List ℕ) → count ≡ length ns
-    → HasAllBelow count claims → HasAllBelow (length (pieces_of ns xs)) claims
-all_pieces ns xs count claims e = subst (λ n. HasAllBelow n claims) (e ∙ sym (length-pieces_of ns xs))

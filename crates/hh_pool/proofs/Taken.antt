@@ -16,6 +16,7 @@ pub on_ok : {X E P Q : Type 0} (r : Result X E) → (P → Q) → OnOk r P → O
 on_ok (Ok x) f p = f p
 on_ok (Err e) f p = tt
 
+-- and from what it says of its value
 pub ok_tells : {X E Q : Type 0} (r : Result X E) (P : X → Type 0) → ((x : X) → P x → Q) → IfOk r P → OnOk r Q
 ok_tells (Ok x) P f p = f x p
 ok_tells (Err e) P f p = tt

@@ -41,13 +41,7 @@ all_zero [] i = refl
 all_zero (x ∷ xs) zero = refl
 all_zero (x ∷ xs) (suc i) = all_zero xs i
 
--- the first pass begins with no summary and the table of no items
-pub first_begins : (reads : ℕ → Type 0) (pieces : List (List Entry)) (settings : Settings) (grid : TableView)
-    → grid ≡ table_of settings.family settings.width [] → IsFirstMade reads pieces settings [] [] grid
-first_begins reads pieces settings grid e =
-    record { read = λ i some. absurd (omega arith); summaries = refl; table = e }
-
--- it has summarised one piece more and added its items to the table
+-- the first pass has summarised one piece more and added its items to the table
 pub first_more : (reads : ℕ → Type 0) (pieces : List (List Entry)) (settings : Settings) (numbers : List ℕ) (n : ℕ)
     (kept more : List (ℕ × SummaryView)) (was grid : TableView) → reads n
     → more ≡ kept ++ (n, sketch_of settings.k (piece_of pieces n)) ∷ []

@@ -48,17 +48,18 @@ pub record IsCountedOn (gives : List Entry → Type 0) (keys : List Bytes) (befo
   pub given : gives xs
   pub on : (ys : List Entry) → AreCounted keys ys before → AreCounted keys (ys ++ xs) after
 
--- Whatever the items of the pieces are, the first pass has a summary for each of these, and its
--- table is that of some items, of none where there are no pieces
-pub record HoldsItems (settings : Settings) (claims : List ℕ) (kept : List (ℕ × SummaryView)) (grid : TableView)
+-- Whatever the items of the pieces with these numbers are, the first pass has a summary for each, and its table is that
+-- of some items, of none where there is no number
+pub record HoldsItems (settings : Settings) (numbers : List ℕ) (kept : List (ℕ × SummaryView)) (grid : TableView)
     : Type 0 where
   pub xs : List Entry
   pub table : grid ≡ table_of settings.family settings.width xs
-  pub none : claims ≡ [] → xs ≡ []
-  pub one_each : length kept ≡ length claims
+  pub none : numbers ≡ [] → xs ≡ []
+  pub one_each : length kept ≡ length numbers
 
--- whatever the items are, the second pass has counted in some, in none where there are no pieces
-pub record HasCounted (keys : List Bytes) (claims : List ℕ) (counts : Count) : Type 0 where
+-- whatever the items of the pieces with these numbers are, the second pass has counted in some, in none where there is no
+-- number
+pub record HasCounted (keys : List Bytes) (numbers : List ℕ) (counts : Count) : Type 0 where
   pub xs : List Entry
   pub counted : AreCounted keys xs counts
-  pub none : claims ≡ [] → xs ≡ []
+  pub none : numbers ≡ [] → xs ≡ []

@@ -1,14 +1,14 @@
 -- What a worker has tried and claimed.
-use Rattle.std.proofs.Common.{◌≡◌, ℕ, ◌+◌, ◌<◌, ◌≤◌, List, [], ◌∷◌, ◌++◌, length, ⊎_elim, refl, sym, ap, ◌∙◌, arith, All}
+use Rattle.std.proofs.Common.{◌≡◌, ℕ, ◌+◌, ◌<◌, ◌≤◌, List, [], ◌∷◌, ◌++◌, length, ⊎_elim, sym, ap, ◌∙◌, arith, All}
 use Rattle.std.proofs.lemmas.List.{get_or_append_left, get_or_push, length-append}
-use Rattle.std.proofs.lemmas.List.Elements.{All-nil, All-push}
+use Rattle.std.proofs.lemmas.List.Elements.{All-push}
 use Rattle.std.specs.List.Sorted.{IsStrictlyIncreasing}
 use Rattle.std.proofs.lemmas.Bool.{cases_lt}
 use mathlib.Core.Logic.{dite}
 use native.Mathlib.Decide.{ℕ_discrete}
 use Rattle.hh_shared.proofs.Tallies.{times-append, times-push, times-push_other}
 use Rattle.hh_shared.specs.Tally.{times, IsDistinctBelow}
-use Rattle.hh_shared.specs.Seats.{Sums, Holding, fresh, seat_of_both}
+use Rattle.hh_shared.specs.Seats.{Holding, seat_of_both}
 use Rattle.hh_workers.specs.Workers.{HasEach, HasTried}
 use Rattle.hh_workers.specs.Workers.{HasTriedUpTo}
 
@@ -29,20 +29,14 @@ pub tried-joined : (n : ℕ) (one other : Holding) → HasTried n one → HasTri
 tried-joined n one other tried i low =
     omega (arith, tried i low, times-append i one.claims other.claims, times-append i one.met other.met)
 
--- no numbers are distinct
-pub none_distinct : (n : ℕ) → IsDistinctBelow n []
-none_distinct n = record { once = λ j. omega arith; below = λ j some. absurd (omega arith) }
-
--- each number below n, and n itself
-pub each_none : HasEach 0 []
-each_none = record { distinct = none_distinct 0; all = record { has = λ j low. absurd (omega arith) } }
-
+-- a number does not stand among those below it
 none_of-next : (n : ℕ) (numbers : List ℕ) → IsDistinctBelow n numbers → times n numbers ≡ 0
 none_of-next n numbers p = ⊎_elim
     (λ (some : 0 < times n numbers). absurd (omega (arith, p.below n some)))
     (λ (none : times n numbers ≤ 0). omega arith)
     (cases_lt 0 (times n numbers))
 
+-- one more after each number below it
 pub each_more : (n : ℕ) (numbers : List ℕ) → HasEach n numbers → HasEach (n + 1) (numbers ++ n ∷ [])
 each_more n numbers p = record {
   distinct = record {
@@ -60,6 +54,7 @@ each_more n numbers p = record {
   };
 }
 
+-- what is distinct below a number is so below a greater one
 pub distinct_below : (n most : ℕ) (numbers : List ℕ) → n ≤ most → IsDistinctBelow n numbers → IsDistinctBelow most numbers
 distinct_below n most numbers low p = record { once = p.once; below = λ j some. omega (arith, low, p.below j some) }
 
@@ -75,16 +70,7 @@ rising-push xs n rises low k within = ⊎_elim
     omega (arith, low k 0 (omega arith), there, get_or_push xs n 0 (k + 1) (sym last)))
     (cases_lt (k + 1) (length xs))
 
--- what a worker has tried: nothing, one piece more that it met, and one more that it claimed
-pub nothing_tried : (count : ℕ) (sums : Sums) → HasTriedUpTo count 0 (fresh sums)
-nothing_tried count sums = record {
-  tried = λ i low. absurd (omega arith);
-  distinct = none_distinct count;
-  rising = λ k low. absurd (omega arith);
-  low = All-nil (λ (i : ℕ). i < 0);
-  none_added = refl;
-}
-
+-- what a worker has tried, with one piece more that it met, and with one more that it claimed
 pub one_more_met : (count n : ℕ) (seat after : Holding) → after ≡ record seat { met = seat.met ++ n ∷ [] }
     → HasTriedUpTo count n seat → HasTriedUpTo count (n + 1) after
 one_more_met count n seat after e p = rw e (record {
