@@ -11,6 +11,7 @@ ghost use Rattle.hh_counters.specs.SpaceSaving.{monitor_with};
 ghost use Rattle.std.specs.BTreeSet.{IsUnchanged, Updates as SetUpdates, insert_key};
 ghost use Rattle.hh_counters.specs.Buckets.{HasFreshFirst, IsTakenIn, BoundCounters, by_counter};
 
+use crate::entries::push_copy;
 use crate::monitor::Monitor;
 use crate::shared_key::SharedKey;
 use crate::sought::Sought;
@@ -214,7 +215,7 @@ fn entries_above(
     for i in 0..index.len() {
         if let Some((key, counter)) = index.get_index(i) {
             if *counter > least {
-                entries.push((key.key().copy()?, *counter - least))?;
+                push_copy(&mut entries, key.key(), *counter - least)?;
             }
         }
     }

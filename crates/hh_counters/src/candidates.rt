@@ -1,9 +1,10 @@
 //! The keys of a summary as candidates for the report.
 
-ghost use Rattle.std.specs.Prelude.{◌≡◌, ℕ, ◌+◌, ◌*◌, ◌<◌, ◌≤◌, ◌^◌, ◌↔◌, ◌==◌, [], ◌∷◌, All, Contains, IsSome, IfSome, IsOk, IfOk, Some, length, slice_get, nat_lt, zip};
+ghost use Rattle.std.specs.Prelude.{◌≡◌, ℕ, ◌+◌, ◌*◌, ◌<◌, ◌≤◌, ◌^◌, ◌↔◌, ◌==◌, [], ◌∷◌, All, Contains, IsSome, IfSome, IsOk, IfOk, OnOk, Some, length, slice_get, nat_lt, zip};
 ghost use Rattle.std.specs.List.Sorted.{IsStrictlySortedBy};
 ghost use Rattle.std.specs.Map.{keys_of};
-ghost use Rattle.hh_stream.specs.Weights.{key_cmp, total_of};
+ghost use Rattle.indexmap.specs.IndexSet.{insert_key};
+ghost use Rattle.hh_stream.specs.Weights.{key_cmp, same_key, total_of};
 ghost use Rattle.hh_counters.specs.Counters.{max_k};
 ghost use Rattle.hh_counters.specs.Report.{IsShare, contenders, counts_with, rows_above, keys_above};
 
@@ -44,7 +45,7 @@ impl Candidates {
         let mut keys = IndexSet::with_capacity(alloc, summary.len())?;
         for i in 0..summary.len() {
             let (key, _) = summary.entry(i);
-            keys.insert(key.copy()?)?;
+            insert_copy(&mut keys, key)?;
         }
         Ok(Candidates { keys })
     }
@@ -68,7 +69,7 @@ impl Candidates {
         for i in 0..summary.len() {
             let (key, counter) = summary.entry(i);
             if can_be_heavy(counter, summary.k(), summary.total(), sum, p, q) {
-                keys.insert(key.copy()?)?;
+                insert_copy(&mut keys, key)?;
             }
         }
         Ok(Candidates { keys })
@@ -93,7 +94,7 @@ impl Candidates {
         let mut keys = IndexSet::new(*self.keys.allocator());
         for i in 0..numbers.len() {
             if is_heavy(numbers[i], p, q, total) {
-                keys.insert(self.keys.as_slice()[i].copy()?)?;
+                insert_copy(&mut keys, &self.keys.as_slice()[i])?;
             }
         }
         Ok(Candidates { keys })
@@ -198,6 +199,14 @@ impl Candidates {
         let alloc = *self.keys.allocator();
         selected_rows(alloc, self.keys.as_slice(), numbers, p, q, total)
     }
+}
+
+// Puts a copy of the key into the set.
+fn insert_copy(keys: &mut IndexSet<Key>, key: &Key) -> Result<(), AllocError>
+    ensures { OnOk result (keys.new.keys ≡ insert_key same_key keys.old.keys key.now) }
+{
+    keys.insert(key.copy()?)?;
+    Ok(())
 }
 
 // Whether a key with this counter can have more than p/q of the total.

@@ -10,7 +10,7 @@ ghost use Rattle.hh_stream.specs.Ranges.{in_range};
 
 use crate::candidates::Candidates;
 use crate::laws::{counts_add_up, counts_stay_within};
-use crate::report::Heavy;
+use crate::report::{Heavy, push_row};
 use crate::summary::Summary;
 use hh_stream::Stream;
 use std::alloc::{AllocError, Global};
@@ -115,8 +115,7 @@ impl Counts {
         for place in 0..self.candidates.len() {
             let weight = self.weights[place];
             if weight > 0 {
-                let key = self.candidates.key(place).copy()?;
-                rows.push(Heavy { key, weight })?;
+                push_row(&mut rows, self.candidates.key(place), weight)?;
             }
         }
         Ok(rows)

@@ -256,8 +256,12 @@ fn plus(
     Ok(all)
 }
 
-// Puts a copy of the key last, with the number.
-fn push_copy(entries: &mut Vec<(Key, u64)>, key: &Key, number: u64) -> Result<(), AllocError>
+/// Puts a copy of the key last, with the number.
+pub(crate) fn push_copy(
+    entries: &mut Vec<(Key, u64)>,
+    key: &Key,
+    number: u64,
+) -> Result<(), AllocError>
     ensures { OnOk result (entries.new.items ≡ entries.old.items ++ (key.now, number) ∷ []) }
 {
     entries.push((key.copy()?, number))?;

@@ -1,6 +1,6 @@
 //! The rows of a report, and their choice among candidates.
 
-ghost use Rattle.std.specs.Prelude.{◌≡◌, ◌*◌, nat_lt, true, [], IsOk, IfOk, filter, length, zip};
+ghost use Rattle.std.specs.Prelude.{◌≡◌, ◌*◌, ◌∷◌, ◌++◌, nat_lt, true, [], IsOk, IfOk, OnOk, filter, length, zip};
 ghost use Rattle.std.specs.List.Sorted.{IsStrictlySortedBy};
 ghost use Rattle.hh_stream.specs.Ranges.{in_range};
 ghost use Rattle.hh_stream.specs.Weights.{key_cmp};
@@ -67,14 +67,19 @@ fn heavy_rows(
     let mut rows = Vec::new(alloc);
     for i in 0..keys.len() {
         if is_heavy(numbers[i], p, q, total) {
-            let row = Heavy {
-                key: keys[i].copy()?,
-                weight: numbers[i],
-            };
-            rows.push(row)?;
+            push_row(&mut rows, &keys[i], numbers[i])?;
         }
     }
     Ok(rows)
+}
+
+/// Puts a row with a copy of the key last.
+pub(crate) fn push_row(rows: &mut Vec<Heavy>, key: &Key, weight: u64) -> Result<(), AllocError>
+    ensures { OnOk result (rows.new.items ≡ rows.old.items ++ (key.now, weight) ∷ []) }
+{
+    let key = key.copy()?;
+    rows.push(Heavy { key, weight })?;
+    Ok(())
 }
 
 /// Whether the number is more than p/q of the total.

@@ -8,12 +8,7 @@ use Rattle.hh_countmin.specs.Table.{TableView, table_of}
 use Rattle.hh_pool.specs.Tabulated.{IsTable}
 use Rattle.hh_pieces.specs.CutTexts.{AreReadByPieces}
 use Rattle.hh_records.specs.Layouts.{stream_with}
-use Rattle.hh_records.specs.Streams.{Known}
 use Rattle.hh_records.specs.declared.layout.Layout.{Layout}
-use Rattle.hh_saved.specs.Spelling.{Spells}
-use Rattle.hh_saved.specs.declared.format.Version.TheVariants as version
-use Rattle.hh_saved.specs.declared.saved.Saved.TheVariants.{Cells}
-use Rattle.hh_commands.specs.Records.{SavesStream}
 use Rattle.hh_reports.specs.ReportFiles.{items_or_too_many, lists_of}
 use Rattle.hh_commands.specs.Table.{TabulatesRecords}
 use Rattle.hh_reports.proofs.FilePieceFacts.{each_is_read}

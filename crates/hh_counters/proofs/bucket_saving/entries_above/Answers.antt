@@ -5,7 +5,7 @@ use Rattle.hh_counters.specs.Counters.{Counters}
 use Rattle.hh_counters.proofs.Level.{lower-nil}
 use Rattle.hh_counters.proofs.Sorting.{lower_above, lower_below}
 use Rattle.hh_counters.proofs.bucket_saving.entries_above.Goals as goal
-use Rattle.hh_counters.proofs.bucket_saving.entries_above.Goals.{in-Some+then-counter-least+in_ok-copy+in_ok-push, in-Some+else-counter-least, in_default}
+use Rattle.hh_counters.proofs.bucket_saving.entries_above.Goals.{in-Some+then-counter-least+in_ok-push_copy, in-Some+else-counter-least, in_default}
 
 pub loop-i-init : goal.loop-i-init
 loop-i-init c = c.new-entries.ensures.items ∙ sym (lower-nil c.args.least)
@@ -19,11 +19,10 @@ loop-i-preserved c =
     let at : (e : Entry) → Some e ≡ slice_get es i → e ≡ get_or es i e =
     λ e is. sym (get_or_from_slice_get es i e e (sym is)) in
     elim c.match-get_index.branch [
-      | in-Some+then-counter-least+in_ok-copy+in_ok-push w ↦
+      | in-Some+then-counter-least+in_ok-push_copy w ↦
           let e : Entry = (w.in-Some.key.now, w.in-Some.counter.now) in
-          ap (λ v. v.items) w.entries-is ∙ w.in_ok-push.ensures.items
-          ∙ ap₂ (λ (d : Counters) (k : Bytes). d ++ (k, e.1 - t) ∷ []) c.loop-i.invariant
-          (w.in_ok-copy.ensures.equal ∙ w.key.ensures)
+          ap (λ v. v.items) w.entries-is ∙ w.in_ok-push_copy.ensures
+          ∙ ap₂ (λ (d : Counters) (k : Bytes). d ++ (k, e.1 - t) ∷ []) c.loop-i.invariant w.key.ensures
           ∙ sym (lower_above t es i e l (at e w.in-Some.ensures.entry) w.if-counter-least.true)
       | in-Some+else-counter-least w ↦
           let e : Entry = (w.in-Some.key.now, w.in-Some.counter.now) in

@@ -1,4 +1,4 @@
-use Rattle.std.proofs.Common.{◌≡◌, length, take, get_or, sym, ap, ap₂, ◌∙◌, subst, arith, filter}
+use Rattle.std.proofs.Common.{◌≡◌, length, take, get_or, sym, ap, ◌∙◌, subst, arith, filter}
 use Rattle.std.specs.List.Sorted.{IsStrictlySortedBy}
 use Rattle.std.specs.Map.{keys_of}
 use Rattle.std.proofs.lemmas.List.{length-take, take_all}
@@ -9,7 +9,7 @@ use Rattle.hh_stream.specs.Weights.{Entry, key_cmp, same_key}
 use Rattle.hh_counters.specs.Report.{can_be_heavy, contenders}
 use Rattle.hh_counters.proofs.Counting.{insert_passing, passing_stays}
 use Rattle.hh_counters.proofs.Reports.{rising-filter}
-use Rattle.hh_counters.proofs.candidates.Candidates.contenders.Goals.{then-can_be_heavy+in_ok-copy+in_ok-insert, else-can_be_heavy}
+use Rattle.hh_counters.proofs.candidates.Candidates.contenders.Goals.{then-can_be_heavy+in_ok-insert_copy, else-can_be_heavy}
 use Rattle.hh_counters.proofs.candidates.Candidates.contenders.Goals as goal
 
 -- src/candidates.rt:66:9
@@ -23,10 +23,10 @@ loop-i-preserved c =
     let test : may e ≡ c.can_be_heavy.result =
     sym (rw (c.k.ensures.k, c.total.ensures.total, c.sum-sum.ensures.sum) at c.can_be_heavy.ensures) in
     elim c.if-can_be_heavy.branch [
-      | then-can_be_heavy+in_ok-copy+in_ok-insert w ↦
+      | then-can_be_heavy+in_ok-insert_copy w ↦
           ap (λ keys. keys.keys) w.keys-is
-          ∙ w.in_ok-insert.ensures.keys
-          ∙ ap₂ (insert_key same_key) c.loop-i.invariant w.in_ok-copy.ensures.equal
+          ∙ w.in_ok-insert_copy.ensures
+          ∙ ap (λ ks. insert_key same_key ks e.0) c.loop-i.invariant
           ∙ insert_passing may s.counters i e c.len-i-end.ensures.counters.rising (omega arith) at (test
           ∙ w.if-can_be_heavy.true)
       | else-can_be_heavy w ↦

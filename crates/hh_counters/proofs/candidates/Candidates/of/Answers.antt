@@ -1,4 +1,4 @@
-use Rattle.std.proofs.Common.{◌≡◌, take, get_or, sym, ap, ◌∙◌, arith}
+use Rattle.std.proofs.Common.{◌≡◌, get_or, sym, ap, ◌∙◌, arith}
 use Rattle.std.specs.Map.{keys_of}
 use Rattle.std.proofs.lemmas.List.{get_or-map}
 use Rattle.std.proofs.lemmas.Map.Entries.{length-keys_of}
@@ -15,7 +15,6 @@ loop-i-preserved c =
     let e : Entry = (x, c.entry.result.1) in
     let at : x ≡ get_or (keys_of counters) i x =
     ap (λ (d : Entry). d.0) c.entry.ensures ∙ sym (get_or-map (λ (d : Entry). d.0) counters i e x (omega arith)) in
-    c.in_ok-insert.ensures.keys
-    ∙ ap (λ ks. insert_key same_key ks c.in_ok-copy.field-0) c.loop-i.invariant
-    ∙ ap (insert_key same_key (take i (keys_of counters))) c.in_ok-copy.ensures.equal
+    c.in_ok-insert_copy.ensures
+    ∙ ap (λ ks. insert_key same_key ks x) c.loop-i.invariant
     ∙ insert_next (keys_of counters) i x c.len.ensures.counters.rising (omega (arith, length-keys_of counters)) at

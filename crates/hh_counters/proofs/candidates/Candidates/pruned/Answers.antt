@@ -1,4 +1,4 @@
-use Rattle.std.proofs.Common.{◌≡◌, ◌<◌, ℕ, List, [], length, sym, ap, ap₂, ◌∙◌, subst, take_all, arith, filter, zip, get_or, slice_index_or}
+use Rattle.std.proofs.Common.{◌≡◌, ◌<◌, ℕ, List, [], length, sym, ap, ◌∙◌, subst, take_all, arith, filter, zip, get_or, slice_index_or}
 use Rattle.std.specs.List.Sorted.{IsStrictlySortedBy}
 use Rattle.std.specs.Map.{keys_of}
 use Rattle.std.proofs.lemmas.List.{get_or_default}
@@ -11,7 +11,7 @@ use Rattle.hh_stream.specs.Weights.{Bytes, Entry, key_cmp, same_key}
 use Rattle.hh_counters.specs.Report.{is_heavy}
 use Rattle.hh_counters.proofs.Counting.{insert_passing, passing_stays}
 use Rattle.hh_counters.proofs.Reports.{rising-zip}
-use Rattle.hh_counters.proofs.candidates.Candidates.pruned.Goals.{then-is_heavy+in_ok-copy+in_ok-insert, else-is_heavy}
+use Rattle.hh_counters.proofs.candidates.Candidates.pruned.Goals.{then-is_heavy+in_ok-insert_copy, else-is_heavy}
 use Rattle.hh_counters.proofs.candidates.Candidates.pruned.Goals as goal
 
 pub loop-i-preserved : goal.loop-i-preserved
@@ -30,11 +30,11 @@ loop-i-preserved c =
     (k, number) (omega (arith, low, c.requires.lengths)) low
     ∙ (λ j. (sym is j, get_or_default ns i number 0 low j)) in
     elim c.if-is_heavy.branch [
-      | then-is_heavy+in_ok-copy+in_ok-insert w ↦
+      | then-is_heavy+in_ok-insert_copy w ↦
           let k : Bytes = w.index-as_slice-i.result in
           ap (λ keys. keys.keys) w.keys-is
-          ∙ w.in_ok-insert.ensures.keys
-          ∙ ap₂ (insert_key same_key) c.loop-i.invariant w.in_ok-copy.ensures.equal
+          ∙ w.in_ok-insert_copy.ensures
+          ∙ ap (λ ks. insert_key same_key ks k) c.loop-i.invariant
           ∙ insert_passing may zs i (k, number) rising within
           (at k (w.index-as_slice-i.is ∙ ap (λ (l : List Bytes). get_or l i k) (w.as_slice.ensures.keys
           ∙ c.self.view_is))) (sym c.is_heavy.ensures ∙ w.if-is_heavy.true)

@@ -5,7 +5,7 @@ use Rattle.std.proofs.lemmas.Slice.Zip.{length-zip}
 use Rattle.hh_counters.specs.Counters.{exceeds}
 use Rattle.hh_counters.proofs.CountFacts.{rows-came, rows-absent}
 use Rattle.hh_counters.proofs.counts.Counts.rows.Goals as goal
-use Rattle.hh_counters.proofs.counts.Counts.rows.Goals.{then-weight-gt0+in_ok-key+in_ok-push, else-weight-gt0}
+use Rattle.hh_counters.proofs.counts.Counts.rows.Goals.{then-weight-gt0+in_ok-push_row, else-weight-gt0}
 
 pub loop-place-preserved : goal.loop-place-preserved
 loop-place-preserved c =
@@ -17,11 +17,11 @@ loop-place-preserved c =
     let l : i < length ks = rw (← c.len-place-end.ensures.len) c.loop-place-test.true in
     let number = sym c.index-weight.ensures in
     elim c.if-weight-gt0.branch [
-      | then-weight-gt0+in_ok-key+in_ok-push w ↦
+      | then-weight-gt0+in_ok-push_row w ↦
           let k = w.key.result.now in
           let key = get_or_from_slice_get ks i k k w.key.ensures in
-          ap vec_items w.rows-is ∙ w.in_ok-push.ensures.items
-          ∙ (λ j. c.loop-place.invariant j ++ (w.in_ok-key.ensures.equal j, n) ∷ [])
+          ap vec_items w.rows-is ∙ w.in_ok-push_row.ensures
+          ∙ ap (λ rows. rows ++ (k, n) ∷ []) c.loop-place.invariant
           ∙ sym (rows-came ks ns i n k e l key number w.if-weight-gt0.true)
       | else-weight-gt0 w ↦
           let k = get_or ks i [] in
