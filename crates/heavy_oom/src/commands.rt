@@ -5,7 +5,7 @@ use crate::lab::{Lab, Said, marked, no_such_call};
 use crate::show::{Report, Taken};
 use heavy::{ConfirmFault, Method, Out, Sink, ToolError, confirm, put};
 use hh_counters::Summary;
-use hh_stream::{Key, Stream};
+use hh_stream::Stream;
 use std::test::Fail;
 
 pub fn call(lab: &Lab, name: &str) -> Result<Said, Fail> {
@@ -25,13 +25,16 @@ fn confirmed(lab: &Lab, summary: &Summary, stream: &Stream) -> Result<Said, Fail
 }
 
 // 20,000 different keys, none of which is heavy.
-fn confirmed_many(lab: &Lab) -> Result<Said, Fail> {
+fn many_keys(lab: &Lab) -> Result<Stream, Fail> {
     let mut stream = Stream::new(lab.alloc);
     for i in 0u32..20_000 {
-        let mut bytes = lab.bytes(b'k')?;
-        bytes.extend_from_slice(&i.to_be_bytes())?;
-        stream.push(Key::new(lab.alloc, bytes.as_slice())?, 1)?;
+        lab.push_one(&mut stream, b'k', &i.to_be_bytes())?;
     }
+    Ok(stream)
+}
+
+fn confirmed_many(lab: &Lab) -> Result<Said, Fail> {
+    let stream = many_keys(lab)?;
     let summary = Summary::of_items(lab.alloc, 2, stream.items())?;
     confirmed(lab, &summary, &stream)
 }

@@ -19,11 +19,14 @@ pub fn call(lab: &Lab, name: &str) -> Result<Said, Fail> {
 
 // A newcomer, by which all counters fall, and again where memory was refused.
 fn summary_add(lab: &Lab) -> Result<Said, Fail> {
-    let mut summary = lab.summary()?;
     let key = lab.key(b'd')?;
-    match added(lab, &mut summary, &key)? {
+    add_twice(lab, &mut lab.summary()?, &key)
+}
+
+fn add_twice(lab: &Lab, summary: &mut Summary, key: &Key) -> Result<Said, Fail> {
+    match added(lab, summary, key)? {
         Said::Answer => Ok(Said::Answer),
-        Said::Memory => added(lab, &mut summary, &key),
+        Said::Memory => added(lab, summary, key),
     }
 }
 
@@ -38,20 +41,37 @@ fn added(lab: &Lab, summary: &mut Summary, key: &Key) -> Result<Said, Fail> {
 
 fn summary_of_items(lab: &Lab) -> Result<Said, Fail> {
     let stream = lab.stream()?;
-    match marked!(lab, Summary::of_items(lab.alloc, 2, stream.items())) {
+    made(
+        lab,
+        marked!(lab, Summary::of_items(lab.alloc, 2, stream.items())),
+    )
+}
+
+fn made(lab: &Lab, made: Result<Summary, OfItemsFault>) -> Result<Said, Fail> {
+    match made {
         Err(OfItemsFault::Memory) => lab.refused(),
         made => lab.answer(Counters(&made?)),
     }
 }
 
+// The summary of c 7.
+fn other_summary(lab: &Lab) -> Result<Summary, Fail> {
+    let key = lab.key(b'c')?;
+    let mut summary = Summary::new(lab.alloc, 2)?;
+    summary.add(&key, 7)?;
+    Ok(summary)
+}
+
 // Two summaries, and again where memory was refused.
 fn summary_merge(lab: &Lab) -> Result<Said, Fail> {
-    let mut summary = lab.summary()?;
-    let mut other = Summary::new(lab.alloc, 2)?;
-    other.add(&lab.key(b'c')?, 7)?;
-    match merged(lab, &mut summary, &other)? {
+    let other = other_summary(lab)?;
+    merge_twice(lab, &mut lab.summary()?, &other)
+}
+
+fn merge_twice(lab: &Lab, summary: &mut Summary, other: &Summary) -> Result<Said, Fail> {
+    match merged(lab, summary, other)? {
         Said::Answer => Ok(Said::Answer),
-        Said::Memory => merged(lab, &mut summary, &other),
+        Said::Memory => merged(lab, summary, other),
     }
 }
 
@@ -67,6 +87,6 @@ fn merged(lab: &Lab, summary: &mut Summary, other: &Summary) -> Result<Said, Fai
 
 // The summary that is made without memory.
 fn summary_new(lab: &Lab) -> Result<Said, Fail> {
-    let made = marked!(lab, Summary::new(lab.alloc, 2)?);
-    lab.answer(Counters(&made))
+    let made = marked!(lab, Summary::new(lab.alloc, 2));
+    lab.answer(Counters(&made?))
 }

@@ -1,7 +1,6 @@
 //! What the calls are made with, and what is printed of them.
 
 use hh_counters::Summary;
-use hh_countmin::Family;
 use hh_stream::{Key, Stream};
 use std::alloc::{AllocError, Global};
 use std::fmt::Display;
@@ -77,6 +76,12 @@ impl<'a> Lab<'a> {
         self.mark(END);
     }
 
+    // Prints a line.
+    fn say<D: Display + Drop>(&self, line: D, said: Said) -> Result<Said, Fail> {
+        println!(self.rt; "{line}")?;
+        Ok(said)
+    }
+
     /// Prints what an object shows.
     pub fn show<D: Display + Drop>(&self, what: D) -> Result<(), Fail> {
         println!(self.rt; "shows {what}")?;
@@ -85,37 +90,51 @@ impl<'a> Lab<'a> {
 
     /// Prints what a call answered.
     pub fn answer<D: Display + Drop>(&self, what: D) -> Result<Said, Fail> {
-        println!(self.rt; "answer {what}")?;
-        Ok(Said::Answer)
+        self.say(format_args!("answer {what}"), Said::Answer)
     }
 
     /// Prints that a call answered Memory.
     pub fn refused(&self) -> Result<Said, Fail> {
-        println!(self.rt; "memory")?;
-        Ok(Said::Memory)
+        self.say("memory", Said::Memory)
     }
 
     /// The same, after so many calls of a gate.
     pub fn refused_after(&self, calls: u64) -> Result<Said, Fail> {
-        println!(self.rt; "memory after {calls}")?;
-        Ok(Said::Memory)
+        self.say(format_args!("memory after {calls}"), Said::Memory)
     }
 
     /// The bytes of a key.
-    pub fn bytes(&self, letter: u8) -> Result<Vec<u8>, Fail> {
+    pub fn bytes(&self, letter: u8) -> Result<Vec<u8>, AllocError> {
         let len = if self.is_long { LONG } else { 1 };
-        Ok(vec![in self.alloc; letter; len]?)
+        vec![in self.alloc; letter; len]
     }
 
     pub fn key(&self, letter: u8) -> Result<Key, Fail> {
         Ok(Key::new(self.alloc, self.bytes(letter)?.as_slice())?)
     }
 
+    // A key with a number behind its letters.
+    fn numbered(&self, letter: u8, number: &[u8]) -> Result<Key, Fail> {
+        let mut bytes = self.bytes(letter)?;
+        bytes.extend_from_slice(number)?;
+        Ok(Key::new(self.alloc, bytes.as_slice())?)
+    }
+
+    /// Adds a key with a number behind its letters, of weight 1.
+    pub fn push_one(&self, stream: &mut Stream, letter: u8, number: &[u8]) -> Result<(), Fail> {
+        Ok(stream.push(self.numbered(letter, number)?, 1)?)
+    }
+
+    /// Adds an item.
+    pub fn push(&self, stream: &mut Stream, letter: u8, weight: u64) -> Result<(), Fail> {
+        Ok(stream.push(self.key(letter)?, weight)?)
+    }
+
     /// The items a 5, b 3, c 2 and a 1.
     pub fn stream(&self) -> Result<Stream, Fail> {
         let mut stream = Stream::new(self.alloc);
-        for (letter, weight) in [(b'a', 5), (b'b', 3), (b'c', 2), (b'a', 1)] {
-            stream.push(self.key(letter)?, weight)?;
+        for (letter, weight) in &[(b'a', 5), (b'b', 3), (b'c', 2), (b'a', 1)] {
+            self.push(&mut stream, *letter, *weight)?;
         }
         Ok(stream)
     }
@@ -123,10 +142,5 @@ impl<'a> Lab<'a> {
     /// The summary of the items for k = 2: a 4, b 1.
     pub fn summary(&self) -> Result<Summary, Fail> {
         Ok(Summary::of_items(self.alloc, 2, self.stream()?.items())?)
-    }
-
-    /// A family of two rows.
-    pub fn family(&self) -> Result<Family, Fail> {
-        Ok(Family::from_parts(self.alloc, 256, &[(1, 0), (3, 1)])?)
     }
 }

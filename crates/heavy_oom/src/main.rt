@@ -32,8 +32,16 @@ fn call<R: Threads + Wait + Sync>(rt: &R, lab: &Lab, of: &str, name: &str) -> Re
     }
 }
 
-/// Makes the call that the command line names, and once more where memory was refused.
-fn tried<R: Threads + Wait + Sync>(rt: &R, host: &HostRuntime) -> Result<(), Fail> {
+/// Makes the call, and once more where memory was refused.
+fn tried<R: Threads + Wait + Sync>(rt: &R, lab: &Lab, of: &str, name: &str) -> Result<(), Fail> {
+    if call(rt, lab, of, name)? == Said::Memory {
+        let _again = call(rt, lab, of, name)?;
+    }
+    Ok(())
+}
+
+/// Makes the call that the command line names.
+fn named<R: Threads + Wait + Sync>(rt: &R, host: &HostRuntime) -> Result<(), Fail> {
     let mut words = env::args(host)?;
     let (Some(_), Some(of), Some(name), Some(keys)) = (
         words.next(),
@@ -44,15 +52,9 @@ fn tried<R: Threads + Wait + Sync>(rt: &R, host: &HostRuntime) -> Result<(), Fai
         return Err(Fail::new("usage: heavy_oom CRATE CALL short|long"));
     };
     let lab = Lab::new(host, keys.as_str() == "long");
-    match call(rt, &lab, of.as_str(), name.as_str())? {
-        Said::Answer => Ok(()),
-        Said::Memory => {
-            let _again = call(rt, &lab, of.as_str(), name.as_str())?;
-            Ok(())
-        }
-    }
+    tried(rt, &lab, of.as_str(), name.as_str())
 }
 
 fn main(rt: HostRuntime) -> Result<(), Fail> {
-    tried(&rt, &rt)
+    named(&rt, &rt)
 }

@@ -11,34 +11,45 @@ use std::test::Fail;
 
 pub fn call(lab: &Lab, name: &str) -> Result<Said, Fail> {
     match name {
-        "SpaceSaving::add" => added(lab, SpaceSaving::new(lab.alloc, 2)?, b'd', 4),
-        "SpaceSaving::add monitored" => added(lab, SpaceSaving::new(lab.alloc, 2)?, b'b', 4),
-        "SpaceSaving::into_summary" => translated(lab, SpaceSaving::new(lab.alloc, 2)?),
-        "SpaceSaving readers" => readers(lab, SpaceSaving::new(lab.alloc, 2)?),
+        "SpaceSaving::add" => added(lab, plain(lab), b'd', 4),
+        "SpaceSaving::add monitored" => added(lab, plain(lab), b'b', 4),
+        "SpaceSaving::into_summary" => translated(lab, plain(lab)),
+        "SpaceSaving readers" => readers(lab, plain(lab)),
         "SpaceSaving::new" => space_saving_new(lab),
         _ => bucketed(lab, name),
     }
+}
+
+// A monitor of two counters.
+fn plain(lab: &Lab) -> Result<SpaceSaving, Fail> {
+    Ok(SpaceSaving::new(lab.alloc, 2)?)
 }
 
 // The calls on Space-Saving in buckets. The four items give a 6, b 3 and c 2, where a stands in the
 // bucket of 5: with 3 more than c a newcomer goes into that bucket, and with 4 more into a new one.
 fn bucketed(lab: &Lab, name: &str) -> Result<Said, Fail> {
     match name {
-        "BucketSaving::add" => added(lab, BucketSaving::new(lab.alloc, 2)?, b'd', 3),
-        "BucketSaving::add new bucket" => added(lab, BucketSaving::new(lab.alloc, 2)?, b'd', 4),
-        "BucketSaving::add moving a key" => added(lab, waiting(lab)?, b'd', 4),
-        "BucketSaving::add monitored" => added(lab, BucketSaving::new(lab.alloc, 2)?, b'c', 4),
-        "BucketSaving::into_summary" => translated(lab, BucketSaving::new(lab.alloc, 2)?),
-        "BucketSaving readers" => readers(lab, BucketSaving::new(lab.alloc, 2)?),
+        "BucketSaving::add" => added(lab, buckets(lab), b'd', 3),
+        "BucketSaving::add new bucket" => added(lab, buckets(lab), b'd', 4),
+        "BucketSaving::add moving a key" => added(lab, waiting(lab), b'd', 4),
+        "BucketSaving::add monitored" => added(lab, buckets(lab), b'c', 4),
+        "BucketSaving::into_summary" => translated(lab, buckets(lab)),
+        "BucketSaving readers" => readers(lab, buckets(lab)),
         _ => Err(no_such_call(name)),
     }
+}
+
+// A monitor of two counters in buckets.
+fn buckets(lab: &Lab) -> Result<BucketSaving, Fail> {
+    Ok(BucketSaving::new(lab.alloc, 2)?)
 }
 
 // Where c has 1 already, in the bucket of 1: before b is dropped, c moves to the bucket of 3, where
 // b is.
 fn waiting(lab: &Lab) -> Result<BucketSaving, Fail> {
-    let mut monitor = BucketSaving::new(lab.alloc, 2)?;
-    monitor.add(&lab.key(b'c')?, 1)?;
+    let key = lab.key(b'c')?;
+    let mut monitor = buckets(lab)?;
+    monitor.add(&key, 1)?;
     Ok(monitor)
 }
 
@@ -62,11 +73,18 @@ impl<M: Monitor> fmt::Display for Monitored<'_, M> {
     }
 }
 
-fn add_all<M: Monitor>(monitor: &mut M, items: &[Item]) -> Result<(), Fail> {
+fn add_all<M: Monitor>(monitor: &mut M, items: &[Item]) -> Result<(), AddFault> {
     for item in items {
         monitor.add(item.key(), item.weight())?;
     }
     Ok(())
+}
+
+// The monitor, once it has seen the four items.
+fn filled<M: Monitor>(lab: &Lab, made: Result<M, Fail>) -> Result<M, Fail> {
+    let mut monitor = made?;
+    add_all(&mut monitor, lab.stream()?.items())?;
+    Ok(monitor)
 }
 
 fn keys(lab: &Lab) -> Result<Vec<Key>, Fail> {
@@ -78,15 +96,37 @@ fn keys(lab: &Lab) -> Result<Vec<Key>, Fail> {
 }
 
 // The four items, and then one more, again where memory was refused.
-fn added<M: Monitor>(lab: &Lab, mut monitor: M, letter: u8, weight: u64) -> Result<Said, Fail>
+fn added<M: Monitor>(
+    lab: &Lab,
+    made: Result<M, Fail>,
+    letter: u8,
+    weight: u64,
+) -> Result<Said, Fail>
     requires { 0 < weight }
 {
+    let mut monitor = filled(lab, made)?;
     let keys = keys(lab)?;
-    let key = lab.key(letter)?;
-    add_all(&mut monitor, lab.stream()?.items())?;
-    match added_once(lab, &mut monitor, keys.as_slice(), &key, weight)? {
+    add_twice(
+        lab,
+        &mut monitor,
+        keys.as_slice(),
+        &lab.key(letter)?,
+        weight,
+    )
+}
+
+fn add_twice<M: Monitor>(
+    lab: &Lab,
+    monitor: &mut M,
+    keys: &[Key],
+    key: &Key,
+    weight: u64,
+) -> Result<Said, Fail>
+    requires { 0 < weight }
+{
+    match added_once(lab, monitor, keys, key, weight)? {
         Said::Answer => Ok(Said::Answer),
-        Said::Memory => added_once(lab, &mut monitor, keys.as_slice(), &key, weight),
+        Said::Memory => added_once(lab, monitor, keys, key, weight),
     }
 }
 
@@ -99,7 +139,7 @@ fn added_once<M: Monitor>(
 ) -> Result<Said, Fail>
     requires { 0 < weight }
 {
-    show(lab, monitor, keys)?;
+    lab.show(Monitored { monitor, keys })?;
     match marked!(lab, monitor.add(key, weight)) {
         Ok(()) => lab.answer(Monitored { monitor, keys }),
         Err(AddFault::Memory) => lab.refused(),
@@ -107,26 +147,26 @@ fn added_once<M: Monitor>(
     }
 }
 
-fn show<M: Monitor>(lab: &Lab, monitor: &M, keys: &[Key]) -> Result<(), Fail> {
-    lab.show(Monitored { monitor, keys })
+// The summary of the four items, again where memory was refused.
+fn translated<M: Monitor>(lab: &Lab, made: Result<M, Fail>) -> Result<Said, Fail> {
+    let monitor = filled(lab, made)?;
+    let keys = keys(lab)?;
+    translate_twice(lab, monitor, keys.as_slice())
 }
 
-// The summary of the four items, again where memory was refused.
-fn translated<M: Monitor>(lab: &Lab, mut monitor: M) -> Result<Said, Fail> {
-    let keys = keys(lab)?;
-    add_all(&mut monitor, lab.stream()?.items())?;
-    match translated_once(lab, monitor, keys.as_slice())? {
-        None => Ok(Said::Answer),
-        Some(back) => {
-            let _again = translated_once(lab, back, keys.as_slice())?;
-            Ok(Said::Answer)
-        }
+fn translate_twice<M: Monitor>(lab: &Lab, monitor: M, keys: &[Key]) -> Result<Said, Fail> {
+    if let Some(back) = translated_once(lab, monitor, keys)? {
+        let _again = translated_once(lab, back, keys)?;
     }
+    Ok(Said::Answer)
 }
 
 // The monitor, handed back where memory was refused.
 fn translated_once<M: Monitor>(lab: &Lab, monitor: M, keys: &[Key]) -> Result<Option<M>, Fail> {
-    show(lab, &monitor, keys)?;
+    lab.show(Monitored {
+        monitor: &monitor,
+        keys,
+    })?;
     match marked!(lab, monitor.into_summary()) {
         Ok(summary) => {
             let _said = lab.answer(Counters(&summary))?;
@@ -140,13 +180,13 @@ fn translated_once<M: Monitor>(lab: &Lab, monitor: M, keys: &[Key]) -> Result<Op
 }
 
 fn space_saving_new(lab: &Lab) -> Result<Said, Fail> {
-    let made = marked!(lab, SpaceSaving::new(lab.alloc, 2)?);
-    lab.answer(made.total())
+    let made = marked!(lab, SpaceSaving::new(lab.alloc, 2));
+    lab.answer(made?.total())
 }
 
 // The calls on a monitor of the four items that take no memory.
-fn readers<M: Monitor>(lab: &Lab, mut monitor: M) -> Result<Said, Fail> {
-    add_all(&mut monitor, lab.stream()?.items())?;
+fn readers<M: Monitor>(lab: &Lab, made: Result<M, Fail>) -> Result<Said, Fail> {
+    let monitor = filled(lab, made)?;
     let a = lab.key(b'a')?;
     lab.begin();
     let numbers = [

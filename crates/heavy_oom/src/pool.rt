@@ -1,9 +1,12 @@
 //! The analyses of `hh_pool`.
 
+ghost use Rattle.std.specs.Prelude.{◌≡◌, length, sum};
+
 use crate::lab::{Lab, Said, marked, no_such_call};
 use crate::show::{Cells, Counters, Numbers, Report};
+use hh_countmin::Family;
 use hh_pool::{Gate, OpenGate, Options, Outcome, Plan, RunError, analyse};
-use hh_stream::{Cutting, Key, Stream};
+use hh_stream::{Cutting, Stream};
 use std::sync::Wait;
 use std::sync::atomic::AtomicU64;
 use std::sync::atomic::Ordering::SeqCst;
@@ -19,37 +22,26 @@ pub fn call<R: Threads + Wait + Sync>(rt: &R, lab: &Lab, name: &str) -> Result<S
 }
 
 fn options(lab: &Lab, workers: u64) -> Result<Options, Fail> {
-    Ok(Options::new(2, 1, 3, workers, 4, lab.family()?)?)
-}
-
-/// A stream in pieces, and how it is analysed.
-#[derive(Drop)]
-struct Task {
-    stream: Stream,
-    cutting: Cutting,
-    plan: Plan,
-    options: Options,
+    let family = Family::from_parts(lab.alloc, 256, &[(1, 0), (3, 1)])?;
+    Ok(Options::new(2, 1, 3, workers, 4, family)?)
 }
 
 // What the analysis answers, or nothing where memory was refused.
 fn outcome<R: Threads + Wait + Sync, G: Gate + Sync>(
     rt: &R,
     lab: &Lab,
-    task: &Task,
+    stream: &Stream,
+    cutting: &Cutting,
+    plan: &Plan,
+    options: &Options,
     gate: &G,
-) -> Result<Option<Outcome>, Fail> {
-    let Task {
-        stream,
-        cutting,
-        plan,
-        options,
-    } = task;
-    if cutting.len() != stream.len() {
-        return Err(Fail::new("not the stream's cutting"));
-    }
-    lab.begin();
-    let done = analyse(rt, lab.alloc, stream, cutting, plan, options, gate);
-    lab.end();
+) -> Result<Option<Outcome>, Fail>
+    requires { sum cutting.now ≡ length stream.now }
+{
+    let done = marked!(
+        lab,
+        analyse(rt, lab.alloc, stream, cutting, plan, options, gate)
+    );
     match done {
         Ok(outcome) => Ok(Some(outcome)),
         Err(RunError::Memory) => Ok(None),
@@ -57,27 +49,35 @@ fn outcome<R: Threads + Wait + Sync, G: Gate + Sync>(
     }
 }
 
-// The four items in four pieces, for two workers.
-fn four_pieces(lab: &Lab) -> Result<Task, Fail> {
-    let stream = lab.stream()?;
-    let cutting = Cutting::even(lab.alloc, stream.len(), 4)?;
-    Ok(Task {
-        stream,
-        cutting,
-        plan: Plan::balanced(lab.alloc, 4)?,
-        options: options(lab, 2)?,
-    })
+fn show(lab: &Lab, outcome: &Outcome) -> Result<Said, Fail> {
+    lab.show(Counters(&outcome.summary))?;
+    lab.show(Cells(&outcome.table))?;
+    lab.answer(Report(outcome.heavy.as_slice()))
 }
 
-fn analysed<R: Threads + Wait + Sync>(rt: &R, lab: &Lab) -> Result<Said, Fail> {
-    match outcome(rt, lab, &four_pieces(lab)?, &OpenGate)? {
+// A stream in four pieces, for two workers.
+fn in_four_pieces<R: Threads + Wait + Sync>(
+    rt: &R,
+    lab: &Lab,
+    stream: &Stream,
+) -> Result<Option<Outcome>, Fail> {
+    let options = options(lab, 2)?;
+    let plan = Plan::balanced(lab.alloc, 4)?;
+    let cutting = Cutting::even(lab.alloc, stream.len(), 4)?;
+    outcome(rt, lab, stream, &cutting, &plan, &options, &OpenGate)
+}
+
+fn said(lab: &Lab, done: Result<Option<Outcome>, Fail>) -> Result<Said, Fail> {
+    match done? {
         None => lab.refused(),
-        Some(outcome) => {
-            lab.show(Counters(&outcome.summary))?;
-            lab.show(Cells(&outcome.table))?;
-            lab.answer(Report(outcome.heavy.as_slice()))
-        }
+        Some(outcome) => show(lab, &outcome),
     }
+}
+
+// The four items.
+fn analysed<R: Threads + Wait + Sync>(rt: &R, lab: &Lab) -> Result<Said, Fail> {
+    let stream = lab.stream()?;
+    said(lab, in_four_pieces(rt, lab, &stream))
 }
 
 /// A gate that counts its calls.
@@ -96,40 +96,44 @@ impl Gate for Counting {
 fn many_items(lab: &Lab) -> Result<Stream, Fail> {
     let mut stream = Stream::new(lab.alloc);
     for i in 0u16..1000 {
-        let mut bytes = lab.bytes(b'x')?;
-        bytes.extend_from_slice(&i.to_be_bytes())?;
-        stream.push(Key::new(lab.alloc, bytes.as_slice())?, 1)?;
+        lab.push_one(&mut stream, b'x', &i.to_be_bytes())?;
     }
-    stream.push(lab.key(b'a')?, 1)?;
+    lab.push(&mut stream, b'a', 1)?;
     Ok(stream)
 }
 
 // The many keys as one piece and the item a as another, for one worker.
-fn two_pieces(lab: &Lab) -> Result<Task, Fail> {
-    let stream = many_items(lab)?;
+fn in_two_pieces<R: Threads + Wait + Sync>(
+    rt: &R,
+    lab: &Lab,
+    stream: &Stream,
+    gate: &Counting,
+) -> Result<Option<Outcome>, Fail> {
+    let options = options(lab, 1)?;
+    let plan = Plan::chain(lab.alloc, 2)?;
     let cutting = Cutting::by_lengths(lab.alloc, stream.len(), &[1000, 1])?;
-    Ok(Task {
-        stream,
-        cutting,
-        plan: Plan::chain(lab.alloc, 2)?,
-        options: options(lab, 1)?,
-    })
+    outcome(rt, lab, stream, &cutting, &plan, &options, gate)
+}
+
+fn show_many(lab: &Lab, outcome: &Outcome, calls: u64) -> Result<Said, Fail> {
+    lab.show(Counters(&outcome.summary))?;
+    lab.show(Report(outcome.heavy.as_slice()))?;
+    lab.answer(Numbers(&[calls]))
+}
+
+fn said_after(lab: &Lab, done: Result<Option<Outcome>, Fail>, calls: u64) -> Result<Said, Fail> {
+    match done? {
+        None => lab.refused_after(calls),
+        Some(outcome) => show_many(lab, &outcome, calls),
+    }
 }
 
 // With the number of times that the gate was called.
 fn analysed_many<R: Threads + Wait + Sync>(rt: &R, lab: &Lab) -> Result<Said, Fail> {
-    let task = two_pieces(lab)?;
+    let stream = many_items(lab)?;
     let gate = Counting {
         calls: AtomicU64::new(0),
     };
-    let outcome = outcome(rt, lab, &task, &gate)?;
-    let calls = gate.calls.load(SeqCst);
-    match outcome {
-        None => lab.refused_after(calls),
-        Some(outcome) => {
-            lab.show(Counters(&outcome.summary))?;
-            lab.show(Report(outcome.heavy.as_slice()))?;
-            lab.answer(Numbers(&[calls]))
-        }
-    }
+    let done = in_two_pieces(rt, lab, &stream, &gate);
+    said_after(lab, done, gate.calls.load(SeqCst))
 }

@@ -48,6 +48,12 @@ impl fmt::Display for Taken<'_> {
     }
 }
 
+/// Writes a key and a number.
+fn pair<W: fmt::Write>(f: &mut fmt::Formatter<W>, key: &[u8], number: u64) -> fmt::Result {
+    let key = Hex(key);
+    write!(f, "{key} {number} ")
+}
+
 /// The items of a stream.
 #[derive(Clone, Copy)]
 pub struct Items<'a>(pub &'a [Item]);
@@ -55,9 +61,7 @@ pub struct Items<'a>(pub &'a [Item]);
 impl fmt::Display for Items<'_> {
     fn fmt<W: fmt::Write>(&self, f: &mut fmt::Formatter<W>) -> fmt::Result {
         for item in self.0 {
-            let key = Hex(item.key().bytes());
-            let weight = item.weight();
-            write!(f, "{key} {weight} ")?;
+            pair(f, item.key().bytes(), item.weight())?;
         }
         Ok(())
     }
@@ -73,8 +77,7 @@ impl fmt::Display for Counters<'_> {
         write!(f, "k {k} total {total} sum {sum}: ")?;
         for i in 0..self.0.len() {
             let (key, counter) = self.0.entry(i);
-            let key = Hex(key.bytes());
-            write!(f, "{key} {counter} ")?;
+            pair(f, key.bytes(), counter)?;
         }
         Ok(())
     }
@@ -102,12 +105,8 @@ pub struct Cells<'a>(pub &'a Table);
 
 impl fmt::Display for Cells<'_> {
     fn fmt<W: fmt::Write>(&self, f: &mut fmt::Formatter<W>) -> fmt::Result {
-        let total = self.0.total();
-        write!(f, "total {total}: ")?;
-        for cell in self.0.cells() {
-            write!(f, "{cell} ")?;
-        }
-        Ok(())
+        let (total, cells) = (self.0.total(), Numbers(self.0.cells()));
+        write!(f, "total {total}: {cells}")
     }
 }
 
@@ -118,9 +117,7 @@ pub struct Report<'a>(pub &'a [Heavy]);
 impl fmt::Display for Report<'_> {
     fn fmt<W: fmt::Write>(&self, f: &mut fmt::Formatter<W>) -> fmt::Result {
         for row in self.0 {
-            let key = Hex(row.key.bytes());
-            let weight = row.weight;
-            write!(f, "{key} {weight} ")?;
+            pair(f, row.key.bytes(), row.weight)?;
         }
         Ok(())
     }

@@ -12,20 +12,19 @@ pub fn call(lab: &Lab, name: &str) -> Result<Said, Fail> {
         "Key::of_bytes" => key_of_bytes(lab),
         "Key::copy" => key_copy(lab),
         "Stream::push" => stream_push(lab),
-        "Cutting::even" => cut(lab, marked!(lab, Cutting::even(lab.alloc, 10, 4))),
-        "Cutting::by_lengths" => {
-            cut(
-                lab,
-                marked!(lab, Cutting::by_lengths(lab.alloc, 10, &[3, 0, 7])),
-            )
-        }
+        "Cutting::even" => cutting_even(lab),
+        "Cutting::by_lengths" => cutting_by_lengths(lab),
         _ => Err(no_such_call(name)),
     }
 }
 
 fn key_new(lab: &Lab) -> Result<Said, Fail> {
     let bytes = lab.bytes(b'a')?;
-    match marked!(lab, Key::new(lab.alloc, bytes.as_slice())) {
+    made(lab, marked!(lab, Key::new(lab.alloc, bytes.as_slice())))
+}
+
+fn made(lab: &Lab, made: Result<Key, KeyFault>) -> Result<Said, Fail> {
+    match made {
         Err(KeyFault::Memory) => lab.refused(),
         made => lab.answer(Hex(made?.bytes())),
     }
@@ -50,37 +49,54 @@ fn copied(lab: &Lab, made: Result<Key, AllocError>) -> Result<Said, Fail> {
 
 // The fifth item, for which the list grows, and again where memory was refused.
 fn stream_push(lab: &Lab) -> Result<Said, Fail> {
-    let mut stream = lab.stream()?;
-    match pushed(lab, &mut stream, lab.key(b'd')?)? {
-        None => Ok(Said::Answer),
-        Some(back) => {
-            let _again = pushed(lab, &mut stream, back)?;
-            Ok(Said::Answer)
-        }
+    let key = lab.key(b'd')?;
+    push_twice(lab, &mut lab.stream()?, key)
+}
+
+fn push_twice(lab: &Lab, stream: &mut Stream, key: Key) -> Result<Said, Fail> {
+    if let Some(back) = pushed(lab, stream, key)? {
+        let _again = pushed(lab, stream, back)?;
     }
+    Ok(Said::Answer)
 }
 
 // Pushes the key; where memory was refused, it comes back.
 fn pushed(lab: &Lab, stream: &mut Stream, key: Key) -> Result<Option<Key>, Fail> {
-    lab.show(Items(stream.items()))?;
-    lab.show(Hex(key.bytes()))?;
+    lent(lab, stream, &key)?;
     match marked!(lab, stream.push(key, 4)) {
-        Ok(()) => {
-            lab.show(Items(stream.items()))?;
-            let _said = lab.answer(stream.total())?;
-            Ok(None)
-        }
-        Err(
-            PushRefused {
-                key,
-                fault: PushFault::Memory,
-            },
-        ) => {
-            let _said = lab.refused()?;
-            Ok(Some(key))
-        }
-        Err(_) => Err(Fail::new("push refused its item")),
+        Ok(()) => taken(lab, stream),
+        Err(refused) => handed_back(lab, refused),
     }
+}
+
+fn lent(lab: &Lab, stream: &Stream, key: &Key) -> Result<(), Fail> {
+    lab.show(Items(stream.items()))?;
+    lab.show(Hex(key.bytes()))
+}
+
+fn taken(lab: &Lab, stream: &Stream) -> Result<Option<Key>, Fail> {
+    lab.show(Items(stream.items()))?;
+    let _said = lab.answer(stream.total())?;
+    Ok(None)
+}
+
+fn handed_back(lab: &Lab, refused: PushRefused) -> Result<Option<Key>, Fail> {
+    if refused.fault != PushFault::Memory {
+        return Err(Fail::new("push refused its item"));
+    }
+    let _said = lab.refused()?;
+    Ok(Some(refused.key))
+}
+
+fn cutting_even(lab: &Lab) -> Result<Said, Fail> {
+    cut(lab, marked!(lab, Cutting::even(lab.alloc, 10, 4)))
+}
+
+fn cutting_by_lengths(lab: &Lab) -> Result<Said, Fail> {
+    cut(
+        lab,
+        marked!(lab, Cutting::by_lengths(lab.alloc, 10, &[3, 0, 7])),
+    )
 }
 
 fn cut(lab: &Lab, made: Result<Cutting, CuttingFault>) -> Result<Said, Fail> {
