@@ -1,5 +1,5 @@
 -- What a text that grows stands for, and one with no character that stands for a byte.
-use Rattle.std.proofs.Common.{zero, suc, ◌<◌, length, slice_index_or, arith, ◌≡◌, ◌∙◌, ℕ, List, [], ◌∷◌, ◌++◌, Bool, true, false, Option, Some, None, is_none, flat_map, refl, sym, ap, append-nil, ◌&&◌}
+use Rattle.std.proofs.Common.{◌≡◌, ◌∙◌, ℕ, List, [], ◌∷◌, ◌++◌, Bool, true, false, Option, Some, None, is_none, flat_map, refl, sym, ap, append-nil, ◌&&◌}
 use Rattle.std.specs.Char.{IsScalar, encode_utf8}
 use Rattle.std.specs.List.{list_all}
 use Rattle.std.specs.Str.{chars, IsUtf8, encode_utf8_all}
@@ -41,13 +41,3 @@ own_bytes-all (c ∷ cs) e = go (is_none (byte_of c)) refl e (own_bytes-all cs)
 pub word_of-plain : (text : List ℕ) → IsUtf8 text
     → list_all (λ c. is_none (byte_of c)) (chars text) ≡ true → word_of text ≡ text
 word_of-plain text u e = own_bytes-all (chars text) e ∙ encodes-chars text u
-
--- what holds of each element and of one more holds of each of all
-pub each-push : (P : ℕ → List ℕ → Type 0) (xs : List (List ℕ)) (x : List ℕ)
-    → ((k : ℕ) → k < length xs → P k (slice_index_or xs k [])) → P (length xs) x
-    → (k : ℕ) → k < length (xs ++ x ∷ []) → P k (slice_index_or (xs ++ x ∷ []) k [])
-each-push P [] x old new zero less = new
-each-push P [] x old new (suc k) less = absurd (omega arith)
-each-push P (y ∷ xs) x old new zero less = old zero (omega arith)
-each-push P (y ∷ xs) x old new (suc k) less =
-    each-push (λ n. P (suc n)) xs x (λ j l. old (suc j) (omega arith)) new k (omega arith)

@@ -129,11 +129,13 @@ fn word_in<E: Env>(
     room: usize,
 ) -> Result<Result<Vec<u8>, FillError>, AllocError> {
     let mut word = vec![in alloc; 0u8; room]?;
-    let filled = env.arg(number, word.as_mut_slice());
-    Ok(filled.map(|len| {
-        word.truncate(len);
-        word
-    }))
+    match env.arg(number, word.as_mut_slice()) {
+        Ok(len) => {
+            word.truncate(len);
+            Ok(Ok(word))
+        }
+        Err(fault) => Ok(Err(fault)),
+    }
 }
 
 /// The words that the process was started with. No contract says which these are.
