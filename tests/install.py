@@ -327,7 +327,7 @@ class Install(programs.Checks):
             pass  # the other side is closed
         os.close(terminal)
         said = said.replace(b"\r\n", b"\n")
-        line = rb"\r\x1b\[Kheavy: 0:0\d min, \d+ of 12 crates proved, hh_stream 3/37"
+        line = rb"\r\x1b\[Kheavy: 0:0\d min, \d+ of 17 crates proved, hh_stream 3/37"
         told = len(re.findall(line, said))
         self.check("a terminal's line is written over", out == b"built: report\n" and told > 1, said)
         self.check("nothing of it is left", said.count(b"\n") == 3 and b"\r\x1b[Kheavy: built in " in said, said)
