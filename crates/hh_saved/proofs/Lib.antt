@@ -5,6 +5,7 @@ pub mod Fields
 pub mod Grids
 pub mod Loops
 pub mod Values
+pub mod Written
 pub mod Heads
 pub mod PlaceFacts
 pub mod Sizes

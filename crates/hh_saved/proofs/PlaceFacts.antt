@@ -1,5 +1,5 @@
 -- Where the entries of a saved summary lie in its bytes.
-use Rattle.std.proofs.Common.{◌≡◌, ℕ, ◌+◌, ◌<◌, ◌∙◌, List, [], ◌∷◌, ◌++◌, length, length-drop, length-take, arith, get_or, map, take, drop, Ok, ap, refl, sym, append_assoc, All}
+use Rattle.std.proofs.Common.{◌≡◌, ℕ, ◌+◌, ◌<◌, ◌≤◌, ◌∙◌, List, [], ◌∷◌, ◌++◌, length, length-append, length-drop, length-take, arith, get_or, map, take, drop, Ok, ap, refl, sym, append_assoc, All}
 use Rattle.std.specs.List.{flat_map}
 use Rattle.std.specs.Int.{w64, byte_len, to_be_bytes}
 use Rattle.std.proofs.lemmas.List.{append-nil, drop-drop, drop_at, drop_more, map-append, take_at, take_more}
@@ -73,3 +73,11 @@ next_entry version file counters start i e lt is here =
     let f = entry_bytes version in
     here ∙ ap (flat_map f) (drop_more counters i e lt ∙ ap (λ (x : Entry). x ∷ drop (i + 1) counters) (sym is))
     ∙ flat_map-cons f e (drop (i + 1) counters)
+
+-- the next entry lies within the file
+pub next_within : (version : Version) (file : List ℕ) (counters : List Entry) (start i : ℕ) (e : Entry)
+    → i < length counters → e ≡ get_or counters i e → drop start file ≡ flat_map (entry_bytes version) (drop i counters)
+    → start + byte_len (len_width version) + (length e.0 + 8) ≤ length file
+next_within version file counters start i e lt is here =
+    let lengths = simp (length-append, length-drop) at (ap length (next_entry version file counters start i e lt is here)) in
+    omega (arith, lengths, (wide_len version).len (length e.0), wide64.len e.1)

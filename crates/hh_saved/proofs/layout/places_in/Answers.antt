@@ -4,8 +4,29 @@ use Rattle.hh_stream.specs.Weights.{Bytes, Entry}
 use Rattle.hh_saved.specs.declared.layout.Place.{Place}
 use Rattle.hh_saved.specs.Sizes.{entry_in}
 use Rattle.hh_saved.specs.Spelling.{entry_bytes}
-use Rattle.hh_saved.proofs.PlaceFacts.{key_lies, next_begins, next_entry, place_listed, place_within}
+use Rattle.hh_saved.proofs.PlaceFacts.{key_lies, next_begins, next_entry, next_within, place_listed, place_within}
 use Rattle.hh_saved.proofs.layout.places_in.Goals as goal
+
+pub overflow_add-start : goal.overflow_add-start
+overflow_add-start c =
+    let e : Entry = (c.entry-counter.result.0.now, c.entry-counter.result.1) in
+    let within = next_within _ _ _ c.loop-i.start c.loop-i.i e (omega (arith, c.loop-i-test.true, c.len-i-end.ensures.len))
+    c.entry-counter.ensures c.loop-i.invariant.0 in
+    omega (arith, within, c.len_width-width.ensures)
+
+pub overflow_add-start-in-loop-i : goal.overflow_add-start-in-loop-i
+overflow_add-start-in-loop-i c =
+    let e : Entry = (c.entry-counter.result.0.now, c.entry-counter.result.1) in
+    let within = next_within _ _ _ c.loop-i.start c.loop-i.i e (omega (arith, c.loop-i-test.true, c.len-i-end.ensures.len))
+    c.entry-counter.ensures c.loop-i.invariant.0 in
+    omega (arith, within, c.len_width-width.ensures, ap length c.bytes-len.ensures.bytes)
+
+pub overflow_add-start-in-loop-i-2 : goal.overflow_add-start-in-loop-i-2
+overflow_add-start-in-loop-i-2 c =
+    let e : Entry = (c.entry-counter.result.0.now, c.entry-counter.result.1) in
+    let within = next_within _ _ _ c.loop-i.start c.loop-i.i e (omega (arith, c.loop-i-test.true, c.len-i-end.ensures.len))
+    c.entry-counter.ensures c.loop-i.invariant.0 in
+    omega (arith, within, c.len_width-width.ensures, ap length c.bytes-len.ensures.bytes)
 
 pub loop-i-preserved : goal.loop-i-preserved
 loop-i-preserved c =
