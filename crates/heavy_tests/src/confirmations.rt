@@ -1,33 +1,51 @@
 //! Summaries confirmed by a second pass.
 
-use heavy::{ConfirmFault, confirm, read_stream};
+use crate::fixtures::{assert_same, stream_of};
+use heavy::{ConfirmFault, Heavy, confirm};
 use hh_counters::Summary;
-use std::test::Fail;
+use hh_stream::Stream;
+use std::process::Abort;
+
+/// The summary of the stream for k = 2.
+fn summary_of(rt: &(impl Abort + AllocGlobal), stream: &Stream) -> Summary {
+    Summary::of_items(rt.alloc(), 2, stream.items()).expect(rt, "a summary")
+}
+
+/// The rows as text, as "a 6 ".
+fn shown(rt: &(impl Abort + AllocGlobal), rows: &[Heavy]) -> String {
+    let mut text = String::new(rt.alloc());
+    for row in rows {
+        for byte in row.key.bytes() {
+            text.push(char::from(*byte)).expect(rt, "room");
+        }
+        write!(text, " {} ", row.weight).expect(rt, "room");
+    }
+    text
+}
+
+/// The rows of a summary that is confirmed by a stream.
+fn confirmed(rt: &(impl Abort + AllocGlobal), summary: &Summary, stream: &Stream) -> String {
+    let rows = confirm(rt.alloc(), summary, stream).expect(rt, "rows");
+    shown(rt, &rows)
+}
 
 #[test]
-fn a_summary_confirmed_by_its_stream(rt: HostRuntime) -> Result<(), Fail> {
-    let alloc = rt.alloc();
-    let stream = read_stream(alloc, b"a,5\nb,3\nc,2\na,1\n".as_slice())?;
-    let summary = Summary::of_items(alloc, 2, stream.items())?;
-    let rows = confirm(alloc, &summary, &stream)?;
-    assert_eq!(rt; rows.len(), 1);
-    for row in &rows {
-        assert_eq!(rt; (row.key.bytes(), row.weight), (b"a".as_slice(), 6));
-    }
-    let other = read_stream(alloc, b"a,5\n".as_slice())?;
-    let refused = confirm(alloc, &summary, &other).err();
-    assert_eq!(rt; refused, Some(ConfirmFault::TotalDiffers));
-    Ok(())
+fn a_summary_confirmed_by_its_stream(rt: HostRuntime) {
+    let stream = stream_of(&rt, b"a,5\nb,3\nc,2\na,1\n");
+    let summary = summary_of(&rt, &stream);
+    let rows = confirmed(&rt, &summary, &stream);
+    assert_same(&rt, rows.as_str(), "a 6 ");
+    let other = stream_of(&rt, b"a,5\n");
+    let refused = confirm(rt.alloc(), &summary, &other).err();
+    assert_same(&rt, refused, Some(ConfirmFault::TotalDiffers));
 }
 
 // The items a 1, c 1 and b 3 leave b 2 of a total of 5.
 #[test]
-fn a_summary_without_the_heavy_key(rt: HostRuntime) -> Result<(), Fail> {
-    let alloc = rt.alloc();
-    let strangers = read_stream(alloc, b"a,1\nc,1\nb,3\n".as_slice())?;
-    let summary = Summary::of_items(alloc, 2, strangers.items())?;
-    assert_eq!(rt; (summary.len(), summary.sum(), summary.total()), (1, 2, 5));
-    let stream = read_stream(alloc, b"a,5\n".as_slice())?;
-    assert_eq!(rt; confirm(alloc, &summary, &stream)?.len(), 0);
-    Ok(())
+fn a_summary_without_the_heavy_key(rt: HostRuntime) {
+    let summary = summary_of(&rt, &stream_of(&rt, b"a,1\nc,1\nb,3\n"));
+    let numbers = (summary.len(), summary.sum(), summary.total());
+    assert_same(&rt, numbers, (1, 2, 5));
+    let rows = confirmed(&rt, &summary, &stream_of(&rt, b"a,5\n"));
+    assert_same(&rt, rows.as_str(), "");
 }

@@ -4,17 +4,16 @@
 ghost use Rattle.std.specs.Prelude.{None};
 
 use crate::devices::{Manner, Target};
+use crate::fixtures::assert_same;
 use heavy::{
     FileOrPipe, FileRecords, Layout, Method, Out, ReadAt, ReportOptions, RowOptions, Share,
     SourceRecords, ToolError, Tree, condense_files, confirm_files, report_files, summary_bytes,
     table_bytes, table_files,
 };
-use std::alloc::AllocError;
 use std::io::{self, Error, ErrorKind, Read};
 use std::process::Abort;
 use std::sync::Wait;
 use std::sync::atomic::{AtomicU64, Ordering};
-use std::test::Fail;
 use std::thread::Threads;
 
 /// What a file does in the course of its reads.
@@ -95,15 +94,15 @@ fn options() -> ReportOptions {
 fn report_of(
     rt: &(impl Abort + AllocGlobal + Threads + Wait + Sync),
     course: Course,
-) -> Result<(Vec<u8>, Option<ToolError>, u64), AllocError> {
+) -> (Vec<u8>, Option<ToolError>, u64) {
     let alloc = rt.alloc();
     let calls = AtomicU64::new(0);
-    let mut inputs = Vec::new(alloc);
-    inputs.push(FileOrPipe::File(OneRecord {
+    let file = FileOrPipe::File(OneRecord {
         course,
         calls: &calls,
-    }))?;
-    inputs.push(FileOrPipe::Pipe(b"b,1".as_slice()))?;
+    });
+    let pipe = FileOrPipe::Pipe(b"b,1".as_slice());
+    let inputs = vec![in alloc; file, pipe].expect(rt, "room");
     let layout = Layout::plain(alloc);
     let records = FileRecords { layout, inputs };
     let mut taken = Vec::new(alloc);
@@ -111,54 +110,83 @@ fn report_of(
     let rows = RowOptions::plain();
     let fault = report_files(rt, alloc, &options(), &rows, records, &mut out).err();
     drop(out);
-    Ok((taken, fault, calls.load(Ordering::SeqCst)))
+    (taken, fault, calls.load(Ordering::SeqCst))
+}
+
+/// The same, where it has to be refused with nothing written.
+fn assert_refused(rt: &(impl Abort + AllocGlobal + Threads + Wait + Sync), course: Course) {
+    let (taken, refusal, _) = report_of(rt, course);
+    assert_same(rt, refusal, Some(ToolError::ReadFault));
+    assert!(rt; taken.is_empty());
 }
 
 #[test]
-fn each_read_of_a_file_fails(rt: HostRuntime) -> Result<(), Fail> {
-    let (rows, none, reads) = report_of(&rt, Course::Fails(0))?;
-    assert!(rt; none.is_none() && rows.as_slice() == b"a,5\n".as_slice());
+fn each_read_of_a_file_fails(rt: HostRuntime) {
+    let (rows, none, reads) = report_of(&rt, Course::Fails(0));
+    assert_same(&rt, (rows.as_slice(), none), (b"a,5\n".as_slice(), None));
     assert!(rt; 2 <= reads && reads < 99);
     for from in 1..=reads {
-        let (taken, refusal, _) = report_of(&rt, Course::Fails(from))?;
-        assert_eq!(rt; refusal, Some(ToolError::ReadFault));
-        assert!(rt; taken.is_empty());
+        assert_refused(&rt, Course::Fails(from));
     }
-    Ok(())
 }
 
 #[test]
-fn files_that_are_not_the_same_are_refused(rt: HostRuntime) -> Result<(), Fail> {
-    for course in [Course::Grows, Course::Changes] {
-        let (taken, refusal, _) = report_of(&rt, course)?;
-        assert_eq!(rt; refusal, Some(ToolError::ReadFault));
-        assert!(rt; taken.is_empty());
-    }
-    Ok(())
+fn files_that_are_not_the_same_are_refused(rt: HostRuntime) {
+    assert_refused(&rt, Course::Grows);
+    assert_refused(&rt, Course::Changes);
 }
 
-// The summary of a 5, b 1 and a 2 with one counter has a with 6.
+/// Records of a file that workers read.
+const TEXT: &[u8] = b"a,5\nb,1\na,2\n";
+
+/// The summary of the records with one counter, in which a has 6.
+fn summary_file(rt: &(impl Abort + AllocGlobal)) -> Vec<u8> {
+    summary_bytes(rt.alloc(), 1, Method::MisraGries, TEXT).expect(rt, "a summary")
+}
+
+/// The file of the records, alone.
+fn one_source(rt: &(impl Abort + AllocGlobal)) -> [Vec<u8>; 1] {
+    [Vec::from_slice(rt.alloc(), TEXT).expect(rt, "a file")]
+}
+
 #[test]
-fn files_are_counted_by_workers(rt: HostRuntime) -> Result<(), Fail> {
-    let alloc = rt.alloc();
-    let text = b"a,5\nb,1\na,2\n".as_slice();
-    let file = summary_bytes(alloc, 1, Method::MisraGries, text)?;
-    let sources = [Vec::from_slice(alloc, text)?];
-    let layout = Layout::plain(alloc);
+fn files_are_condensed_by_workers(rt: HostRuntime) {
+    let file = summary_file(&rt);
+    let (sources, layout) = (one_source(&rt), Layout::plain(rt.alloc()));
     let records = SourceRecords {
         layout: &layout,
         sources: &sources,
     };
-    let condensed = condense_files(&rt, alloc, &file, 2, records)?;
-    assert_eq!(rt; condensed.as_slice(), b"a,7\nothers,1\n".as_slice());
-    let rows = RowOptions::plain();
-    let share = Share::OfCounters;
-    let confirmed = confirm_files(&rt, alloc, &file, &share, &rows, 2, records, &mut None)?;
-    assert_eq!(rt; confirmed.as_slice(), b"a,7\n".as_slice());
-    let table = table_files(&rt, alloc, 4, 2, 3, 2, records)?;
-    assert_eq!(rt;
-        table.as_slice(),
-        table_bytes(alloc, 4, 2, 3, text)?.as_slice()
+    let rows = condense_files(&rt, rt.alloc(), &file, 2, records).expect(&rt, "rows");
+    assert_same(&rt, rows.as_slice(), b"a,7\nothers,1\n".as_slice());
+}
+
+#[test]
+fn files_are_confirmed_by_workers(rt: HostRuntime) {
+    let file = summary_file(&rt);
+    let (sources, layout) = (one_source(&rt), Layout::plain(rt.alloc()));
+    let records = SourceRecords {
+        layout: &layout,
+        sources: &sources,
+    };
+    let (share, rows) = (Share::OfCounters, RowOptions::plain());
+    let text = confirm_files(&rt, rt.alloc(), &file, &share, &rows, 2, records, &mut None);
+    assert_same(
+        &rt,
+        text.expect(&rt, "rows").as_slice(),
+        b"a,7\n".as_slice(),
     );
-    Ok(())
+}
+
+#[test]
+fn files_are_tabulated_by_workers(rt: HostRuntime) {
+    let alloc = rt.alloc();
+    let (sources, layout) = (one_source(&rt), Layout::plain(alloc));
+    let records = SourceRecords {
+        layout: &layout,
+        sources: &sources,
+    };
+    let table = table_files(&rt, alloc, 4, 2, 3, 2, records).expect(&rt, "a table");
+    let expected = table_bytes(alloc, 4, 2, 3, TEXT).expect(&rt, "a table");
+    assert_same(&rt, table.as_slice(), expected.as_slice());
 }

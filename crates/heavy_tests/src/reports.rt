@@ -1,6 +1,7 @@
 //! Reports over readers and writers that fail in mid-stream.
 
 use crate::devices::{Manner, Source, Target};
+use crate::fixtures::assert_same;
 use heavy::{Out, ReportOptions, Share, ToolError, Tree, run_report};
 use std::io::Read;
 use std::process::Abort;
@@ -47,26 +48,31 @@ fn report_from(
     (taken, refusal, reads)
 }
 
+/// A report where the read with a number fails is refused, with nothing written.
+fn assert_refused(rt: &(impl Abort + AllocGlobal + Threads + Wait + Sync), fails_at: u64) {
+    let (taken, refusal, _) = report_from(rt, fails_at);
+    assert_same(rt, refusal, Some(ToolError::ReadFault));
+    assert!(rt; taken.is_empty());
+}
+
 #[test]
 fn each_read_of_a_report_fails(rt: HostRuntime) {
     let (rows, none, reads) = report_from(&rt, 0);
-    assert!(rt; none.is_none() && rows.as_slice() == b"a,6\n".as_slice());
+    assert_same(&rt, (rows.as_slice(), none), (b"a,6\n".as_slice(), None));
     assert!(rt; 4 < reads && reads < 99);
     for fails_at in 1..=reads {
-        let (taken, refusal, _) = report_from(&rt, fails_at);
-        assert_eq!(rt; refusal, Some(ToolError::ReadFault));
-        assert!(rt; taken.is_empty());
+        assert_refused(&rt, fails_at);
     }
 }
 
 #[test]
 fn reports_to_writers(rt: HostRuntime) {
-    for (manner, written) in Manner::of_four_bytes() {
-        let (taken, refusal) = report_of(&rt, RECORDS, manner);
+    for (manner, written) in &Manner::of_four_bytes() {
+        let (taken, refusal) = report_of(&rt, RECORDS, *manner);
         let told = written.map(|written| ToolError::WriteFault { written });
-        assert_eq!(rt; refusal, told);
+        assert_same(&rt, refusal, told);
         let len = written.unwrap_or(4) as usize;
-        assert_eq!(rt; taken.len(), len);
+        assert_same(&rt, taken.len(), len);
         assert!(rt; b"a,6\n".starts_with(taken.as_slice()));
     }
 }
