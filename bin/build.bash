@@ -113,7 +113,7 @@ is_ready() {
 # that can wait has what processors the others leave.
 start_prover() {
   local words=("$top/bin/prove-crate" "$top/crates/$1" "$2")
-  [ "$1" != heavy_cli ] || words=(rt run -- --help)
+  [ "$1" != heavy_cli ] || words=(rt run --jobs "$2" -- --help)
   ! can_wait "$1" || words=(nice "${words[@]}")
   : > "$top/crates/$1/build.log"
   set -m
@@ -131,22 +131,29 @@ jobs_at_work() {
 }
 
 # Starts those of these crates that are ready, while a processor is free and memory has room. Each has one job, since
-# more of them take more of the processors in all. The first one has besides the jobs that processors are left for.
+# more of them take more of the processors in all. But the first one, which most others wait for, has half of the
+# processors, and more where they are left. A crate that can wait is started while provers are fewer than processors.
 start_ready() {
-  local name idle most free=$room ready=() waiting=()
+  local name idle most least=$(((cores + 1) / 2)) free=$room ready=() waiting=()
   for name in "$@"; do
     ! is_ready "$name" || if can_wait "$name"; then waiting+=("$name"); else ready+=("$name"); fi
   done
   for name in "${!provers[@]}"; do free=$((free - jobs[$name])); done
   idle=$((cores - $(jobs_at_work)))
-  for name in "${ready[@]}" "${waiting[@]}"; do
-    if [ "$free" -lt 1 ] || [ "${#provers[@]}" -ge "$cores" ]; then return; fi
+  for name in "${ready[@]}"; do
     ready=("${ready[@]:1}")
     most=$((idle - ${#ready[@]}))
-    [ "$most" -le $((free - ${#ready[@]})) ] || most=$((free - ${#ready[@]}))
-    if [ "$most" -lt 1 ] || can_wait "$name"; then most=1; fi
+    [ "$most" -ge "$least" ] || most=$least
+    [ "$most" -le "$idle" ] || most=$idle
+    [ "$most" -le "$free" ] || most=$free
+    [ "$most" -ge 1 ] || break
     start_prover "$name" "$most"
-    free=$((free - most)) idle=$((idle - most))
+    free=$((free - most)) idle=$((idle - most)) least=1
+  done
+  for name in "${waiting[@]}"; do
+    if [ "$free" -lt 1 ] || [ "${#provers[@]}" -ge "$cores" ]; then return; fi
+    start_prover "$name" 1
+    free=$((free - 1))
   done
 }
 
