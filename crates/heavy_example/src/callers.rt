@@ -141,12 +141,7 @@ pub fn saved_summary<R: Read + Drop>(alloc: Global, reader: R) -> Result<Vec<u8>
 }
 
 /// A saved summary or table with one more item.
-pub fn with_item(
-    alloc: Global,
-    file: &[u8],
-    key: &[u8],
-    weight: u64,
-) -> Result<Vec<u8>, ToolError>
+pub fn with_item(alloc: Global, file: &[u8], key: &[u8], weight: u64) -> Result<Vec<u8>, ToolError>
     ensures { IfOk result (λ bytes. IsAdded file.now ((key.now, weight) ∷ []) bytes.items) }
 {
     add_items(alloc, file, &[(key, weight)])
