@@ -131,29 +131,22 @@ jobs_at_work() {
 }
 
 # Starts those of these crates that are ready, while a processor is free and memory has room. Each has one job, since
-# more of them take more of the processors in all. But the first one, which most others wait for, has half of the
-# processors, and more where they are left. A crate that can wait is started while provers are fewer than processors.
+# more of them take more of the processors in all. The first one has besides the jobs that processors are left for.
 start_ready() {
-  local name idle most least=$(((cores + 1) / 2)) free=$room ready=() waiting=()
+  local name idle most free=$room ready=() waiting=()
   for name in "$@"; do
     ! is_ready "$name" || if can_wait "$name"; then waiting+=("$name"); else ready+=("$name"); fi
   done
   for name in "${!provers[@]}"; do free=$((free - jobs[$name])); done
   idle=$((cores - $(jobs_at_work)))
-  for name in "${ready[@]}"; do
+  for name in "${ready[@]}" "${waiting[@]}"; do
+    if [ "$free" -lt 1 ] || [ "${#provers[@]}" -ge "$cores" ]; then return; fi
     ready=("${ready[@]:1}")
     most=$((idle - ${#ready[@]}))
-    [ "$most" -ge "$least" ] || most=$least
-    [ "$most" -le "$idle" ] || most=$idle
-    [ "$most" -le "$free" ] || most=$free
-    [ "$most" -ge 1 ] || break
+    [ "$most" -le $((free - ${#ready[@]})) ] || most=$((free - ${#ready[@]}))
+    if [ "$most" -lt 1 ] || can_wait "$name"; then most=1; fi
     start_prover "$name" "$most"
-    free=$((free - most)) idle=$((idle - most)) least=1
-  done
-  for name in "${waiting[@]}"; do
-    if [ "$free" -lt 1 ] || [ "${#provers[@]}" -ge "$cores" ]; then return; fi
-    start_prover "$name" 1
-    free=$((free - 1))
+    free=$((free - most)) idle=$((idle - most))
   done
 }
 

@@ -240,7 +240,7 @@ class Install(programs.Checks):
     def test_order(self) -> None:
         """Crates that don't stand on each other are proved at once, and each after those below it; one at a time on one
         processor."""
-        slow = ["hh_counters", "hh_countmin", "hh_records", "hh_reports", "heavy_requests"]
+        slow = ["hh_counters", "hh_countmin", "hh_records", "hh_pool", "hh_saved"]
         for processors in (4, 1):
             copy = Copy(self.room, f"order{processors}")
             status, out, err = copy.run(0.5, slow=" ".join(slow), processors=processors)
@@ -253,8 +253,7 @@ class Install(programs.Checks):
             wanted = {frozenset(pair) for pair in (slow[:2], slow[1:3], slow[:3:2], slow[3:])} if processors == 4 else set()
             self.check(f"proved at once on {processors}", met == wanted, lines)
             jobs = {words[1]: int(words[3]) for words in lines if words[0] == "begin"}
-            most = max(jobs.values())
-            self.check(f"jobs on {processors}", (processors + 1) // 2 <= most <= processors, jobs)
+            self.check(f"jobs on {processors}", max(jobs.values()) == processors, jobs)
 
     def test_failures(self) -> None:
         """A build that fails shows the end of its log, and where the whole is; no toolchain is told as such."""
