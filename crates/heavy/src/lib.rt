@@ -1,6 +1,6 @@
-//! Exact reports of the heavy keys of large weighted streams, and saved summaries that are merged and
-//! asked later: all that the program and the library for C do, and laws over several machines. The
-//! calls stand in the crates below, which this one hands on.
+//! Exact reports of the heavy keys of large weighted streams, and saved summaries that are merged
+//! and asked later: all that the program and the library for C do, and laws over several machines.
+//! The calls stand in the crates below, which this one hands on.
 #![tactic(auto)]
 
 pub mod laws;

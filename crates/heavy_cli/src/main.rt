@@ -7,8 +7,8 @@ use heavy_requests::{
     tell_format, tell_more, tell_own_k, tells_more, watches,
 };
 use hh_commands::{
-    Method, ToolError, Totals, ask_rows, condense_bytes_from, confirm_rows, describe_file,
-    list_rows, merge_bytes, summary_bytes_from, table_bytes_from,
+    Method, ReportOptions, ToolError, Totals, ask_rows, condense_bytes_from, confirm_rows,
+    describe_file, list_rows, merge_bytes, summary_bytes_from, table_bytes_from,
 };
 use hh_reports::{condense_files, confirm_files, report_files, report_rows, table_files};
 use hh_rows::{Out, RowOptions, Share, put};
@@ -135,6 +135,25 @@ fn write_answer<T: Threads + Wait + Sync>(
     Ok(())
 }
 
+/// Writes the report of the records that are named, or else of standard input, as it is made.
+fn write_report<T: Threads + Wait + Sync>(
+    threads: &T,
+    inputs: Inputs<'_>,
+    options: &ReportOptions,
+    rows: &RowOptions,
+    records: &RecordWords,
+) -> Result<(), ToolError> {
+    let alloc = inputs.rt.alloc();
+    if records.files.is_empty() {
+        let records = inputs.records(records, 0)?;
+        let mut out = Out::new(inputs.rt.stdout());
+        return report_rows(threads, alloc, options, rows, records, &mut out);
+    }
+    let records = inputs.file_records(records)?;
+    let mut out = Out::new(inputs.rt.stdout());
+    report_files(threads, alloc, options, rows, records, &mut out)
+}
+
 /// The fault of an input that can't be read, by the number that it left.
 fn numbered(fault: ToolError, number: u64) -> ToolError {
     match fault {
@@ -227,23 +246,8 @@ fn main(rt: HostRuntime) -> ExitCode {
     let watched = watches(&rt, &asked).then_some(&seen);
     let inputs = Inputs::new(&rt, progress.as_ref(), &unread, watched);
     let outcome = match &asked.request {
-        Request::Report { options, rows } if asked.records.files.is_empty() => {
-            match inputs.records(&asked.records, 0) {
-                Ok(records) => {
-                    let mut out = Out::new(rt.stdout());
-                    report_rows(&rt, rt.alloc(), options, rows, records, &mut out)
-                }
-                Err(fault) => Err(fault),
-            }
-        }
         Request::Report { options, rows } => {
-            match inputs.file_records(&asked.records) {
-                Ok(records) => {
-                    let mut out = Out::new(rt.stdout());
-                    report_files(&rt, rt.alloc(), options, rows, records, &mut out)
-                }
-                Err(fault) => Err(fault),
-            }
+            write_report(&rt, inputs, options, rows, &asked.records)
         }
         Request::Answer(command) => write_answer(&rt, inputs, command, &asked.records, &mut totals),
     };

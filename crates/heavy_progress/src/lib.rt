@@ -1,5 +1,5 @@
-//! What is told of an input while it is read: how far it is, how many records it has, and whether it
-//! looks like another format.
+//! What is told of an input while it is read: how far it is, how many records it has, and whether
+//! it looks like another format.
 #![tactic(auto)]
 
 mod other_format;

@@ -1,5 +1,5 @@
-//! What a command line asks the program `heavy` for, the inputs that it names, and what is told where
-//! it is refused.
+//! What a command line asks the program `heavy` for, the inputs that it names, and what is told
+//! where it is refused.
 #![tactic(auto)]
 
 mod explain;

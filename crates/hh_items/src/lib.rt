@@ -1,5 +1,5 @@
-//! The calls on items and on the entries of saved files, for callers that have no text of records: a
-//! summary or a table that grows item by item, and items counted by a saved summary.
+//! The calls on items and on the entries of saved files, for callers that have no text of records:
+//! a summary or a table that grows item by item, and items counted by a saved summary.
 #![tactic(auto)]
 
 mod commands;

@@ -1,5 +1,5 @@
-//! Rows out, as CSV text: the heavy keys of a report, as they are written to a sink, and the share of
-//! the total that a key has to exceed.
+//! Rows out, as CSV text: the heavy keys of a report, as they are written to a sink, and the share
+//! of the total that a key has to exceed.
 //!
 //! `hh_` is heavy hitters, the frequent keys.
 #![tactic(auto)]

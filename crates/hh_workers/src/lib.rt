@@ -1,5 +1,5 @@
-//! What an analysis by threads is made of, whatever it counts: pieces of any kind, plans to merge by,
-//! and workers that claim pieces and share sums.
+//! What an analysis by threads is made of, whatever it counts: pieces of any kind, plans to merge
+//! by, and workers that claim pieces and share sums.
 #![tactic(auto)]
 
 mod gate;
