@@ -109,39 +109,12 @@ struct Group {
 }
 
 /// What `clap` is told of a command.
-struct Words {
+struct CommandWords {
     name: &'static str,
     help: Help,
     arguments: &'static [Argument],
     groups: &'static [Group],
 }
-
-/// A command of the program.
-#[derive(Clone, Copy)]
-enum Name {
-    Report,
-    Summarise,
-    Table,
-    Merge,
-    Ask,
-    List,
-    Describe,
-    Condense,
-    Confirm,
-}
-
-/// The commands in the order of help.
-const NAMES: [Name; 9] = [
-    Name::Report,
-    Name::Summarise,
-    Name::Table,
-    Name::Merge,
-    Name::Ask,
-    Name::List,
-    Name::Describe,
-    Name::Condense,
-    Name::Confirm,
-];
 
 /// The option that tells more about a fault.
 const EXPLAIN_FLAG: Argument = Argument::LastFlag(
@@ -294,68 +267,63 @@ const CONFIRM_ARGUMENTS: [Argument; 8] = [
     Argument::Records,
 ];
 
-const REPORT_WORDS: Words = Words {
-    name: "report",
-    help: REPORT,
-    arguments: &REPORT_ARGUMENTS,
-    groups: &REPORT_GROUPS,
-};
-
-const SUMMARISE_WORDS: Words = Words {
-    name: "summarise",
-    help: SUMMARISE,
-    arguments: &SUMMARISE_ARGUMENTS,
-    groups: &RECORD_GROUPS,
-};
-
-const TABLE_WORDS: Words = Words {
-    name: "table",
-    help: TABLE,
-    arguments: &TABLE_ARGUMENTS,
-    groups: &RECORD_GROUPS,
-};
-
-const MERGE_WORDS: Words = Words {
-    name: "merge",
-    help: MERGE,
-    arguments: &MERGE_ARGUMENTS,
-    groups: &[],
-};
-
-const ASK_WORDS: Words = Words {
-    name: "ask",
-    help: ASK,
-    arguments: &ASK_ARGUMENTS,
-    groups: &[],
-};
-
-const LIST_WORDS: Words = Words {
-    name: "list",
-    help: LIST,
-    arguments: &LIST_ARGUMENTS,
-    groups: &[],
-};
-
-const DESCRIBE_WORDS: Words = Words {
-    name: "describe",
-    help: DESCRIBE,
-    arguments: &DESCRIBE_ARGUMENTS,
-    groups: &[],
-};
-
-const CONDENSE_WORDS: Words = Words {
-    name: "condense",
-    help: CONDENSE,
-    arguments: &CONDENSE_ARGUMENTS,
-    groups: &RECORD_GROUPS,
-};
-
-const CONFIRM_WORDS: Words = Words {
-    name: "confirm",
-    help: CONFIRM,
-    arguments: &CONFIRM_ARGUMENTS,
-    groups: &RECORD_GROUPS,
-};
+/// The commands in the order of help.
+const COMMANDS: [CommandWords; 9] = [
+    CommandWords {
+        name: "report",
+        help: REPORT,
+        arguments: &REPORT_ARGUMENTS,
+        groups: &REPORT_GROUPS,
+    },
+    CommandWords {
+        name: "summarise",
+        help: SUMMARISE,
+        arguments: &SUMMARISE_ARGUMENTS,
+        groups: &RECORD_GROUPS,
+    },
+    CommandWords {
+        name: "table",
+        help: TABLE,
+        arguments: &TABLE_ARGUMENTS,
+        groups: &RECORD_GROUPS,
+    },
+    CommandWords {
+        name: "merge",
+        help: MERGE,
+        arguments: &MERGE_ARGUMENTS,
+        groups: &[],
+    },
+    CommandWords {
+        name: "ask",
+        help: ASK,
+        arguments: &ASK_ARGUMENTS,
+        groups: &[],
+    },
+    CommandWords {
+        name: "list",
+        help: LIST,
+        arguments: &LIST_ARGUMENTS,
+        groups: &[],
+    },
+    CommandWords {
+        name: "describe",
+        help: DESCRIBE,
+        arguments: &DESCRIBE_ARGUMENTS,
+        groups: &[],
+    },
+    CommandWords {
+        name: "condense",
+        help: CONDENSE,
+        arguments: &CONDENSE_ARGUMENTS,
+        groups: &RECORD_GROUPS,
+    },
+    CommandWords {
+        name: "confirm",
+        help: CONFIRM,
+        arguments: &CONFIRM_ARGUMENTS,
+        groups: &RECORD_GROUPS,
+    },
+];
 
 impl Number {
     /// The number that was given, or else the default.
@@ -388,7 +356,7 @@ fn with<'a>(alloc: Global, mut command: Command<'a>, arguments: &[Argument]) -> 
 }
 
 /// The command of these words.
-fn command_of<'a>(alloc: Global, words: &Words) -> Built<'a>
+fn command_of<'a>(alloc: Global, words: &CommandWords) -> Built<'a>
     ensures { HasNoGlobals result }
 {
     let command = described(alloc, words.name, words.help).after_help(DASHES);
@@ -401,25 +369,6 @@ fn command_of<'a>(alloc: Global, words: &Words) -> Built<'a>
         )?;
     }
     Ok(command)
-}
-
-impl Name {
-    /// What `clap` is told of the command.
-    fn told<'a>(self, alloc: Global) -> Built<'a>
-        ensures { HasNoGlobals result }
-    {
-        match self {
-            Name::Report => command_of(alloc, &REPORT_WORDS),
-            Name::Summarise => command_of(alloc, &SUMMARISE_WORDS),
-            Name::Table => command_of(alloc, &TABLE_WORDS),
-            Name::Merge => command_of(alloc, &MERGE_WORDS),
-            Name::Ask => command_of(alloc, &ASK_WORDS),
-            Name::List => command_of(alloc, &LIST_WORDS),
-            Name::Describe => command_of(alloc, &DESCRIBE_WORDS),
-            Name::Condense => command_of(alloc, &CONDENSE_WORDS),
-            Name::Confirm => command_of(alloc, &CONFIRM_WORDS),
-        }
-    }
 }
 
 /// The program, which has no command yet.
@@ -437,8 +386,8 @@ pub fn command_line<'a>(alloc: Global) -> Result<Command<'a>, AllocError>
     ensures required { IfOk result (λ c. (fields_of c).subcommand_required ≡ true) }
 {
     let mut all = program(alloc)?;
-    for name in NAMES {
-        all = all.subcommand(name.told(alloc)?)?;
+    for words in &COMMANDS {
+        all = all.subcommand(command_of(alloc, words)?)?;
     }
     Ok(all.subcommand_required(true))
 }
