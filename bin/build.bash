@@ -29,6 +29,13 @@ crates_of() {
     END { visit(name) }' "$top/crates.txt"
 }
 
+# What crates.txt says of a crate: what kind of library it is, where that is said, and what it stands on.
+kind_of() { sed -n "s/^$1 \(.*\):.*/\1/p" "$top/crates.txt"; }
+stands_on() { sed -n "s/^$1\( [a-z]*\)\{0,1\}://p" "$top/crates.txt"; }
+
+# The folder of the toolchain.
+toolchain() { dirname "$(rt doc | awk 'END { print $NF }')"; }
+
 # Whether a source of these crates is newer than the file that was built of them, or there is no such file.
 is_stale() {
   local file=$1
@@ -36,6 +43,17 @@ is_stale() {
   local folders=("${@/#/$top/crates/}")
   [ ! -f "$file" ] || [ -n "$(find "$top/crates.txt" "${folders[@]}" -name out -prune -o -newer "$file" -type f \
     \( -name '*.rt' -o -name '*.antt' -o -name crates.txt \) -print -quit)" ]
+}
+
+# What tells when a library was built.
+mark_of() { printf '%s\n' "$top/crates/$1/out/rlib/$1.rlib/format"; }
+
+# Whether a library is proved as its sources are, over those below it as they are now. These have to be proved.
+is_proved() {
+  local name crates
+  mapfile -t crates < <(crates_of "$1")
+  ! is_stale "$(mark_of "$1")" "${crates[@]}" || return 1
+  for name in "${crates[@]}"; do [ ! "$(mark_of "$name")" -nt "$(mark_of "$1")" ] || return 1; done
 }
 
 # The version, which stands in the program's sources alone.
@@ -97,6 +115,18 @@ can_wait() {
   return 1
 }
 
+# Whether all crates that are told before this one, whose chains are as long or longer, are proved.
+is_first() {
+  local name
+  for name in "${crates[@]}"; do
+    [ "$name" != "$1" ] || return 0
+    is_among "$name" "${proved[@]}" || return 1
+  done
+}
+
+# The least of these numbers.
+least_of() { printf '%s\n' "$@" | sort -n | head -n 1; }
+
 # How many provers memory has room for, at 2 GB each.
 room_in_memory() {
   awk '/^MemAvailable:/ { room = int($2 / 2000000) } END { print (room > 1 ? room : 1) }' /proc/meminfo
@@ -109,15 +139,14 @@ is_ready() {
   for name in $(crates_of "$1"); do is_among "$name" "$1" "${proved[@]}" || return 1; done
 }
 
-# Starts to prove a crate with so many jobs, as a process group of its own. The program is built by `rt run`. A crate
-# that can wait has what processors the others leave.
+# Starts to prove a crate with so many jobs, as a process group of its own. A crate that can wait has what processors
+# the others leave.
 start_prover() {
-  local words=("$top/bin/prove-crate" "$top/crates/$1" "$2")
-  [ "$1" != heavy_cli ] || words=(rt run --jobs "$2" -- --help)
+  local words=("$top/bin/prove-crate" "$1" "$2")
   ! can_wait "$1" || words=(nice "${words[@]}")
   : > "$top/crates/$1/build.log"
   set -m
-  (cd "$top/crates/$1" && exec "${words[@]}") > "$top/crates/$1/build.log" 2>&1 < /dev/null 9>&- &
+  (exec "${words[@]}") > "$top/crates/$1/build.log" 2>&1 < /dev/null 9>&- &
   set +m
   provers[$1]=$!
   jobs[$1]=$2
@@ -130,23 +159,29 @@ jobs_at_work() {
   printf '%s\n' "$all"
 }
 
-# Starts those of these crates that are ready, while a processor is free and memory has room. Each has one job, since
-# more of them take more of the processors in all. The first one has besides the jobs that processors are left for.
+# Starts those of these crates that are ready, while a processor is free and memory has room. They share the processors
+# evenly with those that can wait, which have one each: several jobs take more of the processors in all. The crate with
+# the longest chain above it has two, where there are so many.
 start_ready() {
-  local name idle most free=$room ready=() waiting=()
+  local name idle share most free=$room ready=() waiting=()
   for name in "$@"; do
     ! is_ready "$name" || if can_wait "$name"; then waiting+=("$name"); else ready+=("$name"); fi
   done
   for name in "${!provers[@]}"; do free=$((free - jobs[$name])); done
   idle=$((cores - $(jobs_at_work)))
-  for name in "${ready[@]}" "${waiting[@]}"; do
-    if [ "$free" -lt 1 ] || [ "${#provers[@]}" -ge "$cores" ]; then return; fi
-    ready=("${ready[@]:1}")
-    most=$((idle - ${#ready[@]}))
-    [ "$most" -le $((free - ${#ready[@]})) ] || most=$((free - ${#ready[@]}))
-    if [ "$most" -lt 1 ] || can_wait "$name"; then most=1; fi
+  share=$((${#ready[@]} + ${#waiting[@]}))
+  for name in "${ready[@]}"; do
+    most=$(((idle + share - 1) / share))
+    if [ "$most" -lt 2 ] && is_first "$name"; then most=2; fi
+    most=$(least_of "$most" "$idle" "$free")
+    [ "$most" -ge 1 ] || break
     start_prover "$name" "$most"
-    free=$((free - most)) idle=$((idle - most))
+    free=$((free - most)) idle=$((idle - most)) share=$((share - 1))
+  done
+  for name in "${waiting[@]}"; do
+    if [ "$free" -lt 1 ] || [ "${#provers[@]}" -ge "$cores" ]; then return 0; fi
+    start_prover "$name" 1
+    free=$((free - 1))
   done
 }
 
@@ -162,7 +197,7 @@ note_ended() {
 
 # How many functions of a crate are checked, as its log says.
 functions_in() {
-  awk '/^so far: [0-9]+ of [0-9]+ functions/ { far = " " $3 "/" $5 } END { print far }' "$top/crates/$1/build.log"
+  awk '/^checked .*, [0-9]+ of [0-9]+$/ { far = " " $(NF - 2) "/" $NF } END { print far }' "$top/crates/$1/build.log"
 }
 
 # Tells how far the crates are: on a terminal by one line that is written over, else by a line for each crate.
@@ -201,44 +236,62 @@ wait_for() {
   until flock --nonblock "$1"; do sleep 0.5; done
 }
 
-# Proves libraries while no rt works in their folders, which every rt holds in this order too.
+# Proves those of these libraries that are not proved, while no rt works in their folders, which every rt holds in this
+# order too.
 prove_libraries() {
-  local name folder held=()
+  local name folder held=() left=()
   for name in $(printf '%s\n' "$@" | LC_ALL=C sort); do
     exec {folder}< "$top/crates/$name"
     wait_for "$folder" "another rt works in crates/$name"
     held+=("$folder")
   done
-  prove "$@"
+  for name in "$@"; do
+    if is_ready "$name" && is_proved "$name"; then proved+=("$name"); else left+=("$name"); fi
+  done
+  prove "${left[@]}"
   for folder in "${held[@]}"; do exec {folder}<&-; done
 }
 
-build_heavy() {
+# Proves a crate that no other stands on, over what it stands on, and builds it, as this file.
+prove_and_build() {
   local crates lines name sorted=() start=$SECONDS
-  mapfile -t crates < <(crates_of heavy_cli)
-  is_stale "$built" "${crates[@]}" || return 0
+  proved=() told=() failed=
+  mapfile -t crates < <(crates_of "$1")
+  while read -r lines name; do chain[$name]=$lines sorted+=("$name"); done < <(by_chain "${crates[@]}")
+  crates=("${sorted[@]}")
+  prove_libraries "${crates[@]:0:${#crates[@]}-1}"
+  [ -n "$failed" ] || prove "$1"
+  if [ -z "$failed" ] && [ ! -f "$2" ]; then failed=$1; fi
+  if [ -n "$failed" ]; then
+    tell_over "the build failed; the last lines of $top/crates/$failed/build.log:"
+    tail -n 20 "$top/crates/$failed/build.log" >&2
+    return 1
+  fi
+  touch "$2"
+  tell_over "built in $(minutes_and_seconds $((SECONDS - start)))"
+}
+
+# Builds this file of that crate, where its sources are newer, unless another build did meanwhile. First it tells the
+# rest of its words, a line each.
+build() {
+  local crates line name=$1 file=$2
+  mapfile -t crates < <(crates_of "$name")
+  is_stale "$file" "${crates[@]}" || return 0
   command -v rt > /dev/null || { tell "the toolchain's command, rt, is not on the path"; return 1; }
   trap 'end_build 129' HUP
   trap 'end_build 130' INT
   trap 'end_build 143' TERM
   exec 9> "$program/build.lock"
   wait_for 9 "another build runs in $top"
-  if is_stale "$built" "${crates[@]}"; then
-    tell "proving and building the program, once and after each change of its sources"
-    tell "a first build takes some minutes; crates/*/build.log have its lines"
-    while read -r lines name; do chain[$name]=$lines sorted+=("$name"); done < <(by_chain "${crates[@]}")
-    crates=("${sorted[@]}")
-    prove_libraries "${crates[@]:0:${#crates[@]}-1}"
-    [ -n "$failed" ] || prove heavy_cli
-    if [ -z "$failed" ] && [ ! -x "$built" ]; then failed=heavy_cli; fi
-    if [ -n "$failed" ]; then
-      tell_over "the build failed; the last lines of $top/crates/$failed/build.log:"
-      tail -n 20 "$top/crates/$failed/build.log" >&2
-      return 1
-    fi
-    touch "$built"
-    tell_over "built in $(minutes_and_seconds $((SECONDS - start)))"
+  if is_stale "$file" "${crates[@]}"; then
+    for line in "${@:3}"; do tell "$line"; done
+    prove_and_build "$name" "$file" || return 1
   fi
   exec 9>&-
   trap - HUP INT TERM
+}
+
+build_heavy() {
+  build heavy_cli "$built" "proving and building the program, once and after each change of its sources" \
+    "a first build takes some minutes; crates/*/build.log have its lines"
 }

@@ -13,48 +13,6 @@ has_compiler() { command -v "${CC:-cc}" > /dev/null && command -v "${AR:-ar}" > 
 # Whether there is what proves and builds.
 has_toolchain() { command -v rt > /dev/null; }
 
-# The folder of the toolchain.
-toolchain() { dirname "$(rt doc | awk 'END { print $NF }')"; }
-
-# Whether these crates are as `rt ci` leaves libraries that it proved: all are there, each newer than its sources, and
-# none with a stamp. Without a stamp `rt lib` takes none of them, and proves all once more.
-are_of_gate() {
-  local name built crates
-  for name in "$@"; do
-    built="$top/crates/$name/out/rlib"
-    mapfile -t crates < <(crates_of "$name")
-    [ ! -e "$built/stamp" ] && ! is_stale "$built/$name.rlib/format" "${crates[@]}" || return 1
-  done
-}
-
-# Builds the library over these crates, lowest first, as they stand: proves it and compiles what is proved.
-build_over() {
-  local kit name words
-  kit=$(toolchain)
-  words=(-L "dependency=$kit/rlibs")
-  for name in "$@"; do words+=(-L "dependency=$top/crates/$name/out/rlib"); done
-  for name in std $(sed -n 's/^heavy_ffi staticlib://p' "$top/crates.txt"); do
-    case " $* " in
-      *" $name "*) words+=(--extern "$name=$top/crates/$name/out/rlib/$name.rlib") ;;
-      *) words+=(--extern "$name=$kit/rlibs/$name.rlib") ;;
-    esac
-  done
-  mkdir -p "$library/out"
-  (cd "$library" && exec "$kit/bin/rattle" build --crate-name heavy_ffi src/lib.rt "${words[@]}" \
-    --antt-project "$kit/rattle/logic/antt-project.json" --logic-built "$kit/logic_built" --links heavy_ffi= --jobs 2 \
-    --crate-type staticlib --toolchain "$kit/toolchain" --backend llvm -o "$archive")
-}
-
-# Builds the library over what is there of the crates that it stands on, and those of them that `rt lib` wants.
-build_archive() {
-  local below=("${@:1:$#-1}")
-  if are_of_gate "${below[@]}"; then
-    build_over "${below[@]}"
-  else
-    (cd "$library" && exec rt lib)
-  fi
-}
-
 # Whether the library is there, as its sources are.
 is_library_built() {
   local crates
@@ -63,23 +21,10 @@ is_library_built() {
 }
 
 build_library() {
-  local crates
-  mapfile -t crates < <(crates_of heavy_ffi)
   ! is_library_built || return 0
   has_toolchain || { tell "the toolchain's command, rt, is not on the path"; return 1; }
-  if is_stale "$archive" "${crates[@]}"; then prove_and_build "${crates[@]}" || return 1; fi
+  build heavy_ffi "$archive" "proving and building the library for C; crates/*/build.log have its lines" || return 1
   cp "$(toolchain)/c/liblibc_c.a" "$functions"
-}
-
-# Proves the library over these crates and builds it.
-prove_and_build() {
-  tell "proving and building the library for C; $library/build.log has its lines"
-  if ! build_archive "$@" > "$library/build.log" 2>&1 < /dev/null || [ ! -f "$archive" ]; then
-    tell "the build of the library failed; the last lines of $library/build.log:"
-    tail -n 20 "$library/build.log" >&2
-    return 1
-  fi
-  touch "$archive"
 }
 
 # The calls that the header declares.

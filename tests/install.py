@@ -1,9 +1,9 @@
 #!/usr/bin/env python3
 """Installs the built program and runs what was installed; and builds by stand-ins of the toolchain: what the build
-says, which crates it proves side by side, that one build is enough for two that begin at once, that none runs where
-nothing is to be built, and that one that is interrupted or fails leaves no process. The library for C is installed of
-what the stand-in leaves, and left out where there is no C compiler; it is built over the crates that `rt ci` left,
-where they are as it left them.
+says, which crates it proves side by side, that it proves no crate that is proved, that one build is enough for two that
+begin at once, that none runs where nothing is to be built, and that one that is interrupted or fails leaves no process.
+The library for C is installed of what the stand-in leaves, and left out where there is no C compiler; it is built over
+the crates that `rt ci` left, where they are as it left them.
 
 usage: tests/install.py
 """
@@ -38,69 +38,49 @@ TOOLS = [
     "bash", "env", "dirname", "readlink", "awk", "find", "sed", "cp", "chmod", "mv", "mkdir", "mktemp", "rm", "ln",
     "cat", "tail", "touch", "sleep", "sh", "sort", "nproc", "nice",
 ]
-# It tells what rt tells, notes what it does, and leaves a program. Of a slow crate it waits, with a process below it.
-STAND_IN = """#!/usr/bin/env bash
-wait_if_slow() {
-  [[ " $SLOW " == *" $1 "* ]] || return 0
+# rt, which only tells where the toolchain is.
+STAND_IN = """#!/bin/sh
+echo "$KIT/START-HERE.md"
+"""
+# The compiler of that toolchain. It tells what rattle tells, notes what it does, and leaves a library, or of the program
+# an object. Of a slow crate it waits, with a process below it.
+COMPILER = """#!/usr/bin/env bash
+echo "$*" >> "$CALLS"
+verb=$1
+while [ $# -gt 0 ]; do
+  case $1 in
+    --crate-name) name=$2 ;;
+    --jobs) jobs=$2 ;;
+    -o) made=$2 ;;
+  esac
+  shift
+done
+if [[ "$verb $made" == build*.rlib ]]; then mkdir -p "$made"; exec touch "$made/format"; fi
+case $name in
+  heavy_cli) echo run >> "$RUNS" ;;
+  heavy_ffi) echo lib >> "$RUNS" ;;
+esac
+echo "begin $name --jobs $jobs" >> "$PROOFS"
+echo "checked $name::first, 3 of 37"
+if [[ " $SLOW " == *" $name "* ]]; then
   sleep "$SECONDS_TO_RUN" &
   echo $! >> "$CHILDREN"
   wait
-}
-case $1 in
-  doc) echo "$KIT/START-HERE.md"; exit ;;
-  lib)
-    echo lib >> "$RUNS"
-    echo "the stand-in's last line"
-    [ "$OUTCOME" = 0 ] || exit "$OUTCOME"
-    mkdir -p out
-    exec cp "$KIT/calls.a" out/libheavy_ffi.a
-    ;;
-  prove)
-    echo "begin $2 ${*:3}" >> "$PROOFS"
-    echo "so far: 3 of 37 functions checked; the verdict comes last"
-    wait_if_slow "$2"
-    echo "end $2" >> "$PROOFS"
-    echo "the stand-in's last line"
-    [ "$2" != "$FAILING" ]
-    exit
-    ;;
-esac
-echo run >> "$RUNS"
-wait_if_slow heavy_cli
+fi
+echo "end $name" >> "$PROOFS"
 echo "the stand-in's last line"
-[ "$OUTCOME" = 0 ] || exit "$OUTCOME"
-mkdir -p out
-printf '#!/bin/sh\\necho "built: $*"\\n' > out/heavy_cli
-chmod +x out/heavy_cli
+[ "$name" != "$FAILING" ] || exit 1
+case $name in
+  heavy_cli) [ "$OUTCOME" = 0 ] || exit "$OUTCOME"; touch "$made" ;;
+  heavy_ffi) [ "$OUTCOME" = 0 ] || exit "$OUTCOME"; cp "$KIT/calls.a" "$made" ;;
+  *) mkdir -p "$made" ;;
+esac
 """
-# What bin/prove-crate calls of the toolchain: a crate by its folder, which hands its proof to that stand-in.
-RTLIB = """import os
-import subprocess
-
-
-def guarded():
-    pass
-
-
-def root_above(folder):
-    return os.path.dirname(os.path.dirname(folder))
-
-
-class Crate:
-    def __init__(self, folder, root, known):
-        self.name = os.path.basename(folder)
-
-    def is_built(self):
-        return False
-
-    def build_rlib(self, flags, anew):
-        return subprocess.call([f"{os.path.dirname(__file__)}/rt", "prove", self.name, *flags])
-"""
-# The compiler of that toolchain. It tells what it was given, and leaves a library.
-COMPILER = """#!/usr/bin/env bash
-echo "$*" >> "$RUNS"
-mkdir -p "$(dirname "${!#}")"
-: > "${!#}"
+# Its linker, which leaves a program.
+LINKER = """#!/usr/bin/env bash
+while [ "$1" != -o ]; do shift; done
+printf '#!/bin/sh\\necho "built: $*"\\n' > "$2"
+chmod +x "$2"
 """
 BEGIN = b"heavy: proving and building the program, once and after each change of its sources\n"
 SOON = 20  # seconds
@@ -114,18 +94,26 @@ class Copy:
         shutil.copytree(programs.TOP / "bin", self.top / "bin")
         shutil.copy(programs.TOP / "crates.txt", self.top)
         for line in (self.top / "crates.txt").read_text().splitlines():
-            source = self.top / "crates" / line.split(":")[0].split()[0] / "src" / "lib.rt"
+            crate = line.split(":")[0].split()[0]
+            source = self.source_of(crate)
             source.parent.mkdir(parents=True)
             source.write_text("// a crate\n")
-        self.source = self.top / "crates" / "heavy_cli" / "src" / "lib.rt"
-        self.runs, self.children, self.proofs = (self.top / name for name in ("runs", "children", "proofs"))
-        tools = self.top / "tools"
-        tools.mkdir()
-        for file, text in (("rt", STAND_IN), ("rtlib.py", RTLIB), ("nproc", "#!/bin/sh\necho $PROCESSORS\n")):
-            (tools / file).write_text(text)
-            (tools / file).chmod(0o755)
+        self.source = self.source_of("heavy_cli")
+        names = ("runs", "children", "proofs", "calls")
+        self.runs, self.children, self.proofs, self.calls = (self.top / name for name in names)
+        tools, self.kit = self.top / "tools", self.top / "kit"
+        for place, text in (
+            (tools / "rt", STAND_IN), (tools / "nproc", "#!/bin/sh\necho $PROCESSORS\n"),
+            (self.kit / "bin" / "rattle", COMPILER), (self.kit / "bin" / "rattle-link", LINKER),
+        ):
+            place.parent.mkdir(parents=True, exist_ok=True)
+            place.write_text(text)
+            place.chmod(0o755)
         self.path = f"{tools}:{os.environ['PATH']}"
-        self.kit = self.top / "kit"
+
+    def source_of(self, crate: str) -> Path:
+        """The one source of a crate, of which a program has another name."""
+        return self.top / "crates" / crate / "src" / ("main.rt" if crate == "heavy_cli" else "lib.rt")
 
     def environment(
         self, seconds: float = 0, outcome: int = 0, path: str | None = None, slow: str = "hh_stream",
@@ -134,7 +122,7 @@ class Copy:
         """What the stand-ins hear: how long slow crates take, how the program's build ends, and which crate fails."""
         return {
             "PATH": path or self.path, "RUNS": str(self.runs), "CHILDREN": str(self.children),
-            "PROOFS": str(self.proofs), "SECONDS_TO_RUN": str(seconds), "OUTCOME": str(outcome), "KIT": str(self.kit),
+            "PROOFS": str(self.proofs), "CALLS": str(self.calls), "SECONDS_TO_RUN": str(seconds), "OUTCOME": str(outcome), "KIT": str(self.kit),
             "SLOW": slow, "FAILING": failing, "PROCESSORS": str(processors),
         }
 
@@ -144,7 +132,7 @@ class Copy:
             shutil.copytree(programs.TOP / folder, self.top / folder)
         arguments = Path("crates", "heavy_arguments", "src", "arguments.rt")
         shutil.copy(programs.TOP / arguments, self.top / arguments)
-        (self.kit / "c").mkdir(parents=True)
+        (self.kit / "c").mkdir()
         sources = {"calls": "".join(f"int {name}(void) {{ return 7; }}\n" for name in (*header.calls(), "hidden"))}
         sources["c/liblibc_c"] = "int helper(void) { return 8; }\n"
         for name, text in sources.items():
@@ -169,6 +157,12 @@ class Copy:
 
     def builds(self) -> int:
         return len(self.runs.read_text().split()) if self.runs.exists() else 0
+
+    def begun(self) -> list[str]:
+        """The crates whose proof was begun, since the last such call."""
+        found = sorted(line.split()[1] for line in self.proof_lines() if line.startswith("begin"))
+        self.proofs.unlink(missing_ok=True)
+        return found
 
     def proof_lines(self) -> list[str]:
         """What the stand-in noted of proofs."""
@@ -226,9 +220,8 @@ class Install(programs.Checks):
         self.check("it says at once what it does", err.startswith(BEGIN), err)
         self.check("it tells the crate", b"heavy: proving hh_stream, crate 1 of 17, " in err, err)
         self.check("it has a line for each crate", b"\r" not in err and err.count(b"hh_stream") == 1, err)
-        begun = sorted(line.split()[1] for line in copy.proof_lines() if line.startswith("begin"))
-        below = sorted(set(crates_below("heavy_cli")))
-        self.check("each crate below is proved once", begun == below, (begun, below))
+        begun, crates = copy.begun(), sorted({*crates_below("heavy_cli"), "heavy_cli"})
+        self.check("each crate is proved once", begun == crates, (begun, crates))
         found = copy.run()
         self.check("a built program is run without a word", found == (0, b"built: report\n", b""), found)
         self.check("it was built once", copy.builds() == 1, copy.builds())
@@ -236,6 +229,19 @@ class Install(programs.Checks):
         os.utime(copy.source, (later, later))
         status, out, err = copy.run()
         self.check("a changed source is built", (status, copy.builds()) == (0, 2) and err.startswith(BEGIN), err)
+        begun = copy.begun()
+        self.check("no crate below it is proved again", begun == ["heavy_cli"], begun)
+        source = copy.source_of("hh_saved")
+        os.utime(source, (later + 5, later + 5))
+        status, _, err = copy.run()
+        begun, above = copy.begun(), [crate for crate in crates if {crate, *crates_below(crate)} & {"hh_saved"}]
+        self.check("a changed crate is proved, and those above it", (status, begun) == (0, above), (begun, above, err))
+        shutil.rmtree(copy.top / "crates" / "hh_stream" / "out")
+        os.utime(source, (0, 0))
+        os.utime(copy.source, (later + 10, later + 10))
+        status, _, err = copy.run()
+        begun, above = copy.begun(), [crate for crate in crates if {crate, *crates_below(crate)} & {"hh_stream"}]
+        self.check("a crate that is gone is proved, and those above it", (status, begun) == (0, above), (begun, above, err))
 
     def test_order(self) -> None:
         """Crates that don't stand on each other are proved at once, and each after those below it; one at a time on one
@@ -243,7 +249,7 @@ class Install(programs.Checks):
         slow = ["hh_counters", "hh_countmin", "hh_records", "hh_pool", "hh_saved"]
         for processors in (4, 1):
             copy = Copy(self.room, f"order{processors}")
-            status, out, err = copy.run(0.5, slow=" ".join(slow), processors=processors)
+            status, out, err = copy.run(1, slow=" ".join(slow), processors=processors)
             lines = [line.split() for line in copy.proof_lines()]
             self.check(f"a build on {processors}", (status, out) == (0, b"built: report\n"), (status, out, err))
             at = {(words[0], words[1]): place for place, words in enumerate(lines)}
@@ -373,40 +379,36 @@ class Install(programs.Checks):
         self.check("no compiler", (ended.status, ended.out, ended.err) == (0, told, LEFT_OUT), ended)
 
     def test_over_gate(self) -> None:
-        """The library is built over the crates that `rt ci` left; by `rt lib` where one has a stamp or a newer source."""
+        """The library is built over the crates that `rt ci` left; one with a newer source is proved, and those above it."""
         copy = Copy(self.room, "gate")
-        (copy.kit / "bin").mkdir(parents=True)
-        (copy.kit / "bin" / "rattle").write_text(COMPILER)
-        (copy.kit / "bin" / "rattle").chmod(0o755)
-        (copy.kit / "calls.a").touch()
         (copy.kit / "c").mkdir()
-        (copy.kit / "c" / "liblibc_c.a").touch()
+        for file in ("calls.a", "c/liblibc_c.a"):
+            (copy.kit / file).touch()
         scripts = "".join(f". {copy.top}/bin/{name}.bash; " for name in ("build", "library"))
         crates = copy.top / "crates"
         listed = programs.run(["bash", "-c", f"{scripts} crates_of heavy_ffi"], env=copy.environment())
         below = listed.out.decode().split()[:-1]
         places = {name: crates / name / "out" / "rlib" for name in below}
         # a source that is older than what was made of it
-        (crates / "hh_saved" / "src" / "lib.rt").touch()
+        copy.source_of("hh_saved").touch()
         for name, place in places.items():
             (place / f"{name}.rlib").mkdir(parents=True)
             (place / f"{name}.rlib" / "format").touch()
-        stamp, built = places["hh_saved"] / "stamp", places["hh_saved"] / "hh_saved.rlib" / "format"
+        above = sorted(name for name in below if {name, *crates_below(name)} & {"hh_saved"})
+        built = places["hh_saved"] / "hh_saved.rlib" / "format"
         for name, change, wanted in [
-            ("as the gate left them", lambda: None, "build"),
-            ("with a stamp", stamp.touch, "lib"),
-            ("as the gate left them again", stamp.unlink, "build"),
-            ("with a newer source", lambda: os.utime(built, (0, 0)), "lib"),
+            ("as the gate left them", lambda: None, []),
+            ("with a newer source", lambda: os.utime(built, (0, 0)), above),
         ]:
             change()
             ended = [programs.run(["bash", "-c", f"{scripts} build_library"], env=copy.environment()) for _ in range(2)]
-            runs = copy.runs.read_text().splitlines()
-            well = [it.status for it in ended] == [0, 0]
-            self.check(f"crates {name}", well and [it.split()[0] for it in runs] == [wanted], (ended, runs))
-            if wanted == "build":
-                words = [f"dependency={place}" for place in places.values()]
-                words += [f"hh_commands={places['hh_commands']}/hh_commands.rlib", f"std={copy.kit}/rlibs/std.rlib"]
-                self.check("what it is built over", not {*words} - {*runs[0].split()}, runs)
+            begun, runs = copy.begun(), copy.runs.read_text().split()
+            well = [it.status for it in ended] == [0, 0] and runs == ["lib"]
+            self.check(f"crates {name}", well and begun == sorted([*wanted, "heavy_ffi"]), (ended, begun))
+            words = [f"dependency={place}" for place in places.values()]
+            words += [f"hh_commands={places['hh_commands']}/hh_commands.rlib", f"std={copy.kit}/rlibs/std.rlib"]
+            calls = copy.calls.read_text().splitlines()
+            self.check(f"what it is built over {name}", not {*words} - {*calls[-1].split()}, calls)
             copy.runs.unlink()
             (crates / "heavy_ffi" / "out" / "libheavy_ffi.a").unlink()
 
