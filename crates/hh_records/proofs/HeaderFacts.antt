@@ -1,12 +1,18 @@
 -- The columns that the header of a text has.
-use Rattle.std.proofs.Common.{◌≡◌, ℕ, List, true, false, Option, Some, None, refl}
-use Rattle.std.specs.Prelude.{IfSome}
-use Rattle.csv.specs.Reading.{ReadRecord, records, source_of}
+use Rattle.std.proofs.Common.{◌≡◌, ◌+◌, ℕ, List, [], length, true, false, Option, Some, None, refl}
+use Rattle.std.specs.Prelude.{IfSome, map, option_map}
+use Rattle.csv.specs.Reading.{ReadRecord, records, records_from, source_of, strip_bom}
+use Rattle.csv.specs.declared.parser.Config.{Config}
+use Rattle.csv.specs.declared.parser.State.{State}
+use Rattle.csv.specs.declared.parser.State.TheVariants as st
 use Rattle.csv.specs.declared.reader.Reader.{Reader}
+use Rattle.hh_records.specs.declared.layout.ChoiceFault.{ChoiceFault}
+use Rattle.hh_records.specs.declared.layout.ChoiceFault.TheVariants as choice
+use Rattle.hh_records.specs.declared.layout.Chosen.{Chosen}
 use Rattle.hh_records.specs.declared.layout.Layout.{Layout}
 use Rattle.hh_records.specs.declared.retrying.Retrying.{Retrying}
-use Rattle.hh_records.specs.Layouts.{FindsColumns, IsStart, Places, delimited, places_in}
-use Rattle.hh_records.specs.Streams.{Fields}
+use Rattle.hh_records.specs.Layouts.{ChoiceRefused, FindsColumns, IsStart, OpenRefused, Opens, Places, between, choice_fault, chosen_places, delimited, names_columns, parts_at, places_in, rows_in, text_parts, unread}
+use Rattle.hh_records.specs.Streams.{Fields, Parts}
 use Rattle.hh_records.proofs.ReadFacts.{header-missed, header-taken}
 
 module _ {R : Type 0} (remaining : R → Option (List ℕ)) (layout : Layout) (headed : layout.has_header ≡ true)
@@ -29,3 +35,42 @@ module _ {R : Type 0} (remaining : R → Option (List ℕ)) (layout : Layout) (h
   columns-some at (Some y) e r places =
       let (z, rest, stands, all) = header-taken rem a b f (delimited layout.delimiter) y start.config start.start e r in
       rw (headed, all) places
+
+-- ---- a text without a header
+-- what is left of a reader at its start
+left-at-start : (parts : Fields → Parts) (layout : Layout) (cfg : Config) (s : State) (o : Option (List ℕ)) (y : List ℕ)
+    → s ≡ st.StartRecord → cfg ≡ delimited layout.delimiter → o ≡ Some y
+    → option_map (λ bytes. map parts (records_from cfg (length bytes + 1) s bytes)) (between s o)
+    ≡ Some (map parts (records (delimited layout.delimiter) y))
+left-at-start parts layout cfg s o y start config known = rw (start, config, known) refl
+
+module _ {R : Type 0} (remaining : R → Option (List ℕ)) (layout : Layout) (plain : layout.has_header ≡ false)
+    (f : Fields) (empty : f ≡ []) where
+  pub opened-plain : (a : Reader (Retrying R)) (start : IsStart layout a) (chosen : Option Chosen) (o : Option (List ℕ))
+      → unread remaining a ≡ option_map strip_bom o → places_in layout f ≡ Some (chosen_places chosen)
+      → Opens remaining (option_map (text_parts layout) o) (Some (record { rows = a; chosen = chosen }))
+  opened-plain a start chosen None source places = tt
+  opened-plain a start chosen (Some bytes) source places =
+      let at = rw empty at places in (
+        map (parts_at (chosen_places chosen)) (rows_in layout bytes),
+        left-at-start (parts_at (chosen_places chosen)) layout a.config a.state (unread remaining a) (strip_bom bytes)
+            start.start start.config source,
+        rw (plain, at) refl,
+      )
+
+  pub columns-plain : (at : Places) (o : Option (List ℕ)) → places_in layout f ≡ Some at
+      → IfSome o (λ bytes. FindsColumns layout (rows_in layout bytes) (Some at))
+  columns-plain at None places = tt
+  columns-plain at (Some bytes) places = rw plain (rw empty at places)
+
+  none-plain : (o : Option (List ℕ)) → places_in layout f ≡ None
+      → IfSome (option_map (text_parts layout) o) (λ ps. ps ≡ None)
+  none-plain None places = tt
+  none-plain (Some bytes) places =
+      let at = rw empty at places in
+      rw (plain, at) refl
+
+  pub refused-plain : (x : ChoiceFault) (o : Option (List ℕ)) → ChoiceRefused layout f x
+      → OpenRefused (names_columns layout) (option_map (text_parts layout) o) (choice_fault x)
+  refused-plain choice.Memory o h = tt
+  refused-plain choice.NoColumn o h = (h.0, none-plain o h.1)

@@ -1,7 +1,7 @@
 //! Texts of records in columns of one's own.
 
 ghost use Rattle.std.specs.Prelude.{◌≡◌, ◌≤◌, ◌∷◌, true, Ok, All, IfOk, IfErr, IfSome, OnOk, option_map};
-ghost use Rattle.csv.specs.Reading.{records};
+ghost use Rattle.csv.specs.Reading.{records, strip_bom};
 ghost use Rattle.hh_stream.specs.Weights.{max_total};
 ghost use Rattle.hh_records.specs.Layouts.{AllOpen, IsStart, IsText, OpenRefused, Opens, OpensAs};
 ghost use Rattle.hh_records.specs.Layouts.{RowsRefused, TakesAdded, TextsRefused, all_left};
@@ -69,27 +69,41 @@ pub struct Text<R> {
     pub chosen: Option<Chosen>,
 }
 
-/// A text behind its header, by which the places of its columns are chosen. A text that has no
-/// record has no header either, and is none.
-fn behind_header<R: Read + Drop>(
+/// A reader of the records of a text, at its start.
+fn rows_of<R: Read>(alloc: Global, reader: R, layout: &Layout) -> Reader<Retrying<R>>
+    ensures start { IsStart layout.now result }
+    ensures source { unread R.remaining result ≡ option_map strip_bom (R.remaining reader) }
+{
+    ReaderBuilder::new()
+        .delimiter(layout.delimiter)
+        .has_headers(false)
+        .flexible(true)
+        .from_reader(alloc, Retrying::new(reader))
+}
+
+/// Reads the header of a text, by which the places of its columns are chosen. A text that has no
+/// record has no header either, and nothing is chosen for it.
+fn behind_header<R: Read>(
     alloc: Global,
-    mut rows: Reader<Retrying<R>>,
+    rows: &mut Reader<Retrying<R>>,
     layout: &Layout,
-) -> Result<Option<Text<R>>, TextError>
-    requires start { IsStart layout.now rows }
+) -> Result<Option<Option<Chosen>>, TextError>
+    requires start { IsStart layout.now rows.old }
     requires headed { layout.now.has_header ≡ true }
-    ensures text { IfOk result (λ text. IfSome text IsText) }
-    ensures opened { IfOk result (λ text. Opens R.remaining
+    ensures text { IfOk result (λ found. IfSome found (λ chosen.
+        IsText (record { rows = rows.new; chosen = chosen }))) }
+    ensures opened { IfOk result (λ found. Opens R.remaining
         (option_map (λ bytes.
         headed_parts layout.now (records (delimited layout.now.delimiter) bytes))
-        (unread R.remaining rows)) text) }
-    ensures columns { IfOk result (λ text. IfSome (unread R.remaining rows) (λ bytes.
+        (unread R.remaining rows.old))
+        (option_map (λ chosen. record { rows = rows.new; chosen = chosen }) found)) }
+    ensures columns { IfOk result (λ found. IfSome (unread R.remaining rows.old) (λ bytes.
         FindsColumns layout.now (records (delimited layout.now.delimiter) bytes)
-        (option_map (λ t. chosen_places t.chosen) text))) }
+        (option_map chosen_places found))) }
     ensures refused { IfErr result (λ error. OpenRefused (names_columns layout.now)
         (option_map (λ bytes.
         headed_parts layout.now (records (delimited layout.now.delimiter) bytes))
-        (unread R.remaining rows)) error) }
+        (unread R.remaining rows.old)) error) }
 {
     let mut header = ByteRecord::new(alloc);
     match rows.read_byte_record(&mut header) {
@@ -98,7 +112,7 @@ fn behind_header<R: Read + Drop>(
         Err(error) => return Err(TextError::from(fault_of(error.kind()))),
     }
     match choose(alloc, layout, &header) {
-        Ok(chosen) => Ok(Some(Text { rows, chosen })),
+        Ok(chosen) => Ok(Some(chosen)),
         Err(fault) => Err(TextError::from(fault)),
     }
 }
@@ -118,13 +132,13 @@ pub fn open<R: Read + Drop>(
     ensures refused { IfErr result (λ error. OpenRefused (names_columns layout.now)
         (option_map (text_parts layout.now) (R.remaining reader)) error) }
 {
-    let rows = ReaderBuilder::new()
-        .delimiter(layout.delimiter)
-        .has_headers(false)
-        .flexible(true)
-        .from_reader(alloc, Retrying::new(reader));
+    let mut rows = rows_of(alloc, reader, layout);
     if layout.has_header {
-        return behind_header(alloc, rows, layout);
+        return match behind_header(alloc, &mut rows, layout) {
+            Ok(Some(chosen)) => Ok(Some(Text { rows, chosen })),
+            Ok(None) => Ok(None),
+            Err(error) => Err(error),
+        };
     }
     match choose(alloc, layout, &ByteRecord::new(alloc)) {
         Ok(chosen) => Ok(Some(Text { rows, chosen })),

@@ -7,7 +7,7 @@ use Rattle.hh_records.proofs.texts.behind_header.Goals as goal
 pub returns-in-Ok-false-clause-opened : goal.returns-in-Ok-false-clause-opened
 returns-in-Ok-false-clause-opened g c =
     let start = c.requires.start in
-    opened-none g.R.Read.remaining c.args.layout.now c.args.rows c.read_byte_record.new.self _ start _ refl
+    opened-none g.R.Read.remaining c.args.layout.now c.args.rows.now c.read_byte_record.new.self _ start _ refl
     (rw c.in-Ok-false.field-0-test at (c.in-Ok-false.ensures.reads start.untrimmed start.ready))
 
 pub returns-in-Ok-clause-text : goal.returns-in-Ok-clause-text
@@ -24,26 +24,26 @@ returns-in-Ok-clause-text g c =
 pub returns-in-Ok-clause-opened : goal.returns-in-Ok-clause-opened
 returns-in-Ok-clause-opened g c =
     let start = c.requires.start in
-    opened-some g.R.Read.remaining c.args.layout.now c.args.rows c.read_byte_record.new.self _ start c.in-Ok.chosen _ refl
+    opened-some g.R.Read.remaining c.args.layout.now c.args.rows.now c.read_byte_record.new.self _ start c.in-Ok.chosen _ refl
     (rw c.in-Ok-true.field-0-test at (c.in-Ok-true.ensures.reads start.untrimmed start.ready)) c.in-Ok.ensures.chosen
 
-pub returns-in-Err-choose-clause-refused : goal.returns-in-Err-choose-clause-refused
-returns-in-Err-choose-clause-refused g c =
+pub returns-clause-refused : goal.returns-clause-refused
+returns-clause-refused g c =
     let start = c.requires.start in
     rw c.from-in-Err-choose.ensures
-    (opened-refused g.R.Read.remaining c.args.layout.now c.args.rows c.read_byte_record.new.self _ start c.in-Err-choose.fault
+    (opened-refused g.R.Read.remaining c.args.layout.now c.args.rows.now c.read_byte_record.new.self _ start c.in-Err-choose.fault
     _ refl (rw c.in-Ok-true.field-0-test at (c.in-Ok-true.ensures.reads start.untrimmed start.ready))
     c.in-Err-choose.ensures.refused)
 
 pub returns-in-Ok-false-clause-columns : goal.returns-in-Ok-false-clause-columns
 returns-in-Ok-false-clause-columns g c =
     let start = c.requires.start in
-    columns-none g.R.Read.remaining c.args.layout.now c.requires.headed c.args.rows c.read_byte_record.new.self _ start _ refl
+    columns-none g.R.Read.remaining c.args.layout.now c.requires.headed c.args.rows.now c.read_byte_record.new.self _ start _ refl
     (rw c.in-Ok-false.field-0-test at (c.in-Ok-false.ensures.reads start.untrimmed start.ready))
 
 pub returns-in-Ok-clause-columns : goal.returns-in-Ok-clause-columns
 returns-in-Ok-clause-columns g c =
     let start = c.requires.start in
-    columns-some g.R.Read.remaining c.args.layout.now c.requires.headed c.args.rows c.read_byte_record.new.self _ start
+    columns-some g.R.Read.remaining c.args.layout.now c.requires.headed c.args.rows.now c.read_byte_record.new.self _ start
     (chosen_places c.in-Ok.chosen) _ refl
     (rw c.in-Ok-true.field-0-test at (c.in-Ok-true.ensures.reads start.untrimmed start.ready)) c.in-Ok.ensures.chosen
