@@ -12,8 +12,9 @@ ghost use Rattle.hh_records.specs.Taking.{TakesItems};
 
 use crate::decimals::{scaled, units_in};
 use crate::layout::{Chosen, Layout};
+use crate::retrying::Retrying;
 use crate::texts::{Records, Text, TextError, read_records};
-use csv::{ByteRecord, ErrorKind, WriterBuilder};
+use csv::{ByteRecord, ErrorKind, Reader, WriterBuilder};
 use hh_stream::{MAX_KEY_LEN, MAX_TOTAL, Stream, TakeItems};
 use std::alloc::{AllocError, Global};
 use std::io::Read;
@@ -291,10 +292,49 @@ pub(crate) fn fault_of(fault: &ErrorKind) -> ReadError
     }
 }
 
+/// Hands on what each record that a reader has left adds, by the places of its key and of its weight,
+/// where so many records came before, and counts them.
+fn take_rows<R: Read, T: TakeItems>(
+    alloc: Global,
+    rows: &mut Reader<Retrying<R>>,
+    chosen: &Option<Chosen>,
+    before: u64,
+    taker: &mut T,
+    layout: &Layout,
+) -> Result<u64, ReadError>
+    requires text { IsText (record { rows = rows.old; chosen = chosen.now }) }
+    requires bounded { T.weight_taken taker.old ≤ max_total }
+    ensures items { IfOk result (λ after.
+        TakesAdded T.with_item T.weight_taken taker.old taker.new (λ xs.
+        IfSome (parts_left R.remaining (record { rows = rows.old; chosen = chosen.now })) (λ ps.
+        (items_after layout.now (before + 1) (T.weight_taken taker.old) ps ≡ Ok xs)
+        × (after ≡ before + length ps)))) }
+    ensures bounded { OnOk result (T.weight_taken taker.new ≤ max_total) }
+    ensures refused { IfErr result (λ error.
+        RowsRefused layout.now before (T.weight_taken taker.old)
+        (parts_left R.remaining (record { rows = rows.old; chosen = chosen.now })) error) }
+{
+    let mut row = ByteRecord::new(alloc);
+    let mut number = before;
+    while number < u64::MAX {
+        match rows.read_byte_record(&mut row) {
+            Ok(true) => {}
+            Ok(false) => return Ok(number),
+            Err(error) => return Err(fault_of(error.kind())),
+        }
+        number += 1;
+        match take_record(alloc, taker, &row, chosen, layout) {
+            Ok(()) => {}
+            Err(fault) => return Err(numbered_fault(number, fault)),
+        }
+    }
+    Err(ReadError::ReadFault)
+}
+
 /// Hands on what each record of a text adds, where so many records came before, and counts them.
 pub fn read_rows<R: Read + Drop, T: TakeItems>(
     alloc: Global,
-    mut text: Text<R>,
+    text: Text<R>,
     before: u64,
     taker: &mut T,
     layout: &Layout,
@@ -311,21 +351,8 @@ pub fn read_rows<R: Read + Drop, T: TakeItems>(
         RowsRefused layout.now before (T.weight_taken taker.old)
         (parts_left R.remaining text) error) }
 {
-    let mut row = ByteRecord::new(alloc);
-    let mut number = before;
-    while number < u64::MAX {
-        match text.rows.read_byte_record(&mut row) {
-            Ok(true) => {}
-            Ok(false) => return Ok(number),
-            Err(error) => return Err(fault_of(error.kind())),
-        }
-        number += 1;
-        match take_record(alloc, taker, &row, &text.chosen, layout) {
-            Ok(()) => {}
-            Err(fault) => return Err(numbered_fault(number, fault)),
-        }
-    }
-    Err(ReadError::ReadFault)
+    let Text { mut rows, chosen } = text;
+    take_rows(alloc, &mut rows, &chosen, before, taker, layout)
 }
 
 /// Hands the item of each record of a reader to a taker of none, in order, and returns the taker.

@@ -6,7 +6,7 @@ use Rattle.csv.specs.Reading.{reader_config, reader_state, source_of}
 use Rattle.hh_stream.specs.Weights.{Entry}
 use Rattle.hh_records.specs.Layouts.{chosen_places, parts_at}
 use Rattle.hh_records.proofs.ReadFacts.{between-known, read-start, read-more, read-end, read-refused}
-use Rattle.hh_records.proofs.records.read_rows.Goals as goal
+use Rattle.hh_records.proofs.records.take_rows.Goals as goal
 
 -- an item has a weight
 abbrev Weighs : Entry → Type 0
@@ -19,31 +19,30 @@ loop-number-init g c =
       text.ready,
       text.flexible,
       refl,
-      refl,
       c.requires.bounded,
       (
         [],
         omega arith,
         All-from_recursion Weighs [] tt,
         refl,
-        read-start (reader_config c.args.text.rows) (parts_at (chosen_places c.args.text.chosen)) c.args.layout.now
-            (reader_state c.args.text.rows) c.args.before (g.T.TakeItems.weight_taken c.args.taker.now)
-            (source_of (λ r. g.R.Read.remaining r.inner) c.args.text.rows),
+        read-start (reader_config c.args.rows.now) (parts_at (chosen_places c.args.chosen.now)) c.args.layout.now
+            (reader_state c.args.rows.now) c.args.before (g.T.TakeItems.weight_taken c.args.taker.now)
+            (source_of (λ r. g.R.Read.remaining r.inner) c.args.rows.now),
       ),
     )
 
 pub returns-in-Ok-false-clause-items : goal.returns-in-Ok-false-clause-items
 returns-in-Ok-false-clause-items g c =
     let inv = c.loop-number.invariant in
-    let (xs, total, weigh, made, so_far) = inv.6 in
+    let (xs, total, weigh, made, so_far) = inv.5 in
     let r = rw c.in-Ok-false.field-0-test at (c.in-Ok-false.ensures.reads inv.0 inv.1) in
     record {
       xs = xs;
-      adds = read-end (reader_config c.args.text.rows) (parts_at (chosen_places c.args.text.chosen))
-          c.args.layout.now (reader_state c.args.text.rows) c.args.before (g.T.TakeItems.weight_taken c.args.taker.now)
-          (λ r. g.R.Read.remaining r.inner) c.loop-number.text.rows c.read_byte_record.new.self _ xs c.loop-number.number inv.3 _
-          (between-known (reader_state c.args.text.rows)
-          (source_of (λ r. g.R.Read.remaining r.inner) c.args.text.rows)) so_far r;
+      adds = read-end (reader_config c.args.rows.now) (parts_at (chosen_places c.args.chosen.now))
+          c.args.layout.now (reader_state c.args.rows.now) c.args.before (g.T.TakeItems.weight_taken c.args.taker.now)
+          (λ r. g.R.Read.remaining r.inner) c.loop-number.rows c.read_byte_record.new.self _ xs c.loop-number.number inv.3 _
+          (between-known (reader_state c.args.rows.now)
+          (source_of (λ r. g.R.Read.remaining r.inner) c.args.rows.now)) so_far r;
       positive = weigh;
       weight = total;
       taken = made;
@@ -52,7 +51,7 @@ returns-in-Ok-false-clause-items g c =
 pub loop-number-preserved : goal.loop-number-preserved
 loop-number-preserved g c =
     let inv = c.loop-number.invariant in
-    let (xs, total, weigh, made, so_far) = inv.6 in
+    let (xs, total, weigh, made, so_far) = inv.5 in
     let e = c.in-Ok-true.ensures in
     let r = rw c.in-Ok-true.field-0-test at (e.reads inv.0 inv.1) in
     let t = c.in-Ok.ensures.taken in (
@@ -60,7 +59,6 @@ loop-number-preserved g c =
       inl (e.ready inv.0),
       e.flexible ∙ inv.2,
       r.2 ∙ inv.3,
-      inv.4,
       c.in-Ok.ensures.bounded,
       (
         xs ++ t.xs,
@@ -68,22 +66,22 @@ loop-number-preserved g c =
         All-append Weighs xs t.xs weigh t.positive,
         t.taken ∙ ap (λ taker. fold g.T.TakeItems.with_item taker t.xs) made
             ∙ sym (fold-append g.T.TakeItems.with_item c.args.taker.now xs t.xs),
-        read-more (reader_config c.args.text.rows) (parts_at (chosen_places c.args.text.chosen))
-            c.args.layout.now (reader_state c.args.text.rows) c.args.before (g.T.TakeItems.weight_taken c.args.taker.now)
-            (λ r. g.R.Read.remaining r.inner) c.loop-number.text.rows c.read_byte_record.new.self _ xs c.loop-number.number inv.3 _ t.xs so_far r
-            (rw (← total, ← inv.4) t.adds),
+        read-more (reader_config c.args.rows.now) (parts_at (chosen_places c.args.chosen.now))
+            c.args.layout.now (reader_state c.args.rows.now) c.args.before (g.T.TakeItems.weight_taken c.args.taker.now)
+            (λ r. g.R.Read.remaining r.inner) c.loop-number.rows c.read_byte_record.new.self _ xs c.loop-number.number inv.3 _ t.xs so_far r
+            (rw (← total) t.adds),
       ),
     )
 
 pub returns-in-Err-take_record-clause-refused : goal.returns-in-Err-take_record-clause-refused
 returns-in-Err-take_record-clause-refused g c =
     let inv = c.loop-number.invariant in
-    let (xs, total, weigh, made, so_far) = inv.6 in
+    let (xs, total, weigh, made, so_far) = inv.5 in
     let r = rw c.in-Ok-true.field-0-test at (c.in-Ok-true.ensures.reads inv.0 inv.1) in
     rw c.numbered_fault.ensures
-    (read-refused (reader_config c.args.text.rows) (parts_at (chosen_places c.args.text.chosen))
-    c.args.layout.now (reader_state c.args.text.rows) c.args.before (g.T.TakeItems.weight_taken c.args.taker.now)
-    (λ r. g.R.Read.remaining r.inner) c.loop-number.text.rows c.read_byte_record.new.self _ xs c.loop-number.number inv.3 _ _
-    (between-known (reader_state c.args.text.rows)
-    (source_of (λ r. g.R.Read.remaining r.inner) c.args.text.rows)) so_far r
-    (rw (← total, ← inv.4) c.in-Err-take_record.ensures.refused))
+    (read-refused (reader_config c.args.rows.now) (parts_at (chosen_places c.args.chosen.now))
+    c.args.layout.now (reader_state c.args.rows.now) c.args.before (g.T.TakeItems.weight_taken c.args.taker.now)
+    (λ r. g.R.Read.remaining r.inner) c.loop-number.rows c.read_byte_record.new.self _ xs c.loop-number.number inv.3 _ _
+    (between-known (reader_state c.args.rows.now)
+    (source_of (λ r. g.R.Read.remaining r.inner) c.args.rows.now)) so_far r
+    (rw (← total) c.in-Err-take_record.ensures.refused))
