@@ -34,6 +34,14 @@ read_rows-requires-clause-text g c =
     (recursion_from_All IsText (c.in-Some.text ∷ into_iter_items c.next.new.self)
     (rw c.in-Some.ensures.steps.0 at c.loop-text.invariant.3)).0
 
+pub read_rows-requires-clause-bounded : goal.read_rows-requires-clause-bounded
+read_rows-requires-clause-bounded g c = c.loop-text.invariant.4
+
+pub loop-text-smaller : goal.loop-text-smaller
+loop-text-smaller g c =
+    let gone = c.in-Some.ensures.steps.1 in
+    omega (arith, gone)
+
 pub loop-text-preserved : goal.loop-text-preserved
 loop-text-preserved g c =
     let inv = c.loop-text.invariant in
