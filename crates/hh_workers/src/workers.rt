@@ -95,7 +95,7 @@ fn run_apart<R: Threads + Wait + Sync, P: Pass + Sync>(
     thread::scope(
         thread::scope_env(),
         rt,
-        |scope| -> Result<(SumSeat, P::Kept), PieceFault>
+        move |scope| -> Result<(SumSeat, P::Kept), PieceFault>
             requires { let fits = AreSumsFor (P.pieces pass.now) (P.cells pass.now) sums.now in
                 let can = CanRun R.row P.row P.Kept.row fits sums.now in
                 can seat first there × (0 < here → can half next here) }
