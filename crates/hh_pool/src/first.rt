@@ -1,10 +1,12 @@
 //! The first pass: each piece is summarised, and its items are added to the cells of one table.
 
 ghost use Rattle.std.specs.Prelude.{◌≡◌, ◌+◌, ◌*◌, ◌<◌, ◌≤◌, ◌++◌, ◌⊎◌};
-ghost use Rattle.std.specs.Prelude.{[], ℕ, List, length, map, max, sum, IfOk, IsErr, IsErrOf, OnOk};
+ghost use Rattle.std.specs.Prelude.{[], ℕ, List, length, map, max, sum, true, IfOk, IsErr, IsErrOf, OnOk};
 ghost use Rattle.hh_stream.specs.Weights.{max_total, Entry, total_of};
 ghost use Rattle.hh_stream.specs.Cuttings.{pieces_of, whole_of};
-ghost use Rattle.hh_counters.specs.Counters.{sketch_of};
+ghost use Rattle.hh_stream.specs.Ranges.{in_range};
+ghost use Rattle.hh_counters.specs.Counters.{max_k, sketch_of};
+ghost use Rattle.hh_counters.specs.SpaceSaving.{monitor_of, translation_of};
 ghost use Rattle.hh_countmin.specs.Family.{Coefficients};
 ghost use Rattle.hh_countmin.specs.Table.{table_of};
 ghost use Rattle.hh_shared.specs.Seats.{fresh};
@@ -89,6 +91,31 @@ struct Sketches {
     table: Table,
 }
 
+impl Sketches {
+    // The monitor has taken no item yet.
+    fn beside(table: Table, alloc: Global, k: u64) -> Result<Sketches, AllocError>
+        requires { in_range k max_k ≡ true }
+        ensures { IfOk result
+            (λ s. s ≡ record { monitor = monitor_of k []; table = table }) }
+    {
+        let monitor = BucketSaving::empty(alloc, k)?;
+        Ok(Sketches { monitor, table })
+    }
+
+    // What the monitor tells once it is translated, which is the summary of Misra-Gries, and the
+    // table.
+    fn into_parts(self) -> Result<(Summary, Table), PieceFault>
+        ensures parts { IfOk result
+            (λ r. (r.0 ≡ translation_of self.monitor) × (r.1 ≡ self.table)) }
+        ensures memory { ¬ IsErrOf result PieceFault.Refused }
+    {
+        match self.monitor.into_summary() {
+            Ok(summary) => Ok((summary, self.table)),
+            Err(_) => Err(PieceFault::Memory),
+        }
+    }
+}
+
 impl TakeItems for Sketches {
     ghost with_item = { sketches_with };
 
@@ -133,8 +160,7 @@ pub(crate) struct Summarised {
 }
 
 impl<'a, P: Pieces, G: Gate> FirstPass<'a, P, G> {
-    // The summary of a piece, by Space-Saving in buckets, which is Misra-Gries once it is
-    // translated, and the table with the piece's items.
+    // The summary of a piece, by Space-Saving in buckets, and the table with the piece's items.
     fn summarise(&self, table: Table, piece: usize) -> Result<(Summary, Table), PieceFault>
         requires { piece < length (P.pieces self.now.work.now.pieces.now) }
         ensures summarised { let pieces = self.now.work.now.pieces.now in IfOk result (λ r.
@@ -148,16 +174,11 @@ impl<'a, P: Pieces, G: Gate> FirstPass<'a, P, G> {
     {
         summaries_follow_items();
         tables_follow_items();
-        let monitor = BucketSaving::empty(self.work.alloc, self.options.k())?;
-        let mut sketches = Sketches { monitor, table };
+        let mut sketches = Sketches::beside(table, self.work.alloc, self.options.k())?;
         self.work
             .pieces
             .feed(self.work.alloc, piece, &mut sketches)?;
-        let Sketches { monitor, table } = sketches;
-        match monitor.into_summary() {
-            Ok(summary) => Ok((summary, table)),
-            Err(_) => Err(PieceFault::Memory),
-        }
+        sketches.into_parts()
     }
 
     /// The summaries that all workers kept, in the order of the pieces.
