@@ -1,5 +1,7 @@
+pub mod ConfirmFacts
 pub mod FilePassFacts
 pub mod FilePieceFacts
+pub mod KeptFacts
 pub mod PieceFacts
 pub mod ReportFacts
 pub mod ShareFacts
