@@ -292,8 +292,8 @@ pub(crate) fn fault_of(fault: &ErrorKind) -> ReadError
     }
 }
 
-/// Hands on what each record that a reader has left adds, by the places of its key and of its weight,
-/// where so many records came before, and counts them.
+/// Hands on what each record that a reader has left adds, by the places of its key and weight, where
+/// so many records came before, and counts them.
 fn take_rows<R: Read, T: TakeItems>(
     alloc: Global,
     rows: &mut Reader<Retrying<R>>,
