@@ -125,17 +125,26 @@ fn are_text(bytes: &[u8]) -> bool {
 
 /// What the bytes of a file that is refused look like.
 fn looks(bytes: &[u8]) -> &'static str {
-    match bytes {
-        [] => "is empty",
-        [b'H', b'H', b'S', b'1' | b'2', ..] => "begins as a saved file, and is damaged or cut off",
-        [b'H', b'H', b'S', ..] => "is a saved file of a version that isn't known here",
-        [0x1f, 0x8b, ..] => "looks like gzip: `gzip -dc` unpacks it",
-        [0x28, 0xb5, 0x2f, 0xfd, ..] => "looks like zstd: `zstd -dc` unpacks it",
-        [0xfd, b'7', b'z', b'X', b'Z', ..] => "looks like xz: `xz -dc` unpacks it",
-        [b'B', b'Z', b'h', ..] => "looks like bzip2: `bzip2 -dc` unpacks it",
-        [b'P', b'K', 3, 4, ..] => "looks like a zip archive",
-        _ if are_text(bytes) => "looks like text: `heavy summarise` saves records of such",
-        _ => "looks like no saved file",
+    if bytes.is_empty() {
+        "is empty"
+    } else if bytes.starts_with(b"HHS1") || bytes.starts_with(b"HHS2") {
+        "begins as a saved file, and is damaged or cut off"
+    } else if bytes.starts_with(b"HHS") {
+        "is a saved file of a version that isn't known here"
+    } else if bytes.starts_with(b"\x1f\x8b") {
+        "looks like gzip: `gzip -dc` unpacks it"
+    } else if bytes.starts_with(b"\x28\xb5\x2f\xfd") {
+        "looks like zstd: `zstd -dc` unpacks it"
+    } else if bytes.starts_with(b"\xfd7zXZ") {
+        "looks like xz: `xz -dc` unpacks it"
+    } else if bytes.starts_with(b"BZh") {
+        "looks like bzip2: `bzip2 -dc` unpacks it"
+    } else if bytes.starts_with(b"PK\x03\x04") {
+        "looks like a zip archive"
+    } else if are_text(bytes) {
+        "looks like text: `heavy summarise` saves records of such"
+    } else {
+        "looks like no saved file"
     }
 }
 

@@ -201,10 +201,12 @@ fn records_of(alloc: Global, found: &ArgMatches) -> Result<RecordWords, AllocErr
 fn tree_of(word: Vec<u8>) -> Tree
     ensures { NamesTree word.items result }
 {
-    match word.as_slice() {
-        b"balanced" => Tree::Balanced,
-        b"chain" => Tree::Chain,
-        _ => Tree::Text(word),
+    if word.as_slice() == b"balanced".as_slice() {
+        Tree::Balanced
+    } else if word.as_slice() == b"chain".as_slice() {
+        Tree::Chain
+    } else {
+        Tree::Text(word)
     }
 }
 

@@ -34,7 +34,9 @@ fn asks_help_for_help(words: &[Vec<u8>]) -> bool {
     let (Some(first), Some(last)) = (words.first(), words.last()) else {
         return false;
     };
-    first.as_slice() == b"help".as_slice() && matches!(last.as_slice(), b"--help" | b"-h")
+    let last = last.as_slice();
+    let asks = last == b"--help".as_slice() || last == b"-h".as_slice();
+    asks && first.as_slice() == b"help".as_slice()
 }
 
 /// What `clap` says of these words, the first of which is the program's name, where it gave this
@@ -54,7 +56,10 @@ fn error_of(alloc: Global, words: &[Vec<u8>], error: Error) -> Result<Error, All
 pub fn told_of(alloc: Global, words: &[Vec<u8>], error: Error) -> Result<Told, AllocError> {
     let words = words.get(1..).unwrap_or(words);
     let passes = match words.first() {
-        Some(name) => matches!(name.as_slice(), b"condense" | b"confirm"),
+        Some(name) => {
+            let name = name.as_slice();
+            name == b"condense".as_slice() || name == b"confirm".as_slice()
+        }
         None => false,
     };
     let is_unknown = matches!(error.kind(), ErrorKind::UnknownArgument);
