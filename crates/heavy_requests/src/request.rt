@@ -1,10 +1,10 @@
 //! What a command line asks for.
 
 ghost use Rattle.std.specs.Prelude.{◌≡◌, [], IfOk, codes, map, option_map};
-ghost use Rattle.clap.specs.Words.{first_value, found_of};
-ghost use Rattle.heavy_requests.specs.Request.{Answers, AreDecimals, AreOptions, AreRecordWords, AreRowOptions, AsksFor, GivesShare};
+ghost use Rattle.clap.specs.Words.{Text, first_value, found_of};
+ghost use Rattle.heavy_requests.specs.Request.{AreDecimals, AreOptions, AreRecordWords, AreRowOptions, AsksFor, GivesShare};
 ghost use Rattle.heavy_host.specs.Words.{word_of};
-ghost use Rattle.heavy_requests.specs.Request.{IsAskedBy, IsAskedFrom, NamesTree, all_words, first_word};
+ghost use Rattle.heavy_requests.specs.Request.{IsAskedBy, IsAskedFrom, IsReportName, NamesTree, all_words, first_word};
 
 use crate::told::{Told, told_of};
 use clap::ArgMatches;
@@ -241,10 +241,12 @@ fn file_named(alloc: Global, found: &ArgMatches) -> Result<Vec<u8>, AllocError>
     word_or(alloc, found, "FILE", "")
 }
 
-fn report(alloc: Global, found: &ArgMatches) -> Result<ReportOptions, AllocError>
-    ensures { IfOk result (AreOptions (found_of found.now)) }
+/// The report that is asked for, by a name that is none of the other commands'.
+fn report(alloc: Global, found: &ArgMatches) -> Result<Request, AllocError>
+    ensures { IfOk result (λ asked. (name : Text) → IsReportName name
+        → AsksFor name (found_of found.now) asked) }
 {
-    Ok(ReportOptions {
+    let options = ReportOptions {
         k: K.of(found),
         threshold: threshold_of(alloc, found)?,
         workers: WORKERS.of(found),
@@ -253,61 +255,65 @@ fn report(alloc: Global, found: &ArgMatches) -> Result<ReportOptions, AllocError
         width: WIDTH.of(found),
         depth: DEPTH.of(found),
         seed: SEED.of(found),
+    };
+    Ok(Request::Report {
+        options,
+        rows: rows_of(found),
     })
 }
 
-fn summarise(alloc: Global, found: &ArgMatches) -> Result<Command, AllocError>
-    ensures { IfOk result (Answers (codes "summarise") (found_of found.now)) }
+fn summarise(alloc: Global, found: &ArgMatches) -> Result<Request, AllocError>
+    ensures { IfOk result (AsksFor (codes "summarise") (found_of found.now)) }
 {
     let method = word_or(alloc, found, "method", "mg")?;
-    Ok(Command::Summarise {
+    Ok(Request::Answer(Command::Summarise {
         k: K.of(found),
         method,
-    })
+    }))
 }
 
-fn table(found: &ArgMatches) -> Command
-    ensures { Answers (codes "table") (found_of found.now) result }
+fn table(found: &ArgMatches) -> Request
+    ensures { AsksFor (codes "table") (found_of found.now) result }
 {
-    Command::Table {
+    Request::Answer(Command::Table {
         width: WIDTH.of(found),
         depth: DEPTH.of(found),
         seed: SEED.of(found),
         workers: WORKERS.of(found),
-    }
-}
-
-fn merge(alloc: Global, found: &ArgMatches) -> Result<Command, AllocError>
-    ensures { IfOk result (Answers (codes "merge") (found_of found.now)) }
-{
-    let first = file_named(alloc, found)?;
-    let others = behind_first(words(alloc, found, "FILE")?);
-    Ok(Command::Merge { first, others })
-}
-
-fn ask(alloc: Global, found: &ArgMatches) -> Result<Command, AllocError>
-    ensures { IfOk result (Answers (codes "ask") (found_of found.now)) }
-{
-    let file = file_named(alloc, found)?;
-    let keys = words(alloc, found, "KEY")?;
-    Ok(Command::Ask {
-        file,
-        keys,
-        decimals: decimals_of(found),
     })
 }
 
-fn confirm(alloc: Global, found: &ArgMatches) -> Result<Command, AllocError>
-    ensures { IfOk result (Answers (codes "confirm") (found_of found.now)) }
+fn merge(alloc: Global, found: &ArgMatches) -> Result<Request, AllocError>
+    ensures { IfOk result (AsksFor (codes "merge") (found_of found.now)) }
+{
+    let first = file_named(alloc, found)?;
+    let others = behind_first(words(alloc, found, "FILE")?);
+    Ok(Request::Answer(Command::Merge { first, others }))
+}
+
+fn ask(alloc: Global, found: &ArgMatches) -> Result<Request, AllocError>
+    ensures { IfOk result (AsksFor (codes "ask") (found_of found.now)) }
+{
+    let file = file_named(alloc, found)?;
+    let keys = words(alloc, found, "KEY")?;
+    Ok(Request::Answer(Command::Ask {
+        file,
+        keys,
+        decimals: decimals_of(found),
+    }))
+}
+
+fn confirm(alloc: Global, found: &ArgMatches) -> Result<Request, AllocError>
+    ensures { IfOk result (AsksFor (codes "confirm") (found_of found.now)) }
 {
     let file = file_named(alloc, found)?;
     let threshold = threshold_of(alloc, found)?;
-    Ok(Command::Confirm {
+    Ok(Request::Answer(Command::Confirm {
         file,
         threshold,
         rows: rows_of(found),
         workers: WORKERS.of(found),
-    })
+    }))
 }
 
 /// What a command with these words asks for. `clap` lets these nine names come: the one that is
@@ -315,31 +321,25 @@ fn confirm(alloc: Global, found: &ArgMatches) -> Result<Command, AllocError>
 fn request_of(alloc: Global, name: &str, found: &ArgMatches) -> Result<Request, AllocError>
     ensures { IfOk result (AsksFor name.now (found_of found.now)) }
 {
-    let command = match name {
-        "summarise" => summarise(alloc, found)?,
-        "table" => table(found),
-        "merge" => merge(alloc, found)?,
-        "ask" => ask(alloc, found)?,
-        "list" => Command::List {
+    match name {
+        "summarise" => summarise(alloc, found),
+        "table" => Ok(table(found)),
+        "merge" => merge(alloc, found),
+        "ask" => ask(alloc, found),
+        "list" => Ok(Request::Answer(Command::List {
             file: file_named(alloc, found)?,
             decimals: decimals_of(found),
-        },
-        "describe" => Command::Describe {
+        })),
+        "describe" => Ok(Request::Answer(Command::Describe {
             file: file_named(alloc, found)?,
-        },
-        "condense" => Command::Condense {
+        })),
+        "condense" => Ok(Request::Answer(Command::Condense {
             file: file_named(alloc, found)?,
             workers: WORKERS.of(found),
-        },
-        "confirm" => confirm(alloc, found)?,
-        _ => {
-            return Ok(Request::Report {
-                options: report(alloc, found)?,
-                rows: rows_of(found),
-            });
-        }
-    };
-    Ok(Request::Answer(command))
+        })),
+        "confirm" => confirm(alloc, found),
+        _ => report(alloc, found),
+    }
 }
 
 /// What these words ask for, the first of which is the program's name.
