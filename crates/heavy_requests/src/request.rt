@@ -2,9 +2,11 @@
 
 ghost use Rattle.std.specs.Prelude.{◌≡◌, [], IfOk, codes, map, option_map};
 ghost use Rattle.clap.specs.Words.{Text, first_value, found_of};
-ghost use Rattle.heavy_requests.specs.Request.{AreDecimals, AreOptions, AreRecordWords, AreRowOptions, AsksFor, GivesShare};
 ghost use Rattle.heavy_host.specs.Words.{word_of};
-ghost use Rattle.heavy_requests.specs.Request.{IsAskedBy, IsAskedFrom, IsReportName, NamesTree, all_words, first_word};
+ghost use Rattle.heavy_requests.specs.Request.{AreDecimals, AreOptions, AreRecordWords};
+ghost use Rattle.heavy_requests.specs.Request.{AreRowOptions, AsksFor, GivesShare, IsAskedBy};
+ghost use Rattle.heavy_requests.specs.Request.{IsAskedFrom, IsReportName, NamesTree, all_words};
+ghost use Rattle.heavy_requests.specs.Request.{first_word};
 
 use crate::told::{Told, told_of};
 use clap::ArgMatches;
