@@ -2,7 +2,7 @@
 use Rattle.std.proofs.Common.{◌≡◌, ◌≤◌, ◌<◌, ◌+◌, ◌-◌, ◌++◌, ◌∙◌, ℕ, List, [], length, length-drop, map, take, drop, Option, Some, None, Ok, refl, sym, ap, arith, append_assoc, append-nil}
 use Rattle.std.specs.Prelude.{IfSome, OnOk, Result, Err, option_map}
 use Rattle.std.specs.Io.KnownBytes.{Consumes, IsAtEnd}
-use Rattle.std.specs.Prelude.{fold}
+use Rattle.std.specs.Prelude.{false, fold, is_some, true}
 use Rattle.std.proofs.lemmas.List.{drop-take, drop_at, length-take-le, take-append-drop, take-append-le, take_at}
 use Rattle.std.proofs.lemmas.List.Edits.{take-paste}
 use Rattle.std.proofs.lemmas.List.Elements.{All-append, All-from_recursion}
@@ -104,7 +104,7 @@ module _ (layout : Layout) where
           ∙ ap Some (items-more layout 1 0 xs ps qs alone ∙ ap (joined xs) behind)
 
   -- a piece leads by a chunk of it to what stands behind the chunk
-  pub chunk-leads : (columns : Option Places) (at : Places) (held : List ℕ) (count : ℕ) (xs : List Entry)
+  chunk-leads : (columns : Option Places) (at : Places) (held : List ℕ) (count : ℕ) (xs : List Entry)
       → IsCutAt layout.delimiter held count → Follows layout columns at (take count held)
       → piece_reading layout columns (take count held) ≡ Some (Ok xs)
       → (behind : List ℕ) → LeadsTo layout (columns, held ++ behind) xs (Some at, drop count held ++ behind)
@@ -119,6 +119,21 @@ module _ (layout : Layout) where
       let ends = outside-more layout.delimiter a b here outside in
       let items = reading-more columns at a b xs ys here follows reads later l in
       rw (all, ends, items) refl
+
+  -- the same of the first chunk of a text, which chooses the columns
+  pub chunk-first : (columns : Option Places) (at : Places) (held : List ℕ) (count : ℕ) (xs : List Entry)
+      → is_some columns ≡ false → IsCutAt layout.delimiter held count → Follows layout None at (take count held)
+      → piece_reading layout None (take count held) ≡ Some (Ok xs)
+      → (behind : List ℕ) → LeadsTo layout (columns, held ++ behind) xs (Some at, drop count held ++ behind)
+  chunk-first None at held count xs none cut follows reads behind = chunk-leads None at held count xs cut follows reads behind
+  chunk-first (Some columns) at held count xs none cut follows reads behind = cc none
+
+  -- the same of a chunk whose columns are chosen
+  pub chunk-later : (columns : Option Places) (held : List ℕ) (count : ℕ) (xs : List Entry) → is_some columns ≡ true
+      → IsCutAt layout.delimiter held count → piece_reading layout columns (take count held) ≡ Some (Ok xs)
+      → (behind : List ℕ) → LeadsTo layout (columns, held ++ behind) xs (columns, drop count held ++ behind)
+  chunk-later None held count xs some cut reads behind = cc some
+  chunk-later (Some at) held count xs some cut reads behind = chunk-leads (Some at) at held count xs cut refl reads behind
 
   pub none-leads : (piece : Piece) → LeadsTo layout piece [] piece
   none-leads piece = λ ys e l. e

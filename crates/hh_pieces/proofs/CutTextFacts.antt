@@ -1,8 +1,8 @@
 -- Texts in pieces, each of which is read by itself.
-use Rattle.std.proofs.Common.{Bor, ◌≡◌, ◌≤◌, ◌∷◌, ◌++◌, ◌-◌, ◌∙◌, ℕ, zero, suc, List, [], length, map, replicate, take, Bool, true, false, Option, Some, None, Ok, Err, refl, sym, ap, append_assoc, append-nil}
+use Rattle.std.proofs.Common.{Bor, ◌≡◌, ◌≤◌, ◌<◌, ◌∷◌, ◌++◌, ◌-◌, ◌∙◌, ℕ, zero, suc, List, [], get_or, length, map, replicate, take, Bool, true, false, Option, Some, None, Ok, Err, refl, sym, ap, append_assoc, append-nil}
 use Rattle.std.specs.Prelude.{if◌then◌else◌}
 use Rattle.std.specs.List.{AllByRecursion}
-use Rattle.std.proofs.lemmas.List.{map-append, take_all}
+use Rattle.std.proofs.lemmas.List.{get_or-map, get_or_append_left, length-map, map-append, take_all}
 use Rattle.std.proofs.lemmas.Grind.{flat_map-append}
 use Rattle.std.proofs.lemmas.Simd.{map-map}
 use Rattle.hh_stream.specs.Cuttings.{whole_of}
@@ -156,6 +156,17 @@ module _ (layout : Layout) where
       rw same (h ps left (rw same at few))
 
 -- the pieces of a text are added, the first one before the later ones
+-- what a piece has whose bytes have these items
+pub text-fed : (layout : Layout) (pieces : List TextPiece) (count piece : ℕ) (part : TextPiece) (xs : List Entry)
+    → piece < length pieces → part ≡ get_or pieces piece part → piece_items layout (piece_of part) ≡ Some xs
+    → get_or (padded count (map (λ piece. piece_items layout (piece_of piece)) pieces)) piece None ≡ Some xs
+text-fed layout pieces count piece part xs l at items =
+    let F : TextPiece → Option (List Entry) = λ piece. piece_items layout (piece_of piece) in
+    get_or_append_left (map F pieces) _ None piece (rw (length-map pieces F) l)
+    ∙ get_or-map F pieces piece part None l
+    ∙ ap F (sym at)
+    ∙ items
+
 pub text-added : (layout : Layout) (text : List ℕ) (old mid new : List TextPiece) (columns : Places) (piece : TextPiece)
     (first : List ℕ) (later cut : List (Bor (List ℕ))) → map (λ p. p.now) cut ≡ first ∷ map (λ p. p.now) later
     → whole_of (map (λ p. p.now) cut) ≡ text → LaterBeginWithFeed (map (λ p. p.now) cut)

@@ -10,10 +10,14 @@ use Rattle.hh_stream.specs.Weights.{Entry, max_key_len, max_total, total_of}
 use Rattle.hh_records.specs.declared.layout.Layout.{Layout}
 use Rattle.hh_records.specs.declared.records.BadRecordCause.{BadRecordCause}
 use Rattle.hh_records.specs.declared.records.BadRecordCause.TheVariants as cause
+use Rattle.hh_records.specs.declared.records.ReadError.{ReadError}
+use Rattle.hh_records.specs.declared.records.ReadError.TheVariants as read
+use Rattle.hh_records.specs.declared.texts.TextError.{TextError}
+use Rattle.hh_records.specs.declared.texts.TextError.TheVariants as text
 use Rattle.hh_pieces.specs.Laws.{PiecesAreRead}
-use Rattle.hh_records.specs.Layouts.{Places, added, adding_next, adds, gathered, headed_parts, item_by, items_after, joined, parts_at, places_in, text_parts, texts_parts, weight_by}
+use Rattle.hh_records.specs.Layouts.{OpenRefused, Places, RowsRefused, added, adding_next, adds, gathered, headed_parts, item_by, items_after, joined, names_columns, parts_at, places_in, text_fault, text_parts, texts_parts, weight_by}
 use Rattle.hh_pieces.specs.Chunks.{Follows}
-use Rattle.hh_pieces.specs.Pieces.{InPieces, IsCut, IsInPieces, all_pieces, first_piece, piece_parts, piece_reading, text_of, with_columns}
+use Rattle.hh_pieces.specs.Pieces.{InPieces, IsCut, IsInPieces, PieceRefused, all_pieces, first_piece, piece_parts, piece_reading, text_of, with_columns}
 use Rattle.hh_records.specs.Layouts.{columns_of, first_of, rows_in}
 use Rattle.hh_records.specs.Streams.{Fields, Parts, Reading, item_of_key, item_of_pair, weight_after, weight_or_cause}
 use Rattle.hh_pieces.proofs.CutFacts.{parts-records, pieces-records}
@@ -160,6 +164,27 @@ module _ (layout : Layout) (columns : Option Places) where
   left-some t before after xs None left h items l = tt
   left-some t before after xs (Some bytes) left (ps, is, e) items l =
       let added = rw is at items in piece-some layout columns bytes t xs ps e added.0 l
+
+  -- what a refusal to open a piece tells
+  pub open-refused : (bytes : Option (List ℕ)) (t : ℕ) (error : TextError)
+      → OpenRefused (names_columns layout) (option_map (piece_parts layout columns) bytes) error
+      → IfSome bytes (λ bytes. PieceRefused layout columns bytes t error)
+  open-refused None t error h = tt
+  open-refused (Some bytes) t text.ReadFault h = tt
+  open-refused (Some bytes) t text.NoColumn h = h
+  open-refused (Some bytes) t (text.BadRecord n c) h = absurd h
+  open-refused (Some bytes) t text.Memory h = tt
+
+  -- and one to read the records of an open one
+  pub rows-refused : (bytes : Option (List ℕ)) (t : ℕ) (left : Option (List Parts)) (error : ReadError)
+      → IfSome (option_map (piece_parts layout columns) bytes)
+      (λ known. (ps : List Parts) × (left ≡ Some ps) × (known ≡ Some ps))
+      → RowsRefused layout 0 t left error → IfSome bytes (λ bytes. PieceRefused layout columns bytes t (text_fault error))
+  rows-refused None t left error h refused = tt
+  rows-refused (Some bytes) t left read.ReadFault h refused = tt
+  rows-refused (Some bytes) t left (read.BadRecord n c) (ps, is, e) refused =
+      rw e (ap Some (rw is at refused))
+  rows-refused (Some bytes) t left read.Memory h refused = tt
 
 -- ---- the records of pieces
 module _ {A B : Type 0} (f : A → Option (List B)) where

@@ -10,12 +10,17 @@ use Rattle.hh_pieces.specs.CutFiles.{span_bytes}
 use Rattle.hh_pieces.specs.declared.cut_files.Span.{Span}
 use Rattle.hh_pieces.specs.Pieces.{LaterBeginWithFeed, begins_with_feed}
 
+-- the pieces so far, and the rest as the last of them
+pub whole-end : (pieces : List (List ℕ)) (rest : List ℕ) → whole_of (pieces ++ rest ∷ []) ≡ whole_of pieces ++ rest
+whole-end pieces rest =
+    flat_map-append (λ (xs : List ℕ). xs) pieces (rest ∷ [])
+    ∙ ap (λ (xs : List ℕ). whole_of pieces ++ xs) (append-nil rest)
+
 -- the pieces so far and the rest, of which one piece more is cut off
 pub whole-cut : (pieces : List (List ℕ)) (rest : List ℕ) (k : ℕ)
     → whole_of (pieces ++ take k rest ∷ []) ++ drop k rest ≡ whole_of pieces ++ rest
 whole-cut pieces rest k =
-    ap (λ (xs : List ℕ). xs ++ drop k rest) (flat_map-append (λ (xs : List ℕ). xs) pieces (take k rest ∷ [])
-    ∙ ap (λ (xs : List ℕ). whole_of pieces ++ xs) (append-nil (take k rest)))
+    ap (λ (xs : List ℕ). xs ++ drop k rest) (whole-end pieces (take k rest))
     ∙ append_assoc (whole_of pieces) (take k rest) (drop k rest)
     ∙ ap (λ (xs : List ℕ). whole_of pieces ++ xs) (take-append-drop k rest)
 

@@ -1,9 +1,10 @@
 //! Pieces that are read from a reader chunk by chunk.
 
-ghost use Rattle.std.specs.Prelude.{◌≡◌, ◌≤◌, ◌++◌, ℕ, List, Some, drop, length, option_map, IfOk, IfSome, OnOk};
+ghost use Rattle.std.specs.Prelude.{◌≡◌, ◌≤◌, ◌++◌, ℕ, List, [], Some, drop, length, option_map, IfOk, IfSome, OnOk};
 ghost use Rattle.hh_stream.specs.Weights.{max_total};
-ghost use Rattle.hh_pieces.specs.Chunks.{Follows, LeadsTo};
+ghost use Rattle.hh_pieces.specs.Chunks.{LeadsTo};
 ghost use Rattle.hh_pieces.specs.CutTexts.{piece_items};
+ghost use Rattle.hh_pieces.specs.Windows.{held_in};
 ghost use Rattle.hh_records.specs.Layouts.{TakesAdded};
 
 use crate::cut_texts::{PieceFault, feed_bytes};
@@ -28,31 +29,9 @@ fn copy_columns(alloc: Global, columns: Option<&Columns>) -> Result<Option<Colum
     }
 }
 
-/// The columns of what stands behind a chunk. The first chunk of a text chooses them: there are
-/// none where the layout has a header and the chunk has no record for it.
-fn next_columns(
-    alloc: Global,
-    layout: &Layout,
-    columns: Option<&Columns>,
-    chunk: &[u8],
-) -> Result<Option<Columns>, PieceFault>
-    ensures { IfOk result (λ next. IfSome next (λ at.
-        Follows layout.now (option_map (λ c. c.now) columns.entry) at chunk.now)) }
-{
-    let Some(columns) = columns else {
-        return match Columns::of_text(alloc, layout, chunk) {
-            Ok(next) => Ok(next),
-            Err(error) => Err(PieceFault::from(error)),
-        };
-    };
-    match columns.copy(alloc) {
-        Ok(next) => Ok(Some(next)),
-        Err(AllocError) => Err(PieceFault::Memory),
-    }
-}
-
 /// Hands on the whole records at the front of what is left of a piece, of which these bytes are
-/// held, and tells how many bytes they are. There are none where no columns are found.
+/// held, and tells how many bytes they are. The first chunk of a text chooses its columns: there are
+/// none, and no whole records, where the layout has a header and the chunk has no record for it.
 fn take_chunk<T: TakeItems>(
     alloc: Global,
     layout: &Layout,
@@ -72,55 +51,84 @@ fn take_chunk<T: TakeItems>(
         return Ok(0);
     };
     let chunk = &held[..count];
-    let Some(next) = next_columns(alloc, layout, columns.as_ref(), chunk)? else {
-        return Ok(0);
+    if columns.is_some() {
+        return match read_piece(alloc, layout, columns.as_ref(), chunk, taker) {
+            Ok(()) => Ok(count),
+            Err(error) => Err(PieceFault::from(error)),
+        };
+    }
+    let chosen = match Columns::of_text(alloc, layout, chunk) {
+        Ok(Some(chosen)) => chosen,
+        Ok(None) => return Ok(0),
+        Err(error) => return Err(PieceFault::from(error)),
     };
-    match read_piece(alloc, layout, columns.as_ref(), chunk, taker) {
+    match read_piece(alloc, layout, None, chunk, taker) {
         Ok(()) => {}
         Err(error) => return Err(PieceFault::from(error)),
     }
-    *columns = Some(next);
+    *columns = Some(chosen);
     Ok(count)
+}
+
+/// Hands on the items of a piece that a reader has left, chunk by chunk, in a window that holds
+/// nothing yet.
+fn feed_window<R: Read, T: TakeItems>(
+    alloc: Global,
+    layout: &Layout,
+    columns: &mut Option<Columns>,
+    window: &mut Window,
+    piece: &mut R,
+    most: usize,
+    taker: &mut T,
+) -> Result<(), PieceFault>
+    requires empty { held_in window.old ≡ [] }
+    requires bounded { T.weight_taken taker.old ≤ max_total }
+    ensures items { OnOk result
+        (TakesAdded T.with_item T.weight_taken taker.old taker.new (λ xs.
+        IfSome (R.remaining piece.old) (λ bytes.
+        piece_items layout.now (columns.old, bytes) ≡ Some xs))) }
+    ensures bounded { OnOk result (T.weight_taken taker.new ≤ max_total) }
+{
+    for _ in 0..u64::MAX {
+        let Ok(()) = window.make_room(most) else {
+            return Err(PieceFault::Memory);
+        };
+        let Ok(count) = window.read_more(piece) else {
+            return Err(PieceFault::Refused);
+        };
+        if count == 0 {
+            return feed_bytes(alloc, layout, columns.as_ref(), window.held(), taker);
+        }
+        let taken = take_chunk(alloc, layout, columns, window.held(), taker)?;
+        window.remove(taken);
+    }
+    Err(PieceFault::Refused)
 }
 
 /// Hands on the items of a piece that a reader has left, which has about so many bytes. Each of
 /// them is read once, into a buffer that gets longer only where a record is longer than it.
-pub(crate) fn feed_left<R: Read + Drop, T: TakeItems>(
+pub(crate) fn feed_left<R: Read, T: TakeItems>(
     alloc: Global,
     layout: &Layout,
     columns: Option<&Columns>,
-    piece: R,
+    piece: &mut R,
     len: usize,
     taker: &mut T,
 ) -> Result<(), PieceFault>
     ensures items { OnOk result
         (TakesAdded T.with_item T.weight_taken taker.old taker.new (λ xs.
-        IfSome (R.remaining piece) (λ bytes. piece_items layout.now
+        IfSome (R.remaining piece.old) (λ bytes. piece_items layout.now
         (option_map (λ c. c.now) columns.entry, bytes) ≡ Some xs))) }
     ensures bounded { OnOk result (T.weight_taken taker.new ≤ max_total) }
 {
     // What was taken before is in range, as this call's clause says.
     let _total = taker.total();
-    let mut piece = piece;
     let most = len.saturating_add(1);
-    let Ok(mut chosen) = copy_columns(alloc, columns) else {
+    let Ok(mut columns) = copy_columns(alloc, columns) else {
         return Err(PieceFault::Memory);
     };
     let Ok(mut window) = Window::new(alloc, most.min(CHUNK_LEN)) else {
         return Err(PieceFault::Memory);
     };
-    for _ in 0..u64::MAX {
-        let Ok(()) = window.make_room(most) else {
-            return Err(PieceFault::Memory);
-        };
-        let Ok(count) = window.read_more(&mut piece) else {
-            return Err(PieceFault::Refused);
-        };
-        if count == 0 {
-            return feed_bytes(alloc, layout, chosen.as_ref(), window.held(), taker);
-        }
-        let taken = take_chunk(alloc, layout, &mut chosen, window.held(), taker)?;
-        window.remove(taken);
-    }
-    Err(PieceFault::Refused)
+    feed_window(alloc, layout, &mut columns, &mut window, piece, most, taker)
 }

@@ -280,7 +280,8 @@ impl<'t, S: ReadAt> CutFiles<'t, S> {
         };
         let Span { from, to } = part.span;
         let len = to.saturating_sub(from).min(usize::MAX as u64) as usize;
-        let bytes = read_between(source, from, to);
-        feed_left(alloc, self.layout, part.columns.as_ref(), bytes, len, taker)
+        let mut bytes = read_between(source, from, to);
+        let columns = part.columns.as_ref();
+        feed_left(alloc, self.layout, columns, &mut bytes, len, taker)
     }
 }

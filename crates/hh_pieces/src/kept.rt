@@ -168,10 +168,10 @@ pub fn whole_texts<R: Read + Drop>(
     ensures whole { IfOk result (λ texts.
         IsWhole records.now.first → All IsWhole records.now.others.items → IsSome texts) }
 {
-    let mut texts = Vec::new(alloc);
     let Some(first) = records.first.whole() else {
         return Ok(None);
     };
+    let mut texts = Vec::new(alloc);
     texts.push(first)?;
     for text in &records.others {
         let Some(bytes) = text.whole() else {

@@ -3,7 +3,7 @@ use Rattle.std.proofs.lemmas.Bool.{eq-eqb, eqb-true}
 use Rattle.std.proofs.lemmas.List.{get_or-drop, map_push}
 use Rattle.hh_pieces.proofs.PlaceFacts.{line-drop}
 use Rattle.hh_pieces.proofs.QuoteFacts.{rest-all}
-use Rattle.hh_pieces.proofs.SpanFacts.{Begins, later-cut, whole-cut}
+use Rattle.hh_pieces.proofs.SpanFacts.{Begins, later-cut, whole-cut, whole-end}
 use Rattle.hh_pieces.proofs.cuts.cut_text.Goals as goal
 
 -- a line feed so far behind a place
@@ -33,3 +33,10 @@ loop-preserved c =
       feeds = rw (pushed, c.split_at.ensures.front, c.split_at.ensures.back)
           (later-cut so_far rest at (omega arith) (feed-here rest _ c.in-Some.after within found.1) inv.feeds);
     }
+
+pub returns-clause-whole : goal.returns-clause-whole
+returns-clause-whole c =
+    rw (c.in_ok-push-2.ensures.items, map_push) (whole-end (map (λ p. p.now) c.loop.pieces.items) c.loop.rest.now ∙ c.loop.invariant.whole)
+
+pub returns-clause-feeds : goal.returns-clause-feeds
+returns-clause-feeds c = rw (c.in_ok-push-2.ensures.items, map_push) c.loop.invariant.feeds

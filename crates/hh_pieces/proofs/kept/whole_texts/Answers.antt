@@ -1,5 +1,5 @@
 use Rattle.std.proofs.Common.{◌<◌, [], length, refl, sym}
-use Rattle.std.proofs.lemmas.List.{map_push}
+use Rattle.std.proofs.lemmas.List.{map_push, take_all}
 use Rattle.hh_pieces.specs.Kept.{kept_left}
 use Rattle.hh_records.specs.Layouts.{every}
 use Rattle.hh_pieces.proofs.KeptFacts.{every-take}
@@ -26,3 +26,9 @@ returns-in_default-whole-clause-whole g c first others =
     let within : c.loop-text.text-index < length c.args.records.now.others.items = rw value at c.loop-text-test.true in
     c.in_default-whole.ensures.whole
     (rw (rw value at c.text-item.is) (others c.loop-text.text-index c.text-item.result within))
+
+pub returns-clause-texts : goal.returns-clause-texts
+returns-clause-texts g c =
+    let value = c.deref-text-items.ensures.value in
+    let end = take_all c.loop-text.text-index c.args.records.now.others.items (rw value at c.loop-text-test.false) in
+    rw end at c.loop-text.invariant

@@ -2,18 +2,18 @@ use Rattle.std.proofs.Common.{◌<◌, [], refl, arith}
 use Rattle.std.specs.Prelude.{option_map}
 use Rattle.std.proofs.lemmas.List.Elements.{All-from_recursion}
 use Rattle.hh_stream.specs.Weights.{Entry}
-use Rattle.hh_pieces.proofs.PieceFacts.{left-none, left-some}
+use Rattle.hh_pieces.proofs.PieceFacts.{left-none, left-some, open-refused, rows-refused}
 use Rattle.hh_pieces.proofs.pieces.read_left.Goals as goal
 
 -- an item has a weight
 abbrev Weighs : Entry → Type 0
 Weighs e = 0 < e.1
 
-pub returns-in_default-clause-items : goal.returns-in_default-clause-items
-returns-in_default-clause-items g c = record {
+pub returns-in-Ok-None-clause-items : goal.returns-in-Ok-None-clause-items
+returns-in-Ok-None-clause-items g c = record {
   xs = [];
   adds = left-none c.args.layout.now (option_map (λ c. c.now) c.args.columns) _
-      (rw c.in_default.is at c.in_ok-text.ensures.opened);
+      (rw c.in-Ok-None.field-0-is at c.in-Ok-None.ensures.opened);
   positive = All-from_recursion Weighs [] tt;
   weight = omega arith;
   taken = refl;
@@ -25,9 +25,21 @@ returns-in-Ok-clause-items g c =
     record {
       xs = t.xs;
       adds = left-some c.args.layout.now (option_map (λ c. c.now) c.args.columns)
-          (g.T.TakeItems.weight_taken c.args.taker.now) 0 _ t.xs _ _ (rw c.in-Some.is at c.in_ok-text.ensures.opened)
+          (g.T.TakeItems.weight_taken c.args.taker.now) 0 _ t.xs _ _ (rw c.in-Ok-Some.field-0-is at c.in-Ok-Some.ensures.opened)
           t.adds (omega (arith, t.weight, c.in-Ok.ensures.bounded));
       positive = t.positive;
       weight = t.weight;
       taken = t.taken;
     }
+
+pub returns-in-Err-clause-refused : goal.returns-in-Err-clause-refused
+returns-in-Err-clause-refused g c =
+    open-refused c.args.layout.now (option_map (λ c. c.now) c.args.columns) (g.R.Read.remaining c.args.piece)
+    (g.T.TakeItems.weight_taken c.args.taker.now) c.in-Err.error c.in-Err.ensures.refused
+
+pub returns-in-Err-read_rows-clause-refused : goal.returns-in-Err-read_rows-clause-refused
+returns-in-Err-read_rows-clause-refused g c =
+    rw c.from.ensures
+    (rows-refused c.args.layout.now (option_map (λ c. c.now) c.args.columns) (g.R.Read.remaining c.args.piece)
+    (g.T.TakeItems.weight_taken c.args.taker.now) _ c.in-Err-read_rows.error
+    (rw c.in-Ok-Some.field-0-is at c.in-Ok-Some.ensures.opened) c.in-Err-read_rows.ensures.refused)

@@ -17,3 +17,8 @@ returns-clause-more g c =
           ∙ ap (λ xs. take window.held xs ++ take count c.read.new.buf) c.deref_mut.ensures.value,
       c.in_ok-count.ensures.bytes.0,
     )
+
+pub returns-clause-end : goal.returns-clause-end
+returns-clause-end g c = λ none.
+    let long = ap length c.deref_mut.ensures.value in
+    c.in_ok-count.ensures.bytes.1 none (omega (arith, long, c.requires.room))

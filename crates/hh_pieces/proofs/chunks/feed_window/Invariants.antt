@@ -1,14 +1,13 @@
 use Rattle.std.proofs.Common.{◌≤◌}
-use Rattle.std.specs.Prelude.{option_map}
 use Rattle.hh_stream.specs.Weights.{max_total}
 use Rattle.hh_records.specs.Layouts.{TakesAdded}
 use Rattle.hh_pieces.specs.Windows.{held_in}
 use Rattle.hh_pieces.proofs.ChunkFacts.{Leads}
-use Rattle.hh_pieces.proofs.chunks.feed_left.Given as goal
+use Rattle.hh_pieces.proofs.chunks.feed_window.Given as goal
 
 abbrev pub invariant-loop : goal.invariant-loop
 invariant-loop g l =
     (g.T.TakeItems.weight_taken l.taker ≤ max_total)
     × TakesAdded g.T.TakeItems.with_item g.T.TakeItems.weight_taken l.fn.taker l.taker
-    (λ xs. Leads l.layout (option_map (λ c. c.now) l.fn.columns) (g.R.Read.remaining l.fn.piece) xs l.chosen
+    (λ xs. Leads l.layout l.fn.columns (g.R.Read.remaining l.fn.piece) xs l.columns
     (held_in l.window) (g.R.Read.remaining l.piece))
