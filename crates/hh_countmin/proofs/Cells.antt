@@ -7,9 +7,10 @@ use Rattle.std.proofs.lemmas.List.{length-take, length-drop, get_or-take, get_or
 use Rattle.std.proofs.lemmas.List.FromFn.{length-map-range_with_len, get_or-map-range_with_len, fill_by_all}
 use Rattle.std.proofs.lemmas.List.Sums.{sum-map, sum_by-cons, get_or-le-sum_by}
 use Rattle.std.proofs.lemmas.Nat.{mul-add-lt, div-mul-add, mod-mul-add, div_below, mod_below, div-add-mod', row_fits}
+use Rattle.std.proofs.Math.Nat.{mul-le-mul}
 use Rattle.hh_stream.specs.Ranges.{in_range}
 use Rattle.hh_stream.specs.Weights.{Entry, total_of}
-use Rattle.hh_countmin.specs.Family.{Coefficients, max_width, cell_of}
+use Rattle.hh_countmin.specs.Family.{Coefficients, IsFamily, max_width, cell_of}
 use Rattle.hh_countmin.specs.Table.{FitsTable, cell_at, row_at, cells_by, at_cell, cell_sum, raised}
 
 -- ---- a row and a cell
@@ -222,3 +223,20 @@ summed_cells depth width a b new len each =
 pub fits_same : (f g : Coefficients) (v w total : ℕ) (cells : List ℕ) → f ≡ g → v ≡ w → FitsTable g w total cells
     → FitsTable f v total cells
 fits_same f g v w total cells same_family same_width fits = rw (same_family, same_width) fits
+
+-- ---- the place of a cell
+range-high : (n most : ℕ) → in_range n most ≡ true → n ≤ most
+range-high n most e = grind (arith, nat_tests)
+
+pub range-low : (width : ℕ) → in_range width max_width ≡ true → 0 < width
+range-low width e = grind (arith, nat_tests)
+
+-- cell c of row r has a small place
+pub place-small : (family : Coefficients) (width r c : ℕ) → IsFamily family → in_range width max_width ≡ true
+    → r < length family.rows → c < width → r * width + c < 2097152
+place-small family width r c is wide lt in_row =
+    let w : width ≤ 65536 = range-high width max_width wide in
+    let rows : length family.rows ≤ 16 = range-high (length family.rows) 16 is.depth in
+    let below : r ≤ 16 = omega (arith, lt, rows) in
+    let most : r * width ≤ 16 * 65536 = mul-le-mul below w in
+    omega (arith, most)

@@ -1,5 +1,7 @@
 use Rattle.std.proofs.Common.{◌≡◌, ◌+◌, ◌*◌, ◌<◌, length, get_or, ap, subst, arith}
 use Rattle.hh_countmin.specs.Table.{cell_at}
+use Rattle.std.proofs.lemmas.Nat.{mul-add-lt}
+use Rattle.hh_countmin.proofs.Cells.{place-small, range-low}
 use Rattle.hh_countmin.proofs.Raising.{cell_in_row, IsRaised, one_raised, all_raised}
 use Rattle.hh_countmin.proofs.table.raise_cells.Goals as goal
 
@@ -23,3 +25,23 @@ returns c =
     let all : c.loop-r.r ≡ depth = omega arith in
     all_raised c.args.width c.args.weight depth cell c.args.cells.now c.loop-r.cells c.requires.all_cells
     (subst (IsRaised c.args.width c.args.weight cell c.args.cells.now c.loop-r.cells) all c.loop-r.invariant)
+
+pub overflow_mul-cell : goal.overflow_mul-cell
+overflow_mul-cell c =
+    let family = c.args.family.now in
+    let some : 0 < c.args.width = range-low c.args.width c.requires.width in
+    omega (arith, place-small family c.args.width c.loop-r.r 0 c.depth-r-end.ensures.family c.requires.width (omega arith) some)
+
+pub overflow_add-cell : goal.overflow_add-cell
+overflow_add-cell c =
+    omega (
+      arith,
+      place-small c.args.family.now c.args.width c.loop-r.r c.cell_of_fingerprint.result c.depth-r-end.ensures.family
+          c.requires.width (omega arith) c.cell_of_fingerprint.ensures.within,
+    )
+
+pub bounds-cells-cell : goal.bounds-cells-cell
+bounds-cells-cell c =
+    let within = mul-add-lt c.loop-r.r c.args.width c.cell_of_fingerprint.result (length c.args.family.now.rows) (omega arith)
+    c.cell_of_fingerprint.ensures.within in
+    omega (arith, within, c.requires.all_cells)
