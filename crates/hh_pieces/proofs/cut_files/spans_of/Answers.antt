@@ -1,5 +1,5 @@
 use Rattle.std.proofs.Common.{arith}
-use Rattle.hh_pieces.proofs.SpanFacts.{known-span-more}
+use Rattle.hh_pieces.proofs.SpanFacts.{known-span-more, known-spans-end}
 use Rattle.hh_pieces.proofs.cut_files.spans_of.Goals as goal
 
 pub loop-preserved : goal.loop-preserved
@@ -9,3 +9,9 @@ loop-preserved g c =
     record { from = c.loop.from; to = c.in-Some-find_feed.to }
     (omega (arith, c.requires.some, c.in-Some.ensures, c.in-Some-find_feed.ensures.behind))
     c.in-Some-find_feed.ensures.feed c.loop.invariant)
+
+pub returns : goal.returns
+returns g c =
+    rw c.in_ok-push-2.ensures.items
+    (known-spans-end (g.S.ReadAt.bytes c.args.source.now) c.loop.spans.items c.loop.from c.args.len c.requires.len
+    c.loop.invariant)

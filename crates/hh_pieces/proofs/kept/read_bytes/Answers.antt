@@ -1,4 +1,4 @@
-use Rattle.std.proofs.Common.{[], append-nil}
+use Rattle.std.proofs.Common.{[], append-nil, arith}
 use Rattle.std.proofs.KnownBytes.{Consumes-kept, Consumes-nil, Consumes-trans}
 use Rattle.hh_pieces.proofs.kept.read_bytes.Goals as goal
 
@@ -17,3 +17,6 @@ returns-then-count-eq0-clause-bytes g c =
 pub loop-preserved : goal.loop-preserved
 loop-preserved g c = rw c.in_ok-extend_from_slice.ensures.items
     (Consumes-trans _ _ _ c.loop.bytes.items _ c.loop.invariant c.in-Ok.ensures.bytes.0)
+
+pub returns-then-count-eq0-clause-ended : goal.returns-then-count-eq0-clause-ended
+returns-then-count-eq0-clause-ended g c = λ _. c.in-Ok.ensures.bytes.1 c.if-count-eq0.true (omega (arith, c.requires))
