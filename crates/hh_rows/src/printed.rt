@@ -7,7 +7,7 @@ ghost use Rattle.hh_rows.specs.Printed.{TextRefused, millionths};
 ghost use Rattle.hh_rows.specs.Printed.{plain_rows, printed_row, printed_rows, topmost};
 ghost use Rattle.hh_rows.specs.Rows.{IsBetweenRows, is_write_fault};
 
-use crate::rows::{ReportFault, write_row};
+use crate::rows::{ReportFault, put_fields, text_of, write_row};
 use crate::sink::{Sink, WriteFault, put};
 use csv::{Writer, WriterBuilder};
 use hh_counters::Heavy;
@@ -80,9 +80,10 @@ fn write_printed_row(
     }
     let weight = pointed(alloc, u128::from(row.weight), options.decimals)?;
     let share = pointed(alloc, millionths(total, row.weight), 4)?;
-    writer
-        .write_fields(&[row.key.bytes(), weight.as_slice(), share.as_slice()])
-        .map_err(|_| AllocError)
+    put_fields(
+        writer,
+        &[row.key.bytes(), weight.as_slice(), share.as_slice()],
+    )
 }
 
 /// The rows of a report as the options want them, with shares of this total. With
@@ -100,7 +101,7 @@ pub fn printed_text(
     for row in first {
         write_printed_row(alloc, &mut writer, total, options, row)?;
     }
-    writer.into_inner().map_err(|_| AllocError)
+    text_of(writer)
 }
 
 /// Writes the rows of a report as the options want them, as [`put`] writes [`printed_text`].

@@ -1,8 +1,8 @@
 //! The rows of a report.
 
-ghost use Rattle.std.specs.Prelude.{◌≡◌, ◌++◌, false, true, IfOk, IfErr, OnOk, Some};
-ghost use Rattle.std.specs.Io.KnownBytes.{Appends};
-ghost use Rattle.csv.specs.Writing.{default_writer, quoted, text_written};
+ghost use Rattle.std.specs.Prelude.{◌≡◌, ◌++◌, false, true, IfOk, IfErr, OnOk, Some, map};
+ghost use Rattle.std.specs.Io.KnownBytes.{Appends, Keeps};
+ghost use Rattle.csv.specs.Writing.{default_writer, quoted, row_text, text_written};
 ghost use Rattle.hh_rows.specs.Rows.{IsBetweenRows, RowsRefused, condensed_by, condensed_text};
 ghost use Rattle.hh_rows.specs.Rows.{first_row_by, is_write_fault, quoted_row_by, row_by, rows_by};
 ghost use Rattle.hh_rows.specs.Rows.{rows_of};
@@ -19,6 +19,32 @@ use thiserror::Error;
 /// The three bytes of U+FEFF in UTF-8.
 const BYTE_ORDER_MARK: &[u8] = b"\xef\xbb\xbf";
 
+/// Writes some fields as a row after the others.
+pub(crate) fn put_fields(writer: &mut Writer<Vec<u8>>, fields: &[&[u8]]) -> Result<(), AllocError>
+    requires { IsBetweenRows writer.old }
+    ensures between { OnOk result (IsBetweenRows writer.new) }
+    ensures text { OnOk result (Appends
+        (text_written (λ text. Some text.items) writer.old)
+        (text_written (λ text. Some text.items) writer.new)
+        (row_text default_writer (map (λ f. f.now) fields.now))) }
+{
+    match writer.write_fields(fields) {
+        Ok(()) => Ok(()),
+        Err(_) => Err(AllocError),
+    }
+}
+
+/// All that was written.
+pub(crate) fn text_of(writer: Writer<Vec<u8>>) -> Result<Vec<u8>, AllocError>
+    ensures { IfOk result (λ text.
+        Keeps (text_written (λ text. Some text.items) writer) (Some text.items)) }
+{
+    match writer.into_inner() {
+        Ok(text) => Ok(text),
+        Err(_) => Err(AllocError),
+    }
+}
+
 /// Writes a row after the others, so many last digits of its weight behind a point.
 pub(crate) fn write_row(
     alloc: Global,
@@ -34,9 +60,7 @@ pub(crate) fn write_row(
         (row_by decimals row.now)) }
 {
     let weight = pointed(alloc, u128::from(row.weight), decimals)?;
-    writer
-        .write_fields(&[row.key.bytes(), weight.as_slice()])
-        .map_err(|_| AllocError)
+    put_fields(writer, &[row.key.bytes(), weight.as_slice()])
 }
 
 /// A text with rows behind it.
@@ -52,7 +76,7 @@ fn with_rows(
     for row in rows {
         write_row(alloc, &mut writer, row, decimals)?;
     }
-    writer.into_inner().map_err(|_| AllocError)
+    text_of(writer)
 }
 
 /// The rows of a report as `csv` writes them, `key,weight`, each ended by a line feed.
@@ -70,8 +94,11 @@ fn quoted_key(alloc: Global, key: &Key) -> Result<Vec<u8>, AllocError>
     let mut writer = WriterBuilder::new()
         .quote_style(QuoteStyle::Always)
         .from_writer(Vec::new(alloc));
-    writer.write_field(key.bytes()).map_err(|_| AllocError)?;
-    writer.into_inner().map_err(|_| AllocError)
+    match writer.write_field(key.bytes()) {
+        Ok(()) => {}
+        Err(_) => return Err(AllocError),
+    }
+    text_of(writer)
 }
 
 /// A row whose key is in quotes.
@@ -138,7 +165,9 @@ pub fn write_report<S: Sink>(alloc: Global, sink: &mut S, rows: &[Heavy]) -> Res
     ensures flushed { OnOk result (S.is_flushed sink.new ≡ true) }
     ensures failed { S.has_failed sink.new ≡ is_write_fault result }
 {
-    let text = report_text(alloc, rows).map_err(|_| ReportFault::Memory)?;
+    let Ok(text) = report_text(alloc, rows) else {
+        return Err(ReportFault::Memory);
+    };
     match put(sink, text.as_slice()) {
         Ok(()) => Ok(()),
         Err(WriteFault { written }) => Err(ReportFault::WriteFault { written }),
