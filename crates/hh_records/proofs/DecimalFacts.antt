@@ -37,6 +37,13 @@ number-digits : (most : ℕ) (f : List ℕ) → is_number most f ≡ true → li
 number-digits most f h = second _ (list_all is_digit f) h
 
 -- a number has no point
+-- a text of 1 to so many digits is a number
+pub is-number : (most : ℕ) (f : List ℕ) → false ≡ (length f == 0) → length f ≤ most → list_all is_digit f ≡ true
+    → is_number most f ≡ true
+is-number most f some fits digits =
+    let few : nat_le (length f) most ≡ true = grind (arith, nat_tests) in
+    rw (← some, few, digits) refl
+
 pub number-no-point : (most : ℕ) (f : List ℕ) → is_number most f ≡ true → point_from 0 f ≡ None
 number-no-point most f h = digits-no-point 0 f (number-digits most f h)
 

@@ -1,6 +1,6 @@
 use Rattle.std.proofs.Common.{◌≡◌, ◌∙◌, ◌++◌, ◌∷◌, ◌+◌, refl, sym, ap}
 use Rattle.std.specs.Prelude.{get_or, take, drop}
-use Rattle.std.proofs.lemmas.List.{take-append-drop, take_more, drop_more}
+use Rattle.std.proofs.lemmas.List.{take-append-drop, take_all, take_more, drop_more}
 use Rattle.csv.specs.Records.{fields_of}
 use Rattle.hh_records.specs.Layouts.{every, place_of}
 use Rattle.hh_records.proofs.LayoutFacts.{every-push, every-none}
@@ -31,3 +31,7 @@ loop-column-preserved c =
     let place = rw c.column-item.is at c.in-Some.ensures in
     rw (take_more cs i column c.loop-column-test.true, c.in_ok-push.ensures.items)
     (every-push find (take i cs) (get_or cs i column) c.in-Some.place c.loop-column.places.items c.loop-column.invariant place)
+
+pub returns : goal.returns
+returns c =
+    sym (rw (take_all c.loop-column.column-index c.args.columns.now c.loop-column-test.false) at c.loop-column.invariant)
