@@ -1,5 +1,5 @@
 -- The index of the monitored keys and their buckets: what each way through an addition leaves of both.
-use Rattle.std.proofs.Common.{◌≡◌, ℕ, ◌+◌, ◌<◌, ◌≤◌, ◌^◌, ◌⊎◌, inl, inr, ⊎_elim, Bool, true, false, cond, ◌&&◌, List, [], ◌∷◌, ◌++◌, length, get_or, Option, Some, None, Ordering, Less, Equal, Greater, is_eq, is_gt, refl, sym, ap, ap₂, ◌∙◌, subst, true≢false, arith}
+use Rattle.std.proofs.Common.{◌≡◌, ℕ, ◌+◌, ◌<◌, ◌≤◌, ◌^◌, ◌⊎◌, inl, inr, ⊎_elim, Bool, true, false, cond, ◌&&◌, List, [], ◌∷◌, ◌++◌, length, get_or, Option, Some, None, Result, Ok, Err, OnOk, OnErr, Ordering, Less, Equal, Greater, is_eq, is_gt, refl, sym, ap, ap₂, ◌∙◌, subst, true≢false, arith}
 use Rattle.std.specs.Prelude.{fold, nat_lt, nat_le, ◌==◌, ◌||◌, unwrap_or, IsSome, IfSome, IsTrue, slice_get, position}
 use Rattle.std.specs.List.{AllByRecursion, IsDistinct, list_any}
 use Rattle.std.specs.List.Sorted.{IsStrictlySortedBy}
@@ -81,6 +81,27 @@ found es x n d f = weight_of-view x es d ∙ ap (λ o. unwrap_or o 0) f
 -- a key that a look-up misses weighs nothing
 pub absent : (es : List Entry) (x : Bytes) → Distinct es → lookup (same_key x) es ≡ None → weight_of x (tally es) ≡ 0
 absent es x d f = weight_of-view x es d ∙ ap (λ o. unwrap_or o 0) f
+
+-- so it is no key with a counter
+pub not_missed : {P : Type 0} (es : List Entry) (b : Buckets) (x : Bytes) → BoundCounters es b
+    → lookup (same_key x) es ≡ None → 0 < weight_of x (tally es) → P
+not_missed es b x bounds missed known = absurd (omega (arith, known, absent es x bounds.1.distinct missed))
+
+-- what is left as it was stays bounded
+pub bounds_stay : (es fs : List Entry) (b d : Buckets) → BoundCounters es b → fs ≡ es → d.keys ≡ b.keys
+    → BoundCounters fs d
+bounds_stay es fs b d bounds is same =
+    subst (λ (ks : List (ℕ × Bytes)). BoundCounters fs (record { keys = ks })) (sym same)
+    (subst (λ (gs : List Entry). BoundCounters gs b) (sym is) bounds)
+
+-- what two clauses say of one result, both of its success or both of its failure
+pub on_ok_both : {T E P Q R : Type 0} (r : Result T E) → (P → Q → R) → OnOk r P → OnOk r Q → OnOk r R
+on_ok_both (Ok _) f p q = f p q
+on_ok_both (Err _) f p q = tt
+
+pub on_err_both : {T E P Q R : Type 0} (r : Result T E) → (P → Q → R) → OnErr r P → OnErr r Q → OnErr r R
+on_err_both (Ok _) f p q = tt
+on_err_both (Err _) f p q = f p q
 
 number_positive : (es : List Entry) (x : Bytes) (n : ℕ) → PositiveAt es → lookup (same_key x) es ≡ Some n → 0 < n
 number_positive es x n p f = subst (λ o. IfSome o (λ m. 0 < m)) f (p x)

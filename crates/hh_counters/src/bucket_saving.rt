@@ -223,7 +223,6 @@ fn entries_above(
 }
 
 // Adds the item to both parts, or leaves the counters as they were.
-#[tactic(auto, using(crate::proofs::Linked::absent))]
 fn add_item(
     alloc: Global,
     k: u64,
@@ -249,12 +248,10 @@ fn add_item(
     }
     let newcomer = SharedKey::of_bytes(alloc, key)?;
     if index.len() as u64 <= k {
-        enter(index, buckets, newcomer, weight)?;
-        return Ok(());
+        return enter(index, buckets, newcomer, weight);
     }
     let least = refresh_first(index, buckets)?;
-    replace_first(index, buckets, newcomer, least, weight)?;
-    Ok(())
+    replace_first(index, buckets, newcomer, least, weight)
 }
 
 // Moves the first key of the first bucket to that of its counter, until it stands there. This

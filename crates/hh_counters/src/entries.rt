@@ -212,24 +212,25 @@ pub fn join(
     requires bounded { total_of left.now + total_of right.now < 2 ^ 63 }
     ensures { IfOk result (λ all. all.items ≡ join left.now right.now k) }
 {
-    let mut all = plus(alloc, left, right)?;
+    let mut all = Vec::with_capacity(alloc, left.len() + right.len())?;
+    push_sums(&mut all, left, right)?;
     let level = level_of(alloc, &all, k as usize)?;
     lower_all(&mut all, level);
     Ok(all)
 }
 
-// The counters of both added, key by key, in one pass over the two.
-fn plus(
-    alloc: Global,
+// Puts the counters of both added, key by key, into an empty list, in one pass over the two.
+fn push_sums(
+    all: &mut Vec<(Key, u64)>,
     left: &[(Key, u64)],
     right: &[(Key, u64)],
-) -> Result<Vec<(Key, u64)>, AllocError>
+) -> Result<(), AllocError>
+    requires empty { all.old.items ≡ [] }
     requires left { IsCounters left.now }
     requires right { IsCounters right.now }
     requires bounded { total_of left.now + total_of right.now < 2 ^ 63 }
-    ensures { IfOk result (λ all. all.items ≡ plus left.now right.now) }
+    ensures { OnOk result (all.new.items ≡ plus left.now right.now) }
 {
-    let mut all = Vec::with_capacity(alloc, left.len() + right.len())?;
     let mut l = 0;
     let mut r = 0;
     while l < left.len() && r < right.len() {
@@ -237,23 +238,22 @@ fn plus(
         let b = &right[r];
         match a.0.cmp(&b.0) {
             Ordering::Less => {
-                push_copy(&mut all, &a.0, a.1)?;
+                push_copy(all, &a.0, a.1)?;
                 l += 1;
             }
             Ordering::Greater => {
-                push_copy(&mut all, &b.0, b.1)?;
+                push_copy(all, &b.0, b.1)?;
                 r += 1;
             }
             Ordering::Equal => {
-                push_copy(&mut all, &a.0, a.1 + b.1)?;
+                push_copy(all, &a.0, a.1 + b.1)?;
                 l += 1;
                 r += 1;
             }
         }
     }
-    push_copies(&mut all, &left[l..])?;
-    push_copies(&mut all, &right[r..])?;
-    Ok(all)
+    push_copies(all, &left[l..])?;
+    push_copies(all, &right[r..])
 }
 
 /// Puts a copy of the key last, with the number.

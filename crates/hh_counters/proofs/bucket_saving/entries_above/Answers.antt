@@ -1,7 +1,7 @@
-use Rattle.std.proofs.Common.{◌≡◌, ◌-◌, ◌<◌, [], ◌∷◌, ◌++◌, length, get_or, Some, true≢false, sym, ap, ap₂, ◌∙◌, arith, slice_get}
+use Rattle.std.proofs.Common.{◌≡◌, ◌-◌, ◌<◌, [], ◌∷◌, ◌++◌, List, length, take_all, get_or, Some, true≢false, sym, ap, ap₂, ◌∙◌, arith, slice_get, rules}
 use Rattle.std.proofs.lemmas.Option.{get_or_from_slice_get}
 use Rattle.hh_stream.specs.Weights.{Bytes, Entry}
-use Rattle.hh_counters.specs.Counters.{Counters}
+use Rattle.hh_counters.specs.Counters.{Counters, lower}
 use Rattle.hh_counters.proofs.Level.{lower-nil}
 use Rattle.hh_counters.proofs.Sorting.{lower_above, lower_below}
 use Rattle.hh_counters.proofs.bucket_saving.entries_above.Goals as goal
@@ -30,3 +30,12 @@ loop-i-preserved c =
           ∙ sym (lower_below t es i e l (at e w.in-Some.ensures.entry) w.if-counter-least.false)
       | in_default w ↦ absurd (true≢false (sym (w.in_default.ensures.found.1 l)))
     ]
+
+pub returns-in_err-push_copy : goal.returns-in_err-push_copy
+returns-in_err-push_copy c = search rules
+
+pub returns : goal.returns
+returns c =
+    let es = c.args.index.now.entries in
+    c.loop-i.invariant ∙ ap (λ (d : List Entry). lower c.args.least d) (take_all c.loop-i.i es
+    (omega (arith, c.loop-i-test.false, c.len-i-end.ensures.len)))

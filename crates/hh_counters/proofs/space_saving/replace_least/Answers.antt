@@ -1,4 +1,4 @@
-use Rattle.std.proofs.Common.{◌≡◌, ◌+◌, ◌<◌, ◌≤◌, cond, is_lt, length, get_or, sym, ap, ◌∙◌, subst, arith, remove}
+use Rattle.std.proofs.Common.{◌≡◌, ◌+◌, ◌<◌, ◌≤◌, cond, is_lt, length, get_or, sym, ap, ◌∙◌, subst, arith, remove, rules}
 use Rattle.std.proofs.lemmas.List.{get_or_default}
 use Rattle.hh_stream.specs.Weights.{Entry, key_cmp}
 use Rattle.hh_counters.specs.Counters.{Counters, add_at}
@@ -44,3 +44,9 @@ returns-clause-replaced c =
     ∙ ap (λ (e : Counters). remove e c.if-is_lt.shifted) (c.in_ok-add_entry.ensures.ok
     ∙ ap (λ n. add_at s (item.0, n + item.1)) number)
     ∙ replaced_at s item place c.if-is_lt.shifted d c.requires.counters c.requires.absent c.requires.positive least shifted
+
+pub returns-in_err-add_entry-clause-replaced : goal.returns-in_err-add_entry-clause-replaced
+returns-in_err-add_entry-clause-replaced c = search rules
+
+pub returns-in_err-add_entry-clause-unchanged : goal.returns-in_err-add_entry-clause-unchanged
+returns-in_err-add_entry-clause-unchanged c = search rules

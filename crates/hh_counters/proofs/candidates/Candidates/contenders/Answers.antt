@@ -1,4 +1,4 @@
-use Rattle.std.proofs.Common.{◌≡◌, length, take, get_or, sym, ap, ◌∙◌, subst, arith, filter}
+use Rattle.std.proofs.Common.{◌≡◌, length, take, get_or, sym, ap, ◌∙◌, subst, arith, filter, rules}
 use Rattle.std.specs.List.Sorted.{IsStrictlySortedBy}
 use Rattle.std.specs.Map.{keys_of}
 use Rattle.std.proofs.lemmas.List.{length-take, take_all}
@@ -58,3 +58,9 @@ returns-clause-few c =
       count_by-le-length may (take c.loop-i.i s.counters),
       length-take c.loop-i.i s.counters,
     )
+
+pub returns-in_err-insert_copy-clause-keys : goal.returns-in_err-insert_copy-clause-keys
+returns-in_err-insert_copy-clause-keys c = search rules
+
+pub returns-in_err-insert_copy-clause-few : goal.returns-in_err-insert_copy-clause-few
+returns-in_err-insert_copy-clause-few c = search rules

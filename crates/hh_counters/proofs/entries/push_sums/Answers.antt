@@ -1,10 +1,11 @@
-use Rattle.std.proofs.Common.{◌≡◌, ℕ, ap₂, ◌+◌, ◌-◌, ◌≤◌, ◌⊎◌, inl, inr, List, ◌++◌, length, take, drop, take_all, sym, ap, ◌∙◌, subst, arith}
+use Rattle.std.proofs.Common.{◌≡◌, ℕ, ap₂, ◌+◌, ◌-◌, ◌≤◌, ◌⊎◌, inl, inr, List, ◌++◌, length, take, drop, take_all, sym, ap, ◌∙◌, subst, arith, rules}
 use Rattle.std.proofs.lemmas.List.{length-drop}
+use Rattle.std.proofs.lemmas.Result.{on_ok_weaker}
 use Rattle.hh_stream.specs.Weights.{Entry}
 use Rattle.hh_counters.specs.Counters.{Counters}
 use Rattle.hh_counters.proofs.Summing.{IsSummed, summed_left, summed_right, summed_both, summed_whole}
-use Rattle.hh_counters.proofs.entries.plus.Goals as goal
-use Rattle.hh_counters.proofs.entries.plus.Goals.{then-loop-l-test+else-r-right, else-loop-l-test}
+use Rattle.hh_counters.proofs.entries.push_sums.Goals as goal
+use Rattle.hh_counters.proofs.entries.push_sums.Goals.{then-loop-l-test+else-r-right, else-loop-l-test}
 
 pub loop-l-preserved-in-Less : goal.loop-l-preserved-in-Less
 loop-l-preserved-in-Less c =
@@ -46,7 +47,19 @@ returns c =
       | then-loop-l-test+else-r-right w ↦ inr w.if-r-right.false
       | else-loop-l-test w ↦ inl w.loop-l-test.false
     ] in
-    c.in_ok-push_copies-2.ensures
+    on_ok_weaker c.push_copies-2.result (λ put. put
     ∙ ap₂ (λ (d e : List Entry). d ++ e) (c.in_ok-push_copies.ensures
     ∙ ap (λ (d : List Entry). all ++ d) (rest_is left l)) (rest_is right r)
-    ∙ summed_whole left right all l r c.requires.left c.requires.right done c.loop-l.invariant
+    ∙ summed_whole left right all l r c.requires.left c.requires.right done c.loop-l.invariant) c.push_copies-2.ensures
+
+pub returns-in_err-push_copy-in-Less : goal.returns-in_err-push_copy-in-Less
+returns-in_err-push_copy-in-Less c = search rules
+
+pub returns-in_err-push_copy-in-Greater : goal.returns-in_err-push_copy-in-Greater
+returns-in_err-push_copy-in-Greater c = search rules
+
+pub returns-in_err-push_copy-in-Equal : goal.returns-in_err-push_copy-in-Equal
+returns-in_err-push_copy-in-Equal c = search rules
+
+pub returns-in_err-push_copies : goal.returns-in_err-push_copies
+returns-in_err-push_copies c = search rules
