@@ -57,3 +57,39 @@ returns-in_ok-table_of_cells-in-Some-clause-count g c =
     let shared = rw c.in-Some.is at c.in_ok-cells.ensures.done in
     let all = all-length (length pieces) shared.seat.claims shared.each.distinct shared.each.all in
     omega (arith, all, c.in_ok-summaries-in-Some.ensures.count, shared.done.0)
+
+pub returns-in_err-cells-clause-count : goal.returns-in_err-cells-clause-count
+returns-in_err-cells-clause-count g c = search rules
+
+pub returns-in_err-cells-clause-summaries : goal.returns-in_err-cells-clause-summaries
+returns-in_err-cells-clause-summaries g c = search rules
+
+pub returns-in_err-cells-clause-table : goal.returns-in_err-cells-clause-table
+returns-in_err-cells-clause-table g c = search rules
+
+pub returns-in_err-cells-clause-read : goal.returns-in_err-cells-clause-read
+returns-in_err-cells-clause-read g c = search rules
+
+pub returns-in_err-summaries-in-Some-clause-count : goal.returns-in_err-summaries-in-Some-clause-count
+returns-in_err-summaries-in-Some-clause-count g c = search rules
+
+pub returns-in_err-summaries-in-Some-clause-summaries : goal.returns-in_err-summaries-in-Some-clause-summaries
+returns-in_err-summaries-in-Some-clause-summaries g c = search rules
+
+pub returns-in_err-summaries-in-Some-clause-table : goal.returns-in_err-summaries-in-Some-clause-table
+returns-in_err-summaries-in-Some-clause-table g c = search rules
+
+pub returns-in_err-summaries-in-Some-clause-read : goal.returns-in_err-summaries-in-Some-clause-read
+returns-in_err-summaries-in-Some-clause-read g c = search rules
+
+pub returns-in_err-table_of_cells-in-Some-clause-count : goal.returns-in_err-table_of_cells-in-Some-clause-count
+returns-in_err-table_of_cells-in-Some-clause-count g c = search rules
+
+pub returns-in_err-table_of_cells-in-Some-clause-summaries : goal.returns-in_err-table_of_cells-in-Some-clause-summaries
+returns-in_err-table_of_cells-in-Some-clause-summaries g c = search rules
+
+pub returns-in_err-table_of_cells-in-Some-clause-table : goal.returns-in_err-table_of_cells-in-Some-clause-table
+returns-in_err-table_of_cells-in-Some-clause-table g c = search rules
+
+pub returns-in_err-table_of_cells-in-Some-clause-read : goal.returns-in_err-table_of_cells-in-Some-clause-read
+returns-in_err-table_of_cells-in-Some-clause-read g c = search rules

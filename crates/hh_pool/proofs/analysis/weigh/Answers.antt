@@ -1,4 +1,4 @@
-use Rattle.std.proofs.Common.{◌<◌, ◌≤◌, ◌∙◌, length, refl, arith}
+use Rattle.std.proofs.Common.{◌<◌, ◌≤◌, ◌∙◌, length, refl, arith, rules}
 use Rattle.hh_stream.specs.Cuttings.{whole_of}
 use Rattle.hh_stream.specs.Weights.{Entry, max_total, total_of}
 use Rattle.hh_pool.proofs.PieceFacts.{sum_by-all_items}
@@ -22,3 +22,15 @@ returns-in-Some-clause-total g c = λ known some.
     let done = rw c.in-Some.is at c.in_ok-weighed.ensures.done in
     (done.done.1 known).1.whole some
     ∙ sum_by-all_items (λ (e : Entry). e.1) pieces done.seat.claims done.each.distinct done.each.all
+
+pub returns-in_err-weighed-clause-count : goal.returns-in_err-weighed-clause-count
+returns-in_err-weighed-clause-count g c = search rules
+
+pub returns-in_err-weighed-clause-weights : goal.returns-in_err-weighed-clause-weights
+returns-in_err-weighed-clause-weights g c = search rules
+
+pub returns-in_err-weighed-clause-total : goal.returns-in_err-weighed-clause-total
+returns-in_err-weighed-clause-total g c = search rules
+
+pub returns-in_err-weighed-clause-bounded : goal.returns-in_err-weighed-clause-bounded
+returns-in_err-weighed-clause-bounded g c = search rules

@@ -35,3 +35,6 @@ returns-clause-more g c numbers distinct made =
           first_more (g.P.Pieces.reads work) pieces options numbers c.args.piece _ _ _ _ (c.in_ok-summary.ensures.reads known)
           kept table (made.1 known),
     )
+
+pub returns-in_err-summary-clause-more : goal.returns-in_err-summary-clause-more
+returns-in_err-summary-clause-more g c = search rules
