@@ -1,4 +1,4 @@
-use Rattle.std.proofs.Common.{◌≡◌, ◌≤◌, List, ap, ◌∙◌, arith, rules}
+use Rattle.std.proofs.Common.{◌≡◌, ◌≤◌, List, ap, ◌∙◌, arith}
 use Rattle.std.proofs.lemmas.Bool.Decides.{nat_tests}
 use Rattle.hh_stream.specs.Weights.{Bytes, weight_of}
 use Rattle.hh_counters.specs.Report.{keys_above}
@@ -25,15 +25,3 @@ returns-clause-enough c = λ xs honest le is.
     honest le most (c.total.ensures.total ∙ ap (λ (g : TableView). g.total) is) c.in_ok-contenders.ensures.keys
     c.in_ok-estimates.ensures
     (are ∙ ap (keys_above c.args.p c.args.q c.total.result c.in_ok-contenders.contenders) c.deref.ensures.value)) c.pruned.ensures.keys
-
-pub returns-in_err-contenders-clause-few : goal.returns-in_err-contenders-clause-few
-returns-in_err-contenders-clause-few c = search rules
-
-pub returns-in_err-contenders-clause-enough : goal.returns-in_err-contenders-clause-enough
-returns-in_err-contenders-clause-enough c = search rules
-
-pub returns-in_err-estimates-clause-few : goal.returns-in_err-estimates-clause-few
-returns-in_err-estimates-clause-few c = search rules
-
-pub returns-in_err-estimates-clause-enough : goal.returns-in_err-estimates-clause-enough
-returns-in_err-estimates-clause-enough c = search rules

@@ -1,4 +1,4 @@
-use Rattle.std.proofs.Common.{ℕ, List, [], ◌∷◌, ◌++◌, map, take, get_or, sym, ap, ap₂, ◌∙◌, arith, rules}
+use Rattle.std.proofs.Common.{ℕ, List, [], ◌∷◌, ◌++◌, map, take, get_or, sym, ap, ap₂, ◌∙◌, arith}
 use Rattle.std.proofs.lemmas.List.{map-append, take_more}
 use Rattle.std.proofs.lemmas.Option.{get_or_from_slice_get}
 use Rattle.hh_countmin.specs.Table.{estimate_in}
@@ -15,6 +15,3 @@ loop-i-preserved c =
     ∙ ap f (sym (get_or_from_slice_get ks i k k c.key.ensures)))
     ∙ sym (ap (map f) (take_more ks i k (omega (arith, c.loop-i-test.true, c.len-i-end.ensures.len)))
     ∙ map-append f (take i ks) (get_or ks i k ∷ []))
-
-pub returns-in_err-push : goal.returns-in_err-push
-returns-in_err-push c = search rules

@@ -1,4 +1,4 @@
-use Rattle.std.proofs.Common.{ap, arith, refl, rules}
+use Rattle.std.proofs.Common.{ap, arith, refl}
 use Rattle.hh_countmin.specs.Table.{TableView}
 use Rattle.hh_stream.specs.Cuttings.{whole_of}
 use Rattle.hh_pool.proofs.ValueFacts.{IsMergeOf}
@@ -33,12 +33,3 @@ returns-in-Ok-clause-summary g c = λ known.
     record { same_k = by.k; total = by.total; counters = by.counters; honest = by.honest } in
     merged_is c.misra_gries_is_honest.ensures _ _ pieces (whole_of pieces) _ _ c.requires.some refl
     (c.in_ok-summaries.ensures.summaries known) of
-
-pub returns-in_err-summaries-clause-summary : goal.returns-in_err-summaries-clause-summary
-returns-in_err-summaries-clause-summary g c = search rules
-
-pub returns-in_err-summaries-clause-table : goal.returns-in_err-summaries-clause-table
-returns-in_err-summaries-clause-table g c = search rules
-
-pub returns-in_err-summaries-clause-read : goal.returns-in_err-summaries-clause-read
-returns-in_err-summaries-clause-read g c = search rules

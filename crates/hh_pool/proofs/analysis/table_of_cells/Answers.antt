@@ -1,4 +1,4 @@
-use Rattle.std.proofs.Common.{◌≡◌, ◌∙◌, arith, sym, true, rules}
+use Rattle.std.proofs.Common.{◌≡◌, ◌∙◌, arith, sym, true}
 use Rattle.hh_pool.proofs.analysis.table_of_cells.Goals as goal
 
 pub from_cells-requires : goal.from_cells-requires
@@ -16,6 +16,3 @@ returns-then-not-fits-clause-refused c is xs total low cells =
     c.fits.ensures.1 (rw (family, c.width.ensures.width, total, c.deref.ensures.value ∙ cells) fits) in
     let no = c.if-not-fits.true in
     cc
-
-pub returns-in_err-family-clause-table : goal.returns-in_err-family-clause-table
-returns-in_err-family-clause-table c = search rules

@@ -1,4 +1,4 @@
-use Rattle.std.proofs.Common.{◌≡◌, ◌+◌, refl, arith, rules}
+use Rattle.std.proofs.Common.{◌≡◌, ◌+◌, refl, arith}
 use Rattle.std.proofs.lemmas.List.{get_or_default}
 use Rattle.std.proofs.lemmas.Result.{err_from_is_err_and}
 use Rattle.hh_workers.specs.Plans.{shape}
@@ -66,9 +66,3 @@ returns-in_err-other-in-Node-clause-refused t c =
     c.merge_tree.new.summaries _ _ places (rw c.deref.ensures at c.in_ok-merged-in-Node.ensures.others)
     (rw c.deref.ensures at c.in_ok-merged-in-Node.ensures.merged)
     (rw c.deref-in-Node.ensures at c.in_err-other-in-Node.ensures.refused))
-
-pub returns-in_err-merged-in-Node-clause-merged : goal.returns-in_err-merged-in-Node-clause-merged
-returns-in_err-merged-in-Node-clause-merged t c = search rules
-
-pub returns-in_err-other-in-Node-clause-merged : goal.returns-in_err-other-in-Node-clause-merged
-returns-in_err-other-in-Node-clause-merged t c = search rules

@@ -1,4 +1,4 @@
-use Rattle.std.proofs.Common.{◌≡◌, ◌∙◌, rules}
+use Rattle.std.proofs.Common.{◌≡◌, ◌∙◌}
 use Rattle.std.proofs.lemmas.Result.{IfOk-weaker}
 use Rattle.hh_stream.specs.Cuttings.{whole_of}
 use Rattle.hh_countmin.specs.Table.{TableView, table_of}
@@ -36,12 +36,3 @@ returns-clause-read g c =
     ok_tells {Q = g.P.Pieces.known work → AreRead (g.P.Pieces.reads work) pieces} _ _ (λ table made known i low.
     let (numbers, each, is) = made in
     (is.1 known).taken.read i (each.all.has i low)) c.run_alone.ensures.made
-
-pub returns-in_err-table-clause-some : goal.returns-in_err-table-clause-some
-returns-in_err-table-clause-some g c = search rules
-
-pub returns-in_err-table-clause-table : goal.returns-in_err-table-clause-table
-returns-in_err-table-clause-table g c = search rules
-
-pub returns-in_err-table-clause-read : goal.returns-in_err-table-clause-read
-returns-in_err-table-clause-read g c = search rules

@@ -1,4 +1,4 @@
-use Rattle.std.proofs.Common.{◌∙◌, length, arith, rules}
+use Rattle.std.proofs.Common.{◌∙◌, length, arith}
 use Rattle.hh_shared.proofs.Tallies.{all-length}
 use Rattle.hh_pool.proofs.Closed.{each_summary}
 use Rattle.hh_pool.proofs.TableFacts.{whole_table}
@@ -28,27 +28,3 @@ pub returns-clause-reads : goal.returns-clause-reads
 returns-clause-reads g c = λ known i low.
     let (numbers, each, made) = c.in_ok-summaries.ensures.made in
     (made.1 known).read i (each.all.has i low)
-
-pub returns-in_err-summaries-clause-count : goal.returns-in_err-summaries-clause-count
-returns-in_err-summaries-clause-count g c = search rules
-
-pub returns-in_err-summaries-clause-summaries : goal.returns-in_err-summaries-clause-summaries
-returns-in_err-summaries-clause-summaries g c = search rules
-
-pub returns-in_err-summaries-clause-table : goal.returns-in_err-summaries-clause-table
-returns-in_err-summaries-clause-table g c = search rules
-
-pub returns-in_err-summaries-clause-reads : goal.returns-in_err-summaries-clause-reads
-returns-in_err-summaries-clause-reads g c = search rules
-
-pub returns-in_err-in_order-clause-count : goal.returns-in_err-in_order-clause-count
-returns-in_err-in_order-clause-count g c = search rules
-
-pub returns-in_err-in_order-clause-summaries : goal.returns-in_err-in_order-clause-summaries
-returns-in_err-in_order-clause-summaries g c = search rules
-
-pub returns-in_err-in_order-clause-table : goal.returns-in_err-in_order-clause-table
-returns-in_err-in_order-clause-table g c = search rules
-
-pub returns-in_err-in_order-clause-reads : goal.returns-in_err-in_order-clause-reads
-returns-in_err-in_order-clause-reads g c = search rules

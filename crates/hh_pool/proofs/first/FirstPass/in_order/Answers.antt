@@ -60,9 +60,3 @@ returns-clause-count g c =
       c.loop-summary.summary-iterator.rest.ok,
       c.in-None.ensures.steps.0,
     )
-
-pub returns-in_err-push-clause-count : goal.returns-in_err-push-clause-count
-returns-in_err-push-clause-count g c = search rules
-
-pub returns-in_err-push-clause-summaries : goal.returns-in_err-push-clause-summaries
-returns-in_err-push-clause-summaries g c = search rules

@@ -1,4 +1,4 @@
-use Rattle.std.proofs.Common.{◌≡◌, ◌∙◌, List, [], ap, fold, sym, rules}
+use Rattle.std.proofs.Common.{◌≡◌, ◌∙◌, List, [], ap, fold, sym}
 use Rattle.std.proofs.lemmas.Result.{IfOk-weaker}
 use Rattle.hh_stream.specs.Weights.{Entry}
 use Rattle.hh_counters.specs.Counters.{SummaryView}
@@ -33,15 +33,3 @@ returns-clause-summarised g c =
           ∙ follows grid_with (table_of family width) (λ xs e. (c.tables_follow_items.ensures family width xs [] e).1) ys
           piece));
     }) c.into_parts.ensures.parts
-
-pub returns-in_err-sketches-clause-summarised : goal.returns-in_err-sketches-clause-summarised
-returns-in_err-sketches-clause-summarised g c = search rules
-
-pub returns-in_err-sketches-clause-reads : goal.returns-in_err-sketches-clause-reads
-returns-in_err-sketches-clause-reads g c = search rules
-
-pub returns-in_err-feed-clause-summarised : goal.returns-in_err-feed-clause-summarised
-returns-in_err-feed-clause-summarised g c = search rules
-
-pub returns-in_err-feed-clause-reads : goal.returns-in_err-feed-clause-reads
-returns-in_err-feed-clause-reads g c = search rules

@@ -22,9 +22,3 @@ returns-clause-both g c a b apart p q = (
     taken_joined _ _ _ _ _ _ _ (p.1 known).1 (q.1 known).1 apart c.in_ok-one.ensures.sum c.in_ok-one.ensures.within,
   ),
 )
-
-pub returns-in_err-one-clause-both : goal.returns-in_err-one-clause-both
-returns-in_err-one-clause-both g c = search rules
-
-pub returns-in_err-append-clause-both : goal.returns-in_err-append-clause-both
-returns-in_err-append-clause-both g c = search rules

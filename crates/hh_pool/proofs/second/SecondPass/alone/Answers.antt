@@ -1,4 +1,4 @@
-use Rattle.std.proofs.Common.{◌∙◌, rules}
+use Rattle.std.proofs.Common.{◌∙◌}
 use Rattle.hh_stream.specs.Weights.{Entry}
 use Rattle.hh_pool.proofs.Closed.{whole_weights}
 use Rattle.hh_pool.proofs.PieceFacts.{sum_by-all_items}
@@ -16,15 +16,3 @@ returns-clause-total g c = λ known some.
     let (numbers, each, made) = c.in_ok-counts.ensures.made in
     c.total-total.ensures.total ∙ ((made.1 known).whole some
     ∙ sum_by-all_items (λ (e : Entry). e.1) pieces numbers each.distinct each.all)
-
-pub returns-in_err-counts-clause-count : goal.returns-in_err-counts-clause-count
-returns-in_err-counts-clause-count g c = search rules
-
-pub returns-in_err-counts-clause-weights : goal.returns-in_err-counts-clause-weights
-returns-in_err-counts-clause-weights g c = search rules
-
-pub returns-in_err-counts-clause-total : goal.returns-in_err-counts-clause-total
-returns-in_err-counts-clause-total g c = search rules
-
-pub returns-in_err-counts-clause-bounded : goal.returns-in_err-counts-clause-bounded
-returns-in_err-counts-clause-bounded g c = search rules

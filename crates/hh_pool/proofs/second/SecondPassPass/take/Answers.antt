@@ -23,6 +23,3 @@ returns-clause-more g c numbers distinct made =
       λ known. second_more pieces c.args.self.now.candidates.now numbers c.args.piece _
           (counted_known _ _ _ _ _ _ counted (counted.given known) (made.1 known)),
     )
-
-pub returns-in_err-count_piece-clause-more : goal.returns-in_err-count_piece-clause-more
-returns-in_err-count_piece-clause-more g c = search rules

@@ -15,6 +15,3 @@ pub returns-in_err-total-clause-refused : goal.returns-in_err-total-clause-refus
 returns-in_err-total-clause-refused g c is a b apart p q known =
     let refused : IsErr c.sum_of_totals.result = search rules in
     counted_too_much _ _ _ _ _ _ _ (p.1 known).1 (q.1 known).1 apart (c.sum_of_totals.ensures.refused refused)
-
-pub returns-in_err-total-clause-both : goal.returns-in_err-total-clause-both
-returns-in_err-total-clause-both g c = search rules

@@ -30,6 +30,3 @@ returns-clause-more g c numbers distinct made =
           (added_known known _ family width _ _ added) distinct (c.in_ok-add_piece.ensures.reads known)
           (omega (arith, c.total-total.ensures.fits.total_in_range)) (made.1 known),
     )
-
-pub returns-in_err-add_piece-clause-more : goal.returns-in_err-add_piece-clause-more
-returns-in_err-add_piece-clause-more g c = search rules
