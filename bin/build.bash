@@ -195,11 +195,6 @@ note_ended() {
   done
 }
 
-# How many functions of a crate are checked, as its log says.
-functions_in() {
-  awk '/^checked .*, [0-9]+ of [0-9]+$/ { far = " " $(NF - 2) "/" $NF } END { print far }' "$top/crates/$1/build.log"
-}
-
 # Tells how far the crates are: on a terminal by one line that is written over, else by a line for each crate.
 tell_progress() {
   local name far='' number=0 time
@@ -207,7 +202,7 @@ tell_progress() {
   for name in "${crates[@]}"; do
     number=$((number + 1))
     if ! is_among "$name" "${!provers[@]}" || [ ! -s "$top/crates/$name/build.log" ]; then continue; fi
-    far+=", $name$(functions_in "$name")"
+    far+=", $name"
     if [ -t 2 ] || is_among "$name" "${told[@]}"; then continue; fi
     told+=("$name")
     tell "proving $name, crate $number of ${#crates[@]}, $time"

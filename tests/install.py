@@ -46,7 +46,6 @@ echo "$KIT/START-HERE.md"
 # an object. Of a slow crate it waits, with a process below it.
 COMPILER = """#!/usr/bin/env bash
 echo "$*" >> "$CALLS"
-verb=$1
 while [ $# -gt 0 ]; do
   case $1 in
     --crate-name) name=$2 ;;
@@ -55,13 +54,11 @@ while [ $# -gt 0 ]; do
   esac
   shift
 done
-if [[ "$verb $made" == build*.rlib ]]; then mkdir -p "$made"; exec touch "$made/format"; fi
 case $name in
   heavy_cli) echo run >> "$RUNS" ;;
   heavy_ffi) echo lib >> "$RUNS" ;;
 esac
 echo "begin $name --jobs $jobs" >> "$PROOFS"
-echo "checked $name::first, 3 of 37"
 if [[ " $SLOW " == *" $name "* ]]; then
   sleep "$SECONDS_TO_RUN" &
   echo $! >> "$CHILDREN"
@@ -73,7 +70,7 @@ echo "the stand-in's last line"
 case $name in
   heavy_cli) [ "$OUTCOME" = 0 ] || exit "$OUTCOME"; touch "$made" ;;
   heavy_ffi) [ "$OUTCOME" = 0 ] || exit "$OUTCOME"; cp "$KIT/calls.a" "$made" ;;
-  *) mkdir -p "$made" ;;
+  *) mkdir -p "$made"; touch "$made/format" ;;
 esac
 """
 # Its linker, which leaves a program.
@@ -218,9 +215,10 @@ class Install(programs.Checks):
         status, out, err = copy.run(1)
         self.check("a first build runs the program", (status, out) == (0, b"built: report\n"), (status, out, err))
         self.check("it says at once what it does", err.startswith(BEGIN), err)
-        self.check("it tells the crate", b"heavy: proving hh_stream, crate 1 of 17, " in err, err)
-        self.check("it has a line for each crate", b"\r" not in err and err.count(b"hh_stream") == 1, err)
         begun, crates = copy.begun(), sorted({*crates_below("heavy_cli"), "heavy_cli"})
+        told = f"heavy: proving hh_stream, crate 1 of {len(crates)}, ".encode()
+        self.check("it tells the crate", told in err, err)
+        self.check("it has a line for each crate", b"\r" not in err and err.count(b"hh_stream") == 1, err)
         self.check("each crate is proved once", begun == crates, (begun, crates))
         found = copy.run()
         self.check("a built program is run without a word", found == (0, b"built: report\n", b""), found)
@@ -333,7 +331,7 @@ class Install(programs.Checks):
             pass  # the other side is closed
         os.close(terminal)
         said = said.replace(b"\r\n", b"\n")
-        line = rb"\r\x1b\[Kheavy: 0:0\d min, \d+ of 17 crates proved, hh_stream 3/37"
+        line = rb"\r\x1b\[Kheavy: 0:0\d min, \d+ of \d+ crates proved, [a-z_, ]*hh_stream"
         told = len(re.findall(line, said))
         self.check("a terminal's line is written over", out == b"built: report\n" and told > 1, said)
         self.check("nothing of it is left", said.count(b"\n") == 3 and b"\r\x1b[Kheavy: built in " in said, said)
