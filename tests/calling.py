@@ -14,10 +14,11 @@ CRATES = programs.TOP / "crates"
 CALLERS = CRATES / "heavy_example" / "src" / "callers.rt"
 # each library with the function that calls it
 LIBRARIES = {
-    "hh_stream": "stream_of_one", "hh_counters": "bounds_of", "hh_countmin": "is_rare", "hh_saved": "summary_in",
-    "hh_records": "total_of_records", "hh_rows": "text_of_rows", "hh_pieces": "ends_a_record", "hh_shared": "add_once",
-    "hh_workers": "plan_of_three", "hh_pool": "heavy_keys", "hh_commands": "saved_summary", "hh_items": "with_item", "hh_reports": "report_of",
-    "heavy": "saved_summary",
+    "hh_faults": "status_of_records", "hh_stream": "stream_of_one", "hh_summaries": "slack_of_both",
+    "hh_counters": "bounds_of", "hh_countmin": "is_rare", "hh_saved": "summary_in", "hh_records": "total_of_records",
+    "hh_rows": "text_of_rows", "hh_pieces": "ends_a_record", "hh_shared": "add_once", "hh_workers": "plan_of_three",
+    "hh_pool": "heavy_keys", "hh_commands": "facts_of", "hh_library": "with_item", "hh_reports": "report_of",
+    "hh_files": "table_of_files", "heavy": "saved_summary",
 }
 MADE = re.compile(r"^## A caller\n.*", re.MULTILINE | re.DOTALL)
 OWNER = re.compile(r"^(?P<shown>pub trait|impl)(?:<[^{]*?>)? (?P<name>\w+)[^{]*\{$")
@@ -92,7 +93,7 @@ class Calling(programs.Checks):
             same = MADE.findall(text) == [made_of(crate)]
             self.check(f"{crate}/CALLING.md is as tests/calling.py --write makes it", same, "not so")
             self.check(f"a drift in {crate}/CALLING.md", MADE.findall(text.replace("ensures", "ensure", 1)) != [made_of(crate)])
-            self.check(f"{crate}/CALLING.md has contracts", made_of(crate).count("\nfn ") > 1)
+            self.check(f"{crate}/CALLING.md has contracts", made_of(crate).count("\nfn ") > 0)
 
 
 if __name__ == "__main__":

@@ -52,7 +52,7 @@ def numbers() -> dict[str, int]:
     for name, number in re.findall(r"^(\w+)_kind = (\d+)$", items, re.M):
         made[f"HEAVY_{name.upper()}"] = int(number)
     for name, fault in STATUSES.items():
-        status = found(rf"^status_of \(?tool\.{fault}\b[^=\n]*= (\d)$", CRATES / "hh_commands" / "specs" / "Status.antt")
+        status = found(rf"^status_of \(?tool\.{fault}\b[^=\n]*= (\d)$", CRATES / "hh_faults" / "specs" / "Status.antt")
         made[f"HEAVY_{name}"] = int(status)
     for name in ("DONE", "TOO_SMALL"):
         made[f"HEAVY_{name}"] = int(found(rf"^pub\(crate\) const {name}: u32 = (\d);$", FFI / "src" / "room.rt"))
@@ -60,7 +60,7 @@ def numbers() -> dict[str, int]:
         made[f"HEAVY_{words_of(method)}"] = int(number)
     made["HEAVY_VERSION"] = int(found(r"^const VERSION: u32 = (\d+);$", FFI / "src" / "lib.rt"))
     made["HEAVY_MAX_KEY"] = int(found(r"^max_key_len = (\d+)$", CRATES / "hh_stream" / "specs" / "Weights.antt"))
-    made["HEAVY_MAX_K"] = int(found(r"^max_k = (\d+)$", CRATES / "hh_counters" / "specs" / "Counters.antt"))
+    made["HEAVY_MAX_K"] = int(found(r"^max_k = (\d+)$", CRATES / "hh_summaries" / "specs" / "Counters.antt"))
     return {name: number for name, number in made.items() if name not in NOT_FOR_C}
 
 

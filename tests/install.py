@@ -267,7 +267,7 @@ class Install(programs.Checks):
         told = b"the build failed; the last lines of " + log in err and b"the stand-in's last line\n" in err
         self.check("a failed build", (status, out) == (1, b"") and told, (status, out, err))
         beside = Copy(self.room, "beside")
-        started = beside.start(600, slow="hh_counters hh_saved", failing="hh_countmin")
+        started = beside.start(600, slow="hh_summaries hh_saved", failing="hh_countmin")
         out, err = started.communicate(timeout=SOON)
         log = os.fsencode(beside.top / "crates" / "hh_countmin" / "build.log")
         told = b"the build failed; the last lines of " + log in err and b"the stand-in's last line\n" in err

@@ -5,7 +5,7 @@ use Rattle.std.specs.List.{AllByRecursion}
 use Rattle.std.proofs.lemmas.Bool.Decides.{eqb_tells, leb_tells}
 use Rattle.std.proofs.lemmas.List.{get_or-map}
 use Rattle.hh_stream.specs.Weights.{max_total}
-use Rattle.hh_counters.specs.Counters.{SummaryView, merge_of, sketch_of}
+use Rattle.hh_summaries.specs.Counters.{SummaryView, merge_of, sketch_of}
 use Rattle.hh_counters.specs.Laws.{CondensedPartsSuffice}
 use Rattle.hh_pool.specs.Laws.{PartsReportByAnyTree, TreesMergeSummaries}
 use Rattle.hh_pool.specs.Trees.{merge_result, no_sketch, tree_result}
@@ -16,9 +16,9 @@ use Rattle.hh_saved.specs.Spelling.{Spells}
 use Rattle.hh_saved.specs.declared.format.Version.{Version}
 use Rattle.hh_saved.specs.declared.saved.Saved.{Saved}
 use Rattle.hh_saved.specs.declared.saved.Saved.TheVariants.{Counters}
-use Rattle.hh_commands.specs.declared.error.MergeCause.TheVariants as cause
-use Rattle.hh_commands.specs.declared.error.ToolError.{ToolError}
-use Rattle.hh_commands.specs.declared.error.ToolError.TheVariants as tool
+use Rattle.hh_faults.specs.declared.error.MergeCause.TheVariants as cause
+use Rattle.hh_faults.specs.declared.error.ToolError.{ToolError}
+use Rattle.hh_faults.specs.declared.error.ToolError.TheVariants as tool
 use Rattle.hh_commands.specs.Merge.{merge_saved, merged_files, merged_from}
 use Rattle.heavy.specs.Laws.{HeldTreesReport, HoldsTree, MergesHoldTrees, PartsHoldPieces}
 

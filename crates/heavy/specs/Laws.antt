@@ -3,8 +3,8 @@ use Rattle.std.specs.Prelude.{◌≡◌, ℕ, ◌+◌, ◌*◌, ◌<◌, ◌≤�
 use Rattle.std.specs.List.{AllByRecursion, flat_map}
 use Rattle.hh_stream.specs.Weights.{Entry, total_of}
 use Rattle.hh_stream.specs.Cuttings.{whole_of}
-use Rattle.hh_counters.specs.Counters.{SummaryView, IsHonest, misra_gries, sketch_of}
-use Rattle.hh_counters.specs.Report.{heavy}
+use Rattle.hh_summaries.specs.Counters.{SummaryView, IsHonest, misra_gries, sketch_of}
+use Rattle.hh_summaries.specs.Report.{heavy}
 use Rattle.hh_counters.specs.Condensed.{condensed}
 use Rattle.hh_pool.specs.Trees.{tree_result, tree_value}
 use Rattle.hh_workers.specs.Trees.{MergeTree, Piece, Merge, IsMergeTree}

@@ -1,25 +1,24 @@
 //! The program `heavy`.
 #![tactic(auto)]
 
-use heavy_progress::{NOTHING, SharedProgress};
+use heavy_progress::NOTHING;
 use heavy_requests::{
-    Command, Inputs, Invocation, Once, RecordWords, Request, Told, UsageError, read_request,
-    tell_format, tell_more, tell_own_k, tells_more, watches,
+    Command, Inputs, Once, RecordWords, Request, UsageError, read_request, shared_progress,
+    status_after, status_of, status_told, watches,
 };
 use hh_commands::{
-    Method, ReportOptions, ToolError, Totals, ask_rows, condense_bytes_from, confirm_rows,
-    describe_file, list_rows, merge_bytes, summary_bytes_from, table_bytes_from,
+    Method, ask_rows, condense_bytes_from, confirm_rows, describe_file, list_rows, merge_bytes,
+    summary_bytes_from, table_bytes_from,
 };
-use hh_reports::{condense_files, confirm_files, report_files, report_rows, table_files};
-use hh_rows::{Out, RowOptions, Share, put};
+use hh_faults::{ToolError, Totals};
+use hh_files::{condense_files, confirm_files, report_files, table_files};
+use hh_reports::report_rows;
+use hh_rows::{Out, ReportOptions, RowOptions, Share, put};
 use std::cell::Cell;
 use std::process::ExitCode;
 use std::sync::Wait;
-use std::sync::atomic::{AtomicU64, Ordering};
+use std::sync::atomic::AtomicU64;
 use std::thread::Threads;
-
-/// The exit status of the command line's own faults.
-const USAGE: u8 = 2;
 
 /// The bytes that `table` is answered by.
 fn table_answer<T: Threads + Wait + Sync>(
@@ -152,86 +151,6 @@ fn write_report<T: Threads + Wait + Sync>(
     let records = inputs.file_records(records)?;
     let mut out = Out::new(inputs.rt.stdout());
     report_files(threads, alloc, options, rows, records, &mut out)
-}
-
-/// The fault of an input that can't be read, by the number that it left.
-fn numbered(fault: ToolError, number: u64) -> ToolError {
-    match fault {
-        ToolError::ReadFault if number > 0 => ToolError::FileFault { number },
-        _ => fault,
-    }
-}
-
-/// Tells a fault of the product, and gives its status.
-fn status_after(rt: &HostRuntime, fault: ToolError) -> ExitCode {
-    let _ = eprintln!(rt; "heavy: {fault}");
-    ExitCode::from(fault.status())
-}
-
-/// The same of a fault of what was asked for, with more about it where that is asked for too or
-/// standard error is a terminal.
-fn status_explained(
-    rt: &HostRuntime,
-    fault: ToolError,
-    asked: &Invocation,
-    totals: Option<Totals>,
-) -> ExitCode {
-    let status = status_after(rt, fault);
-    if tells_more(rt, asked) {
-        tell_more(rt, &fault, asked, totals);
-    }
-    status
-}
-
-/// Prints help or a fault of the command line as `clap` words it. Help that could not be printed is
-/// a device's fault.
-fn status_told(rt: &HostRuntime, told: &Told) -> ExitCode {
-    let is_help = told.error.exit_code() == 0;
-    match told.error.print(rt) {
-        Err(_) if is_help => status_after(rt, ToolError::WriteFault { written: 0 }),
-        _ if is_help => ExitCode::SUCCESS,
-        _ => {
-            tell_own_k(rt, told);
-            ExitCode::from(USAGE)
-        }
-    }
-}
-
-/// How far workers read the files of records, where that is to be told.
-fn shared_progress<'a>(rt: &'a HostRuntime, asked: &Invocation) -> Option<SharedProgress<'a>> {
-    if !asked.tells_progress {
-        return None;
-    }
-    SharedProgress::start(rt, &asked.records.files, asked.request.passes()).ok()
-}
-
-/// Tells what came of what was asked for, and gives its status. Where files of records are not what
-/// they were before, it is told of the first one.
-fn status_of(
-    inputs: Inputs<'_>,
-    asked: &Invocation,
-    outcome: Result<(), ToolError>,
-    totals: Option<Totals>,
-) -> ExitCode {
-    let rt = inputs.rt;
-    match outcome {
-        Ok(()) => {
-            inputs.look(asked);
-            if let Some(seen) = inputs.seen {
-                tell_format(rt, seen.get(), asked);
-            }
-            ExitCode::SUCCESS
-        }
-        Err(fault) => {
-            let least = if asked.records.files.is_empty() {
-                0
-            } else {
-                asked.request.saved().saturating_add(1)
-            };
-            let number = inputs.unread.load(Ordering::SeqCst).max(least);
-            status_explained(rt, numbered(fault, number), asked, totals)
-        }
-    }
 }
 
 fn main(rt: HostRuntime) -> ExitCode {

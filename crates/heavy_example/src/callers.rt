@@ -1,39 +1,54 @@
 //! A caller of each library, as its page CALLING.md shows it.
 
 ghost use Rattle.std.specs.Prelude.{◌≡◌, ◌<◌, ◌≤◌, ◌↔◌, ◌∷◌, [], List, Ok, Some, false, IsTrue, IfOk, IfSome, OnOk};
+ghost use Rattle.hh_faults.specs.Faults.{text_fault};
+ghost use Rattle.hh_faults.specs.Status.{status_of};
 ghost use Rattle.hh_stream.specs.Weights.{Entry, total_of, weight_of};
-ghost use Rattle.hh_counters.specs.Counters.{IsHonest, sketch_of};
-ghost use Rattle.hh_counters.specs.Report.{heavy};
-ghost use Rattle.hh_countmin.specs.Table.{estimate_in};
+ghost use Rattle.hh_summaries.specs.Counters.{IsHonest, merge_of, sketch_of};
+ghost use Rattle.hh_summaries.specs.Report.{heavy};
+ghost use Rattle.hh_countmin.specs.Family.{drawn_family};
+ghost use Rattle.hh_countmin.specs.Table.{estimate_in, table_of};
 ghost use Rattle.hh_saved.specs.Reading.{saved_of};
-ghost use Rattle.hh_saved.specs.declared.saved.Saved.TheVariants.{Counters};
+ghost use Rattle.hh_saved.specs.declared.saved.Saved.TheVariants.{Cells, Counters};
+ghost use Rattle.hh_records.specs.Layouts.{texts_known};
 ghost use Rattle.hh_records.specs.Streams.{ReadsAs, text_known};
 ghost use Rattle.csv.specs.Writing.{comma};
 ghost use Rattle.hh_rows.specs.Rows.{rows_of};
 ghost use Rattle.hh_pieces.specs.Pieces.{ends_outside};
 ghost use Rattle.hh_workers.specs.PlanTexts.{SpellsTree};
+ghost use Rattle.hh_commands.specs.Describe.{description};
 ghost use Rattle.hh_commands.specs.Records.{SavesStream};
-ghost use Rattle.hh_items.specs.Add.{IsAdded};
+ghost use Rattle.hh_library.specs.Add.{IsAdded};
 ghost use Rattle.hh_reports.specs.Report.{IsReported};
 
-use hh_commands::{Method, ReportOptions, ToolError, summary_bytes};
+use hh_commands::{Method, describe_file};
+use hh_counters::Heavy;
 use hh_counters::laws::counters_bound_weights;
-use hh_counters::{Heavy, Summary};
 use hh_countmin::Table;
-use hh_items::add_items;
-use hh_pieces::ends_outside_quotes;
+use hh_faults::{ReadError, SavedFault, TextError, ToolError};
+use hh_files::table_files;
+use hh_library::{add_items, summary_bytes};
+use hh_pieces::{ReadAt, SourceRecords, ends_outside_quotes};
 use hh_pool::{OpenGate, Options, Plan, RunError, analyse};
-use hh_records::{ReadError, read_stream};
+use hh_records::read_stream;
 use hh_reports::run_report;
-use hh_rows::{Sink, report_text};
-use hh_saved::{Saved, SavedFault, read};
+use hh_rows::{ReportOptions, Sink, report_text};
+use hh_saved::{Saved, read};
 use hh_shared::{SharedSums, SumSeat};
 use hh_stream::{Cutting, Key, PushRefused, Stream};
+use hh_summaries::{MergeFault, Summary};
 use hh_workers::PlanFault;
 use std::alloc::{AllocError, Global};
 use std::io::Read;
 use std::sync::Wait;
 use std::thread::Threads;
+
+/// The exit status that a program tells a fault of records by.
+pub fn status_of_records(fault: TextError) -> u8
+    ensures { result ≡ status_of (text_fault fault) }
+{
+    ToolError::from(fault).status()
+}
 
 /// The stream of one item.
 pub fn stream_of_one(alloc: Global, key: Key, weight: u64) -> Result<Stream, PushRefused>
@@ -42,6 +57,14 @@ pub fn stream_of_one(alloc: Global, key: Key, weight: u64) -> Result<Stream, Pus
     let mut stream = Stream::new(alloc);
     stream.push(key, weight)?;
     Ok(stream)
+}
+
+/// Merges another summary into one, and tells how far a counter may be below its key's weight then.
+pub fn slack_of_both(one: &mut Summary, other: &Summary) -> Result<u64, MergeFault>
+    ensures { OnOk result (one.new ≡ merge_of one.old other.now) }
+{
+    one.merge(other)?;
+    Ok(one.slack())
 }
 
 /// The least and the most that a key weighs, as far as a summary tells.
@@ -132,6 +155,13 @@ pub fn heavy_keys<R: Threads + Wait + Sync>(
     }
 }
 
+/// The rows of what is in a saved file.
+pub fn facts_of(alloc: Global, file: &[u8]) -> Result<Vec<u8>, ToolError>
+    ensures { IfOk result (λ rows. description file.now ≡ Ok rows.items) }
+{
+    describe_file(alloc, file)
+}
+
 /// The saved summary of a reader's records, with 100 counters.
 pub fn saved_summary<R: Read + Drop>(alloc: Global, reader: R) -> Result<Vec<u8>, ToolError>
     ensures { IfOk result (λ bytes. SavesStream (λ xs. Counters (sketch_of 100 xs))
@@ -160,4 +190,17 @@ pub fn report_of<T: Threads + Wait + Sync, R: Read + Drop, S: Sink>(
         (S.taken sink.old) (S.taken sink.new)) }
 {
     run_report(rt, alloc, options, reader, sink)
+}
+
+/// The saved table of the records of files, with 4 rows of 1,024 cells, by two workers.
+pub fn table_of_files<T: Threads + Wait + Sync, S: ReadAt + Sync>(
+    rt: &T,
+    alloc: Global,
+    records: SourceRecords<'_, S>,
+) -> Result<Vec<u8>, ToolError>
+    ensures { IfOk result (λ bytes.
+        SavesStream (λ xs. Cells (table_of (drawn_family 0 4) 1024 xs))
+        (texts_known S.bytes records.entry.layout.now records.entry.sources.now) bytes.items) }
+{
+    table_files(rt, alloc, 1024, 4, 0, 2, records)
 }

@@ -3,7 +3,7 @@ use Rattle.std.proofs.Common.{◌≡◌, ◌∙◌, ◌⊎◌, inl, inr, ℕ, Li
 use Rattle.std.specs.Prelude.{IsOkAnd}
 use Rattle.std.specs.Global.{Vec}
 use Rattle.hh_commands.specs.Files.{StopsAtHead, file_fault}
-use Rattle.hh_commands.specs.declared.error.ToolError.{ToolError}
+use Rattle.hh_faults.specs.declared.error.ToolError.{ToolError}
 use Rattle.heavy_ffi.specs.Faults.{IsTold}
 use Rattle.heavy_ffi.specs.declared.fault.Fault.{Fault}
 use Rattle.heavy_ffi.specs.Outcomes.{IsGiven, IsOutcome, TellsHead}

@@ -4,16 +4,16 @@ use Rattle.std.specs.Prelude.{IfOk, IfSome, IsOkAnd}
 use Rattle.std.proofs.lemmas.Bool.{cases_Bool}
 use Rattle.hh_stream.specs.Ranges.{in_range}
 use Rattle.hh_countmin.specs.Family.{max_depth}
-use Rattle.hh_counters.specs.Counters.{SummaryView, sketch_of}
+use Rattle.hh_summaries.specs.Counters.{SummaryView, sketch_of}
 use Rattle.hh_counters.specs.Laws.{SummariesFollowItems}
 use Rattle.hh_saved.specs.declared.format.Version.TheVariants as version
 use Rattle.hh_saved.specs.declared.saved.Saved.TheVariants.{Counters}
 use Rattle.hh_saved.specs.Spelling.{Spells}
-use Rattle.hh_items.specs.Add.{IsEmpty}
+use Rattle.hh_library.specs.Add.{IsEmpty}
 use Rattle.hh_commands.specs.Summarise.{bad_k}
 use Rattle.hh_commands.specs.Table.{bad_table}
-use Rattle.hh_items.proofs.AddFacts.{came_of}
-use Rattle.hh_commands.specs.declared.error.ToolError.{ToolError}
+use Rattle.hh_library.proofs.AddFacts.{came_of}
+use Rattle.hh_faults.specs.declared.error.ToolError.{ToolError}
 
 -- what holds of an answer that came, by two clauses
 pub came : {X : Type 0} (r : Result X ToolError) {P Q : X → Type 0} → IfOk r P → IsOkAnd r Q

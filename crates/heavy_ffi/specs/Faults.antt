@@ -1,16 +1,16 @@
 -- The numbers that tell a fault to C.
 use Rattle.std.specs.Prelude.{◌≡◌, ◌⊎◌, ℕ}
-use Rattle.hh_saved.specs.declared.fault.SavedFault.{SavedFault}
-use Rattle.hh_saved.specs.declared.fault.SavedFault.TheVariants as saved
-use Rattle.hh_records.specs.declared.records.BadRecordCause.{BadRecordCause}
-use Rattle.hh_records.specs.declared.records.BadRecordCause.TheVariants as bad
-use Rattle.hh_commands.specs.Status.{status_of}
-use Rattle.hh_commands.specs.declared.error.MergeCause.{MergeCause}
-use Rattle.hh_commands.specs.declared.error.MergeCause.TheVariants as merge
-use Rattle.hh_commands.specs.declared.error.KeyCause.{KeyCause}
-use Rattle.hh_commands.specs.declared.error.KeyCause.TheVariants as key
-use Rattle.hh_commands.specs.declared.error.ToolError.{ToolError}
-use Rattle.hh_commands.specs.declared.error.ToolError.TheVariants as tool
+use Rattle.hh_faults.specs.declared.saved.SavedFault.{SavedFault}
+use Rattle.hh_faults.specs.declared.saved.SavedFault.TheVariants as saved
+use Rattle.hh_faults.specs.declared.records.BadRecordCause.{BadRecordCause}
+use Rattle.hh_faults.specs.declared.records.BadRecordCause.TheVariants as bad
+use Rattle.hh_faults.specs.Status.{status_of}
+use Rattle.hh_faults.specs.declared.error.MergeCause.{MergeCause}
+use Rattle.hh_faults.specs.declared.error.MergeCause.TheVariants as merge
+use Rattle.hh_faults.specs.declared.error.KeyCause.{KeyCause}
+use Rattle.hh_faults.specs.declared.error.KeyCause.TheVariants as key
+use Rattle.hh_faults.specs.declared.error.ToolError.{ToolError}
+use Rattle.hh_faults.specs.declared.error.ToolError.TheVariants as tool
 use Rattle.heavy_ffi.specs.declared.fault.Fault.{Fault}
 
 -- which fault it is

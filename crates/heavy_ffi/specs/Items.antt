@@ -1,7 +1,7 @@
 -- Items whose keys lie in one slice, one behind the other.
 use Rattle.std.specs.Prelude.{◌+◌, ◌-◌, ◌==◌, ◌&&◌, ◌||◌, nat_le, ℕ, List, [], ◌∷◌, length, take, drop, slice_index_or, Option, Some, None, if◌then◌else◌}
 use Rattle.hh_stream.specs.Weights.{Entry}
-use Rattle.hh_items.specs.Add.{GoesOn, IsAdded, TableGoesOn}
+use Rattle.hh_library.specs.Add.{GoesOn, IsAdded, TableGoesOn}
 use Rattle.heavy_ffi.specs.declared.fault.Fault.{Fault}
 
 -- the items of keys that are the front of these bytes and end there, where the one before them ends

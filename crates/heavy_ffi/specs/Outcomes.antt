@@ -2,7 +2,7 @@
 use Rattle.std.specs.Prelude.{◌≡◌, ◌≢◌, ◌<◌, ◌≤◌, not, ℕ, List, [], ◌∷◌, length, map, take, slice_index_or, Option, Some, Result, Ok, Err, IsOkAnd, if◌then◌else◌}
 use Rattle.std.specs.Global.{Vec}
 use Rattle.hh_saved.specs.Reading.{head_at}
-use Rattle.hh_saved.specs.declared.fault.SavedFault.{SavedFault}
+use Rattle.hh_faults.specs.declared.saved.SavedFault.{SavedFault}
 use Rattle.hh_saved.specs.Spelling.{Spells}
 use Rattle.hh_saved.specs.declared.format.Version.TheVariants as version
 use Rattle.hh_saved.specs.declared.saved.Saved.{Saved}
@@ -12,8 +12,8 @@ use Rattle.hh_commands.specs.Ask.{answer, answers_of}
 use Rattle.hh_commands.specs.Files.{file_fault}
 use Rattle.hh_commands.specs.Merge.{merged_files}
 use Rattle.hh_commands.specs.Summarise.{bad_k}
-use Rattle.hh_commands.specs.declared.error.ToolError.{ToolError}
-use Rattle.hh_commands.specs.declared.error.ToolError.TheVariants as tool
+use Rattle.hh_faults.specs.declared.error.ToolError.{ToolError}
+use Rattle.hh_faults.specs.declared.error.ToolError.TheVariants as tool
 use Rattle.heavy_ffi.specs.Faults.{IsTold, TellsNone}
 use Rattle.heavy_ffi.specs.declared.fault.Fault.{Fault}
 use Rattle.heavy_ffi.specs.declared.room.Bounds.{Bounds}

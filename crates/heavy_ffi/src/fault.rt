@@ -4,9 +4,7 @@ ghost use Rattle.std.specs.Prelude.{◌≡◌};
 ghost use Rattle.heavy_ffi.specs.Faults.{IsTold, cause_of, file_cause, key_cause, kind_of};
 ghost use Rattle.heavy_ffi.specs.Faults.{merge_cause, no_fault, number_of, record_cause};
 
-use hh_commands::{KeyCause, MergeCause, ToolError};
-use hh_records::BadRecordCause;
-use hh_saved::SavedFault;
+use hh_faults::{BadRecordCause, KeyCause, MergeCause, SavedFault, ToolError};
 
 /// Why a call refused: which fault, its cause, and the number of the record, file or key, from 1
 /// on. A fault without a cause or a number has 0 there.

@@ -13,26 +13,27 @@ ghost use Rattle.std.specs.Prelude.{◌≡◌, ◌≢◌, ◌<◌, ◌≤◌, �
 ghost use Rattle.std.specs.Prelude.{IfErr, IfOk, IfSome};
 ghost use Rattle.hh_stream.specs.Cuttings.{pieces_of};
 ghost use Rattle.hh_stream.specs.Weights.{max_key_len};
-ghost use Rattle.hh_counters.specs.Counters.{SummaryView, sketch_of};
+ghost use Rattle.hh_summaries.specs.Counters.{SummaryView, sketch_of};
 ghost use Rattle.hh_countmin.specs.Family.{drawn_family};
 ghost use Rattle.hh_countmin.specs.Table.{TableView, table_of};
 ghost use Rattle.hh_pieces.specs.Pieces.{AreWholeRecords};
 ghost use Rattle.hh_records.specs.Streams.{text_known};
 ghost use Rattle.hh_saved.specs.Sizes.{most_summary_bytes, table_bytes};
 ghost use Rattle.hh_saved.specs.declared.saved.Saved.TheVariants.{Cells, Counters};
-ghost use Rattle.hh_items.specs.Add.{IsEmpty, IsEmptyTable, added, empty_of, empty_table_of};
-ghost use Rattle.hh_items.specs.AddText.{AddTextRefused, AddsText};
+ghost use Rattle.hh_library.specs.Add.{IsEmpty, IsEmptyTable, added, empty_of, empty_table_of};
+ghost use Rattle.hh_library.specs.AddText.{AddTextRefused, AddsText};
 ghost use Rattle.hh_commands.specs.Ask.{answer, answers_of};
 ghost use Rattle.hh_commands.specs.Condense.{CondenseRefused, CondensesRows};
 ghost use Rattle.hh_commands.specs.Confirm.{ConfirmRefused, ConfirmsRows};
-ghost use Rattle.hh_items.specs.ConfirmShare.{ConfirmShareRefused, ConfirmsShare};
-ghost use Rattle.hh_items.specs.CountItems.{condensed_items, confirmed_items};
+ghost use Rattle.hh_library.specs.ConfirmShare.{ConfirmShareRefused, ConfirmsShare};
+ghost use Rattle.hh_library.specs.CountItems.{condensed_items, confirmed_items};
 ghost use Rattle.hh_commands.specs.Describe.{description};
-ghost use Rattle.hh_items.specs.Entries.{ListsEntries};
+ghost use Rattle.hh_library.specs.Entries.{ListsEntries};
 ghost use Rattle.hh_commands.specs.Files.{HoldsSummary, HoldsTable, Refuses, StopsAtHead, SummaryRefused, file_of};
 ghost use Rattle.hh_commands.specs.List.{ListsKeys};
 ghost use Rattle.hh_commands.specs.Merge.{merged_files};
-ghost use Rattle.hh_commands.specs.Records.{RefusedAfter, SavesStream};
+ghost use Rattle.hh_commands.specs.Records.{SavesStream};
+ghost use Rattle.hh_records.specs.Refusals.{RefusedAfter};
 ghost use Rattle.hh_commands.specs.Summarise.{bad_k};
 ghost use Rattle.hh_commands.specs.Table.{bad_table};
 ghost use Rattle.heavy_ffi.specs.Faults.{IsTold, no_fault};
@@ -42,19 +43,18 @@ ghost use Rattle.heavy_ffi.specs.Outcomes.{TellsFault, TellsHead, bad_summary, b
 
 pub use fault::Fault;
 use fault::tell;
-use hh_commands::{
-    Method, ToolError, ask_key, ask_keys, condense_bytes, confirm_bytes, describe_file, list_keys,
-    merge_bytes, summary_bytes, table_bytes,
-};
+use hh_commands::{Method, describe_file, merge_bytes};
 use hh_counters::laws::summaries_follow_items;
 use hh_countmin::laws::drawn_families_are_families;
-use hh_items::{
-    add_items, add_text, condense_items, confirm_items, confirm_share, empty_summary, empty_table,
-    list_entries,
+use hh_faults::{SavedFault, ToolError};
+use hh_library::{
+    add_items, add_text, ask_key, ask_keys, condense_bytes, condense_items, confirm_bytes,
+    confirm_items, confirm_share, empty_summary, empty_table, list_entries, list_keys,
+    summary_bytes, table_bytes,
 };
 use hh_pieces::whole_records;
 use hh_saved::laws::sizes_are_bounded;
-use hh_saved::{Place, SavedFault, read};
+use hh_saved::{Place, read};
 use items::{items_of, shape_fault};
 use parts::files_of;
 pub use room::Bounds;

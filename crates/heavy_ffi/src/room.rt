@@ -5,7 +5,7 @@ ghost use Rattle.std.specs.Prelude.{Err, IfOk, IsOkAnd};
 ghost use Rattle.heavy_ffi.specs.Outcomes.{IsGiven, IsOutcome, both_of};
 
 use crate::fault::{Fault, tell};
-use hh_commands::ToolError;
+use hh_faults::ToolError;
 use std::alloc::{AllocError, Global};
 
 /// The status of a call that is done.

@@ -4,9 +4,9 @@ use Rattle.std.specs.Str.Parse.{IsNumeral, without_leading_plus}
 use Rattle.clap.specs.Words.{App, HasMatchesOf, Text, first_value, matched_of, one_text, raw_values, rows_of, subcommand_rows_of}
 use Rattle.clap.specs.declared.parser.matches.ArgMatches.{ArgMatches}
 use Rattle.clap.specs.declared.parser.matches.Found.{Found}
-use Rattle.hh_commands.specs.declared.report_options.ReportOptions.{ReportOptions}
-use Rattle.hh_commands.specs.declared.report_options.Tree.{Tree}
-use Rattle.hh_commands.specs.declared.report_options.Tree.TheVariants as shape
+use Rattle.hh_rows.specs.declared.report_options.ReportOptions.{ReportOptions}
+use Rattle.hh_rows.specs.declared.report_options.Tree.{Tree}
+use Rattle.hh_rows.specs.declared.report_options.Tree.TheVariants as shape
 use Rattle.hh_rows.specs.declared.printed.RowOptions.{RowOptions}
 use Rattle.hh_rows.specs.declared.threshold.Share.{Share}
 use Rattle.hh_rows.specs.declared.threshold.Share.TheVariants as limit

@@ -5,10 +5,10 @@ ghost use Rattle.std.specs.Prelude.{◌≡◌, ◌<◌, ℕ, None, IfOk, length}
 use crate::request::{Invocation, RecordWords};
 use heavy_host::{FileFault, read_file, read_files};
 use heavy_progress::{Metered, Seen, SharedProgress, Watch};
-use hh_commands::{ToolError, layout_of};
+use hh_faults::ToolError;
 use hh_pieces::{FileOrPipe, FileRecords, ReadAt, SourceRecords};
-use hh_pool::MAX_WORKERS;
-use hh_records::{Layout, Records};
+use hh_records::{Layout, Records, layout_of};
+use hh_workers::MAX_WORKERS;
 use std::cell::Cell;
 use std::fs::{self, File};
 use std::io::{self, Read, Stdin};
@@ -443,4 +443,12 @@ impl<'a> Inputs<'a> {
             files,
         }))
     }
+}
+
+/// How far workers read the files of records, where that is to be told.
+pub fn shared_progress<'a>(rt: &'a HostRuntime, asked: &Invocation) -> Option<SharedProgress<'a>> {
+    if !asked.tells_progress {
+        return None;
+    }
+    SharedProgress::start(rt, &asked.records.files, asked.request.passes()).ok()
 }

@@ -1,14 +1,16 @@
-//! What a command line asks the program `heavy` for, the inputs that it names, and what is told
-//! where it is refused.
+//! What a command line asks the program `heavy` for, the inputs that it names, and how a run ends:
+//! what is told of it, and its exit status.
 #![tactic(auto)]
 
 mod explain;
 mod inputs;
 mod record_place;
 mod request;
+mod status;
 mod told;
 
-pub use explain::{tell_format, tell_more, tell_own_k, tells_more, watches};
-pub use inputs::{Inputs, Once};
+pub use explain::watches;
+pub use inputs::{Inputs, Once, shared_progress};
 pub use request::{Command, Invocation, RecordWords, Request, UsageError, read_request};
+pub use status::{status_after, status_of, status_told};
 pub use told::Told;

@@ -16,8 +16,8 @@ use heavy_arguments::{
     SEED, SHARE, TOP, WEIGHT, WIDTH, WORKERS, command_line,
 };
 use heavy_host::{WordSource, behind_first, bytes_of, read_words, texts_of};
-use hh_commands::{LayoutWords, ReportOptions, Tree};
-use hh_rows::{RowOptions, Share};
+use hh_records::LayoutWords;
+use hh_rows::{ReportOptions, RowOptions, Share, Tree};
 use std::alloc::{AllocError, Global};
 
 /// What a command line asks for, and how.

@@ -9,13 +9,13 @@ use Rattle.hh_stream.specs.Weights.{max_total}
 use Rattle.hh_countmin.specs.Family.{same_family}
 use Rattle.hh_countmin.specs.Table.{TableView, grid_sum as merged_cells}
 use Rattle.hh_saved.specs.Reading.{Refuses as FileRefuses, saved_of}
-use Rattle.hh_saved.specs.declared.fault.SavedFault.{SavedFault}
-use Rattle.hh_saved.specs.declared.fault.SavedFault.TheVariants as saved
+use Rattle.hh_faults.specs.declared.saved.SavedFault.{SavedFault}
+use Rattle.hh_faults.specs.declared.saved.SavedFault.TheVariants as saved
 use Rattle.hh_saved.specs.declared.saved.Saved.{Saved}
 use Rattle.hh_saved.specs.declared.saved.Saved.TheVariants.{Cells}
-use Rattle.hh_commands.specs.declared.error.MergeCause.TheVariants as cause
-use Rattle.hh_commands.specs.declared.error.ToolError.{ToolError}
-use Rattle.hh_commands.specs.declared.error.ToolError.TheVariants as tool
+use Rattle.hh_faults.specs.declared.error.MergeCause.TheVariants as cause
+use Rattle.hh_faults.specs.declared.error.ToolError.{ToolError}
+use Rattle.hh_faults.specs.declared.error.ToolError.TheVariants as tool
 use Rattle.hh_commands.specs.Files.{Refuses, SummaryRefused, file_fault, file_of}
 use Rattle.hh_commands.specs.Merge.{merge_saved, merged_from, of_total}
 

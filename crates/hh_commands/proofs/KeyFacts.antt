@@ -5,9 +5,9 @@ use Rattle.std.proofs.lemmas.List.{drop_all, get_or-map, length-map}
 use Rattle.std.proofs.lemmas.List.Sums.{sum_by-le-sum_by}
 use Rattle.std.proofs.Math.Nat.{div-le_self}
 use Rattle.hh_stream.specs.Weights.{Bytes, Entry, at_key, max_key_len, max_total, same_key, total_of, weight_of}
-use Rattle.hh_counters.specs.Counters.{slack}
+use Rattle.hh_summaries.specs.Counters.{slack}
 use Rattle.hh_commands.proofs.FileFacts.{drop_contents}
-use Rattle.hh_commands.specs.declared.error.ToolError.{ToolError}
+use Rattle.hh_faults.specs.declared.error.ToolError.{ToolError}
 use Rattle.hh_commands.specs.Ask.{bad_key, key_fault, or_else}
 
 at_most : (b : Bool) (n : ℕ) → cond b n 0 ≤ n

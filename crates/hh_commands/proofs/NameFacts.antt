@@ -6,7 +6,7 @@ use Rattle.std.proofs.lemmas.Bool.{cases_lt}
 use Rattle.std.proofs.lemmas.Fmt.{decimal-digits_of}
 use Rattle.hh_stream.specs.Weights.{weight_of}
 use Rattle.hh_counters.specs.Condensed.{free_name, other_name}
-use Rattle.hh_counters.specs.Counters.{Counters}
+use Rattle.hh_summaries.specs.Counters.{Counters}
 use Rattle.hh_counters.specs.Laws.{FreeNameIsFirst}
 
 -- a name with a number ends by its digits

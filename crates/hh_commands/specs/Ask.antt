@@ -3,15 +3,15 @@ use Rattle.std.specs.Prelude.{◌==◌, ◌+◌, nat_le, ℕ, List, [], ◌∷�
 use Rattle.std.specs.List.{flat_map}
 use Rattle.csv.specs.Writing.{default_writer, row_text}
 use Rattle.hh_stream.specs.Weights.{Bytes, weight_of, max_key_len}
-use Rattle.hh_counters.specs.Counters.{slack}
+use Rattle.hh_summaries.specs.Counters.{slack}
 use Rattle.hh_countmin.specs.Table.{estimate_in}
 use Rattle.hh_records.specs.Decimals.{pointed}
 use Rattle.hh_saved.specs.declared.saved.Saved.{Saved}
 use Rattle.hh_saved.specs.declared.saved.Saved.TheVariants.{Counters, Cells}
 use Rattle.hh_commands.specs.Files.{file_of, ◌>>=◌}
-use Rattle.hh_commands.specs.declared.error.KeyCause.TheVariants as key
-use Rattle.hh_commands.specs.declared.error.ToolError.{ToolError}
-use Rattle.hh_commands.specs.declared.error.ToolError.TheVariants as tool
+use Rattle.hh_faults.specs.declared.error.KeyCause.TheVariants as key
+use Rattle.hh_faults.specs.declared.error.ToolError.{ToolError}
+use Rattle.hh_faults.specs.declared.error.ToolError.TheVariants as tool
 
 -- a key's weight is at least the first number, and at most the second
 abbrev pub answer_of : Saved → Bytes → ℕ × ℕ

@@ -2,12 +2,12 @@
 use Rattle.std.specs.Prelude.{◌≡◌, ℕ, List, Ok}
 use Rattle.hh_stream.specs.Weights.{Entry}
 use Rattle.hh_counters.specs.Condensed.{condensed}
-use Rattle.hh_counters.specs.Counters.{SummaryView}
+use Rattle.hh_summaries.specs.Counters.{SummaryView}
 use Rattle.hh_rows.specs.Rows.{condensed_by}
 use Rattle.hh_records.specs.Streams.{Known, ReadsAs}
 use Rattle.hh_commands.specs.Files.{HoldsSummary, RefusedFrom}
-use Rattle.hh_commands.specs.Records.{RecordsRefused}
-use Rattle.hh_commands.specs.declared.error.ToolError.{ToolError}
+use Rattle.hh_records.specs.Refusals.{RecordsRefused}
+use Rattle.hh_faults.specs.declared.error.ToolError.{ToolError}
 
 -- the file holds a summary, and these are the condensed rows, in units of 10^-d, of the stream that
 -- the records are

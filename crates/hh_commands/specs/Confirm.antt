@@ -1,8 +1,8 @@
 -- A summary, confirmed by the records that it is of.
 use Rattle.std.specs.Prelude.{◌≡◌, ◌≢◌, ◌+◌, ℕ, List, filter, Option, Some, None, Ok, ⊤}
 use Rattle.hh_stream.specs.Weights.{Entry, total_of}
-use Rattle.hh_counters.specs.Counters.{SummaryView}
-use Rattle.hh_counters.specs.Report.{has_counter, heavy}
+use Rattle.hh_summaries.specs.Counters.{SummaryView}
+use Rattle.hh_summaries.specs.Report.{has_counter, heavy}
 use Rattle.hh_rows.specs.Printed.{printed_rows}
 use Rattle.hh_rows.specs.Rows.{rows_of}
 use Rattle.hh_records.specs.Streams.{Known, ReadsAs}
@@ -10,12 +10,10 @@ use Rattle.hh_rows.specs.Thresholds.{threshold_of}
 use Rattle.hh_rows.specs.declared.printed.RowOptions.{RowOptions}
 use Rattle.hh_rows.specs.declared.threshold.Share.{Share}
 use Rattle.hh_commands.specs.Files.{HoldsSummary, RefusedFrom}
-use Rattle.hh_commands.specs.Records.{RecordsRefused}
-use Rattle.hh_commands.specs.declared.commands.confirm.ConfirmFault.{ConfirmFault}
-use Rattle.hh_commands.specs.declared.commands.confirm.ConfirmFault.TheVariants as confirm
-use Rattle.hh_commands.specs.declared.commands.confirm.Totals.{Totals}
-use Rattle.hh_commands.specs.declared.error.ToolError.{ToolError}
-use Rattle.hh_commands.specs.declared.error.ToolError.TheVariants as tool
+use Rattle.hh_records.specs.Refusals.{RecordsRefused}
+use Rattle.hh_faults.specs.declared.error.Totals.{Totals}
+use Rattle.hh_faults.specs.declared.error.ToolError.{ToolError}
+use Rattle.hh_faults.specs.declared.error.ToolError.TheVariants as tool
 
 -- the keys of xs above p/q of its total that have a counter in the summary
 abbrev pub confirmed_above : ℕ → ℕ → SummaryView → List Entry → List Entry
@@ -24,11 +22,6 @@ confirmed_above p q s xs = filter (has_counter s.counters) (heavy xs p q)
 -- those above the least share for which the summary has counters enough
 abbrev pub confirmed_rows : SummaryView → List Entry → List Entry
 confirmed_rows s xs = confirmed_above 1 (s.k + 1) s xs
-
--- the fault of a command whose summary was not confirmed
-abbrev pub confirm_fault : ConfirmFault → ToolError
-confirm_fault confirm.TotalDiffers = tool.TotalDiffers
-confirm_fault confirm.Memory = tool.Memory
 
 -- the file holds a summary, and these are the rows of its keys that are heavy in a stream of its
 -- total, that which the records are

@@ -4,11 +4,11 @@ use Rattle.std.specs.List.{flat_map, starts_with}
 use Rattle.std.specs.Fmt.{decimal}
 use Rattle.csv.specs.Writing.{default_writer, row_text}
 use Rattle.hh_stream.specs.Weights.{total_of}
-use Rattle.hh_counters.specs.Counters.{slack}
+use Rattle.hh_summaries.specs.Counters.{slack}
 use Rattle.hh_saved.specs.declared.saved.Saved.{Saved}
 use Rattle.hh_saved.specs.declared.saved.Saved.TheVariants.{Counters, Cells}
 use Rattle.hh_commands.specs.Files.{file_of, ◌>>=◌}
-use Rattle.hh_commands.specs.declared.error.ToolError.{ToolError}
+use Rattle.hh_faults.specs.declared.error.ToolError.{ToolError}
 
 -- a name and a number
 abbrev pub Fact : Type 0

@@ -1,14 +1,14 @@
 -- A saved file among others, and the summary that it holds.
 use Rattle.std.specs.Prelude.{◌≡◌, ℕ, List, Result, Ok, Err, ⊤}
-use Rattle.hh_counters.specs.Counters.{SummaryView}
+use Rattle.hh_summaries.specs.Counters.{SummaryView}
 use Rattle.hh_countmin.specs.Table.{TableView}
 use Rattle.hh_saved.specs.Reading.{head_at, saved_of}
-use Rattle.hh_saved.specs.declared.fault.SavedFault.{SavedFault}
-use Rattle.hh_saved.specs.declared.fault.SavedFault.TheVariants as saved
+use Rattle.hh_faults.specs.declared.saved.SavedFault.{SavedFault}
+use Rattle.hh_faults.specs.declared.saved.SavedFault.TheVariants as saved
 use Rattle.hh_saved.specs.declared.saved.Saved.{Saved}
 use Rattle.hh_saved.specs.declared.saved.Saved.TheVariants.{Counters, Cells}
-use Rattle.hh_commands.specs.declared.error.ToolError.{ToolError}
-use Rattle.hh_commands.specs.declared.error.ToolError.TheVariants as tool
+use Rattle.hh_faults.specs.declared.error.ToolError.{ToolError}
+use Rattle.hh_faults.specs.declared.error.ToolError.TheVariants as tool
 
 infixl 10 ◌>>=◌
 abbrev pub ◌>>=◌ : {A B : Type 0}

@@ -3,10 +3,8 @@ pub mod Condense
 pub mod Confirm
 pub mod Describe
 pub mod Files
-pub mod Layouts
 pub mod List
 pub mod Merge
 pub mod Records
-pub mod Status
 pub mod Summarise
 pub mod Table

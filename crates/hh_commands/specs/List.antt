@@ -2,8 +2,8 @@
 use Rattle.std.specs.Prelude.{◌≡◌, ◌+◌, ℕ, List}
 use Rattle.std.specs.List.{flat_map}
 use Rattle.hh_stream.specs.Weights.{Entry}
-use Rattle.hh_counters.specs.Counters.{SummaryView, slack}
-use Rattle.hh_counters.specs.Report.{by_rank}
+use Rattle.hh_summaries.specs.Counters.{SummaryView, slack}
+use Rattle.hh_summaries.specs.Report.{by_rank}
 use Rattle.hh_commands.specs.Ask.{bounds_row}
 use Rattle.hh_commands.specs.Files.{HoldsSummary}
 

@@ -1,16 +1,16 @@
 -- What saved files merge to.
 use Rattle.std.specs.Prelude.{◌==◌, ◌+◌, not, nat_le, ℕ, List, [], ◌∷◌, Result, Ok, Err, if◌then◌else◌}
 use Rattle.hh_stream.specs.Weights.{max_total}
-use Rattle.hh_counters.specs.Counters.{SummaryView, merge_of as merged_counters}
+use Rattle.hh_summaries.specs.Counters.{SummaryView, merge_of as merged_counters}
 use Rattle.hh_countmin.specs.Family.{same_family}
 use Rattle.hh_countmin.specs.Table.{TableView, grid_sum as merged_cells}
 use Rattle.hh_saved.specs.declared.saved.Saved.{Saved}
 use Rattle.hh_saved.specs.declared.saved.Saved.TheVariants.{Counters, Cells}
 use Rattle.hh_commands.specs.Files.{file_of, ◌>>=◌}
-use Rattle.hh_commands.specs.declared.error.MergeCause.{MergeCause}
-use Rattle.hh_commands.specs.declared.error.MergeCause.TheVariants as cause
-use Rattle.hh_commands.specs.declared.error.ToolError.{ToolError}
-use Rattle.hh_commands.specs.declared.error.ToolError.TheVariants as tool
+use Rattle.hh_faults.specs.declared.error.MergeCause.{MergeCause}
+use Rattle.hh_faults.specs.declared.error.MergeCause.TheVariants as cause
+use Rattle.hh_faults.specs.declared.error.ToolError.{ToolError}
+use Rattle.hh_faults.specs.declared.error.ToolError.TheVariants as tool
 
 -- a value of this total, which may be too large
 abbrev pub of_total : ℕ → Saved → Result Saved MergeCause

@@ -2,12 +2,12 @@
 use Rattle.std.specs.Prelude.{◌≡◌, not, ℕ, List, codes, Option, Some, None, Ok, if◌then◌else◌}
 use Rattle.hh_stream.specs.Ranges.{in_range}
 use Rattle.hh_stream.specs.Weights.{Entry}
-use Rattle.hh_counters.specs.Counters.{SummaryView, max_k, sketch_of}
+use Rattle.hh_summaries.specs.Counters.{SummaryView, max_k, sketch_of}
 use Rattle.hh_records.specs.Streams.{Known, ReadsAs}
 use Rattle.hh_commands.specs.declared.commands.summarise.Method.{Method}
 use Rattle.hh_commands.specs.declared.commands.summarise.Method.TheVariants as method
-use Rattle.hh_commands.specs.declared.error.ToolError.{ToolError}
-use Rattle.hh_commands.specs.declared.error.ToolError.TheVariants as tool
+use Rattle.hh_faults.specs.declared.error.ToolError.{ToolError}
+use Rattle.hh_faults.specs.declared.error.ToolError.TheVariants as tool
 
 -- the word that names a method
 abbrev pub word_of : Method → List ℕ

@@ -5,8 +5,8 @@ use Rattle.hh_stream.specs.Weights.{Entry}
 use Rattle.hh_countmin.specs.Family.{Coefficients, max_depth, max_width}
 use Rattle.hh_countmin.specs.Table.{TableView, table_of}
 use Rattle.hh_records.specs.Streams.{Known, ReadsAs}
-use Rattle.hh_commands.specs.declared.error.ToolError.{ToolError}
-use Rattle.hh_commands.specs.declared.error.ToolError.TheVariants as tool
+use Rattle.hh_faults.specs.declared.error.ToolError.{ToolError}
+use Rattle.hh_faults.specs.declared.error.ToolError.TheVariants as tool
 
 -- the tests of a table's depth and width
 abbrev pub bad_table : ℕ → ℕ → Option ToolError

@@ -2,12 +2,13 @@
 
 ghost use Rattle.std.specs.Prelude.{IfOk, IfErr};
 ghost use Rattle.std.specs.Map.{keys_of};
-ghost use Rattle.hh_counters.specs.Counters.{IsCounters};
-ghost use Rattle.hh_commands.specs.Records.{CountsRecords, RecordsRefused};
+ghost use Rattle.hh_summaries.specs.Counters.{IsCounters};
+ghost use Rattle.hh_commands.specs.Records.{CountsRecords};
+ghost use Rattle.hh_records.specs.Refusals.{RecordsRefused};
 
-use crate::error::ToolError;
 use hh_counters::laws::counts_follow_items;
 use hh_counters::{Counts, Summary};
+use hh_faults::ToolError;
 use hh_records::ReadRecords;
 use std::alloc::Global;
 

@@ -6,9 +6,9 @@ ghost use Rattle.hh_saved.specs.declared.format.Version.{Version};
 ghost use Rattle.hh_saved.specs.declared.saved.Saved.TheVariants.{Counters};
 ghost use Rattle.hh_commands.specs.Files.{HoldsSummary, Refuses, StopsAtHead, SummaryRefused, file_fault, file_of};
 
-use crate::error::ToolError;
 use hh_counters::Summary;
-use hh_saved::{Saved, SavedFault, read};
+use hh_faults::{SavedFault, ToolError};
+use hh_saved::{Saved, read};
 use std::alloc::Global;
 
 /// The refusal that a fault of the file with this number is.

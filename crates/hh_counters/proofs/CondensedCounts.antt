@@ -12,11 +12,11 @@ use Rattle.std.proofs.lemmas.List.Elements.{recursion_from_All, All-weaker, filt
 use Rattle.std.proofs.lemmas.List.Filters.{sum_by-filter_both}
 use Rattle.std.proofs.lemmas.List.Sums.{length-filter, count_by-le-length}
 use Rattle.hh_stream.specs.Weights.{Bytes, Entry, IsKey, key_cmp, weight_of, total_of}
-use Rattle.hh_counters.specs.Counters.{Counters, IsCounters, add_at, max_k, tally, exceeds}
-use Rattle.hh_counters.specs.Report.{has_counter, weights_at}
+use Rattle.hh_summaries.specs.Counters.{Counters, IsCounters, add_at, max_k, tally, exceeds}
+use Rattle.hh_summaries.specs.Report.{has_counter, weights_at}
 use Rattle.hh_counters.specs.Condensed.{other_name, free_name, lacks_counter, other_weight, entry_of, condensed}
-use Rattle.hh_counters.proofs.Weights.{by_add_at, by_key, in_from_number, number_from_in, at_differ, all-append, weight_of-cons, weight_of-tally, total_of-tally, counters-tally, same_counters}
-use Rattle.hh_counters.proofs.Reports.{all-filter, candidates, zip-weights_at, candidates_in, keys_of-candidates, rising-filter}
+use Rattle.hh_summaries.proofs.Weights.{by_add_at, by_key, in_from_number, number_from_in, at_differ, all-append, weight_of-cons, weight_of-tally, total_of-tally, counters-tally, same_counters}
+use Rattle.hh_summaries.proofs.Reports.{all-filter, candidates, zip-weights_at, candidates_in, keys_of-candidates, rising-filter}
 use Rattle.hh_counters.proofs.Condensing.{weight_of-kept, free_is_first}
 
 -- ---- keys with no counter

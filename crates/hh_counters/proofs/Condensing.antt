@@ -14,11 +14,11 @@ use Rattle.std.proofs.lemmas.List.Sorted.{sum_by-IsPermutation}
 use Rattle.std.proofs.lemmas.Map.Steps.{length-le_from_keys}
 use Rattle.hh_stream.specs.Weights.{Bytes, Entry, same_key, at_key, weight_of, total_of}
 use Rattle.hh_stream.specs.Cuttings.{whole_of}
-use Rattle.hh_counters.specs.Counters.{Counters, IsHonest, tally}
-use Rattle.hh_counters.specs.Report.{heavy, has_counter}
+use Rattle.hh_summaries.specs.Counters.{Counters, IsHonest, tally}
+use Rattle.hh_summaries.specs.Report.{heavy, has_counter}
 use Rattle.hh_counters.specs.Condensed.{other_name, free_from, free_name, IsFirstFree, lacks_counter, other_weight, entry_of, condensed}
-use Rattle.hh_counters.proofs.Weights.{at_differ, by_key, all-append, key_total, same_exact, weight_of-cons, total_of-cons, weight_of-append, total_of-append, weight_of-tally, total_of-tally, positive-tally}
-use Rattle.hh_counters.proofs.Reports.{all-filter, in_filter, filter_in, in_heavy, heavy_in, heavy_is_report, same_ranked, ranked-filter, filter_all, heavy_has_counter}
+use Rattle.hh_summaries.proofs.Weights.{at_differ, by_key, all-append, key_total, same_exact, weight_of-cons, total_of-cons, weight_of-append, total_of-append, weight_of-tally, total_of-tally, positive-tally}
+use Rattle.hh_summaries.proofs.Reports.{all-filter, in_filter, filter_in, in_heavy, heavy_in, heavy_is_report, same_ranked, ranked-filter, filter_all, heavy_has_counter}
 
 -- ---- the names are different
 unspelled : (ds : List ℕ) → map (λ d. d - 48) (map (λ d. 48 + d) ds) ≡ ds

@@ -6,9 +6,9 @@ use Rattle.std.proofs.lemmas.Slice.Zip.{get_or-zip, length-zip}
 use Rattle.std.proofs.Math.Seq.{take-append_seam}
 use Rattle.std.proofs.lemmas.List.Sums.{sum_by-append}
 use Rattle.hh_stream.specs.Weights.{Bytes, Entry, total_of}
-use Rattle.hh_counters.specs.Counters.{exceeds}
+use Rattle.hh_summaries.specs.Counters.{exceeds}
 use Rattle.hh_counters.specs.Laws.{CountsAddUp, CountsStayWithin}
-use Rattle.hh_counters.specs.Report.{counts_with}
+use Rattle.hh_summaries.specs.Report.{counts_with}
 use Rattle.hh_counters.specs.Counting.{count_of, count_with}
 
 -- a vector holds the numbers that were written over all of it

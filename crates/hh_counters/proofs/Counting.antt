@@ -16,9 +16,9 @@ use Rattle.std.proofs.lemmas.Map.Views.{list_any-from_Contains}
 use Rattle.indexmap.specs.IndexSet.{insert_key}
 use Rattle.std.proofs.lemmas.List.Sums.{sum_by-le-sum_by}
 use Rattle.hh_stream.specs.Weights.{Bytes, Entry, key_cmp, same_key, at_key, weight_of, total_of}
-use Rattle.hh_counters.specs.Counters.{Counters}
-use Rattle.hh_counters.specs.Report.{weights_at, counts_with}
-use Rattle.hh_counters.proofs.Weights.{rising_entries, at_differ, same_exact, key_total, key_self, flipped, weight_of-append, weight_of-cons, at_other}
+use Rattle.hh_summaries.specs.Counters.{Counters}
+use Rattle.hh_summaries.specs.Report.{weights_at, counts_with}
+use Rattle.hh_summaries.proofs.Weights.{rising_entries, at_differ, same_exact, key_total, key_self, flipped, weight_of-append, weight_of-cons, at_other}
 
 -- counted from 0, each key has its weight
 pub counted_from_zero : (ks : List Bytes) (xs : List Entry)

@@ -1,8 +1,8 @@
 -- Small cases worked by hand: what the definitions compute.
 use Rattle.std.specs.Prelude.{◌≡◌, List, [], ◌∷◌, ◌++◌, refl, codes}
 use Rattle.hh_stream.specs.Weights.{Bytes, Entry, total_of}
-use Rattle.hh_counters.specs.Counters.{tally, plus, level, lower, join, misra_gries, slack}
-use Rattle.hh_counters.specs.Report.{heavy, by_rank}
+use Rattle.hh_summaries.specs.Counters.{tally, plus, level, lower, join, misra_gries, slack}
+use Rattle.hh_summaries.specs.Report.{heavy, by_rank}
 use Rattle.hh_counters.specs.Condensed.{other_name, free_name, condensed}
 use Rattle.hh_counters.specs.SpaceSaving.{least_of, translate, space_saving}
 

@@ -7,9 +7,9 @@ use Rattle.std.proofs.lemmas.Bool.Decides.{nat_tests}
 use Rattle.std.proofs.lemmas.List.Elements.{recursion_from_All}
 use Rattle.std.proofs.lemmas.List.Sums.{sum_by-cons, sum_by-le-sum_by}
 use Rattle.hh_stream.specs.Weights.{Bytes, Entry, same_key, weight_of}
-use Rattle.hh_counters.specs.Counters.{tally, least_counter}
+use Rattle.hh_summaries.specs.Counters.{tally, least_counter}
 use Rattle.hh_counters.specs.Buckets.{Buckets, by_counter, is_in, BoundCounters}
-use Rattle.hh_counters.proofs.Weights.{Distinct, same_exact, same_self, weight_of-tally}
+use Rattle.hh_summaries.proofs.Weights.{Distinct, same_exact, same_self, weight_of-tally}
 use Rattle.hh_counters.proofs.Stepping.{at_least_all, at_least_each, least_counter-le, least_counter-ge}
 use Rattle.hh_counters.proofs.Linked.{PositiveAt, counters-view, first_popped, found, held, length-view, marks, moved_up, others_stay, sent}
 

@@ -1,11 +1,5 @@
 pub mod Examples
-pub mod Weights
-pub mod Level
-pub mod Summaries
-pub mod Reports
-pub mod Places
 pub mod Counting
-pub mod Summing
 pub mod Lowering
 pub mod Stepping
 pub mod Runs

@@ -5,10 +5,10 @@ use Rattle.std.specs.Map.{keys_of}
 use Rattle.std.proofs.lemmas.Bool.{cond_both}
 use Rattle.std.proofs.lemmas.Bool.Decides.{nat_tests}
 use Rattle.hh_stream.specs.Weights.{key_cmp}
-use Rattle.hh_counters.specs.Counters.{Counters, over, level, lower, cut, least_counter}
+use Rattle.hh_summaries.specs.Counters.{Counters, over, level, lower, cut, least_counter}
 use Rattle.hh_counters.specs.SpaceSaving.{least_of}
-use Rattle.hh_counters.proofs.Weights.{same_counters}
-use Rattle.hh_counters.proofs.Level.{over-cons, lower-nil, by_lower, counters-lower, weight_of-lower, is_level, level_few, level_one_more}
+use Rattle.hh_summaries.proofs.Weights.{same_counters}
+use Rattle.hh_summaries.proofs.Level.{over-cons, lower-nil, by_lower, counters-lower, weight_of-lower, is_level, level_few, level_one_more}
 
 -- of lowered counters as many exceed t as did m + t before
 pub over-lower : (c : Counters) (m t : ℕ) → over (lower m c) t ≡ over c (m + t)

@@ -5,7 +5,7 @@ use Rattle.std.proofs.lemmas.List.{take_more}
 use Rattle.std.proofs.lemmas.List.Elements.{All-more}
 use Rattle.std.proofs.lemmas.List.Sums.{fold_push, sum_by_push}
 use Rattle.hh_stream.specs.Weights.{Entry, total_of}
-use Rattle.hh_counters.specs.Counters.{SummaryView, sketch_of}
+use Rattle.hh_summaries.specs.Counters.{SummaryView, sketch_of}
 use Rattle.hh_counters.specs.SpaceSaving.{monitor_of, monitor_with, space_saving, step, translation_of}
 use Rattle.hh_counters.proofs.Runs.{steps_are_a_run, run_is_misra_gries}
 

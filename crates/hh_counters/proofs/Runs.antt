@@ -7,10 +7,10 @@ use Rattle.std.proofs.lemmas.Bool.{cases_Bool}
 use Rattle.std.proofs.lemmas.Bool.Decides.{nat_tests}
 use Rattle.std.proofs.lemmas.List.Elements.{recursion_from_All}
 use Rattle.hh_stream.specs.Weights.{Bytes, Entry, key_cmp, same_key, at_key, weight_of, total_of}
-use Rattle.hh_counters.specs.Counters.{Counters, IsCounters, add_at, lower, cut, join, misra_gries, least_counter}
+use Rattle.hh_summaries.specs.Counters.{Counters, IsCounters, add_at, lower, cut, join, misra_gries, least_counter}
 use Rattle.hh_counters.specs.SpaceSaving.{least_of, translate, without, HasLeast, IsStep, raised, entered, replaced, IsRun, IsRunFrom, first_with, key_to_drop, taken_over, step, space_saving}
-use Rattle.hh_counters.proofs.Weights.{flipped, turned, above_first, number_from_in, positive_in, by_key, same_exact, weight_of-cons, total_of-cons, weight_of-add_at, weight_above, weight_first}
-use Rattle.hh_counters.proofs.Level.{min_is, lower-nil}
+use Rattle.hh_summaries.proofs.Weights.{flipped, turned, above_first, number_from_in, positive_in, by_key, same_exact, weight_of-cons, total_of-cons, weight_of-add_at, weight_above, weight_first}
+use Rattle.hh_summaries.proofs.Level.{min_is, lower-nil}
 use Rattle.hh_counters.proofs.Lowering.{cut-lower, level-least}
 use Rattle.hh_counters.proofs.Stepping.{IsKept, stepped, replaced_new, replaced_elsewhere, least_of_free, least_of_full}
 

@@ -16,11 +16,11 @@ use Rattle.std.proofs.lemmas.Map.Keys.{Less-from_sorted}
 use Rattle.std.proofs.lemmas.Cmp.{on_total}
 use Rattle.std.proofs.lemmas.Map.Entries.{lookup-filter-values, option_filter}
 use Rattle.hh_stream.specs.Weights.{Bytes, Entry, key_cmp, same_key, at_key, weight_of}
-use Rattle.hh_counters.specs.Counters.{Counters, exceeds, less_by, tally, lower}
-use Rattle.hh_counters.proofs.Weights.{Distinct, weight_of-lookup, key_total, weight_of-tally, same_counters}
-use Rattle.hh_counters.proofs.Level.{lower-nil, lower-cons, positive-lower, weight_of-lower, counters-lower}
-use Rattle.hh_counters.proofs.Reports.{rising_from_sort}
-use Rattle.hh_counters.proofs.Places.{counters_from_places}
+use Rattle.hh_summaries.specs.Counters.{Counters, exceeds, less_by, tally, lower}
+use Rattle.hh_summaries.proofs.Weights.{Distinct, weight_of-lookup, key_total, weight_of-tally, same_counters}
+use Rattle.hh_summaries.proofs.Level.{lower-nil, lower-cons, positive-lower, weight_of-lower, counters-lower}
+use Rattle.hh_summaries.proofs.Reports.{rising_from_sort}
+use Rattle.hh_summaries.proofs.Places.{counters_from_places}
 
 -- ---- lowering, entry by entry
 lower-append : (t : ℕ) (c d : Counters) → lower t (c ++ d) ≡ lower t c ++ lower t d

@@ -6,12 +6,12 @@ use Rattle.std.specs.Map.{keys_of}
 use Rattle.std.proofs.lemmas.Bool.{cases_lt, cond_both}
 use Rattle.std.proofs.lemmas.Bool.Decides.{nat_tests}
 use Rattle.hh_stream.specs.Weights.{Bytes, Entry, key_cmp, same_key, at_key, weight_of, total_of}
-use Rattle.hh_counters.specs.Counters.{Counters, IsCounters, add_at, lower, least_counter, plus}
+use Rattle.hh_summaries.specs.Counters.{Counters, IsCounters, add_at, lower, least_counter, plus}
 use Rattle.hh_counters.specs.SpaceSaving.{least_of, translate, without, IsStep, raised, entered, replaced}
-use Rattle.hh_counters.proofs.Weights.{at_here, at_differ, by_key, by_add_at, same_exact, same_self, same_sym, key_exact, weight_of-cons, total_of-cons, weight_of-add_at, total_of-add_at, rising-add_at, positive-add_at, weight_above, weight_first, above_first, flipped, at_other, same_counters, counters-plus, weight_of-plus}
-use Rattle.hh_counters.proofs.Level.{least_counter-all, level_above, weight_of-lower, counters-lower}
+use Rattle.hh_summaries.proofs.Weights.{at_here, at_differ, by_key, by_add_at, same_exact, same_self, same_sym, key_exact, weight_of-cons, total_of-cons, weight_of-add_at, total_of-add_at, rising-add_at, positive-add_at, weight_above, weight_first, above_first, flipped, at_other, same_counters, counters-plus, weight_of-plus}
+use Rattle.hh_summaries.proofs.Level.{least_counter-all, level_above, weight_of-lower, counters-lower}
 use Rattle.hh_counters.proofs.Lowering.{level-least}
-use Rattle.hh_counters.proofs.Reports.{counters-filter}
+use Rattle.hh_summaries.proofs.Reports.{counters-filter}
 
 -- ---- an entry added
 -- counters with an item added are counters

@@ -9,13 +9,13 @@ use Rattle.std.specs.Ordering.{match_ordering}
 use Rattle.std.proofs.lemmas.Bool.{false_from_ne_true}
 use Rattle.std.proofs.lemmas.Bool.Decides.{nat_tests}
 use Rattle.hh_stream.specs.Weights.{Bytes, Entry, key_cmp, same_key, at_key, weight_of}
-use Rattle.hh_counters.specs.Counters.{Counters, IsCounters, Fits, add_at, lower, over, least_counter}
+use Rattle.hh_summaries.specs.Counters.{Counters, IsCounters, Fits, add_at, lower, over, least_counter}
 use Rattle.hh_counters.specs.SpaceSaving.{least_of, without, first_with, key_to_drop, taken_over, IsFirstLeast, step, IsMonitor}
-use Rattle.hh_counters.proofs.Weights.{at_differ, same_exact, same_self, turned, flipped, above_first, weight_of-cons, weight_of-add_at, rising-add_at, same_counters}
-use Rattle.hh_counters.proofs.Level.{least_counter-all, is_level, counters-lower, length-lower, total_of-lower-le}
+use Rattle.hh_summaries.proofs.Weights.{at_differ, same_exact, same_self, turned, flipped, above_first, weight_of-cons, weight_of-add_at, rising-add_at, same_counters}
+use Rattle.hh_summaries.proofs.Level.{least_counter-all, is_level, counters-lower, length-lower, total_of-lower-le}
 use Rattle.hh_counters.proofs.Lowering.{level-least}
 use Rattle.hh_counters.proofs.Stepping.{least_counter-ge, weight_of-without, counters-without, counters-add_at, without_above, length-add_at_new}
-use Rattle.hh_counters.proofs.Places.{above_at, weight_at, positive_at}
+use Rattle.hh_summaries.proofs.Places.{above_at, weight_at, positive_at}
 use Rattle.hh_counters.proofs.Runs.{step_kept}
 
 -- ---- the first of the least counters

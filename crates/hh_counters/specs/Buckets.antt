@@ -7,7 +7,7 @@ use Rattle.std.specs.List.{IsDistinct}
 use Rattle.std.specs.Map.{keys_of, lookup}
 use Rattle.std.specs.BTreeSet.{BTreeSet, IsLowerBound, contains}
 use Rattle.hh_stream.specs.Weights.{Bytes, Entry, key_cmp, same_key, weight_of}
-use Rattle.hh_counters.specs.Counters.{tally}
+use Rattle.hh_summaries.specs.Counters.{tally}
 use Rattle.hh_counters.specs.SpaceSaving.{IsMonitor, step}
 
 abbrev pub Buckets : Type 0

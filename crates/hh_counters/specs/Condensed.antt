@@ -2,8 +2,8 @@
 use Rattle.std.specs.Prelude.{◌≡◌, ℕ, zero, suc, ◌+◌, ◌<◌, ◌≤◌, Bool, cond, not, nat_lt, List, [], ◌∷◌, ◌++◌, length, map, filter, codes}
 use Rattle.std.specs.Int.Digits.{digits_of}
 use Rattle.hh_stream.specs.Weights.{Bytes, Entry, weight_of, total_of}
-use Rattle.hh_counters.specs.Counters.{Counters, tally}
-use Rattle.hh_counters.specs.Report.{has_counter}
+use Rattle.hh_summaries.specs.Counters.{Counters, tally}
+use Rattle.hh_summaries.specs.Report.{has_counter}
 
 -- name number i: `others` and the digits of i, where 0 has none
 abbrev pub other_name : ℕ → Bytes

@@ -1,7 +1,7 @@
 -- Keys that are counted as items come.
 use Rattle.std.specs.Prelude.{◌+◌, ℕ, List}
 use Rattle.hh_stream.specs.Weights.{Bytes, Entry, total_of}
-use Rattle.hh_counters.specs.Report.{counts_with, weights_at}
+use Rattle.hh_summaries.specs.Report.{counts_with, weights_at}
 
 -- what a contract sees of counts: the keys by rising key, the weight of each, and the total of all
 pub record Count : Type 0 where

@@ -5,11 +5,11 @@ use Rattle.std.specs.List.Sorted.{IsStrictlySortedBy}
 use Rattle.std.specs.Map.{keys_of}
 use Rattle.hh_stream.specs.Weights.{Bytes, Entry, IsKey, key_cmp, weight_of, total_of}
 use Rattle.hh_stream.specs.Cuttings.{whole_of}
-use Rattle.hh_counters.specs.Counters.{Counters, SummaryView, IsCounters, exceeds, IsLevel, level, max_k, plus, join, misra_gries, IsHonest, slack, sketch_with, sketch_of}
+use Rattle.hh_summaries.specs.Counters.{Counters, SummaryView, IsCounters, exceeds, IsLevel, level, max_k, plus, join, misra_gries, IsHonest, slack, sketch_with, sketch_of}
 use Rattle.hh_counters.specs.SpaceSaving.{least_of, translate, IsStep, IsRun, step, space_saving, monitor_of, monitor_with, translation_of}
 use Rattle.hh_counters.specs.Counting.{count_of, count_with}
 use Rattle.hh_counters.specs.Condensed.{IsFirstFree, free_name, entry_of, condensed}
-use Rattle.hh_counters.specs.Report.{contenders, keys_above, heavy, rank_cmp, rows_above, weights_at, counts_with, has_counter, IsReport}
+use Rattle.hh_summaries.specs.Report.{contenders, keys_above, heavy, rank_cmp, rows_above, weights_at, counts_with, has_counter, IsReport}
 
 -- the counters of a stream are honest for it
 abbrev pub MisraGriesIsHonest : Type 0

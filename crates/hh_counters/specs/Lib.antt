@@ -1,5 +1,3 @@
-pub mod Counters
-pub mod Report
 pub mod SpaceSaving
 pub mod Buckets
 pub mod Condensed

@@ -1,7 +1,7 @@
 -- Space-Saving (Metwally, Agrawal and El Abbadi 2005, here with weights): k + 1 counters, a newcomer takes the least.
 use Rattle.std.specs.Prelude.{◌≡◌, ℕ, ◌+◌, ◌^◌, ◌<◌, ◌≤◌, not, ◌||◌, ◌==◌, if◌then◌else◌, nat_lt, nat_le, List, [], ◌∷◌, length, slice_index_or, filter, fold}
 use Rattle.hh_stream.specs.Weights.{Bytes, Entry, same_key, weight_of, total_of}
-use Rattle.hh_counters.specs.Counters.{max_k, Counters, IsCounters, add_at, lower, least_counter, SummaryView}
+use Rattle.hh_summaries.specs.Counters.{max_k, Counters, IsCounters, add_at, lower, least_counter, SummaryView}
 
 -- 0 where one of the k + 1 counters is free, else the least
 abbrev pub least_of : Counters → ℕ → ℕ

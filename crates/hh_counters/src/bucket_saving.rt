@@ -6,17 +6,16 @@ ghost use Rattle.std.specs.List.{IsDistinct};
 ghost use Rattle.indexmap.specs.IndexMap.{get as index_get, index_of, IsUnique, Updates};
 ghost use Rattle.hh_stream.specs.Weights.{Bytes, max_key_len, max_total, same_key, total_of, weight_of};
 ghost use Rattle.hh_stream.specs.Ranges.{in_range};
-ghost use Rattle.hh_counters.specs.Counters.{max_k, IsCounters, tally, least_counter, lower};
+ghost use Rattle.hh_summaries.specs.Counters.{max_k, IsCounters, tally, least_counter, lower};
 ghost use Rattle.hh_counters.specs.SpaceSaving.{monitor_with};
 ghost use Rattle.std.specs.BTreeSet.{IsUnchanged, Updates as SetUpdates, insert_key};
 ghost use Rattle.hh_counters.specs.Buckets.{HasFreshFirst, IsTakenIn, BoundCounters, by_counter};
 
-use crate::entries::push_copy;
 use crate::monitor::Monitor;
 use crate::shared_key::SharedKey;
 use crate::sought::Sought;
-use crate::summary::{AddFault, MAX_K, Summary};
 use hh_stream::{Key, MAX_TOTAL, in_range};
+use hh_summaries::{AddFault, MAX_K, Summary, push_copy};
 use indexmap::IndexMap;
 use std::alloc::{AllocError, Global};
 use std::collections::BTreeSet;
@@ -49,7 +48,7 @@ pub struct BucketSaving {
 }
 
 impl Model for BucketSaving {
-    ghost use Rattle.hh_counters.specs.Counters.{SummaryView, tally};
+    ghost use Rattle.hh_summaries.specs.Counters.{SummaryView, tally};
     ghost use Rattle.hh_counters.specs.Buckets.{IsLinked};
 
     ghost Value = { SummaryView };

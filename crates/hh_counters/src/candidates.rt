@@ -5,13 +5,13 @@ ghost use Rattle.std.specs.List.Sorted.{IsStrictlySortedBy};
 ghost use Rattle.std.specs.Map.{keys_of};
 ghost use Rattle.indexmap.specs.IndexSet.{insert_key};
 ghost use Rattle.hh_stream.specs.Weights.{key_cmp, same_key, total_of};
-ghost use Rattle.hh_counters.specs.Counters.{max_k};
-ghost use Rattle.hh_counters.specs.Report.{IsShare, contenders, counts_with, rows_above, keys_above};
+ghost use Rattle.hh_summaries.specs.Counters.{max_k};
+ghost use Rattle.hh_summaries.specs.Report.{IsShare, contenders, counts_with, rows_above, keys_above};
 
 use crate::report::{Heavy, is_heavy, selected_rows};
 use crate::sought::Sought;
-use crate::summary::Summary;
 use hh_stream::{Item, Key};
+use hh_summaries::Summary;
 use indexmap::IndexSet;
 use std::alloc::{AllocError, Global};
 use std::marker::Model;

@@ -3,16 +3,16 @@
 ghost use Rattle.std.specs.Prelude.{◌≡◌, ◌+◌, ◌≤◌, ◌∷◌, [], true, IfOk, OnOk, filter, length, zip};
 ghost use Rattle.std.specs.Map.{keys_of};
 ghost use Rattle.hh_stream.specs.Weights.{max_total, total_of};
-ghost use Rattle.hh_counters.specs.Counters.{max_k, IsCounters, exceeds};
-ghost use Rattle.hh_counters.specs.Report.{IsShare, rows_above};
+ghost use Rattle.hh_summaries.specs.Counters.{max_k, IsCounters, exceeds};
+ghost use Rattle.hh_summaries.specs.Report.{IsShare, rows_above};
 ghost use Rattle.hh_counters.specs.Counting.{count_of, count_with};
 ghost use Rattle.hh_stream.specs.Ranges.{in_range};
 
 use crate::candidates::Candidates;
 use crate::laws::{counts_add_up, counts_stay_within};
 use crate::report::{Heavy, push_row};
-use crate::summary::Summary;
 use hh_stream::Stream;
+use hh_summaries::Summary;
 use std::alloc::{AllocError, Global};
 use std::marker::Model;
 

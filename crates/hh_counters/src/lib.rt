@@ -1,26 +1,25 @@
-//! Counters for the frequent keys of a weighted stream: Misra-Gries summaries, their merge, and the
-//! rows of the report that a second pass makes of their keys.
+//! Counters for the frequent keys of a weighted stream: Space-Saving in two forms, of which
+//! Misra-Gries summaries are made, the rows of the report that a second pass makes of their keys,
+//! and the laws of both.
 #![tactic(auto)]
 
 mod bucket_saving;
 mod candidate_counts;
 mod candidates;
 mod counts;
-mod entries;
 pub mod laws;
 mod monitor;
 mod report;
 mod shared_key;
 mod sought;
 mod space_saving;
-mod summary;
 mod taking;
 
 pub use bucket_saving::{BucketSaving, NewFault};
 pub use candidate_counts::CandidateCounts;
 pub use candidates::Candidates;
 pub use counts::Counts;
+pub use hh_summaries::{AddFault, BadK, MAX_K, MergeFault, OfItemsFault, Summary};
 pub use monitor::{Monitor, monitored_summary};
 pub use report::{Heavy, MAX_Q, is_threshold};
 pub use space_saving::SpaceSaving;
-pub use summary::{AddFault, BadK, MAX_K, MergeFault, OfItemsFault, Summary};

@@ -2,11 +2,11 @@
 
 ghost use Rattle.std.specs.Prelude.{◌≡◌, ◌+◌, ◌<◌, ◌≤◌, ◌↔◌, ◌==◌, OnOk, OnErr, IsOk, IfOk, IfErr, IsErrOf, length, []};
 ghost use Rattle.hh_stream.specs.Weights.{max_key_len, max_total, weight_of, total_of};
-ghost use Rattle.hh_counters.specs.Counters.{SummaryView, sketch_of};
+ghost use Rattle.hh_summaries.specs.Counters.{SummaryView, sketch_of};
 ghost use Rattle.hh_counters.specs.SpaceSaving.{least_of, monitor_of, monitor_with, translation_of};
 
-use crate::summary::{AddFault, Summary};
 use hh_stream::{Item, Key, MAX_TOTAL};
+use hh_summaries::{AddFault, Summary};
 use std::alloc::AllocError;
 
 /// Space-Saving over a weighted stream: at most k + 1 monitored keys with counters (Metwally,

@@ -4,8 +4,8 @@ ghost use Rattle.std.specs.Prelude.{◌≡◌, ◌*◌, ◌∷◌, ◌++◌, nat
 ghost use Rattle.std.specs.List.Sorted.{IsStrictlySortedBy};
 ghost use Rattle.hh_stream.specs.Ranges.{in_range};
 ghost use Rattle.hh_stream.specs.Weights.{key_cmp};
-ghost use Rattle.hh_counters.specs.Counters.{max_k};
-ghost use Rattle.hh_counters.specs.Report.{is_heavy, is_threshold, rows_above};
+ghost use Rattle.hh_summaries.specs.Counters.{max_k};
+ghost use Rattle.hh_summaries.specs.Report.{is_heavy, is_threshold, rows_above};
 
 use hh_stream::Key;
 use std::alloc::{AllocError, Global};

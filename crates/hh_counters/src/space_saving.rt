@@ -3,13 +3,12 @@
 ghost use Rattle.std.specs.Prelude.{◌≡◌, ◌+◌, ◌<◌, ◌≤◌, ◌^◌, ◌↔◌, [], IfOk, IsOk, IsErr, OnOk, OnErr, length, false};
 ghost use Rattle.hh_stream.specs.Weights.{max_key_len, weight_of, total_of};
 ghost use Rattle.hh_stream.specs.Ranges.{in_range};
-ghost use Rattle.hh_counters.specs.Counters.{max_k, IsCounters, SummaryView};
+ghost use Rattle.hh_summaries.specs.Counters.{max_k, IsCounters, SummaryView};
 ghost use Rattle.hh_counters.specs.SpaceSaving.{IsFirstLeast, IsMonitor, step, taken_over, translation_of};
 
-use crate::entries::{add_entry, counter_of, least_counter, lower_all};
 use crate::monitor::Monitor;
-use crate::summary::{BadK, MAX_K, Summary};
 use hh_stream::{Key, in_range};
+use hh_summaries::{BadK, MAX_K, Summary, add_entry, counter_of, least_counter, lower_all};
 use std::alloc::{AllocError, Global};
 use std::marker::Model;
 
@@ -27,7 +26,7 @@ pub struct SpaceSaving {
 }
 
 impl Model for SpaceSaving {
-    ghost use Rattle.hh_counters.specs.Counters.{SummaryView};
+    ghost use Rattle.hh_summaries.specs.Counters.{SummaryView};
     ghost use Rattle.hh_counters.specs.SpaceSaving.{IsMonitor};
 
     ghost Value = { SummaryView };

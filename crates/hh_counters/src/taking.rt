@@ -1,30 +1,14 @@
-//! Summaries, monitors and counts as takers of items.
+//! Monitors and counts as takers of items.
 
 ghost use Rattle.std.specs.Prelude.{◌∷◌, []};
-ghost use Rattle.hh_counters.specs.Counters.{sketch_with};
 ghost use Rattle.hh_counters.specs.Counting.{count_with};
 ghost use Rattle.hh_counters.specs.SpaceSaving.{monitor_with};
 
 use crate::bucket_saving::BucketSaving;
 use crate::counts::Counts;
 use crate::monitor::Monitor;
-use crate::summary::Summary;
 use hh_stream::TakeItems;
 use std::alloc::{AllocError, Global};
-
-impl TakeItems for Summary {
-    ghost with_item = { sketch_with };
-
-    ghost weight_taken = { λ summary. summary.total };
-
-    fn total(&self) -> u64 {
-        self.total()
-    }
-
-    fn take(&mut self, _alloc: Global, key: &[u8], weight: u64) -> Result<(), AllocError> {
-        self.add_within(key, weight)
-    }
-}
 
 impl TakeItems for BucketSaving {
     ghost with_item = { monitor_with };

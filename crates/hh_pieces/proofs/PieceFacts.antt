@@ -8,14 +8,15 @@ use Rattle.std.proofs.lemmas.List.Sums.{sum_by-append, sum_by-cons}
 use Rattle.hh_stream.specs.Cuttings.{whole_of}
 use Rattle.hh_stream.specs.Weights.{Entry, max_key_len, max_total, total_of}
 use Rattle.hh_records.specs.declared.layout.Layout.{Layout}
-use Rattle.hh_records.specs.declared.records.BadRecordCause.{BadRecordCause}
-use Rattle.hh_records.specs.declared.records.BadRecordCause.TheVariants as cause
-use Rattle.hh_records.specs.declared.records.ReadError.{ReadError}
-use Rattle.hh_records.specs.declared.records.ReadError.TheVariants as read
-use Rattle.hh_records.specs.declared.texts.TextError.{TextError}
-use Rattle.hh_records.specs.declared.texts.TextError.TheVariants as text
+use Rattle.hh_faults.specs.Faults.{text_error}
+use Rattle.hh_faults.specs.declared.records.BadRecordCause.{BadRecordCause}
+use Rattle.hh_faults.specs.declared.records.BadRecordCause.TheVariants as cause
+use Rattle.hh_faults.specs.declared.records.ReadError.{ReadError}
+use Rattle.hh_faults.specs.declared.records.ReadError.TheVariants as read
+use Rattle.hh_faults.specs.declared.records.TextError.{TextError}
+use Rattle.hh_faults.specs.declared.records.TextError.TheVariants as text
 use Rattle.hh_pieces.specs.Laws.{PiecesAreRead}
-use Rattle.hh_records.specs.Layouts.{OpenRefused, Places, RowsRefused, added, adding_next, adds, gathered, headed_parts, item_by, items_after, joined, names_columns, parts_at, places_in, text_fault, text_parts, texts_parts, weight_by}
+use Rattle.hh_records.specs.Layouts.{OpenRefused, Places, RowsRefused, added, adding_next, adds, gathered, headed_parts, item_by, items_after, joined, names_columns, parts_at, places_in, text_parts, texts_parts, weight_by}
 use Rattle.hh_pieces.specs.Chunks.{Follows}
 use Rattle.hh_pieces.specs.Pieces.{InPieces, IsCut, IsInPieces, PieceRefused, all_pieces, first_piece, piece_parts, piece_reading, text_of, with_columns}
 use Rattle.hh_records.specs.Layouts.{columns_of, first_of, rows_in}
@@ -179,7 +180,7 @@ module _ (layout : Layout) (columns : Option Places) where
   pub rows-refused : (bytes : Option (List ℕ)) (t : ℕ) (left : Option (List Parts)) (error : ReadError)
       → IfSome (option_map (piece_parts layout columns) bytes)
       (λ known. (ps : List Parts) × (left ≡ Some ps) × (known ≡ Some ps))
-      → RowsRefused layout 0 t left error → IfSome bytes (λ bytes. PieceRefused layout columns bytes t (text_fault error))
+      → RowsRefused layout 0 t left error → IfSome bytes (λ bytes. PieceRefused layout columns bytes t (text_error error))
   rows-refused None t left error h refused = tt
   rows-refused (Some bytes) t left read.ReadFault h refused = tt
   rows-refused (Some bytes) t left (read.BadRecord n c) (ps, is, e) refused =

@@ -11,8 +11,8 @@ use Rattle.hh_records.specs.Streams.{Reading}
 use Rattle.hh_records.specs.Taking.{TakesItems}
 use Rattle.hh_records.specs.declared.layout.Layout.{Layout}
 use Rattle.hh_pieces.specs.declared.read_at.FromPlace.{FromPlace}
-use Rattle.hh_records.specs.declared.texts.TextError.{TextError}
-use Rattle.hh_records.specs.declared.texts.TextError.TheVariants as text
+use Rattle.hh_faults.specs.declared.records.TextError.{TextError}
+use Rattle.hh_faults.specs.declared.records.TextError.TheVariants as text
 use Rattle.hh_pieces.proofs.KeptFacts.{KnownSoFar, known-first, known-more}
 
 -- the bytes that what reads a source up to a place has left

@@ -10,8 +10,8 @@ use Rattle.hh_pieces.specs.declared.cut_texts.PieceFault.{PieceFault}
 use Rattle.hh_pieces.specs.declared.cut_texts.PieceFault.TheVariants as fault
 use Rattle.hh_pieces.specs.declared.cut_texts.TextPiece.{TextPiece}
 use Rattle.hh_records.specs.declared.layout.Layout.{Layout}
-use Rattle.hh_records.specs.declared.texts.TextError.{TextError}
-use Rattle.hh_records.specs.declared.texts.TextError.TheVariants as text
+use Rattle.hh_faults.specs.declared.records.TextError.{TextError}
+use Rattle.hh_faults.specs.declared.records.TextError.TheVariants as text
 
 -- a piece's bytes, and the columns that it is read by
 abbrev pub Piece : Type 0

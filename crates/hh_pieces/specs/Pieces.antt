@@ -11,8 +11,8 @@ use Rattle.hh_stream.specs.Cuttings.{whole_of}
 use Rattle.hh_records.specs.Layouts.{Places, columns_of, delimited, items_after, names_columns, parts_at, rows_in, text_parts}
 use Rattle.hh_records.specs.Streams.{Parts, Reading}
 use Rattle.hh_records.specs.declared.layout.Layout.{Layout}
-use Rattle.hh_records.specs.declared.texts.TextError.{TextError}
-use Rattle.hh_records.specs.declared.texts.TextError.TheVariants as text
+use Rattle.hh_faults.specs.declared.records.TextError.{TextError}
+use Rattle.hh_faults.specs.declared.records.TextError.TheVariants as text
 
 -- ---- where a text may be cut
 -- the state of csv's machine behind these bytes

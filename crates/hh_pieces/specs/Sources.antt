@@ -5,8 +5,8 @@ use Rattle.hh_records.specs.Streams.{Known}
 use Rattle.hh_pieces.specs.declared.sources.FileOrPipe.{FileOrPipe}
 use Rattle.hh_pieces.specs.declared.sources.FileOrPipe.TheVariants as input
 use Rattle.hh_pieces.specs.declared.sources.FileRecords.{FileRecords}
-use Rattle.hh_records.specs.declared.texts.TextError.{TextError}
-use Rattle.hh_records.specs.declared.texts.TextError.TheVariants as text
+use Rattle.hh_faults.specs.declared.records.TextError.{TextError}
+use Rattle.hh_faults.specs.declared.records.TextError.TheVariants as text
 
 -- the bytes of a file, or those that a pipe has left, where they are known
 abbrev pub input_bytes : {F R : Type 0} → (F → Option (List ℕ)) → (R → Option (List ℕ)) → FileOrPipe F R → Option (List ℕ)

@@ -30,8 +30,9 @@ fn copy_columns(alloc: Global, columns: Option<&Columns>) -> Result<Option<Colum
 }
 
 /// Hands on the whole records at the front of what is left of a piece, of which these bytes are
-/// held, and tells how many bytes they are. The first chunk of a text chooses its columns: nothing
-/// is handed on where the layout has a header and the chunk has no record for it.
+/// held, and tells how many bytes they are. The first chunk of a text chooses its columns: there
+/// are none, and no whole records, where the layout has a header and the chunk has no record for
+/// it.
 fn take_chunk<T: TakeItems>(
     alloc: Global,
     layout: &Layout,

@@ -9,7 +9,8 @@ ghost use Rattle.hh_pieces.specs.Lines as spec;
 ghost use Rattle.hh_pieces.specs.Lines.{IsUnquoted, line_fields, split_rows};
 ghost use Rattle.hh_records.specs.Streams.{parts_of};
 
-use hh_records::{BadRecordCause, Layout, ReadError, RecordFault, numbered_fault, take_item};
+use hh_faults::{BadRecordCause, ReadError};
+use hh_records::{Layout, RecordFault, numbered_fault, take_item};
 use hh_stream::TakeItems;
 use memchr::{memchr, memchr2};
 use std::alloc::Global;

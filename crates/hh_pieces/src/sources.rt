@@ -9,7 +9,8 @@ ghost use Rattle.hh_records.specs.Taking.{TakesItems};
 
 use crate::kept::{KeptText, Rest};
 use crate::read_at::{FromPlace, ReadAt, Source, read_between};
-use hh_records::{Layout, ReadRecords, TextError, read_texts};
+use hh_faults::TextError;
+use hh_records::{Layout, ReadRecords, read_texts};
 use hh_stream::TakeItems;
 use std::alloc::Global;
 use std::io::{Read, Take};

@@ -9,8 +9,8 @@ use Rattle.std.proofs.lemmas.Nat.{mul-add-lt}
 use Rattle.std.proofs.lemmas.Option.{slice_get-get_or}
 use Rattle.hh_stream.specs.Weights.{Bytes, Entry, at_key, weight_of, total_of, max_total}
 use Rattle.hh_stream.specs.Cuttings.{whole_of}
-use Rattle.hh_counters.specs.Counters.{SummaryView, sketch_of}
-use Rattle.hh_counters.specs.Report.{weights_at}
+use Rattle.hh_summaries.specs.Counters.{SummaryView, sketch_of}
+use Rattle.hh_summaries.specs.Report.{weights_at}
 use Rattle.hh_countmin.specs.Table.{at_cell, cell_sum, table_of}
 use Rattle.hh_countmin.specs.Laws.{CellsAreCellSums}
 use Rattle.hh_shared.specs.Tally.{cell_total, sum_at, IsDistinctBelow, HasAllBelow}

@@ -3,9 +3,9 @@ use Rattle.std.proofs.Common.{◌≡◌, ℕ, ◌*◌, ◌<◌, List, [], ◌∷
 use Rattle.std.specs.List.{range_with_len}
 use Rattle.std.proofs.lemmas.List.Sums.{sum_by-append}
 use Rattle.hh_stream.specs.Weights.{Bytes, Entry}
-use Rattle.hh_counters.specs.Counters.{SummaryView}
+use Rattle.hh_summaries.specs.Counters.{SummaryView}
 use Rattle.hh_counters.specs.Counting.{Count, count_of}
-use Rattle.hh_counters.specs.Report.{weights_at}
+use Rattle.hh_summaries.specs.Report.{weights_at}
 use Rattle.hh_countmin.specs.Table.{TableView, table_of}
 use Rattle.hh_pool.specs.Settings.{Settings}
 use Rattle.hh_pool.specs.Progress.{AreCounted, HasCounted, HoldsItems, IsCountedOn, IsSummarised}

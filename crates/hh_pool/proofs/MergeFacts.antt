@@ -1,8 +1,8 @@
 -- What a tree's parts need and give where its summaries are merged.
 use Rattle.std.proofs.Common.{◌≡◌, ◌<◌, ◌∙◌, ℕ, List, [], Result, Ok, Err, refl, sym, arith, slice_index_or}
-use Rattle.hh_counters.specs.Counters.{SummaryView}
-use Rattle.hh_counters.specs.declared.summary.MergeFault.{MergeFault}
-use Rattle.hh_counters.specs.declared.summary.MergeFault.TheVariants as fault
+use Rattle.hh_summaries.specs.Counters.{SummaryView}
+use Rattle.hh_summaries.specs.declared.summary.MergeFault.{MergeFault}
+use Rattle.hh_summaries.specs.declared.summary.MergeFault.TheVariants as fault
 use Rattle.hh_shared.specs.Tally.{times, IsDistinctBelow}
 use Rattle.hh_shared.proofs.Tallies.{times-append, times-here}
 use Rattle.hh_pool.specs.Trees.{Refuses, merge_both, no_sketch, tree_result}

@@ -6,9 +6,9 @@ use Rattle.std.proofs.lemmas.List.Sums.{sum_by-append, sum_by-cons}
 use Rattle.std.proofs.lemmas.Bool.Decides.{nat_tests}
 use Rattle.hh_stream.specs.Weights.{Bytes, Entry, weight_of, total_of, max_total}
 use Rattle.hh_stream.specs.Cuttings.{whole_of}
-use Rattle.hh_counters.specs.Counters.{SummaryView, sketch_of, merge_of, misra_gries, IsHonest}
-use Rattle.hh_counters.specs.declared.summary.MergeFault.{MergeFault}
-use Rattle.hh_counters.specs.Report.{contenders, keys_above}
+use Rattle.hh_summaries.specs.Counters.{SummaryView, sketch_of, merge_of, misra_gries, IsHonest}
+use Rattle.hh_summaries.specs.declared.summary.MergeFault.{MergeFault}
+use Rattle.hh_summaries.specs.Report.{contenders, keys_above}
 use Rattle.hh_counters.specs.Laws.{MisraGriesIsHonest, JoinOfHonestIsHonest, ContendersSuffice, PrunedSuffice}
 use Rattle.hh_shared.specs.Tally.{times}
 use Rattle.hh_pool.specs.Trees.{merge_both, merge_result, no_sketch, tree_result, tree_value}

@@ -4,7 +4,7 @@ use Rattle.std.proofs.lemmas.List.{append-nil}
 use Rattle.std.proofs.lemmas.List.Sums.{sum_by-append}
 use Rattle.hh_stream.specs.Weights.{Bytes, Entry, total_of}
 use Rattle.hh_counters.specs.Counting.{Count, count_with}
-use Rattle.hh_counters.specs.Report.{weights_at}
+use Rattle.hh_summaries.specs.Report.{weights_at}
 use Rattle.hh_counters.specs.SpaceSaving.{monitor_with}
 use Rattle.hh_countmin.specs.Table.{grid_with}
 use Rattle.hh_pool.specs.Progress.{AreCounted, sketches_with}

@@ -4,7 +4,7 @@ use Rattle.std.proofs.lemmas.List.{get_or-map}
 use Rattle.std.proofs.lemmas.List.Sums.{sum_by-append}
 use Rattle.hh_stream.specs.Weights.{Entry, total_of}
 use Rattle.hh_stream.specs.Cuttings.{whole_of}
-use Rattle.hh_counters.specs.Counters.{Counters, IsHonest, misra_gries}
+use Rattle.hh_summaries.specs.Counters.{Counters, IsHonest, misra_gries}
 use Rattle.hh_counters.specs.Laws.{MisraGriesIsHonest, JoinOfHonestIsHonest, HonestInAnyOrder, CondensedPartsReport}
 use Rattle.hh_shared.specs.Tally.{times}
 use Rattle.hh_pool.specs.Trees.{items_of, tree_value}

@@ -13,8 +13,8 @@ use Rattle.hh_shared.proofs.Tallies.{times-append, times-elsewhere, added-append
 use Rattle.hh_pool.proofs.PieceFacts.{sum_by-items}
 use Rattle.std.proofs.lemmas.List.Sums.{sum_by-append}
 use Rattle.hh_counters.specs.Counting.{Count, count_of}
-use Rattle.hh_counters.specs.Report.{weights_at, counts_with}
-use Rattle.hh_counters.specs.Counters.{SummaryView, sketch_of}
+use Rattle.hh_summaries.specs.Report.{weights_at, counts_with}
+use Rattle.hh_summaries.specs.Counters.{SummaryView, sketch_of}
 use Rattle.hh_countmin.specs.Table.{TableView, at_cell, cell_at, cell_sum, table_of}
 use Rattle.hh_countmin.specs.Laws.{CellsAreCellSums}
 use Rattle.hh_shared.specs.Tally.{times, cell_total, AreDisjoint, IsDistinctBelow}

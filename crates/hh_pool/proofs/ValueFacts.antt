@@ -6,9 +6,9 @@ use Rattle.std.proofs.Math.ListN.{get_or-map}
 use Rattle.std.proofs.lemmas.List.Elements.{All-from_get_or}
 use Rattle.hh_stream.specs.Cuttings.{whole_of}
 use Rattle.hh_stream.specs.Weights.{Bytes, Entry, at_key, max_total, weight_of}
-use Rattle.hh_counters.specs.Counters.{Counters, IsHonest, SummaryView, merge_of}
+use Rattle.hh_summaries.specs.Counters.{Counters, IsHonest, SummaryView, merge_of}
 use Rattle.hh_counters.specs.Laws.{JoinOfHonestIsHonest}
-use Rattle.hh_counters.specs.declared.summary.MergeFault.{MergeFault}
+use Rattle.hh_summaries.specs.declared.summary.MergeFault.{MergeFault}
 use Rattle.hh_pool.specs.Trees.{MergesHonestly, items_of, merge_both, no_sketch, tree_result, tree_value}
 use Rattle.hh_workers.specs.Trees.{IsMergeTree, MergeTree, Piece, Merge, leaves}
 use Rattle.hh_shared.specs.Tally.{times}

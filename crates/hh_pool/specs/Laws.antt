@@ -3,8 +3,8 @@ use Rattle.std.specs.Prelude.{◌≡◌, ℕ, ◌+◌, ◌*◌, ◌<◌, ◌≤�
 use Rattle.std.specs.List.{flat_map}
 use Rattle.hh_stream.specs.Weights.{Entry, total_of}
 use Rattle.hh_stream.specs.Cuttings.{whole_of}
-use Rattle.hh_counters.specs.Counters.{Counters, IsHonest, SummaryView, misra_gries, sketch_of}
-use Rattle.hh_counters.specs.Report.{has_counter, heavy}
+use Rattle.hh_summaries.specs.Counters.{Counters, IsHonest, SummaryView, misra_gries, sketch_of}
+use Rattle.hh_summaries.specs.Report.{has_counter, heavy}
 use Rattle.hh_counters.specs.Condensed.{condensed}
 use Rattle.hh_pool.specs.Outcomes.{IsMerged}
 use Rattle.hh_workers.specs.PlanTexts.{SpellsTree}

@@ -1,8 +1,8 @@
 -- What an analysis comes to.
 use Rattle.std.specs.Prelude.{◌≡◌, ℕ, List, map, zip}
 use Rattle.hh_stream.specs.Weights.{Bytes, Entry, total_of}
-use Rattle.hh_counters.specs.Counters.{SummaryView, misra_gries, IsHonest}
-use Rattle.hh_counters.specs.Report.{heavy, rows_above, weights_at}
+use Rattle.hh_summaries.specs.Counters.{SummaryView, misra_gries, IsHonest}
+use Rattle.hh_summaries.specs.Report.{heavy, rows_above, weights_at}
 use Rattle.hh_pool.specs.Trees.{tree_value}
 use Rattle.hh_workers.specs.Trees.{MergeTree}
 use Rattle.hh_pool.specs.declared.outcome.PiecesError.{PiecesError}

@@ -4,7 +4,7 @@ use Rattle.std.specs.List.{flat_map}
 use Rattle.std.specs.List.Sorted.{IsStrictlyIncreasing}
 use Rattle.hh_stream.specs.Weights.{Bytes, Entry, max_total, total_of, weight_of}
 use Rattle.hh_stream.specs.Cuttings.{whole_of}
-use Rattle.hh_counters.specs.Counters.{SummaryView, sketch_of}
+use Rattle.hh_summaries.specs.Counters.{SummaryView, sketch_of}
 use Rattle.hh_countmin.specs.Table.{cell_sum}
 use Rattle.hh_shared.specs.Tally.{HasAllBelow, IsDistinctBelow, times, cell_total}
 use Rattle.hh_shared.specs.Seats.{Holding}

@@ -1,9 +1,9 @@
 -- How far a pass has come.
 use Rattle.std.specs.Prelude.{◌≡◌, ℕ, ◌<◌, ◌≤◌, List, [], ◌++◌, length}
 use Rattle.hh_stream.specs.Weights.{Bytes, Entry, total_of}
-use Rattle.hh_counters.specs.Counters.{SummaryView, sketch_of}
+use Rattle.hh_summaries.specs.Counters.{SummaryView, sketch_of}
 use Rattle.hh_counters.specs.Counting.{Count}
-use Rattle.hh_counters.specs.Report.{weights_at}
+use Rattle.hh_summaries.specs.Report.{weights_at}
 use Rattle.hh_countmin.specs.Family.{Coefficients}
 use Rattle.hh_countmin.specs.Table.{TableView, grid_with, table_of}
 use Rattle.hh_shared.specs.Tally.{times}

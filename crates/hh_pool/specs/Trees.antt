@@ -1,10 +1,10 @@
 -- What merge trees make of the pieces' summaries.
 use Rattle.std.specs.Prelude.{◌≡◌, ℕ, ◌+◌, ◌<◌, ◌==◌, nat_le, List, [], ◌++◌, length, slice_index_or, Result, Ok, Err, ⊤, if◌then◌else◌}
 use Rattle.hh_stream.specs.Weights.{Entry, max_total}
-use Rattle.hh_counters.specs.Counters.{Counters, IsHonest, SummaryView, join, merge_of}
+use Rattle.hh_summaries.specs.Counters.{Counters, IsHonest, SummaryView, join, merge_of}
 use Rattle.hh_stream.specs.Cuttings.{whole_of}
-use Rattle.hh_counters.specs.declared.summary.MergeFault.{MergeFault}
-use Rattle.hh_counters.specs.declared.summary.MergeFault.TheVariants as fault
+use Rattle.hh_summaries.specs.declared.summary.MergeFault.{MergeFault}
+use Rattle.hh_summaries.specs.declared.summary.MergeFault.TheVariants as fault
 use Rattle.hh_workers.specs.Trees.{MergeTree, Piece, Merge}
 
 -- the counters that a tree makes of those of the pieces

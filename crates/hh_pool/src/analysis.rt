@@ -6,8 +6,8 @@ ghost use Rattle.std.specs.Prelude.{List, length, map, sum, IfOk, IsErr, IsErrOf
 ghost use Rattle.hh_stream.specs.Weights.{Entry, max_total, total_of};
 ghost use Rattle.hh_stream.specs.Cuttings.{max_pieces, pieces_of, whole_of};
 ghost use Rattle.hh_stream.specs.Ranges.{in_range};
-ghost use Rattle.hh_counters.specs.Counters.{max_k, IsHonest, sketch_of};
-ghost use Rattle.hh_counters.specs.Report.{IsShare, weights_at, heavy};
+ghost use Rattle.hh_summaries.specs.Counters.{max_k, IsHonest, sketch_of};
+ghost use Rattle.hh_summaries.specs.Report.{IsShare, weights_at, heavy};
 ghost use Rattle.hh_countmin.specs.Table.{estimate_in, table_of};
 ghost use Rattle.hh_workers.specs.Workers.{max_workers};
 ghost use Rattle.hh_workers.specs.Trees.{IsMergeTree, leaves};

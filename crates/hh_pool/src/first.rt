@@ -5,7 +5,7 @@ ghost use Rattle.std.specs.Prelude.{[], ℕ, List, length, map, max, sum, true, 
 ghost use Rattle.hh_stream.specs.Weights.{max_total, Entry, total_of};
 ghost use Rattle.hh_stream.specs.Cuttings.{pieces_of, whole_of};
 ghost use Rattle.hh_stream.specs.Ranges.{in_range};
-ghost use Rattle.hh_counters.specs.Counters.{max_k, sketch_of};
+ghost use Rattle.hh_summaries.specs.Counters.{max_k, sketch_of};
 ghost use Rattle.hh_counters.specs.SpaceSaving.{monitor_of, translation_of};
 ghost use Rattle.hh_countmin.specs.Family.{Coefficients};
 ghost use Rattle.hh_countmin.specs.Table.{table_of};

@@ -15,9 +15,9 @@ mod tabulate;
 
 pub use analysis::{analyse, analyse_pieces};
 pub use first::first_pass;
-pub use hh_workers::{CutStream, Gate, OpenGate, PieceFault, Pieces, Plan, PlanFault};
+pub use hh_workers::{CutStream, Gate, MAX_WORKERS, OpenGate, PieceFault, Pieces, Plan, PlanFault};
 pub use merging::merge_by;
 pub use one_pass::{count_pieces, tabulate_pieces};
-pub use options::{MAX_WORKERS, Options, OptionsFault};
+pub use options::{Options, OptionsFault};
 pub use outcome::{Outcome, PiecesError, RunError};
 pub use second::second_pass;

@@ -4,8 +4,8 @@ ghost use Rattle.std.specs.Prelude.{◌≡◌, ◌<◌, ◌≤◌, true, length,
 ghost use Rattle.hh_stream.specs.Weights.{max_total, total_of};
 ghost use Rattle.hh_stream.specs.Cuttings.{max_pieces, whole_of};
 ghost use Rattle.hh_stream.specs.Ranges.{in_range};
-ghost use Rattle.hh_counters.specs.Counters.{max_k};
-ghost use Rattle.hh_counters.specs.Report.{weights_at};
+ghost use Rattle.hh_summaries.specs.Counters.{max_k};
+ghost use Rattle.hh_summaries.specs.Report.{weights_at};
 ghost use Rattle.hh_countmin.specs.Family.{max_width};
 ghost use Rattle.hh_countmin.specs.Table.{table_of};
 ghost use Rattle.hh_workers.specs.Workers.{max_workers};

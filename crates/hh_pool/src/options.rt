@@ -2,19 +2,17 @@
 
 ghost use Rattle.std.specs.Prelude.{◌≡◌, ◌+◌, ◌*◌, ◌≤◌, ◌↔◌, IfOk, IsErrOf, true, false};
 ghost use Rattle.hh_stream.specs.Ranges.{in_range};
-ghost use Rattle.hh_counters.specs.Counters.{max_k};
-ghost use Rattle.hh_counters.specs.Report.{is_threshold, IsShare};
+ghost use Rattle.hh_summaries.specs.Counters.{max_k};
+ghost use Rattle.hh_summaries.specs.Report.{is_threshold, IsShare};
 ghost use Rattle.hh_countmin.specs.Family.{max_width, IsFamily};
 ghost use Rattle.hh_workers.specs.Workers.{max_workers};
 
 use hh_counters::{MAX_K, is_threshold};
 use hh_countmin::{Family, MAX_WIDTH};
 use hh_stream::in_range;
+use hh_workers::MAX_WORKERS;
 use std::marker::Model;
 use thiserror::Error;
-
-/// The most workers.
-pub const MAX_WORKERS: u64 = 64;
 
 /// How a stream is analysed: the k of its summaries, the threshold p/q of its report, the number of
 /// workers, and the width and hash family of its table.
@@ -31,9 +29,9 @@ pub struct Options {
 impl Model for Options {
     ghost use Rattle.std.specs.Prelude.{◌≡◌, true};
     ghost use Rattle.hh_stream.specs.Ranges.{in_range};
-    ghost use Rattle.hh_counters.specs.Counters.{max_k};
+    ghost use Rattle.hh_summaries.specs.Counters.{max_k};
     ghost use Rattle.hh_countmin.specs.Family.{max_width};
-    ghost use Rattle.hh_counters.specs.Report.{is_threshold};
+    ghost use Rattle.hh_summaries.specs.Report.{is_threshold};
     ghost use Rattle.hh_pool.specs.Settings.{Settings};
     ghost use Rattle.hh_workers.specs.Workers.{max_workers};
 

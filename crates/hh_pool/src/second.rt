@@ -4,7 +4,7 @@ ghost use Rattle.std.specs.Prelude.{◌≡◌, ◌+◌, ◌<◌, ◌≤◌, ◌+
 ghost use Rattle.std.specs.Prelude.{IfOk, IsErrOf, OnOk};
 ghost use Rattle.hh_stream.specs.Weights.{Entry, max_total, total_of};
 ghost use Rattle.hh_stream.specs.Cuttings.{pieces_of, whole_of};
-ghost use Rattle.hh_counters.specs.Report.{weights_at};
+ghost use Rattle.hh_summaries.specs.Report.{weights_at};
 ghost use Rattle.hh_shared.specs.Seats.{fresh};
 ghost use Rattle.hh_pool.specs.Passes.{AreSecondPasses, IsSecondPass, MayRefuse};
 ghost use Rattle.hh_workers.specs.Pieces.{piece_of};

@@ -14,7 +14,7 @@ use Rattle.csv.specs.declared.parser.State.TheVariants as st
 use Rattle.hh_stream.specs.Weights.{AreItems, Entry, IsKey, max_key_len, max_total, total_of}
 use Rattle.hh_records.specs.Laws.{TextsAreItems}
 use Rattle.hh_records.specs.Streams.{Fields, item_of_fields, item_of_pair, item_of_parts, items_from, reading_next, weight_after, weight_of, weight_or_cause}
-use Rattle.hh_records.specs.declared.records.BadRecordCause.{BadRecordCause}
+use Rattle.hh_faults.specs.declared.records.BadRecordCause.{BadRecordCause}
 
 -- ---- records of bytes
 abbrev IsByte : ℕ → Type 0

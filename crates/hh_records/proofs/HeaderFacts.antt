@@ -23,12 +23,14 @@ module _ {R : Type 0} (remaining : R → Option (List ℕ)) (layout : Layout) (h
   abbrev rows : List ℕ → List Fields
   rows bytes = records (delimited layout.delimiter) bytes
 
+  -- a text without a first record has no columns
   pub columns-none : (o : Option (List ℕ)) → source_of rem a ≡ o → ReadRecord rem a b false f
       → IfSome o (λ bytes. FindsColumns layout (rows bytes) None)
   columns-none None e r = tt
   columns-none (Some y) e r =
       rw (headed, header-missed rem a b f (delimited layout.delimiter) y start.config start.start e r) refl
 
+  -- the columns of the first record are those of the text
   pub columns-some : (at : Places) (o : Option (List ℕ)) → source_of rem a ≡ o → ReadRecord rem a b true f
       → places_in layout f ≡ Some at → IfSome o (λ bytes. FindsColumns layout (rows bytes) (Some at))
   columns-some at None e r places = tt
@@ -46,6 +48,7 @@ left-at-start parts layout cfg s o y start config known = rw (start, config, kno
 
 module _ {R : Type 0} (remaining : R → Option (List ℕ)) (layout : Layout) (plain : layout.has_header ≡ false)
     (f : Fields) (empty : f ≡ []) where
+  -- a reader at the start of such a text has all its records left, by the places that the layout names
   pub opened-plain : (a : Reader (Retrying R)) (start : IsStart layout a) (chosen : Option Chosen) (o : Option (List ℕ))
       → unread remaining a ≡ option_map strip_bom o → places_in layout f ≡ Some (chosen_places chosen)
       → Opens remaining (option_map (text_parts layout) o) (Some (record { rows = a; chosen = chosen }))
@@ -58,11 +61,13 @@ module _ {R : Type 0} (remaining : R → Option (List ℕ)) (layout : Layout) (p
         rw (plain, at) refl,
       )
 
+  -- these places are its columns
   pub columns-plain : (at : Places) (o : Option (List ℕ)) → places_in layout f ≡ Some at
       → IfSome o (λ bytes. FindsColumns layout (rows_in layout bytes) (Some at))
   columns-plain at None places = tt
   columns-plain at (Some bytes) places = rw plain (rw empty at places)
 
+  -- where the layout names a column that can't be, the text has no records
   none-plain : (o : Option (List ℕ)) → places_in layout f ≡ None
       → IfSome (option_map (text_parts layout) o) (λ ps. ps ≡ None)
   none-plain None places = tt
@@ -70,6 +75,7 @@ module _ {R : Type 0} (remaining : R → Option (List ℕ)) (layout : Layout) (p
       let at = rw empty at places in
       rw (plain, at) refl
 
+  -- so a layout that is refused without a header is refused with the text
   pub refused-plain : (x : ChoiceFault) (o : Option (List ℕ)) → ChoiceRefused layout f x
       → OpenRefused (names_columns layout) (option_map (text_parts layout) o) (choice_fault x)
   refused-plain choice.Memory o h = tt

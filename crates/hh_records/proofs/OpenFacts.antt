@@ -4,15 +4,16 @@ use Rattle.std.specs.Prelude.{IfSome, option_map, option_and_then}
 use Rattle.std.proofs.lemmas.List.Sums.{sum_by-append}
 use Rattle.hh_stream.specs.Weights.{Entry, total_of}
 use Rattle.hh_records.specs.declared.layout.Layout.{Layout}
-use Rattle.hh_records.specs.declared.records.BadRecordCause.{BadRecordCause}
-use Rattle.hh_records.specs.declared.records.ReadError.{ReadError}
-use Rattle.hh_records.specs.declared.records.ReadError.TheVariants as read
+use Rattle.hh_faults.specs.declared.records.BadRecordCause.{BadRecordCause}
+use Rattle.hh_faults.specs.declared.records.ReadError.{ReadError}
+use Rattle.hh_faults.specs.declared.records.ReadError.TheVariants as read
 use Rattle.hh_records.specs.declared.texts.Records.{Records}
 use Rattle.hh_records.specs.declared.texts.Text.{Text}
-use Rattle.hh_records.specs.declared.texts.TextError.{TextError}
-use Rattle.hh_records.specs.declared.texts.TextError.TheVariants as text
+use Rattle.hh_faults.specs.Faults.{text_error}
+use Rattle.hh_faults.specs.declared.records.TextError.{TextError}
+use Rattle.hh_faults.specs.declared.records.TextError.TheVariants as text
 use Rattle.hh_records.specs.Laws.{PlainLayoutsReadStreams}
-use Rattle.hh_records.specs.Layouts.{AllOpen, IsPlain, OpenRefused, Opens, OpensAs, RowsRefused, TextsRefused, adding_next, adds, all_left, every, gathered, items_after, joined, names_columns, parts_left, records_known, stream_with, text_fault, text_parts, texts_parts}
+use Rattle.hh_records.specs.Layouts.{AllOpen, IsPlain, OpenRefused, Opens, OpensAs, RowsRefused, TextsRefused, adding_next, adds, all_left, every, gathered, items_after, joined, names_columns, parts_left, records_known, stream_with, text_parts, texts_parts}
 use Rattle.hh_records.specs.Streams.{Parts, Reading, stream_of, text_known}
 use Rattle.hh_records.proofs.ReadFacts.{items-more, joined-none, joined-twice}
 
@@ -338,7 +339,7 @@ module _ {R : Type 0} (remaining : R → Option (List ℕ)) (layout : Layout) (r
       → TextsRefused (record {
         names_columns = names;
         reading = option_map (stream_with layout) (every remaining readers);
-      }) (text_fault x)
+      }) (text_error x)
   records-refused names read.ReadFault h = tt
   records-refused names read.Memory h = tt
   records-refused names (read.BadRecord n c) h = reads-as (Err (n, c)) h

@@ -18,8 +18,8 @@ use Rattle.csv.specs.declared.reader.Reader.{Reader}
 use Rattle.csv.proofs.ReadFacts.{rows-end, rows-more}
 use Rattle.hh_stream.specs.Weights.{Entry, total_of}
 use Rattle.hh_records.proofs.DecimalFacts.{units-whole}
-use Rattle.hh_records.specs.declared.records.BadRecordCause.{BadRecordCause}
-use Rattle.hh_records.specs.declared.records.BadRecordCause.TheVariants as cause
+use Rattle.hh_faults.specs.declared.records.BadRecordCause.{BadRecordCause}
+use Rattle.hh_faults.specs.declared.records.BadRecordCause.TheVariants as cause
 use Rattle.hh_records.specs.declared.records.RecordFault.{RecordFault}
 use Rattle.hh_records.specs.declared.records.RecordFault.TheVariants as fault
 use Rattle.hh_records.specs.Layouts.{ChoiceRefused, IsPlain, IsStart, OpenRefused, Opens, PartsRefused, RowsRefused, added, adding_next, adds, between, choice_fault, chosen_places, delimited, gathered, headed_parts, items_after, joined, names_columns, parts_at, places_in, texts_parts}

@@ -22,17 +22,17 @@ use Rattle.hh_records.specs.declared.layout.Chosen.{Chosen}
 use Rattle.hh_records.specs.declared.layout.Column.{Column}
 use Rattle.hh_records.specs.declared.layout.Column.TheVariants as column
 use Rattle.hh_records.specs.declared.layout.Layout.{Layout}
-use Rattle.hh_records.specs.declared.records.BadRecordCause.{BadRecordCause}
-use Rattle.hh_records.specs.declared.records.BadRecordCause.TheVariants as cause
-use Rattle.hh_records.specs.declared.records.ReadError.{ReadError}
-use Rattle.hh_records.specs.declared.records.ReadError.TheVariants as read
+use Rattle.hh_faults.specs.declared.records.BadRecordCause.{BadRecordCause}
+use Rattle.hh_faults.specs.declared.records.BadRecordCause.TheVariants as cause
+use Rattle.hh_faults.specs.declared.records.ReadError.{ReadError}
+use Rattle.hh_faults.specs.declared.records.ReadError.TheVariants as read
 use Rattle.hh_records.specs.declared.records.RecordFault.{RecordFault}
 use Rattle.hh_records.specs.declared.records.RecordFault.TheVariants as fault
 use Rattle.hh_records.specs.declared.retrying.Retrying.{Retrying}
 use Rattle.hh_records.specs.declared.texts.Records.{Records}
 use Rattle.hh_records.specs.declared.texts.Text.{Text}
-use Rattle.hh_records.specs.declared.texts.TextError.{TextError}
-use Rattle.hh_records.specs.declared.texts.TextError.TheVariants as text
+use Rattle.hh_faults.specs.declared.records.TextError.{TextError}
+use Rattle.hh_faults.specs.declared.records.TextError.TheVariants as text
 
 -- where the fields of the key and that of the weight stand, from 0 on; nothing says that a record is
 -- a key and, behind it, its weight
@@ -265,12 +265,7 @@ abbrev pub text_left : {R : Type 0} → (R → Option (List ℕ)) → Option (Te
 text_left remaining None = Some []
 text_left remaining (Some text) = parts_left remaining text
 
--- the error that a fault of reading, or of choosing columns, is
-abbrev pub text_fault : ReadError → TextError
-text_fault read.ReadFault = text.ReadFault
-text_fault (read.BadRecord n c) = text.BadRecord n c
-text_fault read.Memory = text.Memory
-
+-- the error that a fault of choosing columns is
 abbrev pub choice_fault : ChoiceFault → TextError
 choice_fault choice.NoColumn = text.NoColumn
 choice_fault choice.Memory = text.Memory

@@ -1,5 +1,7 @@
 pub mod Decimals
 pub mod Laws
+pub mod LayoutWords
 pub mod Layouts
+pub mod Refusals
 pub mod Streams
 pub mod Taking

@@ -5,10 +5,10 @@ use Rattle.csv.specs.declared.error.ErrorKind.{ErrorKind}
 use Rattle.csv.specs.declared.error.ErrorKind.TheVariants as kind
 use Rattle.hh_stream.specs.Digits.{is_number, value_of}
 use Rattle.hh_stream.specs.Weights.{Bytes, Entry, total_of, max_total, max_key_len}
-use Rattle.hh_records.specs.declared.records.BadRecordCause.{BadRecordCause}
-use Rattle.hh_records.specs.declared.records.BadRecordCause.TheVariants as cause
-use Rattle.hh_records.specs.declared.records.ReadError.{ReadError}
-use Rattle.hh_records.specs.declared.records.ReadError.TheVariants as read
+use Rattle.hh_faults.specs.declared.records.BadRecordCause.{BadRecordCause}
+use Rattle.hh_faults.specs.declared.records.BadRecordCause.TheVariants as cause
+use Rattle.hh_faults.specs.declared.records.ReadError.{ReadError}
+use Rattle.hh_faults.specs.declared.records.ReadError.TheVariants as read
 use Rattle.hh_records.specs.declared.records.RecordFault.{RecordFault}
 use Rattle.hh_records.specs.declared.records.RecordFault.TheVariants as fault
 

@@ -7,15 +7,17 @@
 mod decimals;
 pub mod laws;
 mod layout;
+mod layout_words;
 mod records;
 pub mod retrying;
 mod texts;
 
 pub use decimals::pointed;
+pub use hh_faults::{BadRecordCause, ReadError, TextError};
 pub use hh_stream::TakeItems;
 pub use layout::{Chosen, Column, Layout, column_of, delimiter_of};
+pub use layout_words::{LayoutWords, layout_of};
 pub use records::{
-    BadRecordCause, ReadError, RecordFault, number_in, numbered_fault, read_items, read_rows,
-    read_stream, take_item,
+    RecordFault, number_in, numbered_fault, read_items, read_rows, read_stream, take_item,
 };
-pub use texts::{ReadRecords, Records, Text, TextError, open, read_records, read_texts};
+pub use texts::{ReadRecords, Records, Text, open, read_records, read_texts};

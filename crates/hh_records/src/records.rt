@@ -13,50 +13,12 @@ ghost use Rattle.hh_records.specs.Taking.{TakesItems};
 use crate::decimals::{scaled, units_in};
 use crate::layout::{Chosen, Layout};
 use crate::retrying::Retrying;
-use crate::texts::{Records, Text, TextError, read_records};
+use crate::texts::{Records, Text, read_records};
 use csv::{ByteRecord, ErrorKind, Reader, WriterBuilder};
+use hh_faults::{BadRecordCause, ReadError, TextError};
 use hh_stream::{MAX_KEY_LEN, MAX_TOTAL, Stream, TakeItems};
 use std::alloc::{AllocError, Global};
 use std::io::Read;
-use thiserror::Error;
-
-/// Why a record is refused, in the order of the tests.
-#[derive(Clone, Copy, Debug, PartialEq, Eq, Error)]
-pub enum BadRecordCause {
-    /// There are not one or two fields.
-    #[error("wrong number of fields")]
-    FieldCount,
-    /// The first field is empty.
-    #[error("empty key")]
-    EmptyKey,
-    /// The first field has more than 4,096 bytes.
-    #[error("key too long")]
-    KeyTooLong,
-    /// The second field is not 1 to 20 ASCII digits or, where a layout has decimals, no such number
-    /// with a point.
-    #[error("bad weight")]
-    BadWeight,
-    /// The weight is 0.
-    #[error("zero weight")]
-    ZeroWeight,
-    /// The total with this weight is above 2^63 - 1.
-    #[error("total too large")]
-    TotalTooLarge,
-}
-
-/// Why a text was not read as a stream.
-#[derive(Clone, Copy, Debug, PartialEq, Eq, Error)]
-pub enum ReadError {
-    /// The reader failed.
-    #[error("input could not be read")]
-    ReadFault,
-    /// The record with this number, from 1 on, failed a test.
-    #[error("record {number}: {cause}")]
-    BadRecord { number: u64, cause: BadRecordCause },
-    /// The allocator had no memory.
-    #[error("out of memory")]
-    Memory,
-}
 
 /// Why a record was not taken.
 #[derive(Clone, Copy)]
@@ -292,8 +254,8 @@ pub(crate) fn fault_of(fault: &ErrorKind) -> ReadError
     }
 }
 
-/// Hands on what each record that a reader has left adds, by the places of its key and weight, where
-/// so many records came before, and counts them.
+/// Hands on what each record that a reader has left adds, by the places of its key and weight,
+/// where so many records came before, and counts them.
 fn take_rows<R: Read, T: TakeItems>(
     alloc: Global,
     rows: &mut Reader<Retrying<R>>,

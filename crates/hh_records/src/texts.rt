@@ -6,7 +6,7 @@ ghost use Rattle.hh_stream.specs.Weights.{max_total};
 ghost use Rattle.hh_records.specs.Layouts.{AllOpen, IsStart, IsText, OpenRefused, Opens, OpensAs};
 ghost use Rattle.hh_records.specs.Layouts.{RowsRefused, TakesAdded, TextsRefused, all_left};
 ghost use Rattle.hh_records.specs.Layouts.{choice_fault, chosen_places, delimited, every, headed_parts, items_after};
-ghost use Rattle.hh_records.specs.Layouts.{names_columns, records_known, text_fault, texts_known};
+ghost use Rattle.hh_records.specs.Layouts.{names_columns, records_known, texts_known};
 ghost use Rattle.hh_records.specs.Layouts.{text_parts, texts_parts, unread};
 ghost use Rattle.hh_records.specs.Layouts.{FindsColumns, rows_in};
 ghost use Rattle.hh_records.specs.Streams.{Known, text_known};
@@ -14,42 +14,13 @@ ghost use Rattle.hh_records.specs.Taking.{TakesItems};
 
 use crate::laws::plain_layouts_read_streams;
 use crate::layout::{ChoiceFault, Chosen, Layout, choose};
-use crate::records::{BadRecordCause, ReadError, fault_of, read_rows};
+use crate::records::{fault_of, read_rows};
 use crate::retrying::Retrying;
 use csv::{ByteRecord, Reader, ReaderBuilder};
+use hh_faults::{ReadError, TextError};
 use hh_stream::TakeItems;
 use std::alloc::Global;
 use std::io::Read;
-use thiserror::Error;
-
-/// Why the records of a text were not read by a layout.
-#[derive(Clone, Copy, Debug, PartialEq, Eq, Error)]
-pub enum TextError {
-    /// The reader failed.
-    #[error("input could not be read")]
-    ReadFault,
-    /// The layout names a column that the header hasn't.
-    #[error("no such column")]
-    NoColumn,
-    /// The record with this number, from 1 on, failed a test.
-    #[error("record {number}: {cause}")]
-    BadRecord { number: u64, cause: BadRecordCause },
-    /// The allocator had no memory.
-    #[error("out of memory")]
-    Memory,
-}
-
-impl From<ReadError> for TextError {
-    ghost from_gives = { λ error fault. fault ≡ text_fault error };
-
-    fn from(error: ReadError) -> TextError {
-        match error {
-            ReadError::ReadFault => TextError::ReadFault,
-            ReadError::BadRecord { number, cause } => TextError::BadRecord { number, cause },
-            ReadError::Memory => TextError::Memory,
-        }
-    }
-}
 
 impl From<ChoiceFault> for TextError {
     ghost from_gives = { λ fault error. error ≡ choice_fault fault };

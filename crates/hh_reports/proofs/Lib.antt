@@ -1,10 +1,3 @@
-pub mod ConfirmFacts
-pub mod FilePassFacts
-pub mod FilePieceFacts
 pub mod KeptFacts
 pub mod PieceFacts
 pub mod ReportFacts
-pub mod ShareFacts
-pub mod SourceReportFacts
-pub mod TableFacts
-pub mod WeighFacts

@@ -6,9 +6,9 @@ use Rattle.hh_rows.specs.Printed.{plain_rows}
 use Rattle.hh_records.specs.Streams.{Known}
 use Rattle.hh_rows.specs.declared.printed.RowOptions.{RowOptions}
 use Rattle.hh_reports.specs.Report.{AreOptions, AreWritten, IsPrinted, IsReported, KeysNotWritten, PrintRefused, ReportRefused, WriteRefused}
-use Rattle.hh_commands.specs.declared.report_options.ReportOptions.{ReportOptions}
-use Rattle.hh_commands.specs.declared.error.ToolError.{ToolError}
-use Rattle.hh_commands.specs.declared.error.ToolError.TheVariants as tool
+use Rattle.hh_rows.specs.declared.report_options.ReportOptions.{ReportOptions}
+use Rattle.hh_faults.specs.declared.error.ToolError.{ToolError}
+use Rattle.hh_faults.specs.declared.error.ToolError.TheVariants as tool
 
 fault_same : (A : Type 0) {E : Type 0} (e f : E) → ◌≡◌ {A = Result A E} (Err e) (Err f) → e ≡ f
 fault_same A e f h = cc

@@ -1,4 +1,1 @@
-pub mod FilePasses
 pub mod Report
-pub mod ReportFiles
-pub mod TableFiles

@@ -3,8 +3,8 @@ use Rattle.std.specs.Prelude.{◌≡◌, ◌≤◌, ◌-◌, not, ℕ, List, [],
 use Rattle.std.specs.Io.KnownBytes.{Appends, Keeps}
 use Rattle.hh_stream.specs.Cuttings.{max_pieces, whole_of}
 use Rattle.hh_stream.specs.Weights.{Entry, max_total, total_of}
-use Rattle.hh_counters.specs.Report.{IsShare, heavy}
-use Rattle.hh_counters.specs.Counters.{max_k}
+use Rattle.hh_summaries.specs.Report.{IsShare, heavy}
+use Rattle.hh_summaries.specs.Counters.{max_k}
 use Rattle.hh_countmin.specs.Family.{drawn_family, max_depth, max_width}
 use Rattle.hh_workers.specs.PlanTexts.{PlanRefused, SpellsTree}
 use Rattle.hh_pool.specs.Settings.{Settings}
@@ -19,15 +19,15 @@ use Rattle.hh_rows.specs.Sinks.{TakesFirst}
 use Rattle.hh_records.specs.Streams.{Known, ReadsAs}
 use Rattle.hh_rows.specs.Thresholds.{threshold_of}
 use Rattle.hh_rows.specs.declared.printed.RowOptions.{RowOptions}
-use Rattle.hh_commands.specs.Records.{RecordsRefused}
-use Rattle.hh_commands.specs.declared.error.ToolError.{ToolError}
-use Rattle.hh_commands.specs.declared.error.ToolError.TheVariants as tool
-use Rattle.hh_commands.specs.declared.error.TreeFault.{TreeFault}
-use Rattle.hh_commands.specs.declared.error.TreeFault.TheVariants as bad
-use Rattle.hh_reports.specs.declared.commands.report.Prepared.{Prepared}
-use Rattle.hh_commands.specs.declared.report_options.ReportOptions.{ReportOptions}
-use Rattle.hh_commands.specs.declared.report_options.Tree.{Tree}
-use Rattle.hh_commands.specs.declared.report_options.Tree.TheVariants as tree
+use Rattle.hh_records.specs.Refusals.{RecordsRefused}
+use Rattle.hh_faults.specs.declared.error.ToolError.{ToolError}
+use Rattle.hh_faults.specs.declared.error.ToolError.TheVariants as tool
+use Rattle.hh_faults.specs.declared.error.TreeFault.{TreeFault}
+use Rattle.hh_faults.specs.declared.error.TreeFault.TheVariants as bad
+use Rattle.hh_reports.specs.declared.report.Prepared.{Prepared}
+use Rattle.hh_rows.specs.declared.report_options.ReportOptions.{ReportOptions}
+use Rattle.hh_rows.specs.declared.report_options.Tree.{Tree}
+use Rattle.hh_rows.specs.declared.report_options.Tree.TheVariants as tree
 
 -- whether a command failed by its sink
 abbrev pub failed_by : {T : Type 0} → Result T ToolError → Bool

@@ -17,7 +17,7 @@ use Rattle.csv.proofs.RoundTrip.{after-quote-same, quoted-run, read-write-many, 
 use Rattle.hh_stream.specs.Weights.{AreItems, Bytes, Entry, IsKey, max_key_len, max_total, total_of}
 use Rattle.hh_stream.specs.Cuttings.{whole_of}
 use Rattle.hh_counters.specs.Condensed.{condensed}
-use Rattle.hh_counters.specs.Counters.{Counters, max_k}
+use Rattle.hh_summaries.specs.Counters.{Counters, max_k}
 use Rattle.hh_counters.specs.Laws.{CondensedAreItems, CondensedKeepsWeights}
 use Rattle.hh_rows.specs.Laws.{CondensedFilesAreRead}
 use Rattle.hh_rows.specs.Rows.{begins_with_mark, condensed_text, first_row_by, quoted_row_by, row_of, rows_of}

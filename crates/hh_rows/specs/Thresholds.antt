@@ -2,7 +2,7 @@
 use Rattle.std.specs.Prelude.{◌+◌, ◌==◌, ℕ, Bool, List, take, drop, Option, Some, None, if◌then◌else◌}
 use Rattle.std.specs.List.{position_from}
 use Rattle.hh_stream.specs.Digits.{is_number, value_of}
-use Rattle.hh_counters.specs.Report.{is_threshold}
+use Rattle.hh_summaries.specs.Report.{is_threshold}
 use Rattle.hh_rows.specs.declared.threshold.Share.{Share}
 use Rattle.hh_rows.specs.declared.threshold.Share.TheVariants as share
 

@@ -8,9 +8,10 @@ ghost use Rattle.hh_rows.specs.Printed.{plain_rows, printed_row, printed_rows, t
 ghost use Rattle.hh_rows.specs.Rows.{IsBetweenRows, is_write_fault};
 
 use crate::rows::{ReportFault, put_fields, text_of, write_row};
-use crate::sink::{Sink, WriteFault, put};
+use crate::sink::{Sink, put};
 use csv::{Writer, WriterBuilder};
 use hh_counters::Heavy;
+use hh_faults::WriteFault;
 use hh_records::pointed;
 use std::alloc::{AllocError, Global};
 

@@ -7,9 +7,10 @@ ghost use Rattle.hh_rows.specs.Rows.{IsBetweenRows, RowsRefused, condensed_by, c
 ghost use Rattle.hh_rows.specs.Rows.{first_row_by, is_write_fault, quoted_row_by, row_by, rows_by};
 ghost use Rattle.hh_rows.specs.Rows.{rows_of};
 
-use crate::sink::{Sink, WriteFault, put};
+use crate::sink::{Sink, put};
 use csv::{QuoteStyle, Writer, WriterBuilder};
 use hh_counters::Heavy;
+use hh_faults::WriteFault;
 use hh_records::pointed;
 use hh_stream::Key;
 use std::alloc::{AllocError, Global};

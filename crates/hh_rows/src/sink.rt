@@ -4,6 +4,7 @@ ghost use Rattle.std.specs.Prelude.{◌≡◌, ◌≤◌, ◌||◌, ◌&&◌, �
 ghost use Rattle.std.specs.Io.KnownBytes.{Appends, Keeps, WriteAppends};
 ghost use Rattle.hh_rows.specs.Sinks.{take_fails, took_nothing, TakesFirst};
 
+use hh_faults::WriteFault;
 use hh_records::retrying;
 use std::io::Write;
 use thiserror::Error;
@@ -105,13 +106,6 @@ impl<W: Write> Sink for Out<W> {
     fn failed(&self) -> bool {
         self.failed
     }
-}
-
-/// A write that stopped: the sink took exactly this many bytes.
-#[derive(Clone, Copy, Debug, PartialEq, Eq, Error)]
-#[error("output could not be written")]
-pub struct WriteFault {
-    pub written: u64,
 }
 
 /// Writes all the bytes, and then flushes.

@@ -2,7 +2,7 @@
 
 ghost use Rattle.std.specs.Prelude.{◌≡◌, ◌<◌, true, length, IfSome};
 ghost use Rattle.std.specs.List.{position_from};
-ghost use Rattle.hh_counters.specs.Counters.{max_k};
+ghost use Rattle.hh_summaries.specs.Counters.{max_k};
 ghost use Rattle.hh_stream.specs.Ranges.{in_range};
 ghost use Rattle.hh_rows.specs.Thresholds.{is_slash, number_of, numbers_of, threshold_of};
 

@@ -11,10 +11,10 @@ use Rattle.std.proofs.lemmas.List.Concat.{flat_map-cons}
 use Rattle.std.proofs.lemmas.List.Sums.{sum_by-cons}
 use Rattle.hh_stream.specs.Weights.{Bytes, Entry, key_cmp, max_key_len, total_of}
 use Rattle.hh_stream.specs.Ranges.{in_range}
-use Rattle.hh_counters.specs.Counters.{SummaryView, Fits}
+use Rattle.hh_summaries.specs.Counters.{SummaryView, Fits}
 use Rattle.hh_saved.specs.declared.format.Version.{Version}
 use Rattle.hh_saved.specs.declared.format.Version.TheVariants.{One, Two}
-use Rattle.hh_saved.specs.declared.fault.SavedFault.TheVariants as faults
+use Rattle.hh_faults.specs.declared.saved.SavedFault.TheVariants as faults
 use Rattle.hh_saved.specs.Spelling.{IsSavedKey, entry_bytes, len_width, max_len, sketch_bytes}
 use Rattle.hh_saved.specs.Reading.{total_at, key_at, entry_at, entries_at, sketch_at}
 use Rattle.hh_saved.proofs.Fields.{IsBytes, bind_ok, passed, ok_is, Takes, Takes-then, Decides-bounds, wide16, wide64, len_limit, wide_len, where_takes, where_again, bytes_take, bytes_again}

@@ -6,8 +6,8 @@ use Rattle.std.proofs.lemmas.Bool.Decides.{same_from_decides, Decides-and, Decid
 use Rattle.std.proofs.lemmas.List.{take_at, drop_at, take-append-drop, length-take, length-drop, length-append}
 use Rattle.std.proofs.lemmas.List.Elements.{recursion_from_All}
 use Rattle.hh_countmin.specs.Family.{Coefficients, modulus, IsRow, AreCoefficients}
-use Rattle.hh_saved.specs.declared.fault.SavedFault.{SavedFault}
-use Rattle.hh_saved.specs.declared.fault.SavedFault.TheVariants as faults
+use Rattle.hh_faults.specs.declared.saved.SavedFault.{SavedFault}
+use Rattle.hh_faults.specs.declared.saved.SavedFault.TheVariants as faults
 use Rattle.hh_saved.specs.Spelling.{pair_bytes}
 use Rattle.hh_saved.specs.Reading.{bytes_at, blocks_in, pair_of, family_in, is_row, has_coefficients, family_at}
 use Rattle.hh_saved.proofs.Fields.{Decides-leb, IsBytes, IsBytes-take, IsBytes-drop, bind_ok, passed, Takes, wide64, bytes_take, bytes_again}

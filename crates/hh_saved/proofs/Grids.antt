@@ -10,7 +10,7 @@ use Rattle.std.proofs.lemmas.Bool.Decides.{nat_tests}
 use Rattle.hh_stream.specs.Ranges.{in_range}
 use Rattle.hh_countmin.specs.Family.{Coefficients, IsFamily, max_depth, max_width}
 use Rattle.hh_countmin.specs.Table.{TableView, FitsTable, row_at as row_cells}
-use Rattle.hh_saved.specs.declared.fault.SavedFault.TheVariants as faults
+use Rattle.hh_faults.specs.declared.saved.SavedFault.TheVariants as faults
 use Rattle.hh_saved.specs.Spelling.{pair_bytes, cells_bytes, grid_bytes}
 use Rattle.hh_saved.specs.Reading.{cells_in, row_at, rows_at, grid_at}
 use Rattle.hh_saved.proofs.Fields.{IsBytes, bind_ok, passed, ok_is, Takes, Takes-then, wide8, wide32, wide64, where_takes, where_again, bytes_take, bytes_again}

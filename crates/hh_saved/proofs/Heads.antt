@@ -3,7 +3,7 @@ use Rattle.std.proofs.Common.{◌≡◌, ℕ, zero, suc, ◌+◌, ◌<◌, ◌�
 use Rattle.std.proofs.lemmas.Bool.{cases_lt}
 use Rattle.hh_stream.specs.Weights.{Entry}
 use Rattle.hh_saved.specs.declared.format.Version.{Version}
-use Rattle.hh_saved.specs.declared.fault.SavedFault.{SavedFault}
+use Rattle.hh_faults.specs.declared.saved.SavedFault.{SavedFault}
 use Rattle.hh_saved.specs.Reading.{◌>>=◌, StopsAt, last_key_of, entry_at, entries_head_at}
 
 -- a fault, as the result of a function

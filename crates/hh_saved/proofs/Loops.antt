@@ -3,8 +3,8 @@ use Rattle.std.proofs.Common.{◌≡◌, ℕ, suc, ◌-◌, ◌+◌, ◌≤◌, 
 use Rattle.std.proofs.lemmas.List.{append-nil, get_or_push, length_push}
 use Rattle.hh_stream.specs.Weights.{Entry}
 use Rattle.hh_saved.specs.declared.format.Version.{Version}
-use Rattle.hh_saved.specs.declared.fault.SavedFault.{SavedFault}
-use Rattle.hh_saved.specs.declared.fault.SavedFault.TheVariants as faults
+use Rattle.hh_faults.specs.declared.saved.SavedFault.{SavedFault}
+use Rattle.hh_faults.specs.declared.saved.SavedFault.TheVariants as faults
 use Rattle.hh_saved.proofs.Fields.{ok_is}
 use Rattle.hh_saved.specs.Reading.{◌>>=◌, Refuses, with_front, last_key_of, entry_at, entries_at, row_at, rows_at}
 

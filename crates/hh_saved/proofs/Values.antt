@@ -10,8 +10,8 @@ use Rattle.hh_saved.specs.declared.format.Version.{Version}
 use Rattle.hh_saved.specs.declared.format.Version.TheVariants.{One, Two}
 use Rattle.hh_saved.specs.declared.saved.Saved.{Saved}
 use Rattle.hh_saved.specs.declared.saved.Saved.TheVariants.{Counters, Cells}
-use Rattle.hh_saved.specs.declared.fault.SavedFault.{SavedFault}
-use Rattle.hh_saved.specs.declared.fault.SavedFault.TheVariants as faults
+use Rattle.hh_faults.specs.declared.saved.SavedFault.{SavedFault}
+use Rattle.hh_faults.specs.declared.saved.SavedFault.TheVariants as faults
 use Rattle.hh_saved.specs.Spelling.{magic_of, kind_of, content_bytes, spelling_of, IsSavedKey, IsSaved, Spells}
 use Rattle.hh_saved.specs.Reading.{◌>>=◌, Gives, sketch_at, grid_at, version_of, version_at, body_at, value_at, saved_of}
 use Rattle.hh_saved.proofs.Fields.{IsBytes, bind_ok, passed, ok_is, Takes, Takes-then, wide8, wide32, number_takes, number_again}

@@ -2,7 +2,7 @@
 use Rattle.std.specs.Prelude.{◌≡◌, ◌≤◌, ℕ, List, [], ◌++◌, length, Ok}
 use Rattle.std.specs.List.{AllByRecursion}
 use Rattle.hh_stream.specs.Weights.{max_key_len}
-use Rattle.hh_counters.specs.Counters.{SummaryView}
+use Rattle.hh_summaries.specs.Counters.{SummaryView}
 use Rattle.hh_countmin.specs.Table.{TableView}
 use Rattle.hh_saved.specs.declared.format.Version.{Version}
 use Rattle.hh_saved.specs.declared.format.Version.TheVariants.{One, Two}

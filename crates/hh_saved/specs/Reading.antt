@@ -6,15 +6,15 @@ use Rattle.std.specs.Int.{Width, w8, w16, w32, w64, byte_len, from_be_bytes}
 use Rattle.std.specs.Ordering.{is_lt}
 use Rattle.hh_stream.specs.Weights.{Bytes, Entry, key_cmp}
 use Rattle.hh_stream.specs.Ranges.{in_range}
-use Rattle.hh_counters.specs.Counters.{SummaryView}
+use Rattle.hh_summaries.specs.Counters.{SummaryView}
 use Rattle.hh_countmin.specs.Family.{Coefficients, max_depth, max_width, modulus}
 use Rattle.hh_countmin.specs.Table.{TableView}
 use Rattle.hh_saved.specs.declared.format.Version.{Version}
 use Rattle.hh_saved.specs.declared.format.Version.TheVariants.{One, Two}
 use Rattle.hh_saved.specs.declared.saved.Saved.{Saved}
 use Rattle.hh_saved.specs.declared.saved.Saved.TheVariants.{Counters, Cells}
-use Rattle.hh_saved.specs.declared.fault.SavedFault.{SavedFault}
-use Rattle.hh_saved.specs.declared.fault.SavedFault.TheVariants as faults
+use Rattle.hh_faults.specs.declared.saved.SavedFault.{SavedFault}
+use Rattle.hh_faults.specs.declared.saved.SavedFault.TheVariants as faults
 use Rattle.hh_saved.specs.Spelling.{magic_of, len_width, max_len}
 
 infixl 10 ◌>>=◌

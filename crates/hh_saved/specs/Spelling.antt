@@ -3,7 +3,7 @@ use Rattle.std.specs.Prelude.{◌≡◌, ℕ, ◌≤◌, List, ◌++◌, length}
 use Rattle.std.specs.List.{flat_map, AllByRecursion}
 use Rattle.std.specs.Int.{Width, w8, w16, w32, w64, to_be_bytes}
 use Rattle.hh_stream.specs.Weights.{Bytes, Entry, IsKey, max_key_len}
-use Rattle.hh_counters.specs.Counters.{SummaryView, Fits}
+use Rattle.hh_summaries.specs.Counters.{SummaryView, Fits}
 use Rattle.hh_countmin.specs.Family.{IsFamily}
 use Rattle.hh_countmin.specs.Table.{TableView, FitsTable}
 use Rattle.hh_saved.specs.declared.format.Version.{Version}

@@ -9,7 +9,7 @@ ghost use Rattle.hh_saved.specs.Spelling.{Spells, len_width};
 
 use crate::format::Version;
 use crate::reading::version_of;
-use hh_counters::Summary;
+use hh_summaries::Summary;
 use std::alloc::{AllocError, Global};
 
 /// How many bytes stand before the first entry: magic, kind, k, total and the number of entries.

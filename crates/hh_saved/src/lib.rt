@@ -5,7 +5,6 @@
 //! are two versions, `HHS1` and `HHS2`: both are read, and the second is written.
 #![tactic(auto)]
 
-mod fault;
 mod format;
 pub mod laws;
 mod layout;
@@ -13,8 +12,8 @@ mod reading;
 mod saved;
 mod writing;
 
-pub use fault::SavedFault;
 pub use format::Version;
+pub use hh_faults::SavedFault;
 pub use layout::{Place, places};
 pub use reading::read;
 pub use saved::Saved;

@@ -10,12 +10,12 @@ ghost use Rattle.hh_saved.specs.declared.saved.Saved.{Saved};
 ghost use Rattle.hh_saved.specs.Spelling.{Spells, len_width};
 ghost use Rattle.hh_saved.specs.Reading.{Gives, Reads, StopsAt, number_at, bytes_at, total_at, with_front, last_key_of, version_at, len_at, key_at, entry_at, entries_at, k_at, count_at, sketch_at, blocks_in, pair_of, family_at, cells_in, row_at, rows_at, grid_at, body_at, value_at, saved_of, entries_head_at, sketch_head_at, grid_head_at, body_head_at, head_at};
 
-use crate::fault::SavedFault;
 use crate::format::{CELLS, COUNTERS, Version};
 use crate::saved::Saved;
-use hh_counters::Summary;
 use hh_countmin::{Family, MAX_DEPTH, MAX_WIDTH, Table, sums_to};
+use hh_faults::SavedFault;
 use hh_stream::{Key, MAX_TOTAL, in_range};
+use hh_summaries::Summary;
 use std::alloc::{AllocError, Global};
 
 /// The summary or table that the bytes spell in some version, all of the bytes. Where they spell

@@ -1,7 +1,7 @@
 //! What a saved file holds.
 
-use hh_counters::Summary;
 use hh_countmin::Table;
+use hh_summaries::Summary;
 
 /// What a saved file holds.
 #[derive(Debug, Drop)]

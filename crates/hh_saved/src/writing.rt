@@ -8,9 +8,9 @@ ghost use Rattle.hh_saved.specs.Spelling.{Spells, IsSaved, IsSavedKey, entry_byt
 
 use crate::format::{CELLS, COUNTERS, Version};
 use crate::saved::Saved;
-use hh_counters::Summary;
 use hh_countmin::{Family, Table};
 use hh_stream::Key;
+use hh_summaries::Summary;
 use std::alloc::{AllocError, Global};
 
 /// The one spelling of the summary or table in version 2, which every value has.

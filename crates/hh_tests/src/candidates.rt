@@ -1,7 +1,7 @@
 //! The candidates a and b of the four records.
 
 ghost use Rattle.std.specs.Prelude.{◌≡◌, length};
-ghost use Rattle.hh_counters.specs.Report.{IsShare};
+ghost use Rattle.hh_summaries.specs.Report.{IsShare};
 
 use crate::fixtures::{FOUR_RECORDS, assert_same, key_of, show_counter, stream_of, summary_of};
 use hh_counters::Candidates;

@@ -15,6 +15,9 @@ use std::sync::Wait;
 use std::thread;
 use std::thread::{Promise, Threads};
 
+/// The most workers.
+pub const MAX_WORKERS: u64 = 64;
+
 /// What a thread of workers promises: a seat of these sums, and what the pass says of it.
 #[derive(Drop)]
 pub struct Promised<P: Pass> {

@@ -3,8 +3,8 @@ use Rattle.hh_saved.specs.Spelling.{Spells}
 use Rattle.hh_saved.specs.declared.format.Version.TheVariants as version
 use Rattle.hh_saved.specs.declared.saved.Saved.{Saved}
 use Rattle.hh_saved.specs.declared.saved.Saved.TheVariants.{Cells, Counters}
-use Rattle.hh_items.specs.Add.{grid_and, sketch_and}
-use Rattle.hh_items.proofs.AddFacts.{added_value, keeps_k, keeps_shape}
+use Rattle.hh_library.specs.Add.{grid_and, sketch_and}
+use Rattle.hh_library.proofs.AddFacts.{added_value, keeps_k, keeps_shape}
 use Rattle.heavy_ffi.specs.Items.{items_of}
 use Rattle.heavy_ffi.proofs.SizeFacts.{came}
 use Rattle.heavy_ffi.proofs.heavy_add.Goals as goal

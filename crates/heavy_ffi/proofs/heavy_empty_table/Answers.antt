@@ -6,7 +6,7 @@ use Rattle.hh_saved.specs.declared.format.Version.TheVariants as version
 use Rattle.hh_saved.specs.declared.saved.Saved.TheVariants.{Cells}
 use Rattle.hh_saved.specs.Sizes.{table_bytes}
 use Rattle.hh_commands.specs.Table.{bad_table}
-use Rattle.hh_items.proofs.AddFacts.{came_of}
+use Rattle.hh_library.proofs.AddFacts.{came_of}
 use Rattle.heavy_ffi.proofs.SizeFacts.{came, depth_passed, passed}
 use Rattle.heavy_ffi.proofs.heavy_empty_table.Goals as goal
 

@@ -3,7 +3,7 @@ use Rattle.hh_saved.specs.Spelling.{Spells}
 use Rattle.hh_saved.specs.declared.format.Version.TheVariants as version
 use Rattle.hh_saved.specs.declared.saved.Saved.{Saved}
 use Rattle.hh_saved.specs.declared.saved.Saved.TheVariants.{Counters}
-use Rattle.hh_commands.specs.declared.error.ToolError.{ToolError}
+use Rattle.hh_faults.specs.declared.error.ToolError.{ToolError}
 use Rattle.heavy_ffi.proofs.OutcomeFacts.{outcome_of}
 use Rattle.heavy_ffi.proofs.SizeFacts.{came}
 use Rattle.heavy_ffi.proofs.heavy_merge.Goals as goal

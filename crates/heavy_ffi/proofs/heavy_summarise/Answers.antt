@@ -1,5 +1,5 @@
 use Rattle.std.proofs.Common.{arith, inr}
-use Rattle.hh_counters.specs.Counters.{sketch_of}
+use Rattle.hh_summaries.specs.Counters.{sketch_of}
 use Rattle.heavy_ffi.proofs.OutcomeFacts.{outcome_of}
 use Rattle.heavy_ffi.proofs.SizeFacts.{came}
 use Rattle.heavy_ffi.proofs.heavy_summarise.Goals as goal

@@ -5,20 +5,20 @@ ghost use Rattle.std.specs.List.{flat_map};
 ghost use Rattle.std.specs.Io.KnownBytes.{Appends};
 ghost use Rattle.csv.specs.Writing.{text_written};
 ghost use Rattle.hh_rows.specs.Rows.{IsBetweenRows};
-ghost use Rattle.hh_commands.specs.Ask.{answer, answer_of, answer_row, answers, answers_in, answers_of};
+ghost use Rattle.hh_commands.specs.Ask.{answer_of, answer_row, answers_in};
 ghost use Rattle.hh_commands.specs.Ask.{asked_value, bad_key, bounds_row, key_fault};
 ghost use Rattle.hh_commands.specs.Files.{Refuses, StopsAtHead, file_of};
 
-use crate::error::{KeyCause, ToolError};
 use crate::files::file_of;
 use csv::{Writer, WriterBuilder};
+use hh_faults::{KeyCause, ToolError};
 use hh_records::pointed;
 use hh_saved::Saved;
 use hh_stream::{Key, MAX_KEY_LEN};
 use std::alloc::{AllocError, Global};
 
 /// Tests the word with this number: a key has 1 to 4,096 bytes.
-fn check_key(number: u64, word: &[u8]) -> Result<(), ToolError>
+pub fn check_key(number: u64, word: &[u8]) -> Result<(), ToolError>
     ensures { MatchResult result
         (λ _. key_fault number word.now ≡ None)
         (λ fault. key_fault number word.now ≡ Some fault) }
@@ -34,7 +34,7 @@ fn check_key(number: u64, word: &[u8]) -> Result<(), ToolError>
 }
 
 /// The value of a file, where the file and then the words, numbered from 1, pass their tests.
-fn asked(alloc: Global, file: &[u8], words: &[Vec<u8>]) -> Result<Saved, ToolError>
+pub fn asked(alloc: Global, file: &[u8], words: &[Vec<u8>]) -> Result<Saved, ToolError>
     ensures value { IfOk result (λ saved. file_of 1 file.now ≡ Ok saved) }
     ensures keys { OnOk result (bad_key 1 (map vec_items words.now) ≡ None) }
     ensures refused { IfErr result (Refuses (asked_value file.now (map vec_items words.now))) }
@@ -48,7 +48,7 @@ fn asked(alloc: Global, file: &[u8], words: &[Vec<u8>]) -> Result<Saved, ToolErr
 }
 
 /// The least and the most that a key's weight can be.
-fn answer_of(saved: &Saved, key: &Key) -> (u64, u64)
+pub fn answer_of(saved: &Saved, key: &Key) -> (u64, u64)
     ensures { result ≡ answer_of saved.now key.now }
 {
     match saved {
@@ -106,21 +106,11 @@ fn answers_text(
 /// What a saved file tells of keys: for each, in order, a row `key,low,high` as `csv` writes it,
 /// ended by a line feed. The key's weight in the stream is at least `low` and at most `high`. Of a
 /// counter summary these are the key's counter, and that and the summary's slack; of a table 0 and
-/// the key's estimate.
+/// the key's estimate. So many last digits of each number are behind a point: these are the
+/// decimals that the file's records were read with, which it doesn't tell.
 ///
 /// The file is tested first ([`ToolError::BadFile`], as file 1), and then the keys in order
 /// ([`ToolError::BadKey`], numbered from 1), before any row is made.
-pub fn ask_bytes(alloc: Global, file: &[u8], keys: &[Vec<u8>]) -> Result<Vec<u8>, ToolError>
-    ensures rows { IfOk result (λ text. answers file.now (map vec_items keys.now) ≡ Ok text.items) }
-    ensures refused { IfErr result (λ fault.
-        Refuses (answers file.now (map vec_items keys.now)) fault) }
-    ensures early { StopsAtHead 1 file.now result }
-{
-    ask_rows(alloc, file, keys, 0)
-}
-
-/// [`ask_bytes`] with so many last digits of each number behind a point. These are the decimals
-/// that the file's records were read with, which it doesn't tell.
 pub fn ask_rows(
     alloc: Global,
     file: &[u8],
@@ -135,49 +125,4 @@ pub fn ask_rows(
 {
     let saved = asked(alloc, file, keys)?;
     Ok(answers_text(alloc, &saved, keys, decimals)?)
-}
-
-/// The two numbers of words that passed their tests.
-fn answers_of(
-    alloc: Global,
-    saved: &Saved,
-    words: &[Vec<u8>],
-) -> Result<Vec<(u64, u64)>, AllocError>
-    requires { bad_key 1 (map vec_items words.now) ≡ None }
-    ensures { IfOk result (λ answers.
-        answers.items ≡ map (λ word. answer_of saved.now word.items) words.now) }
-{
-    let mut answers = Vec::new(alloc);
-    for word in words {
-        let key = Key::of_bytes(alloc, word)?;
-        answers.push(answer_of(saved, &key))?;
-    }
-    Ok(answers)
-}
-
-/// The least and the most that each key's weight in the stream can be, as a saved file tells: the
-/// numbers of the rows of [`ask_bytes`], with the same refusals in the same order.
-pub fn ask_keys(alloc: Global, file: &[u8], keys: &[Vec<u8>]) -> Result<Vec<(u64, u64)>, ToolError>
-    ensures bounds { IfOk result (λ bounds.
-        answers_of file.now (map vec_items keys.now) ≡ Ok bounds.items) }
-    ensures refused { IfErr result (λ fault.
-        Refuses (answers_of file.now (map vec_items keys.now)) fault) }
-    ensures early { StopsAtHead 1 file.now result }
-{
-    let saved = asked(alloc, file, keys)?;
-    Ok(answers_of(alloc, &saved, keys)?)
-}
-
-/// The least and the most that a key's weight in the stream can be, as a saved file tells: the two
-/// numbers of the key's row of [`ask_bytes`], with the same refusals in the same order, where the
-/// key is number 1.
-pub fn ask_key(alloc: Global, file: &[u8], key: &[u8]) -> Result<(u64, u64), ToolError>
-    ensures bounds { IfOk result (λ bounds. answer file.now key.now ≡ Ok bounds) }
-    ensures refused { IfErr result (λ fault. Refuses (answer file.now key.now) fault) }
-    ensures early { StopsAtHead 1 file.now result }
-{
-    let saved = file_of(alloc, 1, file)?;
-    check_key(1, key)?;
-    let key = Key::of_bytes(alloc, key)?;
-    Ok(answer_of(&saved, &key))
 }

@@ -4,20 +4,19 @@ ghost use Rattle.std.specs.Prelude.{◌≡◌, ◌<◌, ◌^◌, List, IfOk, IfE
 ghost use Rattle.std.specs.Map.{keys_of};
 ghost use Rattle.hh_stream.specs.Weights.{Entry, total_of};
 ghost use Rattle.hh_counters.specs.Condensed.{condensed, free_name, other_name};
-ghost use Rattle.hh_counters.specs.Counters.{IsCounters};
+ghost use Rattle.hh_summaries.specs.Counters.{IsCounters};
 ghost use Rattle.hh_records.specs.Layouts.{records_known};
 ghost use Rattle.hh_rows.specs.Rows.{condensed_by};
-ghost use Rattle.hh_records.specs.Streams.{text_known};
 ghost use Rattle.hh_commands.specs.Condense.{CondenseRefused, CondensesRows};
 ghost use Rattle.hh_commands.specs.Files.{StopsAtHead};
 ghost use Rattle.hh_commands.specs.Records.{IsCountOf};
 
 use crate::counting::count_records;
-use crate::error::ToolError;
 use crate::files::summary_in;
 use hh_counters::laws::{condensed_is_counted, free_name_is_first};
 use hh_counters::{Counts, Heavy, Summary};
-use hh_records::Records;
+use hh_faults::ToolError;
+use hh_records::{ReadRecords, Records};
 use hh_rows::condensed_rows_text;
 use hh_stream::Key;
 use itoa::Buffer;
@@ -104,10 +103,27 @@ pub fn condensed_counts(
     condensed_rows_text(alloc, &rows, decimals)
 }
 
-/// Records that say the same to [`confirm_bytes`] with the same file as those of the reader, at
-/// most one more than the summary has keys: each key of the summary that comes, with its weight, by
-/// rising key, and then, where other keys come, one record of what they weigh. Its key is the first
-/// of `others`, `others1`, `others2` and so on that is no key of the summary.
+/// The condensed rows of records by the summary that a file holds, in units of 10^-decimals.
+fn condensed_records<R: ReadRecords>(
+    alloc: Global,
+    file: &[u8],
+    records: R,
+    decimals: u8,
+) -> Result<Vec<u8>, ToolError>
+    ensures rows { IfOk result (λ rows.
+        CondensesRows decimals file.now (R.known records) rows.items) }
+    ensures refused { IfErr result (λ fault. CondenseRefused file.now (R.known records) fault) }
+    ensures early { StopsAtHead 1 file.now result }
+{
+    let summary = summary_in(alloc, file)?;
+    let counts = count_records(alloc, &summary, records)?;
+    Ok(condensed_counts(alloc, &summary, &counts, decimals)?)
+}
+
+/// Records that say the same to [`confirm_rows`](crate::confirm_rows) with the same file as these
+/// do, at most one more than the summary has keys: each key of the summary that comes, with its
+/// weight, by rising key, and then, where other keys come, one record of what they weigh. Its key
+/// is the first of `others`, `others1`, `others2` and so on that is no key of the summary.
 ///
 /// So parts of a stream may be condensed one by one by the summary of the whole, and their
 /// condensed records joined in any order. The rows are as [`report_text`](hh_rows::report_text)
@@ -116,22 +132,9 @@ pub fn condensed_counts(
 ///
 /// The file is tested first ([`ToolError::BadFile`], as file 1, and [`ToolError::NotCounters`]),
 /// and then the records, whose total need not be the summary's.
-pub fn condense_bytes<R: Read + Drop>(
-    alloc: Global,
-    file: &[u8],
-    reader: R,
-) -> Result<Vec<u8>, ToolError>
-    ensures rows { IfOk result (λ rows.
-        CondensesRows 0 file.now (text_known (R.remaining reader)) rows.items) }
-    ensures refused { IfErr result (λ fault.
-        CondenseRefused file.now (text_known (R.remaining reader)) fault) }
-    ensures early { StopsAtHead 1 file.now result }
-{
-    condense_bytes_from(alloc, file, Records::of_reader(alloc, reader))
-}
-
-/// [`condense_bytes`] of records in texts and columns of one's own. The condensed records are a key
-/// and a weight each, whatever these were, with as many digits behind the point as these may have.
+///
+/// The condensed records are a key and a weight each, whatever columns these had, with as many
+/// digits behind the point as these may have.
 pub fn condense_bytes_from<R: Read + Drop>(
     alloc: Global,
     file: &[u8],
@@ -144,8 +147,6 @@ pub fn condense_bytes_from<R: Read + Drop>(
         CondenseRefused file.now (records_known R.remaining records) fault) }
     ensures early { StopsAtHead 1 file.now result }
 {
-    let summary = summary_in(alloc, file)?;
     let decimals = records.layout.decimals;
-    let counts = count_records(alloc, &summary, records)?;
-    Ok(condensed_counts(alloc, &summary, &counts, decimals)?)
+    condensed_records(alloc, file, records, decimals)
 }

@@ -8,9 +8,9 @@ ghost use Rattle.hh_rows.specs.Rows.{IsBetweenRows};
 ghost use Rattle.hh_commands.specs.Describe.{description, description_of, fact_row, version_number};
 ghost use Rattle.hh_commands.specs.Files.{Refuses, StopsAtHead};
 
-use crate::error::ToolError;
 use crate::files::file_of;
 use csv::{Writer, WriterBuilder};
+use hh_faults::ToolError;
 use hh_saved::Saved;
 use itoa::Buffer;
 use std::alloc::{AllocError, Global};

@@ -4,13 +4,13 @@ ghost use Rattle.std.specs.Prelude.{◌≡◌, ◌≤◌, IfOk, IfErr};
 ghost use Rattle.std.specs.List.{flat_map};
 ghost use Rattle.hh_stream.specs.Weights.{total_of};
 ghost use Rattle.hh_commands.specs.Files.{StopsAtHead, SummaryRefused};
-ghost use Rattle.hh_commands.specs.List.{ListsKeys, ListsRows, entry_row};
+ghost use Rattle.hh_commands.specs.List.{ListsRows, entry_row};
 
 use crate::commands::ask::write_bounds;
-use crate::error::ToolError;
 use crate::files::summary_in;
 use csv::WriterBuilder;
 use hh_counters::Summary;
+use hh_faults::ToolError;
 use hh_stream::Key;
 use std::alloc::{AllocError, Global};
 
@@ -41,21 +41,11 @@ fn entries_text(
 }
 
 /// What a saved summary tells of all its keys: for each key with a counter a row `key,low,high`,
-/// with the numbers of [`ask_bytes`](crate::ask_bytes), by falling `low` and then by rising key. A
+/// with the numbers of [`ask_rows`](crate::ask_rows), by falling `low` and then by rising key. A
 /// key that isn't listed weighs at most the summary's slack.
 ///
 /// Other files are refused, as file 1 ([`ToolError::BadFile`]), and then those of another kind
 /// ([`ToolError::NotCounters`]).
-pub fn list_keys(alloc: Global, file: &[u8]) -> Result<Vec<u8>, ToolError>
-    ensures rows { IfOk result (λ rows. ListsKeys file.now rows.items) }
-    ensures refused { IfErr result (λ fault. SummaryRefused file.now fault) }
-    ensures early { StopsAtHead 1 file.now result }
-{
-    list_rows(alloc, file, 0)
-}
-
-/// [`list_keys`] with so many last digits of each number behind a point. These are the decimals
-/// that the file's records were read with, which it doesn't tell.
 pub fn list_rows(alloc: Global, file: &[u8], decimals: u8) -> Result<Vec<u8>, ToolError>
     ensures rows { IfOk result (λ rows. ListsRows decimals file.now rows.items) }
     ensures refused { IfErr result (λ fault. SummaryRefused file.now fault) }

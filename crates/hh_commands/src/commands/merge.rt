@@ -5,15 +5,15 @@ ghost use Rattle.hh_saved.specs.Spelling.{Spells};
 ghost use Rattle.hh_saved.specs.declared.format.Version.TheVariants as version;
 ghost use Rattle.hh_saved.specs.declared.saved.Saved.{Saved};
 ghost use Rattle.hh_saved.specs.declared.saved.Saved.TheVariants.{Counters, Cells};
-ghost use Rattle.hh_commands.specs.declared.error.ToolError.{ToolError};
+ghost use Rattle.hh_faults.specs.declared.error.ToolError.{ToolError};
 ghost use Rattle.hh_commands.specs.Files.{Refuses, StopsAtHead};
 ghost use Rattle.hh_commands.specs.Merge.{merge_saved, merged_files};
 
-use crate::error::{MergeCause, ToolError};
 use crate::files::file_of;
 use hh_counters::Summary;
 use hh_countmin::Table;
 use hh_countmin::laws::equal_families_are_one;
+use hh_faults::{MergeCause, ToolError};
 use hh_saved::{Saved, write};
 use std::alloc::Global;
 

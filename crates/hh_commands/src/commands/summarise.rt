@@ -2,21 +2,19 @@
 
 ghost use Rattle.std.specs.Prelude.{◌≡◌, true, IsErr, IfOk, IfErr, IfSome, Ok, Err};
 ghost use Rattle.hh_stream.specs.Ranges.{in_range};
-ghost use Rattle.hh_counters.specs.Counters.{max_k, sketch_of};
-ghost use Rattle.hh_records.specs.Layouts.{records_known};
-ghost use Rattle.hh_records.specs.Streams.{text_known};
+ghost use Rattle.hh_summaries.specs.Counters.{max_k, sketch_of};
 ghost use Rattle.hh_saved.specs.declared.saved.Saved.TheVariants.{Counters};
-ghost use Rattle.hh_commands.specs.Records.{RecordsRefused, RefusedAfter, SavesStream};
+ghost use Rattle.hh_commands.specs.Records.{SavesStream};
+ghost use Rattle.hh_records.specs.Refusals.{RecordsRefused, RefusedAfter};
 ghost use Rattle.hh_commands.specs.Summarise.{IsSummaryOf, bad_k, word_of};
 
-use crate::error::ToolError;
 use hh_counters::laws::summaries_follow_items;
 use hh_counters::{BucketSaving, MAX_K, Monitor, Summary};
-use hh_records::{ReadRecords, Records, read_records};
+use hh_faults::ToolError;
+use hh_records::ReadRecords;
 use hh_saved::{Saved, write};
 use hh_stream::in_range;
 use std::alloc::Global;
-use std::io::Read;
 
 /// How a stream is summarised. Both ways give the same summary.
 #[derive(Clone, Copy, Debug, PartialEq, Eq)]
@@ -43,16 +41,16 @@ impl Method {
 }
 
 /// The summary of some records, by one method or the other.
-fn summary_of<R: Read + Drop>(
+fn summary_of<R: ReadRecords>(
     alloc: Global,
     k: u64,
     method: Method,
-    records: Records<R>,
+    records: R,
 ) -> Result<Summary, ToolError>
     requires { in_range k max_k ≡ true }
-    ensures summary { IfOk result (IsSummaryOf k (records_known R.remaining records)) }
+    ensures summary { IfOk result (IsSummaryOf k (R.known records)) }
     ensures refused { IfErr result (λ fault.
-        RecordsRefused (records_known R.remaining records) fault) }
+        RecordsRefused (R.known records) fault) }
 {
     match method {
         Method::MisraGries => summary_by_counting(alloc, k, records),
@@ -61,19 +59,19 @@ fn summary_of<R: Read + Drop>(
 }
 
 /// The summary of some records, whose items are added to it one by one.
-fn summary_by_counting<R: Read + Drop>(
+fn summary_by_counting<R: ReadRecords>(
     alloc: Global,
     k: u64,
-    records: Records<R>,
+    records: R,
 ) -> Result<Summary, ToolError>
     requires { in_range k max_k ≡ true }
-    ensures summary { IfOk result (IsSummaryOf k (records_known R.remaining records)) }
+    ensures summary { IfOk result (IsSummaryOf k (R.known records)) }
     ensures refused { IfErr result (λ fault.
-        RecordsRefused (records_known R.remaining records) fault) }
+        RecordsRefused (R.known records) fault) }
 {
     summaries_follow_items();
     let summary = Summary::empty(alloc, k);
-    Ok(read_records(alloc, records, summary)?)
+    Ok(records.read_into(alloc, summary)?)
 }
 
 /// The summary of some records, whose items are monitored and translated at the end.
@@ -95,35 +93,19 @@ pub fn summary_by_monitoring<R: ReadRecords>(
     }
 }
 
-/// The saved summary of the records of a reader: Misra-Gries with k counters.
+/// The saved summary of some records: Misra-Gries with k counters.
 ///
 /// k is tested before anything is read. Both methods give the same bytes.
-pub fn summary_bytes<R: Read + Drop>(
+pub fn summary_bytes_from<R: ReadRecords>(
     alloc: Global,
     k: u64,
     method: Method,
-    reader: R,
+    records: R,
 ) -> Result<Vec<u8>, ToolError>
     ensures saved { IfOk result (λ bytes. SavesStream (λ xs. Counters (sketch_of k xs))
-        (text_known (R.remaining reader)) bytes.items) }
+        (R.known records) bytes.items) }
     ensures refused { IfErr result (λ fault.
-        RefusedAfter (bad_k k) (text_known (R.remaining reader)) fault) }
-    ensures bad_k { IfSome (bad_k k) (λ fault. result ≡ Err fault) }
-{
-    summary_bytes_from(alloc, k, method, Records::of_reader(alloc, reader))
-}
-
-/// [`summary_bytes`] of records in texts and columns of one's own.
-pub fn summary_bytes_from<R: Read + Drop>(
-    alloc: Global,
-    k: u64,
-    method: Method,
-    records: Records<R>,
-) -> Result<Vec<u8>, ToolError>
-    ensures saved { IfOk result (λ bytes. SavesStream (λ xs. Counters (sketch_of k xs))
-        (records_known R.remaining records) bytes.items) }
-    ensures refused { IfErr result (λ fault.
-        RefusedAfter (bad_k k) (records_known R.remaining records) fault) }
+        RefusedAfter (bad_k k) (R.known records) fault) }
     ensures bad_k { IfSome (bad_k k) (λ fault. result ≡ Err fault) }
 {
     if !in_range(k, MAX_K) {

@@ -1,8 +1,8 @@
 use Rattle.std.proofs.Common.{◌≡◌, ◌-◌, ◌<◌, [], ◌∷◌, ◌++◌, List, length, take_all, get_or, Some, true≢false, sym, ap, ap₂, ◌∙◌, arith, slice_get, rules}
 use Rattle.std.proofs.lemmas.Option.{get_or_from_slice_get}
 use Rattle.hh_stream.specs.Weights.{Bytes, Entry}
-use Rattle.hh_counters.specs.Counters.{Counters, lower}
-use Rattle.hh_counters.proofs.Level.{lower-nil}
+use Rattle.hh_summaries.specs.Counters.{Counters, lower}
+use Rattle.hh_summaries.proofs.Level.{lower-nil}
 use Rattle.hh_counters.proofs.Sorting.{lower_above, lower_below}
 use Rattle.hh_counters.proofs.bucket_saving.entries_above.Goals as goal
 use Rattle.hh_counters.proofs.bucket_saving.entries_above.Goals.{in-Some+then-counter-least+in_ok-push_copy, in-Some+else-counter-least, in_default}

@@ -1,5 +1,5 @@
 use Rattle.std.proofs.Common.{◌≡◌, take}
-use Rattle.hh_counters.specs.Counters.{lower}
+use Rattle.hh_summaries.specs.Counters.{lower}
 use Rattle.hh_counters.proofs.bucket_saving.entries_above.Given as goal
 
 abbrev pub invariant-loop-i : goal.invariant-loop-i

@@ -4,7 +4,7 @@ use Rattle.std.specs.Cmp.{eq_by_cmp_equiv}
 use Rattle.indexmap.specs.IndexMap.{Updates, with_value_at}
 use Rattle.indexmap.proofs.CallerLemmas.{keys-with_value_at, updates-with_value_at}
 use Rattle.hh_stream.specs.Weights.{Bytes, same_key}
-use Rattle.hh_counters.proofs.Weights.{key_total}
+use Rattle.hh_summaries.proofs.Weights.{key_total}
 use Rattle.hh_counters.proofs.Linked.{stored_key}
 use Rattle.hh_counters.proofs.bucket_saving.set_counter.Goals as goal
 

@@ -2,7 +2,7 @@ use Rattle.std.proofs.Common.{List, is_lt, subst, rules, IsPermutation}
 use Rattle.std.proofs.lemmas.Fn.{always_returns_same}
 use Rattle.std.proofs.lemmas.List.Sorted.{ranks_by}
 use Rattle.hh_stream.specs.Weights.{Entry, key_cmp}
-use Rattle.hh_counters.proofs.Weights.{key_total}
+use Rattle.hh_summaries.proofs.Weights.{key_total}
 use Rattle.hh_counters.proofs.Sorting.{translated_sorted}
 use Rattle.hh_counters.proofs.bucket_saving.translated_entries.Goals as goal
 

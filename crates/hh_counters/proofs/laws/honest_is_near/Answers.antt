@@ -1,5 +1,5 @@
 use Rattle.hh_counters.proofs.laws.honest_is_near.Goals as goal
-use Rattle.hh_counters.proofs.Summaries.{honest_within, honest_near, honest_same, honest_by_weights}
+use Rattle.hh_summaries.proofs.Summaries.{honest_within, honest_near, honest_same, honest_by_weights}
 
 pub returns-clause-near : goal.returns-clause-near
 returns-clause-near c = λ d m xs k h. (honest_within d m xs k h, honest_near d m xs k h)

@@ -1,5 +1,5 @@
 use Rattle.hh_counters.proofs.laws.report_is_exact.Goals as goal
-use Rattle.hh_counters.proofs.Reports.{heavy_is_report, one_report, rows_are_exact}
+use Rattle.hh_summaries.proofs.Reports.{heavy_is_report, one_report, rows_are_exact}
 
 pub returns-clause-exact : goal.returns-clause-exact
 returns-clause-exact c = heavy_is_report

@@ -1,7 +1,7 @@
 use Rattle.hh_counters.proofs.laws.sum_is_by_key.Goals as goal
 use Rattle.std.proofs.Common.{◌∙◌, sym}
-use Rattle.hh_counters.proofs.Weights.{counters-plus, weight_of-plus, same_counters}
-use Rattle.hh_counters.proofs.Summaries.{counters-join, weight_of-join}
+use Rattle.hh_summaries.proofs.Weights.{counters-plus, weight_of-plus, same_counters}
+use Rattle.hh_summaries.proofs.Summaries.{counters-join, weight_of-join}
 
 pub returns-clause-sum : goal.returns-clause-sum
 returns-clause-sum c = λ d e h g. (

@@ -1,6 +1,6 @@
 use Rattle.std.proofs.Common.{refl}
 use Rattle.hh_counters.proofs.Monitoring.{monitor_push, translated_monitor}
-use Rattle.hh_counters.proofs.Summaries.{sketch_nothing, sketch_push}
+use Rattle.hh_summaries.proofs.Summaries.{sketch_nothing, sketch_push}
 use Rattle.hh_counters.proofs.laws.summaries_follow_items.Goals as goal
 
 pub returns-clause-summaries : goal.returns-clause-summaries

@@ -1,6 +1,6 @@
 use Rattle.std.proofs.Common.{◌≡◌, ◌∙◌, take, sym, ap, ◌<◌}
 use Rattle.hh_stream.specs.Weights.{Entry}
-use Rattle.hh_counters.specs.Counters.{SummaryView}
+use Rattle.hh_summaries.specs.Counters.{SummaryView}
 use Rattle.hh_counters.specs.SpaceSaving.{monitor_of, monitor_with}
 use Rattle.hh_counters.proofs.Monitoring.{monitor_more, monitored_all, positive_more}
 use Rattle.hh_counters.proofs.monitor.monitored_summary.Goals as goal

@@ -2,8 +2,8 @@ use Rattle.std.proofs.Common.{◌≡◌, ℕ, List, Bool, append-nil, take_all, 
 use Rattle.std.proofs.lemmas.List.{get_or_default}
 use Rattle.std.proofs.lemmas.Slice.Zip.{length-zip}
 use Rattle.hh_stream.specs.Weights.{Bytes, Entry}
-use Rattle.hh_counters.specs.Report.{is_heavy}
-use Rattle.hh_counters.proofs.Reports.{select_more, nothing_heavy}
+use Rattle.hh_summaries.specs.Report.{is_heavy}
+use Rattle.hh_summaries.proofs.Reports.{select_more, nothing_heavy}
 use Rattle.hh_counters.proofs.report.heavy_rows.Goals as goal
 use Rattle.hh_counters.proofs.report.heavy_rows.Goals.{then-is_heavy+in_ok-push_row, else-is_heavy}
 

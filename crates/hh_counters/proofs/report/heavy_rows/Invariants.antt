@@ -1,5 +1,5 @@
 use Rattle.std.proofs.Common.{◌≡◌, take, filter, zip}
-use Rattle.hh_counters.specs.Report.{is_heavy}
+use Rattle.hh_summaries.specs.Report.{is_heavy}
 use Rattle.hh_counters.proofs.report.heavy_rows.Given as goal
 
 abbrev pub invariant-loop-i : goal.invariant-loop-i

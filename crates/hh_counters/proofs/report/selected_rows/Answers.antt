@@ -3,8 +3,8 @@ use Rattle.std.proofs.lemmas.Bool.{false≢true}
 use Rattle.std.proofs.lemmas.Fn.{always_returns_same}
 use Rattle.std.proofs.lemmas.List.Sorted.{ranks_by}
 use Rattle.hh_stream.specs.Weights.{Entry}
-use Rattle.hh_counters.specs.Report.{rank_cmp, is_heavy}
-use Rattle.hh_counters.proofs.Reports.{rank_total, ranked_from_sort, rising-zip, by_rank_nothing}
+use Rattle.hh_summaries.specs.Report.{rank_cmp, is_heavy}
+use Rattle.hh_summaries.proofs.Reports.{rank_total, ranked_from_sort, rising-zip, by_rank_nothing}
 use Rattle.hh_counters.proofs.report.selected_rows.Goals as goal
 
 pub returns-clause-rows : goal.returns-clause-rows

@@ -1,7 +1,7 @@
 use Rattle.std.proofs.Common.{◌≡◌, ◌+◌, ◌<◌, ◌≤◌, cond, is_lt, length, get_or, sym, ap, ◌∙◌, subst, arith, remove, rules}
 use Rattle.std.proofs.lemmas.List.{get_or_default}
 use Rattle.hh_stream.specs.Weights.{Entry, key_cmp}
-use Rattle.hh_counters.specs.Counters.{Counters, add_at}
+use Rattle.hh_summaries.specs.Counters.{Counters, add_at}
 use Rattle.hh_counters.specs.SpaceSaving.{IsFirstLeast}
 use Rattle.hh_counters.proofs.TakingOver.{replaced_at, shifted_within}
 use Rattle.hh_counters.proofs.space_saving.replace_least.Goals as goal

@@ -1,7 +1,7 @@
 use Rattle.std.proofs.Common.{◌≡◌, ◌≤◌, List, ap, ◌∙◌, arith}
 use Rattle.std.proofs.lemmas.Bool.Decides.{nat_tests}
 use Rattle.hh_stream.specs.Weights.{Bytes, weight_of}
-use Rattle.hh_counters.specs.Report.{keys_above}
+use Rattle.hh_summaries.specs.Report.{keys_above}
 use Rattle.hh_countmin.specs.Table.{TableView, estimate_in}
 use Rattle.hh_pool.specs.Outcomes.{AreEnough}
 use Rattle.std.proofs.lemmas.Result.{IfOk-weaker}

@@ -1,6 +1,6 @@
 use Rattle.std.proofs.Common.{◌≡◌, ℕ, ◌∙◌, List, Result, Ok, Err, sym, ap}
 use Rattle.hh_saved.specs.declared.format.Version.{Version}
-use Rattle.hh_saved.specs.declared.fault.SavedFault.{SavedFault}
+use Rattle.hh_faults.specs.declared.saved.SavedFault.{SavedFault}
 use Rattle.hh_saved.specs.Reading.{version_at}
 use Rattle.hh_saved.proofs.Fields.{ok_is}
 use Rattle.hh_saved.proofs.PlaceFacts.{version_named}

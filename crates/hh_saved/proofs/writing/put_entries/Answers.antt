@@ -2,7 +2,7 @@ use Rattle.std.proofs.Common.{◌≡◌, ◌<◌, ◌∙◌, ◌∷◌, ◌++◌
 use Rattle.std.specs.List.{AllByRecursion}
 use Rattle.std.proofs.lemmas.List.{take_more}
 use Rattle.hh_stream.specs.Weights.{Entry}
-use Rattle.hh_counters.proofs.Weights.{all-append}
+use Rattle.hh_summaries.proofs.Weights.{all-append}
 use Rattle.hh_saved.specs.declared.format.Version.TheVariants.{Two}
 use Rattle.hh_saved.specs.Spelling.{IsSavedKey, entry_bytes}
 use Rattle.hh_saved.proofs.Written.{written_more}

@@ -1,10 +1,9 @@
 use Rattle.hh_countmin.specs.Family.{drawn_family}
-use Rattle.hh_records.specs.Layouts.{records_known}
 use Rattle.hh_commands.proofs.TableFacts.{spells_table}
 use Rattle.hh_commands.proofs.commands.table.table_bytes_from.Goals as goal
 
 pub returns-clause-saved : goal.returns-clause-saved
 returns-clause-saved g c =
     spells_table (drawn_family c.args.seed c.args.depth) c.args.width c.in_ok-table.table
-    (records_known g.R.Read.remaining c.args.records) c.in_ok-write.field-0.items c.in_ok-table.ensures.table
+    (g.R.ReadRecords.known c.args.records) c.in_ok-write.field-0.items c.in_ok-table.ensures.table
     c.in_ok-write.ensures

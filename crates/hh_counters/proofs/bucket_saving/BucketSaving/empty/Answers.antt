@@ -1,6 +1,6 @@
 use Rattle.std.proofs.Common.{refl, arith}
 use Rattle.std.proofs.lemmas.Bool.Decides.{nat_tests}
-use Rattle.hh_counters.specs.Counters.{tally}
+use Rattle.hh_summaries.specs.Counters.{tally}
 use Rattle.hh_counters.proofs.Linked.{nothing_linked}
 use Rattle.hh_counters.proofs.bucket_saving.BucketSaving.empty.Goals as goal
 

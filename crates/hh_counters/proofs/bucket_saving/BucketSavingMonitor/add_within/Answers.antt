@@ -1,5 +1,5 @@
 use Rattle.std.proofs.Common.{ap, arith}
-use Rattle.hh_counters.specs.Counters.{SummaryView}
+use Rattle.hh_summaries.specs.Counters.{SummaryView}
 use Rattle.hh_counters.proofs.Linked.{linked_more}
 use Rattle.hh_counters.proofs.bucket_saving.BucketSavingMonitor.add_within.Goals as goal
 

@@ -6,9 +6,9 @@ use Rattle.std.proofs.lemmas.List.Sums.{count_by-le-length, length-filter}
 use Rattle.std.proofs.lemmas.Map.Entries.{length-keys_of}
 use Rattle.indexmap.specs.IndexSet.{insert_key}
 use Rattle.hh_stream.specs.Weights.{Entry, key_cmp, same_key}
-use Rattle.hh_counters.specs.Report.{can_be_heavy, contenders}
+use Rattle.hh_summaries.specs.Report.{can_be_heavy, contenders}
 use Rattle.hh_counters.proofs.Counting.{insert_passing, passing_stays}
-use Rattle.hh_counters.proofs.Reports.{rising-filter}
+use Rattle.hh_summaries.proofs.Reports.{rising-filter}
 use Rattle.hh_counters.proofs.candidates.Candidates.contenders.Goals.{then-can_be_heavy+in_ok-insert_copy, else-can_be_heavy}
 use Rattle.hh_counters.proofs.candidates.Candidates.contenders.Goals as goal
 

@@ -1,6 +1,6 @@
 use Rattle.std.proofs.Common.{◌≡◌, take, filter}
 use Rattle.std.specs.Map.{keys_of}
-use Rattle.hh_counters.specs.Report.{can_be_heavy}
+use Rattle.hh_summaries.specs.Report.{can_be_heavy}
 use Rattle.hh_counters.proofs.candidates.Candidates.contenders.Given as goal
 
 abbrev pub invariant-loop-i : goal.invariant-loop-i

@@ -1,6 +1,6 @@
 use Rattle.std.proofs.Common.{◌≡◌, [], ◌∷◌, take, get_or, sym, ap, ◌∙◌, arith}
 use Rattle.hh_stream.specs.Weights.{Entry}
-use Rattle.hh_counters.specs.Report.{counts_with}
+use Rattle.hh_summaries.specs.Report.{counts_with}
 use Rattle.std.proofs.lemmas.List.{get_or_default}
 use Rattle.std.proofs.lemmas.List.Sums.{sum_by_more_le}
 use Rattle.hh_counters.proofs.Counting.{counted_none, counted-le, count_turn}

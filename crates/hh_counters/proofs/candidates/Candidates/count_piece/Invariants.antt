@@ -1,5 +1,5 @@
 use Rattle.std.proofs.Common.{◌≡◌, take}
-use Rattle.hh_counters.specs.Report.{counts_with}
+use Rattle.hh_summaries.specs.Report.{counts_with}
 use Rattle.hh_counters.proofs.candidates.Candidates.count_piece.Given as goal
 
 abbrev pub invariant-loop-item : goal.invariant-loop-item

@@ -8,9 +8,9 @@ use Rattle.std.proofs.lemmas.Map.Made.{keys_of-zip}
 use Rattle.std.proofs.lemmas.Slice.Zip.{get_or-zip, length-zip}
 use Rattle.indexmap.specs.IndexSet.{insert_key}
 use Rattle.hh_stream.specs.Weights.{Bytes, Entry, key_cmp, same_key}
-use Rattle.hh_counters.specs.Report.{is_heavy}
+use Rattle.hh_summaries.specs.Report.{is_heavy}
 use Rattle.hh_counters.proofs.Counting.{insert_passing, passing_stays}
-use Rattle.hh_counters.proofs.Reports.{rising-zip}
+use Rattle.hh_summaries.proofs.Reports.{rising-zip}
 use Rattle.hh_counters.proofs.candidates.Candidates.pruned.Goals.{then-is_heavy+in_ok-insert_copy, else-is_heavy}
 use Rattle.hh_counters.proofs.candidates.Candidates.pruned.Goals as goal
 

@@ -2,7 +2,7 @@ use Rattle.std.proofs.Common.{◌++◌, ◌∷◌, ◌<◌, [], get_or, length, 
 use Rattle.std.proofs.lemmas.List.{get_or_default}
 use Rattle.std.proofs.lemmas.Option.{get_or_from_slice_get}
 use Rattle.std.proofs.lemmas.Slice.Zip.{length-zip}
-use Rattle.hh_counters.specs.Counters.{exceeds}
+use Rattle.hh_summaries.specs.Counters.{exceeds}
 use Rattle.hh_counters.proofs.CountFacts.{rows-came, rows-absent}
 use Rattle.hh_counters.proofs.counts.Counts.rows.Goals as goal
 use Rattle.hh_counters.proofs.counts.Counts.rows.Goals.{then-weight-gt0+in_ok-push_row, else-weight-gt0}

@@ -1,5 +1,5 @@
 use Rattle.std.proofs.Common.{◌≡◌, take, filter, zip}
-use Rattle.hh_counters.specs.Counters.{exceeds}
+use Rattle.hh_summaries.specs.Counters.{exceeds}
 use Rattle.hh_counters.proofs.counts.Counts.rows.Given as goal
 
 abbrev pub invariant-loop-place : goal.invariant-loop-place

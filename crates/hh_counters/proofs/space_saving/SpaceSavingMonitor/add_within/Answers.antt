@@ -1,5 +1,5 @@
 use Rattle.std.proofs.Common.{ap, ◌+◌, sym, subst, arith}
-use Rattle.hh_counters.specs.Counters.{SummaryView}
+use Rattle.hh_summaries.specs.Counters.{SummaryView}
 use Rattle.hh_counters.specs.SpaceSaving.{IsMonitor}
 use Rattle.hh_counters.proofs.TakingOver.{monitor_step}
 use Rattle.hh_counters.proofs.space_saving.SpaceSavingMonitor.add_within.Goals as goal

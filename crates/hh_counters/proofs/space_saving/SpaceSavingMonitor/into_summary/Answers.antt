@@ -1,5 +1,5 @@
 use Rattle.std.proofs.Common.{sym, ap, ◌∙◌}
-use Rattle.hh_counters.specs.Counters.{SummaryView}
+use Rattle.hh_summaries.specs.Counters.{SummaryView}
 use Rattle.hh_counters.specs.SpaceSaving.{least_of}
 use Rattle.hh_counters.proofs.TakingOver.{fits_lowered}
 use Rattle.hh_counters.proofs.space_saving.SpaceSavingMonitor.into_summary.Goals as goal

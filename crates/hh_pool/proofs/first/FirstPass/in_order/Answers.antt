@@ -5,7 +5,7 @@ use Rattle.std.proofs.lemmas.Fn.{always_returns_same}
 use Rattle.std.proofs.lemmas.List.{append_assoc, append-nil, length-append, length-map, nil_from_length}
 use Rattle.std.proofs.lemmas.List.MinMax.{ranks_by}
 use Rattle.std.proofs.lemmas.List.Sorted.{length_permutation}
-use Rattle.hh_counters.specs.Counters.{SummaryView, sketch_of}
+use Rattle.hh_summaries.specs.Counters.{SummaryView, sketch_of}
 use Rattle.hh_workers.specs.Pieces.{piece_of}
 use Rattle.hh_pool.proofs.Closed.{by_number}
 use Rattle.hh_pool.proofs.Ordered.{ordered}

@@ -1,5 +1,5 @@
 use Rattle.std.proofs.Common.{◌≡◌, ◌++◌, ℕ, map}
-use Rattle.hh_counters.specs.Counters.{SummaryView}
+use Rattle.hh_summaries.specs.Counters.{SummaryView}
 use Rattle.hh_pool.proofs.first.FirstPass.in_order.Given as goal
 
 abbrev pub invariant-loop-summary : goal.invariant-loop-summary

@@ -1,7 +1,7 @@
 use Rattle.std.proofs.Common.{◌≡◌, ◌∙◌, List, [], ap, fold, sym}
 use Rattle.std.proofs.lemmas.Result.{IfOk-weaker}
 use Rattle.hh_stream.specs.Weights.{Entry}
-use Rattle.hh_counters.specs.Counters.{SummaryView}
+use Rattle.hh_summaries.specs.Counters.{SummaryView}
 use Rattle.hh_counters.specs.SpaceSaving.{monitor_of, monitor_with, translation_of}
 use Rattle.hh_countmin.specs.Table.{TableView, grid_with, table_of}
 use Rattle.hh_workers.specs.Pieces.{piece_of}

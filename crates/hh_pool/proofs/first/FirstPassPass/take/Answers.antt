@@ -1,7 +1,7 @@
 use Rattle.std.proofs.Common.{◌++◌, ◌∷◌, ◌∙◌, [], ap, arith, rules, IsErrOf}
 use Rattle.hh_stream.specs.Weights.{total_of}
 use Rattle.hh_countmin.specs.Table.{TableView, table_of}
-use Rattle.hh_counters.specs.Counters.{sketch_of}
+use Rattle.hh_summaries.specs.Counters.{sketch_of}
 use Rattle.hh_pool.specs.Passes.{items_at}
 use Rattle.hh_workers.specs.declared.pieces.PieceFault.TheVariants as fault
 use Rattle.hh_pool.proofs.Held.{holds_more}

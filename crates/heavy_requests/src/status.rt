@@ -1,0 +1,84 @@
+//! How a run of the program ends: what is told of it, and its exit status.
+
+use crate::explain::{tell_format, tell_more, tell_own_k, tells_more};
+use crate::inputs::Inputs;
+use crate::request::Invocation;
+use crate::told::Told;
+use hh_faults::{ToolError, Totals};
+use std::process::ExitCode;
+use std::sync::atomic::Ordering;
+
+/// The exit status of the command line's own faults.
+const USAGE: u8 = 2;
+
+/// The fault of an input that can't be read, by the number that it left.
+fn numbered(fault: ToolError, number: u64) -> ToolError {
+    match fault {
+        ToolError::ReadFault if number > 0 => ToolError::FileFault { number },
+        _ => fault,
+    }
+}
+
+/// Tells a fault of the product, and gives its status.
+pub fn status_after(rt: &HostRuntime, fault: ToolError) -> ExitCode {
+    let _ = eprintln!(rt; "heavy: {fault}");
+    ExitCode::from(fault.status())
+}
+
+/// The same of a fault of what was asked for, with more about it where that is asked for too or
+/// standard error is a terminal.
+fn status_explained(
+    rt: &HostRuntime,
+    fault: ToolError,
+    asked: &Invocation,
+    totals: Option<Totals>,
+) -> ExitCode {
+    let status = status_after(rt, fault);
+    if tells_more(rt, asked) {
+        tell_more(rt, &fault, asked, totals);
+    }
+    status
+}
+
+/// Prints help or a fault of the command line as `clap` words it. Help that could not be printed is
+/// a device's fault.
+pub fn status_told(rt: &HostRuntime, told: &Told) -> ExitCode {
+    let is_help = told.error.exit_code() == 0;
+    match told.error.print(rt) {
+        Err(_) if is_help => status_after(rt, ToolError::WriteFault { written: 0 }),
+        _ if is_help => ExitCode::SUCCESS,
+        _ => {
+            tell_own_k(rt, told);
+            ExitCode::from(USAGE)
+        }
+    }
+}
+
+/// Tells what came of what was asked for, and gives its status. Where files of records are not what
+/// they were before, it is told of the first one.
+pub fn status_of(
+    inputs: Inputs<'_>,
+    asked: &Invocation,
+    outcome: Result<(), ToolError>,
+    totals: Option<Totals>,
+) -> ExitCode {
+    let rt = inputs.rt;
+    match outcome {
+        Ok(()) => {
+            inputs.look(asked);
+            if let Some(seen) = inputs.seen {
+                tell_format(rt, seen.get(), asked);
+            }
+            ExitCode::SUCCESS
+        }
+        Err(fault) => {
+            let least = if asked.records.files.is_empty() {
+                0
+            } else {
+                asked.request.saved().saturating_add(1)
+            };
+            let number = inputs.unread.load(Ordering::SeqCst).max(least);
+            status_explained(rt, numbered(fault, number), asked, totals)
+        }
+    }
+}

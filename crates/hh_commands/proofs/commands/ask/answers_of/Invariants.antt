@@ -1,7 +1,0 @@
-use Rattle.std.proofs.Common.{◌≡◌, map, take}
-use Rattle.hh_commands.specs.Ask.{answer_of}
-use Rattle.hh_commands.proofs.commands.ask.answers_of.Given as goal
-
-abbrev pub invariant-loop-word : goal.invariant-loop-word
-invariant-loop-word l =
-    l.answers.items ≡ map (λ word. answer_of l.saved word.items) (take l.word-index l.words)

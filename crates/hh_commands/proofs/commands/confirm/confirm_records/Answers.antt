@@ -1,5 +1,0 @@
-use Rattle.std.proofs.Common.{rules}
-use Rattle.hh_commands.proofs.commands.confirm.confirm_records.Goals as goal
-
-pub returns-then-total-clause-refused : goal.returns-then-total-clause-refused
-returns-then-total-clause-refused c = search rules

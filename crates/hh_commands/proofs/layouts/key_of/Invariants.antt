@@ -1,8 +1,0 @@
-use Rattle.std.proofs.Common.{take}
-use Rattle.std.specs.Prelude.{map}
-use Rattle.hh_commands.specs.Layouts.{NamesKey}
-use Rattle.hh_commands.proofs.layouts.key_of.Given as goal
-
-abbrev pub invariant-loop-word : goal.invariant-loop-word
-invariant-loop-word l =
-    NamesKey l.has_header (map (λ word. word.items) (take l.word-index l.words)) l.key.items

@@ -1,0 +1,67 @@
+-- What a summary's keys, counted in files, tell.
+use Rattle.std.proofs.Common.{◌≡◌, ◌∙◌, ℕ, List, true, Some, Ok, Err, Result, Global, Vec, Option, ap}
+use Rattle.std.specs.Prelude.{IfErr, IfOk, OnOk}
+use Rattle.std.specs.Map.{keys_of}
+use Rattle.hh_stream.specs.Ranges.{in_range}
+use Rattle.hh_stream.specs.Weights.{Entry, total_of}
+use Rattle.hh_summaries.specs.Counters.{SummaryView}
+use Rattle.hh_counters.specs.Counting.{Count, count_of}
+use Rattle.hh_workers.specs.Workers.{max_workers}
+use Rattle.hh_records.specs.Streams.{Known}
+use Rattle.hh_rows.specs.Printed.{printed_rows}
+use Rattle.hh_rows.specs.Thresholds.{threshold_of}
+use Rattle.hh_rows.specs.declared.printed.RowOptions.{RowOptions}
+use Rattle.hh_rows.specs.declared.threshold.Share.{Share}
+use Rattle.hh_commands.specs.Confirm.{ConfirmsPrinted, TellsBoth, TellsTotals, TotalsRefused, confirmed_above}
+use Rattle.hh_commands.specs.Files.{HoldsSummary}
+use Rattle.hh_commands.specs.Records.{CountsRecords}
+use Rattle.hh_faults.specs.declared.error.Totals.{Totals}
+use Rattle.hh_faults.specs.declared.error.ToolError.{ToolError}
+use Rattle.hh_faults.specs.declared.error.ToolError.TheVariants as tool
+use Rattle.hh_files.specs.FilePasses.{ConfirmFilesRefused}
+
+module _ (file : List ℕ) (known : Known) (s : SummaryView) (held : HoldsSummary file s) (counts : Count)
+    (counted : CountsRecords known (keys_of s.counters) counts) where
+  -- the rows of a count are those of the records
+  pub rows_confirmed : (rows : RowOptions) (share : Share) (t : ℕ × ℕ) → threshold_of s.k share ≡ Some t
+      → (result : Result (Vec ℕ Global) ToolError) → OnOk result (s.total ≡ counts.total)
+      → IfOk result (λ text. (xs : List Entry) → counts ≡ count_of (keys_of s.counters) xs
+      → text.items ≡ printed_rows s.total rows (confirmed_above t.0 t.1 s xs))
+      → IfOk result (λ text. ConfirmsPrinted rows share file known text.items)
+  rows_confirmed rows share t is (Ok text) total h =
+      let (xs, reads, (weigh, made)) = counted in
+      let same : s.total ≡ total_of xs = total ∙ ap (λ (c : Count). c.total) made in
+      let rows_of : ℕ → List ℕ = λ n. printed_rows n rows (confirmed_above t.0 t.1 s xs) in
+      (s, t.0, t.1, xs, held, is, reads, same, h xs made ∙ ap rows_of same)
+  rows_confirmed rows share t is (Err e) total h = tt
+
+  -- totals that differ are those of the summary and of the records
+  totals_told : (told : Option Totals) (e : ToolError) → TellsBoth s.total counts.total told e
+      → TellsTotals file known told e
+  totals_told told tool.TotalDiffers h =
+      let (xs, reads, (weigh, made)) = counted in
+      let same : counts.total ≡ total_of xs = ap (λ (c : Count). c.total) made in
+      (s, xs, held, reads, rw (← same) h)
+  totals_told told e h = tt
+
+  pub totals_confirmed : {A : Type 0} (told : Option Totals) (result : Result A ToolError)
+      → IfErr result (TellsBoth s.total counts.total told) → IfErr result (TellsTotals file known told)
+  totals_confirmed told (Ok x) h = tt
+  totals_confirmed told (Err e) h = totals_told told e h
+
+  -- and such a refusal is one to confirm
+  totals_refused : (share : Share) (workers : ℕ) (t : ℕ × ℕ) → threshold_of s.k share ≡ Some t
+      → in_range workers max_workers ≡ true → (e : ToolError) → TotalsRefused s.total counts.total e
+      → ConfirmFilesRefused share workers file known e
+  totals_refused share workers t is few tool.TotalDiffers h =
+      let (xs, reads, (weigh, made)) = counted in
+      let same : counts.total ≡ total_of xs = ap (λ (c : Count). c.total) made in
+      (s, held, rw (is, few) (xs, reads, rw (← same) h))
+  totals_refused share workers t is few tool.Memory h = tt
+  totals_refused share workers t is few e h = absurd h
+
+  pub confirming_refused : {A : Type 0} (share : Share) (workers : ℕ) (t : ℕ × ℕ) → threshold_of s.k share ≡ Some t
+      → in_range workers max_workers ≡ true → (result : Result A ToolError)
+      → IfErr result (TotalsRefused s.total counts.total) → IfErr result (ConfirmFilesRefused share workers file known)
+  confirming_refused share workers t is few (Ok x) h = tt
+  confirming_refused share workers t is few (Err e) h = totals_refused share workers t is few e h

@@ -1,0 +1,7 @@
+pub mod ConfirmFacts
+pub mod FilePassFacts
+pub mod FilePieceFacts
+pub mod ShareFacts
+pub mod SourceReportFacts
+pub mod TableFacts
+pub mod WeighFacts

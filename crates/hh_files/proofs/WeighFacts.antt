@@ -1,0 +1,88 @@
+-- Each item that records add weighs something.
+use Rattle.std.proofs.Common.{◌≡◌, ◌<◌, ◌+◌, ◌∷◌, ◌++◌, ℕ, Bool, true, false, List, [], length, All, Option, Some, None, Result, Ok, Err, refl, subst, arith}
+use Rattle.std.specs.Prelude.{◌==◌, nat_le, if◌then◌else◌, option_map}
+use Rattle.std.proofs.lemmas.Bool.{eqb-false}
+use Rattle.std.proofs.lemmas.List.Elements.{All-append, All-from_recursion}
+use Rattle.hh_stream.specs.Weights.{Bytes, Entry, max_key_len, max_total, total_of}
+use Rattle.hh_records.specs.Layouts.{added, adding_next, adds, item_by, items_after, joined, stream_with, texts_parts, weight_by}
+use Rattle.hh_records.specs.Streams.{Parts, Reading, item_of_key, item_of_pair, weight_after, weight_or_cause}
+use Rattle.hh_records.specs.declared.layout.Layout.{Layout}
+use Rattle.hh_faults.specs.declared.records.BadRecordCause.{BadRecordCause}
+use Rattle.hh_faults.specs.declared.records.BadRecordCause.TheVariants as cause
+
+abbrev pub Weighs : Entry → Type 0
+Weighs e = 0 < e.1
+
+-- a weight that is added is not 0
+weight_is_some : (t w v : ℕ) → weight_or_cause t w ≡ Ok v → 0 < v
+weight_is_some t w v e = by (w == 0) refl (nat_le (t + w) max_total) e
+  where
+    by : (none : Bool) → (w == 0) ≡ none → (fits : Bool)
+        → (if none then Err cause.ZeroWeight else if fits then Ok w else Err cause.TotalTooLarge) ≡ Ok v → 0 < v
+    by true is fits e = absurd (cc e)
+    by false is true e = let same : w ≡ v = cc e in omega (arith, eqb-false w 0 is, same)
+    by false is false e = absurd (cc e)
+
+-- so it is with that of an item of a key
+pair_weighs : (t : ℕ) (k : Bytes) (w : Option ℕ) (x : Entry) → item_of_pair k (weight_after t w) ≡ Ok x → Weighs x
+pair_weighs t k None x e = absurd (cc e)
+pair_weighs t k (Some w) x e = by (weight_or_cause t w) refl e
+  where
+    by : (r : Result ℕ BadRecordCause) → weight_or_cause t w ≡ r → item_of_pair k r ≡ Ok x → Weighs x
+    by (Ok v) is e = let same : (k, v) ≡ x = cc e in subst Weighs same (weight_is_some t w v is)
+    by (Err c) is e = absurd (cc e)
+
+key_weighs : (t : ℕ) (k : Bytes) (w : Option ℕ) (x : Entry) → item_of_key t k w ≡ Ok x → Weighs x
+key_weighs t k w x e = by (length k == 0) (nat_le (length k) max_key_len) e
+  where
+    by : (none fits : Bool)
+        → (if none then Err cause.EmptyKey else if fits then item_of_pair k (weight_after t w) else Err cause.KeyTooLong)
+        ≡ Ok x → Weighs x
+    by true fits e = absurd (cc e)
+    by false true e = pair_weighs t k w x e
+    by false false e = absurd (cc e)
+
+item_weighs : (layout : Layout) (t : ℕ) (p : Parts) (x : Entry) → item_by layout t p ≡ Ok x → Weighs x
+item_weighs layout t None x e = absurd (cc e)
+item_weighs layout t (Some p) x e = key_weighs t p.0 (weight_by layout p.1) x e
+
+-- and with what a record adds
+added_weigh : (allow : Bool) (r : Result Entry BadRecordCause) (xs : List Entry) → added allow r ≡ Ok xs
+    → ((x : Entry) → r ≡ Ok x → Weighs x) → All Weighs xs
+added_weigh allow (Ok x) xs e h =
+    let same : x ∷ [] ≡ xs = cc e in subst (All Weighs) same (All-from_recursion Weighs (x ∷ []) (h x refl, tt))
+added_weigh true (Err cause.ZeroWeight) xs e h =
+    let same : [] ≡ xs = cc e in subst (All Weighs) same (All-from_recursion Weighs [] tt)
+added_weigh false (Err cause.ZeroWeight) xs e h = absurd (cc e)
+added_weigh allow (Err c) xs e h = absurd (cc e)
+
+items_weigh : (layout : Layout) (n t : ℕ) (ps : List Parts) (xs : List Entry) → items_after layout n t ps ≡ Ok xs
+    → All Weighs xs
+unfolding items_after
+items_weigh layout n t [] xs e =
+    let same : [] ≡ xs = cc e in subst (All Weighs) same (All-from_recursion Weighs [] tt)
+items_weigh layout n t (p ∷ ps) xs e =
+    by (adds layout t p) refl e (λ es ys. items_weigh layout (n + 1) (t + total_of es) ps ys)
+  where
+    go : (es : List Entry) (r : Reading) → All Weighs es → ((ys : List Entry) → r ≡ Ok ys → All Weighs ys)
+        → joined es r ≡ Ok xs → All Weighs xs
+    go es (Ok ys) h more e = let same : es ++ ys ≡ xs = cc e in subst (All Weighs) same (All-append Weighs es ys h (more ys refl))
+    go es (Err x) h more e = absurd (cc e)
+
+    by : (o : Result (List Entry) BadRecordCause) → adds layout t p ≡ o
+        → adding_next o n (λ es. items_after layout (n + 1) (t + total_of es) ps) ≡ Ok xs
+        → ((es ys : List Entry) → items_after layout (n + 1) (t + total_of es) ps ≡ Ok ys → All Weighs ys)
+        → All Weighs xs
+    by (Ok es) is e more =
+        go es (items_after layout (n + 1) (t + total_of es) ps)
+        (added_weigh layout.allow_zero (item_by layout t p) es is (item_weighs layout t p)) (more es) e
+    by (Err c) is e more = absurd (cc e)
+
+-- the items that texts read as weigh something
+pub texts_weigh : (layout : Layout) (texts : List (List ℕ)) (xs : List Entry) → stream_with layout texts ≡ Some (Ok xs)
+    → All Weighs xs
+texts_weigh layout texts xs e = by (texts_parts layout texts) e
+  where
+    by : (o : Option (List Parts)) → option_map (items_after layout 1 0) o ≡ Some (Ok xs) → All Weighs xs
+    by None e = absurd (cc e)
+    by (Some ps) e = let is : items_after layout 1 0 ps ≡ Ok xs = cc e in items_weigh layout 1 0 ps xs is

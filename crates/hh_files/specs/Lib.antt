@@ -1,0 +1,3 @@
+pub mod FilePasses
+pub mod ReportFiles
+pub mod TableFiles

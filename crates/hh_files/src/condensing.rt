@@ -1,0 +1,53 @@
+//! Files condensed by a summary, which workers read in pieces.
+
+ghost use Rattle.std.specs.Prelude.{IfOk, IfErr};
+ghost use Rattle.hh_records.specs.Layouts.{texts_known};
+ghost use Rattle.hh_commands.specs.Condense.{CondensesRows};
+ghost use Rattle.hh_files.specs.FilePasses.{CondenseFilesRefused};
+ghost use Rattle.hh_commands.specs.Files.{StopsAtHead};
+
+use crate::file_passes::count_sources;
+use hh_commands::{condensed_counts, summary_in};
+use hh_faults::ToolError;
+use hh_pieces::{ReadAt, SourceRecords};
+use hh_pool::MAX_WORKERS;
+use hh_stream::in_range;
+use std::alloc::Global;
+use std::sync::Wait;
+use std::thread::Threads;
+
+/// [`condense_bytes_from`](hh_commands::condense_bytes_from) of files of any size, or other bytes
+/// that are read at any place. Workers read them in pieces, through a buffer each, and once.
+/// Nothing of a file is kept. Where a piece can't be read by itself, or a file's length changes
+/// meanwhile, one thread reads all files from their starts, so that the first refusal is told with
+/// its number.
+///
+/// The saved file is tested first ([`ToolError::BadFile`], as file 1, and
+/// [`ToolError::NotCounters`]), then the workers, of whom there are 1 to 64
+/// ([`ToolError::BadWorkers`]), and then the records ([`ToolError::ReadFault`],
+/// [`ToolError::NoColumn`], [`ToolError::BadRecord`]), whose total need not be the summary's.
+///
+/// Where the bytes of all files are known, the rows are those of their records, one file after the
+/// other. A file of the system may change while it is read, which can't be seen where its length
+/// stays the same.
+pub fn condense_files<T: Threads + Wait + Sync, S: ReadAt + Sync>(
+    rt: &T,
+    alloc: Global,
+    file: &[u8],
+    workers: u64,
+    records: SourceRecords<'_, S>,
+) -> Result<Vec<u8>, ToolError>
+    ensures rows { IfOk result (λ rows.
+        CondensesRows records.entry.layout.now.decimals file.now
+        (texts_known S.bytes records.entry.layout.now records.entry.sources.now) rows.items) }
+    ensures refused { IfErr result (CondenseFilesRefused workers file.now
+        (texts_known S.bytes records.entry.layout.now records.entry.sources.now)) }
+    ensures early { StopsAtHead 1 file.now result }
+{
+    let summary = summary_in(alloc, file)?;
+    if !in_range(workers, MAX_WORKERS) {
+        return Err(ToolError::BadWorkers);
+    }
+    let counts = count_sources(rt, alloc, &summary, workers, records)?;
+    Ok(condensed_counts(alloc, &summary, &counts, records.layout.decimals)?)
+}

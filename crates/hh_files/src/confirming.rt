@@ -1,0 +1,61 @@
+//! A summary confirmed by files, which workers read in pieces.
+
+ghost use Rattle.std.specs.Prelude.{IfOk, IfErr};
+ghost use Rattle.hh_records.specs.Layouts.{texts_known};
+ghost use Rattle.hh_commands.specs.Confirm.{ConfirmsPrinted, TellsTotals};
+ghost use Rattle.hh_files.specs.FilePasses.{ConfirmFilesRefused};
+ghost use Rattle.hh_commands.specs.Files.{StopsAtHead};
+
+use crate::file_passes::count_sources;
+use hh_commands::{confirmed_text, summary_in};
+use hh_faults::{ToolError, Totals};
+use hh_pieces::{ReadAt, SourceRecords};
+use hh_pool::MAX_WORKERS;
+use hh_rows::{RowOptions, Share, threshold_of};
+use hh_stream::in_range;
+use std::alloc::Global;
+use std::sync::Wait;
+use std::thread::Threads;
+
+/// [`confirm_rows`](hh_commands::confirm_rows) by files of any size, or other bytes that are read
+/// at any place. Workers read them in pieces, through a buffer each, and once. Nothing of a file is
+/// kept. Where a piece can't be read by itself, or a file's length changes meanwhile, one thread
+/// reads all files from their starts, so that the first refusal is told with its number.
+///
+/// The saved file is tested first ([`ToolError::BadFile`], as file 1, and
+/// [`ToolError::NotCounters`]), then the share ([`ToolError::BadThreshold`]), then the workers, of
+/// whom there are 1 to 64 ([`ToolError::BadWorkers`]). Then come the records
+/// ([`ToolError::ReadFault`], [`ToolError::NoColumn`], [`ToolError::BadRecord`]) and their total
+/// ([`ToolError::TotalDiffers`]), which leaves both totals in `totals`.
+///
+/// Where the bytes of all files are known, the rows are those of their records, one file after the
+/// other. A file of the system may change while it is read, which can't be seen where its length
+/// stays the same.
+pub fn confirm_files<T: Threads + Wait + Sync, S: ReadAt + Sync>(
+    rt: &T,
+    alloc: Global,
+    file: &[u8],
+    share: &Share,
+    rows: &RowOptions,
+    workers: u64,
+    records: SourceRecords<'_, S>,
+    totals: &mut Option<Totals>,
+) -> Result<Vec<u8>, ToolError>
+    ensures rows { IfOk result (λ text. ConfirmsPrinted rows.now share.now file.now
+        (texts_known S.bytes records.entry.layout.now records.entry.sources.now) text.items) }
+    ensures refused { IfErr result (ConfirmFilesRefused share.now workers file.now
+        (texts_known S.bytes records.entry.layout.now records.entry.sources.now)) }
+    ensures totals { IfErr result (TellsTotals file.now
+        (texts_known S.bytes records.entry.layout.now records.entry.sources.now) totals.new) }
+    ensures early { StopsAtHead 1 file.now result }
+{
+    let summary = summary_in(alloc, file)?;
+    let Some(share) = threshold_of(summary.k(), share) else {
+        return Err(ToolError::BadThreshold);
+    };
+    if !in_range(workers, MAX_WORKERS) {
+        return Err(ToolError::BadWorkers);
+    }
+    let counts = count_sources(rt, alloc, &summary, workers, records)?;
+    confirmed_text(alloc, &summary, share, rows, &counts, totals)
+}

@@ -1,0 +1,191 @@
+//! A report of files, which are read twice, in memory that doesn't grow with them.
+
+ghost use Rattle.std.specs.Prelude.{◌≡◌, ◌≤◌, ◌+◌, ◌*◌, List, false, true, IfOk, IfErr, IfSome, OnOk, Err};
+ghost use Rattle.hh_summaries.specs.Counters.{max_k};
+ghost use Rattle.hh_summaries.specs.Report.{IsShare};
+ghost use Rattle.hh_stream.specs.Ranges.{in_range};
+ghost use Rattle.hh_stream.specs.Weights.{Entry, total_of};
+ghost use Rattle.hh_records.specs.Layouts.{texts_known};
+ghost use Rattle.hh_pieces.specs.Sources.{files_known};
+ghost use Rattle.hh_records.specs.Refusals.{RecordsRefused};
+ghost use Rattle.hh_reports.specs.Report.{AreKeysOfPieces, AreOptions, ReportsKeys};
+ghost use Rattle.hh_reports.specs.Report.{StartRefused, bad_option, failed_by};
+ghost use Rattle.hh_files.specs.ReportFiles.{FilesRefused, FindsKeys, IfKnown, IsPrintedOfFiles};
+
+use crate::file_pieces::FilePieces;
+use hh_commands::{count_records, rows_above, summary_by_monitoring};
+use hh_counters::Heavy;
+use hh_counters::laws::{candidates_suffice, misra_gries_is_honest};
+use hh_faults::ToolError;
+use hh_pieces::{CutFiles, FileRecords, ReadAt, SourceRecords, are_as_long, keep_pipes, lengths};
+use hh_pool::{OpenGate, Options, PiecesError, Plan, analyse_pieces};
+use hh_records::ReadRecords;
+use hh_reports::{Prepared, prepare, write_keys};
+use hh_rows::{ReportOptions, RowOptions, Sink};
+use std::alloc::{AllocError, Global};
+use std::io::Read;
+use std::sync::Wait;
+use std::thread::Threads;
+
+/// The total of files in pieces and the heavy keys of their items, where the plan is of as many and
+/// each piece can be read by itself.
+fn keys_of_pieces<T: Threads + Wait + Sync, S: ReadAt + Sync>(
+    rt: &T,
+    alloc: Global,
+    files: CutFiles<'_, S>,
+    plan: &Plan,
+    settings: &Options,
+) -> Result<Option<(u64, Vec<Heavy>)>, AllocError>
+    ensures { IfOk result (λ keys. IfSome keys (λ keys. IfSome files.entry.pieces (λ pieces.
+        AreKeysOfPieces pieces settings.now.p settings.now.q keys.0 keys.1.items))) }
+{
+    let pieces = FilePieces::new(files);
+    match analyse_pieces(rt, alloc, &pieces, plan, settings, &OpenGate) {
+        Ok(outcome) => Ok(Some((outcome.summary.total(), outcome.heavy))),
+        Err(PiecesError::Refused | PiecesError::PlanMismatch) => Ok(None),
+        Err(PiecesError::Memory) => Err(AllocError),
+    }
+}
+
+/// The total of some records and their heavy keys, by workers, where each piece of the files can be
+/// read by itself.
+fn keys_side_by_side<T: Threads + Wait + Sync, S: ReadAt + Sync>(
+    rt: &T,
+    alloc: Global,
+    records: SourceRecords<'_, S>,
+    pieces: usize,
+    plan: &Plan,
+    settings: &Options,
+) -> Result<Option<(u64, Vec<Heavy>)>, AllocError>
+    ensures { IfOk result (λ keys. IfSome keys (λ keys.
+        FindsKeys (texts_known S.bytes records.entry.layout.now records.entry.sources.now)
+        settings.now.p settings.now.q keys.0 keys.1.items)) }
+{
+    let Some(files) = CutFiles::new(alloc, records.layout, records.sources, pieces)? else {
+        return Ok(None);
+    };
+    keys_of_pieces(rt, alloc, files, plan, settings)
+}
+
+/// The same by one thread, which reads the files from their starts, twice.
+fn keys_in_turn<R: ReadRecords + Copy>(
+    alloc: Global,
+    records: R,
+    k: u64,
+    p: u64,
+    q: u64,
+) -> Result<(u64, Vec<Heavy>), ToolError>
+    requires k { in_range k max_k ≡ true }
+    requires share { IsShare p q }
+    requires enough { q ≤ p * (k + 1) }
+    ensures keys { IfOk result (λ keys. FindsKeys (R.known records) p q keys.0 keys.1.items) }
+    ensures refused { IfErr result (λ fault. RecordsRefused (R.known records) fault) }
+{
+    misra_gries_is_honest();
+    candidates_suffice();
+    let summary = summary_by_monitoring(alloc, k, records)?;
+    let counts = count_records(alloc, &summary, records)?;
+    if counts.total() != summary.total() {
+        return Err(ToolError::ReadFault);
+    }
+    let keys = rows_above(&summary, &counts, p, q)?;
+    Ok((summary.total(), keys))
+}
+
+/// The total of some records and their heavy keys. Workers read the files in pieces; where a piece
+/// can't be read by itself, one thread reads them. A file whose length changes meanwhile fails.
+fn keys_of_sources<T: Threads + Wait + Sync, S: ReadAt + Sync>(
+    rt: &T,
+    alloc: Global,
+    records: SourceRecords<'_, S>,
+    k: u64,
+    prepared: &Prepared,
+) -> Result<(u64, Vec<Heavy>), ToolError>
+    requires k { in_range k max_k ≡ true }
+    requires share { IsShare prepared.now.p prepared.now.q }
+    requires enough { prepared.now.q ≤ prepared.now.p * (k + 1) }
+    requires p { prepared.now.settings.p ≡ prepared.now.p }
+    requires q { prepared.now.settings.q ≡ prepared.now.q }
+    ensures keys { IfOk result (λ keys.
+        FindsKeys (texts_known S.bytes records.entry.layout.now records.entry.sources.now)
+        prepared.now.p prepared.now.q keys.0 keys.1.items) }
+    ensures refused { IfErr result (RecordsRefused
+        (texts_known S.bytes records.entry.layout.now records.entry.sources.now)) }
+{
+    let before = lengths(alloc, records.sources)?;
+    let Prepared {
+        pieces,
+        plan,
+        settings,
+        p,
+        q,
+    } = prepared;
+    let keys = match keys_side_by_side(rt, alloc, records, *pieces, plan, settings)? {
+        Some(keys) => keys,
+        None => keys_in_turn(alloc, records, k, *p, *q)?,
+    };
+    if !are_as_long(alloc, records.sources, &before)? {
+        return Err(ToolError::ReadFault);
+    }
+    Ok(keys)
+}
+
+/// The total of records in files, and the keys that a report of them has.
+fn reported_of_files<T: Threads + Wait + Sync, F: ReadAt + Sync + Drop, R: Read + Drop>(
+    rt: &T,
+    alloc: Global,
+    options: &ReportOptions,
+    records: FileRecords<F, R>,
+) -> Result<(u64, Vec<Heavy>), ToolError>
+    ensures keys { IfOk result (λ keys. AreOptions options.now
+        × IfKnown (files_known F.bytes R.remaining records)
+        ((xs : List Entry) × (keys.0 ≡ total_of xs)
+        × ReportsKeys options.now (files_known F.bytes R.remaining records) xs keys.1.items)) }
+    ensures refused { IfErr result
+        (StartRefused options.now (files_known F.bytes R.remaining records)) }
+    ensures bad_option { IfSome (bad_option options.now) (λ fault. result ≡ Err fault) }
+{
+    let prepared = match prepare(alloc, options, records.inputs.len()) {
+        Ok(prepared) => prepared,
+        Err(fault) => return Err(fault),
+    };
+    let FileRecords { layout, inputs } = records;
+    let sources = keep_pipes(alloc, inputs)?;
+    let records = SourceRecords {
+        layout: &layout,
+        sources: &sources,
+    };
+    keys_of_sources(rt, alloc, records, options.k, &prepared)
+}
+
+/// [`report_rows`](hh_reports::report_rows) of files of any size. Workers read them in pieces,
+/// through a buffer each, and twice: for the keys that can be heavy, and for their weights. Nothing
+/// of a file is kept; the text of a pipe is. Where a piece can't be read by itself, one thread
+/// reads all files, twice too, so that the first refusal is told with its number.
+///
+/// Where the bytes of all files are known, the report is that of their records, one file after the
+/// other. A file of the system may change between two readings. Where the total weight differs, one
+/// thread reads the files anew; where it differs then too, or a length does, a file is told as one
+/// that can't be read. Where neither differs, a change can't be seen.
+pub fn report_files<T: Threads + Wait + Sync, F: ReadAt + Sync + Drop, R: Read + Drop, S: Sink>(
+    rt: &T,
+    alloc: Global,
+    options: &ReportOptions,
+    rows: &RowOptions,
+    records: FileRecords<F, R>,
+    sink: &mut S,
+) -> Result<(), ToolError>
+    requires { S.has_failed sink.old ≡ false }
+    ensures reported { OnOk result
+        (IsPrintedOfFiles rows.now options.now (files_known F.bytes R.remaining records)
+        (S.taken sink.old) (S.taken sink.new)) }
+    ensures refused { IfErr result (λ fault.
+        FilesRefused rows.now options.now (files_known F.bytes R.remaining records)
+        (S.taken sink.old) (S.taken sink.new) fault) }
+    ensures bad_option { IfSome (bad_option options.now) (λ fault. result ≡ Err fault) }
+    ensures flushed { OnOk result (S.is_flushed sink.new ≡ true) }
+    ensures failed { S.has_failed sink.new ≡ failed_by result }
+{
+    let (total, keys) = reported_of_files(rt, alloc, options, records)?;
+    write_keys(alloc, sink, rows, total, &keys)
+}

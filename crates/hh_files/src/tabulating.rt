@@ -1,0 +1,127 @@
+//! Files counted in a saved table, which workers read in pieces.
+
+ghost use Rattle.std.specs.Prelude.{◌≡◌, true, IfOk, IfErr, IfSome, Err};
+ghost use Rattle.hh_stream.specs.Ranges.{in_range};
+ghost use Rattle.hh_countmin.specs.Family.{drawn_family, max_depth, max_width};
+ghost use Rattle.hh_countmin.specs.Table.{table_of};
+ghost use Rattle.hh_workers.specs.Workers.{max_workers};
+ghost use Rattle.hh_records.specs.Layouts.{texts_known};
+ghost use Rattle.hh_saved.specs.declared.saved.Saved.TheVariants.{Cells};
+ghost use Rattle.hh_commands.specs.Records.{SavesStream};
+ghost use Rattle.hh_records.specs.Refusals.{RecordsRefused, RefusedAfter};
+ghost use Rattle.hh_commands.specs.Table.{TabulatesRecords};
+ghost use Rattle.hh_files.specs.TableFiles.{bad_table_of_files};
+
+use crate::file_pieces::FilePieces;
+use hh_commands::table_of_records;
+use hh_countmin::{Family, MAX_DEPTH, MAX_WIDTH, Table};
+use hh_faults::ToolError;
+use hh_pieces::{CutFiles, ReadAt, SourceRecords, are_as_long, lengths};
+use hh_pool::{MAX_WORKERS, PieceFault, tabulate_pieces};
+use hh_reports::piece_count;
+use hh_saved::{Saved, write};
+use hh_stream::in_range;
+use std::alloc::{AllocError, Global};
+use std::sync::Wait;
+use std::thread::Threads;
+
+/// The table of records in files, by workers, where each piece of the files can be read by itself.
+fn table_side_by_side<T: Threads + Wait + Sync, S: ReadAt + Sync>(
+    rt: &T,
+    alloc: Global,
+    family: &Family,
+    width: u64,
+    workers: u64,
+    records: SourceRecords<'_, S>,
+) -> Result<Option<Table>, AllocError>
+    requires width { in_range width max_width ≡ true }
+    requires workers { in_range workers max_workers ≡ true }
+    ensures { IfOk result (λ table. IfSome table (TabulatesRecords
+        (texts_known S.bytes records.entry.layout.now records.entry.sources.now)
+        family.now width)) }
+{
+    let most = piece_count(workers, records.sources.len());
+    let Some(files) = CutFiles::new(alloc, records.layout, records.sources, most)? else {
+        return Ok(None);
+    };
+    let pieces = FilePieces::new(files);
+    match tabulate_pieces(rt, alloc, &pieces, family, width, workers) {
+        Ok(table) => Ok(Some(table)),
+        Err(PieceFault::Refused) => Ok(None),
+        Err(PieceFault::Memory) => Err(AllocError),
+    }
+}
+
+/// The table of records in files. Workers read the files in pieces, once; where a piece can't be
+/// read by itself, or a length changes meanwhile, one thread reads them from their starts.
+fn table_of_sources<T: Threads + Wait + Sync, S: ReadAt + Sync>(
+    rt: &T,
+    alloc: Global,
+    width: u64,
+    depth: u64,
+    seed: u64,
+    workers: u64,
+    records: SourceRecords<'_, S>,
+) -> Result<Table, ToolError>
+    requires depth { in_range depth max_depth ≡ true }
+    requires width { in_range width max_width ≡ true }
+    requires workers { in_range workers max_workers ≡ true }
+    ensures table { IfOk result (TabulatesRecords
+        (texts_known S.bytes records.entry.layout.now records.entry.sources.now)
+        (drawn_family seed depth) width) }
+    ensures refused { IfErr result (RecordsRefused
+        (texts_known S.bytes records.entry.layout.now records.entry.sources.now)) }
+{
+    let before = lengths(alloc, records.sources)?;
+    let family = Family::of_seed(alloc, seed, depth)?;
+    let Some(table) = table_side_by_side(rt, alloc, &family, width, workers, records)? else {
+        return table_of_records(alloc, width, depth, seed, records);
+    };
+    if !are_as_long(alloc, records.sources, &before)? {
+        return table_of_records(alloc, width, depth, seed, records);
+    }
+    Ok(table)
+}
+
+/// [`table_bytes_from`](hh_commands::table_bytes_from) of files of any size, or other bytes that
+/// are read at any place. Workers read them in pieces, through a buffer each, and once; each fills
+/// a table of its own, and these are merged. Nothing of a file is kept. Where a piece can't be read
+/// by itself, or a file's length changes meanwhile, one thread reads all files from their starts,
+/// so that the first refusal is told with its number.
+///
+/// The depth is tested first ([`ToolError::BadDepth`]), then the width ([`ToolError::BadWidth`]),
+/// then the workers, of whom there are 1 to 64 ([`ToolError::BadWorkers`]), and then come the
+/// records ([`ToolError::ReadFault`], [`ToolError::NoColumn`], [`ToolError::BadRecord`]).
+///
+/// Where the bytes of all files are known, the table is that of their records, one file after the
+/// other. A file of the system may change while it is read, which can't be seen where its length
+/// stays the same.
+pub fn table_files<T: Threads + Wait + Sync, S: ReadAt + Sync>(
+    rt: &T,
+    alloc: Global,
+    width: u64,
+    depth: u64,
+    seed: u64,
+    workers: u64,
+    records: SourceRecords<'_, S>,
+) -> Result<Vec<u8>, ToolError>
+    ensures saved { IfOk result (λ bytes.
+        SavesStream (λ xs. Cells (table_of (drawn_family seed depth) width xs))
+        (texts_known S.bytes records.entry.layout.now records.entry.sources.now) bytes.items) }
+    ensures refused { IfErr result (RefusedAfter (bad_table_of_files depth width workers)
+        (texts_known S.bytes records.entry.layout.now records.entry.sources.now)) }
+    ensures bad_table { IfSome (bad_table_of_files depth width workers)
+        (λ fault. result ≡ Err fault) }
+{
+    if !in_range(depth, MAX_DEPTH) {
+        return Err(ToolError::BadDepth);
+    }
+    if !in_range(width, MAX_WIDTH) {
+        return Err(ToolError::BadWidth);
+    }
+    if !in_range(workers, MAX_WORKERS) {
+        return Err(ToolError::BadWorkers);
+    }
+    let table = table_of_sources(rt, alloc, width, depth, seed, workers, records)?;
+    Ok(write(alloc, &Saved::Cells(table))?)
+}

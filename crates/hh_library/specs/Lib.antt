@@ -1,0 +1,6 @@
+pub mod Add
+pub mod AddText
+pub mod Confirm
+pub mod ConfirmShare
+pub mod CountItems
+pub mod Entries

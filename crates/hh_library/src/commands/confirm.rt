@@ -1,0 +1,94 @@
+//! A summary confirmed: its keys that are heavy, found by a second pass over the stream.
+
+ghost use Rattle.std.specs.Prelude.{◌≡◌, ◌≢◌, ◌↔◌, Ok, List, IfOk, IfErr, IsErrOf};
+ghost use Rattle.hh_stream.specs.Weights.{Entry, total_of};
+ghost use Rattle.hh_summaries.specs.Report.{IsShare};
+ghost use Rattle.hh_records.specs.Streams.{ReadsAs};
+ghost use Rattle.hh_commands.specs.Confirm.{CountRefused, confirmed_above, confirmed_rows};
+ghost use Rattle.hh_library.specs.Confirm.{confirm_fault};
+ghost use Rattle.hh_library.specs.declared.commands.confirm.ConfirmFault.TheVariants.{Memory};
+
+use hh_commands::{count_records, rows_above};
+use hh_counters::laws::counts_follow_items;
+use hh_counters::{Counts, Heavy, Summary};
+use hh_faults::ToolError;
+use hh_records::ReadRecords;
+use hh_stream::Stream;
+use std::alloc::{AllocError, Global};
+use thiserror::Error;
+
+/// Why a summary was not confirmed.
+#[derive(Clone, Copy, Debug, PartialEq, Eq, Error)]
+pub enum ConfirmFault {
+    /// The summary's total is not the stream's.
+    #[error("the summary's total is not the stream's")]
+    TotalDiffers,
+    /// The allocator had no memory.
+    #[error("out of memory")]
+    Memory,
+}
+
+impl From<AllocError> for ConfirmFault {
+    ghost from_gives = { λ _ fault. fault ≡ Memory };
+
+    fn from(_: AllocError) -> ConfirmFault {
+        ConfirmFault::Memory
+    }
+}
+
+impl From<ConfirmFault> for ToolError {
+    ghost from_gives = { λ fault error. error ≡ confirm_fault fault };
+
+    fn from(fault: ConfirmFault) -> ToolError {
+        match fault {
+            ConfirmFault::TotalDiffers => ToolError::TotalDiffers,
+            ConfirmFault::Memory => ToolError::Memory,
+        }
+    }
+}
+
+/// The keys of a summary that are heavy in a stream, with their true weights: those above the
+/// total divided by the summary's k + 1, by falling weight and then by rising key.
+///
+/// Where the summary is that of the stream, or a merge of its pieces' summaries, these are all
+/// heavy keys of the stream.
+pub fn confirm(
+    alloc: Global,
+    summary: &Summary,
+    stream: &Stream,
+) -> Result<Vec<Heavy>, ConfirmFault>
+    ensures rows { IfOk result (λ rows. rows.items ≡ confirmed_rows summary.now stream.now) }
+    ensures total_differs { IsErrOf result ConfirmFault.TotalDiffers
+        ↔ (summary.now.total ≢ total_of stream.now) }
+{
+    counts_follow_items();
+    if summary.total() != stream.total() {
+        return Err(ConfirmFault::TotalDiffers);
+    }
+    let mut counts = Counts::of(alloc, summary)?;
+    counts.add_stream(stream);
+    Ok(rows_above(summary, &counts, 1, summary.k() + 1)?)
+}
+
+/// The keys of a summary above p/q of the total of some records, in one pass that keeps no
+/// record.
+pub(crate) fn confirm_records<R: ReadRecords>(
+    alloc: Global,
+    summary: &Summary,
+    p: u64,
+    q: u64,
+    records: R,
+) -> Result<Vec<Heavy>, ToolError>
+    requires { IsShare p q }
+    ensures rows { IfOk result (λ rows. (xs : List Entry)
+        × ReadsAs (R.known records) (Ok xs)
+        × (summary.now.total ≡ total_of xs) × (rows.items ≡ confirmed_above p q summary.now xs)) }
+    ensures refused { IfErr result (λ fault.
+        CountRefused summary.now (R.known records) fault) }
+{
+    let counts = count_records(alloc, summary, records)?;
+    if summary.total() != counts.total() {
+        return Err(ToolError::TotalDiffers);
+    }
+    Ok(rows_above(summary, &counts, p, q)?)
+}

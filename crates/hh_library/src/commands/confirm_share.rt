@@ -1,0 +1,39 @@
+//! A summary confirmed above a share that is given as two numbers.
+
+ghost use Rattle.std.specs.Prelude.{◌≡◌, IfOk, IfErr};
+ghost use Rattle.hh_records.specs.Streams.{text_known};
+ghost use Rattle.hh_library.specs.ConfirmShare.{ConfirmShareRefused, ConfirmsShare};
+ghost use Rattle.hh_commands.specs.Files.{StopsAtHead};
+
+use crate::commands::confirm::confirm_records;
+use hh_commands::summary_in;
+use hh_counters::is_threshold;
+use hh_faults::ToolError;
+use hh_records::Records;
+use hh_rows::report_text;
+use std::alloc::Global;
+use std::io::Read;
+
+/// [`confirm_above`](crate::confirm_above) a share p/q whose two numbers are given as such, with
+/// 1 <= p <= q <= 4,294,967,296 and p/q at least 1/(k + 1) for the summary's k. Another one is
+/// refused ([`ToolError::BadThreshold`]) before any record is read.
+pub fn confirm_share<R: Read + Drop>(
+    alloc: Global,
+    file: &[u8],
+    p: u64,
+    q: u64,
+    reader: R,
+) -> Result<Vec<u8>, ToolError>
+    ensures rows { IfOk result (λ rows.
+        ConfirmsShare p q file.now (text_known (R.remaining reader)) rows.items) }
+    ensures refused { IfErr result (λ fault.
+        ConfirmShareRefused p q file.now (text_known (R.remaining reader)) fault) }
+    ensures early { StopsAtHead 1 file.now result }
+{
+    let summary = summary_in(alloc, file)?;
+    if !is_threshold(summary.k(), p, q) {
+        return Err(ToolError::BadThreshold);
+    }
+    let rows = confirm_records(alloc, &summary, p, q, Records::of_reader(alloc, reader))?;
+    Ok(report_text(alloc, &rows)?)
+}

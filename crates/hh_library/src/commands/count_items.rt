@@ -1,0 +1,105 @@
+//! Items in memory, condensed and confirmed by a saved summary.
+
+ghost use Rattle.std.specs.Prelude.{◌≡◌, Ok, Some, true, IfOk, IfErr, IfSome, map};
+ghost use Rattle.hh_summaries.specs.Counters.{max_k};
+ghost use Rattle.hh_summaries.specs.Report.{IsShare};
+ghost use Rattle.hh_stream.specs.Ranges.{in_range};
+ghost use Rattle.hh_library.specs.CountItems.{condensed_items, confirmed_in, confirmed_items, share_or_least};
+ghost use Rattle.hh_commands.specs.Files.{Refuses, StopsAtHead};
+
+use crate::items::count_items;
+use hh_commands::{condensed_rows, rows_above, summary_in};
+use hh_counters::{Summary, is_threshold};
+use hh_faults::ToolError;
+use hh_rows::{condensed_text, report_text};
+use std::alloc::Global;
+
+/// [`condense_bytes`](crate::condense_bytes) of items in memory, each a key and its weight: records
+/// that say the same of the summary's keys. So a second pass may go over a stream in parts, and
+/// the condensed records of the parts, joined in any order, are confirmed as the stream is.
+///
+/// The file is tested first ([`ToolError::BadFile`], as file 1), then its kind
+/// ([`ToolError::NotCounters`]), and then the items in order, numbered from 1
+/// ([`ToolError::BadRecord`]): a key has 1 to 4,096 bytes, a weight is at least 1, and the total at
+/// most 2^63 - 1.
+pub fn condense_items(
+    alloc: Global,
+    file: &[u8],
+    items: &[(&[u8], u64)],
+) -> Result<Vec<u8>, ToolError>
+    ensures rows { IfOk result (λ rows.
+        condensed_items file.now (map (λ item. (item.0.now, item.1)) items.now) ≡ Ok rows.items) }
+    ensures refused { IfErr result (Refuses
+        (condensed_items file.now (map (λ item. (item.0.now, item.1)) items.now))) }
+    ensures early { StopsAtHead 1 file.now result }
+{
+    let summary = summary_in(alloc, file)?;
+    let counts = count_items(alloc, &summary, items)?;
+    let rows = condensed_rows(alloc, &summary, &counts)?;
+    Ok(condensed_text(alloc, &rows)?)
+}
+
+/// The share above which keys are confirmed.
+fn share_or_least(share: Option<(u64, u64)>, k: u64) -> Option<(u64, u64)>
+    requires { in_range k max_k ≡ true }
+    ensures share { result ≡ share_or_least share k }
+    ensures is_share { IfSome result (λ t. IsShare t.0 t.1) }
+{
+    match share {
+        None => Some((1, k + 1)),
+        Some((p, q)) => {
+            if is_threshold(k, p, q) {
+                Some((p, q))
+            } else {
+                None
+            }
+        }
+    }
+}
+
+/// The rows of a summary's keys above a share of the total of items, where that is its own.
+fn confirmed_text(
+    alloc: Global,
+    summary: &Summary,
+    share: (u64, u64),
+    items: &[(&[u8], u64)],
+) -> Result<Vec<u8>, ToolError>
+    requires { IsShare share.0 share.1 }
+    ensures rows { IfOk result (λ rows. confirmed_in summary.now (Some share)
+        (map (λ item. (item.0.now, item.1)) items.now) ≡ Ok rows.items) }
+    ensures refused { IfErr result (Refuses (confirmed_in summary.now (Some share)
+        (map (λ item. (item.0.now, item.1)) items.now))) }
+{
+    let counts = count_items(alloc, summary, items)?;
+    if summary.total() != counts.total() {
+        return Err(ToolError::TotalDiffers);
+    }
+    let rows = rows_above(summary, &counts, share.0, share.1)?;
+    Ok(report_text(alloc, &rows)?)
+}
+
+/// [`confirm_share`](crate::confirm_share) over items in memory, each a key and its weight, which
+/// are those of the summary's stream, and of any stream that has its keys' weights and its total.
+/// Without a share it is 1/(k + 1), the least for the summary's k.
+///
+/// The file is tested first ([`ToolError::BadFile`], as file 1), then its kind
+/// ([`ToolError::NotCounters`]), then the share ([`ToolError::BadThreshold`]), then the items in
+/// order as [`condense_items`] does, and then their total ([`ToolError::TotalDiffers`]).
+pub fn confirm_items(
+    alloc: Global,
+    file: &[u8],
+    share: Option<(u64, u64)>,
+    items: &[(&[u8], u64)],
+) -> Result<Vec<u8>, ToolError>
+    ensures rows { IfOk result (λ rows. confirmed_items share file.now
+        (map (λ item. (item.0.now, item.1)) items.now) ≡ Ok rows.items) }
+    ensures refused { IfErr result (Refuses (confirmed_items share file.now
+        (map (λ item. (item.0.now, item.1)) items.now))) }
+    ensures early { StopsAtHead 1 file.now result }
+{
+    let summary = summary_in(alloc, file)?;
+    let Some(share) = share_or_least(share, summary.k()) else {
+        return Err(ToolError::BadThreshold);
+    };
+    confirmed_text(alloc, &summary, share, items)
+}

@@ -1,0 +1,63 @@
+//! Items in memory: what is wrong with one, and the keys of a summary counted in them.
+
+ghost use Rattle.std.specs.Prelude.{◌≡◌, ◌≤◌, ◌<◌, ◌+◌, None, IfOk, IfErr, map};
+ghost use Rattle.std.specs.Map.{keys_of};
+ghost use Rattle.hh_stream.specs.Weights.{max_total};
+ghost use Rattle.hh_summaries.specs.Counters.{IsCounters};
+ghost use Rattle.hh_library.specs.Add.{bad_item, item_fault};
+ghost use Rattle.hh_commands.specs.Ask.{unless};
+ghost use Rattle.hh_commands.specs.Files.{Refuses};
+ghost use Rattle.hh_commands.specs.Records.{IsCountOf};
+
+use hh_counters::laws::counts_follow_items;
+use hh_counters::{Counts, Summary};
+use hh_faults::{BadRecordCause, ToolError};
+use hh_stream::{MAX_KEY_LEN, MAX_TOTAL};
+use std::alloc::Global;
+
+/// What is wrong with the item with this number, behind items of this total.
+pub(crate) fn item_fault(number: u64, total: u64, key: &[u8], weight: u64) -> Option<ToolError>
+    requires { total ≤ max_total }
+    ensures fault { result ≡ item_fault number total (key.now, weight) }
+    ensures weighs { result ≡ None → 0 < weight }
+    ensures fits { result ≡ None → total + weight ≤ max_total }
+{
+    let cause = if key.is_empty() {
+        BadRecordCause::EmptyKey
+    } else if key.len() > MAX_KEY_LEN {
+        BadRecordCause::KeyTooLong
+    } else if weight == 0 {
+        BadRecordCause::ZeroWeight
+    } else if weight > MAX_TOTAL - total {
+        BadRecordCause::TotalTooLarge
+    } else {
+        return None;
+    };
+    Some(ToolError::BadRecord { number, cause })
+}
+
+/// The counts of a summary's keys in items, numbered from 1.
+pub(crate) fn count_items(
+    alloc: Global,
+    summary: &Summary,
+    items: &[(&[u8], u64)],
+) -> Result<Counts, ToolError>
+    ensures passes { IfOk result (λ counts.
+        bad_item 1 0 (map (λ item. (item.0.now, item.1)) items.now) ≡ None) }
+    ensures counts { IfOk result (λ counts. IsCountOf (keys_of summary.now.counters)
+        (map (λ item. (item.0.now, item.1)) items.now) counts) }
+    ensures counters { IfOk result (λ counts. IsCounters summary.now.counters) }
+    ensures refused { IfErr result (Refuses
+        (unless (bad_item 1 0 (map (λ item. (item.0.now, item.1)) items.now)) summary.now)) }
+{
+    counts_follow_items();
+    let mut counts = Counts::of(alloc, summary)?;
+    for i in 0..items.len() {
+        let (key, weight) = items[i];
+        if let Some(fault) = item_fault(i as u64 + 1, counts.total(), key, weight) {
+            return Err(fault);
+        }
+        counts.add_bytes(key, weight);
+    }
+    Ok(counts)
+}

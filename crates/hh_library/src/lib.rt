@@ -1,0 +1,19 @@
+//! The calls of the library that the program doesn't make: commands over the plain records of one
+//! reader, the numbers of keys, a summary or a table that grows item by item, items counted by a
+//! saved summary, and the places of entries in a saved file.
+#![tactic(auto)]
+
+mod commands;
+mod items;
+
+pub use commands::add::{add_items, empty_summary};
+pub use commands::add_text::add_text;
+pub use commands::confirm::{ConfirmFault, confirm};
+pub use commands::confirm_share::confirm_share;
+pub use commands::count_items::{condense_items, confirm_items};
+pub use commands::entries::list_entries;
+pub use commands::grow_table::empty_table;
+pub use commands::keys::{ask_key, ask_keys};
+pub use commands::plain::{
+    ask_bytes, condense_bytes, confirm_above, confirm_bytes, list_keys, summary_bytes, table_bytes,
+};

@@ -1,0 +1,63 @@
+-- Layouts of records that are said in words.
+use Rattle.std.specs.Prelude.{◌≡◌, ◌⊎◌, ℕ, Bool, List, [], ◌∷◌, map, Contains, Option, Some, None, option_map, ⊤}
+use Rattle.csv.specs.Writing.{comma}
+use Rattle.hh_records.specs.Layouts.{NamesColumn, delimiter_of}
+use Rattle.hh_records.specs.declared.layout.Column.{Column}
+use Rattle.hh_records.specs.declared.layout.Layout.{Layout}
+use Rattle.hh_faults.specs.declared.error.ToolError.{ToolError}
+use Rattle.hh_faults.specs.declared.error.ToolError.TheVariants as tool
+use Rattle.hh_records.specs.declared.layout_words.LayoutWords.{LayoutWords}
+
+-- the byte that a word names to stand between fields; no word is a comma
+abbrev pub delimiter_said : Option (List ℕ) → Option ℕ
+delimiter_said None = Some comma
+delimiter_said (Some word) = delimiter_of word
+
+-- a word names no column
+abbrev pub NamesNone : Bool → List ℕ → Type 0
+NamesNone has_header word = (column : Column) → NamesColumn has_header word column → ⊥
+
+-- words name these columns, one by one
+abbrev pub NamesKey : Bool → List (List ℕ) → List Column → Type 0
+NamesKey has_header [] [] = ⊤
+NamesKey has_header [] (column ∷ columns) = ⊥
+NamesKey has_header (word ∷ words) [] = ⊥
+NamesKey has_header (word ∷ words) (column ∷ columns) =
+    NamesColumn has_header word column × NamesKey has_header words columns
+
+-- one of these words names no column
+abbrev pub NamesNot : Bool → List (List ℕ) → Type 0
+NamesNot has_header words = (word : List ℕ) × Contains words word × NamesNone has_header word
+
+-- no word, or one that names this column
+abbrev pub NamesWeight : Bool → Option (List ℕ) → Option Column → Type 0
+NamesWeight has_header None None = ⊤
+NamesWeight has_header None (Some column) = ⊥
+NamesWeight has_header (Some word) None = ⊥
+NamesWeight has_header (Some word) (Some column) = NamesColumn has_header word column
+
+-- the words of the key's columns
+abbrev pub key_words : LayoutWords → List (List ℕ)
+key_words words = map (λ word. word.items) words.key.items
+
+-- the word of the weight's column, where there is one
+abbrev pub weight_word : LayoutWords → Option (List ℕ)
+weight_word words = option_map (λ word. word.items) words.weight
+
+-- the words say this layout
+pub record SaysLayout (words : LayoutWords) (layout : Layout) : Type 0 where
+  pub delimiter : delimiter_said (option_map (λ word. word.items) words.delimiter) ≡ Some layout.delimiter
+  pub has_header : layout.has_header ≡ words.has_header
+  pub key : NamesKey words.has_header (key_words words) layout.key.items
+  pub weight : NamesWeight words.has_header (weight_word words) layout.weight
+  pub allow_zero : layout.allow_zero ≡ words.allow_zero
+  pub decimals : layout.decimals ≡ words.decimals
+
+-- what a refusal of such words tells: of the delimiter, or of a column
+abbrev pub LayoutRefused : LayoutWords → ToolError → Type 0
+LayoutRefused words tool.BadDelimiter = delimiter_said (option_map (λ word. word.items) words.delimiter) ≡ None
+LayoutRefused words tool.BadColumn =
+    NamesNot words.has_header (key_words words)
+    ⊎ ((word : List ℕ) × (weight_word words ≡ Some word) × NamesNone words.has_header word)
+LayoutRefused words tool.Memory = ⊤
+LayoutRefused words _ = ⊥

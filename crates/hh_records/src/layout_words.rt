@@ -1,0 +1,81 @@
+//! How words say where the keys and the weights of records stand.
+
+ghost use Rattle.std.specs.Prelude.{◌≡◌, IfOk, IfErr, IfSome, None, Ok, map};
+ghost use Rattle.hh_records.specs.LayoutWords.{LayoutRefused, NamesKey, NamesNot, SaysLayout};
+
+use crate::layout::{Column, Layout, column_of, delimiter_of};
+use hh_faults::ToolError;
+use std::alloc::{AllocError, Global};
+
+/// What is said of the columns of records, in words.
+#[derive(Debug, Drop)]
+pub struct LayoutWords {
+    /// The byte between two fields, or `\t` for a tab. None is a comma.
+    pub delimiter: Option<Vec<u8>>,
+    /// The first record of each text names the columns.
+    pub has_header: bool,
+    /// The columns of the key: numbers from 1 on or, with a header, names.
+    pub key: Vec<Vec<u8>>,
+    /// The column of the weight.
+    pub weight: Option<Vec<u8>>,
+    /// A record of weight 0 adds nothing and is no fault, nor is one of weight `-`.
+    pub allow_zero: bool,
+    /// A weight may have a point and up to so many digits behind it, and counts in units of the
+    /// last.
+    pub decimals: u8,
+}
+
+/// The columns that words name, where each names one.
+fn key_of(
+    alloc: Global,
+    words: &[Vec<u8>],
+    has_header: bool,
+) -> Result<Option<Vec<Column>>, AllocError>
+    ensures named { IfOk result (λ key. IfSome key (λ key.
+        NamesKey has_header (map (λ word. word.items) words.now) key.items)) }
+    ensures unnamed { result ≡ Ok None
+        → NamesNot has_header (map (λ word. word.items) words.now) }
+{
+    let mut key = Vec::new(alloc);
+    for word in words {
+        match column_of(alloc, word, has_header) {
+            Ok(Some(column)) => key.push(column)?,
+            Ok(None) => return Ok(None),
+            Err(AllocError) => return Err(AllocError),
+        }
+    }
+    Ok(Some(key))
+}
+
+/// The layout that words say. The delimiter is tested first, then the key's columns, then the
+/// weight's ([`ToolError::BadDelimiter`], [`ToolError::BadColumn`]).
+pub fn layout_of(alloc: Global, words: &LayoutWords) -> Result<Layout, ToolError>
+    ensures layout { IfOk result (SaysLayout words.now) }
+    ensures refused { IfErr result (LayoutRefused words.now) }
+{
+    let delimiter = match &words.delimiter {
+        None => b',',
+        Some(word) => match delimiter_of(word) {
+            Some(byte) => byte,
+            None => return Err(ToolError::BadDelimiter),
+        },
+    };
+    let Some(key) = key_of(alloc, &words.key, words.has_header)? else {
+        return Err(ToolError::BadColumn);
+    };
+    let weight = match &words.weight {
+        None => None,
+        Some(word) => match column_of(alloc, word, words.has_header)? {
+            None => return Err(ToolError::BadColumn),
+            column => column,
+        },
+    };
+    Ok(Layout {
+        delimiter,
+        has_header: words.has_header,
+        key,
+        weight,
+        allow_zero: words.allow_zero,
+        decimals: words.decimals,
+    })
+}

@@ -1,5 +1,0 @@
-use Rattle.std.proofs.Common.{rules}
-use Rattle.hh_reports.proofs.commands.table_files.table_of_sources.Goals as goal
-
-pub returns-clause-table : goal.returns-clause-table
-returns-clause-table c = search rules

@@ -1,0 +1,444 @@
+//! A report from a reader to a sink.
+
+ghost use Rattle.std.specs.Prelude.{◌≡◌, ◌<◌, ◌≤◌, List, false, true, length, IfOk, IfErr, IfSome, OnOk, MatchResult, Err, None, Ok, Some};
+ghost use Rattle.hh_stream.specs.Cuttings.{max_pieces};
+ghost use Rattle.hh_workers.specs.Trees.{leaves};
+ghost use Rattle.hh_workers.specs.Workers.{max_workers};
+ghost use Rattle.hh_summaries.specs.Report.{IsShare, heavy};
+ghost use Rattle.hh_stream.specs.Ranges.{in_range};
+ghost use Rattle.hh_stream.specs.Weights.{Entry, total_of};
+ghost use Rattle.std.specs.Io.KnownBytes.{Appends};
+ghost use Rattle.hh_pieces.specs.Kept.{kept_left};
+ghost use Rattle.hh_rows.specs.Printed.{printed_rows};
+ghost use Rattle.hh_records.specs.Layouts.{records_known};
+ghost use Rattle.hh_records.specs.Streams.{Known, ReadsAs, text_known};
+ghost use Rattle.hh_rows.specs.Thresholds.{threshold_of};
+ghost use Rattle.hh_records.specs.Refusals.{RecordsRefused};
+ghost use Rattle.hh_reports.specs.Report.{AreKeysOf, AreKeysOfPieces, AreOptions, IsOptionFault, IsPrinted, IsReported, Names};
+ghost use Rattle.hh_reports.specs.Report.{PrintRefused, ReportRefused};
+ghost use Rattle.hh_reports.specs.Report.{IsPrepared, KeysNotWritten, ReportsKeys, StartRefused, TreeRefused, bad_option};
+ghost use Rattle.hh_reports.specs.Report.{failed_by, settings_of};
+
+use crate::text_pieces::TextPieces;
+use hh_counters::{Heavy, MAX_K};
+use hh_countmin::{Family, MAX_DEPTH, MAX_WIDTH};
+use hh_faults::{ToolError, TreeFault};
+use hh_pieces::{CutTexts, KeptText, keep_records, read_again, whole_texts};
+use hh_pool::{
+    MAX_WORKERS, OpenGate, Options, PiecesError, Plan, PlanFault, RunError, analyse, analyse_pieces,
+};
+use hh_records::{Records, read_records};
+use hh_rows::{ReportFault, ReportOptions, RowOptions, Sink, Tree, threshold_of, write_printed};
+use hh_stream::{Cutting, MAX_PIECES, Stream, in_range};
+use std::alloc::{AllocError, Global};
+use std::io::Read;
+use std::sync::Wait;
+use std::thread::Threads;
+
+// How many counters the summaries of all pieces may have, where workers read more pieces than the
+// options say.
+const SPREAD_COUNTERS: u64 = 65_536;
+
+/// Tests the options, but for the tree, and gives the p and q of the threshold.
+fn check_options(options: &ReportOptions) -> Result<(u64, u64), ToolError>
+    ensures tests { MatchResult result
+        (λ _. bad_option options.now ≡ None)
+        (λ fault. bad_option options.now ≡ Some fault) }
+    ensures kind { IfErr result IsOptionFault }
+    ensures threshold { IfOk result (λ threshold.
+        threshold_of options.now.k options.now.threshold ≡ Some threshold) }
+    ensures share { IfOk result (λ threshold. IsShare threshold.0 threshold.1) }
+{
+    if !in_range(options.depth, MAX_DEPTH) {
+        return Err(ToolError::BadDepth);
+    }
+    if !in_range(options.k, MAX_K) {
+        return Err(ToolError::BadK);
+    }
+    if !in_range(options.workers, MAX_WORKERS) {
+        return Err(ToolError::BadWorkers);
+    }
+    if !in_range(options.width, MAX_WIDTH) {
+        return Err(ToolError::BadWidth);
+    }
+    let Some(threshold) = threshold_of(options.k, &options.threshold) else {
+        return Err(ToolError::BadThreshold);
+    };
+    if !in_range(options.pieces, MAX_PIECES as u64) {
+        return Err(ToolError::BadPieces);
+    }
+    Ok(threshold)
+}
+
+/// Why there is no plan.
+#[derive(Drop)]
+enum NoPlan {
+    Bad(TreeFault),
+    Memory,
+}
+
+/// The plan of a tree over so many pieces.
+fn plan_of(alloc: Global, tree: &Tree, pieces: usize) -> Result<Plan, NoPlan>
+    requires { in_range pieces max_pieces ≡ true }
+    ensures pieces { IfOk result (λ plan. length (leaves plan) ≡ pieces) }
+    ensures tree { IfOk result (λ plan. Names tree.now pieces plan) }
+    ensures refused { (fault : TreeFault) → result ≡ Err (NoPlan.Bad fault)
+        → TreeRefused tree.now pieces fault }
+{
+    match tree {
+        Tree::Chain => Plan::chain(alloc, pieces).map_err(|_| NoPlan::Memory),
+        Tree::Balanced => Plan::balanced(alloc, pieces).map_err(|_| NoPlan::Memory),
+        Tree::Text(text) => match Plan::parse(alloc, text, pieces) {
+            Ok(plan) => Ok(plan),
+            Err(PlanFault::Syntax(at)) => Err(NoPlan::Bad(TreeFault::Syntax(at))),
+            Err(PlanFault::UnknownPiece(piece)) => Err(NoPlan::Bad(TreeFault::UnknownPiece(piece))),
+            Err(PlanFault::RepeatedPiece(piece)) => {
+                Err(NoPlan::Bad(TreeFault::RepeatedPiece(piece)))
+            }
+            Err(PlanFault::MissingPiece(piece)) => Err(NoPlan::Bad(TreeFault::MissingPiece(piece))),
+            Err(PlanFault::Memory) => Err(NoPlan::Memory),
+        },
+    }
+}
+
+/// The settings of an analysis with the threshold p/q, and the family drawn from the seed.
+fn settings_of(
+    alloc: Global,
+    options: &ReportOptions,
+    p: u64,
+    q: u64,
+) -> Result<Options, AllocError>
+    requires options { bad_option options.now ≡ None }
+    requires threshold { threshold_of options.now.k options.now.threshold ≡ Some (p, q) }
+    ensures { IfOk result (λ settings. settings ≡ settings_of options.now p q) }
+{
+    let family = Family::of_seed(alloc, options.seed, options.depth)?;
+    Ok(Options::within(options.k, p, q, options.workers, options.width, family))
+}
+
+/// The heavy keys of a stream that is cut evenly.
+fn heavy_keys<T: Threads + Wait + Sync>(
+    rt: &T,
+    alloc: Global,
+    stream: &Stream,
+    pieces: usize,
+    plan: &Plan,
+    settings: &Options,
+) -> Result<Vec<Heavy>, AllocError>
+    requires pieces { in_range pieces max_pieces ≡ true }
+    requires plan { length (leaves plan.now) ≡ pieces }
+    ensures { IfOk result (λ rows. rows.items ≡ heavy stream.now settings.now.p settings.now.q) }
+{
+    let cutting = Cutting::of_pieces(alloc, stream.len(), pieces)?;
+    match analyse(rt, alloc, stream, &cutting, plan, settings, &OpenGate) {
+        Ok(outcome) => Ok(outcome.heavy),
+        Err(RunError::PlanMismatch) => unreachable!(),
+        Err(RunError::Memory) => Err(AllocError),
+    }
+}
+
+/// The total of texts in pieces and the heavy keys of their items, where the plan is of as many and
+/// each piece can be read by itself.
+fn keys_of_pieces<T: Threads + Wait + Sync>(
+    rt: &T,
+    alloc: Global,
+    texts: CutTexts<'_>,
+    plan: &Plan,
+    settings: &Options,
+) -> Result<Option<(u64, Vec<Heavy>)>, AllocError>
+    ensures { IfOk result (λ keys. IfSome keys (λ keys.
+        AreKeysOfPieces texts.entry settings.now.p settings.now.q keys.0 keys.1.items)) }
+{
+    let pieces = TextPieces { texts };
+    match analyse_pieces(rt, alloc, &pieces, plan, settings, &OpenGate) {
+        Ok(outcome) => Ok(Some((outcome.summary.total(), outcome.heavy))),
+        Err(PiecesError::Refused | PiecesError::PlanMismatch) => Ok(None),
+        Err(PiecesError::Memory) => Err(AllocError),
+    }
+}
+
+/// The total of kept records and their heavy keys, where the texts can be read in pieces.
+fn keys_of_kept<T: Threads + Wait + Sync, R: Read + Drop>(
+    rt: &T,
+    alloc: Global,
+    kept: &Records<KeptText<R>>,
+    pieces: usize,
+    plan: &Plan,
+    settings: &Options,
+) -> Result<Option<(u64, Vec<Heavy>)>, AllocError>
+    ensures { IfOk result (λ keys. IfSome keys (λ keys.
+        AreKeysOf (records_known (kept_left R.remaining) kept.now) settings.now.p settings.now.q
+        keys.0 keys.1.items)) }
+{
+    let Some(texts) = whole_texts(alloc, kept)? else {
+        return Ok(None);
+    };
+    let Some(cut) = CutTexts::new(alloc, &kept.layout, &texts, pieces)? else {
+        return Ok(None);
+    };
+    keys_of_pieces(rt, alloc, cut, plan, settings)
+}
+
+/// The stream that records are.
+fn stream_of<R: Read + Drop>(alloc: Global, records: Records<R>) -> Result<Stream, ToolError>
+    ensures stream { IfOk result (λ stream.
+        ReadsAs (records_known R.remaining records) (Ok stream)) }
+    ensures refused { IfErr result (RecordsRefused (records_known R.remaining records)) }
+{
+    Ok(read_records(alloc, records, Stream::new(alloc))?)
+}
+
+/// The total of records and their heavy keys, by the stream that they are.
+fn keys_of_stream<T: Threads + Wait + Sync, R: Read + Drop>(
+    rt: &T,
+    alloc: Global,
+    records: Records<R>,
+    pieces: usize,
+    plan: &Plan,
+    settings: &Options,
+) -> Result<(u64, Vec<Heavy>), ToolError>
+    requires pieces { in_range pieces max_pieces ≡ true }
+    requires plan { length (leaves plan.now) ≡ pieces }
+    ensures keys { IfOk result (λ keys. AreKeysOf (records_known R.remaining records)
+        settings.now.p settings.now.q keys.0 keys.1.items) }
+    ensures refused { IfErr result (RecordsRefused (records_known R.remaining records)) }
+{
+    let stream = stream_of(alloc, records)?;
+    let keys = heavy_keys(rt, alloc, &stream, pieces, plan, settings)?;
+    Ok((stream.total(), keys))
+}
+
+/// The same of records that were kept as text, from their start.
+fn keys_read_again<T: Threads + Wait + Sync, R: Read + Drop>(
+    rt: &T,
+    alloc: Global,
+    kept: Records<KeptText<R>>,
+    pieces: usize,
+    plan: &Plan,
+    settings: &Options,
+) -> Result<(u64, Vec<Heavy>), ToolError>
+    requires pieces { in_range pieces max_pieces ≡ true }
+    requires plan { length (leaves plan.now) ≡ pieces }
+    ensures keys { IfOk result (λ keys. AreKeysOf (records_known (kept_left R.remaining) kept)
+        settings.now.p settings.now.q keys.0 keys.1.items) }
+    ensures refused { IfErr result
+        (RecordsRefused (records_known (kept_left R.remaining) kept)) }
+{
+    let again = read_again(alloc, kept)?;
+    keys_of_stream(rt, alloc, again, pieces, plan, settings)
+}
+
+/// The total of records and their heavy keys. What is read is kept as text, which workers read in
+/// pieces. Where a piece can't be read by itself, one thread reads the text.
+fn keys_of_records<T: Threads + Wait + Sync, R: Read + Drop>(
+    rt: &T,
+    alloc: Global,
+    records: Records<R>,
+    pieces: usize,
+    plan: &Plan,
+    settings: &Options,
+) -> Result<(u64, Vec<Heavy>), ToolError>
+    requires pieces { in_range pieces max_pieces ≡ true }
+    requires plan { length (leaves plan.now) ≡ pieces }
+    ensures keys { IfOk result (λ keys. AreKeysOf (records_known R.remaining records)
+        settings.now.p settings.now.q keys.0 keys.1.items) }
+    ensures refused { IfErr result (RecordsRefused (records_known R.remaining records)) }
+{
+    let kept = keep_records(alloc, records)?;
+    match keys_of_kept(rt, alloc, &kept, pieces, plan, settings)? {
+        Some(keys) => Ok(keys),
+        None => keys_read_again(rt, alloc, kept, pieces, plan, settings),
+    }
+}
+
+/// How many pieces so many texts are read in by so many workers: four for each worker, and one for
+/// each text.
+pub fn piece_count(workers: u64, texts: usize) -> usize
+    requires { in_range workers max_workers ≡ true }
+    ensures some { 0 < result }
+    ensures few { result ≤ max_pieces }
+{
+    let most = MAX_PIECES - 4 * workers as usize;
+    4 * workers as usize + texts.min(most)
+}
+
+/// How many pieces so many texts are read in: as many as the options say or, where that is more and
+/// their summaries are small, as many as one pass has. A tree that is spelled has its own.
+fn pieces_to_read(options: &ReportOptions, texts: usize) -> usize
+    requires { bad_option options.now ≡ None }
+    ensures { in_range result max_pieces ≡ true }
+{
+    let asked = options.pieces as usize;
+    if let Tree::Text(_) = options.tree {
+        return asked;
+    }
+    let small = (SPREAD_COUNTERS / options.k) as usize;
+    piece_count(options.workers, texts).min(small).max(asked)
+}
+
+/// The pieces that so many texts are read in, and their plan: that at hand where they are as many.
+fn plan_to_read(
+    alloc: Global,
+    options: &ReportOptions,
+    plan: Plan,
+    texts: usize,
+) -> Result<(usize, Plan), AllocError>
+    requires options { bad_option options.now ≡ None }
+    requires plan { length (leaves plan) ≡ options.now.pieces }
+    ensures few { IfOk result (λ r. in_range r.0 max_pieces ≡ true) }
+    ensures plan { IfOk result (λ r. length (leaves r.1) ≡ r.0) }
+{
+    let pieces = pieces_to_read(options, texts);
+    if pieces == options.pieces as usize {
+        return Ok((pieces, plan));
+    }
+    Ok((pieces, Plan::balanced(alloc, pieces)?))
+}
+
+/// What a report is made by: a plan of so many pieces, and the settings of the analysis.
+#[derive(Drop)]
+pub struct Prepared {
+    pub pieces: usize,
+    pub plan: Plan,
+    pub settings: Options,
+    /// The threshold is p/q.
+    pub p: u64,
+    pub q: u64,
+}
+
+/// Tests the options, before anything is read of so many texts.
+pub fn prepare(alloc: Global, options: &ReportOptions, texts: usize) -> Result<Prepared, ToolError>
+    ensures prepared { IfOk result (IsPrepared options.now) }
+    ensures refused { IfErr result (λ fault.
+        (known : Known) → StartRefused options.now known fault) }
+    ensures bad_option { IfSome (bad_option options.now) (λ fault. result ≡ Err fault) }
+{
+    let (p, q) = check_options(options)?;
+    let plan = match plan_of(alloc, &options.tree, options.pieces as usize) {
+        Ok(plan) => plan,
+        Err(NoPlan::Bad(fault)) => return Err(ToolError::BadTree(fault)),
+        Err(NoPlan::Memory) => return Err(ToolError::Memory),
+    };
+    let (pieces, plan) = plan_to_read(alloc, options, plan, texts)?;
+    let settings = settings_of(alloc, options, p, q)?;
+    Ok(Prepared {
+        pieces,
+        plan,
+        settings,
+        p,
+        q,
+    })
+}
+
+/// The total of some records, and the keys that a report of them has.
+fn reported<T: Threads + Wait + Sync, R: Read + Drop>(
+    rt: &T,
+    alloc: Global,
+    options: &ReportOptions,
+    records: Records<R>,
+) -> Result<(u64, Vec<Heavy>), ToolError>
+    ensures keys { IfOk result (λ keys. (xs : List Entry) × AreOptions options.now
+        × ReportsKeys options.now (records_known R.remaining records) xs keys.1.items
+        × (keys.0 ≡ total_of xs)) }
+    ensures refused { IfErr result
+        (StartRefused options.now (records_known R.remaining records)) }
+    ensures bad_option { IfSome (bad_option options.now) (λ fault. result ≡ Err fault) }
+{
+    let texts = records.others.len().saturating_add(1);
+    match prepare(alloc, options, texts) {
+        Ok(
+            Prepared {
+                pieces,
+                plan,
+                settings,
+                ..
+            },
+        ) => keys_of_records(rt, alloc, records, pieces, &plan, &settings),
+        Err(fault) => Err(fault),
+    }
+}
+
+/// Writes the rows of some keys with their total, as the options of rows want them.
+pub fn write_keys<S: Sink>(
+    alloc: Global,
+    sink: &mut S,
+    rows: &RowOptions,
+    total: u64,
+    keys: &[Heavy],
+) -> Result<(), ToolError>
+    requires { S.has_failed sink.old ≡ false }
+    ensures all { OnOk result (Appends (S.taken sink.old) (S.taken sink.new)
+        (printed_rows total rows.now keys.now)) }
+    ensures refused { IfErr result (KeysNotWritten (printed_rows total rows.now keys.now)
+        (S.taken sink.old) (S.taken sink.new)) }
+    ensures flushed { OnOk result (S.is_flushed sink.new ≡ true) }
+    ensures failed { S.has_failed sink.new ≡ failed_by result }
+{
+    match write_printed(alloc, sink, total, rows, keys) {
+        Ok(()) => Ok(()),
+        Err(ReportFault::WriteFault { written }) => Err(ToolError::WriteFault { written }),
+        Err(ReportFault::Memory) => Err(ToolError::Memory),
+    }
+}
+
+/// Reads records as [`read_stream`](crate::read_stream) does, and writes the report of their
+/// stream: exactly the keys whose weight is more than the threshold's share of the total, with
+/// their true weights, by falling weight and then by rising key. The text is kept and cut into
+/// pieces, which workers read in threads of their own; the report is the same for all other
+/// options. Where a piece can't be read by itself, the text is read once more by one thread.
+///
+/// The options are tested before anything is read, in the order depth, k, workers, width,
+/// threshold, pieces and tree. A refusal other than [`ToolError::WriteFault`] has written nothing.
+pub fn run_report<T: Threads + Wait + Sync, R: Read + Drop, S: Sink>(
+    rt: &T,
+    alloc: Global,
+    options: &ReportOptions,
+    reader: R,
+    sink: &mut S,
+) -> Result<(), ToolError>
+    requires { S.has_failed sink.old ≡ false }
+    ensures reported { OnOk result
+        (IsReported options.now (text_known (R.remaining reader))
+        (S.taken sink.old) (S.taken sink.new)) }
+    ensures refused { IfErr result (λ fault.
+        ReportRefused options.now (text_known (R.remaining reader))
+        (S.taken sink.old) (S.taken sink.new) fault) }
+    ensures bad_option { IfSome (bad_option options.now) (λ fault. result ≡ Err fault) }
+    ensures flushed { OnOk result (S.is_flushed sink.new ≡ true) }
+    ensures failed { S.has_failed sink.new ≡ failed_by result }
+{
+    let rows = RowOptions::plain();
+    report_rows(
+        rt,
+        alloc,
+        options,
+        &rows,
+        Records::of_reader(alloc, reader),
+        sink,
+    )
+}
+
+/// [`run_report`] of records in texts and columns of one's own, with rows as `rows` wants them.
+/// Shares are of the total of all records.
+pub fn report_rows<T: Threads + Wait + Sync, R: Read + Drop, S: Sink>(
+    rt: &T,
+    alloc: Global,
+    options: &ReportOptions,
+    rows: &RowOptions,
+    records: Records<R>,
+    sink: &mut S,
+) -> Result<(), ToolError>
+    requires { S.has_failed sink.old ≡ false }
+    ensures reported { OnOk result
+        (IsPrinted rows.now options.now (records_known R.remaining records)
+        (S.taken sink.old) (S.taken sink.new)) }
+    ensures refused { IfErr result (λ fault.
+        PrintRefused rows.now options.now (records_known R.remaining records)
+        (S.taken sink.old) (S.taken sink.new) fault) }
+    ensures bad_option { IfSome (bad_option options.now) (λ fault. result ≡ Err fault) }
+    ensures flushed { OnOk result (S.is_flushed sink.new ≡ true) }
+    ensures failed { S.has_failed sink.new ≡ failed_by result }
+{
+    let (total, keys) = reported(rt, alloc, options, records)?;
+    write_keys(alloc, sink, rows, total, &keys)
+}

@@ -1,0 +1,10 @@
+//! Summaries of weighted streams: at most k keys with counters, as Misra and Gries keep them, and
+//! the merge of two.
+#![tactic(auto)]
+
+mod entries;
+mod summary;
+mod taking;
+
+pub use entries::{add_entry, counter_of, least_counter, lower_all, push_copy};
+pub use summary::{AddFault, BadK, MAX_K, MergeFault, OfItemsFault, Summary};
