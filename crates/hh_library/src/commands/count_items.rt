@@ -58,7 +58,7 @@ fn share_or_least(share: Option<(u64, u64)>, k: u64) -> Option<(u64, u64)>
 }
 
 /// The rows of a summary's keys above a share of the total of items, where that is its own.
-fn confirmed_text(
+fn confirmed_items_text(
     alloc: Global,
     summary: &Summary,
     share: (u64, u64),
@@ -101,5 +101,5 @@ pub fn confirm_items(
     let Some(share) = share_or_least(share, summary.k()) else {
         return Err(ToolError::BadThreshold);
     };
-    confirmed_text(alloc, &summary, share, items)
+    confirmed_items_text(alloc, &summary, share, items)
 }
