@@ -1,9 +1,10 @@
 -- Pieces of files, and what workers find in them.
-use Rattle.std.proofs.Common.{◌≡◌, ◌≤◌, ◌<◌, ◌+◌, ◌++◌, ◌∷◌, ◌∙◌, ℕ, List, [], length, map, get_or, Option, Some, None, refl, sym, ap, arith}
-use Rattle.std.specs.Prelude.{IfSome, IsSome}
+use Rattle.std.proofs.Common.{◌≡◌, ◌≤◌, ◌<◌, ◌+◌, ◌++◌, ◌∷◌, ◌∙◌, ℕ, List, [], length, map, get_or, Option, Some, None, Result, Ok, Err, refl, sym, ap, arith}
+use Rattle.std.specs.Prelude.{IfSome, IsSome, OnOk}
 use Rattle.std.proofs.lemmas.List.{get_or-map, length-map}
 use Rattle.std.proofs.lemmas.List.Sums.{sum_by-append}
 use Rattle.hh_stream.specs.Cuttings.{whole_of}
+use Rattle.hh_stream.specs.Taking.{Takes}
 use Rattle.hh_stream.specs.Weights.{Entry, max_total, total_of}
 use Rattle.hh_summaries.specs.Report.{heavy}
 use Rattle.hh_reports.specs.Report.{AreKeysOfPieces}
@@ -32,6 +33,18 @@ read_piece count i None xs l is known = absurd (cc known)
 read_piece count i (Some pieces) xs l is known =
     let l2 : i < length pieces = omega (arith, l, length-map pieces items_or_too_many) in
     sym (get_or-map items_or_too_many pieces i None [] l2 ∙ ap items_or_too_many is)
+
+-- what follows of the items that a call hands over is given of them too
+pub hands-over : {A R E : Type 0} (f : A → Entry → A) (w : A → ℕ) (old new : A) (P Q : List Entry → Type 0) (r : Result R E)
+    → OnOk r (Takes f w old new P) → ((xs : List Entry) → P xs → Q xs) → OnOk r (Takes f w old new Q)
+hands-over f w old new P Q (Ok x) t follows = record {
+  xs = t.xs;
+  given = follows t.xs t.given;
+  positive = t.positive;
+  weight = t.weight;
+  taken = t.taken;
+}
+hands-over f w old new P Q (Err e) t follows = tt
 
 -- what is found in the lists is found in the pieces, where they are known
 pub found-in-pieces : (count : ℕ) (o : Option (List (Option (List Entry)))) (p q total : ℕ) (keys : List Entry)

@@ -45,10 +45,6 @@ impl<'t, S: ReadAt> Pieces for FilePieces<'t, S> {
         piece: usize,
         taker: &mut T,
     ) -> Result<(), PieceFault> {
-        match self.files.feed(alloc, piece, taker) {
-            Ok(()) => Ok(()),
-            Err(hh_pieces::PieceFault::Refused) => Err(PieceFault::Refused),
-            Err(hh_pieces::PieceFault::Memory) => Err(PieceFault::Memory),
-        }
+        self.files.feed(alloc, piece, taker)
     }
 }

@@ -11,7 +11,8 @@ use lib.Seq.{paste, take-add}
 use Rattle.hh_stream.specs.Weights.{Entry, max_total, total_of}
 use Rattle.hh_pieces.specs.Chunks.{Follows, LeadsTo}
 use Rattle.hh_pieces.specs.CutTexts.{Piece, piece_items}
-use Rattle.hh_records.specs.Layouts.{Places, TakesAdded, items_after, joined, parts_at}
+use Rattle.hh_stream.specs.Taking.{Takes}
+use Rattle.hh_records.specs.Layouts.{Places, items_after, joined, parts_at}
 use Rattle.hh_pieces.specs.Pieces.{IsCut, IsCutAt, piece_parts, piece_reading}
 use Rattle.hh_records.specs.Layouts.{rows_in}
 use Rattle.hh_records.specs.Streams.{Parts}
@@ -49,24 +50,24 @@ abbrev Weighs : Entry → Type 0
 Weighs e = 0 < e.1
 
 pub takes-none : {A : Type 0} (f : A → Entry → A) (w : A → ℕ) (old : A) (P : List Entry → Type 0) → P []
-    → TakesAdded f w old old P
+    → Takes f w old old P
 takes-none f w old P h = record {
   xs = [];
-  adds = h;
+  given = h;
   positive = All-from_recursion Weighs [] tt;
   weight = omega arith;
   taken = refl;
 }
 
 pub takes-on : {A : Type 0} (f : A → Entry → A) (w : A → ℕ) (a b c : A) (P Q R : List Entry → Type 0)
-    → TakesAdded f w a b P → TakesAdded f w b c Q
-    → ((xs ys : List Entry) → P xs → Q ys → w c ≡ w a + total_of (xs ++ ys) → R (xs ++ ys)) → TakesAdded f w a c R
+    → Takes f w a b P → Takes f w b c Q
+    → ((xs ys : List Entry) → P xs → Q ys → w c ≡ w a + total_of (xs ++ ys) → R (xs ++ ys)) → Takes f w a c R
 takes-on f w a b c P Q R s t h =
     let sum = sum_by-append (λ (e : Entry). e.1) s.xs t.xs in
     let weight : w c ≡ w a + total_of (s.xs ++ t.xs) = omega (arith, s.weight, t.weight, sum) in
     record {
       xs = s.xs ++ t.xs;
-      adds = h s.xs t.xs s.adds t.adds weight;
+      given = h s.xs t.xs s.given t.given weight;
       positive = All-append Weighs s.xs t.xs s.positive t.positive;
       weight = weight;
       taken = t.taken ∙ ap (λ taker. fold f taker t.xs) s.taken ∙ sym (fold-append f a s.xs t.xs);

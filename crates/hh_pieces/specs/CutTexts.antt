@@ -6,8 +6,8 @@ use Rattle.hh_records.specs.Layouts.{Places, stream_with}
 use Rattle.hh_pieces.specs.Pieces.{InPieces, LaterBeginWithFeed, ends_outside, first_piece, piece_reading, text_of, with_columns}
 use Rattle.hh_records.specs.Layouts.{columns_of, rows_in}
 use Rattle.hh_records.specs.Streams.{Reading}
-use Rattle.hh_pieces.specs.declared.cut_texts.PieceFault.{PieceFault}
-use Rattle.hh_pieces.specs.declared.cut_texts.PieceFault.TheVariants as fault
+use Rattle.hh_stream.specs.declared.taking.PieceFault.{PieceFault}
+use Rattle.hh_stream.specs.declared.taking.PieceFault.TheVariants as fault
 use Rattle.hh_pieces.specs.declared.cut_texts.TextPiece.{TextPiece}
 use Rattle.hh_records.specs.declared.layout.Layout.{Layout}
 use Rattle.hh_faults.specs.declared.records.TextError.{TextError}

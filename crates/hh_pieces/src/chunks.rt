@@ -5,14 +5,14 @@ ghost use Rattle.hh_stream.specs.Weights.{max_total};
 ghost use Rattle.hh_pieces.specs.Chunks.{LeadsTo};
 ghost use Rattle.hh_pieces.specs.CutTexts.{piece_items};
 ghost use Rattle.hh_pieces.specs.Windows.{held_in};
-ghost use Rattle.hh_records.specs.Layouts.{TakesAdded};
+ghost use Rattle.hh_stream.specs.Taking.{Takes};
 
-use crate::cut_texts::{PieceFault, feed_bytes};
+use crate::cut_texts::{feed_bytes, piece_fault};
 use crate::cuts::whole_records;
 use crate::pieces::{Columns, read_piece};
 use crate::window::Window;
 use hh_records::Layout;
-use hh_stream::TakeItems;
+use hh_stream::{PieceFault, TakeItems};
 use std::alloc::{AllocError, Global};
 use std::io::Read;
 
@@ -43,7 +43,7 @@ fn take_chunk<T: TakeItems>(
     requires bounded { T.weight_taken taker.old ≤ max_total }
     ensures within { IfOk result (λ count. count ≤ length held.now) }
     ensures taken { IfOk result (λ count.
-        TakesAdded T.with_item T.weight_taken taker.old taker.new (λ xs.
+        Takes T.with_item T.weight_taken taker.old taker.new (λ xs.
         (behind : List ℕ) → LeadsTo layout.now (columns.old, held.now ++ behind) xs
         (columns.new, drop count held.now ++ behind))) }
     ensures bounded { IfOk result (λ _. T.weight_taken taker.new ≤ max_total) }
@@ -55,17 +55,17 @@ fn take_chunk<T: TakeItems>(
     if columns.is_some() {
         return match read_piece(alloc, layout, columns.as_ref(), chunk, taker) {
             Ok(()) => Ok(count),
-            Err(error) => Err(PieceFault::from(error)),
+            Err(error) => Err(piece_fault(error)),
         };
     }
     let chosen = match Columns::of_text(alloc, layout, chunk) {
         Ok(Some(chosen)) => chosen,
         Ok(None) => return Ok(0),
-        Err(error) => return Err(PieceFault::from(error)),
+        Err(error) => return Err(piece_fault(error)),
     };
     match read_piece(alloc, layout, None, chunk, taker) {
         Ok(()) => {}
-        Err(error) => return Err(PieceFault::from(error)),
+        Err(error) => return Err(piece_fault(error)),
     }
     *columns = Some(chosen);
     Ok(count)
@@ -85,15 +85,13 @@ fn feed_window<R: Read, T: TakeItems>(
     requires empty { held_in window.old ≡ [] }
     requires bounded { T.weight_taken taker.old ≤ max_total }
     ensures items { OnOk result
-        (TakesAdded T.with_item T.weight_taken taker.old taker.new (λ xs.
+        (Takes T.with_item T.weight_taken taker.old taker.new (λ xs.
         IfSome (R.remaining piece.old) (λ bytes.
         piece_items layout.now (columns.old, bytes) ≡ Some xs))) }
     ensures bounded { OnOk result (T.weight_taken taker.new ≤ max_total) }
 {
     for _ in 0..u64::MAX {
-        let Ok(()) = window.make_room(most) else {
-            return Err(PieceFault::Memory);
-        };
+        window.make_room(most)?;
         let Ok(count) = window.read_more(piece) else {
             return Err(PieceFault::Refused);
         };
@@ -117,7 +115,7 @@ pub(crate) fn feed_left<R: Read, T: TakeItems>(
     taker: &mut T,
 ) -> Result<(), PieceFault>
     ensures items { OnOk result
-        (TakesAdded T.with_item T.weight_taken taker.old taker.new (λ xs.
+        (Takes T.with_item T.weight_taken taker.old taker.new (λ xs.
         IfSome (R.remaining piece.old) (λ bytes. piece_items layout.now
         (option_map (λ c. c.now) columns.entry, bytes) ≡ Some xs))) }
     ensures bounded { OnOk result (T.weight_taken taker.new ≤ max_total) }
@@ -125,11 +123,7 @@ pub(crate) fn feed_left<R: Read, T: TakeItems>(
     // What was taken before is in range, as this call's clause says.
     let _total = taker.total();
     let most = len.saturating_add(1);
-    let Ok(mut columns) = copy_columns(alloc, columns) else {
-        return Err(PieceFault::Memory);
-    };
-    let Ok(mut window) = Window::new(alloc, most.min(CHUNK_LEN)) else {
-        return Err(PieceFault::Memory);
-    };
+    let mut columns = copy_columns(alloc, columns)?;
+    let mut window = Window::new(alloc, most.min(CHUNK_LEN))?;
     feed_window(alloc, layout, &mut columns, &mut window, piece, most, taker)
 }

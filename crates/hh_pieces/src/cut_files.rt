@@ -4,18 +4,19 @@ ghost use Rattle.std.specs.Prelude.{◌≡◌, ◌≤◌, ◌<◌, ◌++◌, ℕ
 ghost use Rattle.hh_stream.specs.Weights.{Entry, max_total};
 ghost use Rattle.hh_pieces.specs.CutFiles.{AddsSpans, CutsBytes, file_piece, span_bytes};
 ghost use Rattle.hh_pieces.specs.CutTexts.{AreReadByPieces, piece_items};
-ghost use Rattle.hh_records.specs.Layouts.{TakesAdded, every};
+ghost use Rattle.hh_stream.specs.Taking.{Takes};
+ghost use Rattle.hh_records.specs.Layouts.{every};
 ghost use Rattle.hh_pieces.specs.Pieces.{begins_with_feed};
 
 use crate::chunks::feed_left;
-use crate::cut_texts::{LEAST_LEN, PieceFault};
+use crate::cut_texts::LEAST_LEN;
 use crate::kept::{READ_LEN, zeros};
 use crate::laws::{feeds_outside_quotes_are_cuts, pieces_are_read};
 use crate::pieces::Columns;
 use crate::read_at::{ReadAt, read_between};
 use hh_faults::TextError;
 use hh_records::Layout;
-use hh_stream::TakeItems;
+use hh_stream::{PieceFault, TakeItems};
 use memchr::memchr;
 use std::alloc::{AllocError, Global};
 use std::marker::Model;
@@ -267,7 +268,7 @@ impl<'t, S: ReadAt> CutFiles<'t, S> {
     ) -> Result<(), PieceFault>
         requires { piece < self.now.count }
         ensures items { OnOk result
-            (TakesAdded T.with_item T.weight_taken taker.old taker.new (λ xs.
+            (Takes T.with_item T.weight_taken taker.old taker.new (λ xs.
             IfSome self.now.pieces (λ pieces. get_or pieces piece None ≡ Some xs))) }
         ensures bounded { OnOk result (T.weight_taken taker.new ≤ max_total) }
     {

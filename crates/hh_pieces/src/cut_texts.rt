@@ -3,14 +3,14 @@
 ghost use Rattle.std.specs.Prelude.{◌≡◌, ◌≤◌, ◌<◌, ◌++◌, true, List, None, Some, get_or, length, map, option_map, IfOk, IfSome, OnOk};
 ghost use Rattle.hh_stream.specs.Weights.{Entry, max_total};
 ghost use Rattle.hh_pieces.specs.CutTexts.{AddsPieces, AreReadByPieces, padded, piece_fault, piece_items, piece_of};
-ghost use Rattle.hh_records.specs.Layouts.{TakesAdded};
+ghost use Rattle.hh_stream.specs.Taking.{Takes};
 
 use crate::cuts::{cut_text, ends_outside_quotes};
 use crate::laws::{feeds_outside_quotes_are_cuts, pieces_are_read};
 use crate::pieces::{Columns, read_piece};
 use hh_faults::TextError;
 use hh_records::Layout;
-use hh_stream::TakeItems;
+use hh_stream::{PieceFault, TakeItems};
 use std::alloc::{AllocError, Global};
 use std::marker::Model;
 
@@ -41,24 +41,14 @@ impl<'t> Model for CutTexts<'t> {
         (map (λ piece. piece_items texts.layout.now (piece_of piece)) texts.pieces.items) };
 }
 
-/// Why a piece was not read.
-#[derive(Clone, Copy, Debug, PartialEq, Eq)]
-pub enum PieceFault {
-    /// It ends in quotes, or a record of it is refused, also by the total.
-    Refused,
-    /// The allocator had no memory.
-    Memory,
-}
-
-impl From<TextError> for PieceFault {
-    ghost from_gives = { λ error fault. fault ≡ piece_fault error };
-
-    fn from(error: TextError) -> PieceFault {
-        match error {
-            TextError::Memory => PieceFault::Memory,
-            TextError::ReadFault | TextError::NoColumn | TextError::BadRecord { .. } => {
-                PieceFault::Refused
-            }
+/// Why a piece was not read, by what refused it.
+pub(crate) fn piece_fault(error: TextError) -> PieceFault
+    ensures { result ≡ piece_fault error }
+{
+    match error {
+        TextError::Memory => PieceFault::Memory,
+        TextError::ReadFault | TextError::NoColumn | TextError::BadRecord { .. } => {
+            PieceFault::Refused
         }
     }
 }
@@ -162,7 +152,7 @@ pub(crate) fn feed_bytes<T: TakeItems>(
     taker: &mut T,
 ) -> Result<(), PieceFault>
     ensures items { OnOk result
-        (TakesAdded T.with_item T.weight_taken taker.old taker.new (λ xs.
+        (Takes T.with_item T.weight_taken taker.old taker.new (λ xs.
         piece_items layout.now (option_map (λ c. c.now) columns.entry, piece.now) ≡ Some xs)) }
     ensures bounded { OnOk result (T.weight_taken taker.new ≤ max_total) }
 {
@@ -171,7 +161,7 @@ pub(crate) fn feed_bytes<T: TakeItems>(
     }
     match read_piece(alloc, layout, columns, piece, taker) {
         Ok(()) => Ok(()),
-        Err(error) => Err(PieceFault::from(error)),
+        Err(error) => Err(piece_fault(error)),
     }
 }
 
@@ -216,7 +206,7 @@ impl<'t> CutTexts<'t> {
     ) -> Result<(), PieceFault>
         requires { piece < length self.now }
         ensures items { OnOk result
-            (TakesAdded T.with_item T.weight_taken taker.old taker.new
+            (Takes T.with_item T.weight_taken taker.old taker.new
             (λ xs. get_or self.now piece None ≡ Some xs)) }
         ensures bounded { OnOk result (T.weight_taken taker.new ≤ max_total) }
     {

@@ -17,7 +17,7 @@ mod sources;
 mod window;
 
 pub use cut_files::CutFiles;
-pub use cut_texts::{CutTexts, PieceFault};
+pub use cut_texts::CutTexts;
 pub use cuts::{cut_text, ends_outside_quotes, whole_records};
 pub use kept::{KeptReader, KeptText, Rest, keep_records, read_again, whole_texts};
 pub use pieces::{Columns, read_piece};

@@ -4,7 +4,8 @@
 ghost use Rattle.std.specs.Bool.{OnTrue};
 ghost use Rattle.std.specs.Prelude.{◌≡◌, ◌≤◌, IfErr, OnOk, Ok, Some, length, map, option_map};
 ghost use Rattle.hh_stream.specs.Weights.{max_total};
-ghost use Rattle.hh_records.specs.Layouts.{PartsRefused, RowsRefused, TakesAdded, adds, items_after};
+ghost use Rattle.hh_stream.specs.Taking.{Takes};
+ghost use Rattle.hh_records.specs.Layouts.{PartsRefused, RowsRefused, adds, items_after};
 ghost use Rattle.hh_pieces.specs.Lines as spec;
 ghost use Rattle.hh_pieces.specs.Lines.{IsUnquoted, line_fields, split_rows};
 ghost use Rattle.hh_records.specs.Streams.{parts_of};
@@ -66,7 +67,7 @@ fn take_line<T: TakeItems>(
 ) -> Result<(), RecordFault>
     requires bounded { T.weight_taken taker.old ≤ max_total }
     ensures taken { OnOk result
-        (TakesAdded T.with_item T.weight_taken taker.old taker.new (λ xs.
+        (Takes T.with_item T.weight_taken taker.old taker.new (λ xs.
         adds layout.now (T.weight_taken taker.old)
         (parts_of (line_fields layout.now.delimiter line.now)) ≡ Ok xs)) }
     ensures bounded { OnOk result (T.weight_taken taker.new ≤ max_total) }
@@ -89,7 +90,7 @@ pub(crate) fn read_lines<T: TakeItems>(
 ) -> Result<(), ReadError>
     requires bounded { T.weight_taken taker.old ≤ max_total }
     ensures items { OnOk result
-        (TakesAdded T.with_item T.weight_taken taker.old taker.new (λ xs.
+        (Takes T.with_item T.weight_taken taker.old taker.new (λ xs.
         items_after layout.now 1 (T.weight_taken taker.old)
         (map parts_of (split_rows layout.now.delimiter text.now)) ≡ Ok xs)) }
     ensures bounded { OnOk result (T.weight_taken taker.new ≤ max_total) }

@@ -3,7 +3,8 @@
 ghost use Rattle.std.specs.Bool.{OnTrue};
 ghost use Rattle.std.specs.Prelude.{◌≡◌, ◌≤◌, ℕ, List, Ok, Some, true, map, IfOk, IfErr, IfSome, OnOk, option_and_then, option_map};
 ghost use Rattle.hh_stream.specs.Weights.{max_total};
-ghost use Rattle.hh_records.specs.Layouts.{IsText, OpenRefused, Opens, Places, TakesAdded, chosen_places};
+ghost use Rattle.hh_stream.specs.Taking.{Takes};
+ghost use Rattle.hh_records.specs.Layouts.{IsText, OpenRefused, Opens, Places, chosen_places};
 ghost use Rattle.hh_records.specs.Layouts.{names_columns, parts_left, text_parts};
 ghost use Rattle.hh_pieces.specs.Lines as spec;
 ghost use Rattle.hh_pieces.specs.Lines.{split_rows};
@@ -183,7 +184,7 @@ pub fn read_piece<T: TakeItems>(
     taker: &mut T,
 ) -> Result<(), TextError>
     ensures items { OnOk result
-        (TakesAdded T.with_item T.weight_taken taker.old taker.new (λ xs.
+        (Takes T.with_item T.weight_taken taker.old taker.new (λ xs.
         piece_reading layout.now (option_map (λ c. c.now) columns.entry) piece.now
         ≡ Some (Ok xs))) }
     ensures bounded { OnOk result (T.weight_taken taker.new ≤ max_total) }
@@ -211,7 +212,7 @@ pub(crate) fn read_left<R: Read + Drop, T: TakeItems>(
     taker: &mut T,
 ) -> Result<(), TextError>
     ensures items { OnOk result
-        (TakesAdded T.with_item T.weight_taken taker.old taker.new (λ xs.
+        (Takes T.with_item T.weight_taken taker.old taker.new (λ xs.
         IfSome (R.remaining piece) (λ bytes.
         piece_reading layout.now (option_map (λ c. c.now) columns.entry) bytes
         ≡ Some (Ok xs)))) }

@@ -7,8 +7,8 @@ use Rattle.hh_pool.specs.Trees.{tree_value}
 use Rattle.hh_workers.specs.Trees.{MergeTree}
 use Rattle.hh_pool.specs.declared.outcome.PiecesError.{PiecesError}
 use Rattle.hh_pool.specs.declared.outcome.PiecesError.TheVariants as error
-use Rattle.hh_workers.specs.declared.pieces.PieceFault.{PieceFault}
-use Rattle.hh_workers.specs.declared.pieces.PieceFault.TheVariants as fault
+use Rattle.hh_stream.specs.declared.taking.PieceFault.{PieceFault}
+use Rattle.hh_stream.specs.declared.taking.PieceFault.TheVariants as fault
 
 -- counted in xs, these keys give the report above p/q
 abbrev pub AreEnough : List Bytes → List Entry → ℕ → ℕ → Type 0

@@ -21,10 +21,9 @@ use hh_countmin::Table;
 use hh_countmin::laws::{cells_are_cell_sums, tables_follow_items};
 use hh_shared::{SharedSums, SumSeat};
 use hh_stream::laws::pieces_make_the_whole;
-use hh_stream::{Cutting, MAX_TOTAL, Stream, TakeItems};
+use hh_stream::{Cutting, MAX_TOTAL, PieceFault, Stream, TakeItems};
 use hh_workers::{
-    CutStream, Gate, Pass, PieceFault, Pieces, Work, add_numbers, only_memory, run_alone,
-    run_worker,
+    CutStream, Gate, Pass, Pieces, Work, add_numbers, only_memory, run_alone, run_worker,
 };
 use std::alloc::{AllocError, Global};
 

@@ -15,7 +15,8 @@ mod tabulate;
 
 pub use analysis::{analyse, analyse_pieces};
 pub use first::first_pass;
-pub use hh_workers::{CutStream, Gate, MAX_WORKERS, OpenGate, PieceFault, Pieces, Plan, PlanFault};
+pub use hh_stream::PieceFault;
+pub use hh_workers::{CutStream, Gate, MAX_WORKERS, OpenGate, Pieces, Plan, PlanFault};
 pub use merging::merge_by;
 pub use one_pass::{count_pieces, tabulate_pieces};
 pub use options::{Options, OptionsFault};

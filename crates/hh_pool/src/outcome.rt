@@ -5,7 +5,7 @@ ghost use Rattle.hh_pool.specs.Outcomes.{error_of};
 
 use hh_counters::{Heavy, Summary};
 use hh_countmin::Table;
-use hh_workers::PieceFault;
+use hh_stream::PieceFault;
 use thiserror::Error;
 
 /// What an analysis of a stream comes to.

@@ -14,10 +14,9 @@ use crate::first::sum_of_totals;
 use hh_counters::{CandidateCounts, Candidates};
 use hh_shared::{SharedSums, SumSeat};
 use hh_stream::laws::pieces_make_the_whole;
-use hh_stream::{Cutting, Stream, TakeItems};
+use hh_stream::{Cutting, PieceFault, Stream, TakeItems};
 use hh_workers::{
-    CutStream, Gate, Pass, PieceFault, Pieces, Work, add_numbers, only_memory, run_alone,
-    run_worker,
+    CutStream, Gate, Pass, Pieces, Work, add_numbers, only_memory, run_alone, run_worker,
 };
 use std::alloc::{AllocError, Global};
 

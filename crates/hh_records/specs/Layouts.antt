@@ -1,5 +1,5 @@
 -- Records whose key and weight stand in columns of one's own.
-use Rattle.std.specs.Prelude.{◌≡◌, ◌==◌, ◌&&◌, ◌||◌, ◌+◌, ◌-◌, ◌<◌, ℕ, Bool, true, false, List, [], ◌∷◌, ◌++◌, length, map, fold, All, not, Option, Some, None, IfSome, option_map, option_and_then, Result, Ok, Err, ⊤, if◌then◌else◌}
+use Rattle.std.specs.Prelude.{◌≡◌, ◌==◌, ◌&&◌, ◌||◌, ◌+◌, ◌-◌, ◌<◌, ℕ, Bool, true, false, List, [], ◌∷◌, ◌++◌, length, map, not, Option, Some, None, IfSome, option_map, option_and_then, Result, Ok, Err, ⊤, if◌then◌else◌}
 use Rattle.std.specs.List.{position_from}
 use Rattle.std.specs.Option.{option_zip}
 use Rattle.std.specs.Str.{bytes_eq}
@@ -213,15 +213,6 @@ stream_with layout texts = option_map (items_after layout 1 0) (texts_parts layo
 abbrev pub PartsRefused : Layout → ℕ → Parts → RecordFault → Type 0
 PartsRefused layout t p (fault.Bad c) = adds layout t p ≡ Err c
 PartsRefused layout t p fault.Memory = ⊤
-
--- a taker has taken what some records add to its weight, and each item weighs something
-pub record TakesAdded {A : Type 0} (with_item : A → Entry → A) (weight_taken : A → ℕ) (old new : A)
-    (gives : List Entry → Type 0) : Type 0 where
-  pub xs : List Entry
-  pub adds : gives xs
-  pub positive : All (λ (e : Entry). 0 < e.1) xs
-  pub weight : weight_taken new ≡ weight_taken old + total_of xs
-  pub taken : new ≡ fold with_item old xs
 
 -- the bytes that a reader of records has left, where they are known
 abbrev pub unread : {R : Type 0} → (R → Option (List ℕ)) → Reader (Retrying R) → Option (List ℕ)

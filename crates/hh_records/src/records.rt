@@ -6,7 +6,8 @@ ghost use Rattle.csv.specs.Records.{fields_of};
 ghost use Rattle.csv.specs.Writing.{default_writer, row_body};
 ghost use Rattle.hh_stream.specs.Weights.{max_total};
 ghost use Rattle.hh_stream.specs.Digits.{is_number, value_of};
-ghost use Rattle.hh_records.specs.Layouts.{IsText, PartsRefused, RowsRefused, TakesAdded, adds, chosen_places, fields_at, is_hyphen, items_after, parts_at, parts_left, weight_at, weight_by};
+ghost use Rattle.hh_stream.specs.Taking.{Takes};
+ghost use Rattle.hh_records.specs.Layouts.{IsText, PartsRefused, RowsRefused, adds, chosen_places, fields_at, is_hyphen, items_after, parts_at, parts_left, weight_at, weight_by};
 ghost use Rattle.hh_records.specs.Streams.{fault_of, numbered_fault, parts_of, ReadRefused, ReadsAs, text_known};
 ghost use Rattle.hh_records.specs.Taking.{TakesItems};
 
@@ -96,7 +97,7 @@ pub fn take_item<T: TakeItems>(
 ) -> Result<(), RecordFault>
     requires bounded { T.weight_taken taker.old ≤ max_total }
     ensures taken { OnOk result
-        (TakesAdded T.with_item T.weight_taken taker.old taker.new (λ xs.
+        (Takes T.with_item T.weight_taken taker.old taker.new (λ xs.
         adds layout.now (T.weight_taken taker.old)
         (Some (key.now, option_map (λ f. f.now) field.entry)) ≡ Ok xs)) }
     ensures bounded { OnOk result (T.weight_taken taker.new ≤ max_total) }
@@ -177,7 +178,7 @@ fn take_chosen<T: TakeItems>(
 ) -> Result<(), RecordFault>
     requires bounded { T.weight_taken taker.old ≤ max_total }
     ensures taken { OnOk result
-        (TakesAdded T.with_item T.weight_taken taker.old taker.new (λ xs.
+        (Takes T.with_item T.weight_taken taker.old taker.new (λ xs.
         adds layout.now (T.weight_taken taker.old)
         (parts_at (chosen_places (Some chosen.now)) (fields_of row.now)) ≡ Ok xs)) }
     ensures bounded { OnOk result (T.weight_taken taker.new ≤ max_total) }
@@ -211,7 +212,7 @@ fn take_record<T: TakeItems>(
 ) -> Result<(), RecordFault>
     requires bounded { T.weight_taken taker.old ≤ max_total }
     ensures taken { OnOk result
-        (TakesAdded T.with_item T.weight_taken taker.old taker.new (λ xs.
+        (Takes T.with_item T.weight_taken taker.old taker.new (λ xs.
         adds layout.now (T.weight_taken taker.old)
         (parts_at (chosen_places chosen.now) (fields_of row.now)) ≡ Ok xs)) }
     ensures bounded { OnOk result (T.weight_taken taker.new ≤ max_total) }
@@ -267,7 +268,7 @@ fn take_rows<R: Read, T: TakeItems>(
     requires text { IsText (record { rows = rows.old; chosen = chosen.now }) }
     requires bounded { T.weight_taken taker.old ≤ max_total }
     ensures items { IfOk result (λ after.
-        TakesAdded T.with_item T.weight_taken taker.old taker.new (λ xs.
+        Takes T.with_item T.weight_taken taker.old taker.new (λ xs.
         IfSome (parts_left R.remaining (record { rows = rows.old; chosen = chosen.now })) (λ ps.
         (items_after layout.now (before + 1) (T.weight_taken taker.old) ps ≡ Ok xs)
         × (after ≡ before + length ps)))) }
@@ -304,7 +305,7 @@ pub fn read_rows<R: Read + Drop, T: TakeItems>(
     requires text { IsText text }
     requires bounded { T.weight_taken taker.old ≤ max_total }
     ensures items { IfOk result (λ after.
-        TakesAdded T.with_item T.weight_taken taker.old taker.new (λ xs.
+        Takes T.with_item T.weight_taken taker.old taker.new (λ xs.
         IfSome (parts_left R.remaining text) (λ ps.
         (items_after layout.now (before + 1) (T.weight_taken taker.old) ps ≡ Ok xs)
         × (after ≡ before + length ps)))) }

@@ -4,7 +4,8 @@ ghost use Rattle.std.specs.Prelude.{◌≡◌, ◌≤◌, ◌∷◌, true, Ok, A
 ghost use Rattle.csv.specs.Reading.{records, strip_bom};
 ghost use Rattle.hh_stream.specs.Weights.{max_total};
 ghost use Rattle.hh_records.specs.Layouts.{AllOpen, IsStart, IsText, OpenRefused, Opens, OpensAs};
-ghost use Rattle.hh_records.specs.Layouts.{RowsRefused, TakesAdded, TextsRefused, all_left};
+ghost use Rattle.hh_stream.specs.Taking.{Takes};
+ghost use Rattle.hh_records.specs.Layouts.{RowsRefused, TextsRefused, all_left};
 ghost use Rattle.hh_records.specs.Layouts.{choice_fault, chosen_places, delimited, every, headed_parts, items_after};
 ghost use Rattle.hh_records.specs.Layouts.{names_columns, records_known, texts_known};
 ghost use Rattle.hh_records.specs.Layouts.{text_parts, texts_parts, unread};
@@ -179,7 +180,7 @@ fn read_all<R: Read + Drop, T: TakeItems>(
     requires texts { All IsText texts.items }
     requires bounded { T.weight_taken taker.old ≤ max_total }
     ensures items { OnOk result
-        (TakesAdded T.with_item T.weight_taken taker.old taker.new (λ xs.
+        (Takes T.with_item T.weight_taken taker.old taker.new (λ xs.
         IfSome (all_left R.remaining texts.items) (λ ps.
         items_after layout.now 1 (T.weight_taken taker.old) ps ≡ Ok xs))) }
     ensures refused { IfErr result (λ error.

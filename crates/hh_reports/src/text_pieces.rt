@@ -35,10 +35,6 @@ impl<'t> Pieces for TextPieces<'t> {
         piece: usize,
         taker: &mut T,
     ) -> Result<(), PieceFault> {
-        match self.texts.feed(alloc, piece, taker) {
-            Ok(()) => Ok(()),
-            Err(hh_pieces::PieceFault::Refused) => Err(PieceFault::Refused),
-            Err(hh_pieces::PieceFault::Memory) => Err(PieceFault::Memory),
-        }
+        self.texts.feed(alloc, piece, taker)
     }
 }

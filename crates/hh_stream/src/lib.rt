@@ -12,4 +12,4 @@ pub use cutting::{Cutting, CuttingFault, MAX_PIECES};
 pub use key::{INLINE_LEN, Key, KeyFault, MAX_KEY_LEN};
 pub use ranges::in_range;
 pub use stream::{Item, MAX_TOTAL, PushFault, PushRefused, Stream};
-pub use taking::TakeItems;
+pub use taking::{PieceFault, TakeItems};

@@ -2,10 +2,12 @@
 
 ghost use Rattle.std.specs.Prelude.{◌≡◌, ◌+◌, ◌<◌, ◌≤◌, ◌++◌, ◌∷◌, [], ℕ, OnErr, OnOk, length};
 ghost use Rattle.hh_stream.specs.Weights.{Entry, max_key_len, max_total, total_of};
+ghost use Rattle.hh_stream.specs.declared.taking.PieceFault.TheVariants.{Memory};
 
 use crate::key::Key;
 use crate::stream::Stream;
 use std::alloc::{AllocError, Global};
+use thiserror::Error;
 
 /// What items are taken into, one after the other: a stream keeps them all, and others keep less.
 pub trait TakeItems: Drop {
@@ -30,6 +32,26 @@ pub trait TakeItems: Drop {
         ensures taken { OnOk result (self.new ≡ with_item self.old (key.now, weight)) }
         ensures total { OnOk result (weight_taken self.new ≡ weight_taken self.old + weight) }
         ensures unchanged { OnErr result (self.new ≡ self.old) };
+}
+
+/// Why a piece, which is handed to a taker item by item, was not taken.
+#[derive(Clone, Copy, Debug, PartialEq, Eq, Error)]
+pub enum PieceFault {
+    /// The allocator had no memory, or the system refused a thread.
+    #[error("out of memory")]
+    Memory,
+    /// The piece can't be read by itself, or the weights add up to more than
+    /// [`MAX_TOTAL`](crate::MAX_TOTAL).
+    #[error("a piece was refused")]
+    Refused,
+}
+
+impl From<AllocError> for PieceFault {
+    ghost from_gives = { λ _ e. e ≡ Memory };
+
+    fn from(_e: AllocError) -> PieceFault {
+        PieceFault::Memory
+    }
 }
 
 impl TakeItems for Stream {

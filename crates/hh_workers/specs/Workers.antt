@@ -5,8 +5,8 @@ use Rattle.std.specs.List.Sorted.{IsStrictlyIncreasing}
 use Rattle.std.specs.Thread.{IsSend, IsSync}
 use Rattle.hh_shared.specs.Tally.{HasAllBelow, IsDistinctBelow, times, sum_at}
 use Rattle.hh_shared.specs.Seats.{Holding, Sums, fresh}
-use Rattle.hh_workers.specs.declared.pieces.PieceFault.{PieceFault}
-use Rattle.hh_workers.specs.declared.pieces.PieceFault.TheVariants as fault
+use Rattle.hh_stream.specs.declared.taking.PieceFault.{PieceFault}
+use Rattle.hh_stream.specs.declared.taking.PieceFault.TheVariants as fault
 
 -- the most workers
 abbrev pub max_workers : ℕ

@@ -12,6 +12,6 @@ mod workers;
 pub use gate::{Gate, OpenGate};
 pub use parsing::PlanFault;
 pub use pass::{Pass, Work, add_numbers, run_alone, run_worker};
-pub use pieces::{CutStream, PieceFault, Pieces, only_memory};
+pub use pieces::{CutStream, Pieces, only_memory};
 pub use plan::{Plan, Tree};
 pub use workers::{MAX_WORKERS, share_work};

@@ -8,8 +8,8 @@ ghost use Rattle.hh_shared.specs.Seats.{Sums, Holding, fresh, seat_of_both};
 ghost use Rattle.hh_workers.specs.Workers.{AreSumsFor, HasEach};
 ghost use Rattle.hh_workers.specs.Workers.{HasTriedUpTo};
 
-use crate::pieces::PieceFault;
 use hh_shared::{SharedSums, SumSeat};
+use hh_stream::PieceFault;
 use std::alloc::{AllocError, Global};
 
 /// What every pass works on: pieces, and the gate that hears of each.

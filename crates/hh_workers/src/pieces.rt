@@ -4,33 +4,12 @@ ghost use Rattle.std.specs.Prelude.{◌≡◌, ◌+◌, ◌<◌, ℕ, List, All,
 ghost use Rattle.std.specs.Prelude.{IfOk, IsErrOf, OnOk, ◌⊎◌};
 ghost use Rattle.hh_stream.specs.Weights.{Entry, max_total, total_of};
 ghost use Rattle.hh_stream.specs.Cuttings.{pieces_of};
-ghost use Rattle.hh_workers.specs.Pieces.{piece_of, Takes};
-ghost use Rattle.hh_workers.specs.declared.pieces.PieceFault.TheVariants.{Memory};
+ghost use Rattle.hh_stream.specs.Taking.{Takes};
+ghost use Rattle.hh_workers.specs.Pieces.{piece_of};
 
-use hh_stream::{Cutting, MAX_TOTAL, Stream, TakeItems};
+use hh_stream::{Cutting, MAX_TOTAL, PieceFault, Stream, TakeItems};
 use std::alloc::{AllocError, Global};
 use std::marker::Model;
-use thiserror::Error;
-
-/// Why a piece was not taken.
-#[derive(Clone, Copy, Debug, PartialEq, Eq, Error)]
-pub enum PieceFault {
-    /// The allocator had no memory, or the system refused a thread.
-    #[error("out of memory")]
-    Memory,
-    /// The piece can't be read, or the weights add up to more than
-    /// [`MAX_TOTAL`](hh_stream::MAX_TOTAL).
-    #[error("a piece was refused")]
-    Refused,
-}
-
-impl From<AllocError> for PieceFault {
-    ghost from_gives = { λ _ e. e ≡ Memory };
-
-    fn from(_e: AllocError) -> PieceFault {
-        PieceFault::Memory
-    }
-}
 
 /// What was given, where nothing but memory can have been refused.
 pub fn only_memory<T>(given: Result<T, PieceFault>) -> Result<T, AllocError>

@@ -7,8 +7,8 @@ ghost use Rattle.hh_workers.specs.Workers.{AreDone, AreSumsFor, BringBack, CanRu
 ghost use Rattle.hh_workers.specs.Workers.{max_workers};
 
 use crate::pass::{Pass, run_worker};
-use crate::pieces::PieceFault;
 use hh_shared::{SharedSums, SumSeat};
+use hh_stream::PieceFault;
 use std::alloc::Global;
 use std::snapshot::Snapshot;
 use std::sync::Wait;

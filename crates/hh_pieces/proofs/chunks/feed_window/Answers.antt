@@ -14,24 +14,24 @@ loop-init g c = (
 pub returns-then-count-eq0-clause-items : goal.returns-then-count-eq0-clause-items
 returns-then-count-eq0-clause-items g c =
     let columns = c.args.columns.now in
-    let (more, size, grows, gives) = c.in-Ok-read_more.ensures.more in
+    let (more, size, grows, gives) = c.in-Ok.ensures.more in
     let held : held_in c.read_more.new.self ≡ held_in c.loop.window ++ more =
-    grows ∙ ap (λ h. h ++ more) c.in-Ok.ensures.held in
+    grows ∙ ap (λ h. h ++ more) c.in_ok-make_room.ensures.held in
     on-ok c.feed_bytes.result _ _ _ c.feed_bytes.ensures.items c.feed_bytes.ensures.bounded (λ t few.
     takes-on g.T.TakeItems.with_item g.T.TakeItems.weight_taken c.args.taker.now c.loop.taker c.feed_bytes.new.taker
     _ _ _ c.loop.invariant.1 t (λ xs ys leads items weight.
     leads-end c.args.layout.now columns c.loop.columns (g.R.Read.remaining c.args.piece.now)
     (g.R.Read.remaining c.read_more.new.reader) xs ys (held_in c.read_more.new.self)
     (rw held (leads-held c.args.layout.now columns c.loop.columns _ _ _ xs (held_in c.loop.window) more leads gives))
-    (c.in-Ok-read_more.ensures.end c.if-count-eq0.true)
+    (c.in-Ok.ensures.end c.if-count-eq0.true)
     (rw (c.as_ref.ensures.value, c.held.ensures) at items) (omega (arith, few, weight))))
 
 pub loop-preserved : goal.loop-preserved
 loop-preserved g c =
     let columns = c.args.columns.now in
-    let (more, size, grows, gives) = c.in-Ok-read_more.ensures.more in
+    let (more, size, grows, gives) = c.in-Ok.ensures.more in
     let held : held_in c.read_more.new.self ≡ held_in c.loop.window ++ more =
-    grows ∙ ap (λ h. h ++ more) c.in-Ok.ensures.held in (
+    grows ∙ ap (λ h. h ++ more) c.in_ok-make_room.ensures.held in (
       c.in_ok-taken.ensures.bounded,
       takes-on g.T.TakeItems.with_item g.T.TakeItems.weight_taken c.args.taker.now c.loop.taker c.take_chunk.new.taker
           _ _ _ c.loop.invariant.1 c.in_ok-taken.ensures.taken (λ xs ys leads chunk weight.

@@ -7,8 +7,8 @@ returns-in-Ok-clause-taken g c =
     let t = c.in-Ok.ensures.items in
     record {
       xs = t.xs;
-      adds = chunk-later c.args.layout.now c.args.columns.now c.args.held.now c.in-Some.count t.xs (sym c.if-is_some.ensures)
-          c.in-Some.ensures.1 (rw c.as_ref.ensures.value at t.adds);
+      given = chunk-later c.args.layout.now c.args.columns.now c.args.held.now c.in-Some.count t.xs (sym c.if-is_some.ensures)
+          c.in-Some.ensures.1 (rw c.as_ref.ensures.value at t.given);
       positive = t.positive;
       weight = t.weight;
       taken = t.taken;
@@ -19,8 +19,8 @@ returns-clause-taken g c =
     let t = c.in-Ok-read_piece.ensures.items in
     record {
       xs = t.xs;
-      adds = chunk-first c.args.layout.now c.args.columns.now c.in-Ok-Some.chosen c.args.held.now c.in-Some.count t.xs
-          (sym c.if-is_some.ensures) c.in-Some.ensures.1 (rw c.in-Ok-Some.field-0-is at c.in-Ok-Some.ensures.columns) t.adds;
+      given = chunk-first c.args.layout.now c.args.columns.now c.in-Ok-Some.chosen c.args.held.now c.in-Some.count t.xs
+          (sym c.if-is_some.ensures) c.in-Some.ensures.1 (rw c.in-Ok-Some.field-0-is at c.in-Ok-Some.ensures.columns) t.given;
       positive = t.positive;
       weight = t.weight;
       taken = t.taken;

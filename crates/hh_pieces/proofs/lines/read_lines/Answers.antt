@@ -51,7 +51,7 @@ loop-from-preserved g c =
                   ∙ sym (fold-append g.T.TakeItems.with_item c.args.taker.now xs t.xs),
               lines-more c.args.layout.now c.args.layout.now.delimiter (g.T.TakeItems.weight_taken c.args.taker.now) c.args.text.now
                   c.loop-from.from c.line_end-end.result xs c.loop-from.number line.behind line.within line.end so_far w.if-from-end.true t.xs
-                  (rw (← total) t.adds),
+                  (rw (← total) t.given),
             ),
           )
       | else-from-end w ↦

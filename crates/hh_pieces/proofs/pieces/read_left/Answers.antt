@@ -12,7 +12,7 @@ Weighs e = 0 < e.1
 pub returns-in-Ok-None-clause-items : goal.returns-in-Ok-None-clause-items
 returns-in-Ok-None-clause-items g c = record {
   xs = [];
-  adds = left-none c.args.layout.now (option_map (λ c. c.now) c.args.columns) _
+  given = left-none c.args.layout.now (option_map (λ c. c.now) c.args.columns) _
       (rw c.in-Ok-None.field-0-is at c.in-Ok-None.ensures.opened);
   positive = All-from_recursion Weighs [] tt;
   weight = omega arith;
@@ -24,9 +24,9 @@ returns-in-Ok-clause-items g c =
     let t = c.in-Ok.ensures.items in
     record {
       xs = t.xs;
-      adds = left-some c.args.layout.now (option_map (λ c. c.now) c.args.columns)
+      given = left-some c.args.layout.now (option_map (λ c. c.now) c.args.columns)
           (g.T.TakeItems.weight_taken c.args.taker.now) 0 _ t.xs _ _ (rw c.in-Ok-Some.field-0-is at c.in-Ok-Some.ensures.opened)
-          t.adds (omega (arith, t.weight, c.in-Ok.ensures.bounded));
+          t.given (omega (arith, t.weight, c.in-Ok.ensures.bounded));
       positive = t.positive;
       weight = t.weight;
       taken = t.taken;

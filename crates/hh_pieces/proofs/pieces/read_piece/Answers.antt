@@ -11,9 +11,9 @@ returns-in-Ok-clause-items g c =
     let t = c.in-Ok.ensures.items in
     record {
       xs = t.xs;
-      adds = piece-some c.args.layout.now (option_map (λ c. c.now) c.args.columns) c.args.piece.now
+      given = piece-some c.args.layout.now (option_map (λ c. c.now) c.args.columns) c.args.piece.now
           (g.T.TakeItems.weight_taken c.args.taker.now) t.xs
-          (map parts_of (split_rows c.args.layout.now.delimiter c.in-Some.text.now)) c.in-Some.ensures t.adds
+          (map parts_of (split_rows c.args.layout.now.delimiter c.in-Some.text.now)) c.in-Some.ensures t.given
           (omega (arith, t.weight, c.in-Ok.ensures.bounded));
       positive = t.positive;
       weight = t.weight;

@@ -7,7 +7,7 @@ use Rattle.hh_records.proofs.records.take_item.Goals as goal
 pub returns-then-layout-clause-taken : goal.returns-then-layout-clause-taken
 returns-then-layout-clause-taken g c = record {
   xs = [];
-  adds = search rules;
+  given = search rules;
   positive = All-from_recursion (λ (e : Entry). 0 < e.1) [] tt;
   weight = omega arith;
   taken = refl;
@@ -18,7 +18,7 @@ returns-in-Ok-clause-taken g c =
     let item : Entry = (c.args.key.now, c.in-Some.weight) in
     record {
       xs = item ∷ [];
-      adds = search rules;
+      given = search rules;
       positive = All-from_recursion (λ (e : Entry). 0 < e.1) (item ∷ []) (omega arith, tt);
       weight = omega (arith, c.in-Ok.ensures.total);
       taken = c.in-Ok.ensures.taken;

@@ -38,7 +38,7 @@ returns-in-Ok-false-clause-items g c =
     let r = rw c.in-Ok-false.field-0-test at (c.in-Ok-false.ensures.reads inv.0 inv.1) in
     record {
       xs = xs;
-      adds = read-end (reader_config c.args.rows.now) (parts_at (chosen_places c.args.chosen.now))
+      given = read-end (reader_config c.args.rows.now) (parts_at (chosen_places c.args.chosen.now))
           c.args.layout.now (reader_state c.args.rows.now) c.args.before (g.T.TakeItems.weight_taken c.args.taker.now)
           (λ r. g.R.Read.remaining r.inner) c.loop-number.rows c.read_byte_record.new.self _ xs c.loop-number.number inv.3 _
           (between-known (reader_state c.args.rows.now)
@@ -69,7 +69,7 @@ loop-number-preserved g c =
         read-more (reader_config c.args.rows.now) (parts_at (chosen_places c.args.chosen.now))
             c.args.layout.now (reader_state c.args.rows.now) c.args.before (g.T.TakeItems.weight_taken c.args.taker.now)
             (λ r. g.R.Read.remaining r.inner) c.loop-number.rows c.read_byte_record.new.self _ xs c.loop-number.number inv.3 _ t.xs so_far r
-            (rw (← total) t.adds),
+            (rw (← total) t.given),
       ),
     )
 

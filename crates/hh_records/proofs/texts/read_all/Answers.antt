@@ -63,7 +63,7 @@ loop-text-preserved g c =
             ∙ sym (fold-append g.T.TakeItems.with_item c.args.taker.now xs t.xs),
         texts-more g.R.Read.remaining c.args.layout.now (g.T.TakeItems.weight_taken c.args.taker.now) c.args.texts.items
             c.in-Some.text (into_iter_items c.next.new.self) xs c.loop-text.number t.xs c.in-Ok.after (rw steps.0 at so_far)
-            (rw total at t.adds),
+            (rw total at t.given),
       ),
     )
 
@@ -81,7 +81,7 @@ returns-clause-items g c =
     let none = nothing-left _ (sym c.in-None.ensures.steps.0 ∙ inv.2) in
     record {
       xs = xs;
-      adds = texts-end g.R.Read.remaining c.args.layout.now (g.T.TakeItems.weight_taken c.args.taker.now) c.args.texts.items
+      given = texts-end g.R.Read.remaining c.args.layout.now (g.T.TakeItems.weight_taken c.args.taker.now) c.args.texts.items
           xs c.loop-text.number (rw (← none) at so_far);
       positive = weigh;
       weight = total;

@@ -9,7 +9,7 @@ returns-in-Ok-clause-items g c =
     record {
       xs = t.xs;
       reads = records-read g.R.Read.remaining c.args.layout.now (c.args.first ∷ c.args.others.items)
-          c.in_ok-texts.texts.items c.in_ok-texts.ensures.opened t.xs (rw c.requires.none at t.adds);
+          c.in_ok-texts.texts.items c.in_ok-texts.ensures.opened t.xs (rw c.requires.none at t.given);
       positive = t.positive;
       taken = t.taken;
     }

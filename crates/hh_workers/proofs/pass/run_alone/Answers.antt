@@ -1,5 +1,5 @@
 use Rattle.std.proofs.Common.{◌++◌, ◌∷◌, [], arith, rules, IsErrOf}
-use Rattle.hh_workers.specs.declared.pieces.PieceFault.TheVariants as fault
+use Rattle.hh_stream.specs.declared.taking.PieceFault.TheVariants as fault
 use Rattle.hh_workers.proofs.ClaimFacts.{distinct_below, each_more}
 use Rattle.hh_workers.proofs.pass.run_alone.Goals as goal
 

@@ -3,7 +3,7 @@ use Rattle.hh_stream.specs.Weights.{total_of}
 use Rattle.hh_countmin.specs.Table.{TableView, table_of}
 use Rattle.hh_summaries.specs.Counters.{sketch_of}
 use Rattle.hh_pool.specs.Passes.{items_at}
-use Rattle.hh_workers.specs.declared.pieces.PieceFault.TheVariants as fault
+use Rattle.hh_stream.specs.declared.taking.PieceFault.TheVariants as fault
 use Rattle.hh_pool.proofs.Held.{holds_more}
 use Rattle.hh_pool.proofs.Tried.{first_more, more_total, next_refused}
 use Rattle.hh_pool.proofs.first.FirstPassPass.take.Goals as goal

@@ -2,7 +2,7 @@ use Rattle.std.proofs.Common.{◌++◌, ap, arith, rules, IsErrOf}
 use Rattle.hh_stream.specs.Weights.{total_of}
 use Rattle.hh_countmin.specs.Table.{TableView}
 use Rattle.hh_pool.specs.Passes.{items_at}
-use Rattle.hh_workers.specs.declared.pieces.PieceFault.TheVariants as fault
+use Rattle.hh_stream.specs.declared.taking.PieceFault.TheVariants as fault
 use Rattle.hh_pool.proofs.TableFacts.{added_known, tabulated_more}
 use Rattle.hh_pool.proofs.Tried.{more_total, next_refused}
 use Rattle.hh_pool.proofs.tabulate.TablePassPass.take.Goals as goal
