@@ -1,6 +1,6 @@
 //! The files that the command line names.
 
-ghost use Rattle.std.specs.Prelude.{◌≡◌, ◌⊎◌, ◌∷◌, ◌++◌, [], ⊤, List, ℕ, Option, Some, None, Err};
+ghost use Rattle.std.specs.Prelude.{◌≡◌, ◌⊎◌, ◌∷◌, ◌++◌, [], ⊤, List, ℕ, Option, Some, None, Ok, Err};
 ghost use Rattle.std.specs.Prelude.{IfOk, IfErr, OnOk, map};
 ghost use Rattle.heavy_host.specs.Files.{AreRead, TellsFile};
 
@@ -75,12 +75,13 @@ pub fn read_file<F: FileSource>(source: &F, number: u64, name: &[u8]) -> Result<
     }
 }
 
-/// Puts a file behind others.
-fn push_file(files: &mut Vec<Vec<u8>>, file: Vec<u8>) -> Result<(), FileFault>
-    ensures pushed { OnOk result (files.new.items ≡ files.old.items ++ file ∷ []) }
-    ensures memory { IfErr result (λ fault. fault ≡ FileFault.Memory) }
+/// Puts a file behind others, if it was read.
+fn push_file(files: &mut Vec<Vec<u8>>, file: Result<Vec<u8>, FileFault>) -> Result<(), FileFault>
+    ensures pushed { OnOk result ((bytes : _) × (file ≡ Ok bytes)
+        × (files.new.items ≡ files.old.items ++ bytes ∷ [])) }
+    ensures fault { IfErr result (λ fault. (fault ≡ FileFault.Memory) ⊎ (file ≡ Err fault)) }
 {
-    match files.push(file) {
+    match files.push(file?) {
         Ok(()) => Ok(()),
         Err(_) => Err(FileFault::Memory),
     }
@@ -98,12 +99,9 @@ pub fn read_files<F: FileSource>(
         (TellsFile (F.gives source.now) (first.now ∷ map (λ w. w.items) others.now)) }
 {
     let mut files = Vec::new(source.memory());
-    push_file(&mut files, read_file(source, 1, first)?)?;
+    push_file(&mut files, read_file(source, 1, first))?;
     for (i, name) in others.iter().enumerate() {
-        match read_file(source, i as u64 + 2, name) {
-            Ok(file) => push_file(&mut files, file)?,
-            Err(fault) => return Err(fault),
-        }
+        push_file(&mut files, read_file(source, i as u64 + 2, name))?;
     }
     Ok(files)
 }
