@@ -156,18 +156,23 @@ fn reason_in(text: &str) -> &str {
     }
 }
 
+/// Tells the reason why a file can't be read.
+fn tell_reason(rt: &HostRuntime, name: &[u8], reason: &str) {
+    let _ = eprintln!(rt; "  {}: {reason}", Name(name));
+}
+
 /// Tells why a file can't be read. It is tried once more, so that the system says why.
 fn tell_unread(rt: &HostRuntime, name: &[u8]) {
     let Ok(path) = str::from_utf8(name) else {
-        let _ = eprintln!(rt; "  {}: its name isn't UTF-8", Name(name));
+        tell_reason(rt, name, "its name isn't UTF-8");
         return;
     };
     let Err(error) = fs::read(rt, path) else {
-        let _ = eprintln!(rt; "  {}: it can be read now", Name(name));
+        tell_reason(rt, name, "it can be read now");
         return;
     };
     if let Ok(text) = format!(in rt.alloc(); "{error}") {
-        let _ = eprintln!(rt; "  {}: {}", Name(name), reason_in(&text));
+        tell_reason(rt, name, reason_in(&text));
     }
 }
 

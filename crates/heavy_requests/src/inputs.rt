@@ -42,6 +42,15 @@ fn push_behind<T: Drop>(others: &mut Vec<T>, one: T) -> Result<(), ToolError> {
     }
 }
 
+/// Reads the begin of an input, for what sees its bytes.
+fn read_begin(input: &mut Input<'_>, buffer: &mut [u8]) {
+    for _ in 0..LOOKS {
+        if let Ok(0) | Err(_) = input.read(buffer) {
+            return;
+        }
+    }
+}
+
 /// The fault of a saved file, as the library has it.
 fn fault_of(fault: FileFault) -> ToolError
     ensures unread { (number : ℕ) → fault ≡ FileFault.Unreadable number
@@ -185,21 +194,29 @@ impl<'a> Inputs<'a> {
         }
     }
 
-    /// A source with its number, whose size is that of the file at a path.
-    fn reader(self, source: Source, number: u64, path: &str) -> Reader<'a> {
-        let unread = self.unread;
-        let input = Input {
+    /// A source with its number.
+    fn input(self, source: Source, number: u64) -> Input<'a> {
+        Input {
             source,
             number,
-            unread,
+            unread: self.unread,
             watch: self.seen.map(|seen| Watch::new(seen, number)),
-        };
+        }
+    }
+
+    /// The same, whose size is that of the file at a path.
+    fn reader(self, source: Source, number: u64, path: &str) -> Reader<'a> {
+        let input = self.input(source, number);
         Metered::new(self.rt, input, path, self.progress.is_some())
     }
 
-    /// Standard input.
-    fn standard(self, number: u64) -> Reader<'a> {
-        self.reader(Source::Standard(self.rt.stdin()), number, "/dev/stdin")
+    /// Standard input, or what is left of it where it is taken.
+    fn standard(self, number: u64, is_taken: bool) -> Reader<'a> {
+        if is_taken {
+            self.reader(Source::Nothing, number, "/dev/null")
+        } else {
+            self.reader(Source::Standard(self.rt.stdin()), number, "/dev/stdin")
+        }
     }
 
     /// The bytes of the saved file with this name.
@@ -225,39 +242,6 @@ impl<'a> Inputs<'a> {
                 Err(ToolError::Memory)
             }
             Err(_) => Err(ToolError::FileFault { number }),
-        }
-    }
-
-    /// What reads the input with this name and number. `-` is standard input.
-    fn open(self, name: &[u8], number: u64) -> Result<Reader<'a>, ToolError> {
-        if is_standard(name) {
-            return Ok(self.standard(number));
-        }
-        let file = self.file(name, number)?;
-        let path = str::from_utf8(name).unwrap_or("");
-        Ok(self.reader(Source::File(file), number, path))
-    }
-
-    /// The same of a file that may be read twice: one of the disk that has a size is read at any
-    /// place, and all else as a pipe.
-    fn file_or_pipe(
-        self,
-        name: &[u8],
-        number: u64,
-    ) -> Result<FileOrPipe<OpenFile<'a>, Reader<'a>>, ToolError> {
-        if is_standard(name) {
-            return Ok(FileOrPipe::Pipe(self.standard(number)));
-        }
-        let file = self.file(name, number)?;
-        match file.metadata() {
-            Ok(metadata) if metadata.is_file() && metadata.len() > 0 => {
-                let size = metadata.len();
-                Ok(FileOrPipe::File(self.open_file(file, size, number)))
-            }
-            _ => {
-                let path = str::from_utf8(name).unwrap_or("");
-                Ok(FileOrPipe::Pipe(self.reader(Source::File(file), number, path)))
-            }
         }
     }
 
@@ -291,23 +275,17 @@ impl<'a> Inputs<'a> {
     }
 
     /// Reads the begin of a file of the disk, for what sees its bytes.
-    fn look_at(self, name: &[u8], number: u64) -> Option<()> {
+    fn look_at(self, name: &[u8], number: u64) {
         if !self.has_size(name) {
-            return None;
+            return;
         }
-        let mut input = Input {
-            source: Source::File(self.file(name, number).ok()?),
-            number,
-            unread: self.unread,
-            watch: self.seen.map(|seen| Watch::new(seen, number)),
+        let Ok(file) = self.file(name, number) else {
+            return;
         };
-        let mut buffer = vec![in self.rt.alloc(); 0u8; LOOK_LEN].ok()?;
-        for _ in 0..LOOKS {
-            if input.read(&mut buffer).ok()? == 0 {
-                return Some(());
-            }
-        }
-        None
+        let Ok(mut buffer) = vec![in self.rt.alloc(); 0u8; LOOK_LEN] else {
+            return;
+        };
+        read_begin(&mut self.input(Source::File(file), number), &mut buffer);
     }
 
     /// Sees how the files begin that workers have read, where that is asked for: they read them in
@@ -324,27 +302,19 @@ impl<'a> Inputs<'a> {
         }
         for (place, name) in words.files.iter().enumerate() {
             let number = saved.saturating_add(place as u64).saturating_add(1);
-            let _ = self.look_at(name, number);
+            self.look_at(name, number);
         }
     }
 
-    /// What reads the files with these names, which may be read twice. All are opened here.
-    /// Standard input is read where it is named first.
-    fn open_twice(
-        self,
-        names: &[Vec<u8>],
-    ) -> Result<Vec<FileOrPipe<OpenFile<'a>, Reader<'a>>>, ToolError> {
+    /// The inputs with these names behind so many saved files. All are opened here. Standard input
+    /// is read where it is named first.
+    fn open_all<T: Opened<'a>>(self, names: &[Vec<u8>], saved: u64) -> Result<Vec<T>, ToolError> {
         let mut inputs = Vec::new(self.rt.alloc());
         let mut is_taken = false;
         for (place, name) in names.iter().enumerate() {
-            let number = (place as u64).saturating_add(1);
-            let input = if is_taken && is_standard(name) {
-                FileOrPipe::Pipe(self.reader(Source::Nothing, number, "/dev/null"))
-            } else {
-                self.file_or_pipe(name, number)?
-            };
+            let number = saved.saturating_add(place as u64).saturating_add(1);
+            push_behind(&mut inputs, T::open(self, name, number, is_taken)?)?;
             is_taken = is_taken || is_standard(name);
-            push_behind(&mut inputs, input)?;
         }
         Ok(inputs)
     }
@@ -356,26 +326,8 @@ impl<'a> Inputs<'a> {
     ) -> Result<FileRecords<OpenFile<'a>, Reader<'a>>, ToolError> {
         Ok(FileRecords {
             layout: layout_of(self.rt.alloc(), &words.layout)?,
-            inputs: self.open_twice(&words.files)?,
+            inputs: self.open_all(&words.files, 0)?,
         })
-    }
-
-    /// What reads the files with these names behind so many saved files. All are opened here.
-    /// Standard input is read where it is named first.
-    fn open_once(self, names: &[Vec<u8>], saved: u64) -> Result<Vec<Reader<'a>>, ToolError> {
-        let mut readers = Vec::new(self.rt.alloc());
-        let mut is_taken = false;
-        for (place, name) in names.iter().enumerate() {
-            let number = saved.saturating_add(place as u64).saturating_add(1);
-            let reader = if is_taken && is_standard(name) {
-                self.reader(Source::Nothing, number, "/dev/null")
-            } else {
-                self.open(name, number)?
-            };
-            is_taken = is_taken || is_standard(name);
-            push_behind(&mut readers, reader)?;
-        }
-        Ok(readers)
     }
 
     /// The records that a command line names behind so many saved files: those of its files, or
@@ -386,9 +338,9 @@ impl<'a> Inputs<'a> {
         saved: u64,
     ) -> Result<Records<Reader<'a>>, ToolError> {
         let layout = layout_of(self.rt.alloc(), &words.layout)?;
-        let mut others = self.open_once(&words.files, saved)?;
+        let mut others: Vec<Reader<'a>> = self.open_all(&words.files, saved)?;
         let first = if others.is_empty() {
-            self.standard(0)
+            self.standard(0, false)
         } else {
             others.remove(0)
         };
@@ -399,23 +351,12 @@ impl<'a> Inputs<'a> {
         })
     }
 
-    /// The file of the disk with this name and number.
-    fn disk_file(self, name: &[u8], number: u64) -> Result<OpenFile<'a>, ToolError> {
-        let file = self.file(name, number)?;
-        match file.metadata() {
-            Ok(metadata) => Ok(self.open_file(file, metadata.len(), number)),
-            Err(_) => Err(ToolError::FileFault { number }),
-        }
-    }
-
-    /// The files of the disk with these names behind so many saved files. All are opened here.
-    fn disk_files(self, names: &[Vec<u8>], saved: u64) -> Result<Vec<OpenFile<'a>>, ToolError> {
-        let mut files = Vec::new(self.rt.alloc());
-        for (place, name) in names.iter().enumerate() {
-            let number = saved.saturating_add(place as u64).saturating_add(1);
-            push_behind(&mut files, self.disk_file(name, number)?)?;
-        }
-        Ok(files)
+    /// The files of the disk that a command line names behind so many saved files.
+    fn open_files(self, words: &RecordWords, saved: u64) -> Result<OpenFiles<'a>, ToolError> {
+        Ok(OpenFiles {
+            layout: layout_of(self.rt.alloc(), &words.layout)?,
+            files: self.open_all(&words.files, saved)?,
+        })
     }
 
     /// The same records as [`Inputs::records`] has, for a command that reads them once and has so
@@ -428,10 +369,7 @@ impl<'a> Inputs<'a> {
         workers: u64,
     ) -> Result<Once<'a>, ToolError> {
         if self.have_size(words) {
-            return Ok(Once::Files(OpenFiles {
-                layout: layout_of(self.rt.alloc(), &words.layout)?,
-                files: self.disk_files(&words.files, saved)?,
-            }));
+            return Ok(Once::Files(self.open_files(words, saved)?));
         }
         let records = self.records(words, saved)?;
         if 1 <= workers && workers <= MAX_WORKERS {
@@ -442,6 +380,76 @@ impl<'a> Inputs<'a> {
             layout: records.layout,
             files,
         }))
+    }
+}
+
+/// What is opened by the name and the number of an input.
+trait Opened<'a>: Drop {
+    /// It is opened, where an input before it may have taken standard input.
+    fn open(
+        inputs: Inputs<'a>,
+        name: &[u8],
+        number: u64,
+        is_taken: bool,
+    ) -> Result<Self, ToolError>;
+}
+
+/// What reads an input once. `-` is standard input.
+impl<'a> Opened<'a> for Reader<'a> {
+    fn open(
+        inputs: Inputs<'a>,
+        name: &[u8],
+        number: u64,
+        is_taken: bool,
+    ) -> Result<Reader<'a>, ToolError> {
+        if is_standard(name) {
+            return Ok(inputs.standard(number, is_taken));
+        }
+        let file = inputs.file(name, number)?;
+        let path = str::from_utf8(name).unwrap_or("");
+        Ok(inputs.reader(Source::File(file), number, path))
+    }
+}
+
+/// The same of a file that may be read twice: one of the disk that has a size is read at any place,
+/// and all else as a pipe.
+impl<'a> Opened<'a> for FileOrPipe<OpenFile<'a>, Reader<'a>> {
+    fn open(
+        inputs: Inputs<'a>,
+        name: &[u8],
+        number: u64,
+        is_taken: bool,
+    ) -> Result<FileOrPipe<OpenFile<'a>, Reader<'a>>, ToolError> {
+        if is_standard(name) {
+            return Ok(FileOrPipe::Pipe(inputs.standard(number, is_taken)));
+        }
+        let file = inputs.file(name, number)?;
+        match file.metadata() {
+            Ok(metadata) if metadata.is_file() && metadata.len() > 0 => {
+                let size = metadata.len();
+                Ok(FileOrPipe::File(inputs.open_file(file, size, number)))
+            }
+            _ => {
+                let path = str::from_utf8(name).unwrap_or("");
+                Ok(FileOrPipe::Pipe(inputs.reader(Source::File(file), number, path)))
+            }
+        }
+    }
+}
+
+/// A file of the disk.
+impl<'a> Opened<'a> for OpenFile<'a> {
+    fn open(
+        inputs: Inputs<'a>,
+        name: &[u8],
+        number: u64,
+        _: bool,
+    ) -> Result<OpenFile<'a>, ToolError> {
+        let file = inputs.file(name, number)?;
+        match file.metadata() {
+            Ok(metadata) => Ok(inputs.open_file(file, metadata.len(), number)),
+            Err(_) => Err(ToolError::FileFault { number }),
+        }
     }
 }
 
