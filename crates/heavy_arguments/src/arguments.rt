@@ -9,7 +9,7 @@ ghost use Rattle.heavy_arguments.specs.Numbers.{IsNumberOf};
 use crate::help::{
     ASK, CONDENSE, CONFIRM, DESCRIBE, Help, LIST, MERGE, PROGRAM, REPORT, SUMMARISE, TABLE,
 };
-use crate::options::Argument;
+use crate::options::{Argument, Kind};
 use clap::{ArgMatches, Command};
 use std::alloc::{AllocError, Global};
 
@@ -111,73 +111,108 @@ struct Group {
 /// What `clap` is told of a command.
 struct CommandWords {
     name: &'static str,
-    help: Help,
+    help: &'static Help,
     arguments: &'static [Argument],
     groups: &'static [Group],
 }
 
 /// The option that tells more about a fault.
-const EXPLAIN_FLAG: Argument = Argument::LastFlag(
+const EXPLAIN_FLAG: Argument = Argument::Given(
+    Kind::LastFlag,
     EXPLAIN,
     "Say more about a fault, in a second line, as is done on a terminal",
 );
 
 /// The option that tells how far the input is read.
-const PROGRESS_FLAG: Argument = Argument::LastFlag(
+const PROGRESS_FLAG: Argument = Argument::Given(
+    Kind::LastFlag,
     PROGRESS,
     "Tell on standard error how far the input is read, about once a second",
 );
 
 /// The option that says how many rows are printed.
-const TOP_ROWS: Argument = Argument::Limit(TOP, "Print at most the first N rows [default: all]");
+const TOP_ROWS: Argument = Argument::Given(
+    Kind::Number,
+    TOP,
+    "Print at most the first N rows [default: all]",
+);
 
 /// The option that adds shares of the total to rows.
-const SHARE_FLAG: Argument = Argument::Flag(
+const SHARE_FLAG: Argument = Argument::Given(
+    Kind::Flag,
     SHARE,
     "Print in a third column the weight's share of the total in percent, rounded down",
 );
 
+/// The option with the share above which keys are heavy.
+const THRESHOLD: Argument = Argument::Given(
+    Kind::Share,
+    "threshold",
+    "Keys above this share of the total are heavy, as 1/50 [default: 1/(k+1)]",
+);
+
 /// The option with the name of an algorithm.
-const METHOD: Argument = Argument::Text(
+const METHOD: Argument = Argument::Given(
+    Kind::Text("METHOD"),
     "method",
-    "METHOD",
     "How: mg (Misra-Gries) or ss (Space-Saving), with the same result [default: mg]",
 );
 
 /// The option that says how pieces are merged.
-const TREE: Argument = Argument::Text(
+const TREE: Argument = Argument::Given(
+    Kind::Text("TREE"),
     "tree",
-    "TREE",
     "How to merge the pieces: balanced, chain or as in ((0 1) 2) [default: balanced]",
 );
 
 /// The option by which numbers are printed as the records had them.
-const PRINTED_DECIMALS: Argument = Argument::Decimals(
+const PRINTED_DECIMALS: Argument = Argument::Given(
+    Kind::Digit,
+    DECIMALS,
     "Print numbers with D digits behind the point, as the records had, 0 to 9 [default: 0]",
 );
 
-const SAVED_FILE: Argument = Argument::Word("FILE", "A saved file");
+const SAVED_FILE: Argument = Argument::Given(Kind::Word, "FILE", "A saved file");
 
-const SAVED_SUMMARY: Argument = Argument::Word("FILE", "A saved summary");
+const SAVED_SUMMARY: Argument = Argument::Given(Kind::Word, "FILE", "A saved summary");
+
+/// The words that name files of records.
+const RECORD_FILES: Argument = Argument::Given(
+    Kind::Files,
+    RECORDS,
+    "Files of records, read one after the other; - is standard input [default: -]",
+);
 
 /// The options that say how records are read.
 const COLUMN_ARGUMENTS: [Argument; 6] = [
-    Argument::Delimiter,
-    Argument::Flag(
+    Argument::Given(
+        Kind::Byte,
+        DELIMITER,
+        "The byte between two fields, \\t for a tab [default: ,]",
+    ),
+    Argument::Given(
+        Kind::Flag,
         HEADER,
         "The first record of each file names the columns, and is no record",
     ),
-    Argument::Key,
-    Argument::Text(
+    Argument::Given(
+        Kind::Columns,
+        KEY,
+        "The column of the key, by number or name; several, as 4,5, are one key",
+    ),
+    Argument::Given(
+        Kind::Text("COLUMN"),
         WEIGHT,
-        "COLUMN",
         "The column of the weight; with --key alone each record weighs 1",
     ),
-    Argument::Flag(
+    Argument::Given(
+        Kind::Flag,
         ALLOW_ZERO,
         "A record of weight 0 or - adds nothing, and is no fault",
     ),
-    Argument::Decimals(
+    Argument::Given(
+        Kind::Digit,
+        DECIMALS,
         "Weights may have a point and up to D digits behind it, D from 0 to 9 [default: 0]",
     ),
 ];
@@ -201,10 +236,10 @@ const REPORT_ARGUMENTS: [Argument; 7] = [
     EXPLAIN_FLAG,
     PROGRESS_FLAG,
     Argument::Number(K),
-    Argument::Threshold,
+    THRESHOLD,
     TOP_ROWS,
     SHARE_FLAG,
-    Argument::Records,
+    RECORD_FILES,
 ];
 
 const REPORT_GROUPS: [Group; 2] = [
@@ -222,7 +257,7 @@ const SUMMARISE_ARGUMENTS: [Argument; 5] = [
     PROGRESS_FLAG,
     Argument::Number(K),
     METHOD,
-    Argument::Records,
+    RECORD_FILES,
 ];
 
 const TABLE_ARGUMENTS: [Argument; 7] = [
@@ -232,16 +267,19 @@ const TABLE_ARGUMENTS: [Argument; 7] = [
     Argument::Number(DEPTH),
     Argument::Number(SEED),
     Argument::Number(WORKERS),
-    Argument::Records,
+    RECORD_FILES,
 ];
 
-const MERGE_ARGUMENTS: [Argument; 2] = [EXPLAIN_FLAG, Argument::Words("FILE", "A saved file")];
+const MERGE_ARGUMENTS: [Argument; 2] = [
+    EXPLAIN_FLAG,
+    Argument::Given(Kind::Words, "FILE", "A saved file"),
+];
 
 const ASK_ARGUMENTS: [Argument; 4] = [
     EXPLAIN_FLAG,
     PRINTED_DECIMALS,
     SAVED_FILE,
-    Argument::Words("KEY", "A key"),
+    Argument::Given(Kind::Words, "KEY", "A key"),
 ];
 
 const LIST_ARGUMENTS: [Argument; 3] = [EXPLAIN_FLAG, PRINTED_DECIMALS, SAVED_SUMMARY];
@@ -253,73 +291,73 @@ const CONDENSE_ARGUMENTS: [Argument; 5] = [
     PROGRESS_FLAG,
     Argument::Number(WORKERS),
     SAVED_SUMMARY,
-    Argument::Records,
+    RECORD_FILES,
 ];
 
 const CONFIRM_ARGUMENTS: [Argument; 8] = [
     EXPLAIN_FLAG,
     PROGRESS_FLAG,
-    Argument::Threshold,
+    THRESHOLD,
     TOP_ROWS,
     SHARE_FLAG,
     Argument::Number(WORKERS),
     SAVED_SUMMARY,
-    Argument::Records,
+    RECORD_FILES,
 ];
 
 /// The commands in the order of help.
 const COMMANDS: [CommandWords; 9] = [
     CommandWords {
         name: "report",
-        help: REPORT,
+        help: &REPORT,
         arguments: &REPORT_ARGUMENTS,
         groups: &REPORT_GROUPS,
     },
     CommandWords {
         name: "summarise",
-        help: SUMMARISE,
+        help: &SUMMARISE,
         arguments: &SUMMARISE_ARGUMENTS,
         groups: &RECORD_GROUPS,
     },
     CommandWords {
         name: "table",
-        help: TABLE,
+        help: &TABLE,
         arguments: &TABLE_ARGUMENTS,
         groups: &RECORD_GROUPS,
     },
     CommandWords {
         name: "merge",
-        help: MERGE,
+        help: &MERGE,
         arguments: &MERGE_ARGUMENTS,
         groups: &[],
     },
     CommandWords {
         name: "ask",
-        help: ASK,
+        help: &ASK,
         arguments: &ASK_ARGUMENTS,
         groups: &[],
     },
     CommandWords {
         name: "list",
-        help: LIST,
+        help: &LIST,
         arguments: &LIST_ARGUMENTS,
         groups: &[],
     },
     CommandWords {
         name: "describe",
-        help: DESCRIBE,
+        help: &DESCRIBE,
         arguments: &DESCRIBE_ARGUMENTS,
         groups: &[],
     },
     CommandWords {
         name: "condense",
-        help: CONDENSE,
+        help: &CONDENSE,
         arguments: &CONDENSE_ARGUMENTS,
         groups: &RECORD_GROUPS,
     },
     CommandWords {
         name: "confirm",
-        help: CONFIRM,
+        help: &CONFIRM,
         arguments: &CONFIRM_ARGUMENTS,
         groups: &RECORD_GROUPS,
     },
@@ -335,7 +373,7 @@ impl Number {
 }
 
 /// The command with this name and help.
-fn described<'a>(alloc: Global, name: &'a str, help: Help) -> Command<'a>
+fn described<'a>(alloc: Global, name: &'a str, help: &Help) -> Command<'a>
     ensures { (fields_of result).has_globals ≡ false }
 {
     Command::new(alloc, name)
@@ -375,7 +413,7 @@ fn command_of<'a>(alloc: Global, words: &CommandWords) -> Built<'a>
 fn program<'a>(alloc: Global) -> Built<'a>
     ensures { HasNoGlobals result }
 {
-    described(alloc, "heavy", PROGRAM)
+    described(alloc, "heavy", &PROGRAM)
         .version(VERSION)
         .bin_name("heavy")
 }

@@ -2,7 +2,6 @@
 //! what a reader types, and the lines below one are what it prints: `tests/examples.py` runs them.
 
 /// What help says of a command.
-#[derive(Clone, Copy)]
 pub struct Help {
     /// What it does, in one line.
     pub about: &'static str,
