@@ -162,6 +162,7 @@ def refuse_commands(refusing: Refusing, program: str, room: str) -> list[list[st
         (["--help"], b""),
         (["--version"], b""),
         (["report", "--help"], b""),
+        (["help", "report", "--help"], b""),
         (["report", "--nothing"], b""),
         (["ask", saved], b""),
         ([], b""),

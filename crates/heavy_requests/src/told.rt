@@ -46,10 +46,14 @@ fn error_of(alloc: Global, words: &[Vec<u8>], error: Error) -> Result<Error, All
         return Ok(error);
     }
     let texts = texts_of(alloc, words)?;
-    match command_line(alloc)?.try_get_matches_from(texts.as_slice()) {
-        Ok(_) => Ok(error),
-        Err(help) => Ok(help),
+    let said = match command_line(alloc)?.try_get_matches_from(texts.as_slice()) {
+        Ok(_) => error,
+        Err(help) => help,
+    };
+    if matches!(said.kind(), ErrorKind::OutOfMemory) {
+        return Err(AllocError);
     }
+    Ok(said)
 }
 
 /// What is said of words, the first of which is the program's name, where `clap` gave this error.
