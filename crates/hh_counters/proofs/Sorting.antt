@@ -18,7 +18,7 @@ use Rattle.std.proofs.lemmas.Map.Entries.{lookup-filter-values, option_filter}
 use Rattle.hh_stream.specs.Weights.{Bytes, Entry, key_cmp, same_key, at_key, weight_of}
 use Rattle.hh_summaries.specs.Counters.{Counters, exceeds, less_by, tally, lower}
 use Rattle.hh_summaries.proofs.Weights.{Distinct, weight_of-lookup, key_total, weight_of-tally, same_counters}
-use Rattle.hh_summaries.proofs.Level.{lower-nil, lower-cons, positive-lower, weight_of-lower, counters-lower}
+use Rattle.hh_summaries.proofs.Level.{lower-nil, lower-cons, positive-lower, distinct-lower, weight_of-lower, weight_of-lower-distinct, counters-lower}
 use Rattle.hh_summaries.proofs.Reports.{rising_from_sort}
 use Rattle.hh_summaries.proofs.Places.{counters_from_places}
 
@@ -50,29 +50,6 @@ lower_below t es i e l is below =
     let test : nat_lt t e.1 ≡ false = grind (arith, nat_tests, below) in
     lower_more t es i e l is ∙ ap (λ b. lower t (take i es) ++ cond b ((e.0, e.1 - t) ∷ []) []) test
     ∙ append-nil (lower t (take i es))
-
--- its keys stay apart
-distinct-lower : (t : ℕ) (es : List Entry) → Distinct es → Distinct (lower t es)
-unfolding lower
-distinct-lower t es h =
-    subst (IsDistinct same_key) (sym (keys_of-map_values (λ n. n - t) (filter (exceeds t) es)))
-    (IsDistinct-keys_filter same_key (exceeds t) es h)
-
--- each key's number less t, in whatever order the keys bounds
-weight_of-lower-distinct : (t : ℕ) (q : Bytes) (es : List Entry) → Distinct es
-    → weight_of q (lower t es) ≡ weight_of q es - t
-unfolding lower
-weight_of-lower-distinct t q es h =
-    let kept = lookup-filter-values (eq_by_cmp_equiv key_total) (nat_lt t) q es h in
-    let found =
-    lookup-map_values (λ n. n - t) (same_key q) (filter (exceeds t) es) ∙ ap (option_map (λ n. n - t)) kept in
-    weight_of-lookup q (lower t es) (distinct-lower t es h) ∙ ap (λ o. unwrap_or o 0) found
-    ∙ less (lookup (same_key q) es) ∙ ap (λ n. n - t) (sym (weight_of-lookup q es h))
-  where
-    less : (o : Option ℕ) → unwrap_or (option_map (λ n. n - t) (option_filter (nat_lt t) o)) 0 ≡ unwrap_or o 0 - t
-    less None = omega arith
-    less (Some n) = cond_both (nat_lt t n) (Some n) None (λ o. unwrap_or (option_map (λ n. n - t) o) 0 ≡ n - t)
-        (λ _. refl) (λ p. grind (arith, nat_tests, p))
 
 -- ---- sorted by key
 -- what is left of an index, sorted by key, is what is left of its view

@@ -1,6 +1,7 @@
 //! Keys, weighted items, and streams of them.
 #![tactic(auto)]
 
+mod borrowed_key;
 mod cutting;
 mod key;
 pub mod laws;
@@ -8,6 +9,7 @@ mod ranges;
 mod stream;
 mod taking;
 
+pub use borrowed_key::BorrowedKey;
 pub use cutting::{Cutting, CuttingFault, MAX_PIECES};
 pub use key::{INLINE_LEN, Key, KeyFault, MAX_KEY_LEN};
 pub use ranges::in_range;
