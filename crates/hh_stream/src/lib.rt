@@ -4,6 +4,7 @@
 mod borrowed_key;
 mod cutting;
 mod key;
+mod key_hash;
 pub mod laws;
 mod ranges;
 mod stream;
@@ -12,6 +13,7 @@ mod taking;
 pub use borrowed_key::BorrowedKey;
 pub use cutting::{Cutting, CuttingFault, MAX_PIECES};
 pub use key::{INLINE_LEN, Key, KeyFault, MAX_KEY_LEN};
+pub use key_hash::{KeyHash, KeyHasher};
 pub use ranges::in_range;
 pub use stream::{Item, MAX_TOTAL, PushFault, PushRefused, Stream};
 pub use taking::{PieceFault, TakeItems};
