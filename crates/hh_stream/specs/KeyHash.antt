@@ -22,18 +22,13 @@ abbrev pub half_word : List ℕ → ℕ → ℕ
 half_word bytes i = from_le_bytes w32 (drop i bytes)
 
 -- the last two words, which may have bytes in common: they hold all of up to 16 bytes
-unfoldable pub first_word : List ℕ → ℕ
-first_word bytes =
+unfoldable pub last_words : List ℕ → ℕ × ℕ
+last_words bytes =
     let n = length bytes in
-    if nat_le 8 n then word bytes (n - 16)
-    else (if nat_le 4 n then half_word bytes 0 else (if nat_le 1 n then slice_index bytes 0 else 0))
-
-unfoldable pub last_word : List ℕ → ℕ
-last_word bytes =
-    let n = length bytes in
-    if nat_le 8 n then word bytes (n - 8)
-    else (if nat_le 4 n then half_word bytes (n - 4)
-    else (if nat_le 1 n then slice_index bytes (n / 2) + slice_index bytes (n - 1) * 256 else 0))
+    if nat_le 8 n then (word bytes (n - 16), word bytes (n - 8))
+    else (if nat_le 4 n then (half_word bytes 0, half_word bytes (n - 4))
+    else (if nat_le 1 n then (slice_index bytes 0, slice_index bytes (n / 2) + slice_index bytes (n - 1) * 256)
+    else (0, 0)))
 
 -- the state after two words
 abbrev pub step : ℕ → ℕ → ℕ → ℕ → ℕ
@@ -51,7 +46,8 @@ write hasher bytes =
     let turned = rotate_left w64 hasher.state (length bytes % 64) in
     let blocks = (length bytes - 1) / 16 in
     let state = after_blocks hasher.factor turned bytes blocks in
-    record hasher { state = step hasher.factor state (first_word bytes) (last_word bytes) }
+    let words = last_words bytes in
+    record hasher { state = step hasher.factor state words.0 words.1 }
 
 -- the hash of the bytes so far
 abbrev pub finish : KeyHasher → ℕ

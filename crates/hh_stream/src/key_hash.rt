@@ -94,7 +94,8 @@ impl Hasher for KeyHasher {
             let at = 16 * block;
             state = step(self.factor, state, word(bytes, at), word(bytes, at + 8));
         }
-        self.state = step(self.factor, state, first_word(bytes), last_word(bytes));
+        let (first, last) = last_words(bytes);
+        self.state = step(self.factor, state, first, last);
     }
 }
 
@@ -115,37 +116,21 @@ fn folded_multiply(a: u64, b: u64) -> u64
     (product & 0xffff_ffff_ffff_ffff) as u64 ^ (product >> 64) as u64
 }
 
-// The first of the last two words, which hold all of up to 16 bytes.
+// The last two words, which may have bytes in common: they hold all of up to 16 bytes.
 #[inline(always)]
-fn first_word(bytes: &[u8]) -> u64
-    ensures { result ≡ hashing.first_word bytes.now }
+fn last_words(bytes: &[u8]) -> (u64, u64)
+    ensures { result ≡ hashing.last_words bytes.now }
 {
     let len = bytes.len();
     if len >= 8 {
-        word(bytes, len.saturating_sub(16))
+        (word(bytes, len.saturating_sub(16)), word(bytes, len - 8))
     } else if len >= 4 {
-        half_word(bytes, 0)
+        (half_word(bytes, 0), half_word(bytes, len - 4))
     } else if len >= 1 {
-        u64::from(bytes[0])
+        let ends = u64::from(bytes[len / 2]) + u64::from(bytes[len - 1]) * 256;
+        (u64::from(bytes[0]), ends)
     } else {
-        0
-    }
-}
-
-// The last word, which may have bytes in common with the one before it.
-#[inline(always)]
-fn last_word(bytes: &[u8]) -> u64
-    ensures { result ≡ hashing.last_word bytes.now }
-{
-    let len = bytes.len();
-    if len >= 8 {
-        word(bytes, len - 8)
-    } else if len >= 4 {
-        half_word(bytes, len - 4)
-    } else if len >= 1 {
-        u64::from(bytes[len / 2]) + u64::from(bytes[len - 1]) * 256
-    } else {
-        0
+        (0, 0)
     }
 }
 

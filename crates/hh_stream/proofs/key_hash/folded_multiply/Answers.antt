@@ -1,4 +1,3 @@
-use Rattle.std.proofs.Common.{refl}
 use Rattle.std.specs.Hash.FoldHasher.{folded_multiply}
 use Rattle.hh_stream.proofs.key_hash.folded_multiply.Goals as goal
 

@@ -15,4 +15,4 @@ pub returns : goal.returns
 unfolding write
 returns c =
     let count : (length c.args.bytes.now - 1) / 16 ≡ c.loop-block.block = omega (arith, c.loop-block.auto.block-end, c.loop-block-test.false) in
-    rw (c.step-self.ensures, c.first_word.ensures, c.last_word.ensures, c.loop-block.invariant, count, c.rotate_left-state.ensures)
+    rw (c.step-self.ensures, ← c.last_words-first.ensures, c.loop-block.invariant, count, c.rotate_left-state.ensures)
