@@ -109,7 +109,7 @@ module _ (t : TallyView) (p q : ℕ) (le : q ≤ p * (t.room.few / 2)) where
       let over : p * t.total < q * (e.1 + t.lost) = grind (arith, nat_tests, passes) in
       let one : t.total < h * (e.1 + t.lost) = reaches p q h t.total (e.1 + t.lost) le over in
       let split : h * (total_of (e ∷ f) + length (e ∷ f) * t.lost)
-          ≡ h * (e.1 + t.lost) + h * (total_of f + length f * t.lost) =
+      ≡ h * (e.1 + t.lost) + h * (total_of f + length f * t.lost) =
       ap (λ n. h * n) (sums e f) ∙ mul-add h (e.1 + t.lost) (total_of f + length f * t.lost) in
       let left : length (e ∷ f) * (t.total + 1) ≡ (t.total + 1) + length f * (t.total + 1) = omega arith in
       omega (arith, split, left, one, all_reach es))

@@ -2,11 +2,10 @@
 //! bound the weight of each key and find those that can be heavy.
 #![tactic(auto)]
 
+pub mod laws;
 mod lowering;
 mod room;
 mod tally;
-
-pub mod laws;
 
 pub use room::{MAX_KEYS, Room};
 pub use tally::Tally;

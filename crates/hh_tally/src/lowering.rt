@@ -9,7 +9,7 @@ ghost use Rattle.hh_summaries.specs.Counters.{exceeds, level, lower, tally};
 ghost use Rattle.hh_tally.specs.Tallies.{add_in, bytes_of, loss_of, left_of, most_left, are_large, is_over};
 
 use crate::room::Room;
-use hh_stream::{BorrowedKey, Key};
+use hh_stream::{BorrowedKey, Key, KeyHash};
 use hh_summaries::{level_of, push_copy};
 use indexmap::IndexMap;
 use std::alloc::{AllocError, Global};
@@ -17,7 +17,7 @@ use std::alloc::{AllocError, Global};
 /// Adds `weight` to the key's counter, or puts a new key last. Whether the key is new.
 pub fn add_entry(
     alloc: Global,
-    index: &mut IndexMap<Key, u64>,
+    index: &mut IndexMap<Key, u64, KeyHash>,
     key: &[u8],
     weight: u64,
 ) -> Result<bool, AllocError>
@@ -41,7 +41,7 @@ pub fn add_entry(
 }
 
 // Makes `to` the counter of the key at `place`.
-fn set_counter(index: &mut IndexMap<Key, u64>, place: usize, to: u64)
+fn set_counter(index: &mut IndexMap<Key, u64, KeyHash>, place: usize, to: u64)
     requires { place < length index.old.entries }
     ensures { index.new ≡ with_value_at index.old place to }
 {
@@ -52,8 +52,8 @@ fn set_counter(index: &mut IndexMap<Key, u64>, place: usize, to: u64)
 /// Adds each counter of `others`.
 pub fn add_all(
     alloc: Global,
-    index: &mut IndexMap<Key, u64>,
-    others: &IndexMap<Key, u64>,
+    index: &mut IndexMap<Key, u64, KeyHash>,
+    others: &IndexMap<Key, u64, KeyHash>,
 ) -> Result<(), AllocError>
     requires { total_of index.old.entries + total_of others.now.entries < 2 ^ 64 }
     ensures all { OnOk result
@@ -73,7 +73,7 @@ pub fn add_all(
 /// are `bytes`. What was taken from each counter, and the bytes of the keys that are left.
 pub fn settle(
     alloc: Global,
-    index: &mut IndexMap<Key, u64>,
+    index: &mut IndexMap<Key, u64, KeyHash>,
     room: &Room,
     bytes: usize,
 ) -> Result<(u64, usize), AllocError>
@@ -118,7 +118,11 @@ fn most_left(room: &Room, large: bool) -> usize
 }
 
 // The least number that at most `most` counters exceed.
-fn level_in(alloc: Global, index: &IndexMap<Key, u64>, most: usize) -> Result<u64, AllocError>
+fn level_in(
+    alloc: Global,
+    index: &IndexMap<Key, u64, KeyHash>,
+    most: usize,
+) -> Result<u64, AllocError>
     ensures { IfOk result (λ t. t ≡ level index.now.entries most) }
 {
     let mut numbers: Vec<u64> = index.values().copied().collect(alloc)?;
@@ -126,7 +130,7 @@ fn level_in(alloc: Global, index: &IndexMap<Key, u64>, most: usize) -> Result<u6
 }
 
 // Takes `t` from each counter, and drops those that are not above it.
-fn lower_all(index: &mut IndexMap<Key, u64>, t: u64)
+fn lower_all(index: &mut IndexMap<Key, u64, KeyHash>, t: u64)
     ensures { index.new.entries ≡ lower t index.old.entries }
 {
     index.retain(
@@ -141,7 +145,7 @@ fn lower_all(index: &mut IndexMap<Key, u64>, t: u64)
 }
 
 /// The bytes of all keys.
-pub fn key_bytes(index: &IndexMap<Key, u64>) -> usize
+pub fn key_bytes(index: &IndexMap<Key, u64, KeyHash>) -> usize
     requires { length index.now.entries < 2 ^ 33 }
     ensures bytes { result ≡ bytes_of (keys_of index.now.entries) }
     ensures bounded { result ≤ 4096 * length index.now.entries }
@@ -158,7 +162,7 @@ pub fn key_bytes(index: &IndexMap<Key, u64>) -> usize
 // The keys whose counter is above `t`, with their counters, in the order of the index.
 fn entries_above(
     alloc: Global,
-    index: &IndexMap<Key, u64>,
+    index: &IndexMap<Key, u64, KeyHash>,
     t: u64,
 ) -> Result<Vec<(Key, u64)>, AllocError>
     ensures entries { IfOk result
@@ -179,7 +183,7 @@ fn entries_above(
 /// The keys whose counter is above `t`, with their counters, by rising key.
 pub fn sorted_above(
     alloc: Global,
-    index: &IndexMap<Key, u64>,
+    index: &IndexMap<Key, u64, KeyHash>,
     t: u64,
 ) -> Result<Vec<(Key, u64)>, AllocError>
     requires { AllByRecursion (λ (e : Entry). 0 < e.1) index.now.entries }

@@ -10,6 +10,7 @@ pub const MAX_KEYS: usize = 1_000_000;
 
 // The fewest keys for which `for_counters` makes room, and the bytes that they may have.
 const LEAST_KEYS: usize = 4096;
+
 const MOST_BYTES: usize = 16_777_216;
 
 /// How much a [`Tally`](crate::Tally) keeps before it lowers its counters.

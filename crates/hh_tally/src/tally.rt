@@ -12,7 +12,7 @@ ghost use Rattle.hh_tally.specs.Tallies.{AreBounds, IsLoss, IsRoom, contenders_o
 
 use crate::lowering::{add_all, add_entry, key_bytes, settle, sorted_above};
 use crate::room::Room;
-use hh_stream::{Key, TakeItems};
+use hh_stream::{Key, KeyHash, TakeItems};
 use hh_summaries::{Summary, cut};
 use indexmap::IndexMap;
 use std::alloc::{AllocError, Global};
@@ -33,7 +33,7 @@ pub struct Tally {
     total: u64,
     lost: u64,
     bytes: usize,
-    index: IndexMap<Key, u64>,
+    index: IndexMap<Key, u64, KeyHash>,
 }
 
 impl Model for Tally {
@@ -55,12 +55,13 @@ impl Model for Tally {
 const FIRST_KEYS: usize = 4096;
 
 impl Tally {
-    /// A tally of no items, with this room.
-    pub fn new(alloc: Global, room: Room) -> Result<Tally, AllocError>
+    /// A tally of no items, with this room. `hash` decides how fast keys are found, and nothing
+    /// else: keys that others choose want one that is random.
+    pub fn new(alloc: Global, room: Room, hash: KeyHash) -> Result<Tally, AllocError>
         requires { IsRoom room }
         ensures { IfOk result (λ t. t ≡ empty_tally room) }
     {
-        let index = IndexMap::with_capacity(alloc, room.keys.min(FIRST_KEYS) + 1)?;
+        let index = IndexMap::with_capacity_and_hasher(alloc, room.keys.min(FIRST_KEYS) + 1, hash)?;
         Ok(Tally {
             room,
             total: 0,
