@@ -6,7 +6,7 @@ use Rattle.std.proofs.lemmas.Map.Entries.{length-keys_of}
 use Rattle.indexmap.specs.IndexSet.{insert_key}
 use Rattle.hh_stream.specs.Weights.{Bytes, Entry, key_cmp, same_key}
 use Rattle.hh_counters.proofs.Counting.{insert_next}
-use Rattle.hh_counters.proofs.candidates.Candidates.of.Goals as goal
+use Rattle.hh_counters.proofs.candidates.Candidates.with_hasher.Goals as goal
 
 pub entry-requires : goal.entry-requires
 entry-requires c = omega (arith, c.loop-i-test.true, c.len-i-end.ensures.len)

@@ -2,7 +2,7 @@ use Rattle.std.proofs.Common.{refl, arith}
 use Rattle.std.proofs.lemmas.Bool.Decides.{nat_tests}
 use Rattle.hh_summaries.specs.Counters.{tally}
 use Rattle.hh_counters.proofs.Linked.{nothing_linked}
-use Rattle.hh_counters.proofs.bucket_saving.BucketSaving.empty.Goals as goal
+use Rattle.hh_counters.proofs.bucket_saving.BucketSaving.with_hasher.Goals as goal
 
 pub invariant_of-result : goal.invariant_of-result
 invariant_of-result c =

@@ -1,7 +1,7 @@
 use Rattle.std.proofs.Common.{◌∙◌, refl, rules}
 use Rattle.std.proofs.lemmas.Map.Entries.{length-keys_of}
 use Rattle.std.proofs.lemmas.Simd.{splat_is_map}
-use Rattle.hh_counters.proofs.counts.Counts.of.Goals as goal
+use Rattle.hh_counters.proofs.counts.Counts.with_hasher.Goals as goal
 
 -- no items weigh nothing
 pub returns-clause-none : goal.returns-clause-none

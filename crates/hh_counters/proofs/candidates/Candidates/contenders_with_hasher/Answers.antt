@@ -9,8 +9,8 @@ use Rattle.hh_stream.specs.Weights.{Entry, key_cmp, same_key}
 use Rattle.hh_summaries.specs.Report.{can_be_heavy, contenders}
 use Rattle.hh_counters.proofs.Counting.{insert_passing, passing_stays}
 use Rattle.hh_summaries.proofs.Reports.{rising-filter}
-use Rattle.hh_counters.proofs.candidates.Candidates.contenders.Goals.{then-can_be_heavy+in_ok-insert_copy, else-can_be_heavy}
-use Rattle.hh_counters.proofs.candidates.Candidates.contenders.Goals as goal
+use Rattle.hh_counters.proofs.candidates.Candidates.contenders_with_hasher.Goals.{then-can_be_heavy+in_ok-insert_copy, else-can_be_heavy}
+use Rattle.hh_counters.proofs.candidates.Candidates.contenders_with_hasher.Goals as goal
 
 -- src/candidates.rt:66:9
 pub loop-i-preserved : goal.loop-i-preserved
