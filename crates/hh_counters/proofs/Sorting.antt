@@ -1,23 +1,17 @@
 -- The counters of an index, less the least, sorted by key.
-use Rattle.std.proofs.Common.{Option, Some, None, ◌≡◌, ℕ, ◌+◌, ◌-◌, ◌<◌, ◌≤◌, true, false, cond, List, [], ◌∷◌, ◌++◌, length, get_or, take, is_lt, refl, sym, ap, ◌∙◌, subst, append-nil, arith}
-use Rattle.std.specs.Prelude.{filter, map, unwrap_or, nat_lt, IsPermutation, IsSortedBy}
-use Rattle.std.specs.List.{IsDistinct}
+use Rattle.std.proofs.Common.{◌≡◌, ℕ, ◌+◌, ◌-◌, ◌<◌, ◌≤◌, true, false, cond, List, [], ◌∷◌, ◌++◌, length, get_or, take, is_lt, sym, ap, ◌∙◌, append-nil, arith}
+use Rattle.std.specs.Prelude.{map, nat_lt, IsPermutation, IsSortedBy}
 use Rattle.std.specs.List.Sorted.{IsStrictlySortedBy}
-use Rattle.std.specs.Map.{keys_of, lookup}
-use Rattle.std.specs.Option.{option_map}
-use Rattle.std.proofs.lemmas.Map.Made.{IsDistinct-keys_filter, keys_of-map_values, lookup-map_values}
-use Rattle.std.specs.Cmp.{eq_by_cmp_equiv}
-use Rattle.std.proofs.lemmas.Bool.{cond_both}
+use Rattle.std.specs.Map.{keys_of}
 use Rattle.std.proofs.lemmas.Bool.Decides.{nat_tests}
 use Rattle.std.proofs.lemmas.List.{map-append, take_more}
 use Rattle.std.proofs.lemmas.List.Sorted.{All-permutation, sum_by-IsPermutation}
 use Rattle.std.proofs.lemmas.List.Elements.{All-from_recursion, filter-append}
 use Rattle.std.proofs.lemmas.Map.Keys.{Less-from_sorted}
 use Rattle.std.proofs.lemmas.Cmp.{on_total}
-use Rattle.std.proofs.lemmas.Map.Entries.{lookup-filter-values, option_filter}
-use Rattle.hh_stream.specs.Weights.{Bytes, Entry, key_cmp, same_key, at_key, weight_of}
+use Rattle.hh_stream.specs.Weights.{Entry, key_cmp, at_key}
 use Rattle.hh_summaries.specs.Counters.{Counters, exceeds, less_by, tally, lower}
-use Rattle.hh_summaries.proofs.Weights.{Distinct, weight_of-lookup, key_total, weight_of-tally, same_counters}
+use Rattle.hh_summaries.proofs.Weights.{Distinct, key_total, weight_of-tally, same_counters}
 use Rattle.hh_summaries.proofs.Level.{lower-nil, lower-cons, positive-lower, distinct-lower, weight_of-lower, weight_of-lower-distinct, counters-lower}
 use Rattle.hh_summaries.proofs.Reports.{rising_from_sort}
 use Rattle.hh_summaries.proofs.Places.{counters_from_places}

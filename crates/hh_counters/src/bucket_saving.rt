@@ -13,8 +13,7 @@ ghost use Rattle.hh_counters.specs.Buckets.{HasFreshFirst, IsTakenIn, BoundCount
 
 use crate::monitor::Monitor;
 use crate::shared_key::SharedKey;
-use crate::sought::Sought;
-use hh_stream::{Key, KeyHash, MAX_TOTAL, in_range};
+use hh_stream::{BorrowedKey, Key, KeyHash, MAX_TOTAL, in_range};
 use hh_summaries::{AddFault, MAX_K, Summary, push_copy};
 use indexmap::IndexMap;
 use std::alloc::{AllocError, Global};
@@ -158,7 +157,10 @@ impl Monitor for BucketSaving {
     }
 
     fn get(&self, key: &Key) -> u64 {
-        self.index.get(Sought(key.bytes())).copied().unwrap_or(0)
+        self.index
+            .get(BorrowedKey(key.bytes()))
+            .copied()
+            .unwrap_or(0)
     }
 
     fn add_within(&mut self, key: &[u8], weight: u64) -> Result<(), AllocError> {
@@ -250,7 +252,7 @@ fn add_item(
     ensures bounds { OnErr result (BoundCounters index.new.entries buckets.new) }
     ensures known { 0 < weight_of key.now (tally index.old.entries) → IsOk result }
 {
-    if let Some((place, _, counter)) = index.get_full(Sought(key)) {
+    if let Some((place, _, counter)) = index.get_full(BorrowedKey(key)) {
         let raised = *counter + weight;
         set_counter(index, key, place, raised);
         return Ok(());

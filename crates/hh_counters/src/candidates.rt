@@ -9,8 +9,7 @@ ghost use Rattle.hh_summaries.specs.Counters.{max_k};
 ghost use Rattle.hh_summaries.specs.Report.{IsShare, contenders, counts_with, rows_above, keys_above};
 
 use crate::report::{Heavy, is_heavy, selected_rows};
-use crate::sought::Sought;
-use hh_stream::{Item, Key, KeyHash};
+use hh_stream::{BorrowedKey, Item, Key, KeyHash};
 use hh_summaries::Summary;
 use indexmap::IndexSet;
 use std::alloc::{AllocError, Global};
@@ -104,6 +103,22 @@ impl Candidates {
         Ok(Candidates { keys })
     }
 
+    /// The keys of some entries by rising key, hashed by `hash`.
+    pub fn of_entries(
+        alloc: Global,
+        entries: &[(Key, u64)],
+        hash: KeyHash,
+    ) -> Result<Candidates, AllocError>
+        requires { IsStrictlySortedBy key_cmp (keys_of entries.now) }
+        ensures { IfOk result (λ candidates. candidates ≡ keys_of entries.now) }
+    {
+        let mut keys = IndexSet::with_capacity_and_hasher(alloc, entries.len(), hash)?;
+        for i in 0..entries.len() {
+            insert_copy(&mut keys, &entries[i].0)?;
+        }
+        Ok(Candidates { keys })
+    }
+
     /// Those candidates of which the number is more than p/q of the total, where `numbers` has one
     /// for each place. Numbers that are not below the keys' weights leave each heavy key. p/q is at
     /// most 1, and q at most [`MAX_Q`](crate::MAX_Q). They are hashed as these are.
@@ -167,7 +182,7 @@ impl Candidates {
         ensures found { IsSome result ↔ Contains self.now key.now }
         ensures within { IfSome result (λ i. i < length self.now) }
     {
-        self.keys.get_index_of(Sought(key))
+        self.keys.get_index_of(BorrowedKey(key))
     }
 
     /// Adds the weight to the number at the key's place, if the key is a candidate.

@@ -1,11 +1,10 @@
 -- Tallies bound the weights of what they took.
-use Rattle.std.proofs.Common.{◌≡◌, ℕ, ◌+◌, ◌*◌, ◌/◌, ◌<◌, ◌≤◌, Bool, true, false, cond, List, [], ◌∷◌, ◌++◌, length, refl, sym, ap, ◌∙◌, subst, append_assoc, append-nil, mul-zero, mul-le-mul_right, arith, fold, nat_lt, IsPermutation}
+use Rattle.std.proofs.Common.{◌≡◌, ℕ, ◌+◌, ◌*◌, ◌/◌, ◌<◌, ◌≤◌, Bool, true, false, cond, List, [], ◌∷◌, ◌++◌, length, refl, sym, ap, ◌∙◌, subst, append_assoc, append-nil, mul-zero, mul-le-mul_right, arith, fold, nat_lt}
 use Rattle.std.specs.Prelude.{◌||◌, ◌&&◌}
 use Rattle.std.specs.List.{IsDistinct}
 use Rattle.std.specs.Map.{keys_of}
 use Rattle.std.proofs.lemmas.Bool.{cond_both}
 use Rattle.std.proofs.lemmas.Bool.Decides.{nat_tests}
-use Rattle.std.proofs.lemmas.List.Sorted.{sum_by-IsPermutation}
 use Rattle.std.proofs.lemmas.List.Sums.{sum_by-cons}
 use Rattle.std.proofs.lemmas.Map.Entries.{length-keys_of}
 use Rattle.hh_stream.specs.Weights.{Bytes, Entry, at_key, weight_of, total_of}
@@ -94,16 +93,15 @@ bounds_merged t u xs ys h g = settled_bounds t.room (t.total + u.total) (t.lost 
     (arith, weight_of-append x xs ys, weight_of-add_all x t.counters u.counters, h.below x, g.below x))
     (λ x. omega (arith, weight_of-append x xs ys, weight_of-add_all x t.counters u.counters, h.near x, g.near x))
 
--- bounds speak of weights, and not of the order of the items
-pub bounds_same : (t : TallyView) (xs ys : List Entry) → IsPermutation xs ys → AreBounds t xs → AreBounds t ys
-bounds_same t xs ys p h =
-    let same : (x : Bytes) → weight_of x xs ≡ weight_of x ys = λ x. sym (sum_by-IsPermutation (at_key x) xs ys p) in
-    record {
-      counted = h.counted ∙ sym (sum_by-IsPermutation (λ (e : Entry). e.1) xs ys p);
-      distinct = h.distinct;
-      below = λ x. omega (arith, same x, h.below x);
-      near = λ x. omega (arith, same x, h.near x);
-    }
+-- bounds tell of weights, and so not of the order of the items
+pub bounds_same : (t : TallyView) (xs ys : List Entry) → total_of xs ≡ total_of ys
+    → ((x : Bytes) → weight_of x xs ≡ weight_of x ys) → AreBounds t xs → AreBounds t ys
+bounds_same t xs ys total same h = record {
+  counted = h.counted ∙ total;
+  distinct = h.distinct;
+  below = λ x. omega (arith, same x, h.below x);
+  near = λ x. omega (arith, same x, h.near x);
+}
 
 -- where nothing was lost the counters are the weights
 pub exact_weights : (t : TallyView) (xs : List Entry) → AreBounds t xs → t.lost ≡ 0 → (x : Bytes)
