@@ -1,9 +1,9 @@
 -- Tallies that workers fill and merge.
-use Rattle.std.proofs.Common.{◌≡◌, ℕ, ◌+◌, ◌≤◌, List, [], ◌∷◌, ◌++◌, length, refl, sym, ap, ◌∙◌, subst, arith, fold}
+use Rattle.std.proofs.Common.{◌≡◌, ℕ, ◌≤◌, List, [], ◌∷◌, ◌++◌, length, refl, sym, ap, ◌∙◌, subst, arith, fold}
 use Rattle.std.proofs.lemmas.Grind.{flat_map-append}
 use mathlib.Core.Logic.{dite}
 use native.Mathlib.Decide.{ℕ_discrete}
-use Rattle.hh_stream.specs.Weights.{Entry, at_key, max_total, total_of, weight_of}
+use Rattle.hh_stream.specs.Weights.{Entry, at_key, max_total}
 use Rattle.hh_stream.specs.Cuttings.{whole_of}
 use Rattle.hh_shared.specs.Tally.{AreDisjoint, IsDistinctBelow}
 use Rattle.hh_shared.proofs.Tallies.{times-append, times-elsewhere}

@@ -120,6 +120,13 @@ impl Tally {
         Ok(entries)
     }
 
+    /// Whether both have one room, so that they can be merged.
+    pub fn has_room_of(&self, other: &Tally) -> bool
+        ensures { IsTrue result ↔ (self.now.room ≡ other.now.room) }
+    {
+        self.room == other.room
+    }
+
     /// The tally of the items of both, which have one room. Memory gives both up.
     pub fn merge(self, alloc: Global, other: &Tally) -> Result<Tally, AllocError>
         requires room { self.room ≡ other.now.room }
