@@ -20,7 +20,7 @@ use crate::records::{fault_of, read_rows};
 use crate::retrying::Retrying;
 use csv::{ByteRecord, Reader, ReaderBuilder};
 use hh_faults::{ReadError, TextError};
-use hh_stream::TakeItems;
+use hh_stream::{KeyHash, TakeItems};
 use std::alloc::Global;
 use std::io::{BufReader, Read};
 
@@ -227,6 +227,9 @@ pub trait ReadRecords: Drop {
     // what is known of them
     ghost known: { Self → Known };
 
+    /// How their keys are hashed where they are looked up. No answer depends on it.
+    fn hash(&self) -> KeyHash;
+
     /// Hands the item of each record to a taker of none, in order, and returns the taker.
     fn read_into<T: TakeItems>(self, alloc: Global, taker: T) -> Result<T, TextError>
         requires none { T.weight_taken taker ≡ 0 }
@@ -236,6 +239,10 @@ pub trait ReadRecords: Drop {
 
 impl<R: Read + Drop> ReadRecords for Records<R> {
     ghost known = { records_known R.remaining };
+
+    fn hash(&self) -> KeyHash {
+        self.layout.hash
+    }
 
     fn read_into<T: TakeItems>(self, alloc: Global, taker: T) -> Result<T, TextError> {
         read_records(alloc, self, taker)
