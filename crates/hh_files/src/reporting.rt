@@ -59,7 +59,6 @@ fn keys_side_by_side<T: Threads + Wait + Sync, S: ReadAt + Sync>(
     records: SourceRecords<'_, S>,
     pieces: usize,
     settings: &Options,
-    hash: KeyHash,
 ) -> Result<Option<(u64, Vec<Heavy>)>, AllocError>
     requires some { 0 < pieces }
     requires few { pieces ≤ max_pieces }
@@ -70,7 +69,7 @@ fn keys_side_by_side<T: Threads + Wait + Sync, S: ReadAt + Sync>(
     let Some(files) = CutFiles::new(alloc, records.layout, records.sources, pieces)? else {
         return Ok(None);
     };
-    keys_of_pieces(rt, alloc, files, settings, hash)
+    keys_of_pieces(rt, alloc, files, settings, records.layout.hash)
 }
 
 /// The same by one thread, which reads the files from their starts, twice.
@@ -106,7 +105,6 @@ fn keys_of_sources<T: Threads + Wait + Sync, S: ReadAt + Sync>(
     records: SourceRecords<'_, S>,
     k: u64,
     prepared: &Prepared,
-    hash: KeyHash,
 ) -> Result<(u64, Vec<Heavy>), ToolError>
     requires some { 0 < prepared.now.pieces }
     requires few { prepared.now.pieces ≤ max_pieces }
@@ -129,7 +127,7 @@ fn keys_of_sources<T: Threads + Wait + Sync, S: ReadAt + Sync>(
         q,
         ..
     } = prepared;
-    let keys = match keys_side_by_side(rt, alloc, records, *pieces, settings, hash)? {
+    let keys = match keys_side_by_side(rt, alloc, records, *pieces, settings)? {
         Some(keys) => keys,
         None => keys_in_turn(alloc, records, k, *p, *q)?,
     };
@@ -145,7 +143,6 @@ fn reported_of_files<T: Threads + Wait + Sync, F: ReadAt + Sync + Drop, R: Read 
     alloc: Global,
     options: &ReportOptions,
     records: FileRecords<F, R>,
-    hash: KeyHash,
 ) -> Result<(u64, Vec<Heavy>), ToolError>
     ensures keys { IfOk result (λ keys. AreOptions options.now
         × IfKnown (files_known F.bytes R.remaining records)
@@ -165,14 +162,14 @@ fn reported_of_files<T: Threads + Wait + Sync, F: ReadAt + Sync + Drop, R: Read 
         layout: &layout,
         sources: &sources,
     };
-    keys_of_sources(rt, alloc, records, options.k, &prepared, hash)
+    keys_of_sources(rt, alloc, records, options.k, &prepared)
 }
 
 /// [`report_rows`](hh_reports::report_rows) of files of any size. Workers read them in pieces,
 /// through a buffer each, and tally their items: once where the keys are few, and else once more
 /// for the weights of those that can be heavy. Nothing of a file is kept; the text of a pipe is.
 /// Where a piece can't be read by itself, one thread reads all files, twice, so that the first
-/// refusal has its number. `hash` decides how fast keys are found, and nothing else.
+/// refusal has its number.
 ///
 /// Where the bytes of all files are known, the report is that of their records, one file after the
 /// other. A file of the system may change between two readings. Where the total weight differs, one
@@ -184,7 +181,6 @@ pub fn report_files<T: Threads + Wait + Sync, F: ReadAt + Sync + Drop, R: Read +
     options: &ReportOptions,
     rows: &RowOptions,
     records: FileRecords<F, R>,
-    hash: KeyHash,
     sink: &mut S,
 ) -> Result<(), ToolError>
     requires { S.has_failed sink.old ≡ false }
@@ -198,6 +194,6 @@ pub fn report_files<T: Threads + Wait + Sync, F: ReadAt + Sync + Drop, R: Read +
     ensures flushed { OnOk result (S.is_flushed sink.new ≡ true) }
     ensures failed { S.has_failed sink.new ≡ failed_by result }
 {
-    let (total, keys) = reported_of_files(rt, alloc, options, records, hash)?;
+    let (total, keys) = reported_of_files(rt, alloc, options, records)?;
     write_keys(alloc, sink, rows, total, &keys)
 }

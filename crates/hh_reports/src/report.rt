@@ -159,7 +159,6 @@ fn keys_of_kept<T: Threads + Wait + Sync, R: Read + Drop>(
     kept: &Records<KeptText<R>>,
     pieces: usize,
     settings: &Options,
-    hash: KeyHash,
 ) -> Result<Option<(u64, Vec<Heavy>)>, AllocError>
     requires some { 0 < pieces }
     requires few { pieces ≤ max_pieces }
@@ -173,7 +172,7 @@ fn keys_of_kept<T: Threads + Wait + Sync, R: Read + Drop>(
     let Some(cut) = CutTexts::new(alloc, &kept.layout, &texts, pieces)? else {
         return Ok(None);
     };
-    keys_of_pieces(rt, alloc, cut, settings, hash)
+    keys_of_pieces(rt, alloc, cut, settings, kept.layout.hash)
 }
 
 /// The stream that records are.
@@ -228,7 +227,6 @@ fn keys_of_records<T: Threads + Wait + Sync, R: Read + Drop>(
     pieces: usize,
     plan: &Plan,
     settings: &Options,
-    hash: KeyHash,
 ) -> Result<(u64, Vec<Heavy>), ToolError>
     requires some { 0 < pieces }
     requires few { pieces ≤ max_pieces }
@@ -237,7 +235,7 @@ fn keys_of_records<T: Threads + Wait + Sync, R: Read + Drop>(
     ensures refused { IfErr result (RecordsRefused (records_known R.remaining records)) }
 {
     let kept = keep_records(alloc, records)?;
-    match keys_of_kept(rt, alloc, &kept, pieces, settings, hash)? {
+    match keys_of_kept(rt, alloc, &kept, pieces, settings)? {
         Some(keys) => Ok(keys),
         None => keys_read_again(rt, alloc, kept, plan, settings),
     }
@@ -260,8 +258,8 @@ pub enum ReportedBy {
     /// By the plan that the options name: the items are kept, cut evenly, summarised and merged,
     /// and a table is filled.
     Plan,
-    /// By tallies of the workers, whose maps take this hasher. The text is kept, and no item.
-    Tally(KeyHash),
+    /// By tallies of the workers, whose maps hash as the layout says. The text is kept, and no item.
+    Tally,
 }
 
 /// What a report is made by: how many pieces workers read texts in, the plan, and the settings.
@@ -326,9 +324,7 @@ fn reported<T: Threads + Wait + Sync, R: Read + Drop>(
             },
         ) => match by {
             ReportedBy::Plan => keys_of_stream(rt, alloc, records, &plan, &settings),
-            ReportedBy::Tally(hash) => {
-                keys_of_records(rt, alloc, records, pieces, &plan, &settings, hash)
-            }
+            ReportedBy::Tally => { keys_of_records(rt, alloc, records, pieces, &plan, &settings) }
         },
         Err(fault) => Err(fault),
     }
