@@ -8,7 +8,10 @@ import ast
 import os
 import random
 import re
+import resource
+import subprocess
 import tempfile
+from functools import partial
 from pathlib import Path
 
 import programs
@@ -43,12 +46,12 @@ BAD_RECORDS = [
     (b"x" * 10_000_000, 1, "key too long"), (b"," * 10_000_000, 1, "wrong number of fields"),
     (b'"' * 10_000_000, 1, "key too long"), (b"a," + b"0" * 10_000_000, 1, "bad weight"),
 ]
-# The records of a summary with one key, other records, and these condensed.
+# The records of a summary with one key, which weighs as much as can be, other records, and these condensed.
 CONDENSED = [
-    (b"a", b"", b""), (b"a", RECORDS, b"a,6\nothers,5\n"), (b"a", b"a\na", b"a,2\n"), (b"a", b"b,3\nc", b"others,4\n"),
-    (b"others", b"others,2\na,3", b"others,2\nothers1,3\n"), (b'"a,b"', b'"a,b",2', b'"a,b",2\n'),
-    (b"\xef\xbb\xbf\xef\xbb\xbfa", b"b\n\xef\xbb\xbfa,2\n", b'"\xef\xbb\xbfa",2\nothers,1\n'),
-    (b"a", b"a,9223372036854775807", b"a,9223372036854775807\n"),
+    (b"a,%d", b"", b""), (b"a,%d", RECORDS, b"a,6\nothers,5\n"), (b"a,%d", b"a\na", b"a,2\n"), (b"a,%d", b"b,3\nc", b"others,4\n"),
+    (b"others,%d", b"others,2\na,3", b"others,2\nothers1,3\n"), (b'"a,b",%d', b'"a,b",2', b'"a,b",2\n'),
+    (b"\xef\xbb\xbf\xef\xbb\xbfa,%d", b"b\n\xef\xbb\xbfa,2\n", b'"\xef\xbb\xbfa",2\nothers,1\n'),
+    (b"a,%d", b"a,9223372036854775807", b"a,9223372036854775807\n"),
 ]
 
 COMMANDS = ["report", "summarise", "table", "merge", "ask", "list", "describe", "condense", "confirm"]
@@ -180,7 +183,7 @@ class CommandLine(programs.Checks):
         for text, number, cause in BAD_RECORDS:
             self.refuses(["report", "--k", "2"], f"record {number}: {cause}", 3, text)
         for key, text, condensed in CONDENSED:
-            self.save("one", ["summarise", "--k", "2"], key)
+            self.save("one", ["summarise", "--k", "2"], key % (2**63 - 1))
             self.expect(["condense", "one"], (0, condensed, b""), text)
 
     def test_thresholds(self) -> None:
@@ -303,7 +306,7 @@ class CommandLine(programs.Checks):
         self.expect(["merge", "--", "-four", "0.heavy"], reference.answer(reference.merge, [saved, files[0]]))
         self.refuses(["confirm", "--", "-four"], "file 1: its total is not the input's", 3, b"a,5\n")
         self.refuses(["confirm", "table"], "file 1: not a counter summary", 3)
-        self.expect(["condense", "--", "-four"], (0, b"b,9\nothers,1\n", b""), b"x\nb,9\n")
+        self.expect(["condense", "--", "-four"], (0, b"b,3\nothers,1\n", b""), b"x\nb,3\n")
         self.expect(["condense", "--", "-four"], (0, b"", b""), b"")
         self.refuses(["condense", "--", "-four"], "record 2: zero weight", 3, b"a,5\nb,0\n")
         self.refuses(["condense", "table"], "file 1: not a counter summary", 3)
@@ -315,8 +318,46 @@ class CommandLine(programs.Checks):
             self.save(name, ["summarise", "--k", "2"])
             self.expect(["merge", "--", name], (0, saved, b""))
             self.expect(["confirm", "--", name], (0, b"a,6\n", b""))
-            self.expect(["condense", "--", name], (0, b"b,9\n", b""), b"b,9\n")
+            self.expect(["condense", "--", name], (0, b"b,3\n", b""), b"b,3\n")
             self.expect(["ask", "--", name, name, "a"], (0, name.encode() + b",0,2\na,4,6\n", b""))
+
+    def test_contradicted(self) -> None:
+        """Records whose keys weigh less than the summary's low or more than its high: a fault that has written nothing, or on
+        standard input with no option of records the same rows and a line on standard error."""
+        outside, more = "file 1: a key's weight in the input is outside its bounds", 'day has "%s" from %s to %s, and the records have %s'
+        three = b"a,x,5\nb,y,3\nc,x,2\na,y,1\n"
+        files = {"four": RECORDS, "three": three, "other": b"z,5\ny,3\nx,2\nz,1\n", "much": b"a,7\nb,3\nc,1\n", "part": b"a,6\nb\n"}
+        for name, data in files.items():
+            Path(self.room, name).write_bytes(data)
+        self.save("day", ["summarise", "--k", "2"])
+        key, column = ["--key", "1", "--weight", "3"], ["--key", "2", "--weight", "3"]
+        # a weighs 4 to 6, and b 1 to 3
+        for words, rows in [
+            (["confirm", "day", "four"], b"a,6\n"), (["confirm", *key, "day", "three"], b"a,6\n"), (["condense", "day", "part"], b"a,6\nb,1\n"),
+            (["condense", *column, "day", "three"], b"others,11\n"), (["condense", *key, "day", "three"], b"a,6\nb,3\nothers,2\n"),
+            (["condense", "day", "other"], b"others,11\n"), (["confirm", "--allow-zero", "day"], b"a,6\n"), (["confirm", "day", "-"], b"a,6\n"),
+        ]:
+            self.expect(words, (0, rows, b""))
+        for words, given, told in [
+            (["confirm", *column, "day", "three"], b"", ("a", 4, 6, 0)), (["confirm", *column, "day"], three, ("a", 4, 6, 0)),
+            (["confirm", "day", "other"], b"", ("a", 4, 6, 0)), (["confirm", "day", "-"], files["other"], ("a", 4, 6, 0)),
+            (["confirm", "day", "much"], b"", ("a", 4, 6, 7)), (["confirm", "--workers", "1", "day", "much"], b"", ("a", 4, 6, 7)),
+            (["confirm", "--delimiter", ",", "day"], b"a,5\nb,4\nc,2\n", ("b", 1, 3, 4)), (["condense", "day", "much"], b"", ("a", 4, 6, 7)),
+            (["condense", "--allow-zero", "day"], b"a,0\nb,4\n", ("b", 1, 3, 4)), (["condense", "day", "-", "part"], b"b,3\n", ("b", 1, 3, 4)),
+        ]:
+            self.refuses(words, outside, 3, given)
+            self.tells(words, more % told, 3, given)
+        for words, given, rows, told in [
+            (["confirm", "day"], files["other"], b"", ("a", 4, 6, 0)), (["confirm", "day"], files["much"], b"a,7\n", ("a", 4, 6, 7)),
+            (["confirm", "--top", "1", "--threshold", "1/3", "day"], b"b,9\na,2\n", b"b,9\n", ("a", 4, 6, 2)),
+            (["condense", "day"], b"b,9\n", b"b,9\n", ("b", 1, 3, 9)), (["condense", "--workers", "2", "day"], b"x\nb,4\n", b"b,4\nothers,1\n", ("b", 1, 3, 4)),
+        ]:
+            said = f"heavy: note: these aren't the records that were summarised: {more % told}\n".encode()
+            self.expect(words, (0, rows, said), given)
+        self.save("day", ["summarise", "--k", "2", "--decimals", "2"], b"a,0.05\nb,0.03\nc,0.02\na,0.01\n")
+        self.tells(["confirm", "--decimals", "2", "day"], more % ("a", "0.04", "0.06", "0.11"), 3, b"a,0.11\n")
+        self.save("day", ["summarise", "--k", "2"], b'"\x1b[1m"\n')
+        self.tells(["confirm", "--key", "1", "day"], more % ("\\x1b[1m", 1, 1, 0), 3, b"b\n")
 
     def test_hidden_options(self) -> None:
         """Options of a report that its rows don't show. Each of two passes starts the workers; a worker's table takes 8
@@ -634,11 +675,15 @@ class CommandLine(programs.Checks):
         for command in commands:
             self.notes(command, tab, b"a\t1\nb\t2\n")
             self.notes(command, opened, b'a,b\n"b\n' if "--header" in command else b'a\n"b,1\n')
-        for words, text in [
-            (["--delimiter", "\\t"], b"a\t1\n"), (["--delimiter", ";"], b"a\tb\n"), (["--key", "1"], b"a;1\n"),
-            (["--weight", "1"], b'"1'), (["--delimiter", ","], b'"a'),
+        for words, text, note in [
+            (["--delimiter", "\\t"], b"a\t1\n", ""), (["--delimiter", ";"], b"a\tb\n", ""), (["--key", "1"], b"a;1\n", ""),
+            (["--weight", "1"], b'"1', opened), (["--delimiter", ","], b'"a', opened), (["--delimiter", ";"], b'a,"b\n', ""),
+            (["--delimiter", ";", "--key", "1"], b'a;"b', opened), (["--key", "1"], b'\xef\xbb\xbf"x,"\n', ""),
         ]:
-            self.notes(["report", *words], "", text)
+            self.notes(["report", *words], note, text)
+        marked = b"\xef\xbb\xbf"
+        for text, note in [(b'"x,"\n', ""), (b'"x,', opened), (b'"x', opened), (b'x"\n', ""), (b"", "")]:
+            self.notes(["summarise"], note, marked + text)
         files = {"one": b"a;1\n", "two": b"b;1\nc;2\n", "op\ten": b'a,1\n"b', "plain": b"a,1\n", "keys": b"a\n" * 3}
         for name, data in files.items():
             Path(self.room, name).write_bytes(data)
@@ -649,6 +694,8 @@ class CommandLine(programs.Checks):
             (["plain", "op\ten", "one"], opened[:30] + r"op\ten"),
         ]:
             self.notes(["report", *words], note)
+        Path(self.room, "long").write_bytes(b"key,weight\n".replace(b"weight", b"1") * 2_000_000 + b'"b')
+        self.notes(["report", "long"], opened[:30] + "long")
         self.notes(["confirm", "day", "one", "two"], semicolon)
         self.notes(["condense", "day", "plain", "op\ten"], opened[:30] + r"op\ten")
         for words in (["list", "day"], ["describe", "day"], ["ask", "day", "a;1"], ["merge", "day"]):
@@ -687,6 +734,16 @@ class CommandLine(programs.Checks):
             found = self.heavy(words)
             self.check(f"{words}: no help", found[0] == 2 and found[1] == b"" and found[2] != b"", found)
 
+    def test_control_characters(self) -> None:
+        """Words that `clap` refuses are told so that a terminal finds no command in them."""
+        for words, shown in [
+            (["report", "--\x1b[31m"], "--\\u{1b}[31m"), (["\x1b[2J"], "\\u{1b}[2J"), (["report", "--k", "1\x07"], "1\\u{7}"),
+            (["report", "--method\r"], "--method\\r"), (["report", "--ä"], "--ä"),
+        ]:
+            status, out, err = self.heavy(words)
+            escaped = not any(byte < 32 and byte != 10 for byte in err) and shown.encode() in err
+            self.check(f"{words}: shown", (status, out, escaped) == (2, b"", True), err)
+
     def test_more_about_unread_files(self) -> None:
         """The name of a file that can't be read and the system's reason; a name has no command for a terminal."""
         Path(self.room, "folder").mkdir()
@@ -699,6 +756,33 @@ class CommandLine(programs.Checks):
                 self.tells(words, said, 1)
         self.save("day", ["summarise"])
         self.tells(["merge", "day", "day", "missing"], "missing: No such file or directory", 1)
+        for words in (["report"], ["summarise"], ["table"], ["condense", "day"], ["confirm", "day"]):
+            self.tells([*words, "folder"], "folder: Is a directory", 1)
+
+    def test_reasons_that_are_gone(self) -> None:
+        """What was in the way of a file when it was tried is told, though it is gone by then; and a pipe that is refused isn't
+        opened again."""
+        names = [f"{number}.csv" for number in range(1, 20)]
+        for name in names:
+            Path(self.room, name).write_bytes(RECORDS)
+        self.save("day", ["summarise"])
+        few = partial(resource.setrlimit, resource.RLIMIT_NOFILE, (12, 12))
+        for words in (["report"], ["table"], ["summarise"], ["confirm", "day"]):
+            ended = programs.run([self.program, *words[:1], "--explain", *words[1:], *names], cwd=self.room, preexec_fn=few)
+            said = rb"heavy: file (\d+): could not be read\n  (\d+)\.csv: Too many open files\n"
+            told = re.fullmatch(said, ended.err)
+            number = len(words) - 1
+            same = told is not None and int(told[1]) == int(told[2]) + number
+            self.check(f"{words[0]} with too many open files", (ended.status, ended.out, same) == (1, b"", True), ended)
+        pipe = f"{self.room}/pipe"
+        os.mkfifo(pipe)
+        for command in (["list"], ["describe"], ["merge", "day"]):
+            feeder = subprocess.Popen(["cp", f"{self.room}/1.csv", pipe], stderr=subprocess.DEVNULL)
+            found = self.heavy([*command[:1], "--explain", *command[1:], pipe])
+            feeder.wait()
+            self.check(f"{command[0]} of a pipe", found == (3, b"", b"heavy: file %d: bad magic\n" % len(command)), found)
+        self.refuses(["describe", "/dev/zero"], "file 1: bad magic", 3)
+        self.refuses(["merge", "day", "/dev/zero"], "file 2: bad magic", 3)
 
     def test_kinds(self) -> None:
         """What clap says of each kind of fault."""

@@ -52,6 +52,34 @@ class Devices(programs.Checks):
                 found = shell(f'"$@" {redirection}', [self.program, *command])
                 self.check(f"{command[0]} with {name} as standard input", found == NOT_READ, found)
 
+    def test_closed_streams(self) -> None:
+        """A file that is opened is never taken for a standard stream that is closed, and a closed stream is a fault."""
+        four, other = f"{self.room}/four.csv", f"{self.room}/other.csv"
+        for path, text in ((four, RECORDS), (other, b"b,9\n")):
+            Path(path).write_bytes(text)
+        reads = [["report", "--k", "2"], ["summarise"], ["table"], ["condense", self.summary], ["confirm", self.summary]]
+        for command in reads:
+            number = 2 + (command[-1] == self.summary)
+            untold = (1, b"", f"heavy: file {number}: could not be read\n".encode())
+            words = [self.program, *command, four, "-"]
+            for redirection in ("<&-", "<&- 3<&-"):
+                found = shell(f'"$@" {redirection}', words)
+                self.check(f"{command[0]} of a file and closed standard input", found == untold, found)
+            found = shell('"$@" <&-', words[:-1])
+            same = said(programs.run(words[:-1]))
+            self.check(f"{command[0]} of a file alone", found == same and found[0] == 0, (found, same))
+            found = shell('"$@" <&- >&- 2>&-', words[:-1])
+            self.check(f"{command[0]} with nothing open", found == (1, b"", b""), found)
+            found = shell('"$@" >&-', words[:-1])
+            self.check(f"{command[0]} with standard output closed", found == NOT_WRITTEN, found)
+            found = shell('"$@" 2>&-', words[:-1])
+            self.check(f"{command[0]} with standard error closed", found == same, found)
+        found = shell('"$@" <&-', [self.program, *REPORT, four, "/dev/stdin"])
+        self.check("report of closed standard input by its name", found == (0, b"a,6\n", b""), found)
+        for path in (four, other):
+            text = Path(path).read_bytes()
+            self.check(f"{path} is as it was", text in (RECORDS, b"b,9\n"), text)
+
     def test_unread_inputs(self) -> None:
         """What is tested before the records are read, where they can't be."""
         wrong = f"{self.room}/wrong"

@@ -21,6 +21,7 @@ KEYS = [b"a", b"b", b"c", b"d", b"ab", b"others", b"others1", b"others2", b'"a,b
 # a text of records loses a byte order mark at its start, so a key that begins with one stands elsewhere
 MARKED = b"\xef\xbb\xbfa"
 DIFFERS = (3, b"", b"heavy: file 1: its total is not the input's\n")
+OUTSIDE = b"heavy: file 1: a key's weight in the input is outside its bounds\n"
 
 
 def part(draw: random.Random) -> bytes:
@@ -83,7 +84,8 @@ def tried(program: str, seed: int) -> str | None:
     with tempfile.TemporaryDirectory() as room:
         machines = Machines(program, room, parts, k)
         summary = machines.merged(draw)
-        condensed = [machines.made(["condense", summary], text) for text in parts]
+        # by an option of records a key outside its bounds would be refused
+        condensed = [machines.made(["condense", "--delimiter", ",", summary], text) for text in parts]
         report = machines.made(["report", "--k", str(k), "--width", "8"], b"".join(parts))
         expected = reference.report(b"".join(parts), k)
         draw.shuffle(condensed)
@@ -94,7 +96,7 @@ def tried(program: str, seed: int) -> str | None:
         words = ["--threshold", above]
         report = machines.made(["report", "--k", str(k), *words], b"".join(parts))
         expected = reference.report(b"".join(parts), k, above.encode())
-        found = machines.confirmed(summary, condensed, *words)
+        found = machines.confirmed(summary, condensed, "--delimiter", ",", *words)
         if not found == (0, report, b"") == (0, expected, b""):
             return f"above {above}: {found} in place of {report} and {expected}, of {parts}"
         at = draw.randrange(len(condensed))
@@ -123,15 +125,21 @@ class SeveralMachines(programs.Checks):
             for seed, wrong in zip(seeds, pool.map(lambda seed: tried(self.program, seed), seeds)):
                 self.check(f"case of seed {seed}", wrong is None, wrong)
 
-    def test_unnoticed(self) -> None:
-        """What the total can't tell: a part that another summary condensed, and one part lost and another doubled."""
+    def test_outside_bounds(self) -> None:
+        """What the total can't tell, and the bounds do: a part that another summary condensed, and one part lost and another
+        doubled."""
         machines = Machines(self.program, self.room, [b"a,6\n", b"b,6\n"], 3)
         other = machines.saved("other", machines.made(["summarise", "--k", "3"], b"b,1\n"))
         summary = machines.merged(random.Random(0))
         one, two = [machines.made(["condense", summary], text) for text in machines.parts]
         strange = machines.made(["condense", other], machines.parts[0])
-        self.check("a part by another summary", machines.confirmed(summary, [strange, two]) == (0, b"b,6\n", b""))
-        self.check("one part lost and one doubled", machines.confirmed(summary, [one, one]) == (0, b"a,12\n", b""))
+        note = "heavy: note: these aren't the records that were summarised: %s has \"a\" from 6 to 6, and the records have %d\n"
+        for name, condensed, rows, weight in [
+            ("a part by another summary", [strange, two], b"b,6\n", 0), ("one part lost and one doubled", [one, one], b"a,12\n", 12),
+        ]:
+            self.check(name, machines.confirmed(summary, condensed) == (0, rows, (note % (summary, weight)).encode()))
+            found = machines.confirmed(summary, condensed, "--delimiter", ",")
+            self.check(f"{name}, refused", found == (3, b"", OUTSIDE), found)
 
 
 if __name__ == "__main__":

@@ -1,1 +1,2 @@
+pub mod BoundFacts
 pub mod MergeFacts

@@ -1,7 +1,7 @@
 -- What holds of reports over several machines.
-use Rattle.std.specs.Prelude.{◌≡◌, ℕ, ◌+◌, ◌*◌, ◌<◌, ◌≤◌, List, [], ◌∷◌, length, map, fold, slice_index_or, IsPermutation, Ok}
+use Rattle.std.specs.Prelude.{◌≡◌, ℕ, ◌+◌, ◌*◌, ◌<◌, ◌≤◌, List, [], ◌∷◌, length, map, fold, slice_index_or, Contains, IsPermutation, Ok}
 use Rattle.std.specs.List.{AllByRecursion, flat_map}
-use Rattle.hh_stream.specs.Weights.{Entry, total_of}
+use Rattle.hh_stream.specs.Weights.{Bytes, Entry, total_of, weight_of}
 use Rattle.hh_stream.specs.Cuttings.{whole_of}
 use Rattle.hh_summaries.specs.Counters.{SummaryView, IsHonest, misra_gries, sketch_of}
 use Rattle.hh_summaries.specs.Report.{heavy}
@@ -12,9 +12,11 @@ use Rattle.hh_saved.specs.Spelling.{Spells}
 use Rattle.hh_saved.specs.declared.format.Version.{Version}
 use Rattle.hh_saved.specs.declared.saved.Saved.{Saved}
 use Rattle.hh_saved.specs.declared.saved.Saved.TheVariants.{Counters}
+use Rattle.hh_commands.specs.Bounds.{AreWithin}
 use Rattle.hh_commands.specs.Confirm.{confirmed_above}
 use Rattle.hh_commands.specs.Files.{HoldsSummary}
 use Rattle.hh_commands.specs.Merge.{merged_files}
+use Rattle.hh_commands.specs.declared.compared.Bounds.TheVariants as bounds
 
 -- parts that are condensed one by one, and joined in any order, are confirmed as the parts are
 abbrev pub CondensedPartsConfirm : Type 0
@@ -78,3 +80,29 @@ HeldTreesReport =
     → HoldsSummary file s
     → IsPermutation (whole_of parts) xs → IsPermutation (flat_map (condensed s.counters) parts) ys
     → q ≤ p * (k + 1) → (s.total ≡ total_of ys) × (confirmed_above p q s ys ≡ heavy xs p q)
+
+-- by a summary that is honest for items, however it was made, no key is outside its bounds in items of
+-- which each key with a counter weighs the same: in those items in any order, say
+abbrev pub HonestKeepsBounds : Type 0
+HonestKeepsBounds =
+    (s : SummaryView) (xs ys : List Entry) → IsHonest s.counters s.total xs s.k
+    → ((x : Bytes) → 0 < weight_of x s.counters → weight_of x ys ≡ weight_of x xs)
+    → AreWithin bounds.Both s ys
+
+-- and none is above the higher one in items of which no key weighs more: in a part of those items, say
+abbrev pub PartsKeepBounds : Type 0
+PartsKeepBounds =
+    (s : SummaryView) (xs ys : List Entry) → IsHonest s.counters s.total xs s.k
+    → ((x : Bytes) → weight_of x ys ≤ weight_of x xs) → AreWithin bounds.High s ys
+
+-- by the summary of a file with a tree that has each part once, no key is outside its bounds in all parts
+-- together, in any order, nor in the condensed parts, joined in any order; and in a part none is above
+abbrev pub HeldTreesKeepBounds : Type 0
+HeldTreesKeepBounds =
+    (k : ℕ) (parts : List (List Entry)) (t : MergeTree) (file : List ℕ) (s : SummaryView)
+    → HoldsTree (map (sketch_of k) parts) (t, file) → IsMergeTree t (length parts)
+    → HoldsSummary file s
+    → ((xs : List Entry) → IsPermutation (whole_of parts) xs → AreWithin bounds.Both s xs)
+    × ((ys : List Entry) → IsPermutation (flat_map (condensed s.counters) parts) ys
+    → AreWithin bounds.Both s ys)
+    × ((part : List Entry) → Contains parts part → AreWithin bounds.High s part)

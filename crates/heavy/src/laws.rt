@@ -1,8 +1,8 @@
 //! Laws of the definitions in `specs/`. Each function does nothing: its contract is the law.
 
-ghost use Rattle.heavy.specs.Laws.{CondensedPartsConfirm, HeldTreesReport, HonestSummaryReports, MachinesReport, MergesHoldTrees, PartsHoldPieces};
+ghost use Rattle.heavy.specs.Laws.{CondensedPartsConfirm, HeldTreesKeepBounds, HeldTreesReport, HonestKeepsBounds, HonestSummaryReports, MachinesReport, MergesHoldTrees, PartsHoldPieces, PartsKeepBounds};
 
-use hh_counters::laws::condensed_parts_suffice;
+use hh_counters::laws::{condensed_keeps_weights, condensed_parts_suffice, counters_bound_weights};
 use hh_pool::laws::{parts_report_by_any_tree, trees_merge_summaries};
 pub use hh_records::laws::texts_are_items;
 pub use hh_rows::laws::condensed_files_are_read;
@@ -30,4 +30,17 @@ pub fn merged_files_report()
     trees_merge_summaries();
     parts_report_by_any_tree();
     condensed_parts_suffice();
+}
+
+/// The records of a summary, or of those that were merged into it, contradict it nowhere: no key of
+/// it is outside its bounds in all of them, in any order, nor in their condensed parts, and none is
+/// above the higher bound in a part.
+pub fn records_keep_bounds()
+    ensures records { HonestKeepsBounds }
+    ensures parts { PartsKeepBounds }
+    ensures files { HeldTreesKeepBounds }
+{
+    counters_bound_weights();
+    condensed_keeps_weights();
+    trees_merge_summaries();
 }

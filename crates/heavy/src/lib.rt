@@ -6,8 +6,8 @@
 pub mod laws;
 
 pub use hh_commands::{
-    Method, ask_rows, condense_bytes_from, confirm_rows, describe_file, list_rows, merge_bytes,
-    summary_bytes_from, table_bytes_from,
+    Bounds, Comparison, Method, Outside, ask_rows, condense_bytes_from, confirm_rows,
+    describe_file, list_rows, merge_bytes, summary_bytes_from, table_bytes_from,
 };
 pub use hh_counters::Heavy;
 pub use hh_faults::{

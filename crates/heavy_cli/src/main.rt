@@ -1,23 +1,23 @@
 //! The program `heavy`.
 #![tactic(auto)]
 
+use heavy_host::hold_closed;
 use heavy_progress::NOTHING;
 use heavy_requests::{
-    Command, Inputs, Once, RecordWords, Request, UsageError, read_request, shared_progress,
-    status_after, status_of, status_told, watches,
+    Command, Inputs, Once, RecordWords, Request, Unread, UsageError, read_request, shared_progress,
+    status_after, status_of, status_told, tells_more,
 };
 use hh_commands::{
-    Method, ask_rows, condense_bytes_from, confirm_rows, describe_file, list_rows, merge_bytes,
-    summary_bytes_from, table_bytes_from,
+    Comparison, Method, ask_rows, condense_bytes_from, confirm_rows, describe_file, list_rows,
+    merge_bytes, summary_bytes_from, table_bytes_from,
 };
-use hh_faults::{ToolError, Totals};
+use hh_faults::ToolError;
 use hh_files::{condense_files, confirm_files, report_files, table_files};
 use hh_reports::report_rows;
 use hh_rows::{Out, ReportOptions, RowOptions, Share, put};
 use std::cell::Cell;
 use std::process::ExitCode;
 use std::sync::Wait;
-use std::sync::atomic::AtomicU64;
 use std::thread::Threads;
 
 /// The bytes that `table` is answered by.
@@ -39,23 +39,27 @@ fn table_answer<T: Threads + Wait + Sync>(
     }
 }
 
-/// The bytes that `condense` is answered by.
+/// The bytes that `condense` is answered by. It leaves where the summary and the records differ.
 fn condense_answer<T: Threads + Wait + Sync>(
     threads: &T,
     inputs: Inputs<'_>,
     records: &RecordWords,
     file: &[u8],
     workers: u64,
+    compared: &mut Comparison,
 ) -> Result<Vec<u8>, ToolError> {
     let alloc = inputs.rt.alloc();
     let file = inputs.saved_file(file)?;
     match inputs.once(records, 1, workers)? {
-        Once::Files(files) => condense_files(threads, alloc, &file, workers, files.records()),
-        Once::Stream(records) => condense_bytes_from(alloc, &file, records),
+        Once::Files(files) => {
+            let records = files.records();
+            condense_files(threads, alloc, &file, workers, records, compared)
+        }
+        Once::Stream(records) => condense_bytes_from(alloc, &file, records, compared),
     }
 }
 
-/// The bytes that `confirm` is answered by. It leaves two totals that it compared.
+/// The bytes that `confirm` is answered by. It leaves where the summary and the records differ.
 fn confirm_answer<T: Threads + Wait + Sync>(
     threads: &T,
     inputs: Inputs<'_>,
@@ -64,26 +68,28 @@ fn confirm_answer<T: Threads + Wait + Sync>(
     share: &Share,
     rows: &RowOptions,
     workers: u64,
-    totals: &mut Option<Totals>,
+    compared: &mut Comparison,
 ) -> Result<Vec<u8>, ToolError> {
     let alloc = inputs.rt.alloc();
     let file = inputs.saved_file(file)?;
     match inputs.once(records, 1, workers)? {
         Once::Files(files) => {
             let records = files.records();
-            confirm_files(threads, alloc, &file, share, rows, workers, records, totals)
+            confirm_files(
+                threads, alloc, &file, share, rows, workers, records, compared,
+            )
         }
-        Once::Stream(records) => confirm_rows(alloc, &file, share, rows, records, totals),
+        Once::Stream(records) => confirm_rows(alloc, &file, share, rows, records, compared),
     }
 }
 
-/// The bytes that a command is answered by. It leaves two totals that it compared.
+/// The bytes that a command is answered by. It leaves where a summary and its records differ.
 fn answer<T: Threads + Wait + Sync>(
     threads: &T,
     inputs: Inputs<'_>,
     command: &Command,
     records: &RecordWords,
-    totals: &mut Option<Totals>,
+    compared: &mut Comparison,
 ) -> Result<Vec<u8>, ToolError> {
     let alloc = inputs.rt.alloc();
     match command {
@@ -108,7 +114,7 @@ fn answer<T: Threads + Wait + Sync>(
         }
         Command::Describe { file } => describe_file(alloc, &inputs.saved_file(file)?),
         Command::Condense { file, workers } => condense_answer(
-            threads, inputs, records, file, *workers,
+            threads, inputs, records, file, *workers, compared,
         ),
         Command::Confirm {
             file,
@@ -116,7 +122,7 @@ fn answer<T: Threads + Wait + Sync>(
             rows,
             workers,
         } => confirm_answer(
-            threads, inputs, records, file, threshold, rows, *workers, totals,
+            threads, inputs, records, file, threshold, rows, *workers, compared,
         ),
     }
 }
@@ -127,9 +133,9 @@ fn write_answer<T: Threads + Wait + Sync>(
     inputs: Inputs<'_>,
     command: &Command,
     records: &RecordWords,
-    totals: &mut Option<Totals>,
+    compared: &mut Comparison,
 ) -> Result<(), ToolError> {
-    let bytes = answer(threads, inputs, command, records, totals)?;
+    let bytes = answer(threads, inputs, command, records, compared)?;
     put(&mut Out::new(inputs.rt.stdout()), &bytes)?;
     Ok(())
 }
@@ -154,21 +160,30 @@ fn write_report<T: Threads + Wait + Sync>(
 }
 
 fn main(rt: HostRuntime) -> ExitCode {
+    let Ok(_held) = hold_closed(&rt) else {
+        return status_after(&rt, ToolError::ReadFault);
+    };
     let asked = match read_request(&rt, rt.alloc()) {
         Ok(asked) => asked,
         Err(UsageError::Told(told)) => return status_told(&rt, &told),
         Err(UsageError::Memory) => return status_after(&rt, ToolError::Memory),
     };
-    let mut totals = None;
-    let (unread, seen) = (AtomicU64::new(0), Cell::new(NOTHING));
+    let mut compared = Comparison::new(!asked.records.are_plain());
+    let (unread, seen) = (Unread::new(), Cell::new(NOTHING));
     let progress = shared_progress(&rt, &asked);
-    let watched = watches(&rt, &asked).then_some(&seen);
-    let inputs = Inputs::new(&rt, progress.as_ref(), &unread, watched);
+    let watched = tells_more(&rt, &asked).then_some(&seen);
+    let inputs = Inputs::new(&rt, &asked, progress.as_ref(), &unread, watched);
     let outcome = match &asked.request {
         Request::Report { options, rows } => {
             write_report(&rt, inputs, options, rows, &asked.records)
         }
-        Request::Answer(command) => write_answer(&rt, inputs, command, &asked.records, &mut totals),
+        Request::Answer(command) => write_answer(
+            &rt,
+            inputs,
+            command,
+            &asked.records,
+            &mut compared,
+        ),
     };
-    status_of(inputs, &asked, outcome, totals)
+    status_of(inputs, &asked, outcome, &compared)
 }

@@ -111,6 +111,7 @@ fn kind_of(fault: &ToolError) -> u32
         ToolError::BadDelimiter => 22,
         ToolError::BadColumn => 23,
         ToolError::NoColumn => 24,
+        ToolError::WeightOutside => 25,
     }
 }
 

@@ -1,11 +1,10 @@
 //! The files that the command line names.
 
-ghost use Rattle.std.specs.Prelude.{◌≡◌, ◌⊎◌, ◌∷◌, ◌++◌, [], ⊤, List, ℕ, Option, Some, None, Ok, Err};
+ghost use Rattle.std.specs.Prelude.{◌≡◌, ◌⊎◌, ◌∷◌, ◌++◌, [], List, ℕ, Option, Some, None, Ok, Err};
 ghost use Rattle.std.specs.Prelude.{IfOk, IfErr, OnOk, map};
 ghost use Rattle.heavy_host.specs.Files.{AreRead, TellsFile};
 
 use std::alloc::Global;
-use std::{fs, io};
 
 /// Why there are no bytes of a file.
 #[derive(Clone, Copy)]
@@ -37,29 +36,6 @@ pub trait FileSource {
 
     /// The memory that the bytes stand in.
     fn memory(&self) -> Global;
-}
-
-/// The files of the machine. The standard library opens files by texts alone, so one whose name is
-/// not UTF-8 can't be read. No contract says what a file has.
-impl FileSource for HostRuntime {
-    ghost gives = { λ _ _ _. ⊤ };
-
-    fn bytes(&self, name: &[u8]) -> Result<Vec<u8>, FileError> {
-        let Ok(name) = str::from_utf8(name) else {
-            return Err(FileError::Unreadable);
-        };
-        match fs::read(self, name) {
-            Ok(bytes) => Ok(bytes),
-            Err(error) if matches!(error.kind(), io::ErrorKind::OutOfMemory) => {
-                Err(FileError::Memory)
-            }
-            Err(_) => Err(FileError::Unreadable),
-        }
-    }
-
-    fn memory(&self) -> Global {
-        self.alloc()
-    }
 }
 
 /// The bytes of a file with its number, from 1 on.

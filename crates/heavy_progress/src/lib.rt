@@ -8,4 +8,4 @@ mod record_count;
 
 pub use other_format::{NOTHING, Seen, Watch};
 pub use progress::{Metered, SharedProgress};
-pub use record_count::RecordCount;
+pub use record_count::{Form, RecordCount};

@@ -1,6 +1,6 @@
 //! Whether texts that are read as records look like another format.
 
-use crate::record_count::RecordCount;
+use crate::record_count::{Form, RecordCount};
 use std::cell::Cell;
 
 /// Which bytes that part fields elsewhere a line has.
@@ -94,18 +94,23 @@ pub struct Watch<'a> {
     seen: &'a Cell<Seen>,
     /// The number of the text.
     number: u64,
+    form: Form,
+    /// Whether lines are looked at, since no option says how they are parted.
+    looks_for_format: bool,
     line: Line,
     records: RecordCount,
 }
 
 impl<'a> Watch<'a> {
     /// Nothing of the text came.
-    pub fn new(seen: &'a Cell<Seen>, number: u64) -> Watch<'a> {
+    pub fn new(seen: &'a Cell<Seen>, number: u64, form: Form, looks_for_format: bool) -> Watch<'a> {
         Watch {
             seen,
             number,
+            form,
+            looks_for_format,
             line: EMPTY,
-            records: RecordCount::new(b','),
+            records: RecordCount::new(form.delimiter),
         }
     }
 
@@ -137,21 +142,23 @@ impl<'a> Watch<'a> {
         };
         let seen = Seen { open, ..seen }.with_line(self.line);
         self.line = EMPTY;
-        self.records = RecordCount::new(b',');
+        self.records = RecordCount::new(self.form.delimiter);
         seen
     }
 
-    /// Takes the next bytes. None are the end. Bytes without a quote, in no quotes, leave the place
-    /// that their last one does.
+    /// Takes the next bytes. None are the end. Bytes without a quote, behind the begin of the text
+    /// and in no quotes, leave the place that their last one does.
     pub fn add(&mut self, bytes: &[u8]) {
         let mut seen = self.seen.get();
         seen.has_comma = seen.has_comma || bytes.contains(&b',');
-        if !seen.has_comma {
+        if self.looks_for_format && !seen.has_comma {
             seen = self.with_lines(seen, bytes);
         }
         match bytes.last() {
             None => seen = self.end(seen),
-            Some(_) if self.records.is_quoted() || bytes.contains(&b'"') => self.records.add(bytes),
+            Some(_) if self.records.has_open_place() || bytes.contains(&b'"') => {
+                self.records.add(bytes);
+            }
             Some(byte) => self.records.add(&[*byte]),
         }
         self.seen.set(seen);

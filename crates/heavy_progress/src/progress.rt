@@ -2,7 +2,7 @@
 
 ghost use Rattle.std.specs.Prelude.{◌≡◌, ◌≤◌};
 
-use crate::record_count::RecordCount;
+use crate::record_count::{Form, RecordCount};
 use std::io::Read;
 use std::sync::atomic::{AtomicU64, Ordering};
 use std::time::Instant;
@@ -29,13 +29,14 @@ struct Progress<'a> {
     size: Option<u64>,
     read: u64,
     records: RecordCount,
+    has_header: bool,
     started: Instant,
     told: Instant,
 }
 
 impl<'a> Progress<'a> {
     /// Nothing is read yet. A size is known where a file is at the path.
-    fn start(rt: &'a HostRuntime, path: &str) -> io::Result<Progress<'a>> {
+    fn start(rt: &'a HostRuntime, path: &str, form: Form) -> io::Result<Progress<'a>> {
         let now = Instant::now(rt)?;
         let size = match fs::metadata(rt, path) {
             Ok(file) if file.is_file() => Some(file.len()),
@@ -45,7 +46,8 @@ impl<'a> Progress<'a> {
             rt,
             size,
             read: 0,
-            records: RecordCount::new(b','),
+            records: RecordCount::new(form.delimiter),
+            has_header: form.has_header,
             started: now,
             told: now,
         })
@@ -71,7 +73,8 @@ impl<'a> Progress<'a> {
         let read = u128::from(self.read);
         let rate = Megabytes(read.saturating_mul(1000) / millis);
         let done = Megabytes(read);
-        let records = self.records.begun();
+        let header = u64::from(self.has_header);
+        let records = self.records.begun().saturating_sub(header);
         match self.size {
             Some(size) if 0 < self.read && self.read < size => {
                 let size = u128::from(size);
@@ -96,13 +99,13 @@ pub struct Metered<'a, R> {
 }
 
 impl<'a, R: Read> Metered<'a, R> {
-    /// The same bytes, which are those of a path. What is read is told where that is asked for and
-    /// there is a clock.
-    pub fn new(rt: &'a HostRuntime, inner: R, path: &str, tells: bool) -> Metered<'a, R>
+    /// The same bytes, which are those of a path, and records of this form. What is read is told
+    /// where that is asked for and there is a clock.
+    pub fn new(rt: &'a HostRuntime, inner: R, path: &str, form: Form, tells: bool) -> Metered<'a, R>
         ensures { ⟦<Metered<'a, R> as Read>⟧.remaining result ≡ R.remaining inner }
     {
         let progress = if tells {
-            Progress::start(rt, path).ok()
+            Progress::start(rt, path, form).ok()
         } else {
             None
         };

@@ -1,8 +1,17 @@
 //! How many records a text of records has, counted as its bytes come.
 
+/// What parts the fields of a text of records, and whether its first record is a header.
+#[derive(Clone, Copy)]
+pub struct Form {
+    pub delimiter: u8,
+    pub has_header: bool,
+}
+
 /// What the byte before the next one was part of.
 #[derive(Clone, Copy)]
 enum Place {
+    /// A byte order mark, of which so many bytes came: the text begins behind it.
+    Mark(u8),
     /// The end of a record, or nothing yet.
     Between,
     /// The end of a field.
@@ -16,7 +25,20 @@ enum Place {
 }
 
 impl Place {
+    /// The place after the next byte.
     fn after(self, byte: u8, delimiter: u8) -> Place {
+        match (self, byte) {
+            (Place::Mark(0), b'\xef') => Place::Mark(1),
+            (Place::Mark(1), b'\xbb') => Place::Mark(2),
+            (Place::Mark(2), b'\xbf') => Place::Between,
+            (Place::Mark(0), _) => Place::Between.in_text(byte, delimiter),
+            (Place::Mark(_), _) => Place::Plain.in_text(byte, delimiter),
+            (place, _) => place.in_text(byte, delimiter),
+        }
+    }
+
+    /// The same behind a mark.
+    fn in_text(self, byte: u8, delimiter: u8) -> Place {
         if matches!(self, Place::Quoted) {
             return if byte == b'"' {
                 Place::Quote
@@ -31,10 +53,15 @@ impl Place {
             _ => Place::Plain,
         }
     }
+
+    /// Whether a record has begun and not ended.
+    fn is_in_record(self) -> bool {
+        !matches!(self, Place::Mark(_) | Place::Between)
+    }
 }
 
-/// The number of records in the bytes that came. A line feed in quotes ends none, and an empty line
-/// is none.
+/// The number of records in the bytes that came, behind a byte order mark. A line feed in quotes ends
+/// none, and an empty line is none.
 #[derive(Drop)]
 pub struct RecordCount {
     delimiter: u8,
@@ -48,6 +75,15 @@ impl RecordCount {
         RecordCount {
             delimiter,
             ended: 0,
+            place: Place::Mark(0),
+        }
+    }
+
+    /// The same of a text from which a byte order mark was taken.
+    pub fn behind_mark(delimiter: u8) -> RecordCount {
+        RecordCount {
+            delimiter,
+            ended: 0,
             place: Place::Between,
         }
     }
@@ -56,7 +92,7 @@ impl RecordCount {
     pub fn add(&mut self, bytes: &[u8]) {
         for byte in bytes {
             let next = self.place.after(*byte, self.delimiter);
-            if matches!(next, Place::Between) && !matches!(self.place, Place::Between) {
+            if matches!(next, Place::Between) && self.place.is_in_record() {
                 self.ended = self.ended.saturating_add(1);
             }
             self.place = next;
@@ -68,6 +104,12 @@ impl RecordCount {
         matches!(self.place, Place::Quoted)
     }
 
+    /// Whether the next bytes need to be taken one by one: they are part of a quoted field, or stand
+    /// where a byte order mark may.
+    pub fn has_open_place(&self) -> bool {
+        matches!(self.place, Place::Quoted | Place::Quote | Place::Mark(_))
+    }
+
     /// The records that are ended.
     pub fn ended(&self) -> u64 {
         self.ended
@@ -75,9 +117,7 @@ impl RecordCount {
 
     /// The records that are ended, and the one that has begun.
     pub fn begun(&self) -> u64 {
-        match self.place {
-            Place::Between => self.ended,
-            _ => self.ended.saturating_add(1),
-        }
+        self.ended
+            .saturating_add(u64::from(self.place.is_in_record()))
     }
 }

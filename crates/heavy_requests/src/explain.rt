@@ -4,15 +4,21 @@
 use crate::record_place::place_of;
 use crate::request::{Command, Invocation, RecordWords, Request};
 use crate::told::Told;
+use crate::unread::Unread;
 use heavy_progress::Seen;
+use hh_commands::{Comparison, Outside};
 use hh_faults::{BadRecordCause, ToolError, Totals};
 use hh_records::pointed;
 use hh_rows::{Share, threshold_of};
-use std::io::IsTerminal;
-use std::{fmt, fs};
+use std::fmt;
+use std::fs::{self, File};
+use std::io::{IsTerminal, Read};
 
 /// The most counters of a summary.
 const MOST_COUNTERS: u64 = 65_535;
+
+/// What a file looks like is told by so many of its bytes at most.
+const BEGIN: u64 = 65_536;
 
 /// The name of a file where none is named.
 const NO_NAME: &[u8] = b"";
@@ -33,14 +39,6 @@ pub fn tells_more(rt: &HostRuntime, asked: &Invocation) -> bool {
     asked.explains || rt.stderr().is_terminal()
 }
 
-/// Whether it is told where records look like another format: where more is told, and no option
-/// says how they are parted.
-pub fn watches(rt: &HostRuntime, asked: &Invocation) -> bool {
-    let layout = &asked.records.layout;
-    let is_plain = layout.delimiter.is_none() && layout.key.is_empty() && layout.weight.is_none();
-    is_plain && tells_more(rt, asked)
-}
-
 /// What a record has to be, by what is wrong with one, where a weight may have so many digits
 /// behind a point.
 fn wanted(cause: BadRecordCause, decimals: u8) -> &'static str {
@@ -59,6 +57,23 @@ fn wanted(cause: BadRecordCause, decimals: u8) -> &'static str {
             "all weights together are at most 9223372036854775807 of the last decimal"
         }
         BadRecordCause::TotalTooLarge => "all weights together are at most 9223372036854775807",
+    }
+}
+
+/// What a text of lines has, in which a terminal finds no command.
+#[derive(Clone, Copy)]
+pub struct Lines<'a>(pub &'a str);
+
+impl<'a> fmt::Display for Lines<'a> {
+    fn fmt<W: fmt::Write>(&self, f: &mut fmt::Formatter<W>) -> fmt::Result {
+        for character in self.0.chars() {
+            if character.is_control() && character != '\n' {
+                write!(f, "{}", character.escape_default())?;
+            } else {
+                write!(f, "{character}")?;
+            }
+        }
+        Ok(())
     }
 }
 
@@ -161,14 +176,14 @@ fn tell_reason(rt: &HostRuntime, name: &[u8], reason: &str) {
     let _ = eprintln!(rt; "  {}: {reason}", Name(name));
 }
 
-/// Tells why a file can't be read. It is tried once more, so that the system says why.
-fn tell_unread(rt: &HostRuntime, name: &[u8]) {
-    let Ok(path) = str::from_utf8(name) else {
+/// Tells why a file couldn't be read when it was tried.
+fn tell_unread(rt: &HostRuntime, name: &[u8], unread: &Unread) {
+    if str::from_utf8(name).is_err() {
         tell_reason(rt, name, "its name isn't UTF-8");
         return;
-    };
-    let Err(error) = fs::read(rt, path) else {
-        tell_reason(rt, name, "it can be read now");
+    }
+    let Some(error) = unread.error() else {
+        tell_reason(rt, name, "it changed while it was read");
         return;
     };
     if let Ok(text) = format!(in rt.alloc(); "{error}") {
@@ -176,12 +191,22 @@ fn tell_unread(rt: &HostRuntime, name: &[u8]) {
     }
 }
 
-/// Tells what a file that is refused looks like.
+/// The first bytes of a file of the disk with this name. No other file is opened again: a pipe would
+/// have other bytes now, or none for ever.
+fn begin_of(rt: &HostRuntime, name: &[u8]) -> Option<Vec<u8>> {
+    let path = str::from_utf8(name).ok()?;
+    if !fs::metadata(rt, path).ok()?.is_file() {
+        return None;
+    }
+    let mut bytes = Vec::new(rt.alloc());
+    let file = File::open(rt, path).ok()?;
+    file.take(BEGIN).read_to_end(&mut bytes).ok()?;
+    Some(bytes)
+}
+
+/// Tells what a file that is refused looks like, by its first bytes.
 fn tell_looks(rt: &HostRuntime, name: &[u8]) {
-    let Ok(path) = str::from_utf8(name) else {
-        return;
-    };
-    if let Ok(bytes) = fs::read(rt, path) {
+    if let Some(bytes) = begin_of(rt, name) {
         let _ = eprintln!(rt; "  {} {}", Name(name), looks(&bytes));
     }
 }
@@ -201,6 +226,31 @@ fn tell_totals(rt: &HostRuntime, name: &[u8], totals: Option<Totals>, decimals: 
             records.as_slice().escape_ascii()
         );
     }
+}
+
+/// Tells what a summary's file and the records say of a key, behind these words, with so many digits
+/// behind a point.
+fn tell_outside(rt: &HostRuntime, words: &str, name: &[u8], outside: &Outside, decimals: u8) {
+    let low = pointed(rt.alloc(), u128::from(outside.low), decimals);
+    let high = pointed(rt.alloc(), u128::from(outside.high), decimals);
+    let weight = pointed(rt.alloc(), u128::from(outside.weight), decimals);
+    if let (Ok(low), Ok(high), Ok(weight)) = (low, high, weight) {
+        let _ = eprintln!(rt;
+            "{words}{} has \"{}\" from {} to {}, and the records have {}",
+            Name(name),
+            outside.key.bytes().escape_ascii(),
+            low.as_slice().escape_ascii(),
+            high.as_slice().escape_ascii(),
+            weight.as_slice().escape_ascii()
+        );
+    }
+}
+
+/// Tells that records which a command took aren't those of its summary.
+pub fn tell_contradicted(rt: &HostRuntime, asked: &Invocation, outside: &Outside) {
+    let words = "heavy: note: these aren't the records that were summarised: ";
+    let decimals = asked.records.layout.decimals;
+    tell_outside(rt, words, name_of(asked, 1), outside, decimals);
 }
 
 /// Tells which k a share needs.
@@ -247,9 +297,15 @@ fn tell_record(rt: &HostRuntime, records: &RecordWords, number: u64, wanted: &st
 }
 
 /// Tells more about a fault of what was asked for, where there is more to say.
-pub fn tell_more(rt: &HostRuntime, fault: &ToolError, asked: &Invocation, totals: Option<Totals>) {
+pub fn tell_more(
+    rt: &HostRuntime,
+    fault: &ToolError,
+    asked: &Invocation,
+    compared: &Comparison,
+    unread: &Unread,
+) {
     match fault {
-        ToolError::FileFault { number } => tell_unread(rt, name_of(asked, *number)),
+        ToolError::FileFault { number } => tell_unread(rt, name_of(asked, *number), unread),
         ToolError::BadFile { number, .. } => tell_looks(rt, name_of(asked, *number)),
         ToolError::MixedKinds { number } | ToolError::CannotMerge { number, .. } => {
             let _ = eprintln!(rt; "  {}", Name(name_of(asked, *number)));
@@ -259,7 +315,13 @@ pub fn tell_more(rt: &HostRuntime, fault: &ToolError, asked: &Invocation, totals
         }
         ToolError::TotalDiffers => {
             let decimals = asked.records.layout.decimals;
-            tell_totals(rt, name_of(asked, 1), totals, decimals);
+            tell_totals(rt, name_of(asked, 1), compared.totals, decimals);
+        }
+        ToolError::WeightOutside => {
+            if let Some(outside) = &compared.outside {
+                let decimals = asked.records.layout.decimals;
+                tell_outside(rt, "  ", name_of(asked, 1), outside, decimals);
+            }
         }
         ToolError::BadThreshold => tell_threshold(rt, &asked.request),
         ToolError::BadRecord { number, cause } => {

@@ -1,19 +1,20 @@
 //! Where records come from: standard input, or files that the command line names.
 
-ghost use Rattle.std.specs.Prelude.{◌≡◌, ◌<◌, ℕ, None, IfOk, length};
+ghost use Rattle.std.specs.Prelude.{◌≡◌, ◌<◌, ℕ, None, IfOk, length, ⊤};
 
 use crate::request::{Invocation, RecordWords};
-use heavy_host::{FileFault, read_file, read_files};
-use heavy_progress::{Metered, Seen, SharedProgress, Watch};
+use crate::unread::Unread;
+use heavy_host::{FileError, FileFault, FileSource, read_file, read_files};
+use heavy_progress::{Form, Metered, Seen, SharedProgress, Watch};
 use hh_faults::ToolError;
 use hh_pieces::{FileOrPipe, FileRecords, ReadAt, SourceRecords};
-use hh_records::{Layout, Records, layout_of};
+use hh_records::{Layout, Records, delimiter_of, layout_of};
 use hh_workers::MAX_WORKERS;
+use std::alloc::Global;
 use std::cell::Cell;
 use std::fs::{self, File};
 use std::io::{self, Read, Stdin};
 use std::os::unix::fs::FileExt;
-use std::sync::atomic::{AtomicU64, Ordering};
 
 /// What is read.
 #[derive(Drop)]
@@ -24,9 +25,7 @@ enum Source {
     Nothing,
 }
 
-/// The begin of a file is looked at in so many reads of so many bytes at most.
-const LOOKS: u64 = 256;
-
+/// A file is looked at in reads of so many bytes.
 const LOOK_LEN: usize = 65_536;
 
 /// Whether a name is that of standard input.
@@ -42,9 +41,9 @@ fn push_behind<T: Drop>(others: &mut Vec<T>, one: T) -> Result<(), ToolError> {
     }
 }
 
-/// Reads the begin of an input, for what sees its bytes.
-fn read_begin(input: &mut Input<'_>, buffer: &mut [u8]) {
-    for _ in 0..LOOKS {
+/// Reads an input to its end, for what sees its bytes.
+fn read_all(input: &mut Input<'_>, buffer: &mut [u8]) {
+    for _ in 0..u64::MAX {
         if let Ok(0) | Err(_) = input.read(buffer) {
             return;
         }
@@ -69,7 +68,7 @@ pub struct Input<'a> {
     source: Source,
     /// Its place among the command line's files, from 1 on, and 0 where it has none.
     number: u64,
-    unread: &'a AtomicU64,
+    unread: &'a Unread,
     /// What sees its bytes, where that is asked for.
     watch: Option<Watch<'a>>,
 }
@@ -77,9 +76,12 @@ pub struct Input<'a> {
 impl<'a> Input<'a> {
     /// Leaves what a read is to leave.
     fn leave(&mut self, outcome: &io::Result<usize>, buf: &[u8]) {
-        let Ok(count) = outcome else {
-            self.unread.store(self.number, Ordering::SeqCst);
-            return;
+        let count = match outcome {
+            Ok(count) => count,
+            Err(error) => {
+                self.unread.leave(self.number, error);
+                return;
+            }
         };
         if let (Some(watch), Some(bytes)) = (&mut self.watch, buf.get(..*count)) {
             watch.add(bytes);
@@ -108,7 +110,7 @@ pub struct OpenFile<'a> {
     file: File,
     size: u64,
     number: u64,
-    unread: &'a AtomicU64,
+    unread: &'a Unread,
     progress: Option<&'a SharedProgress<'a>>,
 }
 
@@ -116,17 +118,19 @@ impl<'a> ReadAt for OpenFile<'a> {
     ghost bytes = { λ _. None };
 
     fn len(&self) -> io::Result<u64> {
-        let size = ReadAt::len(&self.file)?;
-        if size != self.size {
-            self.unread.store(self.number, Ordering::SeqCst);
+        let outcome = ReadAt::len(&self.file);
+        match &outcome {
+            Err(error) => self.unread.leave(self.number, error),
+            Ok(size) if *size != self.size => self.unread.leave_changed(self.number),
+            Ok(_) => {}
         }
-        Ok(size)
+        outcome
     }
 
     fn read_at(&self, buf: &mut [u8], at: u64) -> io::Result<usize> {
         let outcome = FileExt::read_at(&self.file, buf, at);
         match &outcome {
-            Err(_) => self.unread.store(self.number, Ordering::SeqCst),
+            Err(error) => self.unread.leave(self.number, error),
             Ok(count) => {
                 if let Some(progress) = self.progress {
                     progress.add(*count as u64);
@@ -173,24 +177,41 @@ pub struct Inputs<'a> {
     pub rt: &'a HostRuntime,
     /// How far workers read them, where that is told.
     pub progress: Option<&'a SharedProgress<'a>>,
-    /// Where an input that can't be read leaves its number, which is 0 for standard input.
-    pub unread: &'a AtomicU64,
+    /// Where an input that can't be read is left, and why.
+    pub unread: &'a Unread,
     /// Where it is left what was seen in the inputs, where that is asked for.
     pub seen: Option<&'a Cell<Seen>>,
+    /// How records are parted.
+    form: Form,
+    /// Whether no option says that.
+    looks_for_format: bool,
 }
 
 impl<'a> Inputs<'a> {
+    /// Those of what was asked for.
     pub fn new(
         rt: &'a HostRuntime,
+        asked: &Invocation,
         progress: Option<&'a SharedProgress<'a>>,
-        unread: &'a AtomicU64,
+        unread: &'a Unread,
         seen: Option<&'a Cell<Seen>>,
     ) -> Inputs<'a> {
+        let layout = &asked.records.layout;
+        let delimiter = layout.delimiter.as_ref();
         Inputs {
             rt,
             progress,
             unread,
             seen,
+            form: Form {
+                delimiter: delimiter
+                    .and_then(|word| delimiter_of(word))
+                    .unwrap_or(b','),
+                has_header: layout.has_header,
+            },
+            looks_for_format: delimiter.is_none()
+                && layout.key.is_empty()
+                && layout.weight.is_none(),
         }
     }
 
@@ -200,14 +221,14 @@ impl<'a> Inputs<'a> {
             source,
             number,
             unread: self.unread,
-            watch: self.seen.map(|seen| Watch::new(seen, number)),
+            watch: self.seen.map(|seen| Watch::new(seen, number, self.form, self.looks_for_format)),
         }
     }
 
     /// The same, whose size is that of the file at a path.
     fn reader(self, source: Source, number: u64, path: &str) -> Reader<'a> {
         let input = self.input(source, number);
-        Metered::new(self.rt, input, path, self.progress.is_some())
+        Metered::new(self.rt, input, path, self.form, self.progress.is_some())
     }
 
     /// Standard input, or what is left of it where it is taken.
@@ -221,14 +242,14 @@ impl<'a> Inputs<'a> {
 
     /// The bytes of the saved file with this name.
     pub fn saved_file(self, name: &[u8]) -> Result<Vec<u8>, ToolError> {
-        read_file(self.rt, 1, name).map_err(fault_of)
+        read_file(&self, 1, name).map_err(fault_of)
     }
 
     /// The bytes of the saved files with these names, in their order.
     pub fn saved_files(self, first: &[u8], others: &[Vec<u8>]) -> Result<Vec<Vec<u8>>, ToolError>
         ensures some { IfOk result (λ files. 0 < length files.items) }
     {
-        read_files(self.rt, first, others).map_err(fault_of)
+        read_files(&self, first, others).map_err(fault_of)
     }
 
     /// The open file with this name and number.
@@ -241,7 +262,10 @@ impl<'a> Inputs<'a> {
             Err(error) if matches!(error.kind(), io::ErrorKind::OutOfMemory) => {
                 Err(ToolError::Memory)
             }
-            Err(_) => Err(ToolError::FileFault { number }),
+            Err(error) => {
+                self.unread.leave(number, &error);
+                Err(ToolError::FileFault { number })
+            }
         }
     }
 
@@ -274,7 +298,7 @@ impl<'a> Inputs<'a> {
         !words.files.is_empty() && words.files.iter().all(|name| self.has_size(name))
     }
 
-    /// Reads the begin of a file of the disk, for what sees its bytes.
+    /// Reads a file of the disk, for what sees its bytes.
     fn look_at(self, name: &[u8], number: u64) {
         if !self.has_size(name) {
             return;
@@ -285,11 +309,10 @@ impl<'a> Inputs<'a> {
         let Ok(mut buffer) = vec![in self.rt.alloc(); 0u8; LOOK_LEN] else {
             return;
         };
-        read_begin(&mut self.input(Source::File(file), number), &mut buffer);
+        read_all(&mut self.input(Source::File(file), number), &mut buffer);
     }
 
-    /// Sees how the files begin that workers have read, where that is asked for: they read them in
-    /// no order.
+    /// Sees the files that workers have read, where that is asked for: they read them in no order.
     pub fn look(self, asked: &Invocation) {
         let (words, saved) = (&asked.records, asked.request.saved());
         let has_workers = match asked.request.passes() {
@@ -383,6 +406,47 @@ impl<'a> Inputs<'a> {
     }
 }
 
+/// How many bytes tell that a file is none that was saved.
+const MAGIC_LEN: u64 = 4;
+
+/// The bytes of a saved file. Of a file that begins as none they are its first ones, by which it is
+/// refused as by all of them.
+fn saved_bytes(rt: &HostRuntime, path: &str) -> io::Result<Vec<u8>> {
+    let mut bytes = Vec::new(rt.alloc());
+    let mut file = File::open(rt, path)?;
+    (&mut file).take(MAGIC_LEN).read_to_end(&mut bytes)?;
+    if bytes.starts_with(b"HHS1") || bytes.starts_with(b"HHS2") {
+        file.read_to_end(&mut bytes)?;
+    }
+    Ok(bytes)
+}
+
+/// The files of the machine. The standard library opens files by texts alone, so one whose name is
+/// not UTF-8 can't be read. No contract says what a file has.
+impl<'a> FileSource for Inputs<'a> {
+    ghost gives = { λ _ _ _. ⊤ };
+
+    fn bytes(&self, name: &[u8]) -> Result<Vec<u8>, FileError> {
+        let Ok(path) = str::from_utf8(name) else {
+            return Err(FileError::Unreadable);
+        };
+        match saved_bytes(self.rt, path) {
+            Ok(bytes) => Ok(bytes),
+            Err(error) if matches!(error.kind(), io::ErrorKind::OutOfMemory) => {
+                Err(FileError::Memory)
+            }
+            Err(error) => {
+                self.unread.leave(0, &error);
+                Err(FileError::Unreadable)
+            }
+        }
+    }
+
+    fn memory(&self) -> Global {
+        self.rt.alloc()
+    }
+}
+
 /// What is opened by the name and the number of an input.
 trait Opened<'a>: Drop {
     /// It is opened, where an input before it may have taken standard input.
@@ -448,7 +512,10 @@ impl<'a> Opened<'a> for OpenFile<'a> {
         let file = inputs.file(name, number)?;
         match file.metadata() {
             Ok(metadata) => Ok(inputs.open_file(file, metadata.len(), number)),
-            Err(_) => Err(ToolError::FileFault { number }),
+            Err(error) => {
+                inputs.unread.leave(number, &error);
+                Err(ToolError::FileFault { number })
+            }
         }
     }
 }

@@ -8,9 +8,11 @@ mod record_place;
 mod request;
 mod status;
 mod told;
+mod unread;
 
-pub use explain::watches;
+pub use explain::tells_more;
 pub use inputs::{Inputs, Once, shared_progress};
 pub use request::{Command, Invocation, RecordWords, Request, UsageError, read_request};
 pub use status::{status_after, status_of, status_told};
 pub use told::Told;
+pub use unread::Unread;

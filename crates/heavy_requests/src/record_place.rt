@@ -58,7 +58,7 @@ impl Search {
     fn new(rt: &HostRuntime, before: u64, delimiter: u8) -> Search {
         Search {
             before,
-            records: RecordCount::new(delimiter),
+            records: RecordCount::behind_mark(delimiter),
             line: 1,
             behind_return: false,
             bytes: Vec::new(rt.alloc()),

@@ -39,6 +39,20 @@ pub struct RecordWords {
     pub layout: LayoutWords,
 }
 
+impl RecordWords {
+    /// Whether no file of records and no option of them is given.
+    pub fn are_plain(&self) -> bool {
+        let layout = &self.layout;
+        self.files.is_empty()
+            && layout.delimiter.is_none()
+            && !layout.has_header
+            && layout.key.is_empty()
+            && layout.weight.is_none()
+            && !layout.allow_zero
+            && layout.decimals == 0
+    }
+}
+
 /// What a command line asks for.
 #[derive(Drop)]
 pub enum Request {

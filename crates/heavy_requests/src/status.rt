@@ -1,12 +1,12 @@
 //! How a run of the program ends: what is told of it, and its exit status.
 
-use crate::explain::{tell_format, tell_more, tell_own_k, tells_more};
+use crate::explain::{Lines, tell_contradicted, tell_format, tell_more, tell_own_k, tells_more};
 use crate::inputs::Inputs;
 use crate::request::Invocation;
 use crate::told::Told;
-use hh_faults::{ToolError, Totals};
+use hh_commands::Comparison;
+use hh_faults::ToolError;
 use std::process::ExitCode;
-use std::sync::atomic::Ordering;
 
 /// The exit status of the command line's own faults.
 const USAGE: u8 = 2;
@@ -28,29 +28,36 @@ pub fn status_after(rt: &HostRuntime, fault: ToolError) -> ExitCode {
 /// The same of a fault of what was asked for, with more about it where that is asked for too or
 /// standard error is a terminal.
 fn status_explained(
-    rt: &HostRuntime,
+    inputs: Inputs<'_>,
     fault: ToolError,
     asked: &Invocation,
-    totals: Option<Totals>,
+    compared: &Comparison,
 ) -> ExitCode {
+    let rt = inputs.rt;
     let status = status_after(rt, fault);
     if tells_more(rt, asked) {
-        tell_more(rt, &fault, asked, totals);
+        tell_more(rt, &fault, asked, compared, inputs.unread);
     }
     status
 }
 
-/// Prints help or a fault of the command line as `clap` words it. Help that could not be printed is
-/// a device's fault.
+/// Prints help or a fault of the command line as `clap` words it. In a fault, which may have words of
+/// the command line, control characters are escaped. Help that could not be printed is a device's
+/// fault.
 pub fn status_told(rt: &HostRuntime, told: &Told) -> ExitCode {
-    let is_help = told.error.exit_code() == 0;
-    match told.error.print(rt) {
-        Err(_) if is_help => status_after(rt, ToolError::WriteFault { written: 0 }),
-        _ if is_help => ExitCode::SUCCESS,
-        _ => {
+    if told.error.exit_code() == 0 {
+        return match told.error.print(rt) {
+            Ok(()) => ExitCode::SUCCESS,
+            Err(_) => status_after(rt, ToolError::WriteFault { written: 0 }),
+        };
+    }
+    match format!(in rt.alloc(); "{}", told.error) {
+        Ok(text) => {
+            let _ = eprint!(rt; "{}", Lines(&text));
             tell_own_k(rt, told);
             ExitCode::from(USAGE)
         }
+        Err(_) => status_after(rt, ToolError::Memory),
     }
 }
 
@@ -60,7 +67,7 @@ pub fn status_of(
     inputs: Inputs<'_>,
     asked: &Invocation,
     outcome: Result<(), ToolError>,
-    totals: Option<Totals>,
+    compared: &Comparison,
 ) -> ExitCode {
     let rt = inputs.rt;
     match outcome {
@@ -68,6 +75,9 @@ pub fn status_of(
             inputs.look(asked);
             if let Some(seen) = inputs.seen {
                 tell_format(rt, seen.get(), asked);
+            }
+            if let Some(outside) = &compared.outside {
+                tell_contradicted(rt, asked, outside);
             }
             ExitCode::SUCCESS
         }
@@ -77,8 +87,8 @@ pub fn status_of(
             } else {
                 asked.request.saved().saturating_add(1)
             };
-            let number = inputs.unread.load(Ordering::SeqCst).max(least);
-            status_explained(rt, numbered(fault, number), asked, totals)
+            let number = inputs.unread.number().max(least);
+            status_explained(inputs, numbered(fault, number), asked, compared)
         }
     }
 }

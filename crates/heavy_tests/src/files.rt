@@ -6,9 +6,9 @@ ghost use Rattle.std.specs.Prelude.{None};
 use crate::devices::{Manner, Target};
 use crate::fixtures::assert_same;
 use heavy::{
-    FileOrPipe, FileRecords, Layout, Method, Out, ReadAt, ReportOptions, RowOptions, Share,
-    SourceRecords, ToolError, Tree, condense_files, confirm_files, report_files, summary_bytes,
-    table_bytes, table_files,
+    Comparison, FileOrPipe, FileRecords, Layout, Method, Out, ReadAt, ReportOptions, RowOptions,
+    Share, SourceRecords, ToolError, Tree, condense_files, confirm_files, report_files,
+    summary_bytes, table_bytes, table_files,
 };
 use std::io::{self, Error, ErrorKind, Read};
 use std::process::Abort;
@@ -157,7 +157,8 @@ fn files_are_condensed_by_workers(rt: HostRuntime) {
         layout: &layout,
         sources: &sources,
     };
-    let rows = condense_files(&rt, rt.alloc(), &file, 2, records).expect(&rt, "rows");
+    let compared = &mut Comparison::new(true);
+    let rows = condense_files(&rt, rt.alloc(), &file, 2, records, compared).expect(&rt, "rows");
     assert_same(&rt, rows.as_slice(), b"a,7\nothers,1\n".as_slice());
 }
 
@@ -170,7 +171,8 @@ fn files_are_confirmed_by_workers(rt: HostRuntime) {
         sources: &sources,
     };
     let (share, rows) = (Share::OfCounters, RowOptions::plain());
-    let text = confirm_files(&rt, rt.alloc(), &file, &share, &rows, 2, records, &mut None);
+    let compared = &mut Comparison::new(true);
+    let text = confirm_files(&rt, rt.alloc(), &file, &share, &rows, 2, records, compared);
     assert_same(
         &rt,
         text.expect(&rt, "rows").as_slice(),

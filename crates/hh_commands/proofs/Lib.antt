@@ -1,3 +1,4 @@
+pub mod BoundsFacts
 pub mod FileFacts
 pub mod KeyFacts
 pub mod NameFacts

@@ -2,12 +2,13 @@
 use Rattle.std.specs.Prelude.{◌==◌, ◌+◌, nat_le, ℕ, List, [], ◌∷◌, length, map, Option, Some, None, Result, Ok, Err, if◌then◌else◌}
 use Rattle.std.specs.List.{flat_map}
 use Rattle.csv.specs.Writing.{default_writer, row_text}
-use Rattle.hh_stream.specs.Weights.{Bytes, weight_of, max_key_len}
+use Rattle.hh_stream.specs.Weights.{Bytes, max_key_len}
 use Rattle.hh_summaries.specs.Counters.{slack}
 use Rattle.hh_countmin.specs.Table.{estimate_in}
 use Rattle.hh_records.specs.Decimals.{pointed}
 use Rattle.hh_saved.specs.declared.saved.Saved.{Saved}
 use Rattle.hh_saved.specs.declared.saved.Saved.TheVariants.{Counters, Cells}
+use Rattle.hh_commands.specs.Bounds.{bounds_of}
 use Rattle.hh_commands.specs.Files.{file_of, ◌>>=◌}
 use Rattle.hh_faults.specs.declared.error.KeyCause.TheVariants as key
 use Rattle.hh_faults.specs.declared.error.ToolError.{ToolError}
@@ -15,9 +16,13 @@ use Rattle.hh_faults.specs.declared.error.ToolError.TheVariants as tool
 
 -- a key's weight is at least the first number, and at most the second
 abbrev pub answer_of : Saved → Bytes → ℕ × ℕ
-answer_of (Counters s) x =
-    (weight_of x s.counters, weight_of x s.counters + slack s.counters s.total s.k)
+answer_of (Counters s) x = bounds_of s x
 answer_of (Cells t) x = (0, estimate_in t x)
+
+-- how far the second number is above the first: a summary's slack; of a table it is not asked
+abbrev pub slack_of : Saved → ℕ
+slack_of (Counters s) = slack s.counters s.total s.k
+slack_of (Cells t) = 0
 
 -- the text of one row: a key and the two numbers, in units of 10^-d, as csv's default writer writes
 -- them, and a line feed

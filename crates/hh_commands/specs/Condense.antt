@@ -1,5 +1,5 @@
 -- Records, condensed by a saved summary.
-use Rattle.std.specs.Prelude.{◌≡◌, ℕ, List, Ok}
+use Rattle.std.specs.Prelude.{◌≡◌, ℕ, Bool, IsTrue, List, Some, Ok, ⊤}
 use Rattle.hh_stream.specs.Weights.{Entry}
 use Rattle.hh_counters.specs.Condensed.{condensed}
 use Rattle.hh_summaries.specs.Counters.{SummaryView}
@@ -8,6 +8,11 @@ use Rattle.hh_records.specs.Streams.{Known, ReadsAs}
 use Rattle.hh_commands.specs.Files.{HoldsSummary, RefusedFrom}
 use Rattle.hh_records.specs.Refusals.{RecordsRefused}
 use Rattle.hh_faults.specs.declared.error.ToolError.{ToolError}
+use Rattle.hh_faults.specs.declared.error.ToolError.TheVariants as tool
+use Rattle.hh_commands.specs.Bounds.{IsOutside, RefusesOutside}
+use Rattle.hh_commands.specs.declared.compared.Bounds.TheVariants as bounds
+use Rattle.hh_commands.specs.declared.compared.Comparison.{Comparison}
+use Rattle.hh_commands.specs.declared.compared.Outside.{Outside}
 
 -- the file holds a summary, and these are the condensed rows, in units of 10^-d, of the stream that
 -- the records are
@@ -19,3 +24,26 @@ CondensesRows d file known rows =
 -- what a refusal to condense tells: of the file, of its kind, and of the records
 abbrev pub CondenseRefused : List ℕ → Known → ToolError → Type 0
 CondenseRefused file known e = RefusedFrom file (λ s. RecordsRefused known) e
+
+-- what a refusal to condense counted items tells: that a key is above its bound, where that refuses, and it is left
+abbrev pub AboveRefused : Bool → SummaryView → List Entry → Comparison → ToolError → Type 0
+AboveRefused refuses s xs told tool.WeightOutside =
+    IsTrue refuses × (o : Outside) × (told.outside ≡ Some o) × IsOutside bounds.High s xs o
+AboveRefused refuses s xs told tool.Memory = ⊤
+AboveRefused refuses s xs told _ = ⊥
+
+-- what a refusal of records tells whose keys are compared with their higher bounds: that one is above, where that
+-- refuses, or of the records
+abbrev pub PartRefused : Bool → SummaryView → Known → ToolError → Type 0
+PartRefused refuses s known tool.WeightOutside =
+    IsTrue refuses × (xs : List Entry) × (o : Outside) × ReadsAs known (Ok xs) × IsOutside bounds.High s xs o
+PartRefused refuses s known e = RecordsRefused known e
+
+-- what a refusal to condense a part tells: of the file, of its kind, of the records, and of a key above its bound
+abbrev pub CondensePartRefused : Bool → List ℕ → Known → ToolError → Type 0
+CondensePartRefused refuses file known e = RefusedFrom file (λ s. PartRefused refuses s known) e
+
+-- such a refusal leaves the key that is above its bound
+abbrev pub TellsAbove : List ℕ → Known → Comparison → ToolError → Type 0
+TellsAbove file known told tool.WeightOutside = RefusesOutside bounds.High file known told.outside
+TellsAbove file known told e = ⊤

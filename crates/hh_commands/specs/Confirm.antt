@@ -1,5 +1,5 @@
 -- A summary, confirmed by the records that it is of.
-use Rattle.std.specs.Prelude.{◌≡◌, ◌≢◌, ◌+◌, ℕ, List, filter, Option, Some, None, Ok, ⊤}
+use Rattle.std.specs.Prelude.{◌≡◌, ◌≢◌, ◌+◌, ℕ, Bool, IsTrue, List, filter, Option, Some, None, Ok, ⊤}
 use Rattle.hh_stream.specs.Weights.{Entry, total_of}
 use Rattle.hh_summaries.specs.Counters.{SummaryView}
 use Rattle.hh_summaries.specs.Report.{has_counter, heavy}
@@ -9,9 +9,12 @@ use Rattle.hh_records.specs.Streams.{Known, ReadsAs}
 use Rattle.hh_rows.specs.Thresholds.{threshold_of}
 use Rattle.hh_rows.specs.declared.printed.RowOptions.{RowOptions}
 use Rattle.hh_rows.specs.declared.threshold.Share.{Share}
+use Rattle.hh_commands.specs.Bounds.{IsOutside, RefusesOutside}
 use Rattle.hh_commands.specs.Files.{HoldsSummary, RefusedFrom}
+use Rattle.hh_commands.specs.declared.compared.Bounds.TheVariants as bounds
+use Rattle.hh_commands.specs.declared.compared.Comparison.{Comparison}
+use Rattle.hh_commands.specs.declared.compared.Outside.{Outside}
 use Rattle.hh_records.specs.Refusals.{RecordsRefused}
-use Rattle.hh_faults.specs.declared.error.Totals.{Totals}
 use Rattle.hh_faults.specs.declared.error.ToolError.{ToolError}
 use Rattle.hh_faults.specs.declared.error.ToolError.TheVariants as tool
 
@@ -53,31 +56,49 @@ ConfirmsPrinted r share file known rows =
     × (threshold_of s.k share ≡ Some (p, q)) × ReadsAs known (Ok xs)
     × (s.total ≡ total_of xs) × (rows ≡ printed_rows (total_of xs) r (confirmed_above p q s xs))
 
--- what a refusal to print a summary's keys tells, which were counted in items of this total
-abbrev pub TotalsRefused : ℕ → ℕ → ToolError → Type 0
-TotalsRefused summary items tool.TotalDiffers = summary ≢ items
-TotalsRefused summary items tool.Memory = ⊤
-TotalsRefused summary items _ = ⊥
+-- what a refusal to print a summary's keys tells, which were counted in these items: their total is another, and
+-- both are left; or a key is outside its bounds, and it is left
+abbrev pub TextRefused : Bool → SummaryView → List Entry → Comparison → ToolError → Type 0
+TextRefused refuses s xs told tool.TotalDiffers =
+    (s.total ≢ total_of xs) × (told.totals ≡ Some (record { summary = s.total; records = total_of xs }))
+TextRefused refuses s xs told tool.WeightOutside =
+    IsTrue refuses × (s.total ≡ total_of xs) × (o : Outside) × (told.outside ≡ Some o) × IsOutside bounds.Both s xs o
+TextRefused refuses s xs told tool.Memory = ⊤
+TextRefused refuses s xs told _ = ⊥
 
--- and that it leaves both totals, where they differ
-abbrev pub TellsBoth : ℕ → ℕ → Option Totals → ToolError → Type 0
-TellsBoth summary items told tool.TotalDiffers = told ≡ Some (record { summary = summary; records = items })
-TellsBoth summary items told e = ⊤
+-- what a refusal to count a summary's keys and to compare them tells: where a key outside its bounds refuses, that
+-- there is one in records of the summary's total; or of the totals, or of the records
+abbrev pub CompareRefused : Bool → SummaryView → Known → ToolError → Type 0
+CompareRefused refuses s known tool.WeightOutside =
+    IsTrue refuses × (xs : List Entry) × (o : Outside) × ReadsAs known (Ok xs) × (s.total ≡ total_of xs)
+    × IsOutside bounds.Both s xs o
+CompareRefused refuses s known e = CountRefused s known e
+
+-- the same where a share may be no threshold, which is tested first
+abbrev pub CompareAboveRefused : Bool → Option (ℕ × ℕ) → SummaryView → Known → ToolError → Type 0
+CompareAboveRefused refuses None s known e = e ≡ tool.BadThreshold
+CompareAboveRefused refuses (Some t) s known e = CompareRefused refuses s known e
+
+-- what a refusal to confirm above a share tells: of the file, of its kind, of the share, of the records, of the
+-- totals, and of a key outside its bounds, where that refuses
+abbrev pub ConfirmRowsRefused : Bool → Share → List ℕ → Known → ToolError → Type 0
+ConfirmRowsRefused refuses share file known e =
+    RefusedFrom file (λ s. CompareAboveRefused refuses (threshold_of s.k share) s known) e
 
 -- what a refusal tells where a share may be no threshold: that first, and then of the records
 abbrev pub CountAboveRefused : Option (ℕ × ℕ) → SummaryView → Known → ToolError → Type 0
 CountAboveRefused None s known e = e ≡ tool.BadThreshold
 CountAboveRefused (Some t) s known e = CountRefused s known e
 
--- what a refusal to confirm above a share tells: of the file, of its kind, of the share, of the
--- records, and of the totals
+-- the same where no bounds are compared
 abbrev pub ConfirmAboveRefused : Share → List ℕ → Known → ToolError → Type 0
 ConfirmAboveRefused share file known e =
     RefusedFrom file (λ s. CountAboveRefused (threshold_of s.k share) s known) e
 
--- what a refusal tells of two totals: where they differ, both
-abbrev pub TellsTotals : List ℕ → Known → Option Totals → ToolError → Type 0
-TellsTotals file known told tool.TotalDiffers =
+-- what a refusal tells of what was compared: both totals, where they differ, and else a key outside its bounds
+abbrev pub TellsCompared : List ℕ → Known → Comparison → ToolError → Type 0
+TellsCompared file known told tool.TotalDiffers =
     (s : SummaryView) × (xs : List Entry) × HoldsSummary file s × ReadsAs known (Ok xs)
-    × (told ≡ Some (record { summary = s.total; records = total_of xs }))
-TellsTotals file known told e = ⊤
+    × (told.totals ≡ Some (record { summary = s.total; records = total_of xs }))
+TellsCompared file known told tool.WeightOutside = RefusesOutside bounds.Both file known told.outside
+TellsCompared file known told e = ⊤

@@ -1,4 +1,5 @@
 pub mod Ask
+pub mod Bounds
 pub mod Condense
 pub mod Confirm
 pub mod Describe

@@ -3,16 +3,20 @@
 #![tactic(auto)]
 
 mod commands;
+mod compared;
 mod counting;
 mod files;
 
-pub use commands::ask::{answer_of, ask_rows, asked, check_key};
-pub use commands::condense::{condense_bytes_from, condensed_counts, condensed_rows, free_name};
+pub use commands::ask::{answer_of, ask_rows, asked, check_key, slack_of};
+pub use commands::condense::{
+    condense_bytes_from, condensed_counts, condensed_part, condensed_rows, free_name,
+};
 pub use commands::confirm::{confirm_rows, confirmed_text, rows_above};
 pub use commands::describe::describe_file;
 pub use commands::list::list_rows;
 pub use commands::merge::merge_bytes;
 pub use commands::summarise::{Method, summary_by_monitoring, summary_bytes_from};
 pub use commands::table::{drawn_table, table_bytes_from, table_of_records};
+pub use compared::{Bounds, Comparison, Outside, key_outside};
 pub use counting::count_records;
 pub use files::{file_of, summary_in};

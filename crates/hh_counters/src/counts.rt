@@ -1,6 +1,6 @@
 //! The keys of a summary, counted as items come.
 
-ghost use Rattle.std.specs.Prelude.{◌≡◌, ◌+◌, ◌≤◌, ◌∷◌, [], true, IfOk, OnOk, filter, length, zip};
+ghost use Rattle.std.specs.Prelude.{◌≡◌, ◌+◌, ◌<◌, ◌≤◌, ◌∷◌, [], true, IfOk, OnOk, filter, length, slice_index, zip};
 ghost use Rattle.std.specs.Map.{keys_of};
 ghost use Rattle.hh_stream.specs.Weights.{max_total, total_of};
 ghost use Rattle.hh_summaries.specs.Counters.{max_k, IsCounters, exceeds};
@@ -78,6 +78,14 @@ impl Counts {
         ensures bounded { result ≤ max_total }
     {
         self.total
+    }
+
+    /// The weight of the key at a place, from 0 on by rising key, in the items that came.
+    pub fn weight(&self, place: usize) -> u64
+        requires { place < length self.now.keys }
+        ensures { result ≡ slice_index self.now.weights place }
+    {
+        self.weights[place]
     }
 
     /// Counts an item, of the key with these bytes.

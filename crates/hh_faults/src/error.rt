@@ -115,6 +115,8 @@ pub enum ToolError {
     BadColumn,
     #[error("the header has no such column")]
     NoColumn,
+    #[error("file 1: a key's weight in the input is outside its bounds")]
+    WeightOutside,
 }
 
 impl ToolError {
@@ -142,7 +144,8 @@ impl ToolError {
             | ToolError::BadKey { .. }
             | ToolError::NotCounters
             | ToolError::TotalDiffers
-            | ToolError::NoColumn => 3,
+            | ToolError::NoColumn
+            | ToolError::WeightOutside => 3,
             ToolError::Memory => 4,
         }
     }

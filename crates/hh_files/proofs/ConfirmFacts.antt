@@ -1,5 +1,5 @@
 -- What a summary's keys, counted in files, tell.
-use Rattle.std.proofs.Common.{◌≡◌, ◌∙◌, ℕ, List, true, Some, Ok, Err, Result, Global, Vec, Option, ap}
+use Rattle.std.proofs.Common.{◌≡◌, ◌∙◌, ℕ, Bool, List, true, Some, Ok, Err, Result, Global, Vec, ap}
 use Rattle.std.specs.Prelude.{IfErr, IfOk, OnOk}
 use Rattle.std.specs.Map.{keys_of}
 use Rattle.hh_stream.specs.Ranges.{in_range}
@@ -12,10 +12,11 @@ use Rattle.hh_rows.specs.Printed.{printed_rows}
 use Rattle.hh_rows.specs.Thresholds.{threshold_of}
 use Rattle.hh_rows.specs.declared.printed.RowOptions.{RowOptions}
 use Rattle.hh_rows.specs.declared.threshold.Share.{Share}
-use Rattle.hh_commands.specs.Confirm.{ConfirmsPrinted, TellsBoth, TellsTotals, TotalsRefused, confirmed_above}
+use Rattle.hh_commands.specs.Confirm.{ConfirmsPrinted, TellsCompared, TextRefused, confirmed_above}
 use Rattle.hh_commands.specs.Files.{HoldsSummary}
 use Rattle.hh_commands.specs.Records.{CountsRecords}
-use Rattle.hh_faults.specs.declared.error.Totals.{Totals}
+use Rattle.hh_commands.specs.declared.compared.Comparison.{Comparison}
+use Rattle.hh_commands.proofs.BoundsFacts.{confirm_refused, confirm_told}
 use Rattle.hh_faults.specs.declared.error.ToolError.{ToolError}
 use Rattle.hh_faults.specs.declared.error.ToolError.TheVariants as tool
 use Rattle.hh_files.specs.FilePasses.{ConfirmFilesRefused}
@@ -35,33 +36,30 @@ module _ (file : List ℕ) (known : Known) (s : SummaryView) (held : HoldsSummar
       (s, t.0, t.1, xs, held, is, reads, same, h xs made ∙ ap rows_of same)
   rows_confirmed rows share t is (Err e) total h = tt
 
-  -- totals that differ are those of the summary and of the records
-  totals_told : (told : Option Totals) (e : ToolError) → TellsBoth s.total counts.total told e
-      → TellsTotals file known told e
-  totals_told told tool.TotalDiffers h =
-      let (xs, reads, (weigh, made)) = counted in
-      let same : counts.total ≡ total_of xs = ap (λ (c : Count). c.total) made in
-      (s, xs, held, reads, rw (← same) h)
-  totals_told told e h = tt
+  -- a refusal to print them tells what differs of the summary and of the records
+  pub told_confirmed : {A : Type 0} (refuses : Bool) (told : Comparison) (result : Result A ToolError)
+      → IfErr result (λ e. (xs : List Entry) → counts ≡ count_of (keys_of s.counters) xs → TextRefused refuses s xs told e)
+      → IfErr result (TellsCompared file known told)
+  told_confirmed refuses told (Ok x) h = tt
+  told_confirmed refuses told (Err e) h = confirm_told file known s held counts counted refuses told e h
 
-  pub totals_confirmed : {A : Type 0} (told : Option Totals) (result : Result A ToolError)
-      → IfErr result (TellsBoth s.total counts.total told) → IfErr result (TellsTotals file known told)
-  totals_confirmed told (Ok x) h = tt
-  totals_confirmed told (Err e) h = totals_told told e h
+  -- and is one to confirm
+  confirming_fault : (refuses : Bool) (told : Comparison) (share : Share) (workers : ℕ) (t : ℕ × ℕ)
+      → threshold_of s.k share ≡ Some t → in_range workers max_workers ≡ true → (e : ToolError)
+      → ((xs : List Entry) → counts ≡ count_of (keys_of s.counters) xs → TextRefused refuses s xs told e)
+      → ConfirmFilesRefused refuses share workers file known e
+  confirming_fault refuses told share workers t is few tool.TotalDiffers h =
+      (s, held, rw (is, few) (confirm_refused file known s held counts counted refuses told tool.TotalDiffers h))
+  confirming_fault refuses told share workers t is few tool.WeightOutside h =
+      (s, held, rw (is, few) (confirm_refused file known s held counts counted refuses told tool.WeightOutside h))
+  confirming_fault refuses told share workers t is few tool.Memory h = tt
+  confirming_fault refuses told share workers t is few e h =
+      let (xs, reads, (weigh, made)) = counted in absurd (h xs made)
 
-  -- and such a refusal is one to confirm
-  totals_refused : (share : Share) (workers : ℕ) (t : ℕ × ℕ) → threshold_of s.k share ≡ Some t
-      → in_range workers max_workers ≡ true → (e : ToolError) → TotalsRefused s.total counts.total e
-      → ConfirmFilesRefused share workers file known e
-  totals_refused share workers t is few tool.TotalDiffers h =
-      let (xs, reads, (weigh, made)) = counted in
-      let same : counts.total ≡ total_of xs = ap (λ (c : Count). c.total) made in
-      (s, held, rw (is, few) (xs, reads, rw (← same) h))
-  totals_refused share workers t is few tool.Memory h = tt
-  totals_refused share workers t is few e h = absurd h
-
-  pub confirming_refused : {A : Type 0} (share : Share) (workers : ℕ) (t : ℕ × ℕ) → threshold_of s.k share ≡ Some t
-      → in_range workers max_workers ≡ true → (result : Result A ToolError)
-      → IfErr result (TotalsRefused s.total counts.total) → IfErr result (ConfirmFilesRefused share workers file known)
-  confirming_refused share workers t is few (Ok x) h = tt
-  confirming_refused share workers t is few (Err e) h = totals_refused share workers t is few e h
+  pub confirming_refused : {A : Type 0} (refuses : Bool) (told : Comparison) (share : Share) (workers : ℕ) (t : ℕ × ℕ)
+      → threshold_of s.k share ≡ Some t → in_range workers max_workers ≡ true → (result : Result A ToolError)
+      → IfErr result (λ e. (xs : List Entry) → counts ≡ count_of (keys_of s.counters) xs → TextRefused refuses s xs told e)
+      → IfErr result (ConfirmFilesRefused refuses share workers file known)
+  confirming_refused refuses told share workers t is few (Ok x) h = tt
+  confirming_refused refuses told share workers t is few (Err e) h =
+      confirming_fault refuses told share workers t is few e h

@@ -9,9 +9,9 @@ use Rattle.hh_workers.specs.Workers.{max_workers}
 use Rattle.hh_records.specs.Streams.{Known}
 use Rattle.hh_rows.specs.Thresholds.{threshold_of}
 use Rattle.hh_rows.specs.declared.threshold.Share.{Share}
-use Rattle.hh_commands.specs.Confirm.{CountRefused}
+use Rattle.hh_commands.specs.Condense.{PartRefused}
+use Rattle.hh_commands.specs.Confirm.{CompareRefused}
 use Rattle.hh_commands.specs.Files.{RefusedFrom}
-use Rattle.hh_records.specs.Refusals.{RecordsRefused}
 use Rattle.hh_faults.specs.declared.error.ToolError.{ToolError}
 use Rattle.hh_faults.specs.declared.error.ToolError.TheVariants as tool
 
@@ -31,18 +31,19 @@ BehindWorkers false Follows e = e ≡ tool.BadWorkers
 
 -- what a refusal tells where a share may be no threshold: that first, then of the workers, and then of
 -- the records
-abbrev pub CountFilesRefused : Option (ℕ × ℕ) → ℕ → SummaryView → Known → ToolError → Type 0
-CountFilesRefused None workers s known e = e ≡ tool.BadThreshold
-CountFilesRefused (Some t) workers s known e = BehindWorkers (in_range workers max_workers) (CountRefused s known) e
+abbrev pub CountFilesRefused : Bool → Option (ℕ × ℕ) → ℕ → SummaryView → Known → ToolError → Type 0
+CountFilesRefused refuses None workers s known e = e ≡ tool.BadThreshold
+CountFilesRefused refuses (Some t) workers s known e =
+    BehindWorkers (in_range workers max_workers) (CompareRefused refuses s known) e
 
 -- what a refusal to confirm by files tells: of the saved file, of its kind, of the share, of the workers,
--- of the records, and of the totals
-abbrev pub ConfirmFilesRefused : Share → ℕ → List ℕ → Known → ToolError → Type 0
-ConfirmFilesRefused share workers file known e =
-    RefusedFrom file (λ s. CountFilesRefused (threshold_of s.k share) workers s known) e
+-- of the records, of the totals, and of a key outside its bounds, where that refuses
+abbrev pub ConfirmFilesRefused : Bool → Share → ℕ → List ℕ → Known → ToolError → Type 0
+ConfirmFilesRefused refuses share workers file known e =
+    RefusedFrom file (λ s. CountFilesRefused refuses (threshold_of s.k share) workers s known) e
 
--- what a refusal to condense files tells: of the saved file, of its kind, of the workers, and of the
--- records
-abbrev pub CondenseFilesRefused : ℕ → List ℕ → Known → ToolError → Type 0
-CondenseFilesRefused workers file known e =
-    RefusedFrom file (λ s. BehindWorkers (in_range workers max_workers) (RecordsRefused known)) e
+-- what a refusal to condense files tells: of the saved file, of its kind, of the workers, of the records, and
+-- of a key above its bound
+abbrev pub CondenseFilesRefused : Bool → ℕ → List ℕ → Known → ToolError → Type 0
+CondenseFilesRefused refuses workers file known e =
+    RefusedFrom file (λ s. BehindWorkers (in_range workers max_workers) (PartRefused refuses s known)) e

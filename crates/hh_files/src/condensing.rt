@@ -1,13 +1,14 @@
 //! Files condensed by a summary, which workers read in pieces.
 
-ghost use Rattle.std.specs.Prelude.{IfOk, IfErr};
+ghost use Rattle.std.specs.Prelude.{IfOk, IfErr, OnOk};
 ghost use Rattle.hh_records.specs.Layouts.{texts_known};
-ghost use Rattle.hh_commands.specs.Condense.{CondensesRows};
+ghost use Rattle.hh_commands.specs.Bounds.{ComparesBounds};
+ghost use Rattle.hh_commands.specs.Condense.{CondensesRows, TellsAbove};
 ghost use Rattle.hh_files.specs.FilePasses.{CondenseFilesRefused};
 ghost use Rattle.hh_commands.specs.Files.{StopsAtHead};
 
 use crate::file_passes::count_sources;
-use hh_commands::{condensed_counts, summary_in};
+use hh_commands::{Bounds, Comparison, condensed_part, summary_in};
 use hh_faults::ToolError;
 use hh_pieces::{ReadAt, SourceRecords};
 use hh_pool::MAX_WORKERS;
@@ -25,7 +26,10 @@ use std::thread::Threads;
 /// The saved file is tested first ([`ToolError::BadFile`], as file 1, and
 /// [`ToolError::NotCounters`]), then the workers, of whom there are 1 to 64
 /// ([`ToolError::BadWorkers`]), and then the records ([`ToolError::ReadFault`],
-/// [`ToolError::NoColumn`], [`ToolError::BadRecord`]), whose total need not be the summary's.
+/// [`ToolError::NoColumn`], [`ToolError::BadRecord`]), whose total need not be the summary's, and the
+/// higher bounds of the summary's keys ([`ToolError::WeightOutside`], where `compared` says that
+/// they refuse), which are compared as
+/// [`condense_bytes_from`](hh_commands::condense_bytes_from) does.
 ///
 /// Where the bytes of all files are known, the rows are those of their records, one file after the
 /// other. A file of the system may change while it is read, which can't be seen where its length
@@ -36,12 +40,18 @@ pub fn condense_files<T: Threads + Wait + Sync, S: ReadAt + Sync>(
     file: &[u8],
     workers: u64,
     records: SourceRecords<'_, S>,
+    compared: &mut Comparison,
 ) -> Result<Vec<u8>, ToolError>
     ensures rows { IfOk result (λ rows.
         CondensesRows records.entry.layout.now.decimals file.now
         (texts_known S.bytes records.entry.layout.now records.entry.sources.now) rows.items) }
-    ensures refused { IfErr result (CondenseFilesRefused workers file.now
+    ensures bounds { OnOk result (ComparesBounds compared.old.refuses Bounds.High file.now
+        (texts_known S.bytes records.entry.layout.now records.entry.sources.now)
+        compared.new.outside) }
+    ensures refused { IfErr result (CondenseFilesRefused compared.old.refuses workers file.now
         (texts_known S.bytes records.entry.layout.now records.entry.sources.now)) }
+    ensures told { IfErr result (TellsAbove file.now
+        (texts_known S.bytes records.entry.layout.now records.entry.sources.now) compared.new) }
     ensures early { StopsAtHead 1 file.now result }
 {
     let summary = summary_in(alloc, file)?;
@@ -49,5 +59,6 @@ pub fn condense_files<T: Threads + Wait + Sync, S: ReadAt + Sync>(
         return Err(ToolError::BadWorkers);
     }
     let counts = count_sources(rt, alloc, &summary, workers, records)?;
-    Ok(condensed_counts(alloc, &summary, &counts, records.layout.decimals)?)
+    let decimals = records.layout.decimals;
+    condensed_part(alloc, &summary, &counts, decimals, compared)
 }

@@ -1,14 +1,15 @@
 //! A summary confirmed by files, which workers read in pieces.
 
-ghost use Rattle.std.specs.Prelude.{IfOk, IfErr};
+ghost use Rattle.std.specs.Prelude.{IfOk, IfErr, OnOk};
 ghost use Rattle.hh_records.specs.Layouts.{texts_known};
-ghost use Rattle.hh_commands.specs.Confirm.{ConfirmsPrinted, TellsTotals};
+ghost use Rattle.hh_commands.specs.Bounds.{ComparesBounds};
+ghost use Rattle.hh_commands.specs.Confirm.{ConfirmsPrinted, TellsCompared};
 ghost use Rattle.hh_files.specs.FilePasses.{ConfirmFilesRefused};
 ghost use Rattle.hh_commands.specs.Files.{StopsAtHead};
 
 use crate::file_passes::count_sources;
-use hh_commands::{confirmed_text, summary_in};
-use hh_faults::{ToolError, Totals};
+use hh_commands::{Bounds, Comparison, confirmed_text, summary_in};
+use hh_faults::ToolError;
 use hh_pieces::{ReadAt, SourceRecords};
 use hh_pool::MAX_WORKERS;
 use hh_rows::{RowOptions, Share, threshold_of};
@@ -25,8 +26,10 @@ use std::thread::Threads;
 /// The saved file is tested first ([`ToolError::BadFile`], as file 1, and
 /// [`ToolError::NotCounters`]), then the share ([`ToolError::BadThreshold`]), then the workers, of
 /// whom there are 1 to 64 ([`ToolError::BadWorkers`]). Then come the records
-/// ([`ToolError::ReadFault`], [`ToolError::NoColumn`], [`ToolError::BadRecord`]) and their total
-/// ([`ToolError::TotalDiffers`]), which leaves both totals in `totals`.
+/// ([`ToolError::ReadFault`], [`ToolError::NoColumn`], [`ToolError::BadRecord`]), their total
+/// ([`ToolError::TotalDiffers`]) and the bounds of the summary's keys
+/// ([`ToolError::WeightOutside`], where `compared` says that they refuse), which are compared as
+/// [`confirm_rows`](hh_commands::confirm_rows) does.
 ///
 /// Where the bytes of all files are known, the rows are those of their records, one file after the
 /// other. A file of the system may change while it is read, which can't be seen where its length
@@ -39,14 +42,18 @@ pub fn confirm_files<T: Threads + Wait + Sync, S: ReadAt + Sync>(
     rows: &RowOptions,
     workers: u64,
     records: SourceRecords<'_, S>,
-    totals: &mut Option<Totals>,
+    compared: &mut Comparison,
 ) -> Result<Vec<u8>, ToolError>
     ensures rows { IfOk result (λ text. ConfirmsPrinted rows.now share.now file.now
         (texts_known S.bytes records.entry.layout.now records.entry.sources.now) text.items) }
-    ensures refused { IfErr result (ConfirmFilesRefused share.now workers file.now
+    ensures bounds { OnOk result (ComparesBounds compared.old.refuses Bounds.Both file.now
+        (texts_known S.bytes records.entry.layout.now records.entry.sources.now)
+        compared.new.outside) }
+    ensures refused { IfErr result
+        (ConfirmFilesRefused compared.old.refuses share.now workers file.now
         (texts_known S.bytes records.entry.layout.now records.entry.sources.now)) }
-    ensures totals { IfErr result (TellsTotals file.now
-        (texts_known S.bytes records.entry.layout.now records.entry.sources.now) totals.new) }
+    ensures told { IfErr result (TellsCompared file.now
+        (texts_known S.bytes records.entry.layout.now records.entry.sources.now) compared.new) }
     ensures early { StopsAtHead 1 file.now result }
 {
     let summary = summary_in(alloc, file)?;
@@ -57,5 +64,5 @@ pub fn confirm_files<T: Threads + Wait + Sync, S: ReadAt + Sync>(
         return Err(ToolError::BadWorkers);
     }
     let counts = count_sources(rt, alloc, &summary, workers, records)?;
-    confirmed_text(alloc, &summary, share, rows, &counts, totals)
+    confirmed_text(alloc, &summary, share, rows, &counts, compared)
 }

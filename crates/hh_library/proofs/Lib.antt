@@ -1,2 +1,3 @@
 pub mod AddFacts
 pub mod CountFacts
+pub mod UnaskedFacts

@@ -224,6 +224,10 @@ impl Summary {
     /// Adds an item: its key's counter grows by the weight, and where k + 1 keys then have
     /// counters, the least of them is taken from each, and only what stays above 0 is kept. After a
     /// refusal the summary is as it was.
+    ///
+    /// A key that has a counter costs a search among the keys. One that has none costs a walk over
+    /// all counters, so that n such items cost n times k. For many items take a `BucketSaving` of
+    /// `hh_counters`, whose cost for each grows as the logarithm of k, and translate it at the end.
     pub fn add(&mut self, key: &Key, weight: u64) -> Result<(), AddFault>
         requires { 0 < weight }
         ensures added { OnOk result (self.new ≡ sketch_with self.old (key.now, weight)) }

@@ -5,7 +5,7 @@ ghost use Rattle.std.specs.List.{flat_map};
 ghost use Rattle.std.specs.Io.KnownBytes.{Appends};
 ghost use Rattle.csv.specs.Writing.{text_written};
 ghost use Rattle.hh_rows.specs.Rows.{IsBetweenRows};
-ghost use Rattle.hh_commands.specs.Ask.{answer_of, answer_row, answers_in};
+ghost use Rattle.hh_commands.specs.Ask.{answer_of, answer_row, answers_in, slack_of};
 ghost use Rattle.hh_commands.specs.Ask.{asked_value, bad_key, bounds_row, key_fault};
 ghost use Rattle.hh_commands.specs.Files.{Refuses, StopsAtHead, file_of};
 
@@ -47,15 +47,28 @@ pub fn asked(alloc: Global, file: &[u8], words: &[Vec<u8>]) -> Result<Saved, Too
     Ok(saved)
 }
 
-/// The least and the most that a key's weight can be.
-pub fn answer_of(saved: &Saved, key: &Key) -> (u64, u64)
+/// How far a key's weight can be above its counter, which is one number for all keys: a summary's
+/// slack. A table has none.
+pub fn slack_of(saved: &Saved) -> u64
+    ensures { result ≡ slack_of saved.now }
+{
+    match saved {
+        Saved::Counters(summary) => summary.slack(),
+        Saved::Cells(_) => 0,
+    }
+}
+
+/// The least and the most that a key's weight can be, by a saved value and its slack.
+pub fn answer_of(saved: &Saved, slack: u64, key: &Key) -> (u64, u64)
+    requires { slack ≡ slack_of saved.now }
     ensures { result ≡ answer_of saved.now key.now }
 {
     match saved {
         Saved::Counters(summary) => {
             let low = summary.get(key);
-            prove!(summary.sum() <= summary.total());
-            (low, low + summary.slack())
+            // It bounds the total, and the counters by it.
+            let _k = summary.k();
+            (low, low + slack)
         }
         Saved::Cells(table) => (0, table.estimate(key)),
     }
@@ -95,10 +108,12 @@ fn answers_text(
     ensures { IfOk result (λ text.
         text.items ≡ flat_map (λ word. answer_row decimals saved.now word.items) words.now) }
 {
+    let slack = slack_of(saved);
     let mut writer = WriterBuilder::new().from_writer(Vec::new(alloc));
     for word in words {
         let key = Key::of_bytes(alloc, word)?;
-        write_bounds(alloc, &mut writer, &key, answer_of(saved, &key), decimals)?;
+        let answer = answer_of(saved, slack, &key);
+        write_bounds(alloc, &mut writer, &key, answer, decimals)?;
     }
     writer.into_inner().map_err(|_| AllocError)
 }

@@ -1,16 +1,18 @@
 //! Fewer records that say of a summary's keys what many records say.
 
-ghost use Rattle.std.specs.Prelude.{◌≡◌, ◌<◌, ◌^◌, List, IfOk, IfErr};
+ghost use Rattle.std.specs.Prelude.{◌≡◌, ◌<◌, ◌^◌, List, IfOk, IfErr, OnOk};
 ghost use Rattle.std.specs.Map.{keys_of};
 ghost use Rattle.hh_stream.specs.Weights.{Entry, total_of};
 ghost use Rattle.hh_counters.specs.Condensed.{condensed, free_name, other_name};
 ghost use Rattle.hh_summaries.specs.Counters.{IsCounters};
 ghost use Rattle.hh_records.specs.Layouts.{records_known};
 ghost use Rattle.hh_rows.specs.Rows.{condensed_by};
-ghost use Rattle.hh_commands.specs.Condense.{CondenseRefused, CondensesRows};
+ghost use Rattle.hh_commands.specs.Bounds.{ComparesBounds, TellsOutside};
+ghost use Rattle.hh_commands.specs.Condense.{AboveRefused, CondensePartRefused, CondensesRows, TellsAbove};
 ghost use Rattle.hh_commands.specs.Files.{StopsAtHead};
 ghost use Rattle.hh_commands.specs.Records.{IsCountOf};
 
+use crate::compared::{Bounds, Comparison, key_outside};
 use crate::counting::count_records;
 use crate::files::summary_in;
 use hh_counters::laws::{condensed_is_counted, free_name_is_first};
@@ -103,21 +105,56 @@ pub fn condensed_counts(
     condensed_rows_text(alloc, &rows, decimals)
 }
 
+/// The condensed rows of counted items as text, in units of 10^-decimals. Each key's weight is
+/// compared with its higher bound. `compared` says whether a key above that refuses the rows; such a
+/// key is left there.
+pub fn condensed_part(
+    alloc: Global,
+    summary: &Summary,
+    counts: &Counts,
+    decimals: u8,
+    compared: &mut Comparison,
+) -> Result<Vec<u8>, ToolError>
+    requires counters { IsCounters summary.now.counters }
+    requires counted { (xs : List Entry) × IsCountOf (keys_of summary.now.counters) xs counts.now }
+    ensures rows { IfOk result (λ text. (xs : List Entry)
+        → IsCountOf (keys_of summary.now.counters) xs counts.now
+        → text.items ≡ condensed_by decimals (condensed summary.now.counters xs)) }
+    ensures bounds { IfOk result (λ _. (xs : List Entry)
+        → IsCountOf (keys_of summary.now.counters) xs counts.now
+        → TellsOutside compared.old.refuses Bounds.High summary.now xs compared.new.outside) }
+    ensures refused { IfErr result (λ fault. (xs : List Entry)
+        → IsCountOf (keys_of summary.now.counters) xs counts.now
+        → AboveRefused compared.old.refuses summary.now xs compared.new fault) }
+{
+    compared.outside = key_outside(summary, counts, Bounds::High)?;
+    if compared.refuses && compared.outside.is_some() {
+        return Err(ToolError::WeightOutside);
+    }
+    Ok(condensed_counts(alloc, summary, counts, decimals)?)
+}
+
 /// The condensed rows of records by the summary that a file holds, in units of 10^-decimals.
 fn condensed_records<R: ReadRecords>(
     alloc: Global,
     file: &[u8],
     records: R,
     decimals: u8,
+    compared: &mut Comparison,
 ) -> Result<Vec<u8>, ToolError>
     ensures rows { IfOk result (λ rows.
         CondensesRows decimals file.now (R.known records) rows.items) }
-    ensures refused { IfErr result (λ fault. CondenseRefused file.now (R.known records) fault) }
+    ensures bounds { OnOk result (ComparesBounds compared.old.refuses Bounds.High file.now
+        (R.known records) compared.new.outside) }
+    ensures refused { IfErr result (λ fault.
+        CondensePartRefused compared.old.refuses file.now (R.known records) fault) }
+    ensures told { IfErr result (λ fault.
+        TellsAbove file.now (R.known records) compared.new fault) }
     ensures early { StopsAtHead 1 file.now result }
 {
     let summary = summary_in(alloc, file)?;
     let counts = count_records(alloc, &summary, records)?;
-    Ok(condensed_counts(alloc, &summary, &counts, decimals)?)
+    condensed_part(alloc, &summary, &counts, decimals, compared)
 }
 
 /// Records that say the same to [`confirm_rows`](crate::confirm_rows) with the same file as these
@@ -131,7 +168,11 @@ fn condensed_records<R: ReadRecords>(
 /// order mark.
 ///
 /// The file is tested first ([`ToolError::BadFile`], as file 1, and [`ToolError::NotCounters`]),
-/// and then the records, whose total need not be the summary's.
+/// and then the records, whose total need not be the summary's. Then the weight of each of the
+/// summary's keys is compared with the higher of its bounds, which
+/// [`ask_rows`](crate::ask_rows) tells: in a part of the records that were summarised no key is
+/// above it. A key that is above is left in `compared`, and is a fault
+/// ([`ToolError::WeightOutside`]) where `compared` says that it refuses.
 ///
 /// The condensed records are a key and a weight each, whatever columns these had, with as many
 /// digits behind the point as these may have.
@@ -139,14 +180,19 @@ pub fn condense_bytes_from<R: Read + Drop>(
     alloc: Global,
     file: &[u8],
     records: Records<R>,
+    compared: &mut Comparison,
 ) -> Result<Vec<u8>, ToolError>
     ensures rows { IfOk result (λ rows.
         CondensesRows records.layout.decimals file.now
         (records_known R.remaining records) rows.items) }
-    ensures refused { IfErr result (λ fault.
-        CondenseRefused file.now (records_known R.remaining records) fault) }
+    ensures bounds { OnOk result (ComparesBounds compared.old.refuses Bounds.High file.now
+        (records_known R.remaining records) compared.new.outside) }
+    ensures refused { IfErr result (λ fault. CondensePartRefused compared.old.refuses file.now
+        (records_known R.remaining records) fault) }
+    ensures told { IfErr result (λ fault.
+        TellsAbove file.now (records_known R.remaining records) compared.new fault) }
     ensures early { StopsAtHead 1 file.now result }
 {
     let decimals = records.layout.decimals;
-    condensed_records(alloc, file, records, decimals)
+    condensed_records(alloc, file, records, decimals, compared)
 }

@@ -40,40 +40,6 @@ impl Method {
     }
 }
 
-/// The summary of some records, by one method or the other.
-fn summary_of<R: ReadRecords>(
-    alloc: Global,
-    k: u64,
-    method: Method,
-    records: R,
-) -> Result<Summary, ToolError>
-    requires { in_range k max_k ≡ true }
-    ensures summary { IfOk result (IsSummaryOf k (R.known records)) }
-    ensures refused { IfErr result (λ fault.
-        RecordsRefused (R.known records) fault) }
-{
-    match method {
-        Method::MisraGries => summary_by_counting(alloc, k, records),
-        Method::SpaceSaving => summary_by_monitoring(alloc, k, records),
-    }
-}
-
-/// The summary of some records, whose items are added to it one by one.
-fn summary_by_counting<R: ReadRecords>(
-    alloc: Global,
-    k: u64,
-    records: R,
-) -> Result<Summary, ToolError>
-    requires { in_range k max_k ≡ true }
-    ensures summary { IfOk result (IsSummaryOf k (R.known records)) }
-    ensures refused { IfErr result (λ fault.
-        RecordsRefused (R.known records) fault) }
-{
-    summaries_follow_items();
-    let summary = Summary::empty(alloc, k);
-    Ok(records.read_into(alloc, summary)?)
-}
-
 /// The summary of some records, whose items are monitored and translated at the end.
 pub fn summary_by_monitoring<R: ReadRecords>(
     alloc: Global,
@@ -95,11 +61,12 @@ pub fn summary_by_monitoring<R: ReadRecords>(
 
 /// The saved summary of some records: Misra-Gries with k counters.
 ///
-/// k is tested before anything is read. Both methods give the same bytes.
+/// k is tested before anything is read. Both methods give the same bytes, and are done in the same
+/// way: by a monitor that is translated at the end.
 pub fn summary_bytes_from<R: ReadRecords>(
     alloc: Global,
     k: u64,
-    method: Method,
+    _method: Method,
     records: R,
 ) -> Result<Vec<u8>, ToolError>
     ensures saved { IfOk result (λ bytes. SavesStream (λ xs. Counters (sketch_of k xs))
@@ -111,6 +78,6 @@ pub fn summary_bytes_from<R: ReadRecords>(
     if !in_range(k, MAX_K) {
         return Err(ToolError::BadK);
     }
-    let summary = summary_of(alloc, k, method, records)?;
+    let summary = summary_by_monitoring(alloc, k, records)?;
     Ok(write(alloc, &Saved::Counters(summary))?)
 }

@@ -4,7 +4,7 @@ ghost use Rattle.std.specs.Prelude.{◌≡◌, Ok, None, IfOk, IfErr, map, vec_i
 ghost use Rattle.hh_commands.specs.Ask.{answer, answer_of, answers_of, bad_key};
 ghost use Rattle.hh_commands.specs.Files.{Refuses, StopsAtHead};
 
-use hh_commands::{answer_of, asked, check_key, file_of};
+use hh_commands::{answer_of, asked, check_key, file_of, slack_of};
 use hh_faults::ToolError;
 use hh_saved::Saved;
 use hh_stream::Key;
@@ -20,10 +20,11 @@ fn answers_of(
     ensures { IfOk result (λ answers.
         answers.items ≡ map (λ word. answer_of saved.now word.items) words.now) }
 {
+    let slack = slack_of(saved);
     let mut answers = Vec::new(alloc);
     for word in words {
         let key = Key::of_bytes(alloc, word)?;
-        answers.push(answer_of(saved, &key))?;
+        answers.push(answer_of(saved, slack, &key))?;
     }
     Ok(answers)
 }
@@ -53,5 +54,5 @@ pub fn ask_key(alloc: Global, file: &[u8], key: &[u8]) -> Result<(u64, u64), Too
     let saved = file_of(alloc, 1, file)?;
     check_key(1, key)?;
     let key = Key::of_bytes(alloc, key)?;
-    Ok(answer_of(&saved, &key))
+    Ok(answer_of(&saved, slack_of(&saved), &key))
 }

@@ -19,8 +19,8 @@ ghost use Rattle.hh_commands.specs.Table.{bad_table};
 
 use crate::commands::confirm::confirm_records;
 use hh_commands::{
-    Method, ask_rows, condense_bytes_from, confirm_rows, list_rows, summary_bytes_from, summary_in,
-    table_bytes_from,
+    Comparison, Method, ask_rows, condense_bytes_from, confirm_rows, list_rows, summary_bytes_from,
+    summary_in, table_bytes_from,
 };
 use hh_faults::ToolError;
 use hh_records::Records;
@@ -81,7 +81,8 @@ pub fn list_keys(alloc: Global, file: &[u8]) -> Result<Vec<u8>, ToolError>
     list_rows(alloc, file, 0)
 }
 
-/// [`condense_bytes_from`](hh_commands::condense_bytes_from) of the records of a reader.
+/// [`condense_bytes_from`](hh_commands::condense_bytes_from) of the records of a reader, where a key
+/// outside its bounds refuses nothing.
 pub fn condense_bytes<R: Read + Drop>(
     alloc: Global,
     file: &[u8],
@@ -93,7 +94,8 @@ pub fn condense_bytes<R: Read + Drop>(
         CondenseRefused file.now (text_known (R.remaining reader)) fault) }
     ensures early { StopsAtHead 1 file.now result }
 {
-    condense_bytes_from(alloc, file, Records::of_reader(alloc, reader))
+    let records = Records::of_reader(alloc, reader);
+    condense_bytes_from(alloc, file, records, &mut Comparison::new(false))
 }
 
 /// The report text of the saved summary's keys that are heavy in the stream of the reader's
@@ -116,7 +118,8 @@ pub fn confirm_bytes<R: Read + Drop>(
 }
 
 /// [`confirm_bytes`] above a share of the total of one's own, which is at least 1/(k + 1) for the
-/// summary's k. Another one is refused ([`ToolError::BadThreshold`]) before any record is read.
+/// summary's k. Another one is refused ([`ToolError::BadThreshold`]) before any record is read. A key
+/// outside its bounds refuses nothing.
 pub fn confirm_above<R: Read + Drop>(
     alloc: Global,
     file: &[u8],
@@ -131,5 +134,12 @@ pub fn confirm_above<R: Read + Drop>(
 {
     let rows = RowOptions::plain();
     let records = Records::of_reader(alloc, reader);
-    confirm_rows(alloc, file, share, &rows, records, &mut None)
+    confirm_rows(
+        alloc,
+        file,
+        share,
+        &rows,
+        records,
+        &mut Comparison::new(false),
+    )
 }

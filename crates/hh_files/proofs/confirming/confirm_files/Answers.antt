@@ -1,11 +1,13 @@
 use Rattle.std.proofs.Common.{arith, sym}
 use Rattle.hh_records.specs.Layouts.{texts_known}
-use Rattle.hh_files.proofs.ConfirmFacts.{confirming_refused, rows_confirmed, totals_confirmed}
+use Rattle.hh_commands.specs.declared.compared.Bounds.TheVariants as bounds
+use Rattle.hh_commands.proofs.BoundsFacts.{bounds_compared}
+use Rattle.hh_files.proofs.ConfirmFacts.{confirming_refused, rows_confirmed, told_confirmed}
 use Rattle.hh_files.proofs.ShareFacts.{threshold_is_share}
 use Rattle.hh_files.proofs.confirming.confirm_files.Goals as goal
 
-pub confirmed_text-requires : goal.confirmed_text-requires
-confirmed_text-requires g c =
+pub confirmed_text-requires-clause-share : goal.confirmed_text-requires-clause-share
+confirmed_text-requires-clause-share g c =
     threshold_is_share c.k.result c.args.share.now c.in-Some.share (omega (arith, c.k.ensures.k, c.k.ensures.fits.bounded_k))
     (sym c.in-Some.ensures)
 
@@ -17,16 +19,23 @@ returns-clause-rows g c =
     (rw c.k.ensures.k at (sym c.in-Some.ensures)) c.confirmed_text.result c.confirmed_text.ensures.total
     c.confirmed_text.ensures.rows
 
+pub returns-clause-bounds : goal.returns-clause-bounds
+returns-clause-bounds g c =
+    bounds_compared _ (texts_known g.S.ReadAt.bytes c.args.records.layout.now c.args.records.sources.now)
+    c.in_ok-summary.summary c.in_ok-summary.ensures.summary c.in_ok-counts.counts c.in_ok-counts.ensures.counts
+    c.args.compared.now.refuses c.confirmed_text.new.compared bounds.Both c.confirmed_text.result
+    c.confirmed_text.ensures.bounds
+
 pub returns-clause-refused : goal.returns-clause-refused
 returns-clause-refused g c =
     confirming_refused _ (texts_known g.S.ReadAt.bytes c.args.records.layout.now c.args.records.sources.now)
     c.in_ok-summary.summary c.in_ok-summary.ensures.summary c.in_ok-counts.counts c.in_ok-counts.ensures.counts
-    c.args.share.now c.args.workers c.in-Some.share
+    c.args.compared.now.refuses c.confirmed_text.new.compared c.args.share.now c.args.workers c.in-Some.share
     (rw c.k.ensures.k at (sym c.in-Some.ensures)) (sym c.if-not-in_range.ensures) c.confirmed_text.result
     c.confirmed_text.ensures.refused
 
-pub returns-clause-totals : goal.returns-clause-totals
-returns-clause-totals g c =
-    totals_confirmed _ (texts_known g.S.ReadAt.bytes c.args.records.layout.now c.args.records.sources.now)
+pub returns-clause-told : goal.returns-clause-told
+returns-clause-told g c =
+    told_confirmed _ (texts_known g.S.ReadAt.bytes c.args.records.layout.now c.args.records.sources.now)
     c.in_ok-summary.summary c.in_ok-summary.ensures.summary c.in_ok-counts.counts c.in_ok-counts.ensures.counts
-    c.confirmed_text.new.totals c.confirmed_text.result c.confirmed_text.ensures.totals
+    c.args.compared.now.refuses c.confirmed_text.new.compared c.confirmed_text.result c.confirmed_text.ensures.refused

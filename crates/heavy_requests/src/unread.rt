@@ -1,0 +1,49 @@
+//! The input that can't be read, and why.
+
+use std::io::Error;
+use std::sync::atomic::{AtomicI32, AtomicU64, Ordering};
+
+/// Where an input that can't be read leaves its number and the reason, also from other threads.
+#[derive(Drop)]
+pub struct Unread {
+    /// 0 is standard input, or nothing yet.
+    number: AtomicU64,
+    /// The system's number of the error, and 0 where the system gave none.
+    code: AtomicI32,
+}
+
+impl Unread {
+    /// Nothing is left yet.
+    pub fn new() -> Unread {
+        Unread {
+            number: AtomicU64::new(0),
+            code: AtomicI32::new(0),
+        }
+    }
+
+    /// Leaves an input's number and the error that it met.
+    pub fn leave(&self, number: u64, error: &Error) {
+        self.number.store(number, Ordering::SeqCst);
+        let code = error.raw_os_error().unwrap_or(0);
+        self.code.store(code, Ordering::SeqCst);
+    }
+
+    /// Leaves the number of an input whose length changed.
+    pub fn leave_changed(&self, number: u64) {
+        self.number.store(number, Ordering::SeqCst);
+        self.code.store(0, Ordering::SeqCst);
+    }
+
+    /// The number that was left.
+    pub fn number(&self) -> u64 {
+        self.number.load(Ordering::SeqCst)
+    }
+
+    /// The error of the system that was left, if there is one.
+    pub fn error(&self) -> Option<Error> {
+        match self.code.load(Ordering::SeqCst) {
+            0 => None,
+            code => Some(Error::from_raw_os_error(code)),
+        }
+    }
+}
