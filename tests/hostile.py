@@ -8,6 +8,7 @@ from dataclasses import dataclass
 from random import Random
 
 import programs
+import reference
 
 # A run that takes more processor time is wrong, whatever it answers; and no run has more address space.
 MOST_SECONDS = 1.0
@@ -61,8 +62,10 @@ def ran(program: str, room: str, number: int, case: Case) -> str | None:
     for path in saved:
         os.remove(path)
     said = (ended.status, ended.out, ended.err)
-    if said != case.expected:
-        return f"{said} in place of {case.expected}"
+    status, out, err = case.expected
+    expected = (status, out, err.replace(reference.SAVED, f"{room}/{number}-0".encode()))
+    if said != expected:
+        return f"{said} in place of {expected}"
     if ended.seconds > MOST_SECONDS:
         return f"{ended.seconds:.2f} seconds"
     return None

@@ -64,9 +64,9 @@ def case(draw) -> hostile.Case:
         case 1:
             return hostile.Case(["merge"], [data, data], [], b"", reference.answer(reference.merge, [data, data]))
         case 2:
-            return hostile.Case(["confirm"], [data], [], RECORDS, reference.answer(reference.confirm, data, RECORDS))
+            return hostile.Case(["confirm"], [data], [], RECORDS, reference.compared(reference.confirm, data, RECORDS, True))
         case 3:
-            return hostile.Case(["condense"], [data], [], RECORDS, reference.answer(reference.condense, data, RECORDS))
+            return hostile.Case(["condense"], [data], [], RECORDS, reference.compared(reference.condense, data, RECORDS, True))
     keys = draw.sample([*KEYS, *LONG_KEYS, b"k" * 4097], 2)
     keys = [key for key in keys if 0 not in key] or [b"a"]
     return hostile.Case(["ask"], [data], keys, b"", reference.answer(reference.ask, data, keys))

@@ -77,10 +77,10 @@ def case(draw) -> hostile.Case:
         case 1:
             status, saved, said = reference.answer(reference.summarise, given, k)
             if status == 0:
-                return hostile.Case(["confirm"], [saved], [], given, reference.answer(reference.confirm, saved, given))
+                return hostile.Case(["confirm"], [saved], [], given, reference.compared(reference.confirm, saved, given, True))
         case 2:
             saved = reference.summarise(draw.choice(OTHER_KEYS), k)
-            expected = reference.answer(reference.condense, saved, given)
+            expected = reference.compared(reference.condense, saved, given, True)
             return hostile.Case(["condense"], [saved], [], given, expected)
         case 3:
             words = ("--width", draw.choice(["1", "5", "8"]), "--depth", draw.choice("13"), "--seed", draw.choice("07"))

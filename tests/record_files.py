@@ -347,6 +347,7 @@ def case(draw: Random) -> hostile.Case:
     records = Records(layout, dict(enumerate(read, 2 if kind in (1, 2) else 1)))
     options, told = words_of(draw, layout), {"reader": items_of}
     workers = ["--workers", draw.choice("123")]
+    is_plain = not files and layout == Layout()
     match kind:
         case 0:
             words = ["summarise", "--k", str(k), "--method", draw.choice(["mg", "ss"]), *options]
@@ -354,11 +355,11 @@ def case(draw: Random) -> hostile.Case:
         case 1:
             status, saved, _ = reference.answer(reference.summarise, records, k, **told)
             saved = saved if status == 0 else reference.summarise(b"a", k)
-            expected = reference.answer(reference.confirm, saved, records, **told, decimals=layout.decimals)
+            expected = reference.compared(reference.confirm, saved, records, is_plain, **told, decimals=layout.decimals)
             return hostile.Case(["confirm", *workers, *options], [saved, *files], [], given, expected)
         case 2:
             saved = reference.summarise(draw.choice([b"a\nb", b"a\n", b'"a,b"\nothers', b""]), k)
-            expected = reference.answer(reference.condense, saved, records, **told, decimals=layout.decimals)
+            expected = reference.compared(reference.condense, saved, records, is_plain, **told, decimals=layout.decimals)
             return hostile.Case(["condense", *workers, *options], [saved, *files], [], given, expected)
         case 3:
             words = ("--width", draw.choice("158"), "--depth", draw.choice("13"), "--seed", draw.choice("07"))

@@ -14,6 +14,11 @@ NEWEST = b"HHS2"
 Item = tuple[bytes, int]
 
 
+# the name of a saved file in what is said of it
+SAVED = b"\0saved\0"
+OUTSIDE = "file 1: a key's weight in the input is outside its bounds"
+
+
 class Refused(Exception):
     """A refusal: its text and its exit status."""
 
@@ -396,8 +401,20 @@ def describe(data: bytes) -> bytes:
     return b"".join(row_text(*fact) for fact in facts)
 
 
+def outside(saved: Summary, items: list[Item], low: bool) -> tuple[bytes, int, int, int] | None:
+    """The first key of a summary that weighs more in items than it can, or, where `low` is asked for, less: with the least
+    and the most that it weighs, and its weight."""
+    weights = dict.fromkeys(saved.counters, 0)
+    for key, weight in items:
+        if key in weights:
+            weights[key] += weight
+    bounds = [(key, least, least + saved.slack(), weights[key]) for key, least in sorted(saved.counters.items())]
+    return next((it for it in bounds if it[3] > it[2] or (low and it[3] < it[1])), None)
+
+
 def confirm(
-    data: bytes, text, share: bytes | None = None, top: int | None = None, shared: bool = False, reader=items_of, decimals: int = 0
+    data: bytes, text, share: bytes | None = None, top: int | None = None, shared: bool = False, reader=items_of, decimals: int = 0,
+    refuses: bool = False,
 ) -> bytes:
     saved = read_file(data)
     if not isinstance(saved, Summary):
@@ -406,6 +423,8 @@ def confirm(
     items = reader(text)
     if total_of(items) != saved.total:
         raise Refused("file 1: its total is not the input's")
+    if refuses and outside(saved, items, True) is not None:
+        raise Refused(OUTSIDE)
     rows = [row for row in heavy(items, p, q) if row[0] in saved.counters]
     return printed_rows(rows, saved.total, top, shared, decimals)
 
@@ -416,13 +435,16 @@ def leading_row(key: bytes, weight: int, decimals: int) -> bytes:
     return b'"%s"%s' % (key, row[len(key):]) if row.startswith(b"\xef\xbb\xbf") else row
 
 
-def condense(data: bytes, text, reader=items_of, decimals: int = 0) -> bytes:
+def condense(data: bytes, text, reader=items_of, decimals: int = 0, refuses: bool = False) -> bytes:
     saved = read_file(data)
     if not isinstance(saved, Summary):
         raise Refused("file 1: not a counter summary")
     weights: dict[bytes, int] = {}
     others = 0
-    for key, weight in reader(text):
+    items = list(reader(text))
+    if refuses and outside(saved, items, False) is not None:
+        raise Refused(OUTSIDE)
+    for key, weight in items:
         if key in saved.counters:
             weights[key] = weights.get(key, 0) + weight
         else:
@@ -440,3 +462,24 @@ def answer(command, *given, **how) -> tuple[int, bytes, bytes]:
         return 0, command(*given, **how), b""
     except Refused as fault:
         return fault.status, b"", f"heavy: {fault.text}\n".encode()
+
+
+def shown(key: bytes) -> bytes:
+    """A key as the program says it: bytes that no terminal shows, quotes and backslashes are escaped."""
+    short = {9: b"\\t", 10: b"\\n", 13: b"\\r", 34: b'\\"', 39: b"\\'", 92: b"\\\\"}
+    return b"".join(short.get(byte) or (b"%c" % byte if 32 <= byte < 127 else b"\\x%02x" % byte) for byte in key)
+
+
+def compared(command, data: bytes, text, is_plain: bool, **how) -> tuple[int, bytes, bytes]:
+    """The answer of `confirm` or `condense`: of plain records on standard input with a note, where a key is outside its
+    bounds. There the name of the saved file is SAVED."""
+    answered = answer(command, data, text, refuses=not is_plain, **how)
+    if answered[0] != 0 or not is_plain:
+        return answered
+    saved = read_file(data)
+    found = outside(saved, how.get("reader", items_of)(text), command is confirm)
+    if found is None:
+        return answered
+    key, *numbers = found
+    said = b"heavy: note: these aren't the records that were summarised: %s" % SAVED
+    return 0, answered[1], said + b' has "%s" from %d to %d, and the records have %d\n' % (shown(key), *numbers)
