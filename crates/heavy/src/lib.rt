@@ -22,7 +22,7 @@ pub use hh_library::{
 pub use hh_pieces::{FileOrPipe, FileRecords, ReadAt, SourceRecords};
 pub use hh_pool::MAX_WORKERS;
 pub use hh_records::{Column, Layout, LayoutWords, Records, layout_of, read_stream};
-pub use hh_reports::{report_rows, run_report};
+pub use hh_reports::{ReportedBy, report_rows, run_report};
 pub use hh_rows::{
     Out, ReportFault, ReportOptions, RowOptions, Share, Sink, SinkFault, Tree, printed_text, put,
     report_text, write_printed, write_report,

@@ -77,7 +77,7 @@ pub const WORKERS: Number = Number {
 
 pub const PIECES: Number = Number {
     name: "pieces",
-    help: "Pieces that the records are cut into, or more, from 1 to 1024 [default: 4]",
+    help: "Pieces that the records are cut into, from 1 to 1024 [default: 4]",
     default: 4,
 };
 

@@ -13,7 +13,7 @@ use hh_commands::{
 };
 use hh_faults::ToolError;
 use hh_files::{condense_files, confirm_files, report_files, table_files};
-use hh_reports::report_rows;
+use hh_reports::{ReportedBy, report_rows};
 use hh_rows::{Out, ReportOptions, RowOptions, Share, put};
 use std::cell::Cell;
 use std::process::ExitCode;
@@ -147,12 +147,18 @@ fn write_report<T: Threads + Wait + Sync>(
     options: &ReportOptions,
     rows: &RowOptions,
     records: &RecordWords,
+    by_plan: bool,
 ) -> Result<(), ToolError> {
     let alloc = inputs.rt.alloc();
-    if records.files.is_empty() {
+    if by_plan || records.files.is_empty() {
+        let by = if by_plan {
+            ReportedBy::Plan
+        } else {
+            ReportedBy::Tally
+        };
         let records = inputs.records(records, 0)?;
         let mut out = Out::new(inputs.rt.stdout());
-        return report_rows(threads, alloc, options, rows, records, &mut out);
+        return report_rows(threads, alloc, options, rows, records, by, &mut out);
     }
     let records = inputs.file_records(records)?;
     let mut out = Out::new(inputs.rt.stdout());
@@ -174,9 +180,11 @@ fn main(rt: HostRuntime) -> ExitCode {
     let watched = tells_more(&rt, &asked).then_some(&seen);
     let inputs = Inputs::new(&rt, &asked, progress.as_ref(), &unread, watched);
     let outcome = match &asked.request {
-        Request::Report { options, rows } => {
-            write_report(&rt, inputs, options, rows, &asked.records)
-        }
+        Request::Report {
+            options,
+            rows,
+            by_plan,
+        } => { write_report(&rt, inputs, options, rows, &asked.records, *by_plan) }
         Request::Answer(command) => write_answer(
             &rt,
             inputs,

@@ -1,5 +1,5 @@
 -- What a command line asks for, by what `clap` found in it.
-use Rattle.std.specs.Prelude.{ℕ, ◌≡◌, ◌≢◌, ◌<◌, ◌^◌, ⊤, true, false, List, [], Option, Some, None, codes, map, drop, option_map, unwrap_or}
+use Rattle.std.specs.Prelude.{ℕ, ◌≡◌, ◌≢◌, ◌<◌, ◌^◌, ◌||◌, Bool, is_some, ⊤, true, false, List, [], Option, Some, None, codes, map, drop, option_map, unwrap_or}
 use Rattle.std.specs.Str.Parse.{IsNumeral, without_leading_plus}
 use Rattle.clap.specs.Words.{App, HasMatchesOf, Text, first_value, matched_of, one_text, raw_values, rows_of, subcommand_rows_of}
 use Rattle.clap.specs.declared.parser.matches.ArgMatches.{ArgMatches}
@@ -132,9 +132,20 @@ pub record IsReportName (name : Text) : Type 0 where
   pub not_condense : name ≢ codes "condense"
   pub not_confirm : name ≢ codes "confirm"
 
+-- whether an option is given
+abbrev pub is_given : Found → Text → Bool
+is_given found name = is_some (matched_of found name)
+
+-- whether a plan is asked for, by one of its options
+abbrev pub asks_plan : Found → Bool
+asks_plan found =
+    is_given found (codes "pieces") || is_given found (codes "tree") || is_given found (codes "width")
+    || is_given found (codes "depth") || is_given found (codes "seed")
+
 -- what the command with a name asks for
 abbrev pub AsksFor : Text → Found → Request → Type 0
-AsksFor name found (Report options rows) = IsReportName name × AreOptions found options × AreRowOptions found rows
+AsksFor name found (Report options rows by_plan) =
+    IsReportName name × AreOptions found options × AreRowOptions found rows × (by_plan ≡ asks_plan found)
 AsksFor name found (Answer command) = Answers name found command
 
 -- these words ask for it: clap found in their texts a command, with its name and its arguments

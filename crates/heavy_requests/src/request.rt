@@ -5,7 +5,7 @@ ghost use Rattle.clap.specs.Words.{Text, first_value, found_of};
 ghost use Rattle.heavy_host.specs.Words.{word_of};
 ghost use Rattle.heavy_requests.specs.Request.{AreDecimals, AreOptions, AreRecordWords};
 ghost use Rattle.heavy_requests.specs.Request.{AreRowOptions, AsksFor, GivesShare, IsAskedBy};
-ghost use Rattle.heavy_requests.specs.Request.{IsAskedFrom, IsReportName, NamesTree, all_words};
+ghost use Rattle.heavy_requests.specs.Request.{IsAskedFrom, IsReportName, NamesTree, all_words, asks_plan};
 ghost use Rattle.heavy_requests.specs.Request.{first_word};
 
 use crate::told::{Told, told_of};
@@ -60,6 +60,8 @@ pub enum Request {
     Report {
         options: ReportOptions,
         rows: RowOptions,
+        /// Whether an option of the plan is given.
+        by_plan: bool,
     },
     /// Bytes that are made whole, and then written.
     Answer(Command),
@@ -257,6 +259,17 @@ fn file_named(alloc: Global, found: &ArgMatches) -> Result<Vec<u8>, AllocError>
     word_or(alloc, found, "FILE", "")
 }
 
+/// Whether a plan is asked for, by one of its options.
+fn asks_plan(found: &ArgMatches) -> bool
+    ensures { result ≡ asks_plan (found_of found.now) }
+{
+    found.contains_id("pieces")
+        || found.contains_id("tree")
+        || found.contains_id("width")
+        || found.contains_id("depth")
+        || found.contains_id("seed")
+}
+
 /// The report that is asked for, by a name that is none of the other commands'.
 fn report(alloc: Global, found: &ArgMatches) -> Result<Request, AllocError>
     ensures { IfOk result (λ asked. (name : Text) → IsReportName name
@@ -275,6 +288,7 @@ fn report(alloc: Global, found: &ArgMatches) -> Result<Request, AllocError>
     Ok(Request::Report {
         options,
         rows: rows_of(found),
+        by_plan: asks_plan(found),
     })
 }
 
