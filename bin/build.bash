@@ -12,6 +12,8 @@ declare -A chain=() provers=() jobs=()
 proved=()
 told=()
 failed=
+# how many processors the provers take, if not all
+most_jobs=
 
 tell() { printf 'heavy: %s\n' "$*" >&2; }
 
@@ -35,6 +37,23 @@ stands_on() { sed -n "s/^$1\( [a-z]*\)\{0,1\}://p" "$top/crates.txt"; }
 
 # The folder of the toolchain.
 toolchain() { dirname "$(rt doc | awk 'END { print $NF }')"; }
+
+# Sets "$words" to what the compiler reads of a crate: its root, the libraries below it, the logic, and what kind it is.
+# The paths of the crate's own files begin in its folder.
+words_of() {
+  local crate below rlibs kit root=src/lib.rt
+  kit=$(toolchain)
+  [ -f "$top/crates/$1/$root" ] || root=src/main.rt
+  words=(--crate-name "$1" "$root" -L "dependency=$kit/rlibs")
+  mapfile -t below < <(crates_of "$1")
+  for crate in "${below[@]:0:${#below[@]}-1}"; do words+=(-L "dependency=$top/crates/$crate/out/rlib"); done
+  for crate in std $(stands_on "$1"); do
+    rlibs=$kit/rlibs
+    ! is_among "$crate" "${below[@]}" || rlibs=$top/crates/$crate/out/rlib
+    words+=(--extern "$crate=$rlibs/$crate.rlib")
+  done
+  words+=(--antt-project "$kit/rattle/logic/antt-project.json" --logic-built "$kit/logic_built" --links "$1=")
+}
 
 # Whether a source of these crates is newer than the file that was built of them, or there is no such file.
 is_stale() {
@@ -213,7 +232,7 @@ tell_progress() {
 # Proves these crates, each after those below it, until all are proved or one fails.
 prove() {
   local cores room all=$((${#proved[@]} + $#))
-  cores=$(nproc)
+  cores=${most_jobs:-$(nproc)}
   room=$(room_in_memory)
   while [ -z "$failed" ] && [ "${#proved[@]}" -lt "$all" ]; do
     start_ready "$@"
@@ -247,21 +266,31 @@ prove_libraries() {
   for folder in "${held[@]}"; do exec {folder}<&-; done
 }
 
-# Proves a crate that no other stands on, over what it stands on, and builds it, as this file.
-prove_and_build() {
-  local crates lines name sorted=() start=$SECONDS
+# Proves what a crate stands on, as it is now. It leaves in "$crates" the crate and those below it, and tells no failure.
+prove_below() {
+  local lines name sorted=()
   proved=() told=() failed=
   mapfile -t crates < <(crates_of "$1")
   while read -r lines name; do chain[$name]=$lines sorted+=("$name"); done < <(by_chain "${crates[@]}")
   crates=("${sorted[@]}")
   prove_libraries "${crates[@]:0:${#crates[@]}-1}"
+}
+
+# Tells which crate failed, where one did, and the last lines that its prover wrote.
+tell_failed() {
+  [ -n "$failed" ] || return 0
+  tell_over "the build failed; the last lines of $top/crates/$failed/build.log:"
+  tail -n 20 "$top/crates/$failed/build.log" >&2
+  return 1
+}
+
+# Proves a crate that no other stands on, over what it stands on, and builds it, as this file.
+prove_and_build() {
+  local crates start=$SECONDS
+  prove_below "$1"
   [ -n "$failed" ] || prove "$1"
   if [ -z "$failed" ] && [ ! -f "$2" ]; then failed=$1; fi
-  if [ -n "$failed" ]; then
-    tell_over "the build failed; the last lines of $top/crates/$failed/build.log:"
-    tail -n 20 "$top/crates/$failed/build.log" >&2
-    return 1
-  fi
+  tell_failed || return 1
   touch "$2"
   tell_over "built in $(minutes_and_seconds $((SECONDS - start)))"
 }
