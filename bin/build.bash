@@ -14,6 +14,9 @@ told=()
 failed=
 # how many processors the provers take, if not all
 most_jobs=
+# the first build that was timed last with nothing beside it: on how many processors, its seconds by the clock, and those of
+# one processor (docs/GATE.md)
+first_build=(4 711 2406)
 
 tell() { printf 'heavy: %s\n' "$*" >&2; }
 
@@ -83,6 +86,14 @@ version_of_program() {
 }
 
 minutes_and_seconds() { printf '%d:%02d min' $(($1 / 60)) $(($1 % 60)); }
+
+# How long a first build is likely to take here. More processors than it was timed on gain nothing for sure.
+first_build_takes() {
+  local here seconds=${first_build[1]}
+  here=$(nproc)
+  [ "$here" -ge "${first_build[0]}" ] || seconds=$((first_build[2] / here))
+  printf 'about %d min on %d processor%s' $(((seconds + 30) / 60)) "$here" "$([ "$here" -eq 1 ] || echo s)"
+}
 
 # Ends all provers.
 end_provers() {
@@ -317,5 +328,5 @@ build() {
 
 build_heavy() {
   build heavy_cli "$built" "proving and building the program, once and after each change of its sources" \
-    "a first build takes some minutes; crates/*/build.log have its lines"
+    "a first build takes $(first_build_takes); crates/*/build.log have its lines"
 }

@@ -3,8 +3,8 @@
 
 An example is a block of lines indented by four spaces (in the man page, between .EX and .EE) with a line that begins
 with `$ `: what stands behind it is run by bash, and has to print the lines below it and nothing else. The blocks of a
-page are run in order in one folder, which has the folder examples/, the program as `heavy` and as bin/heavy, and a
-stand-in for ssh that runs the words here.
+page are run in order in one folder, which has the folder examples/, the program as `heavy` and as bin/heavy, bin/try, and
+a stand-in for ssh that runs the words here.
 
 Of other blocks, that of python/README.md is Python over the library for C, which is run where that was built, or all
 that it stands on; Rattle in the README stands in the sources, word for word; a drawing needs nothing; and each line of any
@@ -29,6 +29,9 @@ PAGES = ["README.md", *sorted(str(page.relative_to(programs.TOP)) for page in pr
 FENCED = re.compile(r"^```rust\n(.*?)^```$", re.MULTILINE | re.DOTALL)
 SSH = '#!/bin/sh\nshift\nexec sh -c "$*"\n'
 DAYS = {"monday.csv": b"10.0.0.1,5\n10.0.0.2,1\n", "tuesday.csv": b"10.0.0.1,2\n"}
+# what bin/try tells before it runs the program
+UNPROVED = b"heavy: nothing is proved by this run, which is slow: it compiles the program and keeps nothing; " \
+    b"bin/heavy proves it\n"
 # what the lines of Python over these days give
 GIVEN = {
     "heavy.report('monday.csv', k=100)": [(b"10.0.0.1", 5), (b"10.0.0.2", 1)],
@@ -92,6 +95,7 @@ def faults_of(blocks: list[list[str]]) -> list[str]:
         folder = Path(room)
         (folder / "bin").mkdir()
         (folder / "bin" / "heavy").symlink_to(programs.built("heavy_cli"))
+        (folder / "bin" / "try").symlink_to(programs.TOP / "bin" / "try")
         (folder / "bin" / "ssh").write_text(SSH)
         (folder / "bin" / "ssh").chmod(0o755)
         shutil.copytree(programs.TOP / "examples", folder / "examples")
@@ -100,7 +104,10 @@ def faults_of(blocks: list[list[str]]) -> list[str]:
             if wanting(command):
                 continue
             ended = programs.run(["bash", "-c", command], env=env, cwd=room)
-            if (ended.status, ended.out.decode(), ended.err) != (0, printed, b""):
+            said = ended.err
+            if command.startswith("bin/try "):
+                said = said.removeprefix(UNPROVED)
+            if (ended.status, ended.out.decode(), said) != (0, printed, b""):
                 faults.append(f"{command!r} gives {ended}, and shows {printed!r}")
     return faults
 
