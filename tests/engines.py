@@ -415,14 +415,6 @@ def try_dask(test: programs.Checks, python: str, room: Room) -> None:
         stop([dask.scheduler])
 
 
-def with_dask() -> str | None:
-    """A Python that has Dask's scheduler: this one, or that of the system, for which Debian packs it."""
-    for python in (sys.executable, "/usr/bin/python3"):
-        if shutil.which(python) and subprocess.run([python, "-c", "import distributed"], capture_output=True).returncode == 0:
-            return python
-    return None
-
-
 class Engines(programs.Checks):
     """The scripts of examples/machines, over random records."""
 
@@ -437,9 +429,11 @@ class Engines(programs.Checks):
     def test_parallel(self) -> None:
         tried(self, self.records, "parallel", lambda: try_parallel(self, self.records))
 
-    @unittest.skipUnless(with_dask(), "the script over Dask wants python3-distributed")
     def test_dask(self) -> None:
-        try_dask(self, with_dask(), self.records)
+        python = programs.python_with("distributed")
+        if not python:
+            self.skipTest("the script over Dask wants python3-distributed")
+        try_dask(self, python, self.records)
 
 
 if __name__ == "__main__":

@@ -303,8 +303,7 @@ class Install(programs.Checks):
     def test_two(self) -> None:
         """Two that begin at once build once, and one that waits can be interrupted."""
         if not shutil.which("flock"):
-            print("install: two builds at once are left out, for want of flock", flush=True)
-            return
+            self.skipTest("two builds at once want flock")
         copy = Copy(self.room, "two")
         first = copy.start(3)
         copy.waits_for_child()
@@ -343,8 +342,7 @@ class Install(programs.Checks):
         """The library is built and installed beside the program, with the program's version; a failed build is told; where
         there is no compiler, it is left out, and that is told."""
         if not shutil.which("cc") or not shutil.which("ar"):
-            print("install: the library is left out, for want of cc and ar", flush=True)
-            return
+            self.skipTest("the library wants cc and ar")
         copy = Copy(self.room, "library")
         copy.add_library()
         files = [*INSTALLED, *LIBRARY]

@@ -106,11 +106,16 @@ class Library(programs.Checks):
             self.check(f"{name}, by {compiler}", ended is not None and (ended.status, ended.err) == (0, b""), ended)
 
     def try_python(self, prefix: str) -> None:
-        """The module's own tests."""
+        """The module's own tests, by a Python that has the arrays which it takes."""
         env = {**os.environ, "HEAVY": programs.built("heavy_cli"), "LIBHEAVY": f"{prefix}/lib/libheavy.so.1"}
-        words = [sys.executable, "-B", "-m", "unittest", "test_heavy"]
+        python = programs.python_with("numpy", "pandas")
+        with self.subTest("arrays"):
+            if not python:
+                self.skipTest("arrays of numpy and pandas want both")
+        words = [python or sys.executable, "-B", "-m", "unittest", "test_heavy"]
         ran = subprocess.run(words, cwd=programs.TOP / "python", env=env, capture_output=True, text=True)
         self.check("the Python module", ran.returncode == 0, ran.stderr)
+        self.check("its arrays", not python or "skipped" not in ran.stderr, ran.stderr)
 
     def try_pool(self, prefix: str) -> None:
         """The example of a pool of processes prints the program's report, in any number of parts, and its refusals."""
