@@ -120,6 +120,9 @@ class Room:
             part = self.path / f"part {i} 'a' $b.csv"
             drawn = draw.choices(keys, weights=[1 / (rank + 1) for rank in range(len(keys))], k=draw.randrange(200, 600))
             text = b"".join(b"%s,%d\n" % (key, draw.randrange(1, 100)) for key in drawn)
+            if i == PARTS - 1:
+                # heavy in all, and in no other part: its summary alone has the key
+                text += b"last,99\n" * 150
             part.write_bytes(text)
             self.parts.append(part)
             records += text

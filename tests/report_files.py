@@ -3,20 +3,22 @@
 is set beside rows that were found by hand, beside a report of one piece by one thread, and beside what the same texts give
 from standard input and from pipes.
 
-usage: tests/report_files.py [CASES [SEED]]
+usage: tests/report_files.py [CASES [SEED [FIRST]]]
 
-Prints the seed, how many cases ran and differed, of reports and of the other three.
+Reads the records of tests/corpus first, each again and again. Prints the seed, how many cases ran and differed, of reports
+and of the other three, and for a case that differs the command that repeats it.
 """
 import os
 import signal
-import sys
 import threading
-import time
 from functools import partial
 from pathlib import Path
 from random import Random
 
+import corpus
+import hostile
 import programs
+import reference
 
 # a piece of a file has at least so many bytes, but for its last
 LEAST = 65_536
@@ -100,12 +102,6 @@ def piped(words: list[str], texts: list[bytes], room: str, **how) -> programs.En
     return ended
 
 
-def chosen() -> tuple[int, int]:
-    """The number of cases and the seed, as the command line has them."""
-    cases = int(sys.argv[1]) if len(sys.argv) > 1 else 60
-    return cases, int(sys.argv[2]) if len(sys.argv) > 2 else time.time_ns() % 1_000_000_007
-
-
 def same(here: programs.Ended, there: programs.Ended) -> bool:
     """Whether two runs ended alike, and said the same."""
     return (here.status, here.out, here.err) == (there.status, there.out, there.err)
@@ -159,12 +155,27 @@ class ReportFiles(programs.Checks):
             told = b"heavy: file %d: could not be read\n" % number
             self.check(str(words), (ended.status, ended.out, ended.err) == (1, b"", told), ended)
 
+    def test_kept(self) -> None:
+        """Each text that is kept, so often that workers read it in pieces, reads as the reference reads it."""
+        program = programs.built("heavy_cli")
+        kept = corpus.kept_in("records")
+        self.check("there are kept texts", len(kept) > 20, len(kept))
+        for file in kept:
+            text = file.data * (2 * LEAST // len(file.data) + 1 if file.data else 1)
+            wanted = reference.answer(reference.report, text, 3)
+            for workers in ("1", "4"):
+                words = [program, "report", "--k", "3", "--workers", workers]
+                for ended in (programs.run([*words, *self.files(text)]), programs.run(words, text)):
+                    holds = (ended.status, ended.out, ended.err) == wanted
+                    self.check(f"{file.name} by {workers}", holds, (file.why, ended, wanted))
+
     def test_random_files(self) -> None:
         """A file reads as the same text from standard input does, whatever it has; and several files as the pipes do."""
         program = programs.built("heavy_cli")
-        cases, seed = chosen()
-        random, differed = Random(seed), 0
-        for _ in range(cases):
+        numbers, seed = hostile.chosen(60)
+        differed = 0
+        for number in numbers:
+            random = Random(f"{seed}/{number}")
             options = ["--k", random.choice(["1", "3", "100"]), "--workers", random.choice(["1", "2", "4"])]
             words = [program, "report", *options, "--pieces", random.choice(["1", "3", "4", "16"])]
             texts = [text_of(random) for _ in range(random.randrange(1, 6))]
@@ -173,8 +184,9 @@ class ReportFiles(programs.Checks):
             here, there = programs.run([*words, *self.files(*texts)]), piped(words, texts, self.room)
             holds = said and same(here, there)
             differed += not holds
-            self.check(f"case of seed {seed}", holds, (words, texts, here, there))
-        print(f"seed {seed}: {cases} cases of reports, {differed} differ")
+            repeat = hostile.again(seed, number, "ReportFiles.test_random_files")
+            self.check(f"case {number} of seed {seed}", holds, (repeat, words, texts, here, there))
+        print(f"seed {seed}: {len(numbers)} cases of reports, {differed} differ")
 
 
 class ReportTexts(programs.Checks):
@@ -183,16 +195,18 @@ class ReportTexts(programs.Checks):
     def test_random_texts(self) -> None:
         """Workers that read a text in pieces find what one thread finds in the whole of it, and tell the same of a fault."""
         program = programs.built("heavy_cli")
-        cases, seed = chosen()
-        random, differed, refused = Random(seed), 0, 0
-        for _ in range(cases):
+        numbers, seed = hostile.chosen(60)
+        differed, refused = 0, 0
+        for number in numbers:
+            random = Random(f"{seed}/{number}")
             text, words = woven(random), [program, "report", "--k", random.choice(["1", "3", "20"])]
             here = programs.run([*words, "--workers", random.choice(["1", "2", "3", "4"])], text)
             there = programs.run([*words, "--workers", "1", "--pieces", "1", "--tree", "0"], text)
             refused += here.status != 0
             differed += not same(here, there)
-            self.check(f"text of seed {seed}", same(here, there), (words, text, here, there))
-        print(f"seed {seed}: {cases} texts, {refused} of them refused, {differed} differ")
+            repeat = hostile.again(seed, number, "test_random_texts")
+            self.check(f"text {number} of seed {seed}", same(here, there), (repeat, words, text, here, there))
+        print(f"seed {seed}: {len(numbers)} texts, {refused} of them refused, {differed} differ")
 
 
 class OnePassFiles(programs.Checks):
@@ -252,10 +266,11 @@ class OnePassFiles(programs.Checks):
     def test_random_files(self) -> None:
         """Files read as pipes with the same texts do, whatever these have, however they are read, and by a summary of them or
         of other records."""
-        cases, seed = chosen()
-        random, differed = Random(seed), 0
+        numbers, seed = hostile.chosen(60)
+        differed = 0
         other, of_them = self.saved("other", ["summarise", "--k", "3"], b"a,1\nweb,2\n"), f"{self.room}/saved"
-        for _ in range(cases):
+        for number in numbers:
+            random = Random(f"{seed}/{number}")
             texts = [text_of(random) for _ in range(random.randrange(1, 6))]
             if random.random() < 0.8:  # with an empty file among them one thread reads
                 texts = [text or record(random, KEYS) for text in texts]
@@ -267,8 +282,10 @@ class OnePassFiles(programs.Checks):
                 here = programs.run([*words, "--workers", workers, *self.files(*texts)])
                 there = piped(words, texts, self.room)
                 differed += not same(here, there)
-                self.check(f"{words[1]} of seed {seed}", same(here, there), (words, workers, texts, here, there))
-        print(f"seed {seed}: {cases} cases of table, condense and confirm, {differed} differ")
+                repeat = hostile.again(seed, number, "OnePassFiles.test_random_files")
+                said = (repeat, words, workers, texts, here, there)
+                self.check(f"{words[1]} of case {number} of seed {seed}", same(here, there), said)
+        print(f"seed {seed}: {len(numbers)} cases of table, condense and confirm, {differed} differ")
 
 
 if __name__ == "__main__":
