@@ -307,7 +307,7 @@ prove_and_build() {
 }
 
 # Builds this file of that crate, where its sources are newer, unless another build did meanwhile. First it tells the
-# rest of its words, a line each.
+# rest of its words, a line each, in which @TIME@ is how long a first build takes.
 build() {
   local crates line name=$1 file=$2
   mapfile -t crates < <(crates_of "$name")
@@ -319,7 +319,7 @@ build() {
   exec 9> "$program/build.lock"
   wait_for 9 "another build runs in $top"
   if is_stale "$file" "${crates[@]}"; then
-    for line in "${@:3}"; do tell "$line"; done
+    for line in "${@:3}"; do tell "${line/@TIME@/$(first_build_takes)}"; done
     prove_and_build "$name" "$file" || return 1
   fi
   exec 9>&-
@@ -328,5 +328,5 @@ build() {
 
 build_heavy() {
   build heavy_cli "$built" "proving and building the program, once and after each change of its sources" \
-    "a first build takes $(first_build_takes); crates/*/build.log have its lines"
+    "a first build takes @TIME@; crates/*/build.log have its lines"
 }
