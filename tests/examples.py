@@ -24,7 +24,7 @@ from pathlib import Path
 import programs
 
 # what an example may use where it is installed, by the words that tell so
-TOOLS = {r"\bawk\b": "awk", r"\bcut\b": "cut", r"one_file\.sh|many_machines\.sh": "parallel", r"over_dask\.py": "dask"}
+TOOLS = {**{rf"\b{tool}\b": tool for tool in ("awk", "cut", "jq", "mlr", "nfdump")}, r"one_file\.sh|many_machines\.sh": "parallel", r"over_dask\.py": "dask"}
 PAGES = ["README.md", *sorted(str(page.relative_to(programs.TOP)) for page in programs.TOP.glob("examples/*/README.md"))]
 FENCED = re.compile(r"^```rust\n(.*?)^```$", re.MULTILINE | re.DOTALL)
 SSH = '#!/bin/sh\nshift\nexec sh -c "$*"\n'
