@@ -7,6 +7,8 @@ usage: tests/check_try.py
 """
 import os
 import shutil
+import subprocess
+import unittest
 from pathlib import Path
 
 import programs
@@ -16,6 +18,35 @@ FUNCTION = b"fn hh_shared::sums::SharedSums::claim"
 # an edit that changes nothing of what the crate does, and one whose text stands nowhere
 HARMLESS = "file: src/sums.rt\nold: return true;\nnew: return !false;\n"
 GONE = "file: src/sums.rt\nold: no such text\nnew: another\n"
+# A source, and what is changed in it, each with the function around it, if there is one.
+SOURCE = """use std::fmt;
+
+const TEXT: &str = "a";
+
+pub fn first() -> u8 {
+    1
+}
+
+impl<'a, T: Ord> Holder<'a, T> {
+    pub(crate) const fn second(&self) -> u8 {
+        2
+    }
+}
+
+unsafe impl<T> fmt::Display for Holder<'_, T> {
+    fn fmt(&self) -> u8 {
+        3
+    }
+}
+
+fn last() -> u8 {
+    4
+}
+"""
+CHANGES = {
+    '"a"': [], "    1": ["crate::file::first"], "pub fn first": ["crate::file::first"], "        2": ["crate::file::Holder::second"],
+    "        3": ["crate::file::HolderDisplay::fmt"], "    4": ["crate::file::last"], "use std::fmt": [],
+}
 # Notes its words, and the files that it is given.
 RT = """#!/bin/sh
 [ "$1" != doc ] || { echo "$KIT"; exit; }
@@ -70,6 +101,28 @@ class Check(programs.Checks):
         ended = self.run_check(CRATE, "--only", "hh_shared::sums::SharedSums::claim")
         told = FUNCTION in ended.out and b"claimed_or_met" in ended.out
         self.check("a fault is told", ended.status == 1 and told and b"is NOT proved" in ended.err, ended)
+
+    @unittest.skipUnless(shutil.which("git"), "what the last commit has wants git")
+    def test_changed_functions(self) -> None:
+        """The functions around what is changed in a source, by the names that the prover knows them by."""
+        folder = self.top / "crates" / "crate" / "src"
+        folder.mkdir(parents=True)
+        for name in ("file.rt", "lib.rt"):
+            (folder / name).write_text(SOURCE)
+        changed = [str(self.top / "bin" / "changed-functions"), "crate"]
+        ended = programs.run(changed, env=dict(os.environ))
+        self.check("without a commit", (ended.status, ended.out) == (0, b""), ended)
+        git = ["git", "-c", "user.name=A", "-c", "user.email=a@b.example"]
+        for words in (["init", "-q"], ["add", "-A"], ["commit", "-q", "-m", "A commit"]):
+            subprocess.run([*git, *words], cwd=self.top, check=True, capture_output=True)
+        for text, names in CHANGES.items():
+            (folder / "file.rt").write_text(SOURCE.replace(text, f"{text} // changed", 1))
+            ended = programs.run(changed, env=dict(os.environ))
+            self.check(f"around {text!r}", (ended.status, ended.out.decode().split()) == (0, names), ended)
+        (folder / "file.rt").write_text(SOURCE)
+        (folder / "lib.rt").write_text(SOURCE.replace("4", "5").replace("1", "6"))
+        ended = programs.run(changed, env=dict(os.environ))
+        self.check("in a root file", ended.out == b"crate::first\ncrate::last\n", ended)
 
     def test_usage(self) -> None:
         for words in ([], ["--edit"], ["no_crate"], [CRATE, "--edit"], [CRATE, "--jobs", "0"], [CRATE, "--edit", "nowhere"]):
