@@ -533,7 +533,7 @@ class Release(programs.Checks):
         ]:
             words = [sys.executable, "-B", "on_static.py", name, program, *more]
             ran = subprocess.run(words, cwd=programs.TOP / "tests", capture_output=True, text=True)
-            passed = re.search(r"^.*: (\d+) passed, 0 failed, 0 skipped$", ran.stdout, re.M)
+            passed = re.search(r"^.*: (\d+) passed, 0 failed, \d+ skipped$", ran.stdout, re.M)
             right = ran.returncode == 0 and passed and int(passed[1]) > 20
             self.check(f"{name} of the static program", right, ran.stdout + ran.stderr)
 
