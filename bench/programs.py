@@ -1,4 +1,5 @@
 """The programs and the files that the measurements use."""
+import os
 import shutil
 import subprocess
 import sys
@@ -18,6 +19,16 @@ def heavy_bench() -> str:
     crate = TOP / "crates" / "heavy_bench"
     subprocess.run(["rt", "run"], cwd=crate, stdout=subprocess.DEVNULL, stderr=subprocess.DEVNULL)
     return str(crate / "out" / "heavy_bench")
+
+
+def library(room: Path) -> bool:
+    """Makes the library for C in this room, for the module `heavy` of python/, where the machine has a compiler of C."""
+    prefix = room / "library"
+    if subprocess.run([TOP / "bin" / "install-library", prefix], stdout=subprocess.DEVNULL).returncode != 0:
+        return False
+    os.environ["LIBHEAVY"] = str(prefix / "lib" / "libheavy.so.1")
+    sys.path.insert(0, str(TOP / "python"))
+    return True
 
 
 def plain(room: Path) -> str | None:

@@ -1,5 +1,6 @@
 """What the program has to answer, written a second time: a reader of records and of saved files, Misra-Gries, and
 the commands. It follows docs/FORMATS.md and shares nothing with the program."""
+import re
 from dataclasses import dataclass
 
 MAX_TOTAL = 2**63 - 1
@@ -25,10 +26,11 @@ class Refused(Exception):
 # ---- records
 
 
-def fields_of(text: bytes) -> list[list[bytes]]:
+def fields_of(text: bytes, delimiter: bytes = b",") -> list[list[bytes]]:
     """The records of a text, as csv reads them by default: fields may be quoted, a line ends by a carriage return, a
     line feed or both, and a line without bytes is none. A byte order mark in front is left out."""
     text = text.removeprefix(b"\xef\xbb\xbf")
+    ends = re.compile(b"[%s\r\n]" % re.escape(delimiter))
     records: list[list[bytes]] = []
     at, end = 0, len(text)
     while True:
@@ -39,43 +41,43 @@ def fields_of(text: bytes) -> list[list[bytes]]:
         record, is_open = [], True
         while is_open:
             field = bytearray()
-            if at < end and text[at] == 0x22:
+            if text[at : at + 1] == b'"':
                 at += 1
                 while at < end:
-                    if text[at] != 0x22:
-                        field.append(text[at])
-                        at += 1
-                    elif text[at + 1 : at + 2] == b'"':
-                        field.append(0x22)
-                        at += 2
-                    else:
-                        at += 1
+                    quote = text.find(b'"', at)
+                    quote = end if quote < 0 else quote
+                    field += text[at:quote]
+                    at = quote + 1
+                    if text[at : at + 1] != b'"':
                         break
-            while at < end and text[at] not in b",\r\n":
-                field.append(text[at])
-                at += 1
+                    field.append(0x22)
+                    at += 1
+            found = ends.search(text, at)
+            stop = found.start() if found else end
+            field += text[at:stop]
             record.append(bytes(field))
-            is_open = at < end and text[at] == 0x2C
-            at += 1
+            is_open = text[stop : stop + 1] == delimiter
+            at = stop + 1
         records.append(record)
 
 
-def items_of(text: bytes) -> list[Item]:
-    """The stream of a text, or the refusal of its first bad record."""
+def items_of_records(records: list[list[bytes]], by_column: bool = False) -> list[Item]:
+    """The stream of some records, or the refusal of the first bad one. A record is a key and, where it has a second field,
+    its weight; by column it has both, and what else it has is passed over."""
     items: list[Item] = []
     total = 0
-    for number, record in enumerate(fields_of(text), 1):
+    for number, record in enumerate(records, 1):
         cause, weight = None, 1
-        if len(record) > 2:
+        if len(record) < 2 if by_column else len(record) > 2:
             cause = "wrong number of fields"
         elif not record[0]:
             cause = "empty key"
         elif len(record[0]) > MAX_KEY:
             cause = "key too long"
-        elif len(record) == 2 and not (1 <= len(record[1]) <= 20 and all(b in b"0123456789" for b in record[1])):
+        elif len(record) >= 2 and not (1 <= len(record[1]) <= 20 and all(b in b"0123456789" for b in record[1])):
             cause = "bad weight"
         else:
-            weight = int(record[1]) if len(record) == 2 else 1
+            weight = int(record[1]) if len(record) >= 2 else 1
             if weight == 0:
                 cause = "zero weight"
             elif total + weight > MAX_TOTAL:
@@ -85,6 +87,11 @@ def items_of(text: bytes) -> list[Item]:
         items.append((record[0], weight))
         total += weight
     return items
+
+
+def items_of(text: bytes) -> list[Item]:
+    """The stream of a text, or the refusal of its first bad record."""
+    return items_of_records(fields_of(text))
 
 
 def weights_of(items: list[Item]) -> dict[bytes, int]:

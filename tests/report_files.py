@@ -1,22 +1,25 @@
 #!/usr/bin/env python3
 """Texts and files that workers read in pieces: by `report` twice, by `table`, `condense` and `confirm` once. What comes out
-is set beside rows that were found by hand, beside a report of one piece by one thread, and beside what the same texts give
-from standard input and from pipes.
+is set beside rows that were found by hand, beside a report of one piece by one thread, beside what the same texts give from
+standard input and from pipes, and beside what a second reader finds.
 
-usage: tests/report_files.py [CASES [SEED [FIRST]]]
+usage: tests/report_files.py [CASES [SEED]]
 
-Reads the records of tests/corpus first, each again and again. Prints the seed, how many cases ran and differed, of reports
-and of the other three, and for a case that differs the command that repeats it.
+Reads the records of tests/corpus first, each again and again. Prints the seed, how many cases ran and differed, of each kind.
+Each case has a seed of its own, one more than the case before it, and one that fails is told with the command that repeats
+it.
 """
 import os
 import signal
+import sys
 import threading
+import time
+from collections.abc import Iterator
 from functools import partial
 from pathlib import Path
 from random import Random
 
 import corpus
-import hostile
 import programs
 import reference
 
@@ -102,6 +105,19 @@ def piped(words: list[str], texts: list[bytes], room: str, **how) -> programs.En
     return ended
 
 
+def chosen() -> tuple[int, int]:
+    """The number of cases and the seed, as the command line has them."""
+    cases = int(sys.argv[1]) if len(sys.argv) > 1 else 60
+    return cases, int(sys.argv[2]) if len(sys.argv) > 2 else time.time_ns() % 1_000_000_007
+
+
+def drawn_cases() -> Iterator[tuple[Random, str]]:
+    """The cases that are drawn: each with random numbers of its own, and the command that repeats it."""
+    cases, seed = chosen()
+    for own in range(seed, seed + cases):
+        yield Random(own), f"tests/report_files.py 1 {own}"
+
+
 def same(here: programs.Ended, there: programs.Ended) -> bool:
     """Whether two runs ended alike, and said the same."""
     return (here.status, here.out, here.err) == (there.status, there.out, there.err)
@@ -172,10 +188,9 @@ class ReportFiles(programs.Checks):
     def test_random_files(self) -> None:
         """A file reads as the same text from standard input does, whatever it has; and several files as the pipes do."""
         program = programs.built("heavy_cli")
-        numbers, seed = hostile.chosen(60)
+        cases, seed = chosen()
         differed = 0
-        for number in numbers:
-            random = Random(f"{seed}/{number}")
+        for random, again in drawn_cases():
             options = ["--k", random.choice(["1", "3", "100"]), "--workers", random.choice(["1", "2", "4"])]
             words = [program, "report", *options, "--pieces", random.choice(["1", "3", "4", "16"])]
             texts = [text_of(random) for _ in range(random.randrange(1, 6))]
@@ -184,9 +199,8 @@ class ReportFiles(programs.Checks):
             here, there = programs.run([*words, *self.files(*texts)]), piped(words, texts, self.room)
             holds = said and same(here, there)
             differed += not holds
-            repeat = hostile.again(seed, number, "ReportFiles.test_random_files")
-            self.check(f"case {number} of seed {seed}", holds, (repeat, words, texts, here, there))
-        print(f"seed {seed}: {len(numbers)} cases of reports, {differed} differ")
+            self.check(f"again by {again}", holds, (words, texts, here, there))
+        print(f"seed {seed}: {cases} cases of reports, {differed} differ")
 
 
 class ReportTexts(programs.Checks):
@@ -195,18 +209,16 @@ class ReportTexts(programs.Checks):
     def test_random_texts(self) -> None:
         """Workers that read a text in pieces find what one thread finds in the whole of it, and tell the same of a fault."""
         program = programs.built("heavy_cli")
-        numbers, seed = hostile.chosen(60)
+        cases, seed = chosen()
         differed, refused = 0, 0
-        for number in numbers:
-            random = Random(f"{seed}/{number}")
+        for random, again in drawn_cases():
             text, words = woven(random), [program, "report", "--k", random.choice(["1", "3", "20"])]
             here = programs.run([*words, "--workers", random.choice(["1", "2", "3", "4"])], text)
             there = programs.run([*words, "--workers", "1", "--pieces", "1", "--tree", "0"], text)
             refused += here.status != 0
             differed += not same(here, there)
-            repeat = hostile.again(seed, number, "test_random_texts")
-            self.check(f"text {number} of seed {seed}", same(here, there), (repeat, words, text, here, there))
-        print(f"seed {seed}: {len(numbers)} texts, {refused} of them refused, {differed} differ")
+            self.check(f"again by {again}", same(here, there), (words, text, here, there))
+        print(f"seed {seed}: {cases} texts, {refused} of them refused, {differed} differ")
 
 
 class OnePassFiles(programs.Checks):
@@ -266,11 +278,10 @@ class OnePassFiles(programs.Checks):
     def test_random_files(self) -> None:
         """Files read as pipes with the same texts do, whatever these have, however they are read, and by a summary of them or
         of other records."""
-        numbers, seed = hostile.chosen(60)
+        cases, seed = chosen()
         differed = 0
         other, of_them = self.saved("other", ["summarise", "--k", "3"], b"a,1\nweb,2\n"), f"{self.room}/saved"
-        for number in numbers:
-            random = Random(f"{seed}/{number}")
+        for random, again in drawn_cases():
             texts = [text_of(random) for _ in range(random.randrange(1, 6))]
             if random.random() < 0.8:  # with an empty file among them one thread reads
                 texts = [text or record(random, KEYS) for text in texts]
@@ -282,10 +293,106 @@ class OnePassFiles(programs.Checks):
                 here = programs.run([*words, "--workers", workers, *self.files(*texts)])
                 there = piped(words, texts, self.room)
                 differed += not same(here, there)
-                repeat = hostile.again(seed, number, "OnePassFiles.test_random_files")
-                said = (repeat, words, workers, texts, here, there)
-                self.check(f"{words[1]} of case {number} of seed {seed}", same(here, there), said)
-        print(f"seed {seed}: {len(numbers)} cases of table, condense and confirm, {differed} differ")
+                self.check(f"{words[1]}, again by {again}", same(here, there), (words, workers, texts, here, there))
+        print(f"seed {seed}: {cases} cases of table, condense and confirm, {differed} differ")
+
+
+# what the drawn texts are separated by
+DELIMITERS = [b",", b";", b"\t", b"|", b":", b" ", b"=", b"9", b"\xff"]
+LONG = 360_000
+MANY_LINES = 100_000
+
+
+def long_field(random: Random, delimiter: bytes) -> bytes:
+    """A field of 360 KB: plain, or in quotes with what has to stand in them."""
+    kinds = [b"x", b"\0", b"7", b'x"', b'""', b"\n", b"a\r", b"b\r\n", delimiter]
+    unit = random.choice(kinds)
+    field = unit * (LONG // len(unit))
+    return field if random.random() < 0.3 else b'"%s"' % field.replace(b'"', b'""')
+
+
+def drawn_record(random: Random, delimiter: bytes, by_column: bool) -> bytes:
+    """A record without the end of its line: a key and mostly a weight; by column also fields that no column names."""
+    key = random.choice(KEYS) if random.random() < 0.7 else b"key%d" % random.randrange(5000)
+    fields = [b'"%s"' % key if delimiter in key or random.random() < 0.05 else quoted(key)]
+    if by_column or random.random() < 0.8:
+        fields.append(b"%d" % random.randrange(1, 1000))
+    if by_column:
+        fields += [quoted(random.choice(KEYS)) for _ in range(random.randrange(3))]
+    return delimiter.join(fields)
+
+
+def drawn_odd(random: Random, delimiter: bytes, by_column: bool, end: bytes) -> bytes:
+    """What stands once in a text: a long field, many blank lines, a mark, a quote, or a fault."""
+    long = long_field(random, delimiter)
+    odd = [
+        end * MANY_LINES, delimiter.join([b"k", b"1", long]) + end, long + delimiter + b"1" + end, b"\xef\xbb\xbf",
+        b"a" + delimiter + long + end, b'mid"dle' + end, b'"', b"\0" + end, b"a" + delimiter + b"0" + end, delimiter + end,
+        b"a" + delimiter + b"9223372036854775807" + end, b'"x"y' + delimiter + b"3" + end,
+    ]
+    return random.choice(odd[:2] * 3 + odd if by_column else odd[:1] * 4 + odd)
+
+
+def drawn_text(random: Random, delimiter: bytes, by_column: bool) -> bytes:
+    """A text whose lines end in one way or in several, with a mark in front or without, and often something odd in it."""
+    ends = random.choice([[b"\n"], [b"\r\n"], [b"\r"], [b"\n", b"\r", b"\r\n", b"\n\n"]])
+    count = random.choice([0, 1, 5, 50, 50, 500, 500, 8_000, 20_000])
+    parts = [drawn_record(random, delimiter, by_column) + random.choice(ends) for _ in range(count)]
+    for _ in range(random.choice([0, 0, 1, 1, 2])):
+        parts.insert(random.randrange(len(parts) + 1), drawn_odd(random, delimiter, by_column, random.choice(ends)))
+    text = (b"\xef\xbb\xbf" if random.random() < 0.25 else b"") + b"".join(parts)
+    if random.random() < 0.1:
+        text += b'"open' + random.choice(ends)
+    return text.rstrip(b"\r\n") if random.random() < 0.33 else text
+
+
+class DrawnFiles(programs.Checks):
+    """Files of many kinds, whose answers a second reader finds."""
+
+    files = ReportFiles.files
+
+    def ended(self, random: Random, words: list[str], texts: list[bytes]) -> programs.Ended:
+        """The run over the texts as files or as named pipes, or over one text on standard input."""
+        how = random.random()
+        if how < 0.2:
+            return piped(words, texts, self.room)
+        if how < 0.4 and len(texts) == 1:
+            return programs.run(words, texts[0])
+        return programs.run([*words, *self.files(*texts)])
+
+    def test_drawn_files(self) -> None:
+        """Reports and summaries of files, and what a summary confirms and condenses of them."""
+        program, saved = programs.built("heavy_cli"), f"{self.room}/saved"
+        cases, seed = chosen()
+        differed, refused = 0, 0
+        for random, again in drawn_cases():
+            delimiter, by_column, k = random.choice([b",", *DELIMITERS]), random.random() < 0.4, random.choice([1, 3, 100])
+            texts = [drawn_text(random, delimiter, by_column) for _ in range(random.choice([1, 1, 1, 2, 3]))]
+            records = [record for text in texts for record in reference.fields_of(text, delimiter)]
+            stream = partial(reference.items_of_records, by_column=by_column)
+            layout = [b"--delimiter", b"\\t" if delimiter == b"\t" else delimiter] if delimiter != b"," else []
+            layout += ["--key", "1", "--weight", "2"] if by_column else []
+            workers = ["--workers", random.choice(["1", "2", "4"])]
+            method = random.choice([[], ["--method", "ss"]])
+            summary = reference.answer(reference.summarise, records, k, reader=stream)
+            Path(saved).write_bytes(summary[1])
+            runs = [
+                (["report", "--k", str(k), *workers, *layout], reference.answer(reference.report, records, k, reader=stream)),
+                (["summarise", "--k", str(k), *method, *layout], summary),
+            ]
+            if summary[0] == 0:
+                runs += [
+                    ([name, *workers, *layout, saved], reference.answer(command, summary[1], records, reader=stream))
+                    for name, command in (("confirm", reference.confirm), ("condense", reference.condense))
+                ]
+            for words, (status, out, err) in runs:
+                ended = self.ended(random, [program, *words], texts)
+                said = b"".join(line for line in ended.err.splitlines(True) if b": note: " not in line)
+                holds = (ended.status, ended.out, said) == (status, out, err)
+                differed += not holds
+                self.check(f"{words[0]}, again by {again}", holds, (words, ended.status, ended.err, status, err))
+            refused += summary[0] != 0
+        print(f"seed {seed}: {cases} cases of drawn files, {refused} of them refused, {differed} runs differ")
 
 
 if __name__ == "__main__":

@@ -1,24 +1,18 @@
 -- The counters of an index, less the least, sorted by key.
-use Rattle.std.proofs.Common.{Option, Some, None, ◌≡◌, ℕ, ◌+◌, ◌-◌, ◌<◌, ◌≤◌, true, false, cond, List, [], ◌∷◌, ◌++◌, length, get_or, take, is_lt, refl, sym, ap, ◌∙◌, subst, append-nil, arith}
-use Rattle.std.specs.Prelude.{filter, map, unwrap_or, nat_lt, IsPermutation, IsSortedBy}
-use Rattle.std.specs.List.{IsDistinct}
+use Rattle.std.proofs.Common.{◌≡◌, ℕ, ◌+◌, ◌-◌, ◌<◌, ◌≤◌, true, false, cond, List, [], ◌∷◌, ◌++◌, length, get_or, take, is_lt, sym, ap, ◌∙◌, append-nil, arith}
+use Rattle.std.specs.Prelude.{map, nat_lt, IsPermutation, IsSortedBy}
 use Rattle.std.specs.List.Sorted.{IsStrictlySortedBy}
-use Rattle.std.specs.Map.{keys_of, lookup}
-use Rattle.std.specs.Option.{option_map}
-use Rattle.std.proofs.lemmas.Map.Made.{IsDistinct-keys_filter, keys_of-map_values, lookup-map_values}
-use Rattle.std.specs.Cmp.{eq_by_cmp_equiv}
-use Rattle.std.proofs.lemmas.Bool.{cond_both}
+use Rattle.std.specs.Map.{keys_of}
 use Rattle.std.proofs.lemmas.Bool.Decides.{nat_tests}
 use Rattle.std.proofs.lemmas.List.{map-append, take_more}
 use Rattle.std.proofs.lemmas.List.Sorted.{All-permutation, sum_by-IsPermutation}
 use Rattle.std.proofs.lemmas.List.Elements.{All-from_recursion, filter-append}
 use Rattle.std.proofs.lemmas.Map.Keys.{Less-from_sorted}
 use Rattle.std.proofs.lemmas.Cmp.{on_total}
-use Rattle.std.proofs.lemmas.Map.Entries.{lookup-filter-values, option_filter}
-use Rattle.hh_stream.specs.Weights.{Bytes, Entry, key_cmp, same_key, at_key, weight_of}
+use Rattle.hh_stream.specs.Weights.{Entry, key_cmp, at_key}
 use Rattle.hh_summaries.specs.Counters.{Counters, exceeds, less_by, tally, lower}
-use Rattle.hh_summaries.proofs.Weights.{Distinct, weight_of-lookup, key_total, weight_of-tally, same_counters}
-use Rattle.hh_summaries.proofs.Level.{lower-nil, lower-cons, positive-lower, weight_of-lower, counters-lower}
+use Rattle.hh_summaries.proofs.Weights.{Distinct, key_total, weight_of-tally, same_counters}
+use Rattle.hh_summaries.proofs.Level.{lower-nil, lower-cons, positive-lower, distinct-lower, weight_of-lower, weight_of-lower-distinct, counters-lower}
 use Rattle.hh_summaries.proofs.Reports.{rising_from_sort}
 use Rattle.hh_summaries.proofs.Places.{counters_from_places}
 
@@ -50,29 +44,6 @@ lower_below t es i e l is below =
     let test : nat_lt t e.1 ≡ false = grind (arith, nat_tests, below) in
     lower_more t es i e l is ∙ ap (λ b. lower t (take i es) ++ cond b ((e.0, e.1 - t) ∷ []) []) test
     ∙ append-nil (lower t (take i es))
-
--- its keys stay apart
-distinct-lower : (t : ℕ) (es : List Entry) → Distinct es → Distinct (lower t es)
-unfolding lower
-distinct-lower t es h =
-    subst (IsDistinct same_key) (sym (keys_of-map_values (λ n. n - t) (filter (exceeds t) es)))
-    (IsDistinct-keys_filter same_key (exceeds t) es h)
-
--- each key's number less t, in whatever order the keys bounds
-weight_of-lower-distinct : (t : ℕ) (q : Bytes) (es : List Entry) → Distinct es
-    → weight_of q (lower t es) ≡ weight_of q es - t
-unfolding lower
-weight_of-lower-distinct t q es h =
-    let kept = lookup-filter-values (eq_by_cmp_equiv key_total) (nat_lt t) q es h in
-    let found =
-    lookup-map_values (λ n. n - t) (same_key q) (filter (exceeds t) es) ∙ ap (option_map (λ n. n - t)) kept in
-    weight_of-lookup q (lower t es) (distinct-lower t es h) ∙ ap (λ o. unwrap_or o 0) found
-    ∙ less (lookup (same_key q) es) ∙ ap (λ n. n - t) (sym (weight_of-lookup q es h))
-  where
-    less : (o : Option ℕ) → unwrap_or (option_map (λ n. n - t) (option_filter (nat_lt t) o)) 0 ≡ unwrap_or o 0 - t
-    less None = omega arith
-    less (Some n) = cond_both (nat_lt t n) (Some n) None (λ o. unwrap_or (option_map (λ n. n - t) o) 0 ≡ n - t)
-        (λ _. refl) (λ p. grind (arith, nat_tests, p))
 
 -- ---- sorted by key
 -- what is left of an index, sorted by key, is what is left of its view

@@ -13,8 +13,7 @@ ghost use Rattle.hh_counters.specs.Buckets.{HasFreshFirst, IsTakenIn, BoundCount
 
 use crate::monitor::Monitor;
 use crate::shared_key::SharedKey;
-use crate::sought::Sought;
-use hh_stream::{Key, MAX_TOTAL, in_range};
+use hh_stream::{BorrowedKey, Key, KeyHash, MAX_TOTAL, in_range};
 use hh_summaries::{AddFault, MAX_K, Summary, push_copy};
 use indexmap::IndexMap;
 use std::alloc::{AllocError, Global};
@@ -42,7 +41,7 @@ pub struct BucketSaving {
     alloc: Global,
     k: u64,
     total: u64,
-    index: IndexMap<SharedKey, u64>,
+    index: Index,
     // the keys beside one number are its bucket
     buckets: BTreeSet<(u64, SharedKey)>,
 }
@@ -69,11 +68,16 @@ pub enum NewFault {
     Memory,
 }
 
+// The keys that are monitored, each with its counter.
+type Index = IndexMap<SharedKey, u64, KeyHash>;
+
 // The most keys for which room is made at the start.
 const FIRST_ROOM: usize = 1024;
 
 impl BucketSaving {
-    /// Space-Saving of no items, with room for the first keys.
+    /// Space-Saving of no items, with room for the first keys. Keys are hashed by the words that
+    /// all runs have: where others choose them, [`with_hasher`](BucketSaving::with_hasher) takes
+    /// words of the run.
     pub fn new(alloc: Global, k: u64) -> Result<BucketSaving, NewFault>
         ensures empty { IfOk result (λ s. s ≡ record { k = k; total = 0; counters = [] }) }
         ensures bad_k { IsErrOf result NewFault.BadK ↔ (in_range k max_k ≡ false) }
@@ -89,9 +93,18 @@ impl BucketSaving {
         requires { in_range k max_k ≡ true }
         ensures { IfOk result (λ s. s ≡ record { k = k; total = 0; counters = [] }) }
     {
+        BucketSaving::with_hasher(alloc, k, KeyHash::fixed())
+    }
+
+    /// [`empty`](BucketSaving::empty), with keys hashed by `hash`. It decides how fast a key is
+    /// found, and no counter.
+    pub fn with_hasher(alloc: Global, k: u64, hash: KeyHash) -> Result<BucketSaving, AllocError>
+        requires { in_range k max_k ≡ true }
+        ensures { IfOk result (λ s. s ≡ record { k = k; total = 0; counters = [] }) }
+    {
         // a newcomer enters before the key that it replaces goes
         let most = k as usize + 2;
-        let index = IndexMap::with_capacity(alloc, most.min(FIRST_ROOM))?;
+        let index = IndexMap::with_capacity_and_hasher(alloc, most.min(FIRST_ROOM), hash)?;
         Ok(BucketSaving {
             alloc,
             k,
@@ -144,7 +157,10 @@ impl Monitor for BucketSaving {
     }
 
     fn get(&self, key: &Key) -> u64 {
-        self.index.get(Sought(key.bytes())).copied().unwrap_or(0)
+        self.index
+            .get(BorrowedKey(key.bytes()))
+            .copied()
+            .unwrap_or(0)
     }
 
     fn add_within(&mut self, key: &[u8], weight: u64) -> Result<(), AllocError> {
@@ -170,7 +186,7 @@ impl Monitor for BucketSaving {
 }
 
 // The least counter, 0 where there is none.
-fn least_in(index: &IndexMap<SharedKey, u64>) -> u64
+fn least_in(index: &Index) -> u64
     requires distinct { IsDistinct same_key (keys_of index.now.entries) }
     requires positive { (q : Bytes)
         → IfSome (lookup (same_key q) index.now.entries) (λ m. 0 < m) }
@@ -190,7 +206,7 @@ fn least_in(index: &IndexMap<SharedKey, u64>) -> u64
 // The counters less the least, by rising key.
 fn translated_entries(
     alloc: Global,
-    index: &IndexMap<SharedKey, u64>,
+    index: &Index,
     least: u64,
 ) -> Result<Vec<(Key, u64)>, AllocError>
     requires distinct { IsDistinct same_key (keys_of index.now.entries) }
@@ -203,11 +219,7 @@ fn translated_entries(
 }
 
 // The counters above this number, less it, in the order of the index.
-fn entries_above(
-    alloc: Global,
-    index: &IndexMap<SharedKey, u64>,
-    least: u64,
-) -> Result<Vec<(Key, u64)>, AllocError>
+fn entries_above(alloc: Global, index: &Index, least: u64) -> Result<Vec<(Key, u64)>, AllocError>
     ensures { IfOk result (λ entries. entries.items ≡ lower least index.now.entries) }
 {
     let mut entries = Vec::new(alloc);
@@ -225,7 +237,7 @@ fn entries_above(
 fn add_item(
     alloc: Global,
     k: u64,
-    index: &mut IndexMap<SharedKey, u64>,
+    index: &mut Index,
     buckets: &mut BTreeSet<(u64, SharedKey)>,
     key: &[u8],
     weight: u64,
@@ -240,7 +252,7 @@ fn add_item(
     ensures bounds { OnErr result (BoundCounters index.new.entries buckets.new) }
     ensures known { 0 < weight_of key.now (tally index.old.entries) → IsOk result }
 {
-    if let Some((place, _, counter)) = index.get_full(Sought(key)) {
+    if let Some((place, _, counter)) = index.get_full(BorrowedKey(key)) {
         let raised = *counter + weight;
         set_counter(index, key, place, raised);
         return Ok(());
@@ -255,10 +267,7 @@ fn add_item(
 
 // Moves the first key of the first bucket to that of its counter, until it stands there. This
 // counter, which is the least.
-fn refresh_first(
-    index: &IndexMap<SharedKey, u64>,
-    buckets: &mut BTreeSet<(u64, SharedKey)>,
-) -> Result<u64, AllocError>
+fn refresh_first(index: &Index, buckets: &mut BTreeSet<(u64, SharedKey)>) -> Result<u64, AllocError>
     requires some { 0 < length index.now.entries }
     requires bounds { BoundCounters index.now.entries buckets.old }
     ensures bounds { BoundCounters index.now.entries buckets.new }
@@ -283,7 +292,7 @@ fn refresh_first(
 // Puts a newcomer in place of the first key of the first bucket, whose counter is the least, or
 // leaves both parts as they were.
 fn replace_first(
-    index: &mut IndexMap<SharedKey, u64>,
+    index: &mut Index,
     buckets: &mut BTreeSet<(u64, SharedKey)>,
     newcomer: SharedKey,
     least: u64,
@@ -308,7 +317,7 @@ fn replace_first(
 }
 
 // Makes this the counter of the key, which stands at the place.
-fn set_counter(index: &mut IndexMap<SharedKey, u64>, key: &[u8], place: usize, to: u64)
+fn set_counter(index: &mut Index, key: &[u8], place: usize, to: u64)
     requires place { index_of same_key index.old key.now ≡ Some place }
     ensures set { Updates same_key index.old index.new key.now (Some to) }
     ensures distinct { IsUnique same_key index.old → IsUnique same_key index.new }
@@ -319,7 +328,7 @@ fn set_counter(index: &mut IndexMap<SharedKey, u64>, key: &[u8], place: usize, t
 
 // Puts a new key into the index and into the bucket of its counter, or leaves both as they were.
 fn enter(
-    index: &mut IndexMap<SharedKey, u64>,
+    index: &mut Index,
     buckets: &mut BTreeSet<(u64, SharedKey)>,
     key: SharedKey,
     counter: u64,

@@ -9,8 +9,7 @@ ghost use Rattle.hh_summaries.specs.Counters.{max_k};
 ghost use Rattle.hh_summaries.specs.Report.{IsShare, contenders, counts_with, rows_above, keys_above};
 
 use crate::report::{Heavy, is_heavy, selected_rows};
-use crate::sought::Sought;
-use hh_stream::{Item, Key};
+use hh_stream::{BorrowedKey, Item, Key, KeyHash};
 use hh_summaries::Summary;
 use indexmap::IndexSet;
 use std::alloc::{AllocError, Global};
@@ -22,7 +21,7 @@ use std::marker::Model;
 /// that counts their weights finds the report. A contract sees the list of the keys.
 #[derive(Debug, Drop)]
 pub struct Candidates {
-    keys: IndexSet<Key>,
+    keys: IndexSet<Key, KeyHash>,
 }
 
 impl Model for Candidates {
@@ -38,11 +37,24 @@ impl Model for Candidates {
 }
 
 impl Candidates {
-    /// The keys that have a counter.
+    /// The keys that have a counter. They are hashed by the words that all runs have: where others
+    /// choose keys, [`with_hasher`](Candidates::with_hasher) takes words of the run.
     pub fn of(alloc: Global, summary: &Summary) -> Result<Candidates, AllocError>
         ensures { IfOk result (λ candidates. candidates ≡ keys_of summary.now.counters) }
     {
-        let mut keys = IndexSet::with_capacity(alloc, summary.len())?;
+        Candidates::with_hasher(alloc, summary, KeyHash::fixed())
+    }
+
+    /// [`of`](Candidates::of), with keys hashed by `hash`. It decides how fast a key is found, and
+    /// no place.
+    pub fn with_hasher(
+        alloc: Global,
+        summary: &Summary,
+        hash: KeyHash,
+    ) -> Result<Candidates, AllocError>
+        ensures { IfOk result (λ candidates. candidates ≡ keys_of summary.now.counters) }
+    {
+        let mut keys = IndexSet::with_capacity_and_hasher(alloc, summary.len(), hash)?;
         for i in 0..summary.len() {
             let (key, _) = summary.entry(i);
             insert_copy(&mut keys, key)?;
@@ -52,7 +64,7 @@ impl Candidates {
 
     /// The keys that can have more than p/q of the total, as far as the counters tell: a counter is
     /// at most [`slack`](Summary::slack) below its key's weight. p/q is at most 1, and q at most
-    /// [`MAX_Q`](crate::MAX_Q).
+    /// [`MAX_Q`](crate::MAX_Q). They are hashed as those of [`of`](Candidates::of).
     pub fn contenders(
         alloc: Global,
         summary: &Summary,
@@ -64,7 +76,23 @@ impl Candidates {
             candidates ≡ keys_of (contenders p q summary.now)) }
         ensures few { IfOk result (λ candidates. length candidates ≤ length summary.now.counters) }
     {
-        let mut keys = IndexSet::new(alloc);
+        Candidates::contenders_with_hasher(alloc, summary, p, q, KeyHash::fixed())
+    }
+
+    /// [`contenders`](Candidates::contenders), with keys hashed by `hash`.
+    pub fn contenders_with_hasher(
+        alloc: Global,
+        summary: &Summary,
+        p: u64,
+        q: u64,
+        hash: KeyHash,
+    ) -> Result<Candidates, AllocError>
+        requires share { IsShare p q }
+        ensures keys { IfOk result (λ candidates.
+            candidates ≡ keys_of (contenders p q summary.now)) }
+        ensures few { IfOk result (λ candidates. length candidates ≤ length summary.now.counters) }
+    {
+        let mut keys = IndexSet::with_hasher(alloc, hash);
         let sum = summary.sum();
         for i in 0..summary.len() {
             let (key, counter) = summary.entry(i);
@@ -75,9 +103,25 @@ impl Candidates {
         Ok(Candidates { keys })
     }
 
+    /// The keys of some entries by rising key, hashed by `hash`.
+    pub fn of_entries(
+        alloc: Global,
+        entries: &[(Key, u64)],
+        hash: KeyHash,
+    ) -> Result<Candidates, AllocError>
+        requires { IsStrictlySortedBy key_cmp (keys_of entries.now) }
+        ensures { IfOk result (λ candidates. candidates ≡ keys_of entries.now) }
+    {
+        let mut keys = IndexSet::with_capacity_and_hasher(alloc, entries.len(), hash)?;
+        for i in 0..entries.len() {
+            insert_copy(&mut keys, &entries[i].0)?;
+        }
+        Ok(Candidates { keys })
+    }
+
     /// Those candidates of which the number is more than p/q of the total, where `numbers` has one
     /// for each place. Numbers that are not below the keys' weights leave each heavy key. p/q is at
-    /// most 1, and q at most [`MAX_Q`](crate::MAX_Q).
+    /// most 1, and q at most [`MAX_Q`](crate::MAX_Q). They are hashed as these are.
     pub fn pruned(
         &self,
         numbers: &[u64],
@@ -91,7 +135,7 @@ impl Candidates {
             (λ candidates. candidates ≡ keys_above p q total self.now numbers.now) }
         ensures few { IfOk result (λ candidates. length candidates ≤ length self.now) }
     {
-        let mut keys = IndexSet::new(*self.keys.allocator());
+        let mut keys = IndexSet::with_hasher(*self.keys.allocator(), *self.keys.hasher());
         for i in 0..numbers.len() {
             if is_heavy(numbers[i], p, q, total) {
                 insert_copy(&mut keys, &self.keys.as_slice()[i])?;
@@ -138,7 +182,7 @@ impl Candidates {
         ensures found { IsSome result ↔ Contains self.now key.now }
         ensures within { IfSome result (λ i. i < length self.now) }
     {
-        self.keys.get_index_of(Sought(key))
+        self.keys.get_index_of(BorrowedKey(key))
     }
 
     /// Adds the weight to the number at the key's place, if the key is a candidate.
@@ -202,7 +246,7 @@ impl Candidates {
 }
 
 // Puts a copy of the key into the set.
-fn insert_copy(keys: &mut IndexSet<Key>, key: &Key) -> Result<(), AllocError>
+fn insert_copy(keys: &mut IndexSet<Key, KeyHash>, key: &Key) -> Result<(), AllocError>
     ensures { OnOk result (keys.new.keys ≡ insert_key same_key keys.old.keys key.now) }
 {
     keys.insert(key.copy()?)?;

@@ -11,7 +11,7 @@ ghost use Rattle.hh_stream.specs.Ranges.{in_range};
 use crate::candidates::Candidates;
 use crate::laws::{counts_add_up, counts_stay_within};
 use crate::report::{Heavy, push_row};
-use hh_stream::Stream;
+use hh_stream::{KeyHash, Stream};
 use hh_summaries::Summary;
 use std::alloc::{AllocError, Global};
 use std::marker::Model;
@@ -43,13 +43,27 @@ impl Model for Counts {
 }
 
 impl Counts {
-    /// The keys of a summary, before any item.
+    /// The keys of a summary, before any item. They are hashed by the words that all runs have:
+    /// where others choose keys, [`with_hasher`](Counts::with_hasher) takes words of the run.
     pub fn of(alloc: Global, summary: &Summary) -> Result<Counts, AllocError>
         ensures none { IfOk result (λ counts. counts ≡ count_of (keys_of summary.now.counters) []) }
         ensures counters { OnOk result (IsCounters summary.now.counters) }
     {
+        Counts::with_hasher(alloc, summary, KeyHash::fixed())
+    }
+
+    /// [`of`](Counts::of), with keys hashed by `hash`. It decides how fast a key is found, and no
+    /// weight.
+    pub fn with_hasher(
+        alloc: Global,
+        summary: &Summary,
+        hash: KeyHash,
+    ) -> Result<Counts, AllocError>
+        ensures none { IfOk result (λ counts. counts ≡ count_of (keys_of summary.now.counters) []) }
+        ensures counters { OnOk result (IsCounters summary.now.counters) }
+    {
         counts_add_up();
-        let candidates = Candidates::of(alloc, summary)?;
+        let candidates = Candidates::with_hasher(alloc, summary, hash)?;
         let weights = vec![in alloc; 0u64; summary.len()]?;
         Ok(Counts {
             candidates,

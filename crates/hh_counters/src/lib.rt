@@ -11,7 +11,6 @@ pub mod laws;
 mod monitor;
 mod report;
 mod shared_key;
-mod sought;
 mod space_saving;
 mod taking;
 

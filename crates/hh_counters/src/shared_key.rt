@@ -8,7 +8,8 @@ ghost use Rattle.std.specs.Cmp.Lexicographic.{slice_cmp, nat_list_cmp_total};
 ghost use Rattle.std.specs.Ordering.{nat_cmp, as_partial_cmp};
 ghost use Rattle.hh_stream.specs.Weights.{max_key_len, key_cmp, same_key};
 
-use hh_stream::Key;
+use hh_stream::{BorrowedKey, Key};
+use indexmap::Equivalent;
 use std::alloc::{AllocError, Global};
 use std::cmp::Ordering;
 use std::hash::{Hash, Hasher};
@@ -106,5 +107,20 @@ impl Hash for SharedKey {
 
     fn hash<H: Hasher>(&self, state: &mut H) {
         self.key().hash(state);
+    }
+}
+
+impl Equivalent<SharedKey> for BorrowedKey<'_> {
+    ghost equivalent = { λ borrowed. same_key borrowed.0.now };
+
+    ghost respects_hash = { λ borrowed key e. ap (λ key. key ∷ [])
+        (slice_cmp-IsAntisymmetric nat_cmp-IsAntisymmetric borrowed.0.now key
+        ((Equal-is _).0 e)) };
+
+    ghost respects_eq = { λ borrowed.
+        (eq_by_cmp_equiv nat_list_cmp_total).congr borrowed.0.now };
+
+    fn equivalent(&self, key: &SharedKey) -> bool {
+        self.0 == key.key().bytes()
     }
 }

@@ -1,8 +1,9 @@
 //! A report of files, which are read twice, in memory that doesn't grow with them.
 
-ghost use Rattle.std.specs.Prelude.{◌≡◌, ◌≤◌, ◌+◌, ◌*◌, List, false, true, IfOk, IfErr, IfSome, OnOk, Err};
+ghost use Rattle.std.specs.Prelude.{◌≡◌, ◌<◌, ◌≤◌, ◌+◌, ◌*◌, List, false, true, IfOk, IfErr, IfSome, OnOk, Err};
 ghost use Rattle.hh_summaries.specs.Counters.{max_k};
 ghost use Rattle.hh_summaries.specs.Report.{IsShare};
+ghost use Rattle.hh_stream.specs.Cuttings.{max_pieces};
 ghost use Rattle.hh_stream.specs.Ranges.{in_range};
 ghost use Rattle.hh_stream.specs.Weights.{Entry, total_of};
 ghost use Rattle.hh_records.specs.Layouts.{texts_known};
@@ -18,32 +19,35 @@ use hh_counters::Heavy;
 use hh_counters::laws::{candidates_suffice, misra_gries_is_honest};
 use hh_faults::ToolError;
 use hh_pieces::{CutFiles, FileRecords, ReadAt, SourceRecords, are_as_long, keep_pipes, lengths};
-use hh_pool::{OpenGate, Options, PiecesError, Plan, analyse_pieces};
+use hh_pool::{Options, PieceFault, report_pieces};
 use hh_records::ReadRecords;
 use hh_reports::{Prepared, prepare, write_keys};
 use hh_rows::{ReportOptions, RowOptions, Sink};
+use hh_stream::KeyHash;
 use std::alloc::{AllocError, Global};
 use std::io::Read;
 use std::sync::Wait;
 use std::thread::Threads;
 
-/// The total of files in pieces and the heavy keys of their items, where the plan is of as many and
-/// each piece can be read by itself.
+/// The total of files in pieces and the heavy keys of their items, where each piece can be read by
+/// itself.
 fn keys_of_pieces<T: Threads + Wait + Sync, S: ReadAt + Sync>(
     rt: &T,
     alloc: Global,
     files: CutFiles<'_, S>,
-    plan: &Plan,
     settings: &Options,
+    hash: KeyHash,
 ) -> Result<Option<(u64, Vec<Heavy>)>, AllocError>
+    requires some { 0 < files.count }
+    requires few { files.count ≤ max_pieces }
     ensures { IfOk result (λ keys. IfSome keys (λ keys. IfSome files.entry.pieces (λ pieces.
         AreKeysOfPieces pieces settings.now.p settings.now.q keys.0 keys.1.items))) }
 {
     let pieces = FilePieces::new(files);
-    match analyse_pieces(rt, alloc, &pieces, plan, settings, &OpenGate) {
-        Ok(outcome) => Ok(Some((outcome.summary.total(), outcome.heavy))),
-        Err(PiecesError::Refused | PiecesError::PlanMismatch) => Ok(None),
-        Err(PiecesError::Memory) => Err(AllocError),
+    match report_pieces(rt, alloc, &pieces, settings, hash) {
+        Ok(keys) => Ok(Some(keys)),
+        Err(PieceFault::Refused) => Ok(None),
+        Err(PieceFault::Memory) => Err(AllocError),
     }
 }
 
@@ -54,9 +58,11 @@ fn keys_side_by_side<T: Threads + Wait + Sync, S: ReadAt + Sync>(
     alloc: Global,
     records: SourceRecords<'_, S>,
     pieces: usize,
-    plan: &Plan,
     settings: &Options,
+    hash: KeyHash,
 ) -> Result<Option<(u64, Vec<Heavy>)>, AllocError>
+    requires some { 0 < pieces }
+    requires few { pieces ≤ max_pieces }
     ensures { IfOk result (λ keys. IfSome keys (λ keys.
         FindsKeys (texts_known S.bytes records.entry.layout.now records.entry.sources.now)
         settings.now.p settings.now.q keys.0 keys.1.items)) }
@@ -64,7 +70,7 @@ fn keys_side_by_side<T: Threads + Wait + Sync, S: ReadAt + Sync>(
     let Some(files) = CutFiles::new(alloc, records.layout, records.sources, pieces)? else {
         return Ok(None);
     };
-    keys_of_pieces(rt, alloc, files, plan, settings)
+    keys_of_pieces(rt, alloc, files, settings, hash)
 }
 
 /// The same by one thread, which reads the files from their starts, twice.
@@ -100,7 +106,10 @@ fn keys_of_sources<T: Threads + Wait + Sync, S: ReadAt + Sync>(
     records: SourceRecords<'_, S>,
     k: u64,
     prepared: &Prepared,
+    hash: KeyHash,
 ) -> Result<(u64, Vec<Heavy>), ToolError>
+    requires some { 0 < prepared.now.pieces }
+    requires few { prepared.now.pieces ≤ max_pieces }
     requires k { in_range k max_k ≡ true }
     requires share { IsShare prepared.now.p prepared.now.q }
     requires enough { prepared.now.q ≤ prepared.now.p * (k + 1) }
@@ -115,12 +124,12 @@ fn keys_of_sources<T: Threads + Wait + Sync, S: ReadAt + Sync>(
     let before = lengths(alloc, records.sources)?;
     let Prepared {
         pieces,
-        plan,
         settings,
         p,
         q,
+        ..
     } = prepared;
-    let keys = match keys_side_by_side(rt, alloc, records, *pieces, plan, settings)? {
+    let keys = match keys_side_by_side(rt, alloc, records, *pieces, settings, hash)? {
         Some(keys) => keys,
         None => keys_in_turn(alloc, records, k, *p, *q)?,
     };
@@ -136,6 +145,7 @@ fn reported_of_files<T: Threads + Wait + Sync, F: ReadAt + Sync + Drop, R: Read 
     alloc: Global,
     options: &ReportOptions,
     records: FileRecords<F, R>,
+    hash: KeyHash,
 ) -> Result<(u64, Vec<Heavy>), ToolError>
     ensures keys { IfOk result (λ keys. AreOptions options.now
         × IfKnown (files_known F.bytes R.remaining records)
@@ -155,13 +165,14 @@ fn reported_of_files<T: Threads + Wait + Sync, F: ReadAt + Sync + Drop, R: Read 
         layout: &layout,
         sources: &sources,
     };
-    keys_of_sources(rt, alloc, records, options.k, &prepared)
+    keys_of_sources(rt, alloc, records, options.k, &prepared, hash)
 }
 
 /// [`report_rows`](hh_reports::report_rows) of files of any size. Workers read them in pieces,
-/// through a buffer each, and twice: for the keys that can be heavy, and for their weights. Nothing
-/// of a file is kept; the text of a pipe is. Where a piece can't be read by itself, one thread
-/// reads all files, twice too, so that the first refusal is told with its number.
+/// through a buffer each, and tally their items: once where the keys are few, and else once more
+/// for the weights of those that can be heavy. Nothing of a file is kept; the text of a pipe is.
+/// Where a piece can't be read by itself, one thread reads all files, twice, so that the first
+/// refusal has its number. `hash` decides how fast keys are found, and nothing else.
 ///
 /// Where the bytes of all files are known, the report is that of their records, one file after the
 /// other. A file of the system may change between two readings. Where the total weight differs, one
@@ -173,6 +184,7 @@ pub fn report_files<T: Threads + Wait + Sync, F: ReadAt + Sync + Drop, R: Read +
     options: &ReportOptions,
     rows: &RowOptions,
     records: FileRecords<F, R>,
+    hash: KeyHash,
     sink: &mut S,
 ) -> Result<(), ToolError>
     requires { S.has_failed sink.old ≡ false }
@@ -186,6 +198,6 @@ pub fn report_files<T: Threads + Wait + Sync, F: ReadAt + Sync + Drop, R: Read +
     ensures flushed { OnOk result (S.is_flushed sink.new ≡ true) }
     ensures failed { S.has_failed sink.new ≡ failed_by result }
 {
-    let (total, keys) = reported_of_files(rt, alloc, options, records)?;
+    let (total, keys) = reported_of_files(rt, alloc, options, records, hash)?;
     write_keys(alloc, sink, rows, total, &keys)
 }

@@ -19,6 +19,10 @@ use std::io::Read;
 // How many bytes of a piece are in memory at once, where no record is longer.
 const CHUNK_LEN: usize = 262_144;
 
+// From how many bytes on in which no record ends at a line feed a piece is refused: those who read
+// it in one go hold no more than a record.
+pub(crate) const MOST_HELD: usize = 1_048_576;
+
 /// The same columns, if any.
 fn copy_columns(alloc: Global, columns: Option<&Columns>) -> Result<Option<Columns>, AllocError>
     ensures { IfOk result (λ copy. copy ≡ option_map (λ c. c.now) columns.entry) }
@@ -72,7 +76,7 @@ fn take_chunk<T: TakeItems>(
 }
 
 /// Hands on the items of a piece that a reader has left, chunk by chunk, in a window that holds
-/// nothing yet.
+/// nothing yet. A piece in which no record ends at a line feed for [`MOST_HELD`] bytes is refused.
 fn feed_window<R: Read, T: TakeItems>(
     alloc: Global,
     layout: &Layout,
@@ -91,6 +95,9 @@ fn feed_window<R: Read, T: TakeItems>(
     ensures bounded { OnOk result (T.weight_taken taker.new ≤ max_total) }
 {
     for _ in 0..u64::MAX {
+        if window.len() >= MOST_HELD {
+            return Err(PieceFault::Refused);
+        }
         window.make_room(most)?;
         let Ok(count) = window.read_more(piece) else {
             return Err(PieceFault::Refused);
@@ -105,7 +112,8 @@ fn feed_window<R: Read, T: TakeItems>(
 }
 
 /// Hands on the items of a piece that a reader has left, which has about so many bytes. Each of
-/// them is read once, into a buffer that gets longer only where a record is longer than it.
+/// them is read once, into a buffer that gets longer only where a record is longer than it, up to
+/// [`MOST_HELD`] bytes.
 pub(crate) fn feed_left<R: Read, T: TakeItems>(
     alloc: Global,
     layout: &Layout,

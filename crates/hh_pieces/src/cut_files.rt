@@ -8,7 +8,7 @@ ghost use Rattle.hh_stream.specs.Taking.{Takes};
 ghost use Rattle.hh_records.specs.Layouts.{every};
 ghost use Rattle.hh_pieces.specs.Pieces.{begins_with_feed};
 
-use crate::chunks::feed_left;
+use crate::chunks::{MOST_HELD, feed_left};
 use crate::cut_texts::LEAST_LEN;
 use crate::kept::{READ_LEN, zeros};
 use crate::laws::{feeds_outside_quotes_are_cuts, pieces_are_read};
@@ -64,14 +64,17 @@ impl<'t, S: ReadAt> Model for CutFiles<'t, S> {
     } };
 }
 
-/// A place of a line feed, from a place on. Where a read fails, none is known.
+// How often a line feed is looked for behind a place. A piece that has none for so long is refused.
+const MOST_READS: usize = MOST_HELD / READ_LEN;
+
+/// A place of a line feed, from a place on and not far behind it. Where a read fails, none is known.
 fn find_feed<S: ReadAt>(source: &S, buffer: &mut [u8], from: u64) -> Option<u64>
     ensures behind { IfSome result (λ at. from ≤ at) }
     ensures feed { IfSome result (λ at. IfSome (S.bytes source.now) (λ bytes.
         begins_with_feed (drop at bytes) ≡ true)) }
 {
     let mut at = from;
-    for _ in 0..u64::MAX {
+    for _ in 0..MOST_READS {
         let Ok(count) = source.read_at(buffer, at) else {
             return None;
         };

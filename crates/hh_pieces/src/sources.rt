@@ -11,7 +11,7 @@ use crate::kept::{KeptText, Rest};
 use crate::read_at::{FromPlace, ReadAt, Source, read_between};
 use hh_faults::TextError;
 use hh_records::{Layout, ReadRecords, read_texts};
-use hh_stream::TakeItems;
+use hh_stream::{KeyHash, TakeItems};
 use std::alloc::Global;
 use std::io::{Read, Take};
 
@@ -147,6 +147,10 @@ pub fn are_as_long<S: ReadAt>(
 
 impl<'s, S: ReadAt> ReadRecords for SourceRecords<'s, S> {
     ghost known = { λ records. texts_known S.bytes records.layout.now records.sources.now };
+
+    fn hash(&self) -> KeyHash {
+        self.layout.hash
+    }
 
     // A file that ends before it said so, or has more than it said, fails: it can't be read.
     fn read_into<T: TakeItems>(self, alloc: Global, taker: T) -> Result<T, TextError> {

@@ -34,6 +34,13 @@ impl Window {
         &self.bytes[..self.held]
     }
 
+    // How many bytes it holds.
+    pub(crate) fn len(&self) -> usize
+        ensures { result ≡ length (held_in self.now) }
+    {
+        self.held
+    }
+
     // Gets room for one byte more: a full buffer gets twice as long, or this long where that is
     // less and is enough.
     pub(crate) fn make_room(&mut self, most: usize) -> Result<(), AllocError>

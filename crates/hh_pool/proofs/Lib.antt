@@ -9,3 +9,4 @@ pub mod Held
 pub mod Merged
 pub mod Ordered
 pub mod TreeLaws
+pub mod TallyFacts

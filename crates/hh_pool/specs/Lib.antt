@@ -5,3 +5,4 @@ pub mod Progress
 pub mod Tabulated
 pub mod Outcomes
 pub mod Laws
+pub mod Tallied

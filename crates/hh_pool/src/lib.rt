@@ -12,6 +12,7 @@ mod options;
 mod outcome;
 mod second;
 mod tabulate;
+mod tallying;
 
 pub use analysis::{analyse, analyse_pieces};
 pub use first::first_pass;
@@ -22,3 +23,4 @@ pub use one_pass::{count_pieces, tabulate_pieces};
 pub use options::{Options, OptionsFault};
 pub use outcome::{Outcome, PiecesError, RunError};
 pub use second::second_pass;
+pub use tallying::report_pieces;

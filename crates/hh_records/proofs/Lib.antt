@@ -1,3 +1,4 @@
+mod BufferFacts
 pub mod ByteFacts
 pub mod DecimalFacts
 pub mod HeaderFacts

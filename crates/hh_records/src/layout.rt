@@ -6,6 +6,7 @@ ghost use Rattle.hh_records.specs.Layouts.{ChoiceRefused, IsPlain, NamesColumn, 
 
 use crate::records::number_in;
 use csv::ByteRecord;
+use hh_stream::KeyHash;
 use std::alloc::{AllocError, Global};
 
 /// A column of records.
@@ -35,10 +36,14 @@ pub struct Layout {
     /// A weight may have a point and up to so many digits behind it. It counts in units of the last
     /// of them: with 3 the weight `0.125` is 125, and 1 is 1,000.
     pub decimals: u8,
+    /// How the keys are hashed where they are looked up. No answer depends on it: it decides how
+    /// fast keys are found that others chose.
+    pub hash: KeyHash,
 }
 
 impl Layout {
-    /// A key and, after a comma, its weight, as [`read_stream`](crate::read_stream) reads them.
+    /// A key and, after a comma, its weight, as [`read_stream`](crate::read_stream) reads them. Keys
+    /// are hashed by the words that all runs have.
     pub fn plain(alloc: Global) -> Layout
         ensures { IsPlain result }
     {
@@ -49,6 +54,7 @@ impl Layout {
             weight: None,
             allow_zero: false,
             decimals: 0,
+            hash: KeyHash::fixed(),
         }
     }
 }

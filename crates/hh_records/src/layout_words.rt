@@ -5,6 +5,7 @@ ghost use Rattle.hh_records.specs.LayoutWords.{LayoutRefused, NamesKey, NamesNot
 
 use crate::layout::{Column, Layout, column_of, delimiter_of};
 use hh_faults::ToolError;
+use hh_stream::KeyHash;
 use std::alloc::{AllocError, Global};
 
 /// What is said of the columns of records, in words.
@@ -48,7 +49,8 @@ fn key_of(
 }
 
 /// The layout that words say. The delimiter is tested first, then the key's columns, then the
-/// weight's ([`ToolError::BadDelimiter`], [`ToolError::BadColumn`]).
+/// weight's ([`ToolError::BadDelimiter`], [`ToolError::BadColumn`]). Keys are hashed by the words
+/// that all runs have.
 pub fn layout_of(alloc: Global, words: &LayoutWords) -> Result<Layout, ToolError>
     ensures layout { IfOk result (SaysLayout words.now) }
     ensures refused { IfErr result (LayoutRefused words.now) }
@@ -77,5 +79,6 @@ pub fn layout_of(alloc: Global, words: &LayoutWords) -> Result<Layout, ToolError
         weight,
         allow_zero: words.allow_zero,
         decimals: words.decimals,
+        hash: KeyHash::fixed(),
     })
 }

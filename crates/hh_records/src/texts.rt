@@ -1,6 +1,7 @@
 //! Texts of records in columns of one's own.
 
-ghost use Rattle.std.specs.Prelude.{◌≡◌, ◌≤◌, ◌∷◌, true, Ok, All, IfOk, IfErr, IfSome, OnOk, option_map};
+ghost use Rattle.std.specs.Prelude.{◌≡◌, ◌*◌, ◌<◌, ◌≤◌, ◌∷◌, true, Ok, All, IfOk, IfErr, IfSome, OnOk, option_map};
+ghost use Rattle.std.specs.Io.Buffered.{reader_capacity};
 ghost use Rattle.csv.specs.Reading.{records, strip_bom};
 ghost use Rattle.hh_stream.specs.Weights.{max_total};
 ghost use Rattle.hh_records.specs.Layouts.{AllOpen, IsStart, IsText, OpenRefused, Opens, OpensAs};
@@ -19,9 +20,9 @@ use crate::records::{fault_of, read_rows};
 use crate::retrying::Retrying;
 use csv::{ByteRecord, Reader, ReaderBuilder};
 use hh_faults::{ReadError, TextError};
-use hh_stream::TakeItems;
+use hh_stream::{KeyHash, TakeItems};
 use std::alloc::Global;
-use std::io::Read;
+use std::io::{BufReader, Read};
 
 impl From<ChoiceFault> for TextError {
     ghost from_gives = { λ fault error. error ≡ choice_fault fault };
@@ -226,6 +227,9 @@ pub trait ReadRecords: Drop {
     // what is known of them
     ghost known: { Self → Known };
 
+    /// How their keys are hashed where they are looked up. No answer depends on it.
+    fn hash(&self) -> KeyHash;
+
     /// Hands the item of each record to a taker of none, in order, and returns the taker.
     fn read_into<T: TakeItems>(self, alloc: Global, taker: T) -> Result<T, TextError>
         requires none { T.weight_taken taker ≡ 0 }
@@ -236,13 +240,72 @@ pub trait ReadRecords: Drop {
 impl<R: Read + Drop> ReadRecords for Records<R> {
     ghost known = { records_known R.remaining };
 
+    fn hash(&self) -> KeyHash {
+        self.layout.hash
+    }
+
     fn read_into<T: TakeItems>(self, alloc: Global, taker: T) -> Result<T, TextError> {
         read_records(alloc, self, taker)
     }
 }
 
-/// Hands the item of each record of some texts to a taker of none, in order, and returns the taker.
-pub fn read_texts<R: Read + Drop, T: TakeItems>(
+// The most bytes that are read at once, and those of the buffers of all texts.
+const READ_LEN: usize = 65_536;
+
+const MOST_BUFFERED: usize = 1_048_576;
+
+/// How many bytes of each of so many texts are read at once.
+fn read_len(texts: usize) -> usize
+    ensures some { 0 < result }
+    ensures whole { texts ≤ 16 → result ≡ 65536 }
+    ensures bounded { texts ≤ 1048576 → texts * result ≤ 1048576 }
+{
+    (MOST_BUFFERED / texts.max(1)).min(READ_LEN).max(1)
+}
+
+/// What reads from a reader so many bytes at once.
+fn through_buffer<R: Read + Drop>(
+    alloc: Global,
+    reader: R,
+    len: usize,
+) -> Result<BufReader<R>, TextError>
+    requires some { 0 < len }
+    ensures same { IfOk result (λ buffered.
+        ⟦<BufReader<R> as Read>⟧.remaining buffered ≡ R.remaining reader) }
+    ensures room { IfOk result (λ buffered. reader_capacity buffered ≡ len) }
+    ensures refused { IfErr result (λ error. error ≡ TextError.Memory) }
+{
+    match BufReader::with_capacity(alloc, len, reader) {
+        Ok(buffered) => Ok(buffered),
+        Err(_) => Err(TextError::Memory),
+    }
+}
+
+/// The same of each of some readers.
+fn through_buffers<R: Read + Drop>(
+    alloc: Global,
+    readers: Vec<R>,
+    len: usize,
+) -> Result<Vec<BufReader<R>>, TextError>
+    requires some { 0 < len }
+    ensures same { IfOk result (λ buffered.
+        every ⟦<BufReader<R> as Read>⟧.remaining buffered.items
+        ≡ every R.remaining readers.items) }
+    ensures refused { IfErr result (λ error. error ≡ TextError.Memory) }
+{
+    let mut all = Vec::new(alloc);
+    for reader in readers {
+        let buffered = through_buffer(alloc, reader, len)?;
+        match all.push(buffered) {
+            Ok(()) => {}
+            Err(_) => return Err(TextError::Memory),
+        }
+    }
+    Ok(all)
+}
+
+/// Hands the item of each record of readers to a taker of none, in order, and returns the taker.
+fn read_each<R: Read + Drop, T: TakeItems>(
     alloc: Global,
     layout: &Layout,
     first: R,
@@ -261,6 +324,27 @@ pub fn read_texts<R: Read + Drop, T: TakeItems>(
         Ok(()) => Ok(taker),
         Err(error) => Err(TextError::from(error)),
     }
+}
+
+/// Hands the item of each record of some texts to a taker of none, in order, and returns the taker.
+/// A reader is asked for 64 KiB at once, or less where there are many.
+pub fn read_texts<R: Read + Drop, T: TakeItems>(
+    alloc: Global,
+    layout: &Layout,
+    first: R,
+    others: Vec<R>,
+    taker: T,
+) -> Result<T, TextError>
+    requires none { T.weight_taken taker ≡ 0 }
+    ensures items { IfOk result (λ taken. TakesItems T.with_item
+        (texts_known R.remaining layout.now (first ∷ others.items)) taker taken) }
+    ensures refused { IfErr result (λ error.
+        TextsRefused (texts_known R.remaining layout.now (first ∷ others.items)) error) }
+{
+    let len = read_len(others.len().saturating_add(1));
+    let first = through_buffer(alloc, first, len)?;
+    let others = through_buffers(alloc, others, len)?;
+    read_each(alloc, layout, first, others, taker)
 }
 
 /// Hands the item of each record to a taker of none, in order, and returns the taker. A layout says

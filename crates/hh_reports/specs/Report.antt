@@ -1,5 +1,5 @@
 -- What a report leaves in a sink, and what its refusals tell.
-use Rattle.std.specs.Prelude.{◌≡◌, ◌≤◌, ◌-◌, not, ℕ, List, [], map, Bool, true, false, length, Option, Some, None, is_none, Result, Ok, Err, ⊤, if◌then◌else◌}
+use Rattle.std.specs.Prelude.{◌≡◌, ◌<◌, ◌≤◌, ◌-◌, not, ℕ, List, [], map, Bool, true, false, length, Option, Some, None, is_none, Result, Ok, Err, ⊤, if◌then◌else◌}
 use Rattle.std.specs.Io.KnownBytes.{Appends, Keeps}
 use Rattle.hh_stream.specs.Cuttings.{max_pieces, whole_of}
 use Rattle.hh_stream.specs.Weights.{Entry, max_total, total_of}
@@ -116,15 +116,15 @@ abbrev pub AreKeysOf : Known → ℕ → ℕ → ℕ → List Entry → Type 0
 AreKeysOf known p q total keys =
     (xs : List Entry) × ReadsAs known (Ok xs) × (total ≡ total_of xs) × (keys ≡ heavy xs p q)
 
--- the options pass all tests, and by these a report is made: a plan of their tree over their pieces, and
--- the settings for their threshold
+-- the options pass all tests, and by these a report is made: how many pieces workers read, and the
+-- settings for their threshold
 pub record IsPrepared (o : ReportOptions) (prepared : Prepared) : Type 0 where
   pub options : AreOptions o
   pub threshold : threshold_of o.k o.threshold ≡ Some (prepared.p, prepared.q)
   pub share : IsShare prepared.p prepared.q
   pub settings : prepared.settings ≡ settings_of o prepared.p prepared.q
-  pub few : in_range prepared.pieces max_pieces ≡ true
-  pub plan : length (leaves prepared.plan) ≡ prepared.pieces
+  pub some : 0 < prepared.pieces
+  pub few : prepared.pieces ≤ max_pieces
 
 -- what a refusal to write the rows of some keys tells, and what it leaves in the sink
 abbrev pub KeysNotWritten : List ℕ → Option (List ℕ) → Option (List ℕ) → ToolError → Type 0

@@ -4,4 +4,4 @@
 mod report;
 mod text_pieces;
 
-pub use report::{Prepared, piece_count, prepare, report_rows, run_report, write_keys};
+pub use report::{Prepared, ReportedBy, piece_count, prepare, report_rows, run_report, write_keys};

@@ -25,19 +25,15 @@ use hh_countmin::{Family, MAX_DEPTH, MAX_WIDTH};
 use hh_faults::{ToolError, TreeFault};
 use hh_pieces::{CutTexts, KeptText, keep_records, read_again, whole_texts};
 use hh_pool::{
-    MAX_WORKERS, OpenGate, Options, PiecesError, Plan, PlanFault, RunError, analyse, analyse_pieces,
+    MAX_WORKERS, OpenGate, Options, PieceFault, Plan, PlanFault, RunError, analyse, report_pieces,
 };
 use hh_records::{Records, read_records};
 use hh_rows::{ReportFault, ReportOptions, RowOptions, Sink, Tree, threshold_of, write_printed};
-use hh_stream::{Cutting, MAX_PIECES, Stream, in_range};
+use hh_stream::{Cutting, KeyHash, MAX_PIECES, Stream, in_range};
 use std::alloc::{AllocError, Global};
 use std::io::Read;
 use std::sync::Wait;
 use std::thread::Threads;
-
-// How many counters the summaries of all pieces may have, where workers read more pieces than the
-// options say.
-const SPREAD_COUNTERS: u64 = 65_536;
 
 /// Tests the options, but for the tree, and gives the p and q of the threshold.
 fn check_options(options: &ReportOptions) -> Result<(u64, u64), ToolError>
@@ -116,20 +112,17 @@ fn settings_of(
     Ok(Options::within(options.k, p, q, options.workers, options.width, family))
 }
 
-/// The heavy keys of a stream that is cut evenly.
+/// The heavy keys of a stream that is cut evenly, into as many pieces as the plan has.
 fn heavy_keys<T: Threads + Wait + Sync>(
     rt: &T,
     alloc: Global,
     stream: &Stream,
-    pieces: usize,
     plan: &Plan,
     settings: &Options,
 ) -> Result<Vec<Heavy>, AllocError>
-    requires pieces { in_range pieces max_pieces ≡ true }
-    requires plan { length (leaves plan.now) ≡ pieces }
     ensures { IfOk result (λ rows. rows.items ≡ heavy stream.now settings.now.p settings.now.q) }
 {
-    let cutting = Cutting::of_pieces(alloc, stream.len(), pieces)?;
+    let cutting = Cutting::of_pieces(alloc, stream.len(), plan.count())?;
     match analyse(rt, alloc, stream, &cutting, plan, settings, &OpenGate) {
         Ok(outcome) => Ok(outcome.heavy),
         Err(RunError::PlanMismatch) => unreachable!(),
@@ -137,35 +130,39 @@ fn heavy_keys<T: Threads + Wait + Sync>(
     }
 }
 
-/// The total of texts in pieces and the heavy keys of their items, where the plan is of as many and
-/// each piece can be read by itself.
+/// The total of texts in pieces and the heavy keys of their items, where each piece can be read by
+/// itself.
 fn keys_of_pieces<T: Threads + Wait + Sync>(
     rt: &T,
     alloc: Global,
     texts: CutTexts<'_>,
-    plan: &Plan,
     settings: &Options,
+    hash: KeyHash,
 ) -> Result<Option<(u64, Vec<Heavy>)>, AllocError>
+    requires some { 0 < length texts }
+    requires few { length texts ≤ max_pieces }
     ensures { IfOk result (λ keys. IfSome keys (λ keys.
         AreKeysOfPieces texts.entry settings.now.p settings.now.q keys.0 keys.1.items)) }
 {
     let pieces = TextPieces { texts };
-    match analyse_pieces(rt, alloc, &pieces, plan, settings, &OpenGate) {
-        Ok(outcome) => Ok(Some((outcome.summary.total(), outcome.heavy))),
-        Err(PiecesError::Refused | PiecesError::PlanMismatch) => Ok(None),
-        Err(PiecesError::Memory) => Err(AllocError),
+    match report_pieces(rt, alloc, &pieces, settings, hash) {
+        Ok(keys) => Ok(Some(keys)),
+        Err(PieceFault::Refused) => Ok(None),
+        Err(PieceFault::Memory) => Err(AllocError),
     }
 }
 
-/// The total of kept records and their heavy keys, where the texts can be read in pieces.
+/// The total of kept records and their heavy keys, where the texts can be read in so many pieces.
 fn keys_of_kept<T: Threads + Wait + Sync, R: Read + Drop>(
     rt: &T,
     alloc: Global,
     kept: &Records<KeptText<R>>,
     pieces: usize,
-    plan: &Plan,
     settings: &Options,
+    hash: KeyHash,
 ) -> Result<Option<(u64, Vec<Heavy>)>, AllocError>
+    requires some { 0 < pieces }
+    requires few { pieces ≤ max_pieces }
     ensures { IfOk result (λ keys. IfSome keys (λ keys.
         AreKeysOf (records_known (kept_left R.remaining) kept.now) settings.now.p settings.now.q
         keys.0 keys.1.items)) }
@@ -176,7 +173,7 @@ fn keys_of_kept<T: Threads + Wait + Sync, R: Read + Drop>(
     let Some(cut) = CutTexts::new(alloc, &kept.layout, &texts, pieces)? else {
         return Ok(None);
     };
-    keys_of_pieces(rt, alloc, cut, plan, settings)
+    keys_of_pieces(rt, alloc, cut, settings, hash)
 }
 
 /// The stream that records are.
@@ -188,48 +185,42 @@ fn stream_of<R: Read + Drop>(alloc: Global, records: Records<R>) -> Result<Strea
     Ok(read_records(alloc, records, Stream::new(alloc))?)
 }
 
-/// The total of records and their heavy keys, by the stream that they are.
+/// The total of records and their heavy keys, by the stream that they are, which is kept.
 fn keys_of_stream<T: Threads + Wait + Sync, R: Read + Drop>(
     rt: &T,
     alloc: Global,
     records: Records<R>,
-    pieces: usize,
     plan: &Plan,
     settings: &Options,
 ) -> Result<(u64, Vec<Heavy>), ToolError>
-    requires pieces { in_range pieces max_pieces ≡ true }
-    requires plan { length (leaves plan.now) ≡ pieces }
     ensures keys { IfOk result (λ keys. AreKeysOf (records_known R.remaining records)
         settings.now.p settings.now.q keys.0 keys.1.items) }
     ensures refused { IfErr result (RecordsRefused (records_known R.remaining records)) }
 {
     let stream = stream_of(alloc, records)?;
-    let keys = heavy_keys(rt, alloc, &stream, pieces, plan, settings)?;
+    let keys = heavy_keys(rt, alloc, &stream, plan, settings)?;
     Ok((stream.total(), keys))
 }
 
-/// The same of records that were kept as text, from their start.
+/// [`keys_of_stream`] of records that were kept as text, from their start.
 fn keys_read_again<T: Threads + Wait + Sync, R: Read + Drop>(
     rt: &T,
     alloc: Global,
     kept: Records<KeptText<R>>,
-    pieces: usize,
     plan: &Plan,
     settings: &Options,
 ) -> Result<(u64, Vec<Heavy>), ToolError>
-    requires pieces { in_range pieces max_pieces ≡ true }
-    requires plan { length (leaves plan.now) ≡ pieces }
     ensures keys { IfOk result (λ keys. AreKeysOf (records_known (kept_left R.remaining) kept)
         settings.now.p settings.now.q keys.0 keys.1.items) }
     ensures refused { IfErr result
         (RecordsRefused (records_known (kept_left R.remaining) kept)) }
 {
     let again = read_again(alloc, kept)?;
-    keys_of_stream(rt, alloc, again, pieces, plan, settings)
+    keys_of_stream(rt, alloc, again, plan, settings)
 }
 
 /// The total of records and their heavy keys. What is read is kept as text, which workers read in
-/// pieces. Where a piece can't be read by itself, one thread reads the text.
+/// so many pieces. Where a piece can't be read by itself, one thread reads the text.
 fn keys_of_records<T: Threads + Wait + Sync, R: Read + Drop>(
     rt: &T,
     alloc: Global,
@@ -237,17 +228,18 @@ fn keys_of_records<T: Threads + Wait + Sync, R: Read + Drop>(
     pieces: usize,
     plan: &Plan,
     settings: &Options,
+    hash: KeyHash,
 ) -> Result<(u64, Vec<Heavy>), ToolError>
-    requires pieces { in_range pieces max_pieces ≡ true }
-    requires plan { length (leaves plan.now) ≡ pieces }
+    requires some { 0 < pieces }
+    requires few { pieces ≤ max_pieces }
     ensures keys { IfOk result (λ keys. AreKeysOf (records_known R.remaining records)
         settings.now.p settings.now.q keys.0 keys.1.items) }
     ensures refused { IfErr result (RecordsRefused (records_known R.remaining records)) }
 {
     let kept = keep_records(alloc, records)?;
-    match keys_of_kept(rt, alloc, &kept, pieces, plan, settings)? {
+    match keys_of_kept(rt, alloc, &kept, pieces, settings, hash)? {
         Some(keys) => Ok(keys),
-        None => keys_read_again(rt, alloc, kept, pieces, plan, settings),
+        None => keys_read_again(rt, alloc, kept, plan, settings),
     }
 }
 
@@ -262,40 +254,17 @@ pub fn piece_count(workers: u64, texts: usize) -> usize
     4 * workers as usize + texts.min(most)
 }
 
-/// How many pieces so many texts are read in: as many as the options say or, where that is more and
-/// their summaries are small, as many as one pass has. A tree that is spelled has its own.
-fn pieces_to_read(options: &ReportOptions, texts: usize) -> usize
-    requires { bad_option options.now ≡ None }
-    ensures { in_range result max_pieces ≡ true }
-{
-    let asked = options.pieces as usize;
-    if let Tree::Text(_) = options.tree {
-        return asked;
-    }
-    let small = (SPREAD_COUNTERS / options.k) as usize;
-    piece_count(options.workers, texts).min(small).max(asked)
+/// How a report is made. The rows are the same.
+#[derive(Clone, Copy)]
+pub enum ReportedBy {
+    /// By the plan that the options name: the items are kept, cut evenly, summarised and merged,
+    /// and a table is filled.
+    Plan,
+    /// By tallies of the workers, whose maps take this hasher. The text is kept, and no item.
+    Tally(KeyHash),
 }
 
-/// The pieces that so many texts are read in, and their plan: that at hand where they are as many.
-fn plan_to_read(
-    alloc: Global,
-    options: &ReportOptions,
-    plan: Plan,
-    texts: usize,
-) -> Result<(usize, Plan), AllocError>
-    requires options { bad_option options.now ≡ None }
-    requires plan { length (leaves plan) ≡ options.now.pieces }
-    ensures few { IfOk result (λ r. in_range r.0 max_pieces ≡ true) }
-    ensures plan { IfOk result (λ r. length (leaves r.1) ≡ r.0) }
-{
-    let pieces = pieces_to_read(options, texts);
-    if pieces == options.pieces as usize {
-        return Ok((pieces, plan));
-    }
-    Ok((pieces, Plan::balanced(alloc, pieces)?))
-}
-
-/// What a report is made by: a plan of so many pieces, and the settings of the analysis.
+/// What a report is made by: how many pieces workers read texts in, the plan, and the settings.
 #[derive(Drop)]
 pub struct Prepared {
     pub pieces: usize,
@@ -319,7 +288,7 @@ pub fn prepare(alloc: Global, options: &ReportOptions, texts: usize) -> Result<P
         Err(NoPlan::Bad(fault)) => return Err(ToolError::BadTree(fault)),
         Err(NoPlan::Memory) => return Err(ToolError::Memory),
     };
-    let (pieces, plan) = plan_to_read(alloc, options, plan, texts)?;
+    let pieces = piece_count(options.workers, texts);
     let settings = settings_of(alloc, options, p, q)?;
     Ok(Prepared {
         pieces,
@@ -330,12 +299,14 @@ pub fn prepare(alloc: Global, options: &ReportOptions, texts: usize) -> Result<P
     })
 }
 
-/// The total of some records, and the keys that a report of them has.
+/// The total of some records, and the keys that a report of them has: by their stream and the plan
+/// where that is asked for, and else by their text.
 fn reported<T: Threads + Wait + Sync, R: Read + Drop>(
     rt: &T,
     alloc: Global,
     options: &ReportOptions,
     records: Records<R>,
+    by: ReportedBy,
 ) -> Result<(u64, Vec<Heavy>), ToolError>
     ensures keys { IfOk result (λ keys. (xs : List Entry) × AreOptions options.now
         × ReportsKeys options.now (records_known R.remaining records) xs keys.1.items
@@ -353,7 +324,12 @@ fn reported<T: Threads + Wait + Sync, R: Read + Drop>(
                 settings,
                 ..
             },
-        ) => keys_of_records(rt, alloc, records, pieces, &plan, &settings),
+        ) => match by {
+            ReportedBy::Plan => keys_of_stream(rt, alloc, records, &plan, &settings),
+            ReportedBy::Tally(hash) => {
+                keys_of_records(rt, alloc, records, pieces, &plan, &settings, hash)
+            }
+        },
         Err(fault) => Err(fault),
     }
 }
@@ -383,9 +359,9 @@ pub fn write_keys<S: Sink>(
 
 /// Reads records as [`read_stream`](crate::read_stream) does, and writes the report of their
 /// stream: exactly the keys whose weight is more than the threshold's share of the total, with
-/// their true weights, by falling weight and then by rising key. The text is kept and cut into
-/// pieces, which workers read in threads of their own; the report is the same for all other
-/// options. Where a piece can't be read by itself, the text is read once more by one thread.
+/// their true weights, by falling weight and then by rising key. The stream is kept and cut evenly
+/// into pieces, which workers summarise in threads of their own; the summaries are merged by the
+/// tree. The report is the same for all other options.
 ///
 /// The options are tested before anything is read, in the order depth, k, workers, width,
 /// threshold, pieces and tree. A refusal other than [`ToolError::WriteFault`] has written nothing.
@@ -414,18 +390,21 @@ pub fn run_report<T: Threads + Wait + Sync, R: Read + Drop, S: Sink>(
         options,
         &rows,
         Records::of_reader(alloc, reader),
+        ReportedBy::Plan,
         sink,
     )
 }
 
-/// [`run_report`] of records in texts and columns of one's own, with rows as `rows` wants them.
-/// Shares are of the total of all records.
+/// [`run_report`] of records in texts and columns of one's own, made as `by` says, with rows as
+/// `rows` wants them. Shares are of the total of all records. Where a piece of the text can't be
+/// read by itself, one thread reads the text once more.
 pub fn report_rows<T: Threads + Wait + Sync, R: Read + Drop, S: Sink>(
     rt: &T,
     alloc: Global,
     options: &ReportOptions,
     rows: &RowOptions,
     records: Records<R>,
+    by: ReportedBy,
     sink: &mut S,
 ) -> Result<(), ToolError>
     requires { S.has_failed sink.old ≡ false }
@@ -439,6 +418,6 @@ pub fn report_rows<T: Threads + Wait + Sync, R: Read + Drop, S: Sink>(
     ensures flushed { OnOk result (S.is_flushed sink.new ≡ true) }
     ensures failed { S.has_failed sink.new ≡ failed_by result }
 {
-    let (total, keys) = reported(rt, alloc, options, records)?;
+    let (total, keys) = reported(rt, alloc, options, records, by)?;
     write_keys(alloc, sink, rows, total, &keys)
 }

@@ -1,15 +1,19 @@
 //! Keys, weighted items, and streams of them.
 #![tactic(auto)]
 
+mod borrowed_key;
 mod cutting;
 mod key;
+mod key_hash;
 pub mod laws;
 mod ranges;
 mod stream;
 mod taking;
 
+pub use borrowed_key::BorrowedKey;
 pub use cutting::{Cutting, CuttingFault, MAX_PIECES};
 pub use key::{INLINE_LEN, Key, KeyFault, MAX_KEY_LEN};
+pub use key_hash::{KeyHash, KeyHasher};
 pub use ranges::in_range;
 pub use stream::{Item, MAX_TOTAL, PushFault, PushRefused, Stream};
 pub use taking::{PieceFault, TakeItems};

@@ -1,17 +1,22 @@
 -- The level, and what a cut takes.
-use Rattle.std.proofs.Common.{◌≡◌, ℕ, suc, ◌+◌, ◌-◌, ◌*◌, ◌<◌, ◌≤◌, ◌⊎◌, inl, inr, ⊎_elim, Bool, true, false, cond, min, max, List, [], ◌∷◌, ◌++◌, length, get_or, map, Less, refl, sym, ap, ◌∙◌, subst, mul-one, mul-zero, mul-add, arith, filter, fold, count_by, nat_lt, nat_le, IsPermutation}
-use Rattle.std.specs.List.{AllByRecursion}
+use Rattle.std.proofs.Common.{◌≡◌, ℕ, suc, Option, Some, None, ◌+◌, ◌-◌, ◌*◌, ◌<◌, ◌≤◌, ◌⊎◌, inl, inr, ⊎_elim, Bool, true, false, cond, min, max, List, [], ◌∷◌, ◌++◌, length, get_or, map, Less, refl, sym, ap, ◌∙◌, subst, mul-one, mul-zero, mul-add, arith, filter, fold, count_by, nat_lt, nat_le, IsPermutation}
+use Rattle.std.specs.Prelude.{unwrap_or}
+use Rattle.std.specs.List.{AllByRecursion, IsDistinct}
 use Rattle.std.specs.List.Sorted.{IsStrictlySortedBy, IsSplitAround}
 use Rattle.std.specs.Ordering.{nat_cmp}
-use Rattle.std.specs.Map.{keys_of, values_of}
+use Rattle.std.specs.Map.{keys_of, lookup, values_of}
+use Rattle.std.specs.Option.{option_map}
+use Rattle.std.specs.Cmp.{eq_by_cmp_equiv}
 use Rattle.std.proofs.lemmas.List.Sums.{sum_by-cons, sum_by-append, count_by-le-length}
 use Rattle.std.proofs.lemmas.List.Sorted.{sum_by-IsPermutation}
 use Rattle.std.proofs.lemmas.Map.Keys.{ge_from_not_lt}
+use Rattle.std.proofs.lemmas.Map.Made.{IsDistinct-keys_filter, keys_of-map_values, lookup-map_values}
+use Rattle.std.proofs.lemmas.Map.Entries.{lookup-filter-values, option_filter}
 use Rattle.std.proofs.lemmas.Bool.{cases_lt, cond_both}
 use Rattle.std.proofs.lemmas.Bool.Decides.{nat_tests}
 use Rattle.hh_stream.specs.Weights.{Bytes, Entry, key_cmp, same_key, weight_of, total_of}
 use Rattle.hh_summaries.specs.Counters.{Counters, IsCounters, exceeds, over, IsLevel, less_by, least_passing, level, lower, least_counter}
-use Rattle.hh_summaries.proofs.Weights.{weight_of-cons, total_of-cons, weight_above, same_exact}
+use Rattle.hh_summaries.proofs.Weights.{Distinct, key_total, weight_of-cons, total_of-cons, weight_of-lookup, weight_above, same_exact}
 
 -- how many counters exceed a number, with one more
 pub over-cons : (e : Entry) (c : Counters) (t : ℕ) → over (e ∷ c) t ≡ cond (nat_lt t e.1) 1 0 + over c t
@@ -263,3 +268,27 @@ level_one_more c k h =
     let above = level_above c k (least_counter c) (least_counter-all c) (omega arith) in
     let below = (is_level c k).least (least_counter c) (omega (arith, over_least c (omega arith), h)) in
     omega (arith, above, below)
+
+-- ---- of distinct keys in any order
+-- lowered keys stay apart
+pub distinct-lower : (t : ℕ) (es : List Entry) → Distinct es → Distinct (lower t es)
+unfolding lower
+distinct-lower t es h =
+    subst (IsDistinct same_key) (sym (keys_of-map_values (λ n. n - t) (filter (exceeds t) es)))
+    (IsDistinct-keys_filter same_key (exceeds t) es h)
+
+-- each key's number less t, in whatever order the keys are
+pub weight_of-lower-distinct : (t : ℕ) (q : Bytes) (es : List Entry) → Distinct es
+    → weight_of q (lower t es) ≡ weight_of q es - t
+unfolding lower
+weight_of-lower-distinct t q es h =
+    let kept = lookup-filter-values (eq_by_cmp_equiv key_total) (nat_lt t) q es h in
+    let found =
+    lookup-map_values (λ n. n - t) (same_key q) (filter (exceeds t) es) ∙ ap (option_map (λ n. n - t)) kept in
+    weight_of-lookup q (lower t es) (distinct-lower t es h) ∙ ap (λ o. unwrap_or o 0) found
+    ∙ less (lookup (same_key q) es) ∙ ap (λ n. n - t) (sym (weight_of-lookup q es h))
+  where
+    less : (o : Option ℕ) → unwrap_or (option_map (λ n. n - t) (option_filter (nat_lt t) o)) 0 ≡ unwrap_or o 0 - t
+    less None = omega arith
+    less (Some n) = cond_both (nat_lt t n) (Some n) None (λ o. unwrap_or (option_map (λ n. n - t) o) 0 ≡ n - t)
+        (λ _. refl) (λ p. grind (arith, nat_tests, p))

@@ -25,7 +25,7 @@ weight_of-join x c d k =
     omega (arith, weight_of-lower (level (plus c d) k) x (plus c d) (rising-tally (c ++ d)), weight_of-plus x c d)
 
 -- the level is taken from at least k + 1 counters
-total_of-cut : (c : Counters) (k t : ℕ) → IsLevel c k t → total_of (lower t c) + (k + 1) * t ≤ total_of c
+pub total_of-cut : (c : Counters) (k t : ℕ) → IsLevel c k t → total_of (lower t c) + (k + 1) * t ≤ total_of c
 total_of-cut c k zero h = omega (arith, mul-zero (k + 1), total_of-lower-le 0 c)
 total_of-cut c k (suc u) h =
     rw (sym (add-one u)) (let many : k + 1 ≤ over c u = grind (arith, h.least u) in
@@ -208,7 +208,7 @@ pub honest_same : (c : Counters) (m : ℕ) (xs ys : List Entry) (k : ℕ) → Is
 honest_same c m xs ys k p = honest_by_weights c m xs ys k (λ x. sym (sum_by-IsPermutation (at_key x) xs ys p))
 
 -- ---- an item for which there is room
-lower_none : (c : Counters) → IsCounters c → lower 0 c ≡ c
+pub lower_none : (c : Counters) → IsCounters c → lower 0 c ≡ c
 lower_none c h = same_counters _ _ (counters-lower 0 c h.rising) h
     (λ x. omega (arith, weight_of-lower 0 x c h.rising))
 

@@ -3,10 +3,10 @@
 ghost use Rattle.std.specs.Prelude.{◌≡◌, ◌+◌, ◌<◌, ◌≤◌, ◌^◌, ◌↔◌, [], ◌∷◌, ◌++◌, OnOk, OnErr, IsOk, IsTrue, IfOk, IfErr, length, HoldsAt};
 ghost use Rattle.std.specs.List.{AllWithin, insert};
 ghost use Rattle.std.specs.List.Sorted.{IsStrictlySortedBy};
-ghost use Rattle.std.specs.Map.{keys_of};
+ghost use Rattle.std.specs.Map.{keys_of, values_of};
 ghost use Rattle.std.specs.declared.cmp.Ordering.TheVariants.{Less, Equal, Greater};
 ghost use Rattle.hh_stream.specs.Weights.{Bytes, Entry, key_cmp, max_key_len, weight_of, total_of};
-ghost use Rattle.hh_summaries.specs.Counters.{IsCounters, lower, level, least_counter as least_counter_of, add_at, plus, join};
+ghost use Rattle.hh_summaries.specs.Counters.{Counters, IsCounters, lower, level, least_counter as least_counter_of, add_at, cut as cut_counters, plus, join};
 ghost use Rattle.hh_summaries.specs.Report.{by_rank};
 
 use hh_stream::Key;
@@ -112,17 +112,32 @@ fn least_with(number: u64, entries: &[(Key, u64)]) -> u64
     least
 }
 
-/// The level: the least number that at most k counters exceed. It is found by a selection.
-pub fn level_of(alloc: Global, entries: &[(Key, u64)], k: usize) -> Result<u64, AllocError>
-    ensures { IfOk result (λ t. t ≡ level entries.now k) }
+/// The level of the counters with these numbers: the least number that at most `k` of them exceed.
+/// It is found by a selection, which reorders the numbers.
+pub fn level_of(numbers: &mut [u64], k: usize) -> u64
+    ensures { (counters : Counters) → values_of counters ≡ numbers.old
+        → result ≡ level counters k }
+{
+    let len = numbers.len();
+    if len <= k {
+        return 0;
+    }
+    let (_, level, _) = numbers.select_nth_unstable(len - k - 1);
+    *level
+}
+
+/// Takes the level from each counter, so that at most `k` are left.
+pub fn cut(alloc: Global, entries: &mut Vec<(Key, u64)>, k: usize) -> Result<(), AllocError>
+    requires { IsCounters entries.old.items }
+    ensures { OnOk result (entries.new.items ≡ cut_counters entries.old.items k) }
 {
     if entries.len() <= k {
-        return Ok(0);
+        return Ok(());
     }
     let mut numbers: Vec<u64> = entries.iter().map(|e| e.1).collect(alloc)?;
-    let before = numbers.len() - k - 1;
-    let (_, level, _) = numbers.select_nth_unstable(before);
-    Ok(*level)
+    let level = level_of(&mut numbers, k);
+    lower_all(entries, level);
+    Ok(())
 }
 
 /// Adds to the key's counter, which is 0 where there is none.
@@ -214,8 +229,7 @@ pub fn join(
 {
     let mut all = Vec::with_capacity(alloc, left.len() + right.len())?;
     push_sums(&mut all, left, right)?;
-    let level = level_of(alloc, &all, k as usize)?;
-    lower_all(&mut all, level);
+    cut(alloc, &mut all, k as usize)?;
     Ok(all)
 }
 

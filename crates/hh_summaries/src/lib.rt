@@ -6,5 +6,5 @@ mod entries;
 mod summary;
 mod taking;
 
-pub use entries::{add_entry, counter_of, least_counter, lower_all, push_copy};
+pub use entries::{add_entry, counter_of, cut, least_counter, level_of, lower_all, push_copy};
 pub use summary::{AddFault, BadK, MAX_K, MergeFault, OfItemsFault, Summary};

@@ -7,6 +7,8 @@ mod candidates;
 #[cfg(test)]
 mod fixtures;
 #[cfg(test)]
+mod hashes;
+#[cfg(test)]
 mod monitors;
 #[cfg(test)]
 mod streams;

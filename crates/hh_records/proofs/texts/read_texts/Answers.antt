@@ -1,28 +1,17 @@
-use Rattle.std.proofs.Common.{◌∷◌, arith}
-use Rattle.hh_records.specs.Layouts.{names_columns}
-use Rattle.hh_records.proofs.OpenFacts.{records-read, records-refused}
+use Rattle.std.specs.Io.Buffered.{reader_remaining}
+use Rattle.hh_records.proofs.BufferFacts.{known-every}
 use Rattle.hh_records.proofs.texts.read_texts.Goals as goal
 
-pub returns-in-Ok-clause-items : goal.returns-in-Ok-clause-items
-returns-in-Ok-clause-items g c =
-    let t = c.in-Ok.ensures.items in
-    record {
-      xs = t.xs;
-      reads = records-read g.R.Read.remaining c.args.layout.now (c.args.first ∷ c.args.others.items)
-          c.in_ok-texts.texts.items c.in_ok-texts.ensures.opened t.xs (rw c.requires.none at t.given);
-      positive = t.positive;
-      taken = t.taken;
-    }
+pub returns-clause-items : goal.returns-clause-items
+returns-clause-items g c =
+    let same = known-every c.args.layout.now (reader_remaining g.R.Read.remaining) g.R.Read.remaining
+      c.in_ok-first.first c.args.first c.in_ok-others.others.items c.args.others.items
+      c.in_ok-first.ensures.same c.in_ok-others.ensures.same in
+    rw same at c.read_each.ensures.items
 
-pub read_all-requires : goal.read_all-requires
-read_all-requires g c = record {
-  texts = c.in_ok-texts.ensures.texts;
-  bounded = omega (arith, c.requires.none);
-}
-
-pub returns-in-Err-clause-refused : goal.returns-in-Err-clause-refused
-returns-in-Err-clause-refused g c =
-    rw c.from.ensures
-    (records-refused g.R.Read.remaining c.args.layout.now (c.args.first ∷ c.args.others.items) c.in_ok-texts.texts.items
-    c.in_ok-texts.ensures.opened (names_columns c.args.layout.now) c.in-Err.error
-    (rw c.requires.none at c.in-Err.ensures.refused))
+pub returns-clause-refused : goal.returns-clause-refused
+returns-clause-refused g c =
+    let same = known-every c.args.layout.now (reader_remaining g.R.Read.remaining) g.R.Read.remaining
+      c.in_ok-first.first c.args.first c.in_ok-others.others.items c.args.others.items
+      c.in_ok-first.ensures.same c.in_ok-others.ensures.same in
+    rw same at c.read_each.ensures.refused

@@ -1,0 +1,37 @@
+use Rattle.std.proofs.lemmas.Result.{IfOk-weaker}
+use Rattle.hh_stream.specs.Cuttings.{whole_of}
+use Rattle.hh_tally.specs.Tallies.{AreBounds, TallyView}
+use Rattle.hh_pool.specs.Passes.{AreRead}
+use Rattle.hh_pool.proofs.TallyFacts.{whole_bounds}
+use Rattle.hh_pool.proofs.Taken.{ok_tells}
+use Rattle.hh_pool.proofs.tallying.tally.Goals as goal
+
+pub returns-in-Some-clause-bounds : goal.returns-in-Some-clause-bounds
+returns-in-Some-clause-bounds g c = λ known.
+    let pieces = g.P.Pieces.pieces c.args.work.now.pieces.now in
+    let shared = rw c.in-Some.is at c.in_ok-tally.ensures.done in
+    whole_bounds c.tallies_bound_weights.ensures.order pieces shared.seat.claims c.in-Some.tally shared.each
+    (shared.done.1 known).bounds
+
+pub returns-in-Some-clause-read : goal.returns-in-Some-clause-read
+returns-in-Some-clause-read g c = λ known i low.
+    let shared = rw c.in-Some.is at c.in_ok-tally.ensures.done in
+    (shared.done.1 known).taken.read i (shared.each.all.has i low)
+
+pub returns-clause-bounds : goal.returns-clause-bounds
+returns-clause-bounds g c =
+    let work = c.args.work.now.pieces.now in
+    let pieces = g.P.Pieces.pieces work in
+    IfOk-weaker _ _ (λ (t : TallyView). g.P.Pieces.known work → AreBounds t (whole_of pieces))
+    (λ t made known.
+    let (numbers, each, is) = made in
+    whole_bounds c.tallies_bound_weights.ensures.order pieces numbers t each (is.1 known).bounds)
+    c.run_alone.ensures.made
+
+pub returns-clause-read : goal.returns-clause-read
+returns-clause-read g c =
+    let work = c.args.work.now.pieces.now in
+    let pieces = g.P.Pieces.pieces work in
+    ok_tells {Q = g.P.Pieces.known work → AreRead (g.P.Pieces.reads work) pieces} _ _ (λ t made known i low.
+    let (numbers, each, is) = made in
+    (is.1 known).taken.read i (each.all.has i low)) c.run_alone.ensures.made

@@ -1,0 +1,242 @@
+//! A report of pieces of any kind: each worker tallies the items of its pieces, the tallies add up,
+//! and where any was lost a second pass counts the keys that can be heavy.
+
+ghost use Rattle.std.specs.Prelude.{◌≡◌, ◌+◌, ◌<◌, ◌≤◌, ◌++◌, ◌⊎◌, [], true, List, length};
+ghost use Rattle.std.specs.Prelude.{IfOk, IsErrOf, OnOk};
+ghost use Rattle.std.specs.Map.{keys_of, values_of};
+ghost use Rattle.hh_stream.specs.Ranges.{in_range};
+ghost use Rattle.hh_stream.specs.Weights.{Entry, max_total, total_of};
+ghost use Rattle.hh_stream.specs.Cuttings.{max_pieces, whole_of};
+ghost use Rattle.hh_summaries.specs.Counters.{max_k};
+ghost use Rattle.hh_summaries.specs.Report.{heavy, weights_at};
+ghost use Rattle.hh_tally.specs.Tallies.{AreBounds, IsRoom};
+ghost use Rattle.hh_pool.specs.Passes.{AreRead, MayRefuse};
+ghost use Rattle.hh_pool.specs.Tallied.{IsTallied};
+ghost use Rattle.hh_workers.specs.Pieces.{piece_of};
+ghost use Rattle.hh_workers.specs.Workers.{max_workers};
+
+use crate::analysis::{check_totals, weigh};
+use crate::first::sum_of_totals;
+use crate::options::Options;
+use hh_counters::{Candidates, Heavy};
+use hh_shared::{SharedSums, SumSeat};
+use hh_stream::{Key, KeyHash, PieceFault, TakeItems};
+use hh_tally::laws::tallies_bound_weights;
+use hh_tally::{Room, Tally};
+use hh_workers::{Gate, OpenGate, Pass, Pieces, Work, run_alone, share_work};
+use std::alloc::{AllocError, Global};
+use std::sync::Wait;
+use std::thread::Threads;
+
+/// What each worker works on.
+#[derive(Drop)]
+struct TallyPass<'a, P, G> {
+    work: &'a Work<'a, P, G>,
+    room: Room,
+    hash: KeyHash,
+    ghost room_fits: { IsRoom room },
+}
+
+impl<'a, P: Pieces, G: Gate> TallyPass<'a, P, G> {
+    // Takes the items of a piece.
+    fn take_piece(&self, tally: &mut Tally, piece: usize) -> Result<(), PieceFault>
+        requires { piece < length (P.pieces self.now.work.now.pieces.now) }
+        ensures taken { let pieces = self.now.work.now.pieces.now in OnOk result
+            (IsTallied (λ xs. P.known pieces → xs ≡ piece_of (P.pieces pieces) piece)
+            tally.old tally.new) }
+        ensures reads { let pieces = self.now.work.now.pieces.now in
+            OnOk result (P.known pieces → P.reads pieces piece) }
+        ensures refused { let pieces = self.now.work.now.pieces.now in
+            IsErrOf result PieceFault.Refused → P.known pieces → P.refuses pieces piece
+            ⊎ (max_total < tally.old.total + total_of (piece_of (P.pieces pieces) piece)) }
+    {
+        tallies_bound_weights();
+        self.work.pieces.feed(self.work.alloc, piece, tally)
+    }
+}
+
+impl<'a, P: Pieces, G: Gate> Pass for TallyPass<'a, P, G> {
+    type Made = Tally;
+
+    type Kept = Tally;
+
+    ghost use Rattle.std.specs.Prelude.{length};
+    ghost use Rattle.hh_pool.specs.Passes.{MayRefuse};
+    ghost use Rattle.hh_pool.specs.Tallied.{HasTallied};
+
+    ghost pieces = { λ p. length (P.pieces p.work.now.pieces.now) };
+
+    ghost cells = { λ _. 0 };
+
+    ghost is_made = { λ p numbers tally. let pieces = p.work.now.pieces.now in
+        (tally.room ≡ p.room) × (P.known pieces
+        → HasTallied (P.reads pieces) (P.pieces pieces) numbers tally) };
+
+    ghost all_done = { λ p seat tally. let pieces = p.work.now.pieces.now in
+        (tally.room ≡ p.room) × (P.known pieces
+        → HasTallied (P.reads pieces) (P.pieces pieces) seat.claims tally) };
+
+    ghost may_refuse = { λ p. let pieces = p.work.now.pieces.now in P.known pieces
+        → MayRefuse (P.refuses pieces) (P.pieces pieces) };
+
+    fn count(&self) -> usize {
+        self.work.pieces.count()
+    }
+
+    fn begin(&self) -> Result<Tally, AllocError> {
+        tallies_bound_weights();
+        let tally = Tally::new(self.work.alloc, self.room, self.hash)?;
+        Ok(tally)
+    }
+
+    fn take(&self, mut made: Tally, worker: u64, piece: usize) -> Result<Tally, PieceFault> {
+        self.work.gate.before(1, worker, piece as u64);
+        self.take_piece(&mut made, piece)?;
+        // It bounds the total.
+        let _total = made.total();
+        Ok(made)
+    }
+
+    fn hand_over(&self, _sums: &SharedSums, _seat: &mut SumSeat, made: Tally) -> Tally {
+        made
+    }
+
+    fn together(&self, one: Tally, other: Tally) -> Result<Tally, PieceFault> {
+        tallies_bound_weights();
+        // All tallies have one room.
+        if !one.has_room_of(&other) {
+            return Err(PieceFault::Refused);
+        }
+        sum_of_totals(one.total(), other.total())?;
+        let both = one.merge(self.work.alloc, &other)?;
+        Ok(both)
+    }
+}
+
+/// The tally of the items of all pieces.
+fn tally<R: Threads + Wait + Sync, P: Pieces + Sync, G: Gate + Sync>(
+    rt: &R,
+    work: &Work<P, G>,
+    room: Room,
+    hash: KeyHash,
+    workers: u64,
+) -> Result<Tally, PieceFault>
+    requires some { 0 < length (P.pieces work.now.pieces.now) }
+    requires few { length (P.pieces work.now.pieces.now) ≤ max_pieces }
+    requires room { IsRoom room }
+    requires workers { in_range workers max_workers ≡ true }
+    ensures room { IfOk result (λ tally. tally.room ≡ room) }
+    ensures bounds { let pieces = work.now.pieces.now in
+        IfOk result (λ tally. P.known pieces → AreBounds tally (whole_of (P.pieces pieces))) }
+    ensures read { let pieces = work.now.pieces.now in
+        OnOk result (P.known pieces → AreRead (P.reads pieces) (P.pieces pieces)) }
+    ensures refused { let pieces = work.now.pieces.now in
+        IsErrOf result PieceFault.Refused → P.known pieces
+        → MayRefuse (P.refuses pieces) (P.pieces pieces) }
+{
+    tallies_bound_weights();
+    let pass = TallyPass { work, room, hash };
+    match share_work(rt, work.alloc, &pass, 0, workers)? {
+        Some((_, tally)) => Ok(tally),
+        None => run_alone(&pass, workers),
+    }
+}
+
+/// The counters of the contenders, in their order.
+fn counters_of(alloc: Global, contenders: &[(Key, u64)]) -> Result<Vec<u64>, AllocError>
+    ensures { IfOk result (λ numbers. numbers.items ≡ values_of contenders.now) }
+{
+    contenders.iter().map(|entry| entry.1).collect(alloc)
+}
+
+/// The weight of each contender in the items of all pieces: its counter where the tally lost
+/// nothing, and else what a second pass counts.
+fn weights_of<R: Threads + Wait + Sync, P: Pieces + Sync, G: Gate + Sync>(
+    rt: &R,
+    work: &Work<P, G>,
+    tally: &Tally,
+    contenders: &[(Key, u64)],
+    candidates: &Candidates,
+    workers: u64,
+) -> Result<Vec<u64>, PieceFault>
+    requires some { 0 < length (P.pieces work.now.pieces.now) }
+    requires few { length (P.pieces work.now.pieces.now) ≤ max_pieces }
+    requires workers { in_range workers max_workers ≡ true }
+    requires keys { candidates.now ≡ keys_of contenders.now }
+    requires few_keys { length candidates.now ≤ max_k }
+    requires total { let pieces = work.now.pieces.now in
+        P.known pieces → tally.now.total ≡ total_of (whole_of (P.pieces pieces)) }
+    requires exact { let pieces = work.now.pieces.now in P.known pieces → tally.now.lost ≡ 0
+        → values_of contenders.now
+        ≡ weights_at (keys_of contenders.now) (whole_of (P.pieces pieces)) }
+    ensures count { IfOk result (λ weights. length weights.items ≡ length candidates.now) }
+    ensures weights { let pieces = work.now.pieces.now in IfOk result (λ weights.
+        P.known pieces
+        → weights.items ≡ weights_at candidates.now (whole_of (P.pieces pieces))) }
+    ensures refused { let pieces = work.now.pieces.now in
+        IsErrOf result PieceFault.Refused → P.known pieces
+        → MayRefuse (P.refuses pieces) (P.pieces pieces) }
+{
+    if tally.is_exact() {
+        return Ok(counters_of(work.alloc, contenders)?);
+    }
+    let (weights, counted) = weigh(rt, work, candidates, workers)?;
+    check_totals(candidates, counted, tally.total())?;
+    Ok(weights)
+}
+
+/// The total of the items of all pieces, and the keys that weigh more than the options' threshold
+/// of it, with their weights, by falling weight and then by rising key. The options' width and
+/// family are not used.
+///
+/// Each worker tallies the items of the pieces that it claims, and the tallies add up (Misra and
+/// Gries 1982, in batches as Anderson et al. 2017). Where nothing was lost the counters are the
+/// weights. Where something was, each piece is asked for once more, and the keys that can be heavy
+/// are counted. `hash` decides how fast keys are found, and nothing else.
+///
+/// It starts the workers, numbered from 0, in threads of their own, and waits for them. It answers
+/// Refused where a piece was refused, or the weights of all pieces add up to more than
+/// [`MAX_TOTAL`](hh_stream::MAX_TOTAL). Where the items aren't known, nothing is said of the rows;
+/// pieces that change between two readings may also be Refused.
+pub fn report_pieces<R: Threads + Wait + Sync, P: Pieces + Sync>(
+    rt: &R,
+    alloc: Global,
+    pieces: &P,
+    options: &Options,
+    hash: KeyHash,
+) -> Result<(u64, Vec<Heavy>), PieceFault>
+    requires some { 0 < length (P.pieces pieces.now) }
+    requires few { length (P.pieces pieces.now) ≤ max_pieces }
+    ensures total { IfOk result (λ r. P.known pieces.now
+        → r.0 ≡ total_of (whole_of (P.pieces pieces.now))) }
+    ensures bounded { IfOk result (λ r. r.0 ≤ max_total) }
+    ensures heavy { let xs = whole_of (P.pieces pieces.now) in
+        IfOk result (λ r. P.known pieces.now
+        → r.1.items ≡ heavy xs options.now.p options.now.q) }
+    ensures read { OnOk result
+        (P.known pieces.now → AreRead (P.reads pieces.now) (P.pieces pieces.now)) }
+    ensures refused { IsErrOf result PieceFault.Refused → P.known pieces.now
+        → MayRefuse (P.refuses pieces.now) (P.pieces pieces.now) }
+{
+    let (p, q) = options.threshold();
+    let work = Work {
+        alloc,
+        pieces,
+        gate: &OpenGate,
+    };
+    let room = Room::for_counters(options.k());
+    let tally = tally(rt, &work, room, hash, options.workers())?;
+    let contenders = tally.contenders(alloc, p, q)?;
+    let candidates = Candidates::of_entries(alloc, &contenders, hash)?;
+    let weights = weights_of(
+        rt,
+        &work,
+        &tally,
+        &contenders,
+        &candidates,
+        options.workers(),
+    )?;
+    let total = tally.total();
+    let rows = candidates.select(&weights, total, p, q)?;
+    Ok((total, rows))
+}

@@ -1,0 +1,6 @@
+-- Slices are equal exactly where their order says so.
+use Rattle.std.specs.Cmp.Lexicographic.{texts_ties}
+use Rattle.hh_stream.proofs.borrowed_key.BorrowedKeyEquivalentKey.equivalent.Goals as goal
+
+pub returns : goal.returns
+returns c = rw (← texts_ties _ _, ← c.bytes.ensures.bytes) c.eq.ensures

@@ -1,0 +1,5 @@
+pub mod Raising
+pub mod Bounds
+pub mod Keeping
+pub mod Sorting
+pub mod Reporting

@@ -1,0 +1,196 @@
+//! Counters in an index, raised and lowered.
+
+ghost use Rattle.std.specs.Prelude.{◌≡◌, ◌+◌, ◌-◌, ◌*◌, ◌<◌, ◌≤◌, ◌^◌, ◌/◌, ◌&&◌, ◌||◌, cond, ◌++◌, ◌∷◌, [], fold, filter, length, nat_lt, false, IfOk, OnOk, OnErr, IsTrue};
+ghost use Rattle.std.specs.List.{AllByRecursion, IsDistinct};
+ghost use Rattle.std.specs.Map.{keys_of};
+ghost use Rattle.indexmap.specs.IndexMap.{with_value_at};
+ghost use Rattle.hh_stream.specs.Weights.{Entry, max_key_len, same_key, total_of};
+ghost use Rattle.hh_summaries.specs.Counters.{exceeds, level, lower, tally};
+ghost use Rattle.hh_tally.specs.Tallies.{add_in, bytes_of, loss_of, left_of, most_left, are_large, is_over};
+
+use crate::room::Room;
+use hh_stream::{BorrowedKey, Key, KeyHash};
+use hh_summaries::{level_of, push_copy};
+use indexmap::IndexMap;
+use std::alloc::{AllocError, Global};
+
+/// Adds `weight` to the key's counter, or puts a new key last. Whether the key is new.
+pub fn add_entry(
+    alloc: Global,
+    index: &mut IndexMap<Key, u64, KeyHash>,
+    key: &[u8],
+    weight: u64,
+) -> Result<bool, AllocError>
+    requires key { (0 < length key.now) × (length key.now ≤ max_key_len) }
+    requires bounded { total_of index.old.entries + weight < 2 ^ 64 }
+    ensures added { OnOk result
+        (index.new.entries ≡ add_in index.old.entries (key.now, weight)) }
+    ensures new { IfOk result (λ new. IsTrue new
+        → index.new.entries ≡ index.old.entries ++ (key.now, weight) ∷ []) }
+    ensures known { IfOk result (λ new. new ≡ false
+        → keys_of index.new.entries ≡ keys_of index.old.entries) }
+    ensures unchanged { OnErr result (index.new.entries ≡ index.old.entries) }
+{
+    if let Some((place, _, counter)) = index.get_full(BorrowedKey(key)) {
+        let raised = *counter + weight;
+        set_counter(index, place, raised);
+        return Ok(false);
+    }
+    index.insert(Key::of_bytes(alloc, key)?, weight)?;
+    Ok(true)
+}
+
+// Makes `to` the counter of the key at `place`.
+fn set_counter(index: &mut IndexMap<Key, u64, KeyHash>, place: usize, to: u64)
+    requires { place < length index.old.entries }
+    ensures { index.new ≡ with_value_at index.old place to }
+{
+    let (_, counter) = index.pair_mut(place);
+    *counter = to;
+}
+
+/// Adds each counter of `others`.
+pub fn add_all(
+    alloc: Global,
+    index: &mut IndexMap<Key, u64, KeyHash>,
+    others: &IndexMap<Key, u64, KeyHash>,
+) -> Result<(), AllocError>
+    requires { total_of index.old.entries + total_of others.now.entries < 2 ^ 64 }
+    ensures all { OnOk result
+        (index.new.entries ≡ fold add_in index.old.entries others.now.entries) }
+    ensures few { OnOk result
+        (length index.new.entries ≤ length index.old.entries + length others.now.entries) }
+{
+    for i in 0..others.len() {
+        if let Some((key, counter)) = others.get_index(i) {
+            add_entry(alloc, index, key.bytes(), *counter)?;
+        }
+    }
+    Ok(())
+}
+
+/// Lowers the counters where there are more keys than `room` has, or too many bytes of them, which
+/// are `bytes`. What was taken from each counter, and the bytes of the keys that are left.
+pub fn settle(
+    alloc: Global,
+    index: &mut IndexMap<Key, u64, KeyHash>,
+    room: &Room,
+    bytes: usize,
+) -> Result<(u64, usize), AllocError>
+    requires bytes { bytes ≡ bytes_of (keys_of index.old.entries) }
+    requires bounded { bytes ≤ 4096 * length index.old.entries }
+    requires few { length index.old.entries < 2 ^ 33 }
+    ensures lost { IfOk result (λ r. r.0 ≡ loss_of room.now index.old.entries) }
+    ensures left { OnOk result (index.new.entries ≡ left_of room.now index.old.entries) }
+    ensures bytes { IfOk result (λ r. r.1 ≡ bytes_of (keys_of index.new.entries)) }
+    ensures bounded { IfOk result (λ r. r.1 ≤ 4096 * length index.new.entries) }
+    ensures unchanged { OnErr result (index.new.entries ≡ index.old.entries) }
+{
+    let len = index.len();
+    let large = are_large(room, len, bytes);
+    if !is_over(room, len, large) {
+        return Ok((0, bytes));
+    }
+    let lost = level_in(alloc, index, most_left(room, large))?;
+    lower_all(index, lost);
+    Ok((lost, key_bytes(index)))
+}
+
+// Whether `len` keys are more than a few and have too many bytes.
+fn are_large(room: &Room, len: usize, bytes: usize) -> bool
+    ensures { result ≡ (nat_lt room.now.few len && nat_lt room.now.bytes bytes) }
+{
+    room.few < len && room.bytes < bytes
+}
+
+// Whether there are too many keys, or `large` ones.
+fn is_over(room: &Room, len: usize, large: bool) -> bool
+    ensures { result ≡ (nat_lt room.now.keys len || large) }
+{
+    room.keys < len || large
+}
+
+// The most keys that then stay.
+fn most_left(room: &Room, large: bool) -> usize
+    ensures { result ≡ cond large (room.now.few / 2) (room.now.keys / 2) }
+{
+    if large { room.few / 2 } else { room.keys / 2 }
+}
+
+// The least number that at most `most` counters exceed.
+fn level_in(
+    alloc: Global,
+    index: &IndexMap<Key, u64, KeyHash>,
+    most: usize,
+) -> Result<u64, AllocError>
+    ensures { IfOk result (λ t. t ≡ level index.now.entries most) }
+{
+    let mut numbers: Vec<u64> = index.values().copied().collect(alloc)?;
+    Ok(level_of(&mut numbers, most))
+}
+
+// Takes `t` from each counter, and drops those that are not above it.
+fn lower_all(index: &mut IndexMap<Key, u64, KeyHash>, t: u64)
+    ensures { index.new.entries ≡ lower t index.old.entries }
+{
+    index.retain(
+        |_key: &Key, counter: &mut u64| -> bool
+            ensures { (result ≡ nat_lt t counter.old) × (counter.new ≡ counter.old - t) }
+        {
+            let is_above = *counter > t;
+            *counter = counter.saturating_sub(t);
+            is_above
+        },
+    );
+}
+
+/// The bytes of all keys.
+pub fn key_bytes(index: &IndexMap<Key, u64, KeyHash>) -> usize
+    requires { length index.now.entries < 2 ^ 33 }
+    ensures bytes { result ≡ bytes_of (keys_of index.now.entries) }
+    ensures bounded { result ≤ 4096 * length index.now.entries }
+{
+    let mut bytes = 0;
+    for i in 0..index.len() {
+        if let Some((key, _)) = index.get_index(i) {
+            bytes += key.bytes().len();
+        }
+    }
+    bytes
+}
+
+// The keys whose counter is above `t`, with their counters, in the order of the index.
+fn entries_above(
+    alloc: Global,
+    index: &IndexMap<Key, u64, KeyHash>,
+    t: u64,
+) -> Result<Vec<(Key, u64)>, AllocError>
+    ensures entries { IfOk result
+        (λ entries. entries.items ≡ filter (exceeds t) index.now.entries) }
+    ensures distinct { OnOk result (IsDistinct same_key (keys_of index.now.entries)) }
+{
+    let mut entries = Vec::new(alloc);
+    for i in 0..index.len() {
+        if let Some((key, counter)) = index.get_index(i) {
+            if *counter > t {
+                push_copy(&mut entries, key, *counter)?;
+            }
+        }
+    }
+    Ok(entries)
+}
+
+/// The keys whose counter is above `t`, with their counters, by rising key.
+pub fn sorted_above(
+    alloc: Global,
+    index: &IndexMap<Key, u64, KeyHash>,
+    t: u64,
+) -> Result<Vec<(Key, u64)>, AllocError>
+    requires { AllByRecursion (λ (e : Entry). 0 < e.1) index.now.entries }
+    ensures { IfOk result
+        (λ entries. entries.items ≡ filter (exceeds t) (tally index.now.entries)) }
+{
+    let mut entries = entries_above(alloc, index, t)?;
+    entries.sort_unstable_by(|a, b| a.0.cmp(&b.0));
+    Ok(entries)
+}

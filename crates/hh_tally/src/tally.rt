@@ -1,0 +1,208 @@
+//! Sums of weights by key, lowered in batches.
+
+ghost use Rattle.std.specs.Prelude.{◌≡◌, ℕ, ◌+◌, ◌*◌, ◌/◌, ◌<◌, ◌≤◌, ◌↔◌, List, IfOk, IsTrue, filter, length, nat_lt, true, zip};
+ghost use Rattle.std.specs.List.{AllByRecursion, IsDistinct};
+ghost use Rattle.std.specs.List.Sorted.{IsStrictlySortedBy};
+ghost use Rattle.std.specs.Map.{keys_of, values_of};
+ghost use Rattle.hh_stream.specs.Ranges.{in_range};
+ghost use Rattle.hh_stream.specs.Weights.{Entry, key_cmp, max_total, same_key, total_of};
+ghost use Rattle.hh_summaries.specs.Counters.{IsHonest, Fits, exceeds, lower, max_k, tally};
+ghost use Rattle.hh_summaries.specs.Report.{IsShare, heavy, rows_above, weights_at};
+ghost use Rattle.hh_tally.specs.Tallies.{AreBounds, IsLoss, IsRoom, contenders_of, empty_tally, merged_tally, pruned, tally_with};
+
+use crate::lowering::{add_all, add_entry, key_bytes, settle, sorted_above};
+use crate::room::Room;
+use hh_stream::{Key, KeyHash, TakeItems};
+use hh_summaries::{Summary, cut};
+use indexmap::IndexMap;
+use std::alloc::{AllocError, Global};
+use std::marker::Model;
+
+/// Sums of weights by key, exact until there are more keys than there is room for. Then a middle
+/// counter is taken from each, those that are not above it are dropped, and what was taken is noted
+/// as lost (Misra and Gries 1982, in batches as Anderson et al. 2017; two add up as in Agarwal et
+/// al. 2012).
+///
+/// A key's counter is never above its weight, and at most [`lost`](Tally::lost) below it. An item
+/// costs one look-up by hash. A newcomer's key is copied once, and each lowering, which walks over
+/// all counters, follows as many newcomers as half the room. A contract sees the room, the total,
+/// what was lost, and the counters in the order in which their keys came.
+#[derive(Debug, Drop)]
+pub struct Tally {
+    room: Room,
+    total: u64,
+    lost: u64,
+    bytes: usize,
+    index: IndexMap<Key, u64, KeyHash>,
+}
+
+impl Model for Tally {
+    ghost use Rattle.hh_tally.specs.Tallies.{TallyView, IsTally};
+
+    ghost Value = { TallyView };
+
+    ghost view = { λ t. record {
+      room = t.room;
+      total = t.total;
+      lost = t.lost;
+      counters = t.index.entries;
+    } };
+
+    ghost invariant = { λ t. IsTally t.room t.total t.lost t.bytes t.index.entries };
+}
+
+// The most keys for which memory is taken at the start.
+const FIRST_KEYS: usize = 4096;
+
+impl Tally {
+    /// A tally of no items, with this room. `hash` decides how fast keys are found, and nothing
+    /// else: keys that others choose want one that is random.
+    pub fn new(alloc: Global, room: Room, hash: KeyHash) -> Result<Tally, AllocError>
+        requires { IsRoom room }
+        ensures { IfOk result (λ t. t ≡ empty_tally room) }
+    {
+        let index = IndexMap::with_capacity_and_hasher(alloc, room.keys.min(FIRST_KEYS) + 1, hash)?;
+        Ok(Tally {
+            room,
+            total: 0,
+            lost: 0,
+            bytes: 0,
+            index,
+        })
+    }
+
+    /// The most by which a counter can be below its key's weight, and the most that a key without a
+    /// counter can weigh.
+    pub fn lost(&self) -> u64
+        ensures lost { result ≡ self.now.lost }
+        ensures loss { IsLoss self.now.room.few self.now.total self.now.lost self.now.counters }
+    {
+        self.lost
+    }
+
+    /// Whether each counter is its key's weight, and each key that came has one.
+    pub fn is_exact(&self) -> bool
+        ensures { IsTrue result ↔ (self.now.lost ≡ 0) }
+    {
+        self.lost == 0
+    }
+
+    /// How many keys have a counter.
+    pub fn len(&self) -> usize
+        ensures len { result ≡ length self.now.counters }
+        ensures distinct { IsDistinct same_key (keys_of self.now.counters) }
+        ensures few { result ≤ self.now.room.keys }
+    {
+        self.index.len()
+    }
+
+    /// The keys that can weigh more than p/q of the total, with their counters, by rising key. p/q
+    /// is at most 1 and at least 1 of half of the room's `few`, and q at most 2^32.
+    ///
+    /// Each key that weighs more is among them, so that counting these keys alone makes the report.
+    /// Where nothing was lost the counters are the weights.
+    pub fn contenders(&self, alloc: Global, p: u64, q: u64) -> Result<Vec<(Key, u64)>, AllocError>
+        requires share { IsShare p q }
+        requires enough { q ≤ p * (self.now.room.few / 2) }
+        ensures entries { IfOk result (λ entries. entries.items ≡ contenders_of p q self.now) }
+        ensures rising { IfOk result (λ entries.
+            IsStrictlySortedBy key_cmp (keys_of entries.items)) }
+        ensures few { IfOk result (λ entries. length entries.items < self.now.room.few / 2) }
+        ensures report { (xs : List Entry) → AreBounds self.now xs
+            → IfOk result (λ entries. let keys = keys_of entries.items in
+            rows_above p q (total_of xs) (zip keys (weights_at keys xs)) ≡ heavy xs p q) }
+        ensures exact { (xs : List Entry) → AreBounds self.now xs → self.now.lost ≡ 0
+            → IfOk result (λ entries.
+            values_of entries.items ≡ weights_at (keys_of entries.items) xs) }
+    {
+        let t = least_reach(self.total, self.lost, p, q);
+        let entries = sorted_above(alloc, &self.index, t)?;
+        Ok(entries)
+    }
+
+    /// Whether both have one room, so that they can be merged.
+    pub fn has_room_of(&self, other: &Tally) -> bool
+        ensures { IsTrue result ↔ (self.now.room ≡ other.now.room) }
+    {
+        self.room == other.room
+    }
+
+    /// The tally of the items of both, which have one room. Memory gives both up.
+    pub fn merge(self, alloc: Global, other: &Tally) -> Result<Tally, AllocError>
+        requires room { self.room ≡ other.now.room }
+        requires fits { self.total + other.now.total ≤ max_total }
+        ensures { IfOk result (λ t. t ≡ merged_tally self other.now) }
+    {
+        let Tally {
+            room,
+            total,
+            lost,
+            bytes: _,
+            mut index,
+        } = self;
+        add_all(alloc, &mut index, &other.index)?;
+        let bytes = key_bytes(&index);
+        let (more, bytes) = settle(alloc, &mut index, &room, bytes)?;
+        Ok(Tally {
+            room,
+            total: total + other.total,
+            lost: lost + other.lost + more,
+            bytes,
+            index,
+        })
+    }
+
+    /// The summary with the `k` greatest counters, from each of which the next one is taken. Where
+    /// the room was for `k` it is as good as one that was made item by item.
+    pub fn into_summary(self, alloc: Global, k: u64) -> Result<Summary, AllocError>
+        requires k { in_range k max_k ≡ true }
+        ensures summary { IfOk result (λ s. s ≡ pruned k self) }
+        ensures honest { 2 * (k + 1) ≤ self.room.few → (xs : List Entry)
+            → AreBounds self xs
+            → IfOk result (λ s. IsHonest s.counters s.total xs s.k) }
+    {
+        let mut entries = sorted_above(alloc, &self.index, 0)?;
+        cut(alloc, &mut entries, k as usize)?;
+        Ok(Summary::from_entries(k, self.total, entries))
+    }
+}
+
+impl TakeItems for Tally {
+    ghost with_item = { tally_with };
+
+    ghost weight_taken = { λ t. t.total };
+
+    fn total(&self) -> u64 {
+        self.total
+    }
+
+    fn take(&mut self, alloc: Global, key: &[u8], weight: u64) -> Result<(), AllocError> {
+        if !add_entry(alloc, &mut self.index, key, weight)? {
+            self.total += weight;
+            return Ok(());
+        }
+        let bytes = self.bytes + key.len();
+        match settle(alloc, &mut self.index, &self.room, bytes) {
+            Ok((lost, bytes)) => {
+                self.total += weight;
+                self.lost += lost;
+                self.bytes = bytes;
+                Ok(())
+            }
+            Err(refused) => {
+                self.index.pop();
+                Err(refused)
+            }
+        }
+    }
+}
+
+// The number that the counter of a key exceeds if the key can weigh more than p/q of the total.
+fn least_reach(total: u64, lost: u64, p: u64, q: u64) -> u64
+    requires share { IsShare p q }
+    requires bounded { total ≤ max_total }
+    ensures { (n : ℕ) → 0 < n → nat_lt result n ≡ nat_lt (p * total) (q * (n + lost)) }
+{
+    let share = u128::from(p) * u128::from(total) / u128::from(q);
+    (share as u64).saturating_sub(lost)
+}
