@@ -14,6 +14,9 @@ told=()
 failed=
 # how many processors the provers take, if not all
 most_jobs=
+# the first build that was timed last with nothing beside it: on how many processors, its seconds by the clock, and those of
+# one processor (docs/GATE.md)
+first_build=(4 711 2406)
 
 tell() { printf 'heavy: %s\n' "$*" >&2; }
 
@@ -83,6 +86,14 @@ version_of_program() {
 }
 
 minutes_and_seconds() { printf '%d:%02d min' $(($1 / 60)) $(($1 % 60)); }
+
+# How long a first build is likely to take here. More processors than it was timed on gain nothing for sure.
+first_build_takes() {
+  local here seconds=${first_build[1]}
+  here=$(nproc)
+  [ "$here" -ge "${first_build[0]}" ] || seconds=$((first_build[2] / here))
+  printf 'about %d min on %d processor%s' $(((seconds + 30) / 60)) "$here" "$([ "$here" -eq 1 ] || echo s)"
+}
 
 # Ends all provers.
 end_provers() {
@@ -296,7 +307,7 @@ prove_and_build() {
 }
 
 # Builds this file of that crate, where its sources are newer, unless another build did meanwhile. First it tells the
-# rest of its words, a line each.
+# rest of its words, a line each, in which @TIME@ is how long a first build takes.
 build() {
   local crates line name=$1 file=$2
   mapfile -t crates < <(crates_of "$name")
@@ -308,7 +319,7 @@ build() {
   exec 9> "$program/build.lock"
   wait_for 9 "another build runs in $top"
   if is_stale "$file" "${crates[@]}"; then
-    for line in "${@:3}"; do tell "$line"; done
+    for line in "${@:3}"; do tell "${line/@TIME@/$(first_build_takes)}"; done
     prove_and_build "$name" "$file" || return 1
   fi
   exec 9>&-
@@ -317,5 +328,5 @@ build() {
 
 build_heavy() {
   build heavy_cli "$built" "proving and building the program, once and after each change of its sources" \
-    "a first build takes some minutes; crates/*/build.log have its lines"
+    "a first build takes @TIME@; crates/*/build.log have its lines"
 }

@@ -1,4 +1,4 @@
-# What bin/release makes for Debian, over bin/build.bash and bin/library.bash: `make_packages FOLDER` makes the packages
+# What bin/release makes for Debian, over bin/build.bash, bin/library.bash and bin/put.bash: `make_packages FOLDER` makes the packages
 # heavy, libheavy1 and libheavy-dev there. It wants "$version", "$maintainer" and SOURCE_DATE_EPOCH.
 # shellcheck shell=bash disable=SC2154
 places_of_libraries=usr/lib/x86_64-linux-gnu
@@ -85,7 +85,7 @@ kilobytes_in() {
 }
 
 tree_of_program() {
-  local tree="$1/heavy/usr"
+  local tree="$1/heavy/usr" name
   install -D -m 755 "$built" "$tree/bin/heavy"
   "${STRIP:-strip}" --remove-section=.comment --remove-section=.note "$tree/bin/heavy"
   mkdir -p "$tree/share/man/man1"
@@ -93,6 +93,10 @@ tree_of_program() {
   install -D -m 644 "$top/completions/heavy.bash" "$tree/share/bash-completion/completions/heavy"
   install -D -m 644 "$top/completions/_heavy" "$tree/share/zsh/vendor-completions/_heavy"
   install -D -m 644 "$top/completions/heavy.fish" "$tree/share/fish/vendor_completions.d/heavy.fish"
+  while read -r name; do
+    # Debian has a changelog of its own
+    [ "$name" = CHANGELOG.md ] || install -D -m "$(mode_of "$top/$name")" "$top/$name" "$tree/share/doc/heavy/$name"
+  done < <(pages)
 }
 
 tree_of_library() {
@@ -118,6 +122,7 @@ tree_for_development() {
   ln -s libheavy.so.1 "$tree/$places_of_libraries/libheavy.so"
   make_description "$2" /usr lib/x86_64-linux-gnu
   install -D -m 644 "$2/heavy.pc" "$tree/$places_of_libraries/pkgconfig/heavy.pc"
+  install -D -m 644 "$top/docs/C.md" "$tree/usr/share/doc/libheavy-dev/C.md"
 }
 
 # Makes the packages in a folder, of the library that was made in another.

@@ -40,6 +40,15 @@ put_program() {
   put 644 "$top/completions/heavy.fish" share/fish/vendor_completions.d/heavy.fish
 }
 
+# The files that README.md names, itself among them, for whoever has no clone: pages, examples, scripts for several machines.
+pages() {
+  (cd "$top" && find README.md CHANGELOG.md CONTRIBUTING.md SECURITY.md docs examples bench/README.md python/README.md \
+    -type f -not -path '*/__pycache__/*' | LC_ALL=C sort)
+}
+
+# The mode that an installed file has: a script can be run by all.
+mode_of() { if [ -x "$1" ]; then echo 755; else echo 644; fi; }
+
 # Notes what is installed of the library for C, which was made in this folder.
 put_library() {
   put 644 "$top/include/heavy.h" include/heavy.h

@@ -1,17 +1,22 @@
 #!/usr/bin/env python3
 """Compares the man page and the completions of three shells with what the program's help names: the same commands, for
 each the same options in both spellings, the same ranges and defaults, the same version. The bash completion is driven
-by bash, and that of fish by fish where it is here; the others are read. Then drifts are planted, and each has to be
-found.
+by bash, and that of fish by fish where it is here; the others are read. On a terminal each shell that is here completes
+a command, an option and its value. Then drifts are planted, and each has to be found.
 
 usage: tests/completions.py
 """
 import os
+import pty
 import re
+import select
 import shutil
+import signal
 import subprocess
 import tempfile
+import time
 import unittest
+from collections.abc import Callable
 from dataclasses import dataclass
 from pathlib import Path
 
@@ -20,6 +25,14 @@ import programs
 MAN, BASH, ZSH, FISH = "man/heavy.1", "completions/heavy.bash", "completions/_heavy", "completions/heavy.fish"
 OPTION = re.compile(r"^ +(?:(-\w), )?(--[a-z-]+)", re.MULTILINE)
 NUMBERS = re.compile(r"from (\d+) to (\d+) \[default: (\d+)\]")
+# a shell, the words that start it on a terminal with no settings, and how it takes our completions there
+SHELLS = [
+    ("bash", ["--norc", "-i"], "source {top}/completions/heavy.bash"),
+    ("zsh", ["-f", "-i"], "fpath=({top}/completions $fpath); autoload -U compinit; compinit -u -D"),
+    ("fish", ["--no-config", "-i"], "source {top}/completions/heavy.fish"),
+]
+# seconds after which a shell that writes nothing waits for the next key, and after which it is given up
+SILENCE, PATIENCE = 0.7, 60
 # (file, text, what it becomes): each is a drift that has to be found
 DRIFTS = [
     (MAN, ".B heavy merge", ".B heavy join"),
@@ -166,6 +179,52 @@ def differ(name: str, found: object, wanted: object) -> list[str]:
 CHECKS = {MAN: man_faults, BASH: bash_faults, ZSH: zsh_faults, FISH: fish_faults}
 
 
+class Terminal:
+    """A shell on a terminal of its own, in a folder that has the program."""
+
+    def __init__(self, words: list[str], room: str) -> None:
+        self.said = b""
+        self.name = words[0]
+        self.room = room
+        self.count = 0
+        self.number, self.side = pty.fork()
+        if self.number == 0:
+            os.chdir(room)
+            env = {"PATH": f"{room}:/usr/bin:/bin", "HOME": room, "TERM": "xterm", "LC_ALL": "C.UTF-8"}
+            os.execvpe(words[0], words, env)
+
+    def __enter__(self) -> "Terminal":
+        self.listen()
+        return self
+
+    def __exit__(self, *_: object) -> None:
+        os.close(self.side)
+        os.kill(self.number, signal.SIGKILL)
+        os.waitpid(self.number, 0)
+
+    def listen(self, is_over: Callable[[], bool] | None = None) -> None:
+        """Reads what the shell writes, until this holds, or, where nothing is given, until it is silent."""
+        end = time.monotonic() + PATIENCE
+        while time.monotonic() < end and not (is_over and is_over()):
+            if select.select([self.side], [], [], SILENCE)[0]:
+                try:
+                    self.said += os.read(self.side, 65536)
+                except OSError:
+                    return  # the shell has ended
+            elif not is_over:
+                return
+
+    def types(self, *parts: str) -> None:
+        """Types a line, with the tabulator between its parts, and waits until it has run."""
+        done = Path(self.room, f"{self.name} {self.count}")
+        self.count += 1
+        for part in parts[:-1]:
+            os.write(self.side, part.encode() + b"\t")
+            self.listen()
+        os.write(self.side, f"{parts[-1]}; : > '{done.name}'\r".encode())
+        self.listen(done.exists)
+
+
 class Completions(programs.Checks):
     """The man page and the completions, beside the help."""
 
@@ -190,6 +249,31 @@ class Completions(programs.Checks):
             drifted = texts[file].replace(old, new, 1)
             found = drifted != texts[file] and CHECKS[file](drifted, self.told)
             self.check(f"a drift in {file}: {old!r}", found, "not found")
+
+    def test_terminal(self) -> None:
+        """On a terminal the shells that are here complete what is typed, and run it."""
+        Path(self.room, "heavy").symlink_to(programs.built("heavy_cli"))
+        Path(self.room, "four.csv").write_bytes(b"a,5\nb,3\nc,2\na,1\n")
+        wanted = programs.run([f"{self.room}/heavy", "summarise", "--k", "2", "--method", "ss", f"{self.room}/four.csv"]).out
+        for shell, words, begin in SHELLS:
+            with self.subTest(shell):
+                if not shutil.which(shell):
+                    self.skipTest(f"{shell} is not here, so that it completes nothing")
+                with Terminal([shell, *words], self.room) as terminal:
+                    terminal.types(begin.format(top=programs.TOP))
+                    terminal.types("heavy rep", "--k 2 four.csv > report")
+                    terminal.types("heavy summarise --k 2 --met", "s", "four.csv > summary")
+                made = [Path(self.room, name) for name in ("report", "summary")]
+                gave = [file.read_bytes() if file.exists() else None for file in made]
+                self.check(f"{shell} completes a command and an option", gave == [b"a,6\n", wanted], (gave, terminal.said))
+                for file in made:
+                    file.unlink(missing_ok=True)
+
+    @unittest.skipUnless(shutil.which("mandoc"), "the page's other reader is mandoc")
+    def test_mandoc(self) -> None:
+        """mandoc, which other systems have, finds nothing wrong in the man page."""
+        ended = subprocess.run(["mandoc", "-T", "lint", "-W", "warning", programs.TOP / MAN], capture_output=True)
+        self.check("mandoc warns of nothing", (ended.returncode, ended.stdout) == (0, b""), ended)
 
     @unittest.skipUnless(shutil.which("man"), "the page's layout wants man")
     def test_formatter(self) -> None:

@@ -128,6 +128,22 @@ class Devices(programs.Checks):
         feeder.wait()
         self.check("ask of a pipe", found == (0, b"a,4,6\n", b""), found)
 
+    def test_system(self) -> None:
+        """What a report asks of the system: it opens its files for reading and nothing for writing, has no socket, and starts
+        no program."""
+        words = ["strace", "-f", "-qq", "-e", "trace=execve,open,openat,creat,unlink,unlinkat,rename,socket,connect"]
+        if not shutil.which("strace") or programs.run([*words, "-o", "/dev/null", "true"], env=dict(os.environ)).status != 0:
+            self.skipTest("what is asked of the system wants strace, and leave to trace")
+        log, file = Path(self.room, "log"), Path(self.room, "four.csv")
+        file.write_bytes(RECORDS)
+        ended = programs.run([*words, "-o", str(log), self.program, *REPORT, str(file)], env=dict(os.environ))
+        self.check("a report that is traced", said(ended) == (0, b"a,6\n", b""), ended)
+        calls = [line.split(None, 1)[1] for line in log.read_text().splitlines()]
+        opened = [call for call in calls if call.startswith("open") and str(file) in call]
+        self.check("its file is opened", opened and all("O_RDONLY" in call for call in opened), calls)
+        others = [call for call in calls if not call.startswith("open") or "O_WRONLY" in call or "O_RDWR" in call]
+        self.check("and nothing else is asked", len(others) == 1 and others[0].startswith("execve("), others)
+
     def test_threads(self) -> None:
         """Threads and address space that the system refuses: the report, or out of memory."""
         words = [self.program, *REPORT, "--workers", "64", "--pieces", "64"]

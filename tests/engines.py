@@ -1,8 +1,9 @@
 #!/usr/bin/env python3
 """Runs the scripts of examples/machines over random records: what they print has to be what `heavy report` prints over all
-records. GNU parallel reaches its machines through a stand-in for ssh, which runs the words here. Over Dask, workers are
-started as that folder's README does it, and one is killed by its process id while it runs `heavy` on a part, in each
-of the two rounds; and the program fails in each way, to see what is tried again and what is told.
+records. GNU parallel reaches its machines through a stand-in for ssh, which runs the words here, and loses a machine in either
+round. Over Dask, workers are started as that folder's README does it, and one is killed by its process id while it runs
+`heavy` on a part, in each of the two rounds, as is one of a LocalCluster of three; and the program fails in each way, to
+see what is tried again and what is told.
 
 usage: tests/engines.py [SEED]
 
@@ -12,6 +13,7 @@ import json
 import os
 import random
 import shutil
+import signal
 import subprocess
 import sys
 import time
@@ -45,16 +47,41 @@ if [ "$1 $input" = "$fails" ] && { [ -z "$once" ] || mkdir "$ROOM/failed" 2> /de
 fi
 exec "$HEAVY" "$@"
 """
-# Notes the machine, and runs the words here: where the rule says so, those of the second round by another summary.
+# Notes the machine, and runs the words here: where the rule says so, those of the second round by another summary. A machine
+# that is lost is cut off in the middle of what it writes, as ssh is then, once or each time.
 SSH = """#!/bin/sh
 echo "$1" >> "$ROOM/hosts"
+host=$1
 shift
-swapped=
+swapped= lost= once=
 . "$ROOM/rule"
 case "$swapped:$*" in
   /*:*"heavy condense"*) exec sh -c "$*" < "$swapped" ;;
 esac
+case "$lost:$host:$*" in
+  "$host "*":$host:"*"heavy ${lost#* } "*)
+    if [ -z "$once" ] || mkdir "$ROOM/failed" 2> /dev/null; then
+      sh -c "$*" | head -c 20
+      echo "ssh: $host is lost" >&2
+      exit 255
+    fi
+    ;;
+esac
 exec sh -c "$*"
+"""
+# The example over a cluster of three workers on this machine, each a process of its own, of which it tells the numbers.
+THREE_WORKERS = """
+import logging, os, sys
+import over_dask
+from dask.distributed import Client, LocalCluster
+if __name__ == "__main__":
+    with LocalCluster(n_workers=3, threads_per_worker=1, dashboard_address="127.0.0.1:0", silence_logs=logging.ERROR) as cluster:
+        with Client(cluster) as client:
+            with open("workers.new", "w") as told:
+                print(*client.run(os.getpid).values(), file=told)
+            os.rename("workers.new", "workers")
+            sys.stdout.buffer.write(over_dask.report(client, int(sys.argv[1]), sys.argv[2:]))
+            sys.stdout.flush()
 """
 
 
@@ -93,6 +120,9 @@ class Room:
             part = self.path / f"part {i} 'a' $b.csv"
             drawn = draw.choices(keys, weights=[1 / (rank + 1) for rank in range(len(keys))], k=draw.randrange(200, 600))
             text = b"".join(b"%s,%d\n" % (key, draw.randrange(1, 100)) for key in drawn)
+            if i == PARTS - 1:
+                # heavy in all, and in no other part: its summary alone has the key
+                text += b"last,99\n" * 150
             part.write_bytes(text)
             self.parts.append(part)
             records += text
@@ -123,7 +153,7 @@ class Room:
         for name in ("held", "failed"):
             if (self.path / name).exists():
                 (self.path / name).rmdir()
-        for name in ("holder", "gate", "log", "hosts"):
+        for name in ("holder", "gate", "log", "hosts", "workers"):
             (self.path / name).unlink(missing_ok=True)
         (self.path / "rule").write_text(f"{rule}\n")
 
@@ -188,12 +218,28 @@ def try_parallel(test: programs.Checks, room: Room) -> None:
     room.forget(f'fails="condense {quoted(room.parts[2])}" status=3')
     ended = room.run([machines, str(K), *places])
     test.check("a fault in the second round", gave(ended) == (3, b""), ended)
+    try_lost(test, room, places)
+    room.forget()
     other = room.path / "other"
     other.write_bytes(programs.run([room.env["HEAVY"], "summarise", "--k", str(K)], b"a,1\n").out)
     room.forget(f'swapped="{other}"')
     ended = room.run([machines, str(K), *places])
     test.check("another summary on a machine", ended.returncode != 0 and ended.stdout == b"", ended)
     test.check("is not condensed by there", room.times("summarise") == PARTS and room.times("condense") == 0, room.lines("log"))
+
+
+def try_lost(test: programs.Checks, room: Room, places: list[str]) -> None:
+    """A machine that is lost in either round, for once and for good."""
+    machines = EXAMPLES / "many_machines.sh"
+    for command in ("summarise", "condense"):
+        room.forget(f'lost="two {command}" once=yes')
+        ended = room.run([machines, str(K), *places])
+        test.check(f"a machine lost once in {command}", gave(ended) == room.expected == room.report, ended)
+        test.check(f"its part is done again in {command}", len(room.lines("hosts")) == 2 * PARTS + 1, room.lines("hosts"))
+        room.forget(f'lost="two {command}"')
+        ended = room.run([machines, str(K), *places])
+        told = b"ssh: two is lost" in ended.stderr and ended.stderr.count(b"This job failed") > 0
+        test.check(f"a machine lost for good in {command}", gave(ended) == (255, b"") and told, ended)
 
 
 def quoted(part: Path) -> str:
@@ -324,9 +370,37 @@ def try_alone(test: programs.Checks, python: str, room: Room) -> None:
     test.check("is not condensed by", room.times("condense") == PARTS + 1, room.lines("log"))
 
 
+def try_three_workers(test: programs.Checks, python: str, room: Room) -> None:
+    """A cluster of three workers on one machine, of which one is killed while it runs the second pass over a part."""
+    room.forget("held=condense")
+    script = room.path / "three_workers.py"
+    script.write_text(THREE_WORKERS)
+    words = [python, str(script), str(K), *map(str, room.parts)]
+    # a cluster that ends beside a worker that starts anew says so on standard error
+    with open(room.path / "out", "wb") as out, open(room.path / "workers.log", "ab") as said:
+        env = {**room.env, "PYTHONPATH": str(EXAMPLES)}
+        example = subprocess.Popen(words, env=env, cwd=room.path, stdin=subprocess.DEVNULL, stdout=out, stderr=said)
+        try:
+            waited("a worker that runs heavy condense", (room.path / "holder").exists)
+            holder, workers = int(*room.lines("holder")), [int(word) for word in room.lines("workers")[0].split()]
+            test.check("one of three workers runs the program", len(workers) == 3 and holder in workers, (holder, workers))
+            if holder in workers:
+                os.kill(holder, signal.SIGKILL)
+            (room.path / "gate").touch()
+            status = example.wait(SECONDS)
+        finally:
+            example.kill()
+            example.wait()
+    printed = (room.path / "out").read_bytes()
+    killed = (status, printed) == room.expected == room.report
+    test.check("one of three workers killed in the second pass", killed, (status, printed))
+    test.check("its part is condensed again", room.times("condense") > PARTS, room.lines("log"))
+
+
 def try_dask(test: programs.Checks, python: str, room: Room) -> None:
     """The example over Dask, case by case."""
     tried(test, room, "Dask alone", lambda: try_alone(test, python, room))
+    tried(test, room, "three workers", lambda: try_three_workers(test, python, room))
     dask = Dask(python, room)
 
     def on_two_workers(case: Callable[[programs.Checks, Dask], None]) -> None:
@@ -344,14 +418,6 @@ def try_dask(test: programs.Checks, python: str, room: Room) -> None:
         stop([dask.scheduler])
 
 
-def with_dask() -> str | None:
-    """A Python that has Dask's scheduler: this one, or that of the system, for which Debian packs it."""
-    for python in (sys.executable, "/usr/bin/python3"):
-        if shutil.which(python) and subprocess.run([python, "-c", "import distributed"], capture_output=True).returncode == 0:
-            return python
-    return None
-
-
 class Engines(programs.Checks):
     """The scripts of examples/machines, over random records."""
 
@@ -366,9 +432,11 @@ class Engines(programs.Checks):
     def test_parallel(self) -> None:
         tried(self, self.records, "parallel", lambda: try_parallel(self, self.records))
 
-    @unittest.skipUnless(with_dask(), "the script over Dask wants python3-distributed")
     def test_dask(self) -> None:
-        try_dask(self, with_dask(), self.records)
+        python = programs.python_with("distributed")
+        if not python:
+            self.skipTest("the script over Dask wants python3-distributed")
+        try_dask(self, python, self.records)
 
 
 if __name__ == "__main__":

@@ -7,6 +7,7 @@ from concurrent.futures import ThreadPoolExecutor
 from dataclasses import dataclass
 from random import Random
 
+import corpus
 import programs
 import reference
 
@@ -71,19 +72,47 @@ def ran(program: str, room: str, number: int, case: Case) -> str | None:
     return None
 
 
+def chosen(cases: int) -> tuple[range, int]:
+    """The numbers of the cases and the seed, as the command line has them: CASES [SEED [FIRST]]."""
+    words = [int(word) for word in sys.argv[1:4]]
+    if words:
+        cases = words[0]
+    seed = words[1] if len(words) > 1 else time.time_ns() % 1_000_000_007
+    first = words[2] if len(words) > 2 else 0
+    return range(first, first + cases), seed
+
+
+def again(seed: int, number: int, test: str) -> str:
+    """The command that makes this case alone once more."""
+    return f"repeat it by: tests/{os.path.basename(sys.argv[0])} 1 {seed} {number} --only {test}"
+
+
 class Hostile(programs.Checks):
-    """So many cases of a seed, as `case` makes them; a script takes them as its first two words."""
+    """What is kept in the corpus, and then cases of a seed, as `case` makes them; a script takes them as its words."""
 
-    def try_cases(self, case: Callable[[Random], Case]) -> None:
-        cases = int(sys.argv[1]) if len(sys.argv) > 1 else 2_000
-        seed = int(sys.argv[2]) if len(sys.argv) > 2 else time.time_ns() % 1_000_000_007
-        print(f"{cases} cases of seed {seed}", flush=True)
+    def try_kept(self, kept: list[corpus.Kept], cases_of: Callable[[corpus.Kept], list[Case]]) -> None:
+        """Tries what these cases make of each file that is kept."""
         program = programs.built("heavy_cli")
+        self.check("there are kept files", len(kept) > 20, len(kept))
 
-        def one(number: int) -> tuple[Case, str | None]:
-            made = case(Random(f"{seed}/{number}"))
-            return made, ran(program, self.room, number, made)
+        def one(numbered: tuple[int, tuple[corpus.Kept, Case]]) -> tuple[corpus.Kept, Case, str | None]:
+            number, (file, made) = numbered
+            return file, made, ran(program, self.room, number, made)
 
         with ThreadPoolExecutor() as pool:
-            for number, (made, wrong) in enumerate(pool.map(one, range(cases))):
-                self.check(f"case {number} of seed {seed}", wrong is None, f"{made}: {wrong}")
+            for file, made, wrong in pool.map(one, enumerate((file, made) for file in kept for made in cases_of(file))):
+                self.check(f"{file.name} by {made.command}", wrong is None, f"{file.why}: {made}: {wrong}")
+
+    def try_cases(self, case: Callable[[Random], Case]) -> None:
+        numbers, seed = chosen(2_000)
+        print(f"{len(numbers)} cases of seed {seed}", flush=True)
+        program = programs.built("heavy_cli")
+
+        def one(number: int) -> tuple[int, Case, str | None]:
+            made = case(Random(f"{seed}/{number}"))
+            return number, made, ran(program, self.room, number, made)
+
+        with ThreadPoolExecutor() as pool:
+            for number, made, wrong in pool.map(one, numbers):
+                said = f"{again(seed, number, 'test_cases')}\n{made}: {wrong}"
+                self.check(f"case {number} of seed {seed}", wrong is None, said)

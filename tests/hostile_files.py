@@ -3,10 +3,11 @@
 tests/reference.py: a file has to be accepted exactly where it is the encoding of something, and else the fault
 is the first from the left.
 
-usage: tests/hostile_files.py [CASES [SEED]]
+usage: tests/hostile_files.py [CASES [SEED [FIRST]]]
 
-Prints the seed, how many cases ran and differed.
+Reads the saved files of tests/corpus first. Prints the seed, and for a case that differs the command that repeats it.
 """
+import corpus
 import hostile
 import programs
 import reference
@@ -72,7 +73,25 @@ def case(draw) -> hostile.Case:
     return hostile.Case(["ask"], [data], keys, b"", reference.answer(reference.ask, data, keys))
 
 
+def cases_of(kept: corpus.Kept) -> list[hostile.Case]:
+    """Each command that reads a saved file, on one that is kept."""
+    data, keys = kept.data, [b"a", b"others", b"k" * 255, b"\xff"]
+    other = reference.written(reference.misra_gries(reference.items_of(RECORDS), 2))
+    made = [
+        hostile.Case(["merge"], files, [], b"", reference.answer(reference.merge, files))
+        for files in ([data, data], [data, other], [other, data])
+    ]
+    for name, command in (("list", reference.list_keys), ("describe", reference.describe)):
+        made.append(hostile.Case([name], [data], [], b"", reference.answer(command, data)))
+    for name, command in (("confirm", reference.confirm), ("condense", reference.condense)):
+        made.append(hostile.Case([name], [data], [], RECORDS, reference.answer(command, data, RECORDS)))
+    return [*made, hostile.Case(["ask"], [data], keys, b"", reference.answer(reference.ask, data, keys))]
+
+
 class HostileFiles(hostile.Hostile):
+    def test_kept(self) -> None:
+        self.try_kept(corpus.kept_in("saved"), cases_of)
+
     def test_cases(self) -> None:
         self.try_cases(case)
 

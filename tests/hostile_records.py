@@ -2,12 +2,13 @@
 """Feeds mutated records to `report`, `summarise`, `table`, `confirm` and `condense`, and compares what they say with
 tests/reference.py: the same items, or the same first bad record with its number and cause.
 
-usage: tests/hostile_records.py [CASES [SEED]]
+usage: tests/hostile_records.py [CASES [SEED [FIRST]]]
 
-Prints the seed, how many cases ran and differed.
+Reads the records of tests/corpus first. Prints the seed, and for a case that differs the command that repeats it.
 """
 import functools
 
+import corpus
 import hostile
 import programs
 import reference
@@ -93,7 +94,32 @@ def case(draw) -> hostile.Case:
     return hostile.Case(["report", *options], [], [], given, reference.answer(reference.report, given, k, share))
 
 
+def cases_of(kept: corpus.Kept) -> list[hostile.Case]:
+    """Each command that reads records, on a text that is kept."""
+    given, words = kept.data, ("--width", "5", "--depth", "3", "--seed", "7")
+    made = [
+        hostile.Case(["report", "--width", "8", *how], [], [], given, reference.answer(reference.report, given, k, share))
+        for how, k, share in [
+            (["--k", "2", "--workers", "2"], 2, None), (["--k", "9", "--workers", "3", "--pieces", "5"], 9, None),
+            (["--k", "9", "--threshold", "1/2", "--workers", "1"], 9, b"1/2"),
+        ]
+    ]
+    for method in ("mg", "ss"):
+        expected = reference.answer(reference.summarise, given, 2)
+        made.append(hostile.Case(["summarise", "--k", "2", "--method", method], [], [], given, expected))
+    made.append(hostile.Case(["table", *words], [], [], given, reference.answer(table, given, empty_table(words))))
+    for other in (OTHER_KEYS[2], OTHER_KEYS[3]):
+        saved = reference.summarise(other, 9)
+        made.append(hostile.Case(["condense"], [saved], [], given, reference.answer(reference.condense, saved, given)))
+    status, saved, _ = reference.answer(reference.summarise, given, 3)
+    saved = saved if status == 0 else reference.summarise(b"a", 3)
+    return [*made, hostile.Case(["confirm"], [saved], [], given, reference.answer(reference.confirm, saved, given))]
+
+
 class HostileRecords(hostile.Hostile):
+    def test_kept(self) -> None:
+        self.try_kept(corpus.kept_in("records"), cases_of)
+
     def test_cases(self) -> None:
         self.try_cases(case)
 

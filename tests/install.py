@@ -218,6 +218,9 @@ class Install(programs.Checks):
         begun, crates = copy.begun(), sorted({*crates_below("heavy_cli"), "heavy_cli"})
         told = f"heavy: proving hh_stream, crate 1 of {len(crates)}, ".encode()
         self.check("it tells the crate", told in err, err)
+        timed = re.search(rb"a first build takes about (\d+) min on 4 processors; ", err)
+        slower = re.search(rb"a first build takes about (\d+) min on 1 processor; ", Copy(self.room, "one").run(1, processors=1)[2])
+        self.check("it tells how long it takes", timed and slower and int(slower[1]) > 2 * int(timed[1]) > 0, (err, slower))
         self.check("it has a line for each crate", b"\r" not in err and err.count(b"hh_stream") == 1, err)
         self.check("each crate is proved once", begun == crates, (begun, crates))
         found = copy.run()
@@ -300,8 +303,7 @@ class Install(programs.Checks):
     def test_two(self) -> None:
         """Two that begin at once build once, and one that waits can be interrupted."""
         if not shutil.which("flock"):
-            print("install: two builds at once are left out, for want of flock", flush=True)
-            return
+            self.skipTest("two builds at once want flock")
         copy = Copy(self.room, "two")
         first = copy.start(3)
         copy.waits_for_child()
@@ -340,8 +342,7 @@ class Install(programs.Checks):
         """The library is built and installed beside the program, with the program's version; a failed build is told; where
         there is no compiler, it is left out, and that is told."""
         if not shutil.which("cc") or not shutil.which("ar"):
-            print("install: the library is left out, for want of cc and ar", flush=True)
-            return
+            self.skipTest("the library wants cc and ar")
         copy = Copy(self.room, "library")
         copy.add_library()
         files = [*INSTALLED, *LIBRARY]

@@ -12,6 +12,7 @@ it stands on, to prove them all takes long, so the header alone is compared, and
 """
 import os
 import re
+import shutil
 import subprocess
 import sys
 import tempfile
@@ -76,6 +77,7 @@ class Library(programs.Checks):
         print(f"library: tried by {', '.join(compilers)}", flush=True)
         for compiler in compilers:
             self.try_library(compiler)
+        self.try_memory(compilers[0], f"{self.room}/{Path(compilers[0]).name}/usr")
 
     def test_header(self) -> None:
         """Each number, structure and call of the header is the library's, and it has no others; drifts are found."""
@@ -105,12 +107,27 @@ class Library(programs.Checks):
             ended = programs.run([made]) if made else None
             self.check(f"{name}, by {compiler}", ended is not None and (ended.status, ended.err) == (0, b""), ended)
 
+    def try_memory(self, compiler: str, prefix: str) -> None:
+        """The calls under valgrind: no byte is read that was not written, and all memory is given back."""
+        with self.subTest("valgrind"):
+            if not shutil.which("valgrind"):
+                self.skipTest("memory that is not given back wants valgrind")
+            program = compiled(compiler, "calls.c", prefix, self.room, "-g0")
+            words = ["valgrind", "--quiet", "--error-exitcode=99", "--leak-check=full", program]
+            ended = programs.run(words, env=dict(os.environ)) if program else None
+            self.assertTrue(ended is not None and (ended.status, ended.err) == (0, b""), ended)
+
     def try_python(self, prefix: str) -> None:
-        """The module's own tests."""
+        """The module's own tests, by a Python that has the arrays which it takes."""
         env = {**os.environ, "HEAVY": programs.built("heavy_cli"), "LIBHEAVY": f"{prefix}/lib/libheavy.so.1"}
-        words = [sys.executable, "-B", "-m", "unittest", "test_heavy"]
+        python = programs.python_with("numpy", "pandas")
+        with self.subTest("arrays"):
+            if not python:
+                self.skipTest("arrays of numpy and pandas want both")
+        words = [python or sys.executable, "-B", "-m", "unittest", "test_heavy"]
         ran = subprocess.run(words, cwd=programs.TOP / "python", env=env, capture_output=True, text=True)
         self.check("the Python module", ran.returncode == 0, ran.stderr)
+        self.check("its arrays", not python or "skipped" not in ran.stderr, ran.stderr)
 
     def try_pool(self, prefix: str) -> None:
         """The example of a pool of processes prints the program's report, in any number of parts, and its refusals."""

@@ -15,6 +15,19 @@ CC = TOP / "tests" / "c" / "cc"
 SKIPPED = 77
 
 
+def only() -> list[str] | None:
+    """The words behind --only on the command line of a script, which are taken away: it makes the tests whose names have
+    one of them."""
+    if "--only" not in sys.argv:
+        return None
+    at = sys.argv.index("--only")
+    words, sys.argv[at:] = sys.argv[at + 1 :], []
+    return [f"*{word}*" for word in words]
+
+
+ONLY = only()
+
+
 def built(crate: str) -> str:
     """The program of a crate, which `rt ci` has left there; else it is proved and built first."""
     program = TOP / "crates" / crate / "out" / crate
@@ -40,6 +53,15 @@ def preloaded(source: str, room: str) -> str:
     words = ["-shared", "-fPIC", "-O1", "-nostdlib", f"--ld-path={linker}", "-o", library]
     subprocess.run([compiler, *words, str(TOP / "tests" / source)], check=True)
     return library
+
+
+def python_with(*modules: str) -> str | None:
+    """A Python that has these modules: this one, or that of the system, for which Debian packs them."""
+    for python in (sys.executable, "/usr/bin/python3"):
+        words = [python, "-c", f"import {', '.join(modules)}"]
+        if shutil.which(python) and subprocess.run(words, capture_output=True).returncode == 0:
+            return python
+    return None
 
 
 def has_library() -> bool:
@@ -119,6 +141,7 @@ def run_tests(name: str) -> None:
     """Runs the tests of the script. Its last line tells how many checks passed and failed, and how many tests were skipped;
     the lines above it tell why. The status is 1 where one failed or none was made, and SKIPPED where none was made for want
     of what the tests need."""
+    unittest.defaultTestLoader.testNamePatterns = ONLY
     suite = unittest.defaultTestLoader.loadTestsFromModule(sys.modules["__main__"])
     with open(os.devnull, "w") as nowhere:
         result = unittest.TextTestRunner(nowhere, resultclass=Counted).run(suite)

@@ -2,9 +2,9 @@
 """Reads files of records in columns of one's own: by rows whose answers were found by hand, and by random files and
 options, whose answers a second reader finds over Python's csv.
 
-usage: tests/record_files.py [CASES [SEED]]
+usage: tests/record_files.py [CASES [SEED [FIRST]]]
 
-Prints the seed, how many cases ran and differed.
+Reads the records of tests/corpus first. Prints the seed, and for a case that differs the command that repeats it.
 """
 import csv
 import io
@@ -15,6 +15,7 @@ from fractions import Fraction
 from pathlib import Path
 from random import Random
 
+import corpus
 import hostile
 import hostile_records
 import programs
@@ -370,7 +371,47 @@ def case(draw: Random) -> hostile.Case:
     return hostile.Case([*words, *options], files, [], given, expected)
 
 
+def layout_of(words: list[str]) -> Layout:
+    """The layout that the options of a kept file say."""
+    layout, left = Layout(), [word.encode() for word in words]
+    while left:
+        match left.pop(0):
+            case b"--header":
+                layout.has_header = True
+            case b"--allow-zero":
+                layout.allow_zero = True
+            case b"--delimiter":
+                layout.delimiter = left.pop(0)
+            case b"--key":
+                layout.key = left.pop(0).split(b",")
+            case b"--weight":
+                layout.weight = left.pop(0)
+            case b"--decimals":
+                layout.decimals = int(left.pop(0))
+            case word:
+                raise ValueError(f"no option of records: {word}")
+    return layout
+
+
+def cases_of(kept: corpus.Kept) -> list[hostile.Case]:
+    """A report, a summary and a confirmation of a file that is kept, and a report of it twice."""
+    layout, texts, few = layout_of(kept.words), [kept.data], ["--workers", "2"]
+    how = {"reader": items_of, "decimals": layout.decimals}
+    made = []
+    for files in (texts, texts * 2):
+        expected = reference.answer(reference.report, Records(layout, dict(enumerate(files, 1))), 9, **how)
+        made.append(hostile.Case(["report", "--k", "9", "--width", "8", *few, *kept.words], files, [], b"", expected))
+    status, saved, said = reference.answer(reference.summarise, Records(layout, dict(enumerate(texts, 1))), 9, items_of)
+    made.append(hostile.Case(["summarise", "--k", "9", *kept.words], texts, [], b"", (status, saved, said)))
+    saved = saved if status == 0 else reference.summarise(b"a", 9)
+    expected = reference.answer(reference.confirm, saved, Records(layout, dict(enumerate(texts, 2))), **how)
+    return [*made, hostile.Case(["confirm", *few, *kept.words], [saved, *texts], [], b"", expected)]
+
+
 class RandomFiles(hostile.Hostile):
+    def test_kept(self) -> None:
+        self.try_kept([*corpus.kept_in("columns"), *corpus.kept_in("records")], cases_of)
+
     def test_cases(self) -> None:
         self.try_cases(case)
 

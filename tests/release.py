@@ -2,7 +2,7 @@
 """Makes a release of a copy of the scripts, with stand-ins for what is not installed everywhere (git, dpkg-deb,
 lintian, the compiler, the toolchain): what it has, that two runs give the same bytes, and what it refuses. Removes what
 bin/install and the tarball's own script installed, and finds nothing left; an installation that fails changes nothing.
-Compares the version wherever it stands. Links the program statically from the object that the build made, where a
+Compares the version wherever it stands. Where the real tools are here, makes a release by them too. Links the program statically from the object that the build made, where a
 compiler is here that can, and runs on it the checks of the command line, of devices and of refused memory.
 
 usage: tests/release.py
@@ -41,7 +41,7 @@ PATH = {"PATH": os.environ["PATH"]}
 BUILT = b"#!/bin/sh\necho built\n"
 # Each notes nothing and does the least that bin/release needs. What a compiler writes is a program that says so.
 STAND_INS = {
-    "rt": f'#!/bin/sh\ncase $1 in doc) echo "$KIT/START-HERE.md" ;; version) echo {TOOLCHAIN} ;; esac\n',
+    "rt": f'#!/bin/sh\ncase $1 in doc) echo "$KIT/START-HERE.md" ;; version) echo "${{VERSION_LINE:-{TOOLCHAIN}}}" ;; esac\n',
     "git": f"""#!/bin/sh
 case "$*" in
   *status*) printf '%s' "$CHANGES" ;;
@@ -76,6 +76,8 @@ esac
     "rattle-link": '#!/bin/sh\ncp "$LINKED" "$6"\n',
 }
 
+# what a static link takes the licences from
+PAPERS = ["/usr/share/doc/libc6-dev/copyright", "/usr/share/common-licenses/LGPL-2.1"]
 # what the installing scripts call, besides a compiler and ar
 TOOLS = [
     "bash", "sh", "env", "dirname", "readlink", "awk", "find", "sed", "cp", "chmod", "mv", "mkdir", "mktemp", "rm",
@@ -87,17 +89,37 @@ void *next_thread(void *from, const char *name) { return (void *)__real_pthread_
 """
 
 
+LOGIC = re.compile("logic `([0-9a-f]+)`")
+
+
+def tell_version(top: Path) -> None:
+    """Gives what stands under Unreleased in a changelog the version, as whoever releases it does."""
+    text = (top / "CHANGELOG.md").read_text()
+    told = f"## [{VERSION}] - 2026-11-27"
+    if told.split(" - ")[0] not in text:
+        (top / "CHANGELOG.md").write_text(text.replace("## [Unreleased]\n", f"## [Unreleased]\n\n{told}\n", 1))
+
+
+def pages() -> set[str]:
+    """The files for readers that README.md names, and those that its folders hold."""
+    named = re.findall(r"\b(?:docs|examples|bench|python)/[\w./-]*\w|\b[A-Z]+\.md\b", (programs.TOP / "README.md").read_text())
+    return {name for name in named if (programs.TOP / name).is_file()}
+
+
 class Copy:
     """What a release is made of, in a folder of its own, and the stand-ins on the path."""
 
     def __init__(self, room: str) -> None:
         self.top, tools, kit, share = (Path(room, name) for name in ("clone", "tools", "kit", "share"))
-        for folder in ("bin", "completions", "include", "man", "packaging", "python"):
+        for folder in ("bin", "completions", "docs", "examples", "include", "man", "packaging", "python"):
             shutil.copytree(programs.TOP / folder, self.top / folder)
-        for file in ("CHANGELOG.md", "LICENSE-APACHE", "LICENSE-MIT", "README.md", "crates.txt", "docs/FORMATS.md",
-                     SOURCE):
+        for file in ("CHANGELOG.md", "CONTRIBUTING.md", "SECURITY.md", "LICENSE-APACHE", "LICENSE-MIT", "README.md",
+                     "bench/README.md", "crates.txt", SOURCE):
             (self.top / file).parent.mkdir(parents=True, exist_ok=True)
             shutil.copy(programs.TOP / file, self.top / file)
+        tell_version(self.top)
+        text, logic = (self.top / "README.md").read_text(), LOGIC.search((programs.TOP / "README.md").read_text())
+        (self.top / "README.md").write_text(text.replace(logic[1], "0123") if logic else text)
         ours = [line.split(":") for line in (self.top / "crates.txt").read_text().splitlines()]
         names = {head.split()[0] for head, _ in ours}
         for name in names:
@@ -156,6 +178,10 @@ def try_tarball(checks: programs.Checks, file: Path, room: str) -> None:
     files = {name.removeprefix(f"{NAME}/") for name, member in members.items() if member.isfile()}
     others = {"LICENSE-APACHE", "LICENSE-MIT", "README", "README.md", "docs/FORMATS.md", "install", "uninstall"}
     checks.check("the tarball has the program", PROGRAM | others <= files, files)
+    wanted = pages() | {"examples/machines/many_machines.sh", "examples/machines/README.md", "docs/C.md"}
+    checks.check("and what its README names", len(wanted) > 12 and wanted <= files, wanted - files)
+    modes = {name for name, member in members.items() if "/examples/" in name and member.mode & 0o111 and member.isfile()}
+    checks.check("its scripts can be run", len(modes) >= 5 and all(it.endswith((".sh", ".py")) for it in modes), modes)
     licences = {name for name in files if name.startswith("share/doc/heavy/licences/")}
     wanted = {"clap/LICENSE-MIT", "below/LICENSE-MIT", "libc/LGPL-2.1", "libc/copyright", "libgcc/copyright"}
     none = not any("other" in name for name in licences)
@@ -190,7 +216,7 @@ def try_packages(checks: programs.Checks, folder: Path) -> None:
     wanted = {
         "heavy": {f"usr/{it}" + ".gz" * it.endswith(".1") for it in PROGRAM},
         "libheavy1": {"usr/lib/x86_64-linux-gnu/libheavy.so.1", "DEBIAN/shlibs", "DEBIAN/symbols", "DEBIAN/triggers"},
-        "libheavy-dev": {"usr/include/heavy.h"} | {
+        "libheavy-dev": {"usr/include/heavy.h", "usr/share/doc/libheavy-dev/C.md"} | {
             f"usr/lib/x86_64-linux-gnu/{it}" for it in ("libheavy.a", "libheavy.so", "pkgconfig/heavy.pc")},
     }
     for name, files in wanted.items():
@@ -198,6 +224,11 @@ def try_packages(checks: programs.Checks, folder: Path) -> None:
         members = names_in(packed)
         there = {it.removeprefix("./") for it, member in members.items() if not member.isdir()}
         papers = {f"usr/share/doc/{name}/{it}" for it in ("changelog.gz", "copyright")}
+        if name == "heavy":
+            kept = {it for it in there if it.startswith("usr/share/doc/heavy/")} - papers
+            named = {f"usr/share/doc/heavy/{it}" for it in pages() if it != "CHANGELOG.md"}
+            checks.check("the package has what README.md names", named <= kept, named - kept)
+            there -= kept
         checks.check(f"what {name} has", there == files | papers | {"DEBIAN/control", "DEBIAN/md5sums"}, there)
         times = {member.mtime for member in members.values()}
         checks.check(f"no time of the machine is in {name}", times == {SECONDS}, times)
@@ -205,7 +236,7 @@ def try_packages(checks: programs.Checks, folder: Path) -> None:
         filled = f"Version: {VERSION}\n" in control and "Maintainer: A B <a@b.example>\n" in control
         checks.check(f"the control of {name}", filled and "@V" not in control and "(>= )" not in control, control)
         sums = dict(reversed(line.split("  ")) for line in text_in(packed, "./DEBIAN/md5sums").decode().splitlines())
-        right = {it: hashlib.md5(text_in(packed, f"./{it}")).hexdigest() for it in there
+        right = {it: hashlib.md5(text_in(packed, f"./{it}")).hexdigest() for it in (it.removeprefix("./") for it in members)
                  if it.startswith("usr/") and members[f"./{it}"].isfile()}
         checks.check(f"the sums of {name}", sums == right, sums)
         changes = gzip.decompress(text_in(packed, f"./usr/share/doc/{name}/changelog.gz")).decode()
@@ -271,6 +302,7 @@ def try_refusals(checks: programs.Checks, copy: Copy, room: str) -> None:
         ("changes", [target], {"CHANGES": " M x"}, b"changes that are not committed"),
         ("no tag", [target], {"TAG": ""}, f"no tag v{VERSION}".encode()),
         ("another tag", [target], {"TAG": "v0.0.1"}, f"no tag v{VERSION}".encode()),
+        ("another logic", [target], {"VERSION_LINE": "kit-2 logic 4567"}, b"the toolchain is kit-2 logic 4567, and README.md names logic 0123"),
         ("a gate that failed", ["--gate", "10 passed, 10 failed", target], {}, b"the gate failed"),
         ("a folder in the clone", [str(copy.top / "release")], {}, b"a release lies outside"),
         ("a folder in use", [f"{room}/first"], {}, b"not an empty folder"),
@@ -281,6 +313,17 @@ def try_refusals(checks: programs.Checks, copy: Copy, room: str) -> None:
     ]:
         ended = copy.release(*words, **env)
         checks.check(f"refused: {name}", ended.status == 1 and text in ended.err and not Path(target).exists(), ended)
+    ended = copy.release(target, VERSION_LINE="kit-of-before logic 0123")
+    said = Path(target, "MANIFEST").read_text() if ended.status == 0 else ended
+    checks.check("another kit of that logic", "toolchain: kit-of-before logic 0123\n" in said, said)
+    shutil.rmtree(target, ignore_errors=True)
+    changelog = copy.top / "CHANGELOG.md"
+    text = changelog.read_text()
+    changelog.write_text(text.replace("## [Unreleased]\n", "## [Unreleased]\n\n### Added\n\n- A thing.\n", 1))
+    ended = copy.release(target)
+    told = b"CHANGELOG.md has entries under Unreleased" in ended.err
+    checks.check("refused: entries under Unreleased", ended.status == 1 and told and not Path(target).exists(), ended)
+    changelog.write_text(text)
     for words in ([], ["--gate", target], ["--nothing", target], [target, target], [""]):
         ended = copy.release(*words)
         checks.check(f"usage: {words}", ended.status == 2 and b"usage: bin/release" in ended.err, ended)
@@ -382,6 +425,8 @@ def try_versions(checks: programs.Checks) -> None:
         "examples/machines": found("examples/machines/README.md", r"heavy-(\d+\.\d+\.\d+)-x86_64-linux/"),
         "examples/machines, of Debian": found("examples/machines/README.md", r"heavy_(\d+\.\d+\.\d+)_amd64\.deb"),
     }
+    # before the first release it tells none
+    told["the changelog"] = told["the changelog"] or VERSION
     for name, version in told.items():
         checks.check(f"the version of {name}", version == VERSION, version)
     numbers = [str(file.relative_to(programs.TOP)) for folder in ("packaging", "python", "bin")
@@ -413,11 +458,49 @@ def link_hooked(program: str, source: str, room: str) -> programs.Ended:
     return link_static(program, f"{program}.o", *after, "-Wl,-z,muldefs")
 
 
+def try_real(room: str) -> tuple[programs.Ended, Path]:
+    """Releases the files that git knows, over what was built of them, from a clone of its own with a commit and a tag."""
+    top, made = Path(room, "tree"), Path(room, "made")
+    listed = subprocess.run(["git", "ls-files", "-z", "--cached", "--others", "--exclude-standard"], cwd=programs.TOP, capture_output=True)
+    for name in filter(None, listed.stdout.decode().split("\0")):
+        if (programs.TOP / name).is_file():
+            (top / name).parent.mkdir(parents=True, exist_ok=True)
+            shutil.copy2(programs.TOP / name, top / name)
+    for place in (programs.TOP / "crates").glob("*/out"):
+        (top / place.relative_to(programs.TOP)).symlink_to(place)
+    tell_version(top)
+    # a link is no folder, which .gitignore names
+    (top / ".git" / "info").mkdir(parents=True)
+    git = ["git", "-c", "user.name=A B", "-c", "user.email=a@b.example", "-c", "init.defaultBranch=main"]
+    for words in (["init", "-q"], ["add", "-A", "--", ":!crates/*/out"], ["commit", "-q", "-m", "A release"], ["tag", f"v{VERSION}"]):
+        subprocess.run([*git, *words], cwd=top, check=True, capture_output=True)
+    (top / ".git" / "info" / "exclude").write_text("crates/*/out\n")
+    env = {**os.environ, "PYTHON": "/usr/bin/python3"}
+    return programs.run([str(top / "bin" / "release"), str(made)], env=env), made
+
+
 class Release(programs.Checks):
     """A release, and what installs and removes what is in it."""
 
     def test_release(self) -> None:
         try_release(self, f"{self.room}/release")
+
+    def test_real(self) -> None:
+        """A release by the real tools, of the built program and library in a clone that is tagged for it: lintian finds
+        nothing, and the program runs."""
+        wants = programs.run(script("has_object && is_library_built"), env=dict(os.environ)).status != 0
+        tools = [name for name in ("git", "dpkg-deb", "lintian", "cc", "ar", "strip") if not shutil.which(name)]
+        papers = [file for file in PAPERS if not Path(file).exists()]
+        modules = subprocess.run(["/usr/bin/python3", "-c", "import setuptools, wheel"], capture_output=True).returncode
+        if wants or tools or papers or modules:
+            self.skipTest(f"wants {tools or papers or 'what the build leaves of the program and the library, and setuptools'}")
+        ended, made = try_real(self.room)
+        said = dict(line.split(": ", 1) for line in (made / "MANIFEST").read_text().splitlines()) if ended.status == 0 else {}
+        self.check("a release by real tools", ended.status == 0, ended)
+        self.check("lintian found nothing", "no errors and no warnings" in said.get("lintian", ""), said)
+        subprocess.run(["tar", "-xzf", made / f"{NAME}.tar.gz", "-C", self.room])
+        ran = programs.run([f"{self.room}/{NAME}/bin/heavy", "report", "--k", "2", f"{self.room}/{NAME}/examples/four.csv"])
+        self.check("its program on its example", (ran.status, ran.out) == (0, b"a,6\n"), ran)
 
     def test_uninstall(self) -> None:
         try_uninstall(self, self.room)
@@ -450,7 +533,7 @@ class Release(programs.Checks):
         ]:
             words = [sys.executable, "-B", "on_static.py", name, program, *more]
             ran = subprocess.run(words, cwd=programs.TOP / "tests", capture_output=True, text=True)
-            passed = re.search(r"^.*: (\d+) passed, 0 failed, 0 skipped$", ran.stdout, re.M)
+            passed = re.search(r"^.*: (\d+) passed, 0 failed, \d+ skipped$", ran.stdout, re.M)
             right = ran.returncode == 0 and passed and int(passed[1]) > 20
             self.check(f"{name} of the static program", right, ran.stdout + ran.stderr)
 

@@ -5,8 +5,9 @@ standard input and from pipes, and beside what a second reader finds.
 
 usage: tests/report_files.py [CASES [SEED]]
 
-Prints the seed, how many cases ran and differed, of each kind. Each case has a seed of its own, one more than the case before
-it, and one that fails is told with the command that repeats it.
+Reads the records of tests/corpus first, each again and again. Prints the seed, how many cases ran and differed, of each kind.
+Each case has a seed of its own, one more than the case before it, and one that fails is told with the command that repeats
+it.
 """
 import os
 import signal
@@ -18,6 +19,7 @@ from functools import partial
 from pathlib import Path
 from random import Random
 
+import corpus
 import programs
 import reference
 
@@ -168,6 +170,20 @@ class ReportFiles(programs.Checks):
             ended = programs.run([program, "report", *words])
             told = b"heavy: file %d: could not be read\n" % number
             self.check(str(words), (ended.status, ended.out, ended.err) == (1, b"", told), ended)
+
+    def test_kept(self) -> None:
+        """Each text that is kept, so often that workers read it in pieces, reads as the reference reads it."""
+        program = programs.built("heavy_cli")
+        kept = corpus.kept_in("records")
+        self.check("there are kept texts", len(kept) > 20, len(kept))
+        for file in kept:
+            text = file.data * (2 * LEAST // len(file.data) + 1 if file.data else 1)
+            wanted = reference.answer(reference.report, text, 3)
+            for workers in ("1", "4"):
+                words = [program, "report", "--k", "3", "--workers", workers]
+                for ended in (programs.run([*words, *self.files(text)]), programs.run(words, text)):
+                    holds = (ended.status, ended.out, ended.err) == wanted
+                    self.check(f"{file.name} by {workers}", holds, (file.why, ended, wanted))
 
     def test_random_files(self) -> None:
         """A file reads as the same text from standard input does, whatever it has; and several files as the pipes do."""

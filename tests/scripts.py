@@ -1,0 +1,118 @@
+#!/usr/bin/env python3
+"""Reads the repository's own shell scripts by shellcheck, and tries .ci/run, tests/run and .ci/setup by stand-ins: what they
+count, what is installed, and that a part which can't be had fails the gate where CI is set.
+
+usage: tests/scripts.py
+"""
+import os
+import shutil
+import subprocess
+import unittest
+from pathlib import Path
+
+import programs
+
+# Debian's packages of stand-ins: apt-get notes its words, and has what the file `registry` names.
+APT = """#!/bin/bash
+echo "$*" >> "$ROOM/asked"
+case " $* " in *" update "*) exit 0 ;; esac
+for word; do
+  case $word in
+    -* | *=* | install | update) ;;
+    *) grep -qx "$word" "$ROOM/registry" || { echo "E: no package $word" >&2; exit 100; } ;;
+  esac
+done
+for word; do case $word in strace) cp "$ROOM/apt/apt-get" "$ROOM/apt/strace" ;; esac; done
+"""
+
+
+def shell_scripts() -> list[str]:
+    """The scripts of a shell that git knows, or that are new."""
+    words = ["git", "ls-files", "--cached", "--others", "--exclude-standard"]
+    listed = subprocess.run(words, cwd=programs.TOP, capture_output=True, text=True, check=True).stdout.split("\n")
+    files = [name for name in listed if name and (programs.TOP / name).is_file()]
+    return [name for name in files if (programs.TOP / name).read_bytes()[:30].startswith((b"#!/bin/sh", b"#!/usr/bin/env bash"))]
+
+
+class Scripts(programs.Checks):
+    """The scripts that build, install and test."""
+
+    @unittest.skipUnless(shutil.which("shellcheck") and (programs.TOP / ".git").exists(), "wants shellcheck, and a clone")
+    def test_shellcheck(self) -> None:
+        names = shell_scripts()
+        self.check("there are scripts", len(names) > 10, names)
+        ended = subprocess.run(["shellcheck", "-x", *names], cwd=programs.TOP, capture_output=True, text=True)
+        self.check("shellcheck finds nothing", ended.returncode == 0, ended.stdout)
+
+    def run_gate(self, env: dict[str, str], proofs: str, tests: str, setup: int) -> programs.Ended:
+        """The gate over stand-ins that print these closing lines, with a setup that ends so."""
+        top = Path(self.room, "gate")
+        for name, text in (
+            (".ci/budget", f"echo '{proofs}'"), ("tests/run", f"echo '{tests}'; exit 0"),
+            (".ci/setup", f"echo set up; exit {setup}"),
+        ):
+            (top / name).parent.mkdir(parents=True, exist_ok=True)
+            (top / name).write_text(f"#!/bin/sh\n{text}\n")
+            (top / name).chmod(0o755)
+        shutil.copy(programs.TOP / ".ci" / "run", top / ".ci" / "run")
+        return programs.run([str(top / ".ci" / "run")], env={"PATH": os.environ["PATH"], **env})
+
+    def test_gate(self) -> None:
+        """What the gate's last line adds up, and when it sets the machine up."""
+        for name, env, proofs, tests, setup, wanted in [
+            ("all is well", {}, "100 passed, 0 failed", "20 passed, 0 failed, 0 skipped", 1, (0, b"120 passed, 0 failed, 0 skipped")),
+            ("in CI", {"CI": "true"}, "100 passed, 0 failed", "20 passed, 0 failed, 0 skipped", 0, (0, b"120 passed, 0 failed, 0 skipped")),
+            ("skipped", {}, "100 passed, 0 failed", "20 passed, 0 failed, 7 skipped", 0, (0, b"120 passed, 0 failed, 7 skipped")),
+            ("failed", {}, "90 passed, 10 failed", "18 passed, 2 failed, 0 skipped", 0, (0, b"108 passed, 12 failed, 0 skipped")),
+            ("a part is missing in CI", {"CI": "1"}, "100 passed, 0 failed", "20 passed, 0 failed, 1 skipped", 1,
+             (1, b"120 passed, 1 failed, 1 skipped")),
+        ]:
+            ended = self.run_gate(env, proofs, tests, setup)
+            last = ended.out.splitlines()[-1]
+            self.check(name, (ended.status, last) == wanted, ended)
+            self.check(f"setting up: {name}", ended.out.startswith(b"set up\n") == ("CI" in env), ended.out)
+
+    def test_run(self) -> None:
+        """What tests/run counts of what scripts print and end with."""
+        top = Path(self.room, "tests")
+        top.mkdir()
+        shutil.copy(programs.TOP / "tests" / "run", top / "run")
+        for name, status, line in [
+            ("good.py", 0, "good: 3 passed, 0 failed, 1 skipped"), ("bad.py", 1, "bad: 2 passed, 1 failed, 0 skipped"),
+            ("none.py", programs.SKIPPED, "none: 0 passed, 0 failed, 2 skipped"),
+        ]:
+            (top / name).write_text(f"import sys\nprint('{line}', sys.argv[1:] or '', sep='')\nsys.exit({status})\n")
+        for names, wanted in [
+            (["good.py"], (0, b"1 passed, 0 failed, 1 skipped")), (["good.py", "none.py"], (0, b"1 passed, 0 failed, 3 skipped")),
+            (["good.py", "bad.py", "none.py"], (1, b"1 passed, 1 failed, 3 skipped")),
+        ]:
+            ended = programs.run([str(top / "run"), *names], env=dict(os.environ))
+            self.check(f"tests/run of {names}", (ended.status, ended.out.splitlines()[-1]) == wanted, ended)
+
+    @unittest.skipUnless(os.geteuid() == 0, "installing wants root")
+    def test_setup(self) -> None:
+        """What is missing is asked for, and what can't be had is told. One command is hidden, which the stand-in has or not."""
+        tools = Path(self.room, "apt")
+        tools.mkdir()
+        (tools / "apt-get").write_text(APT)
+        (tools / "apt-get").chmod(0o755)
+        for folder in ("/usr/local/sbin", "/usr/local/bin", "/usr/sbin", "/usr/bin", "/sbin", "/bin"):
+            for file in Path(folder).glob("*"):
+                if file.name not in ("strace", "apt-get") and not (tools / file.name).exists():
+                    (tools / file.name).symlink_to(file)
+        env = {"PATH": str(tools), "ROOM": self.room}
+        setup = str(programs.TOP / ".ci" / "setup")
+        Path(self.room, "registry").write_text("")
+        ended = programs.run([setup], env=env)
+        last = ended.out.splitlines()[-1]
+        told = last.startswith(b"setup: missing: ") and b" strace" in b" " + last.removeprefix(b"setup: missing:")
+        self.check("a registry without it", ended.status == 1 and told, ended)
+        Path(self.room, "registry").write_text("strace\n")
+        programs.run([setup], env=env)
+        asked = Path(self.room, "asked").read_text()
+        self.check("it is asked for by its name", " strace" in asked and "update" in asked, asked)
+        self.check("it is there then", (tools / "strace").exists(), asked)
+
+
+if __name__ == "__main__":
+    programs.run_tests("scripts")
