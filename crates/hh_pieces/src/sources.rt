@@ -148,6 +148,8 @@ pub fn are_as_long<S: ReadAt>(
 impl<'s, S: ReadAt> ReadRecords for SourceRecords<'s, S> {
     ghost known = { λ records. texts_known S.bytes records.layout.now records.sources.now };
 
+    ghost hasher = { λ records. records.layout.now.hash };
+
     fn hash(&self) -> KeyHash {
         self.layout.hash
     }

@@ -26,5 +26,5 @@ known-every layout f g x y xs ys first others =
     λ i. record {
       names_columns = names_columns layout;
       reading = option_map (stream_with layout)
-        (option_and_then (λ z. option_map (λ zs. z ∷ zs) (others i)) (first i));
+          (option_and_then (λ z. option_map (λ zs. z ∷ zs) (others i)) (first i));
     }

@@ -47,6 +47,14 @@ impl Layout {
     pub fn plain(alloc: Global) -> Layout
         ensures { IsPlain result }
     {
+        Layout::with_hasher(alloc, KeyHash::fixed())
+    }
+
+    /// [`plain`](Layout::plain), with keys hashed by `hash`.
+    pub fn with_hasher(alloc: Global, hash: KeyHash) -> Layout
+        ensures plain { IsPlain result }
+        ensures hash { result.hash ≡ hash }
+    {
         Layout {
             delimiter: b',',
             has_header: false,
@@ -54,7 +62,7 @@ impl Layout {
             weight: None,
             allow_zero: false,
             decimals: 0,
-            hash: KeyHash::fixed(),
+            hash,
         }
     }
 }

@@ -4,6 +4,7 @@ ghost use Rattle.std.specs.Prelude.{◌≡◌, ◌*◌, ◌<◌, ◌≤◌, ◌�
 ghost use Rattle.std.specs.Io.Buffered.{reader_capacity};
 ghost use Rattle.csv.specs.Reading.{records, strip_bom};
 ghost use Rattle.hh_stream.specs.Weights.{max_total};
+ghost use Rattle.hh_stream.specs.declared.key_hash.KeyHash.{KeyHash};
 ghost use Rattle.hh_records.specs.Layouts.{AllOpen, IsStart, IsText, OpenRefused, Opens, OpensAs};
 ghost use Rattle.hh_stream.specs.Taking.{Takes};
 ghost use Rattle.hh_records.specs.Layouts.{RowsRefused, TextsRefused, all_left};
@@ -209,13 +210,23 @@ pub struct Records<R> {
 
 impl<R: Read + Drop> Records<R> {
     /// Those of one text of keys and weights, as [`read_stream`](crate::read_stream) reads them.
+    /// Keys are hashed by the words that all runs have.
     pub fn of_reader(alloc: Global, reader: R) -> Records<R>
         ensures known { records_known R.remaining result ≡ text_known (R.remaining reader) }
         ensures whole { result.layout.decimals ≡ 0 }
     {
+        Records::with_hasher(alloc, reader, KeyHash::fixed())
+    }
+
+    /// [`of_reader`](Records::of_reader), with keys hashed by `hash`.
+    pub fn with_hasher(alloc: Global, reader: R, hash: KeyHash) -> Records<R>
+        ensures known { records_known R.remaining result ≡ text_known (R.remaining reader) }
+        ensures whole { result.layout.decimals ≡ 0 }
+        ensures hash { result.layout.hash ≡ hash }
+    {
         plain_layouts_read_streams();
         Records {
-            layout: Layout::plain(alloc),
+            layout: Layout::with_hasher(alloc, hash),
             first: reader,
             others: Vec::new(alloc),
         }
@@ -227,8 +238,12 @@ pub trait ReadRecords: Drop {
     // what is known of them
     ghost known: { Self → Known };
 
+    // how their keys are hashed
+    ghost hasher: { Self → KeyHash };
+
     /// How their keys are hashed where they are looked up. No answer depends on it.
-    fn hash(&self) -> KeyHash;
+    fn hash(&self) -> KeyHash
+        ensures { result ≡ hasher self.now };
 
     /// Hands the item of each record to a taker of none, in order, and returns the taker.
     fn read_into<T: TakeItems>(self, alloc: Global, taker: T) -> Result<T, TextError>
@@ -239,6 +254,8 @@ pub trait ReadRecords: Drop {
 
 impl<R: Read + Drop> ReadRecords for Records<R> {
     ghost known = { records_known R.remaining };
+
+    ghost hasher = { λ records. records.layout.hash };
 
     fn hash(&self) -> KeyHash {
         self.layout.hash

@@ -9,4 +9,4 @@ returns-clause-same g c =
     let inv = c.loop-reader.invariant in
     let none = nothing-left _ (sym c.in-None.ensures.steps.0 ∙ inv.2) in
     every-alike (reader_remaining g.R.Read.remaining) g.R.Read.remaining c.loop-reader.all.items c.args.readers.items
-      ((rw (← none) at inv.3) ∙ append-nil _)
+    ((rw (← none) at inv.3) ∙ append-nil _)

@@ -1,10 +1,10 @@
 use Rattle.hh_records.proofs.OpenFacts.{plain-known}
-use Rattle.hh_records.proofs.texts.Records.of_reader.Goals as goal
+use Rattle.hh_records.proofs.texts.Records.with_hasher.Goals as goal
 
 pub returns-clause-known : goal.returns-clause-known
 returns-clause-known g c =
     plain-known g.R.Read.remaining (record {
-      layout = c.plain.result;
+      layout = c.with_hasher.result;
       first = c.args.reader;
       others = c.new.result;
-    }) c.plain_layouts_read_streams.ensures c.plain.ensures c.new.ensures.items
+    }) c.plain_layouts_read_streams.ensures c.with_hasher.ensures.plain c.new.ensures.items
