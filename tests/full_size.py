@@ -135,7 +135,7 @@ class FullSize(programs.Checks):
         """All other keys together have a name that the summary has not, with the least number."""
         names = [b"others", *(b"others%d" % number for number in range(1, 10))]
         for count in range(len(names) + 1):
-            summary = reference.Summary(20, count, {name: 1 for name in names[:count]})
+            summary = reference.Summary(20, 2 * count, {name: 2 for name in names[:count]})
             name = self.save(f"others{count}", reference.written(summary))
             free = [*names, b"others10"][count]
             given = b"".join(key + b",2\n" for key in names[:count]) + b"x,7\ny,4\n"
