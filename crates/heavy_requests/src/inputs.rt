@@ -9,6 +9,7 @@ use heavy_progress::{Form, Metered, Seen, SharedProgress, Watch};
 use hh_faults::ToolError;
 use hh_pieces::{FileOrPipe, FileRecords, ReadAt, SourceRecords};
 use hh_records::{Layout, Records, delimiter_of, layout_of};
+use hh_stream::KeyHash;
 use hh_workers::MAX_WORKERS;
 use std::alloc::Global;
 use std::cell::Cell;
@@ -342,13 +343,23 @@ impl<'a> Inputs<'a> {
         Ok(inputs)
     }
 
+    /// The layout that a command line says. Keys are hashed by words of this run, where the system
+    /// has random numbers for them, and else by those that all runs have.
+    fn layout(self, words: &RecordWords) -> Result<Layout, ToolError> {
+        let mut layout = layout_of(self.rt.alloc(), &words.layout)?;
+        if let Ok(hash) = KeyHash::random(self.rt) {
+            layout.hash = hash;
+        }
+        Ok(layout)
+    }
+
     /// The records of the files that a command line names.
     pub fn file_records(
         self,
         words: &RecordWords,
     ) -> Result<FileRecords<OpenFile<'a>, Reader<'a>>, ToolError> {
         Ok(FileRecords {
-            layout: layout_of(self.rt.alloc(), &words.layout)?,
+            layout: self.layout(words)?,
             inputs: self.open_all(&words.files, 0)?,
         })
     }
@@ -360,7 +371,7 @@ impl<'a> Inputs<'a> {
         words: &RecordWords,
         saved: u64,
     ) -> Result<Records<Reader<'a>>, ToolError> {
-        let layout = layout_of(self.rt.alloc(), &words.layout)?;
+        let layout = self.layout(words)?;
         let mut others: Vec<Reader<'a>> = self.open_all(&words.files, saved)?;
         let first = if others.is_empty() {
             self.standard(0, false)
@@ -377,7 +388,7 @@ impl<'a> Inputs<'a> {
     /// The files of the disk that a command line names behind so many saved files.
     fn open_files(self, words: &RecordWords, saved: u64) -> Result<OpenFiles<'a>, ToolError> {
         Ok(OpenFiles {
-            layout: layout_of(self.rt.alloc(), &words.layout)?,
+            layout: self.layout(words)?,
             files: self.open_all(&words.files, saved)?,
         })
     }

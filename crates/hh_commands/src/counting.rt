@@ -24,6 +24,6 @@ pub fn count_records<R: ReadRecords>(
     ensures refused { IfErr result (λ fault. RecordsRefused (R.known records) fault) }
 {
     counts_follow_items();
-    let counts = Counts::of(alloc, summary)?;
+    let counts = Counts::with_hasher(alloc, summary, records.hash())?;
     Ok(records.read_into(alloc, counts)?)
 }

@@ -20,6 +20,7 @@ use hh_faults::ToolError;
 use hh_pieces::{CutFiles, ReadAt, SourceRecords, are_as_long, lengths};
 use hh_pool::{PieceFault, count_pieces};
 use hh_reports::piece_count;
+use hh_stream::KeyHash;
 use std::alloc::{AllocError, Global};
 use std::sync::Wait;
 use std::thread::Threads;
@@ -31,6 +32,7 @@ fn counts_of_keys(
     candidates: &Candidates,
     weights: &[u64],
     total: u64,
+    hash: KeyHash,
 ) -> Result<Option<Counts>, AllocError>
     requires keys { candidates.now ≡ keys_of summary.now.counters }
     requires lengths { length weights.now ≡ length candidates.now }
@@ -43,7 +45,7 @@ fn counts_of_keys(
         IsCounters summary.now.counters)) }
 {
     counts_follow_items();
-    let mut counts = Counts::of(alloc, summary)?;
+    let mut counts = Counts::with_hasher(alloc, summary, hash)?;
     for place in 0..candidates.len() {
         let weight = weights[place];
         if weight > total - counts.total() {
@@ -63,6 +65,7 @@ fn counts_of_weights(
     candidates: &Candidates,
     weights: &[u64],
     total: u64,
+    hash: KeyHash,
 ) -> Result<Option<Counts>, AllocError>
     requires keys { candidates.now ≡ keys_of summary.now.counters }
     requires lengths { length weights.now ≡ length candidates.now }
@@ -74,7 +77,7 @@ fn counts_of_weights(
         IsCounters summary.now.counters)) }
 {
     counts_follow_items();
-    let Some(mut counts) = counts_of_keys(alloc, summary, candidates, weights, total)? else {
+    let Some(mut counts) = counts_of_keys(alloc, summary, candidates, weights, total, hash)? else {
         return Ok(None);
     };
     let others = total - counts.total();
@@ -118,7 +121,8 @@ fn counts_in_pieces<T: Threads + Wait + Sync, S: ReadAt + Sync>(
         Err(PieceFault::Refused) => return Ok(None),
         Err(PieceFault::Memory) => return Err(AllocError),
     };
-    counts_of_weights(alloc, summary, candidates, &weights, total)
+    let hash = records.layout.hash;
+    counts_of_weights(alloc, summary, candidates, &weights, total, hash)
 }
 
 /// The same of any summary. Without keys there is no count, since then no piece is read.
@@ -136,7 +140,7 @@ fn counts_side_by_side<T: Threads + Wait + Sync, S: ReadAt + Sync>(
     ensures counters { IfOk result (λ counts. IfSome counts (λ _.
         IsCounters summary.now.counters)) }
 {
-    let candidates = Candidates::of(alloc, summary)?;
+    let candidates = Candidates::with_hasher(alloc, summary, records.layout.hash)?;
     if candidates.is_empty() {
         return Ok(None);
     }

@@ -51,7 +51,7 @@ pub fn summary_by_monitoring<R: ReadRecords>(
     ensures refused { IfErr result (λ fault. RecordsRefused (R.known records) fault) }
 {
     summaries_follow_items();
-    let start = BucketSaving::empty(alloc, k)?;
+    let start = BucketSaving::with_hasher(alloc, k, records.hash())?;
     let monitor = records.read_into(alloc, start)?;
     match monitor.into_summary() {
         Ok(summary) => Ok(summary),
