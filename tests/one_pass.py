@@ -69,6 +69,29 @@ class OnePass(programs.Checks):
         rows = programs.run([program, *commands["confirm"]("many")], fewer).out
         self.check("the heavy key in condensed records", rows == b"heavy,%d\n" % (MANY // 100 * 7), rows)
 
+    def test_lines_that_end_in_cr(self) -> None:
+        """Files whose lines end in CR alone, which one thread reads in the end, take no more memory where they are longer."""
+        program = programs.built("heavy_cli")
+        few, many = records(MANY // 4).replace(b"\n", b"\r"), records(MANY).replace(b"\n", b"\r")
+        for name, text in (("few", few), ("many", many)):
+            Path(self.room, name).write_bytes(programs.run([program, "summarise", "--k", "100"], text).out)
+            Path(self.room, f"{name}.csv").write_bytes(text)
+        for name, by_summary in (("report", False), ("table", False), ("confirm", True), ("condense", True)):
+            runs = []
+            for of in ("few", "many"):
+                saved = [f"{self.room}/{of}"] if by_summary else []
+                runs.append([program, name, "--workers", "2", *saved, f"{self.room}/{of}.csv"])
+            ample = programs.run(runs[1])
+            self.check(f"{name} of many records that end in CR", ample.status == 0, ample.err)
+            least = next((size for size in range(STEP, MOST, STEP) if within(runs[0], b"", size).status == 0), MOST)
+            limited = within(runs[1], b"", least + MORE)
+            said = f"{least} KB are enough for few records, and 1 MB more was not for many: {limited.err!r}"
+            self.check(f"{name} of CR in bounded memory", least < MOST and limited.out == ample.out, said)
+            with_feeds = Path(self.room, "feeds.csv")
+            with_feeds.write_bytes(many.replace(b"\r", b"\n"))
+            there = programs.run([*runs[1][:-1], str(with_feeds)])
+            self.check(f"{name} as with line feeds", ample.out == there.out, there.err)
+
 
 if __name__ == "__main__":
     programs.run_tests("one pass")
