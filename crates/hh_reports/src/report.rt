@@ -297,8 +297,33 @@ pub fn prepare(alloc: Global, options: &ReportOptions, texts: usize) -> Result<P
     })
 }
 
-/// The total of some records, and the keys that a report of them has: by their stream and the plan
-/// where that is asked for, and else by their text.
+/// The total of records and their heavy keys: by their stream and the plan, or by their text.
+fn keys_by<T: Threads + Wait + Sync, R: Read + Drop>(
+    rt: &T,
+    alloc: Global,
+    records: Records<R>,
+    by: ReportedBy,
+    prepared: &Prepared,
+) -> Result<(u64, Vec<Heavy>), ToolError>
+    requires some { 0 < prepared.now.pieces }
+    requires few { prepared.now.pieces ≤ max_pieces }
+    ensures keys { IfOk result (λ keys. AreKeysOf (records_known R.remaining records)
+        prepared.now.settings.p prepared.now.settings.q keys.0 keys.1.items) }
+    ensures refused { IfErr result (RecordsRefused (records_known R.remaining records)) }
+{
+    let Prepared {
+        pieces,
+        plan,
+        settings,
+        ..
+    } = prepared;
+    match by {
+        ReportedBy::Plan => keys_of_stream(rt, alloc, records, plan, settings),
+        ReportedBy::Tally => keys_of_records(rt, alloc, records, *pieces, plan, settings),
+    }
+}
+
+/// The total of some records, and the keys that a report of them has.
 fn reported<T: Threads + Wait + Sync, R: Read + Drop>(
     rt: &T,
     alloc: Global,
@@ -315,17 +340,7 @@ fn reported<T: Threads + Wait + Sync, R: Read + Drop>(
 {
     let texts = records.others.len().saturating_add(1);
     match prepare(alloc, options, texts) {
-        Ok(
-            Prepared {
-                pieces,
-                plan,
-                settings,
-                ..
-            },
-        ) => match by {
-            ReportedBy::Plan => keys_of_stream(rt, alloc, records, &plan, &settings),
-            ReportedBy::Tally => { keys_of_records(rt, alloc, records, pieces, &plan, &settings) }
-        },
+        Ok(prepared) => keys_by(rt, alloc, records, by, &prepared),
         Err(fault) => Err(fault),
     }
 }
