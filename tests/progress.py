@@ -78,6 +78,18 @@ class Progress(programs.Checks):
         Path(file).write_bytes(programs.run([self.program, "summarise"], text).out)
         return {name: [name, file] for name in ("condense", "confirm")}
 
+    def test_layouts(self) -> None:
+        """Records are counted as they are read: between fields of one's own, without a header, and behind a byte order mark."""
+        program = programs.built("heavy_cli")
+        for words, text, number in [
+            ([], b"a,1\nb\n\n", 2), (["--header"], b"k,w\na,1\nb,2\n", 2), (["--header"], b"k\n", 0), (["--header"], b"", 0),
+            (["--delimiter", ";", "--key", "2"], b'x;"a\nb"\ny;"c\n"\n', 2), (["--delimiter", "\\t", "--key", "2"], b'x\t"a\n\nb"\n', 1),
+            ([], b'\xef\xbb\xbf"a\nb",1\n', 1), ([], b"\xef\xbb\xbf", 0), ([], b"\xef\xbb\xbfa", 1), ([], b"\xef\xbb\nb\n", 2),
+        ]:
+            ended = programs.run([program, "summarise", "--progress", *words], text)
+            told = PIPE.fullmatch(ended.err.splitlines(keepends=True)[-1]) if ended.err else None
+            self.check(f"{words} {text}", (ended.status, told and int(told[2])) == (0, number), ended)
+
     def test_answers(self) -> None:
         """The same answer with the option and without it, also for records that are refused; one line at the end."""
         for text in (PART, PART + b"bad,record,here\n", b""):

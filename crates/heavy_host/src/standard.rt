@@ -26,9 +26,9 @@ fn held(rt: &HostRuntime, stream: &impl AsFd, options: &OpenOptions) -> io::Resu
     Ok(Some(options.open(rt, "/dev/null")?))
 }
 
-/// Holds the number of each standard stream that is closed. Else the first file that is opened would
-/// take it, and be read or written as that stream. So it is called before any file is opened, and
-/// what it gives is held to the end.
+/// Holds the number of each standard stream that is closed. Else the first file that is opened
+/// would take it, and be read or written as that stream. So it is called before any file is opened,
+/// and what it gives is held to the end.
 ///
 /// A closed stream stays one that fails: the null device, which has its number, is opened for
 /// writing in place of the input, and for reading in place of the others. An error is that the

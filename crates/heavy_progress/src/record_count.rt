@@ -56,12 +56,12 @@ impl Place {
 
     /// Whether a record has begun and not ended.
     fn is_in_record(self) -> bool {
-        !matches!(self, Place::Mark(_) | Place::Between)
+        !matches!(self, Place::Mark(0) | Place::Between)
     }
 }
 
-/// The number of records in the bytes that came, behind a byte order mark. A line feed in quotes ends
-/// none, and an empty line is none.
+/// The number of records in the bytes that came, behind a byte order mark. A line feed in quotes
+/// ends none, and an empty line is none.
 #[derive(Drop)]
 pub struct RecordCount {
     delimiter: u8,
@@ -92,7 +92,10 @@ impl RecordCount {
     pub fn add(&mut self, bytes: &[u8]) {
         for byte in bytes {
             let next = self.place.after(*byte, self.delimiter);
-            if matches!(next, Place::Between) && self.place.is_in_record() {
+            if matches!(byte, b'\r' | b'\n')
+                && matches!(next, Place::Between)
+                && self.place.is_in_record()
+            {
                 self.ended = self.ended.saturating_add(1);
             }
             self.place = next;
@@ -104,8 +107,8 @@ impl RecordCount {
         matches!(self.place, Place::Quoted)
     }
 
-    /// Whether the next bytes need to be taken one by one: they are part of a quoted field, or stand
-    /// where a byte order mark may.
+    /// Whether the next bytes need to be taken one by one: they are part of a quoted field, or
+    /// stand where a byte order mark may.
     pub fn has_open_place(&self) -> bool {
         matches!(self.place, Place::Quoted | Place::Quote | Place::Mark(_))
     }

@@ -191,8 +191,8 @@ fn tell_unread(rt: &HostRuntime, name: &[u8], unread: &Unread) {
     }
 }
 
-/// The first bytes of a file of the disk with this name. No other file is opened again: a pipe would
-/// have other bytes now, or none for ever.
+/// The first bytes of a file of the disk with this name. No other file is opened again: a pipe
+/// would have other bytes now, or none for ever.
 fn begin_of(rt: &HostRuntime, name: &[u8]) -> Option<Vec<u8>> {
     let path = str::from_utf8(name).ok()?;
     if !fs::metadata(rt, path).ok()?.is_file() {
@@ -228,8 +228,8 @@ fn tell_totals(rt: &HostRuntime, name: &[u8], totals: Option<Totals>, decimals: 
     }
 }
 
-/// Tells what a summary's file and the records say of a key, behind these words, with so many digits
-/// behind a point.
+/// Tells what a summary's file and the records say of a key, behind these words, with so many
+/// digits behind a point.
 fn tell_outside(rt: &HostRuntime, words: &str, name: &[u8], outside: &Outside, decimals: u8) {
     let low = pointed(rt.alloc(), u128::from(outside.low), decimals);
     let high = pointed(rt.alloc(), u128::from(outside.high), decimals);

@@ -41,9 +41,9 @@ fn status_explained(
     status
 }
 
-/// Prints help or a fault of the command line as `clap` words it. In a fault, which may have words of
-/// the command line, control characters are escaped. Help that could not be printed is a device's
-/// fault.
+/// Prints help or a fault of the command line as `clap` words it. In a fault, which may have words
+/// of the command line, control characters are escaped. Help that could not be printed is a
+/// device's fault.
 pub fn status_told(rt: &HostRuntime, told: &Told) -> ExitCode {
     if told.error.exit_code() == 0 {
         return match told.error.print(rt) {

@@ -26,9 +26,9 @@ use std::thread::Threads;
 /// The saved file is tested first ([`ToolError::BadFile`], as file 1, and
 /// [`ToolError::NotCounters`]), then the workers, of whom there are 1 to 64
 /// ([`ToolError::BadWorkers`]), and then the records ([`ToolError::ReadFault`],
-/// [`ToolError::NoColumn`], [`ToolError::BadRecord`]), whose total need not be the summary's, and the
-/// higher bounds of the summary's keys ([`ToolError::WeightOutside`], where `compared` says that
-/// they refuse), which are compared as
+/// [`ToolError::NoColumn`], [`ToolError::BadRecord`]), whose total need not be the summary's, and
+/// the higher bounds of the summary's keys ([`ToolError::WeightOutside`], where `compared` says
+/// that they refuse), which are compared as
 /// [`condense_bytes_from`](hh_commands::condense_bytes_from) does.
 ///
 /// Where the bytes of all files are known, the rows are those of their records, one file after the

@@ -106,8 +106,8 @@ pub fn condensed_counts(
 }
 
 /// The condensed rows of counted items as text, in units of 10^-decimals. Each key's weight is
-/// compared with its higher bound. `compared` says whether a key above that refuses the rows; such a
-/// key is left there.
+/// compared with its higher bound. `compared` says whether a key above that refuses the rows; such
+/// a key is left there.
 pub fn condensed_part(
     alloc: Global,
     summary: &Summary,

@@ -81,8 +81,8 @@ pub fn list_keys(alloc: Global, file: &[u8]) -> Result<Vec<u8>, ToolError>
     list_rows(alloc, file, 0)
 }
 
-/// [`condense_bytes_from`](hh_commands::condense_bytes_from) of the records of a reader, where a key
-/// outside its bounds refuses nothing.
+/// [`condense_bytes_from`](hh_commands::condense_bytes_from) of the records of a reader, where a
+/// key outside its bounds refuses nothing.
 pub fn condense_bytes<R: Read + Drop>(
     alloc: Global,
     file: &[u8],
@@ -118,8 +118,8 @@ pub fn confirm_bytes<R: Read + Drop>(
 }
 
 /// [`confirm_bytes`] above a share of the total of one's own, which is at least 1/(k + 1) for the
-/// summary's k. Another one is refused ([`ToolError::BadThreshold`]) before any record is read. A key
-/// outside its bounds refuses nothing.
+/// summary's k. Another one is refused ([`ToolError::BadThreshold`]) before any record is read. A
+/// key outside its bounds refuses nothing.
 pub fn confirm_above<R: Read + Drop>(
     alloc: Global,
     file: &[u8],
