@@ -360,18 +360,23 @@ class CommandLine(programs.Checks):
         self.tells(["confirm", "--key", "1", "day"], more % ("\\x1b[1m", 1, 1, 0), 3, b"b\n")
 
     def test_hidden_options(self) -> None:
-        """Options of a report that its rows don't show. Each of two passes starts the workers; a worker's table takes 8
-        bytes for each cell, and the shared words are those cells and a claim for each piece. There are four pieces for each
-        worker and one for the text, or as many as are asked for where that is more, k is large or a plan is spelled. By the
-        seed keys meet in other cells, and so more or fewer of them are counted in the second pass."""
+        """Options of a report that its rows don't show. Without an option of a plan the workers start once where there are at
+        most 4,096 keys, and once more where there are more. With one, each of two passes starts them; a worker's table takes
+        8 bytes for each cell, and the shared words are those cells and a claim for each piece. By the seed keys meet in other
+        cells, and so more or fewer of them are counted in the second pass."""
         library = programs.preloaded("watch.c", self.room)
+        for words, count, threads in [
+            ([], 4, 4), (["--workers", "6"], 4, 6), (["--k", "65535"], 4, 4), ([], 4096, 4), ([], 4097, 8),
+            (["--workers", "1"], 4097, 2), (["--k", "2048"], 4098, 4), (["--k", "2048"], 4099, 8),
+        ]:
+            told = watched(self.program, library, ["report", *words], b"".join(b"k%d\n" % number for number in range(count)))
+            self.check(f"report {' '.join(words)} of {count} keys", told.count(0) == threads, told)
         for words, workers, pieces, cells in [
-            ([], 4, 17, 1024 * 4), (["--workers", "6"], 6, 25, 1024 * 4), (["--pieces", "19"], 4, 19, 1024 * 4),
-            (["--workers", "5", "--pieces", "27"], 5, 27, 1024 * 4), (["--width", "1100"], 4, 17, 1100 * 4),
-            (["--depth", "12"], 4, 17, 1024 * 12), (["--width", "1300", "--depth", "3"], 4, 17, 1300 * 3),
-            (["--workers", "4", "--pieces", "4", "--width", "1024", "--depth", "4"], 4, 17, 1024 * 4),
-            (["--k", "3855"], 4, 17, 1024 * 4), (["--k", "3856"], 4, 16, 1024 * 4), (["--k", "65535"], 4, 4, 1024 * 4),
-            (["--pieces", "3", "--tree", "((0 1) 2)"], 4, 3, 1024 * 4), (["--tree", "chain"], 4, 17, 1024 * 4),
+            (["--pieces", "19"], 4, 19, 1024 * 4), (["--workers", "5", "--pieces", "27"], 5, 27, 1024 * 4),
+            (["--width", "1100"], 4, 4, 1100 * 4), (["--depth", "12"], 4, 4, 1024 * 12), (["--seed", "3"], 4, 4, 1024 * 4),
+            (["--width", "1300", "--depth", "3"], 4, 4, 1300 * 3),
+            (["--workers", "4", "--pieces", "4", "--width", "1024", "--depth", "4"], 4, 4, 1024 * 4),
+            (["--pieces", "3", "--tree", "((0 1) 2)"], 4, 3, 1024 * 4), (["--tree", "chain"], 4, 4, 1024 * 4),
         ]:
             told = watched(self.program, library, ["report", *words], RECORDS)
             found = (told.count(0), 8 * cells in told, 8 * (cells + pieces) in told)
@@ -402,13 +407,13 @@ class CommandLine(programs.Checks):
                 self.check(f"{command[0]} {' '.join(words)}", (status, told.count(0)) == (0, threads), (status, told))
 
     def test_report_workers(self) -> None:
-        """How many threads a report of six files starts: the workers of two passes, though fewer pieces are asked for, and none
-        where the plan that is spelled has fewer."""
+        """How many threads a report of six files starts: the workers of one pass, and of two by a plan, which may have fewer
+        pieces than there are files."""
         library = programs.preloaded("watch.c", self.room)
         paths = [f"{self.room}/{place}" for place in range(6)]
         for path in paths:
             Path(path).write_bytes(RECORDS)
-        for words, threads in (([], 8), (["--pieces", "2", "--workers", "3"], 6), (["--pieces", "2", "--tree", "(0 1)"], 0)):
+        for words, threads in (([], 4), (["--pieces", "2", "--workers", "3"], 6), (["--pieces", "2", "--tree", "(0 1)"], 8)):
             command = ["report", "--k", "2", *words, *paths]
             status, out = self.heavy(command)[:2]
             told = watched(self.program, library, command, b"")
