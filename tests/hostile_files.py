@@ -84,7 +84,7 @@ def cases_of(kept: corpus.Kept) -> list[hostile.Case]:
     for name, command in (("list", reference.list_keys), ("describe", reference.describe)):
         made.append(hostile.Case([name], [data], [], b"", reference.answer(command, data)))
     for name, command in (("confirm", reference.confirm), ("condense", reference.condense)):
-        made.append(hostile.Case([name], [data], [], RECORDS, reference.answer(command, data, RECORDS)))
+        made.append(hostile.Case([name], [data], [], RECORDS, reference.compared(command, data, RECORDS, True)))
     return [*made, hostile.Case(["ask"], [data], keys, b"", reference.answer(reference.ask, data, keys))]
 
 

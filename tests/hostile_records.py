@@ -110,10 +110,10 @@ def cases_of(kept: corpus.Kept) -> list[hostile.Case]:
     made.append(hostile.Case(["table", *words], [], [], given, reference.answer(table, given, empty_table(words))))
     for other in (OTHER_KEYS[2], OTHER_KEYS[3]):
         saved = reference.summarise(other, 9)
-        made.append(hostile.Case(["condense"], [saved], [], given, reference.answer(reference.condense, saved, given)))
+        made.append(hostile.Case(["condense"], [saved], [], given, reference.compared(reference.condense, saved, given, True)))
     status, saved, _ = reference.answer(reference.summarise, given, 3)
     saved = saved if status == 0 else reference.summarise(b"a", 3)
-    return [*made, hostile.Case(["confirm"], [saved], [], given, reference.answer(reference.confirm, saved, given))]
+    return [*made, hostile.Case(["confirm"], [saved], [], given, reference.compared(reference.confirm, saved, given, True))]
 
 
 class HostileRecords(hostile.Hostile):
