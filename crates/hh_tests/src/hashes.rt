@@ -23,7 +23,10 @@ fn fixed_words_hash_as_computed(rt: HostRuntime) {
         ("abcdefgh", 0xee44_fabe_eab9_1c21),
         ("abcdefghijklmnop", 0x3bbd_5075_59ac_610a),
         ("abcdefghijklmnopq", 0x0ee5_2e66_2180_ecc4),
-        ("abcdefghijklmnopqrstuvwxyzabcdefghijklmn", 0xd553_9112_0d2a_1d61),
+        (
+            "abcdefghijklmnopqrstuvwxyzabcdefghijklmn",
+            0xd553_9112_0d2a_1d61,
+        ),
     ];
     for (text, hash) in &rows {
         assert_same(&rt, hash_of(&KeyHash::fixed(), text), *hash);
