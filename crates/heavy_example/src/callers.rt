@@ -1,10 +1,10 @@
 //! A caller of each library, as its page CALLING.md shows it.
 
-ghost use Rattle.std.specs.Prelude.{◌≡◌, ◌+◌, ◌<◌, ◌≤◌, ◌↔◌, ◌∷◌, ◌++◌, [], List, Ok, Some, false, IsTrue, IfOk, IfSome, OnOk};
+ghost use Rattle.std.specs.Prelude.{◌≡◌, ◌+◌, ◌<◌, ◌≤◌, ◌↔◌, ◌∷◌, [], List, Ok, Some, false, IsTrue, IfOk, IfSome, OnOk};
 ghost use Rattle.hh_faults.specs.Faults.{text_fault};
 ghost use Rattle.hh_faults.specs.Status.{status_of};
 ghost use Rattle.hh_stream.specs.Weights.{Entry, max_total, total_of, weight_of};
-ghost use Rattle.hh_tally.specs.Tallies.{AreBounds};
+ghost use Rattle.hh_tally.specs.Tallies.{merged_tally};
 ghost use Rattle.hh_summaries.specs.Counters.{IsHonest, merge_of, sketch_of};
 ghost use Rattle.hh_summaries.specs.Report.{heavy};
 ghost use Rattle.hh_countmin.specs.Family.{drawn_family};
@@ -39,7 +39,6 @@ use hh_shared::{SharedSums, SumSeat};
 use hh_stream::{Cutting, Key, PushRefused, Stream};
 use hh_summaries::{MergeFault, Summary};
 use hh_tally::Tally;
-use hh_tally::laws::tallies_bound_weights;
 use hh_workers::PlanFault;
 use std::alloc::{AllocError, Global};
 use std::io::Read;
@@ -70,14 +69,12 @@ pub fn slack_of_both(one: &mut Summary, other: &Summary) -> Result<u64, MergeFau
     Ok(one.slack())
 }
 
-/// A tally that adds up what two workers have taken into tallies with the same room.
+/// Adds up what two workers have taken into tallies with the same room.
 pub fn tally_of_both(alloc: Global, one: Tally, other: &Tally) -> Result<Tally, AllocError>
     requires room { one.room ≡ other.now.room }
     requires fits { one.total + other.now.total ≤ max_total }
-    ensures { (xs ys : List Entry) → AreBounds one xs → AreBounds other.now ys
-        → IfOk result (λ both. AreBounds both (xs ++ ys)) }
+    ensures { IfOk result (λ both. both ≡ merged_tally one other.now) }
 {
-    tallies_bound_weights();
     let both = one.merge(alloc, other)?;
     Ok(both)
 }
