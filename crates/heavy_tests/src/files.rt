@@ -27,7 +27,7 @@ enum Course {
     Changes,
 }
 
-/// A file of the record `a,5` or `a,6`.
+/// A file of the record `a,5000` or `a,6000`.
 #[derive(Drop)]
 struct OneRecord<'a> {
     course: Course,
@@ -46,13 +46,13 @@ impl ReadAt for OneRecord<'_> {
 
     fn len(&self) -> io::Result<u64> {
         match self.course {
-            Course::Grows => Ok(self.call().min(2).saturating_add(3)),
-            _ => Ok(4),
+            Course::Grows => Ok(self.call().min(2).saturating_add(6)),
+            _ => Ok(7),
         }
     }
 
     fn read_at(&self, buf: &mut [u8], at: u64) -> io::Result<usize> {
-        let mut rest = b"a,5\n".as_slice();
+        let mut rest = b"a,5000\n".as_slice();
         match self.course {
             Course::Grows => {}
             Course::Changes => {
@@ -62,7 +62,7 @@ impl ReadAt for OneRecord<'_> {
                     self.calls.load(Ordering::SeqCst)
                 };
                 if reading % 2 == 0 {
-                    rest = b"a,6\n".as_slice();
+                    rest = b"a,6000\n".as_slice();
                 }
             }
             Course::Fails(from) => {
@@ -71,7 +71,7 @@ impl ReadAt for OneRecord<'_> {
                 }
             }
         }
-        rest = &rest[at.min(4) as usize..];
+        rest = &rest[at.min(7) as usize..];
         rest.read(buf)
     }
 }
@@ -90,7 +90,17 @@ fn options() -> ReportOptions {
     }
 }
 
-/// What is written of a report of such a file, the refusal, and how many calls there were.
+/// Records of more keys than one pass keeps, each of weight 1.
+fn many_keys(rt: &(impl Abort + AllocGlobal)) -> String {
+    let mut text = String::new(rt.alloc());
+    for number in 0..4100 {
+        write!(text, "k{number}\n").expect(rt, "room");
+    }
+    text
+}
+
+/// What is written of a report of such a file and many keys, which is read twice, the refusal, and
+/// how many calls there were.
 fn report_of(
     rt: &(impl Abort + AllocGlobal + Threads + Wait + Sync),
     course: Course,
@@ -101,7 +111,8 @@ fn report_of(
         course,
         calls: &calls,
     });
-    let pipe = FileOrPipe::Pipe(b"b,1".as_slice());
+    let keys = many_keys(rt);
+    let pipe = FileOrPipe::Pipe(keys.as_bytes());
     let inputs = vec![in alloc; file, pipe].expect(rt, "room");
     let layout = Layout::plain(alloc);
     let records = FileRecords { layout, inputs };
@@ -123,7 +134,7 @@ fn assert_refused(rt: &(impl Abort + AllocGlobal + Threads + Wait + Sync), cours
 #[test]
 fn each_read_of_a_file_fails(rt: HostRuntime) {
     let (rows, none, reads) = report_of(&rt, Course::Fails(0));
-    assert_same(&rt, (rows.as_slice(), none), (b"a,5\n".as_slice(), None));
+    assert_same(&rt, (rows.as_slice(), none), (b"a,5000\n".as_slice(), None));
     assert!(rt; 2 <= reads && reads < 99);
     for from in 1..=reads {
         assert_refused(&rt, Course::Fails(from));
