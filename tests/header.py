@@ -10,10 +10,12 @@ CRATES = programs.TOP / "crates"
 FFI = CRATES / "heavy_ffi"
 # The definitions that give numbers, and how the header's names for them begin.
 GROUPS = {"kind_of": "", "record_cause": "RECORD_", "file_cause": "FILE_", "merge_cause": "MERGE_", "key_cause": "KEY_"}
-# Faults that no call has: of options that only the program has, and of devices; and want of memory has a kind.
+# Faults that no call has: of options that only the program has, of devices, and of records that contradict a summary, which
+# the program alone compares; and want of memory has a kind.
 NOT_FOR_C = {
     "HEAVY_BAD_WORKERS", "HEAVY_BAD_PIECES", "HEAVY_BAD_TREE", "HEAVY_BAD_DELIMITER", "HEAVY_BAD_COLUMN",
-    "HEAVY_NO_COLUMN", "HEAVY_READ_FAULT", "HEAVY_WRITE_FAULT", "HEAVY_FILE_FAULT", "HEAVY_FILE_MEMORY",
+    "HEAVY_NO_COLUMN", "HEAVY_WEIGHT_OUTSIDE", "HEAVY_READ_FAULT", "HEAVY_WRITE_FAULT", "HEAVY_FILE_FAULT",
+    "HEAVY_FILE_MEMORY",
 }
 # The faults whose statuses have names.
 STATUSES = {"DEVICE": "ReadFault", "USAGE": "BadK", "REFUSED": "BadRecord", "MEMORY": "Memory"}
