@@ -99,8 +99,8 @@ pub struct Metered<'a, R> {
 }
 
 impl<'a, R: Read> Metered<'a, R> {
-    /// The same bytes, which are those of a path, and records of this form. What is read is told
-    /// where that is asked for and there is a clock.
+    /// Reads the bytes of `inner`, a file at `path` with records of this form. With `tells`, and
+    /// where there is a clock, it reports how far it is.
     pub fn new(rt: &'a HostRuntime, inner: R, path: &str, form: Form, tells: bool) -> Metered<'a, R>
         ensures { ⟦<Metered<'a, R> as Read>⟧.remaining result ≡ R.remaining inner }
     {

@@ -10,7 +10,7 @@ pub struct Form {
 /// What the byte before the next one was part of.
 #[derive(Clone, Copy)]
 enum Place {
-    /// A byte order mark, of which so many bytes came: the text begins behind it.
+    /// In a byte order mark, with the number of its bytes that came. The text begins after it.
     Mark(u8),
     /// The end of a record, or nothing yet.
     Between,
@@ -79,7 +79,7 @@ impl RecordCount {
         }
     }
 
-    /// The same of a text from which a byte order mark was taken.
+    /// Counts the records of a text whose byte order mark was taken before.
     pub fn behind_mark(delimiter: u8) -> RecordCount {
         RecordCount {
             delimiter,

@@ -17,7 +17,7 @@ use std::io::{IsTerminal, Read};
 /// The most counters of a summary.
 const MOST_COUNTERS: u64 = 65_535;
 
-/// What a file looks like is told by so many of its bytes at most.
+/// The most bytes of a file that show what it looks like.
 const BEGIN: u64 = 65_536;
 
 /// The name of a file where none is named.
@@ -228,8 +228,8 @@ fn tell_totals(rt: &HostRuntime, name: &[u8], totals: Option<Totals>, decimals: 
     }
 }
 
-/// Tells what a summary's file and the records say of a key, behind these words, with so many
-/// digits behind a point.
+/// Prints `words`, and then the bounds of a key in the file `name` and its weight in the records,
+/// with `decimals` digits after the point.
 fn tell_outside(rt: &HostRuntime, words: &str, name: &[u8], outside: &Outside, decimals: u8) {
     let low = pointed(rt.alloc(), u128::from(outside.low), decimals);
     let high = pointed(rt.alloc(), u128::from(outside.high), decimals);

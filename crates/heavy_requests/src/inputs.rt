@@ -26,7 +26,7 @@ enum Source {
     Nothing,
 }
 
-/// A file is looked at in reads of so many bytes.
+/// The bytes of each read that looks at a file.
 const LOOK_LEN: usize = 65_536;
 
 /// Whether a name is that of standard input.

@@ -67,7 +67,7 @@ impl<'t, S: ReadAt> Model for CutFiles<'t, S> {
 // How often a line feed is looked for behind a place. A piece that has none for so long is refused.
 const MOST_READS: usize = MOST_HELD / READ_LEN;
 
-/// A place of a line feed, from a place on and not far behind it. Where a read fails, none is known.
+/// Finds a line feed at `from` or not far after it. Where a read fails, it finds none.
 fn find_feed<S: ReadAt>(source: &S, buffer: &mut [u8], from: u64) -> Option<u64>
     ensures behind { IfSome result (λ at. from ≤ at) }
     ensures feed { IfSome result (λ at. IfSome (S.bytes source.now) (λ bytes.

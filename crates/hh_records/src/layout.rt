@@ -42,8 +42,8 @@ pub struct Layout {
 }
 
 impl Layout {
-    /// A key and, after a comma, its weight, as [`read_stream`](crate::read_stream) reads them. Keys
-    /// are hashed by the words that all runs have.
+    /// A key and, after a comma, its weight, as [`read_stream`](crate::read_stream) reads them.
+    /// Keys are hashed by the words that all runs have.
     pub fn plain(alloc: Global) -> Layout
         ensures { IsPlain result }
     {

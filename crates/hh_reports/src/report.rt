@@ -258,7 +258,8 @@ pub enum ReportedBy {
     /// By the plan that the options name: the items are kept, cut evenly, summarised and merged,
     /// and a table is filled.
     Plan,
-    /// By tallies of the workers, whose maps hash as the layout says. The text is kept, and no item.
+    /// By tallies of the workers, whose maps hash as the layout says. The text is kept, but no
+    /// item.
     Tally,
 }
 
