@@ -499,7 +499,7 @@ REPORTS = [
     (["--key", "1"], [b"a,5\nb\na,x,y\n"], b"a,2\nb,1\n"),
     (["--key", "001", "--weight", "0000000002"], [b"a,5\n"], b"a,5\n"),
     # delimiters
-    (["--delimiter", "-"], [b"a-5\nb,c-2\n"], b'a,5\n"b,c",2\n'), (["--delimiter", "\\"], [b"a\\5\n"], b"a,5\n"),
+    (["--delimiter=-"], [b"a-5\nb,c-2\n"], b'a,5\n"b,c",2\n'), (["--delimiter", "\\"], [b"a\\5\n"], b"a,5\n"),
     (["--delimiter", b"\xff"], [b"a\xff5\n"], b"a,5\n"), (["--delimiter", ","], [b"a,5\n"], b"a,5\n"),
     (["--delimiter", "|"], [b'"a|b"|5\n'], b"a|b,5\n"), (["--delimiter", "t"], [b"at5\n"], b"a,5\n"),
     # NUL, which no random case has

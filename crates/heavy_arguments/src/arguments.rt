@@ -1,9 +1,12 @@
 //! The command line.
 
-ghost use Rattle.std.specs.Prelude.{◌≡◌, false, true, IfOk};
+ghost use Rattle.std.specs.Prelude.{◌≡◌, [], false, fold, map, true, IfOk};
 ghost use Rattle.clap.specs.declared.builder.command.Command.TheViews.{out-Command as fields_of};
 ghost use Rattle.clap.specs.Words.{found_of};
-ghost use Rattle.heavy_arguments.specs.Commands.{HasNoGlobals};
+ghost use Rattle.clap.specs.Simple.{app_of, new_app, with_subcommand};
+ghost use Rattle.heavy_arguments.specs.Commands.{HasNoGlobals, IsApp};
+ghost use Rattle.heavy_arguments.specs.CommandLine.{bare_program, program_app, rules_of_arguments};
+ghost use Rattle.heavy_arguments.specs.CommandLine.{shape_of_words, with_rules};
 ghost use Rattle.heavy_arguments.specs.Numbers.{IsNumberOf};
 
 use crate::help::{
@@ -103,13 +106,13 @@ pub const SEED: Number = Number {
 type Built<'a> = Result<Command<'a>, AllocError>;
 
 /// Arguments that have a heading of their own in help.
-struct Group {
+pub(crate) struct Group {
     heading: &'static str,
     arguments: &'static [Argument],
 }
 
 /// What `clap` is told of a command.
-struct CommandWords {
+pub(crate) struct CommandWords {
     name: &'static str,
     help: &'static Help,
     arguments: &'static [Argument],
@@ -374,7 +377,8 @@ impl Number {
 
 /// The command with this name and help.
 fn described<'a>(alloc: Global, name: &'a str, help: &Help) -> Command<'a>
-    ensures { (fields_of result).has_globals ≡ false }
+    ensures app { app_of result ≡ new_app name.now }
+    ensures globals { (fields_of result).has_globals ≡ false }
 {
     Command::new(alloc, name)
         .about(help.about)
@@ -385,7 +389,8 @@ fn described<'a>(alloc: Global, name: &'a str, help: &Help) -> Command<'a>
 /// The same command, with these arguments more.
 fn with<'a>(alloc: Global, mut command: Command<'a>, arguments: &[Argument]) -> Built<'a>
     requires { (fields_of command).has_globals ≡ false }
-    ensures { HasNoGlobals result }
+    ensures app { IsApp (with_rules (app_of command.entry) (rules_of_arguments arguments.now)) result }
+    ensures globals { HasNoGlobals result }
 {
     for argument in arguments {
         command = command.arg(argument.told(alloc))?;
@@ -395,7 +400,8 @@ fn with<'a>(alloc: Global, mut command: Command<'a>, arguments: &[Argument]) -> 
 
 /// The command of these words.
 fn command_of<'a>(alloc: Global, words: &CommandWords) -> Built<'a>
-    ensures { HasNoGlobals result }
+    ensures app { IsApp (record { top = shape_of_words words.now; subs = [] }) result }
+    ensures globals { HasNoGlobals result }
 {
     let command = described(alloc, words.name, words.help).after_help(DASHES);
     let mut command = with(alloc, command, words.arguments)?;
@@ -411,21 +417,33 @@ fn command_of<'a>(alloc: Global, words: &CommandWords) -> Built<'a>
 
 /// The program, which has no command yet.
 fn program<'a>(alloc: Global) -> Built<'a>
-    ensures { HasNoGlobals result }
+    ensures app { IsApp bare_program result }
+    ensures globals { HasNoGlobals result }
 {
     described(alloc, "heavy", &PROGRAM)
         .version(VERSION)
         .bin_name("heavy")
 }
 
+/// The same command, with these commands of its own more.
+fn with_commands<'a>(alloc: Global, mut all: Command<'a>, commands: &[CommandWords]) -> Built<'a>
+    requires { (fields_of all).has_globals ≡ false }
+    ensures app { IsApp (fold with_subcommand (app_of all.entry)
+        (map shape_of_words commands.now)) result }
+    ensures globals { HasNoGlobals result }
+{
+    for words in commands {
+        all = all.subcommand(command_of(alloc, words)?)?;
+    }
+    Ok(all)
+}
+
 /// The command line that the program reads.
 pub fn command_line<'a>(alloc: Global) -> Result<Command<'a>, AllocError>
+    ensures app { IsApp program_app result }
     ensures globals { HasNoGlobals result }
     ensures required { IfOk result (λ c. (fields_of c).subcommand_required ≡ true) }
 {
-    let mut all = program(alloc)?;
-    for words in &COMMANDS {
-        all = all.subcommand(command_of(alloc, words)?)?;
-    }
+    let all = with_commands(alloc, program(alloc)?, &COMMANDS)?;
     Ok(all.subcommand_required(true))
 }

@@ -1,6 +1,11 @@
 //! What a command takes: options, and words that stand by themselves.
 
-ghost use Rattle.std.specs.Prelude.{◌≡◌, false};
+ghost use Rattle.std.specs.Prelude.{◌≡◌, Some, false};
+ghost use Rattle.clap.specs.Lexer.{usize_max};
+ghost use Rattle.clap.specs.Simple.{new_rule};
+ghost use Rattle.clap.specs.Walk.{rule_of};
+ghost use Rattle.clap.specs.declared.builder.action.ArgAction.TheVariants.{Append};
+ghost use Rattle.heavy_arguments.specs.CommandLine.{flag, option, rule_of_argument, rule_of_kind};
 
 use crate::arguments::Number;
 use clap::{Arg, ArgAction, value_parser};
@@ -22,7 +27,7 @@ pub(crate) enum Kind {
     Digit,
     /// An option with a text, by the name that help has for it.
     Text(&'static str),
-    /// An option with a byte, which may be a hyphen.
+    /// An option with a byte.
     Byte,
     /// An option with columns.
     Columns,
@@ -51,29 +56,35 @@ pub(crate) enum Argument {
 
 /// The word with this name, that of its value, and its help.
 fn word<'a>(alloc: Global, name: &'a str, value: &'a str, help: &'a str) -> Arg<'a>
-    ensures { result.global ≡ false }
+    ensures rule { rule_of result ≡ record (new_rule name.now) { value_names = 1 } }
+    ensures local { result.global ≡ false }
 {
     Arg::new(alloc, name).value_name(value).help(help)
 }
 
 /// The same, once or more.
 fn several<'a>(word: Arg<'a>) -> Arg<'a>
-    requires { word.global ≡ false }
-    ensures { result.global ≡ false }
+    ensures rule { rule_of result ≡ record (rule_of word.entry) {
+      action = Some Append;
+      range = Some (record { start_inclusive = 1; end_inclusive = usize_max });
+    } }
+    ensures local { result.global ≡ word.entry.global }
 {
     word.action(ArgAction::Append).num_args(1..)
 }
 
 /// The option with this name, that of its value, and its help.
 fn option<'a>(alloc: Global, name: &'a str, value: &'a str, help: &'a str) -> Arg<'a>
-    ensures { result.global ≡ false }
+    ensures rule { rule_of result ≡ option name.now }
+    ensures local { result.global ≡ false }
 {
     word(alloc, name, value, help).long(name)
 }
 
 /// The option that is given or not.
 fn flag<'a>(alloc: Global, name: &'a str, help: &'a str) -> Arg<'a>
-    ensures { result.global ≡ false }
+    ensures rule { rule_of result ≡ flag name.now }
+    ensures local { result.global ≡ false }
 {
     Arg::new(alloc, name)
         .long(name)
@@ -84,7 +95,8 @@ fn flag<'a>(alloc: Global, name: &'a str, help: &'a str) -> Arg<'a>
 impl Kind {
     /// What `clap` is told of the argument with this name and help.
     fn told<'a>(self, alloc: Global, name: &'a str, help: &'a str) -> Arg<'a>
-        ensures { result.global ≡ false }
+        ensures rule { rule_of result ≡ rule_of_kind self name.now }
+        ensures local { result.global ≡ false }
     {
         match self {
             Kind::Number => option(alloc, name, "N", help).value_parser(value_parser!(u64)),
@@ -92,10 +104,8 @@ impl Kind {
                 option(alloc, name, "D", help).value_parser(value_parser!(u8).range(0..=9))
             }
             Kind::Text(value) => option(alloc, name, value, help),
-            Kind::Byte => option(alloc, name, "BYTE", help).allow_hyphen_values(true),
-            Kind::Columns => option(alloc, name, "COLUMN", help)
-                .action(ArgAction::Append)
-                .value_delimiter(','),
+            Kind::Byte => option(alloc, name, "BYTE", help),
+            Kind::Columns => option(alloc, name, "COLUMN", help).action(ArgAction::Append),
             Kind::Share => option(alloc, name, "P/Q", help).long_help(SHARE_HELP),
             Kind::Flag => flag(alloc, name, help),
             Kind::LastFlag => flag(alloc, name, help).display_order(LAST),
@@ -109,7 +119,8 @@ impl Kind {
 impl Argument {
     /// What `clap` is told of it.
     pub(crate) fn told<'a>(self, alloc: Global) -> Arg<'a>
-        ensures { result.global ≡ false }
+        ensures rule { rule_of result ≡ rule_of_argument self }
+        ensures local { result.global ≡ false }
     {
         match self {
             Argument::Number(it) => Kind::Number.told(alloc, it.name, it.help),

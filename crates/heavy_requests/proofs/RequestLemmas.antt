@@ -1,6 +1,24 @@
--- The command that a parse met.
-use Rattle.std.proofs.Common.{◌≡◌, ◌∙◌, Option, Some, None, ap, sym}
+-- What the program's command line makes of words.
+use Rattle.std.proofs.Common.{◌≡◌, ◌∙◌, ℕ, Bool, true, false, List, map, Option, Some, None, ap, sym, refl, subst}
 use Rattle.std.specs.Option.{option_map}
+use Rattle.clap.specs.Words.{App, HasMatchesOf, Text, is_simple, subcommand_of, subcommand_rows_of, takes}
+use Rattle.clap.specs.declared.parser.matches.ArgMatches.{ArgMatches}
+use Rattle.heavy_arguments.specs.CommandLine.{program_app}
+use Rattle.heavy_host.specs.Words.{word_of}
+use Rattle.heavy_requests.specs.Request.{MayRefuse}
+use Rattle.heavy_requests.specs.declared.request.UsageError.{UsageError}
+use Rattle.heavy_requests.specs.declared.request.UsageError.TheVariants as usage
+
+-- `clap` says exactly what it finds by the program's command line
+program_is_simple : is_simple program_app ≡ true
+program_is_simple = refl
+
+-- the command that a parse by the program's command line met is the one that the texts name
+pub found_by_program : (app : App) (texts : List Text) (m : ArgMatches) → app ≡ program_app → HasMatchesOf app texts m
+    → subcommand_of program_app texts ≡ subcommand_rows_of m
+found_by_program app texts m is found =
+    let exact = subst (λ (a : App). HasMatchesOf a texts m) is found in
+    sym (exact program_is_simple).1
 
 -- a pair with these parts
 pair_same : {N R : Type 0} (p : N × R) (n : N) (r : R) → n ≡ p.0 → r ≡ p.1 → p ≡ (n, r)
@@ -19,3 +37,15 @@ found_together {B} {N} {R} name both e (Some x) n r a b =
     let is_name : n ≡ name x = cc in
     let is_rows : r ≡ (both x).1 = cc in
     ap Some (pair_same (both x) n r (is_name ∙ sym (e x)) is_rows)
+
+-- what is not true is false
+not_true : (b : Bool) → (b ≡ true → ⊥) → b ≡ false
+not_true true isnt = absurd (isnt refl)
+not_true false isnt = refl
+
+-- words are refused so where only memory refuses those that the command line takes
+pub may_refuse : (words : List (List ℕ)) (texts : List Text) (fault : UsageError) → map word_of texts ≡ words
+    → (takes program_app texts ≡ true → fault ≡ usage.Memory) → MayRefuse words fault
+may_refuse words texts usage.Memory spelled only = tt
+may_refuse words texts (usage.Told told) spelled only =
+    (texts, spelled, not_true (takes program_app texts) (λ yes. let same = only yes in cc))

@@ -1,8 +1,8 @@
--- What a command line asks for, by what `clap` found in it.
-use Rattle.std.specs.Prelude.{ℕ, ◌≡◌, ◌≢◌, ◌<◌, ◌^◌, ◌||◌, Bool, is_some, ⊤, true, false, List, [], Option, Some, None, codes, map, drop, option_map, unwrap_or}
+-- What a command line asks for, by what the program's own command line finds in it.
+use Rattle.std.specs.Prelude.{ℕ, ◌≡◌, ◌≢◌, ◌<◌, ◌^◌, ◌==◌, ◌||◌, Bool, is_some, ⊤, true, false, List, [], Option, Some, None, codes, map, drop, option_map, unwrap_or}
+use Rattle.std.specs.List.{flat_map, slice_split}
 use Rattle.std.specs.Str.Parse.{IsNumeral, without_leading_plus}
-use Rattle.clap.specs.Words.{App, HasMatchesOf, Text, first_value, matched_of, one_text, raw_values, rows_of, subcommand_rows_of}
-use Rattle.clap.specs.declared.parser.matches.ArgMatches.{ArgMatches}
+use Rattle.clap.specs.Words.{Text, first_value, matched_of, one_text, raw_values, rows_of, subcommand_of, takes}
 use Rattle.clap.specs.declared.parser.matches.Found.{Found}
 use Rattle.hh_rows.specs.declared.report_options.ReportOptions.{ReportOptions}
 use Rattle.hh_rows.specs.declared.report_options.Tree.{Tree}
@@ -10,6 +10,7 @@ use Rattle.hh_rows.specs.declared.report_options.Tree.TheVariants as shape
 use Rattle.hh_rows.specs.declared.printed.RowOptions.{RowOptions}
 use Rattle.hh_rows.specs.declared.threshold.Share.{Share}
 use Rattle.hh_rows.specs.declared.threshold.Share.TheVariants as limit
+use Rattle.heavy_arguments.specs.CommandLine.{program_app}
 use Rattle.heavy_arguments.specs.Numbers.{IsNumberOf, number_in}
 use Rattle.heavy_host.specs.Words.{AreAllWords, word_of}
 use Rattle.heavy_requests.specs.declared.request.Command.{Command}
@@ -18,6 +19,8 @@ use Rattle.heavy_requests.specs.declared.request.RecordWords.{RecordWords}
 use Rattle.heavy_requests.specs.declared.request.Request.{Request}
 use Rattle.heavy_requests.specs.declared.request.Request.TheVariants.{Report, Answer}
 use Rattle.heavy_requests.specs.declared.request.Invocation.{Invocation}
+use Rattle.heavy_requests.specs.declared.request.UsageError.{UsageError}
+use Rattle.heavy_requests.specs.declared.request.UsageError.TheVariants as usage
 
 -- the first word of a name, or else another
 abbrev pub first_word : Text → Found → Text → List ℕ
@@ -26,6 +29,15 @@ first_word other found name = word_of (unwrap_or (first_value found name) other)
 -- all words of a name, in their order
 abbrev pub all_words : Found → Text → List (List ℕ)
 all_words found name = map word_of (unwrap_or (option_map raw_values (matched_of found name)) [])
+
+-- what stands between the commas of a text
+abbrev pub between_commas : Text → List Text
+between_commas text = slice_split (λ b. b == 44) text
+
+-- the columns of all words of a name, in their order
+abbrev pub all_columns : Found → Text → List (List ℕ)
+all_columns found name =
+    map word_of (flat_map between_commas (unwrap_or (option_map raw_values (matched_of found name)) []))
 
 -- the threshold: the text that was given, or else that of the counters
 abbrev pub GivesShare : Option Text → Share → Type 0
@@ -73,7 +85,7 @@ pub record AreRecordWords (found : Found) (records : RecordWords) : Type 0 where
       ≡ option_map word_of (first_value found (codes "delimiter"))
   pub headed : one_text found (codes "header") ≡ Some (codes "true") → records.layout.has_header ≡ true
   pub unheaded : one_text found (codes "header") ≡ None → records.layout.has_header ≡ false
-  pub key : map (λ w. w.items) records.layout.key.items ≡ all_words found (codes "key")
+  pub key : map (λ w. w.items) records.layout.key.items ≡ all_columns found (codes "key")
   pub weight : option_map (λ w. w.items) records.layout.weight
       ≡ option_map word_of (first_value found (codes "weight"))
   pub zeros : one_text found (codes "allow-zero") ≡ Some (codes "true") → records.layout.allow_zero ≡ true
@@ -148,22 +160,31 @@ AsksFor name found (Report options rows by_plan) =
     IsReportName name × AreOptions found options × AreRowOptions found rows × (by_plan ≡ asks_plan found)
 AsksFor name found (Answer command) = Answers name found command
 
--- these words ask for it: clap found in their texts a command, with its name and its arguments
+-- these words ask for it: in their texts the program's command line has this command, with its name and its arguments
 pub record IsAskedBy (words : List (List ℕ)) (asked : Invocation) : Type 0 where
   pub texts : List Text
   pub spelled : map word_of texts ≡ words
-  pub program : App
-  pub matches : ArgMatches
-  pub read : HasMatchesOf program texts matches
   pub name : Text
   pub found : Found
-  pub command : subcommand_rows_of matches ≡ Some (name, rows_of found)
+  pub command : subcommand_of program_app texts ≡ Some (name, rows_of found)
   pub request : AsksFor name found asked.request
   pub records : AreRecordWords found asked.records
   pub told : one_text found (codes "progress") ≡ Some (codes "true") → asked.tells_progress ≡ true
   pub untold : one_text found (codes "progress") ≡ None → asked.tells_progress ≡ false
   pub explained : one_text found (codes "explain") ≡ Some (codes "true") → asked.explains ≡ true
   pub unexplained : one_text found (codes "explain") ≡ None → asked.explains ≡ false
+
+-- these words may be refused so: the program's command line doesn't take their texts, or memory was refused
+abbrev pub MayRefuse : List (List ℕ) → UsageError → Type 0
+MayRefuse words usage.Memory = ⊤
+MayRefuse words (usage.Told told) =
+    (texts : List Text) × (map word_of texts ≡ words) × (takes program_app texts ≡ false)
+
+-- all words of a source may be refused so
+abbrev pub MayRefuseFrom : (ℕ → Option (List ℕ) → Type 0) → UsageError → Type 0
+MayRefuseFrom gives usage.Memory = ⊤
+MayRefuseFrom gives (usage.Told told) =
+    (words : List (List ℕ)) × AreAllWords gives words × MayRefuse words (usage.Told told)
 
 -- all words of a source ask for it
 abbrev pub IsAskedFrom : (ℕ → Option (List ℕ) → Type 0) → Invocation → Type 0

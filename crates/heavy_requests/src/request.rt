@@ -1,16 +1,17 @@
 //! What a command line asks for.
 
-ghost use Rattle.std.specs.Prelude.{◌≡◌, [], IfOk, codes, map, option_map};
-ghost use Rattle.clap.specs.Words.{Text, first_value, found_of};
+ghost use Rattle.std.specs.Prelude.{◌≡◌, ◌++◌, [], IfErr, IfOk, OnOk, codes, map, option_map};
+ghost use Rattle.clap.specs.Words.{Text, first_value, found_of, kind_of};
 ghost use Rattle.heavy_host.specs.Words.{word_of};
 ghost use Rattle.heavy_requests.specs.Request.{AreDecimals, AreOptions, AreRecordWords};
 ghost use Rattle.heavy_requests.specs.Request.{AreRowOptions, AsksFor, GivesShare, IsAskedBy};
 ghost use Rattle.heavy_requests.specs.Request.{IsAskedFrom, IsReportName, NamesTree, all_words, asks_plan};
+ghost use Rattle.heavy_requests.specs.Request.{MayRefuse, MayRefuseFrom, all_columns, between_commas};
 ghost use Rattle.heavy_requests.specs.Request.{first_word};
 
 use crate::told::{Told, told_of};
-use clap::ArgMatches;
 use clap::error::ErrorKind;
+use clap::{ArgMatches, Error};
 use heavy_arguments::{
     ALLOW_ZERO, DECIMALS, DELIMITER, DEPTH, EXPLAIN, HEADER, K, KEY, PIECES, PROGRESS, RECORDS,
     SEED, SHARE, TOP, WEIGHT, WIDTH, WORKERS, command_line,
@@ -146,6 +147,11 @@ pub enum UsageError {
 }
 
 impl From<AllocError> for UsageError {
+    ghost use Rattle.std.specs.Prelude.{◌≡◌};
+    ghost use Rattle.heavy_requests.specs.declared.request.UsageError.TheVariants.{Memory};
+
+    ghost from_gives = { λ _ e. e ≡ Memory };
+
     fn from(_: AllocError) -> UsageError {
         UsageError::Memory
     }
@@ -179,6 +185,40 @@ fn words(alloc: Global, found: &ArgMatches, name: &str) -> Result<Vec<Vec<u8>>, 
     Ok(words)
 }
 
+/// What stands between the commas of a text.
+fn parts_of<'a>(alloc: Global, text: &'a str) -> Result<Vec<&'a str>, AllocError>
+    ensures { IfOk result (λ parts.
+        map (λ part. part.now) parts.items ≡ between_commas text.now) }
+{
+    text.split(',').collect(alloc)
+}
+
+/// Puts the bytes of these texts behind other words.
+fn push_words(alloc: Global, words: &mut Vec<Vec<u8>>, texts: &[&str]) -> Result<(), AllocError>
+    ensures { OnOk result (map (λ w. w.items) words.new.items
+        ≡ map (λ w. w.items) words.old.items ++ map word_of (map (λ t. t.now) texts.now)) }
+{
+    for text in texts {
+        words.push(bytes_of(alloc, text)?)?;
+    }
+    Ok(())
+}
+
+/// The bytes of all columns of this name, of which several stand between commas.
+fn columns(alloc: Global, found: &ArgMatches, name: &str) -> Result<Vec<Vec<u8>>, AllocError>
+    ensures { IfOk result (λ words.
+        map (λ w. w.items) words.items ≡ all_columns (found_of found.now) name.now) }
+{
+    let mut words = Vec::new(alloc);
+    let Some(texts) = found.get_strs(name) else {
+        return Ok(words);
+    };
+    for text in texts {
+        push_words(alloc, &mut words, &parts_of(alloc, text)?)?;
+    }
+    Ok(words)
+}
+
 /// The bytes of the first word of this name, if one is given.
 fn word_given(alloc: Global, found: &ArgMatches, name: &str) -> Result<Option<Vec<u8>>, AllocError>
     ensures { IfOk result (λ word. option_map (λ w. w.items) word
@@ -204,7 +244,7 @@ fn records_of(alloc: Global, found: &ArgMatches) -> Result<RecordWords, AllocErr
     let layout = LayoutWords {
         delimiter: word_given(alloc, found, DELIMITER)?,
         has_header: found.get_flag(HEADER),
-        key: words(alloc, found, KEY)?,
+        key: columns(alloc, found, KEY)?,
         weight: word_given(alloc, found, WEIGHT)?,
         allow_zero: found.get_flag(ALLOW_ZERO),
         decimals: decimals_of(found),
@@ -372,17 +412,28 @@ fn request_of(alloc: Global, name: &str, found: &ArgMatches) -> Result<Request, 
     }
 }
 
+/// Why words ask for nothing, where `clap` gave this error.
+fn usage_error(alloc: Global, words: &[Vec<u8>], error: Error) -> UsageError
+    ensures { kind_of error ≡ ErrorKind.OutOfMemory → result ≡ UsageError.Memory }
+{
+    if matches!(error.kind(), ErrorKind::OutOfMemory) {
+        return UsageError::Memory;
+    }
+    match told_of(alloc, words, error) {
+        Ok(told) => UsageError::Told(told),
+        Err(_) => UsageError::Memory,
+    }
+}
+
 /// What these words ask for, the first of which is the program's name.
 fn request_in(alloc: Global, words: &[Vec<u8>]) -> Result<Invocation, UsageError>
-    ensures { IfOk result (IsAskedBy (map (λ w. w.items) words.now)) }
+    ensures asked { IfOk result (IsAskedBy (map (λ w. w.items) words.now)) }
+    ensures refused { IfErr result (MayRefuse (map (λ w. w.items) words.now)) }
 {
     let texts = texts_of(alloc, words)?;
     let matches = match command_line(alloc)?.try_get_matches_from(texts.as_slice()) {
         Ok(matches) => matches,
-        Err(error) if matches!(error.kind(), ErrorKind::OutOfMemory) => {
-            return Err(UsageError::Memory);
-        }
-        Err(error) => return Err(UsageError::Told(told_of(alloc, words, error)?)),
+        Err(error) => return Err(usage_error(alloc, words, error)),
     };
     let Some((name, found)) = matches.subcommand() else {
         unreachable!("a command is required");
@@ -397,7 +448,8 @@ fn request_in(alloc: Global, words: &[Vec<u8>]) -> Result<Invocation, UsageError
 
 /// What the words of a source ask for.
 pub fn read_request<W: WordSource>(source: &W, alloc: Global) -> Result<Invocation, UsageError>
-    ensures { IfOk result (IsAskedFrom (W.gives source.now)) }
+    ensures asked { IfOk result (IsAskedFrom (W.gives source.now)) }
+    ensures refused { IfErr result (MayRefuseFrom (W.gives source.now)) }
 {
     let words = read_words(source, alloc)?;
     request_in(alloc, &words)

@@ -1,24 +1,25 @@
-use Rattle.std.proofs.Common.{◌∙◌, map, subst, refl}
+-- What the words' texts are taken for is what the program's command line finds in them.
+use Rattle.std.proofs.Common.{◌≡◌, ◌∙◌, true, map, subst, sym, refl}
 use Rattle.std.proofs.lemmas.Simd.{map-map}
 use Rattle.std.specs.String.{string_bytes}
-use Rattle.clap.specs.Words.{HasMatchesOf, app_of, found_of, rows_of}
+use Rattle.clap.specs.Words.{App, HasMatchesOf, app_of, found_of, rows_of, takes}
 use Rattle.clap.specs.declared.parser.matches.ArgMatches.TheViews.{out-ArgMatches, out-SubCommand}
 use Rattle.std.specs.Box.{box_value}
 use Rattle.heavy_host.specs.Words.{word_of}
-use Rattle.heavy_requests.proofs.RequestLemmas.{found_together}
+use Rattle.heavy_requests.proofs.RequestLemmas.{found_by_program, found_together, may_refuse}
 use Rattle.heavy_requests.proofs.request.request_in.Goals as goal
 
-pub returns : goal.returns
-returns c = record {
+pub returns-clause-asked : goal.returns-clause-asked
+returns-clause-asked c = record {
   texts = map string_bytes c.in_ok-texts.texts.items;
   spelled = map-map word_of string_bytes c.in_ok-texts.texts.items ∙ c.in_ok-texts.ensures;
-  program = app_of c.in_ok-command_line.field-0;
-  matches = c.in-Ok.matches;
-  read = subst (λ items. HasMatchesOf (app_of c.in_ok-command_line.field-0) (map string_bytes items) c.in-Ok.matches)
-      c.as_slice.ensures.value c.in-Ok.ensures.matches;
   name = c.in-Some.name.now;
   found = found_of c.in-Some.found.now;
-  command = found_together (λ b. (out-SubCommand (box_value b)).name.now)
+  command = found_by_program (app_of c.in_ok-command_line.field-0) (map string_bytes c.in_ok-texts.texts.items) c.in-Ok.matches
+      c.in_ok-command_line.ensures.app
+      (subst (λ items. HasMatchesOf (app_of c.in_ok-command_line.field-0) (map string_bytes items) c.in-Ok.matches)
+      c.as_slice.ensures.value c.in-Ok.ensures.matches)
+      ∙ found_together (λ b. (out-SubCommand (box_value b)).name.now)
       (λ b. ((out-SubCommand (box_value b)).name.now, rows_of (found_of (out-SubCommand (box_value b)).matches))) (λ b. refl) (out-ArgMatches c.in-Ok.matches).subcommand c.in-Some.name.now (rows_of (found_of c.in-Some.found.now))
       c.in-Some.ensures.name c.in-Some.ensures.rows;
   request = c.in_ok-request_of.ensures;
@@ -28,3 +29,12 @@ returns c = record {
   explained = c.get_flag-2.ensures.value;
   unexplained = c.get_flag-2.ensures.none;
 }
+
+pub returns-in-Err-clause-refused : goal.returns-in-Err-clause-refused
+returns-in-Err-clause-refused c =
+    let texts = c.in_ok-texts.texts.items in
+    let app = app_of c.in_ok-command_line.field-0 in
+    may_refuse _ (map string_bytes texts) _ (map-map word_of string_bytes texts ∙ c.in_ok-texts.ensures)
+    (λ yes. c.usage_error.ensures (c.in-Err.ensures.passes
+    (subst (λ items. takes app (map string_bytes items) ≡ true) (sym c.as_slice.ensures.value)
+    (subst (λ (a : App). takes a (map string_bytes texts) ≡ true) (sym c.in_ok-command_line.ensures.app) yes))))

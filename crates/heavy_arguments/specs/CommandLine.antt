@@ -1,0 +1,144 @@
+-- What `clap` reads of the program's command line: each command with its arguments, each argument
+-- with its name and how it is given.
+use Rattle.std.specs.Prelude.{ℕ, pos, true, false, List, [], ◌∷◌, ◌++◌, Some, codes, map, flat_map, fold}
+use Rattle.clap.specs.Lexer.{usize_max}
+use Rattle.clap.specs.Walk.{Rule, Text}
+use Rattle.clap.specs.Simple.{App, Shape, new_rule, new_shape, on_top, with_subcommand}
+use Rattle.clap.specs.declared.builder.action.ArgAction.TheVariants.{Append, SetTrue}
+use Rattle.clap.specs.declared.builder.value_parser.ValueParser.TheVariants.{Signed, Unsigned}
+use Rattle.heavy_arguments.specs.declared.options.Argument.{Argument}
+use Rattle.heavy_arguments.specs.declared.options.Argument.TheVariants as argument
+use Rattle.heavy_arguments.specs.declared.options.Kind.{Kind}
+use Rattle.heavy_arguments.specs.declared.options.Kind.TheVariants as kind
+use Rattle.heavy_arguments.specs.declared.arguments.Group.{Group}
+use Rattle.heavy_arguments.specs.declared.arguments.CommandWords.{CommandWords}
+
+-- ---- arguments
+
+-- `--NAME VALUE`, at most once
+abbrev pub option : Text → Rule
+option name = record (new_rule name) { long = Some name; value_names = 1 }
+
+-- the same, of which the value is a number
+abbrev pub number : Text → Rule
+number name = record (option name) { parser = Some (Unsigned 0 18446744073709551615) }
+
+-- the same, from 0 to 9
+abbrev pub digit : Text → Rule
+digit name = record (option name) { parser = Some (Signed (pos 0) (pos 9)) }
+
+-- `--NAME VALUE`, any number of times
+abbrev pub options : Text → Rule
+options name = record (option name) { action = Some Append }
+
+-- `--NAME`, at most once
+abbrev pub flag : Text → Rule
+flag name = record (new_rule name) { long = Some name; action = Some SetTrue }
+
+-- a word that has to stand there
+abbrev pub word : Text → Rule
+word name = record (new_rule name) { value_names = 1; required = true }
+
+-- any number of words at the end, or none
+abbrev pub words : Text → Rule
+words name = record (new_rule name) {
+  value_names = 1;
+  action = Some Append;
+  range = Some (record { start_inclusive = 1; end_inclusive = usize_max });
+}
+
+-- one word at the end, or more
+abbrev pub some_words : Text → Rule
+some_words name = record (words name) { required = true }
+
+abbrev pub rule_of_kind : Kind → Text → Rule
+rule_of_kind kind.Number name = number name
+rule_of_kind kind.Digit name = digit name
+rule_of_kind (kind.Text value) name = option name
+rule_of_kind kind.Byte name = option name
+rule_of_kind kind.Columns name = options name
+rule_of_kind kind.Share name = option name
+rule_of_kind kind.Flag name = flag name
+rule_of_kind kind.LastFlag name = flag name
+rule_of_kind kind.Word name = word name
+rule_of_kind kind.Words name = some_words name
+rule_of_kind kind.Files name = words name
+
+abbrev pub rule_of_argument : Argument → Rule
+rule_of_argument (argument.Number it) = number it.name.now
+rule_of_argument (argument.Given kind name help) = rule_of_kind kind name.now
+
+abbrev pub rules_of_arguments : List Argument → List Rule
+rules_of_arguments = map rule_of_argument
+
+-- ---- commands
+
+-- a command with these arguments after its own
+abbrev pub with_rules : App → List Rule → App
+with_rules app rules = on_top (λ s. record s { rules = s.rules ++ rules }) app
+
+abbrev pub rules_of_group : Group → List Rule
+rules_of_group it = rules_of_arguments it.arguments.now
+
+abbrev pub rules_of_words : CommandWords → List Rule
+rules_of_words it = rules_of_arguments it.arguments.now ++ flat_map rules_of_group it.groups.now
+
+abbrev pub shape_of_words : CommandWords → Shape
+shape_of_words it = record (new_shape it.name.now) { rules = rules_of_words it }
+
+-- the program before it has commands
+abbrev pub bare_program : App
+bare_program = record { top = record (new_shape (codes "heavy")) { has_version = true }; subs = [] }
+
+-- the program with these commands, of which one has to be named
+abbrev pub program_of : List Shape → App
+program_of shapes = on_top (λ s. record s { subcommand_required = true })
+    (fold with_subcommand bare_program shapes)
+
+-- ---- the program's own
+
+abbrev pub command : Text → List Rule → Shape
+command name rules = record (new_shape name) { rules = rules }
+
+-- what each command takes that reads something
+abbrev pub reading : List Rule
+reading = flag (codes "explain") ∷ flag (codes "progress") ∷ []
+
+-- how records are read
+abbrev pub columns : List Rule
+columns = option (codes "delimiter") ∷ flag (codes "header") ∷ options (codes "key")
+    ∷ option (codes "weight") ∷ flag (codes "allow-zero") ∷ digit (codes "decimals") ∷ []
+
+-- the rows that are printed
+abbrev pub rows : List Rule
+rows = option (codes "threshold") ∷ number (codes "top") ∷ flag (codes "share") ∷ []
+
+-- a table
+abbrev pub grid : List Rule
+grid = number (codes "width") ∷ number (codes "depth") ∷ number (codes "seed") ∷ []
+
+abbrev pub workers : Rule
+workers = number (codes "workers")
+
+abbrev pub records : Rule
+records = words (codes "RECORDS")
+
+abbrev pub saved : Rule
+saved = word (codes "FILE")
+
+-- the command line of the program
+abbrev pub program_app : App
+program_app = program_of (
+    command (codes "report") (reading ++ number (codes "k") ∷ rows ++ records ∷ columns
+    ++ workers ∷ number (codes "pieces") ∷ option (codes "tree") ∷ grid)
+    ∷ command (codes "summarise")
+    (reading ++ number (codes "k") ∷ option (codes "method") ∷ records ∷ columns)
+    ∷ command (codes "table") (reading ++ grid ++ workers ∷ records ∷ columns)
+    ∷ command (codes "merge") (flag (codes "explain") ∷ some_words (codes "FILE") ∷ [])
+    ∷ command (codes "ask") (flag (codes "explain") ∷ digit (codes "decimals") ∷ saved
+    ∷ some_words (codes "KEY") ∷ [])
+    ∷ command (codes "list") (flag (codes "explain") ∷ digit (codes "decimals") ∷ saved ∷ [])
+    ∷ command (codes "describe") (flag (codes "explain") ∷ saved ∷ [])
+    ∷ command (codes "condense") (reading ++ workers ∷ saved ∷ records ∷ columns)
+    ∷ command (codes "confirm") (reading ++ rows ++ workers ∷ saved ∷ records ∷ columns)
+    ∷ [])
