@@ -10,6 +10,7 @@ import shutil
 import stat
 import subprocess
 import tempfile
+import tty
 from pathlib import Path
 
 import programs
@@ -51,6 +52,25 @@ class Devices(programs.Checks):
             for name, redirection in [("closed", "<&-"), ("a directory", "< /"), ("an I/O error", "< /proc/self/mem")]:
                 found = shell(f'"$@" {redirection}', [self.program, *command])
                 self.check(f"{command[0]} with {name} as standard input", found == NOT_READ, found)
+
+    def test_inputs_that_fail_in_the_middle(self) -> None:
+        """Every command that reads records, where their device fails behind some of them: these are judged first."""
+        by_file = [["condense", self.summary], ["confirm", self.summary]]
+        for command in [REPORT, [*REPORT, "--pieces", "4"], ["summarise"], ["table"], *by_file]:
+            number = 1 + (command[-1] == self.summary)
+            fails = (1, b"", b"heavy: file %d: could not be read\n" % number)
+            bad = (3, b"", b"heavy: record 2: zero weight\n")
+            for text, files, wanted in [
+                (b"a,5\nb,3\n", [], NOT_READ), (b"a,5\nb,0\n", [], bad), (b"a,5\nb,3\n", ["-", "/dev/null"], fails),
+                (b"a,5\nb,0\n", ["-", "/dev/null"], bad),
+            ]:
+                ear, mouth = os.openpty()  # reads fail behind what was written, once the other end is closed
+                tty.setraw(mouth)
+                os.write(mouth, text)
+                os.close(mouth)
+                found = said(programs.run([self.program, *command, *files], stdin=ear))
+                os.close(ear)
+                self.check(f"{command[0]} of {text} and {files}", found == wanted, found)
 
     def test_closed_streams(self) -> None:
         """A file that is opened is never taken for a standard stream that is closed, and a closed stream is a fault."""

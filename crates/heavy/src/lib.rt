@@ -19,10 +19,10 @@ pub use hh_library::{
     condense_items, confirm, confirm_above, confirm_bytes, confirm_items, confirm_share,
     empty_summary, empty_table, list_entries, list_keys, summary_bytes, table_bytes,
 };
-pub use hh_pieces::{FileOrPipe, FileRecords, ReadAt, SourceRecords};
+pub use hh_pieces::{ReadAt, SourceRecords};
 pub use hh_pool::MAX_WORKERS;
 pub use hh_records::{Column, Layout, LayoutWords, Records, layout_of, read_stream};
-pub use hh_reports::{ReportedBy, report_rows, run_report};
+pub use hh_reports::{report_rows, run_report};
 pub use hh_rows::{
     Out, ReportFault, ReportOptions, RowOptions, Share, Sink, SinkFault, Tree, printed_text, put,
     report_text, write_printed, write_report,

@@ -13,7 +13,7 @@ use hh_commands::{
 };
 use hh_faults::ToolError;
 use hh_files::{condense_files, confirm_files, report_files, table_files};
-use hh_reports::{ReportedBy, report_rows};
+use hh_reports::{check_options, report_rows};
 use hh_rows::{Out, ReportOptions, RowOptions, Share, put};
 use std::cell::Cell;
 use std::process::ExitCode;
@@ -140,7 +140,8 @@ fn write_answer<T: Threads + Wait + Sync>(
     Ok(())
 }
 
-/// Writes the report of the records that are named, or else of standard input, as it is made.
+/// Writes the report of the records that are named, or else of standard input, as it is made. The
+/// options are tested before what can be read once is.
 fn write_report<T: Threads + Wait + Sync>(
     threads: &T,
     inputs: Inputs<'_>,
@@ -150,19 +151,15 @@ fn write_report<T: Threads + Wait + Sync>(
     by_plan: bool,
 ) -> Result<(), ToolError> {
     let alloc = inputs.rt.alloc();
-    if by_plan || records.files.is_empty() {
-        let by = if by_plan {
-            ReportedBy::Plan
-        } else {
-            ReportedBy::Tally
-        };
-        let records = inputs.records(records, 0)?;
-        let mut out = Out::new(inputs.rt.stdout());
-        return report_rows(threads, alloc, options, rows, records, by, &mut out);
-    }
-    let records = inputs.file_records(records)?;
     let mut out = Out::new(inputs.rt.stdout());
-    report_files(threads, alloc, options, rows, records, &mut out)
+    if by_plan {
+        let records = inputs.records(records, 0)?;
+        return report_rows(threads, alloc, options, rows, records, &mut out);
+    }
+    let opened = inputs.twice(records)?;
+    check_options(options)?;
+    let files = opened.kept(alloc)?;
+    report_files(threads, alloc, options, rows, files.records(), &mut out)
 }
 
 fn main(rt: HostRuntime) -> ExitCode {

@@ -7,7 +7,7 @@ use crate::unread::Unread;
 use heavy_host::{FileError, FileFault, FileSource, read_file, read_files};
 use heavy_progress::{Form, Metered, Seen, SharedProgress, Watch};
 use hh_faults::ToolError;
-use hh_pieces::{FileOrPipe, FileRecords, ReadAt, SourceRecords};
+use hh_pieces::{ReadAt, SourceRecords};
 use hh_records::{Layout, Records, delimiter_of, layout_of};
 use hh_stream::KeyHash;
 use hh_workers::MAX_WORKERS;
@@ -104,10 +104,10 @@ impl<'a> Read for Input<'a> {
     }
 }
 
-/// A file that is read at any place, by several workers at once. It leaves its number where a read
-/// fails, or where it isn't as long any more as it was when it was opened.
+/// A file of the disk that is read at any place, by several workers at once. It leaves its number
+/// where a read fails, or where it isn't as long any more as it was when it was opened.
 #[derive(Drop)]
-pub struct OpenFile<'a> {
+pub struct DiskFile<'a> {
     file: File,
     size: u64,
     number: u64,
@@ -115,7 +115,7 @@ pub struct OpenFile<'a> {
     progress: Option<&'a SharedProgress<'a>>,
 }
 
-impl<'a> ReadAt for OpenFile<'a> {
+impl<'a> ReadAt for DiskFile<'a> {
     ghost bytes = { λ _. None };
 
     fn len(&self) -> io::Result<u64> {
@@ -142,10 +142,116 @@ impl<'a> ReadAt for OpenFile<'a> {
     }
 }
 
+/// What a pipe gave, which is kept because it is read twice.
+#[derive(Drop)]
+pub struct KeptPipe {
+    bytes: Vec<u8>,
+    /// Whether the pipe came to its end. Where it could not be read so far, a byte more is told
+    /// than there is: what is read up to there fails, behind the bytes that are there.
+    is_whole: bool,
+}
+
+impl ReadAt for KeptPipe {
+    ghost use Rattle.heavy_requests.specs.Inputs.{kept_bytes};
+
+    ghost bytes = { kept_bytes };
+
+    fn len(&self) -> io::Result<u64> {
+        let len = ReadAt::len(&self.bytes)?;
+        Ok(len.saturating_add(u64::from(!self.is_whole)))
+    }
+
+    fn read_at(&self, buf: &mut [u8], at: u64) -> io::Result<usize> {
+        self.bytes.read_at(buf, at)
+    }
+}
+
+/// What is read at any place, as often as is wanted.
+#[derive(Drop)]
+pub enum OpenFile<'a> {
+    Disk(DiskFile<'a>),
+    Kept(KeptPipe),
+}
+
+impl<'a> ReadAt for OpenFile<'a> {
+    ghost use Rattle.heavy_requests.specs.Inputs.{open_bytes};
+
+    ghost bytes = { open_bytes };
+
+    fn len(&self) -> io::Result<u64> {
+        match self {
+            OpenFile::Disk(file) => file.len(),
+            OpenFile::Kept(pipe) => pipe.len(),
+        }
+    }
+
+    fn read_at(&self, buf: &mut [u8], at: u64) -> io::Result<usize> {
+        match self {
+            OpenFile::Disk(file) => file.read_at(buf, at),
+            OpenFile::Kept(pipe) => pipe.read_at(buf, at),
+        }
+    }
+}
+
 /// What reads records, and tells how far it is where that is asked for.
 pub type Reader<'a> = Metered<'a, Input<'a>>;
 
-/// Files of the disk, all of which are open.
+/// What is read of a pipe, which is kept whole, or as far as it could be read.
+fn keep_pipe(alloc: Global, mut pipe: Reader<'_>) -> Result<KeptPipe, ToolError> {
+    let mut bytes = Vec::new(alloc);
+    let is_whole = match pipe.read_to_end(&mut bytes) {
+        Ok(_) => true,
+        Err(error) if matches!(error.kind(), io::ErrorKind::OutOfMemory) => {
+            return Err(ToolError::Memory);
+        }
+        Err(_) => false,
+    };
+    Ok(KeptPipe { bytes, is_whole })
+}
+
+/// An input of records that are read twice.
+#[derive(Drop)]
+pub enum FileOrPipe<'a> {
+    File(DiskFile<'a>),
+    /// What is read once.
+    Pipe(Reader<'a>),
+}
+
+/// Inputs of records that are read twice, all of which are open.
+#[derive(Drop)]
+pub struct OpenInputs<'a> {
+    layout: Layout,
+    inputs: Vec<FileOrPipe<'a>>,
+}
+
+impl<'a> OpenInputs<'a> {
+    /// The same, with what the pipes give kept. They are read here, in their order. What stands
+    /// behind a pipe that can't be read is left out: it is told before anything of that.
+    pub fn kept(self, alloc: Global) -> Result<OpenFiles<'a>, ToolError> {
+        let mut files = Vec::new(alloc);
+        for input in self.inputs {
+            let mut is_whole = true;
+            let file = match input {
+                FileOrPipe::File(file) => OpenFile::Disk(file),
+                FileOrPipe::Pipe(pipe) => {
+                    let kept = keep_pipe(alloc, pipe)?;
+                    is_whole = kept.is_whole;
+                    OpenFile::Kept(kept)
+                }
+            };
+            push_behind(&mut files, file)?;
+            if !is_whole {
+                break;
+            }
+        }
+        Ok(OpenFiles {
+            layout: self.layout,
+            files,
+        })
+    }
+}
+
+/// Files of the disk and kept pipes, which workers read.
 #[derive(Drop)]
 pub struct OpenFiles<'a> {
     layout: Layout,
@@ -271,8 +377,8 @@ impl<'a> Inputs<'a> {
     }
 
     /// A file that has so many bytes, for workers.
-    fn open_file(self, file: File, size: u64, number: u64) -> OpenFile<'a> {
-        OpenFile {
+    fn disk_file(self, file: File, size: u64, number: u64) -> DiskFile<'a> {
+        DiskFile {
             file,
             size,
             number,
@@ -353,15 +459,15 @@ impl<'a> Inputs<'a> {
         Ok(layout)
     }
 
-    /// The records of the files that a command line names.
-    pub fn file_records(
-        self,
-        words: &RecordWords,
-    ) -> Result<FileRecords<OpenFile<'a>, Reader<'a>>, ToolError> {
-        Ok(FileRecords {
-            layout: self.layout(words)?,
-            inputs: self.open_all(&words.files, 0)?,
-        })
+    /// The inputs that a command line names for a command that reads them twice: its files, or else
+    /// standard input.
+    pub fn twice(self, words: &RecordWords) -> Result<OpenInputs<'a>, ToolError> {
+        let layout = self.layout(words)?;
+        let mut inputs = self.open_all(&words.files, 0)?;
+        if inputs.is_empty() {
+            push_behind(&mut inputs, FileOrPipe::Pipe(self.standard(0, false)))?;
+        }
+        Ok(OpenInputs { layout, inputs })
     }
 
     /// The records that a command line names behind so many saved files: those of its files, or
@@ -488,13 +594,13 @@ impl<'a> Opened<'a> for Reader<'a> {
 
 /// The same of a file that may be read twice: one of the disk that has a size is read at any place,
 /// and all else as a pipe.
-impl<'a> Opened<'a> for FileOrPipe<OpenFile<'a>, Reader<'a>> {
+impl<'a> Opened<'a> for FileOrPipe<'a> {
     fn open(
         inputs: Inputs<'a>,
         name: &[u8],
         number: u64,
         is_taken: bool,
-    ) -> Result<FileOrPipe<OpenFile<'a>, Reader<'a>>, ToolError> {
+    ) -> Result<FileOrPipe<'a>, ToolError> {
         if is_standard(name) {
             return Ok(FileOrPipe::Pipe(inputs.standard(number, is_taken)));
         }
@@ -502,7 +608,7 @@ impl<'a> Opened<'a> for FileOrPipe<OpenFile<'a>, Reader<'a>> {
         match file.metadata() {
             Ok(metadata) if metadata.is_file() && metadata.len() > 0 => {
                 let size = metadata.len();
-                Ok(FileOrPipe::File(inputs.open_file(file, size, number)))
+                Ok(FileOrPipe::File(inputs.disk_file(file, size, number)))
             }
             _ => {
                 let path = str::from_utf8(name).unwrap_or("");
@@ -522,7 +628,10 @@ impl<'a> Opened<'a> for OpenFile<'a> {
     ) -> Result<OpenFile<'a>, ToolError> {
         let file = inputs.file(name, number)?;
         match file.metadata() {
-            Ok(metadata) => Ok(inputs.open_file(file, metadata.len(), number)),
+            Ok(metadata) => {
+                let file = inputs.disk_file(file, metadata.len(), number);
+                Ok(OpenFile::Disk(file))
+            }
             Err(error) => {
                 inputs.unread.leave(number, &error);
                 Err(ToolError::FileFault { number })

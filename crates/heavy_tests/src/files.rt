@@ -6,9 +6,9 @@ ghost use Rattle.std.specs.Prelude.{None};
 use crate::devices::{Manner, Target};
 use crate::fixtures::assert_same;
 use heavy::{
-    Comparison, FileOrPipe, FileRecords, Layout, Method, Out, ReadAt, ReportOptions, RowOptions,
-    Share, SourceRecords, ToolError, Tree, condense_files, confirm_files, report_files,
-    summary_bytes, table_bytes, table_files,
+    Comparison, Layout, Method, Out, ReadAt, ReportOptions, RowOptions, Share, SourceRecords,
+    ToolError, Tree, condense_files, confirm_files, report_files, summary_bytes, table_bytes,
+    table_files,
 };
 use std::io::{self, Error, ErrorKind, Read};
 use std::process::Abort;
@@ -27,32 +27,39 @@ enum Course {
     Changes,
 }
 
-/// A file of the record `a,5000` or `a,6000`.
+/// A file of the record `a,5000` or `a,6000` and, behind it, of many keys.
 #[derive(Drop)]
-struct OneRecord<'a> {
+struct ManyRecords<'a> {
     course: Course,
     calls: &'a AtomicU64,
+    /// The file with `a,5000`, and that with `a,6000`.
+    texts: [&'a [u8]; 2],
 }
 
-impl OneRecord<'_> {
+impl ManyRecords<'_> {
     /// The number of this call, from 1 on.
     fn call(&self) -> u64 {
         self.calls.fetch_add(1, Ordering::SeqCst).saturating_add(1)
     }
+
+    /// How many bytes each of the texts has.
+    fn size(&self) -> u64 {
+        self.texts[0].len() as u64
+    }
 }
 
-impl ReadAt for OneRecord<'_> {
+impl ReadAt for ManyRecords<'_> {
     ghost bytes = { λ _. None };
 
     fn len(&self) -> io::Result<u64> {
         match self.course {
-            Course::Grows => Ok(self.call().min(2).saturating_add(6)),
-            _ => Ok(7),
+            Course::Grows if self.call() > 1 => Ok(self.size().saturating_add(1)),
+            _ => Ok(self.size()),
         }
     }
 
     fn read_at(&self, buf: &mut [u8], at: u64) -> io::Result<usize> {
-        let mut rest = b"a,5000\n".as_slice();
+        let mut text = self.texts[0];
         match self.course {
             Course::Grows => {}
             Course::Changes => {
@@ -61,9 +68,7 @@ impl ReadAt for OneRecord<'_> {
                 } else {
                     self.calls.load(Ordering::SeqCst)
                 };
-                if reading % 2 == 0 {
-                    rest = b"a,6000\n".as_slice();
-                }
+                text = self.texts[(reading % 2) as usize];
             }
             Course::Fails(from) => {
                 if self.call() >= from && from > 0 {
@@ -71,7 +76,8 @@ impl ReadAt for OneRecord<'_> {
                 }
             }
         }
-        rest = &rest[at.min(7) as usize..];
+        let at = at.min(text.len() as u64) as usize;
+        let mut rest = &text[at..];
         rest.read(buf)
     }
 }
@@ -90,32 +96,35 @@ fn options() -> ReportOptions {
     }
 }
 
-/// Records of more keys than one pass keeps, each of weight 1.
-fn many_keys(rt: &(impl Abort + AllocGlobal)) -> String {
+/// This record, and behind it those of more keys than one pass keeps, each of weight 1.
+fn with_many_keys(rt: &(impl Abort + AllocGlobal), record: &str) -> String {
     let mut text = String::new(rt.alloc());
+    write!(text, "{record}\n").expect(rt, "room");
     for number in 0..4100 {
         write!(text, "k{number}\n").expect(rt, "room");
     }
     text
 }
 
-/// What is written of a report of such a file and many keys, which is read twice, the refusal, and
-/// how many calls there were.
+/// What is written of a report of such a file, which is read twice, the refusal, and how many calls
+/// there were.
 fn report_of(
     rt: &(impl Abort + AllocGlobal + Threads + Wait + Sync),
     course: Course,
 ) -> (Vec<u8>, Option<ToolError>, u64) {
     let alloc = rt.alloc();
     let calls = AtomicU64::new(0);
-    let file = FileOrPipe::File(OneRecord {
+    let (five, six) = (with_many_keys(rt, "a,5000"), with_many_keys(rt, "a,6000"));
+    let sources = [ManyRecords {
         course,
         calls: &calls,
-    });
-    let keys = many_keys(rt);
-    let pipe = FileOrPipe::Pipe(keys.as_bytes());
-    let inputs = vec![in alloc; file, pipe].expect(rt, "room");
+        texts: [five.as_bytes(), six.as_bytes()],
+    }];
     let layout = Layout::plain(alloc);
-    let records = FileRecords { layout, inputs };
+    let records = SourceRecords {
+        layout: &layout,
+        sources: &sources,
+    };
     let mut taken = Vec::new(alloc);
     let mut out = Out::new(Target::new(Manner::taking(99), &mut taken));
     let rows = RowOptions::plain();

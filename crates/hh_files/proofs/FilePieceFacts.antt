@@ -7,8 +7,7 @@ use Rattle.hh_stream.specs.Cuttings.{whole_of}
 use Rattle.hh_stream.specs.Taking.{Takes}
 use Rattle.hh_stream.specs.Weights.{Entry, max_total, total_of}
 use Rattle.hh_summaries.specs.Report.{heavy}
-use Rattle.hh_reports.specs.Report.{AreKeysOfPieces}
-use Rattle.hh_files.specs.ReportFiles.{items_or_too_many, lists_of}
+use Rattle.hh_files.specs.ReportFiles.{AreKeysOfPieces, items_or_too_many, lists_of}
 
 -- where the pieces are not too many, each can be read by itself
 pub each_is_read : (pieces : List (Option (List Entry))) → total_of (whole_of (map items_or_too_many pieces)) ≤ max_total

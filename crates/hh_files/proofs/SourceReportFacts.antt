@@ -1,6 +1,6 @@
 -- Reports of files that are read twice.
 use Rattle.std.proofs.Common.{◌≡◌, ◌≤◌, ◌+◌, ◌*◌, ◌∙◌, ℕ, Bool, List, Option, Some, None, Ok, Err, Result, Global, Vec, sym, ap}
-use Rattle.std.specs.Prelude.{IfErr, IfOk, option_map}
+use Rattle.std.specs.Prelude.{IfErr, IfOk}
 use Rattle.std.specs.Map.{keys_of}
 use Rattle.hh_stream.specs.Weights.{Entry, total_of}
 use Rattle.hh_summaries.specs.Counters.{IsCounters, IsHonest, SummaryView}
@@ -8,17 +8,13 @@ use Rattle.hh_counters.specs.Counting.{Count, count_of}
 use Rattle.hh_counters.specs.Laws.{CandidatesSuffice, MisraGriesIsHonest}
 use Rattle.hh_summaries.specs.Report.{heavy}
 use Rattle.hh_counters.specs.declared.report.Heavy.{Heavy}
-use Rattle.hh_pieces.specs.Kept.{IsKnownStill}
-use Rattle.hh_records.specs.Layouts.{stream_with}
 use Rattle.hh_rows.specs.Printed.{printed_rows}
-use Rattle.hh_pieces.specs.Sources.{KeepRefused}
+use Rattle.hh_pieces.specs.Sources.{NotRead}
 use Rattle.hh_records.specs.Streams.{Known, Reading, ReadsAs}
 use Rattle.hh_rows.specs.Thresholds.{threshold_of}
-use Rattle.hh_records.specs.declared.layout.Layout.{Layout}
 use Rattle.hh_rows.specs.declared.printed.RowOptions.{RowOptions}
 use Rattle.hh_faults.specs.declared.records.TextError.{TextError}
 use Rattle.hh_faults.specs.declared.records.TextError.TheVariants as text
-use Rattle.hh_pieces.proofs.SourceFacts.{reads-still, refused-still}
 use Rattle.hh_commands.specs.Confirm.{confirmed_above}
 use Rattle.hh_commands.specs.Records.{IsCountOf}
 use Rattle.hh_records.specs.Refusals.{RecordsRefused}
@@ -52,8 +48,8 @@ counted_twice honest suffice names (Some r) k p q s counts total rows enough (xs
       found xs (counted ∙ ap (count_of (keys_of s.counters)) (sym same)) ∙ all,
     )
 
--- a pipe that isn't kept refuses as one that can't be read
-pub keep_refused : (known : Known) (e : TextError) → KeepRefused e → RecordsRefused known (text_fault e)
+-- a source that can't be read refuses the records
+pub keep_refused : (known : Known) (e : TextError) → NotRead e → RecordsRefused known (text_fault e)
 keep_refused known text.ReadFault h = tt
 keep_refused known text.Memory h = tt
 keep_refused known e h = absurd h
@@ -75,51 +71,22 @@ pub reported_keys : (o : ReportOptions) (names : Bool) (r : Option (Option Readi
 reported_keys o names None p q total rows e h = tt
 reported_keys o names (Some r) p q total rows e (xs, read, sum, are) = (xs, sum, (p, q, e, read, are))
 
-module _ (layout : Layout) (names : Bool) (o p : Option (List (List ℕ))) (still : IsKnownStill o p) where
-  -- what a refusal tells of records whose bytes are known still
-  refused_fault : (e : ToolError)
-      → RecordsRefused (record { names_columns = names; reading = option_map (stream_with layout) p }) e
-      → RecordsRefused (record { names_columns = names; reading = option_map (stream_with layout) o }) e
-  refused_fault tool.ReadFault h = tt
-  refused_fault (tool.BadRecord n c) h = reads-still layout o p still (Err (n, c)) h
-  refused_fault tool.NoColumn h = refused-still layout o p still names text.NoColumn h
-  refused_fault tool.Memory h = tt
-  refused_fault e h = absurd h
-
-  -- and what keys are found in them
-  found_of_kept : (m n total : ℕ) (rows : List Entry)
-      → FindsKeys (record { names_columns = names; reading = option_map (stream_with layout) p }) m n total rows
-      → FindsKeys (record { names_columns = names; reading = option_map (stream_with layout) o }) m n total rows
-  found_of_kept m n total rows = by o still
-    where
-      by : (o : Option (List (List ℕ))) → IsKnownStill o p
-          → FindsKeys (record { names_columns = names; reading = option_map (stream_with layout) p }) m n total rows
-          → FindsKeys (record { names_columns = names; reading = option_map (stream_with layout) o }) m n total rows
-      by None h k = tt
-      by (Some texts) h k = rw h at k
-
+module _ (o : ReportOptions) (are : AreOptions o) where
   -- so it is with a report by these options of what a call found
-  pub keys_of_kept : (options : ReportOptions) (m n : ℕ) → AreOptions options
-      → threshold_of options.k options.threshold ≡ Some (m, n) → (result : Result (ℕ × Vec Heavy Global) ToolError)
-      → IfOk result (λ keys. FindsKeys (record { names_columns = names; reading = option_map (stream_with layout) p })
-      m n keys.0 keys.1.items)
-      → IfOk result (λ keys. AreOptions options
-      × IfKnown (record { names_columns = names; reading = option_map (stream_with layout) o })
-      ((xs : List Entry) × (keys.0 ≡ total_of xs)
-      × ReportsKeys options (record { names_columns = names; reading = option_map (stream_with layout) o }) xs keys.1.items))
-  keys_of_kept options m n are e (Ok (total, keys)) h = (
-    are,
-    reported_keys options names (option_map (stream_with layout) o) m n total keys.items e
-        (found_of_kept m n total keys.items h),
-  )
-  keys_of_kept options m n are e (Err fault) h = tt
+  pub keys_reported : (names : Bool) (r : Option (Option Reading)) (p q : ℕ) → threshold_of o.k o.threshold ≡ Some (p, q)
+      → (result : Result (ℕ × Vec Heavy Global) ToolError)
+      → IfOk result (λ keys. FindsKeys (record { names_columns = names; reading = r }) p q keys.0 keys.1.items)
+      → IfOk result (λ keys. AreOptions o
+      × IfKnown (record { names_columns = names; reading = r }) ((xs : List Entry) × (keys.0 ≡ total_of xs)
+      × ReportsKeys o (record { names_columns = names; reading = r }) xs keys.1.items))
+  keys_reported names r p q e (Ok (total, keys)) h = (are, reported_keys o names r p q total keys.items e h)
+  keys_reported names r p q e (Err fault) h = tt
 
   -- and with its refusals
-  pub refused_of_kept : {A : Type 0} (options : ReportOptions) → AreOptions options → (result : Result A ToolError)
-      → IfErr result (RecordsRefused (record { names_columns = names; reading = option_map (stream_with layout) p }))
-      → IfErr result (StartRefused options (record { names_columns = names; reading = option_map (stream_with layout) o }))
-  refused_of_kept options are (Ok x) h = tt
-  refused_of_kept options are (Err e) h = start_refused options _ e are (refused_fault e h)
+  pub keys_refused : {A : Type 0} (known : Known) (result : Result A ToolError) → IfErr result (RecordsRefused known)
+      → IfErr result (StartRefused o known)
+  keys_refused known (Ok x) h = tt
+  keys_refused known (Err e) h = start_refused o known e are h
 
 -- and their rows are those of the report
 pub printed_keys : (r : RowOptions) (o : ReportOptions) (names : Bool) (k : Option (Option Reading)) (total : ℕ)

@@ -1,7 +1,9 @@
 -- What a report of files leaves in a sink, and what its refusals tell. Files are read more than once, so
 -- that of files whose bytes no contract knows nothing is said of the keys.
-use Rattle.std.specs.Prelude.{◌+◌, ◌∷◌, ℕ, List, [], map, replicate, Option, Some, None, IfSome}
-use Rattle.hh_stream.specs.Weights.{Entry, max_total}
+use Rattle.std.specs.Prelude.{◌≡◌, ◌≤◌, ◌+◌, ◌∷◌, ℕ, List, [], map, replicate, Option, Some, None, IfSome}
+use Rattle.hh_stream.specs.Cuttings.{whole_of}
+use Rattle.hh_stream.specs.Weights.{Entry, max_total, total_of}
+use Rattle.hh_summaries.specs.Report.{heavy}
 use Rattle.hh_records.specs.Streams.{Known}
 use Rattle.hh_rows.specs.declared.printed.RowOptions.{RowOptions}
 use Rattle.hh_reports.specs.Report.{AreKeysOf, AreWritten, PrintsRows, WriteRefused}
@@ -18,6 +20,12 @@ items_or_too_many (Some xs) = xs
 abbrev pub lists_of : ℕ → Option (List (Option (List Entry))) → List (List Entry)
 lists_of count None = replicate count []
 lists_of count (Some pieces) = map items_or_too_many pieces
+
+-- each piece has items, and these are the total of them all and their keys above p/q
+abbrev pub AreKeysOfPieces : List (Option (List Entry)) → ℕ → ℕ → ℕ → List Entry → Type 0
+AreKeysOfPieces pieces p q total keys =
+    (parts : List (List Entry)) × (pieces ≡ map Some parts) × (total_of (whole_of parts) ≤ max_total)
+    × (total ≡ total_of (whole_of parts)) × (keys ≡ heavy (whole_of parts) p q)
 
 -- this holds where the bytes of the records are known
 abbrev pub IfKnown : Known → Type 0 → Type 0

@@ -1,4 +1,4 @@
-//! A report of files, which are read twice, in memory that doesn't grow with them.
+//! A report of files, of which no item is kept.
 
 ghost use Rattle.std.specs.Prelude.{◌≡◌, ◌<◌, ◌≤◌, ◌+◌, ◌*◌, List, false, true, IfOk, IfErr, IfSome, OnOk, Err};
 ghost use Rattle.hh_summaries.specs.Counters.{max_k};
@@ -7,25 +7,24 @@ ghost use Rattle.hh_stream.specs.Cuttings.{max_pieces};
 ghost use Rattle.hh_stream.specs.Ranges.{in_range};
 ghost use Rattle.hh_stream.specs.Weights.{Entry, total_of};
 ghost use Rattle.hh_records.specs.Layouts.{texts_known};
-ghost use Rattle.hh_pieces.specs.Sources.{files_known};
 ghost use Rattle.hh_records.specs.Refusals.{RecordsRefused};
-ghost use Rattle.hh_reports.specs.Report.{AreKeysOfPieces, AreOptions, ReportsKeys};
+ghost use Rattle.hh_workers.specs.Workers.{max_workers};
+ghost use Rattle.hh_reports.specs.Report.{AreOptions, ReportsKeys};
 ghost use Rattle.hh_reports.specs.Report.{StartRefused, bad_option, failed_by};
-ghost use Rattle.hh_files.specs.ReportFiles.{FilesRefused, FindsKeys, IfKnown, IsPrintedOfFiles};
+ghost use Rattle.hh_files.specs.ReportFiles.{AreKeysOfPieces, FilesRefused, FindsKeys, IfKnown, IsPrintedOfFiles};
 
 use crate::file_pieces::FilePieces;
 use hh_commands::{count_records, rows_above, summary_by_monitoring};
 use hh_counters::Heavy;
 use hh_counters::laws::{candidates_suffice, misra_gries_is_honest};
 use hh_faults::ToolError;
-use hh_pieces::{CutFiles, FileRecords, ReadAt, SourceRecords, are_as_long, keep_pipes, lengths};
+use hh_pieces::{CutFiles, ReadAt, SourceRecords, are_as_long, lengths};
 use hh_pool::{Options, PieceFault, report_pieces};
 use hh_records::ReadRecords;
-use hh_reports::{Prepared, prepare, write_keys};
+use hh_reports::{Prepared, piece_count, prepare, write_keys};
 use hh_rows::{ReportOptions, RowOptions, Sink};
 use hh_stream::KeyHash;
 use std::alloc::{AllocError, Global};
-use std::io::Read;
 use std::sync::Wait;
 use std::thread::Threads;
 
@@ -57,16 +56,16 @@ fn keys_side_by_side<T: Threads + Wait + Sync, S: ReadAt + Sync>(
     rt: &T,
     alloc: Global,
     records: SourceRecords<'_, S>,
-    pieces: usize,
+    workers: u64,
     settings: &Options,
 ) -> Result<Option<(u64, Vec<Heavy>)>, AllocError>
-    requires some { 0 < pieces }
-    requires few { pieces ≤ max_pieces }
+    requires workers { in_range workers max_workers ≡ true }
     ensures { IfOk result (λ keys. IfSome keys (λ keys.
         FindsKeys (texts_known S.bytes records.entry.layout.now records.entry.sources.now)
         settings.now.p settings.now.q keys.0 keys.1.items)) }
 {
-    let Some(files) = CutFiles::new(alloc, records.layout, records.sources, pieces)? else {
+    let most = piece_count(workers, records.sources.len());
+    let Some(files) = CutFiles::new(alloc, records.layout, records.sources, most)? else {
         return Ok(None);
     };
     keys_of_pieces(rt, alloc, files, settings, records.layout.hash)
@@ -104,11 +103,11 @@ fn keys_of_sources<T: Threads + Wait + Sync, S: ReadAt + Sync>(
     alloc: Global,
     records: SourceRecords<'_, S>,
     k: u64,
+    workers: u64,
     prepared: &Prepared,
 ) -> Result<(u64, Vec<Heavy>), ToolError>
-    requires some { 0 < prepared.now.pieces }
-    requires few { prepared.now.pieces ≤ max_pieces }
     requires k { in_range k max_k ≡ true }
+    requires workers { in_range workers max_workers ≡ true }
     requires share { IsShare prepared.now.p prepared.now.q }
     requires enough { prepared.now.q ≤ prepared.now.p * (k + 1) }
     requires p { prepared.now.settings.p ≡ prepared.now.p }
@@ -120,14 +119,8 @@ fn keys_of_sources<T: Threads + Wait + Sync, S: ReadAt + Sync>(
         (texts_known S.bytes records.entry.layout.now records.entry.sources.now)) }
 {
     let before = lengths(alloc, records.sources)?;
-    let Prepared {
-        pieces,
-        settings,
-        p,
-        q,
-        ..
-    } = prepared;
-    let keys = match keys_side_by_side(rt, alloc, records, *pieces, settings)? {
+    let Prepared { settings, p, q, .. } = prepared;
+    let keys = match keys_side_by_side(rt, alloc, records, workers, settings)? {
         Some(keys) => keys,
         None => keys_in_turn(alloc, records, k, *p, *q)?,
     };
@@ -138,57 +131,53 @@ fn keys_of_sources<T: Threads + Wait + Sync, S: ReadAt + Sync>(
 }
 
 /// The total of records in files, and the keys that a report of them has.
-fn reported_of_files<T: Threads + Wait + Sync, F: ReadAt + Sync + Drop, R: Read + Drop>(
+fn reported_of_files<T: Threads + Wait + Sync, S: ReadAt + Sync>(
     rt: &T,
     alloc: Global,
     options: &ReportOptions,
-    records: FileRecords<F, R>,
+    records: SourceRecords<'_, S>,
 ) -> Result<(u64, Vec<Heavy>), ToolError>
     ensures keys { IfOk result (λ keys. AreOptions options.now
-        × IfKnown (files_known F.bytes R.remaining records)
-        ((xs : List Entry) × (keys.0 ≡ total_of xs)
-        × ReportsKeys options.now (files_known F.bytes R.remaining records) xs keys.1.items)) }
-    ensures refused { IfErr result
-        (StartRefused options.now (files_known F.bytes R.remaining records)) }
+        × IfKnown (texts_known S.bytes records.entry.layout.now records.entry.sources.now)
+        ((xs : List Entry) × (keys.0 ≡ total_of xs) × ReportsKeys options.now
+        (texts_known S.bytes records.entry.layout.now records.entry.sources.now)
+        xs keys.1.items)) }
+    ensures refused { IfErr result (StartRefused options.now
+        (texts_known S.bytes records.entry.layout.now records.entry.sources.now)) }
     ensures bad_option { IfSome (bad_option options.now) (λ fault. result ≡ Err fault) }
 {
-    let prepared = match prepare(alloc, options, records.inputs.len()) {
-        Ok(prepared) => prepared,
-        Err(fault) => return Err(fault),
-    };
-    let FileRecords { layout, inputs } = records;
-    let sources = keep_pipes(alloc, inputs)?;
-    let records = SourceRecords {
-        layout: &layout,
-        sources: &sources,
-    };
-    keys_of_sources(rt, alloc, records, options.k, &prepared)
+    match prepare(alloc, options) {
+        Ok(prepared) => {
+            keys_of_sources(rt, alloc, records, options.k, options.workers, &prepared)
+        }
+        Err(fault) => Err(fault),
+    }
 }
 
-/// [`report_rows`](hh_reports::report_rows) of files of any size. Workers read them in pieces,
-/// through a buffer each, and tally their items: once where the keys are few, and else once more
-/// for the weights of those that can be heavy. Nothing of a file is kept; the text of a pipe is.
-/// Where a piece can't be read by itself, one thread reads all files, twice, so that the first
-/// refusal has its number.
+/// [`report_rows`](hh_reports::report_rows) of files of any size, or other bytes that are read at
+/// any place, as those of a pipe are where they are kept. No item is kept: workers read the files
+/// in pieces, through a buffer each, and tally their items: once where the keys are few, and else
+/// once more for the weights of those that can be heavy. Where a piece can't be read by itself, one
+/// thread reads all files, twice, so that the first refusal has its number.
 ///
 /// Where the bytes of all files are known, the report is that of their records, one file after the
 /// other. A file of the system may change between two readings. Where the total weight differs, one
 /// thread reads the files anew; where it differs then too, or a length does, a file is told as one
 /// that can't be read. Where neither differs, a change can't be seen.
-pub fn report_files<T: Threads + Wait + Sync, F: ReadAt + Sync + Drop, R: Read + Drop, S: Sink>(
+pub fn report_files<T: Threads + Wait + Sync, F: ReadAt + Sync, S: Sink>(
     rt: &T,
     alloc: Global,
     options: &ReportOptions,
     rows: &RowOptions,
-    records: FileRecords<F, R>,
+    records: SourceRecords<'_, F>,
     sink: &mut S,
 ) -> Result<(), ToolError>
     requires { S.has_failed sink.old ≡ false }
-    ensures reported { OnOk result
-        (IsPrintedOfFiles rows.now options.now (files_known F.bytes R.remaining records)
+    ensures reported { OnOk result (IsPrintedOfFiles rows.now options.now
+        (texts_known F.bytes records.entry.layout.now records.entry.sources.now)
         (S.taken sink.old) (S.taken sink.new)) }
-    ensures refused { IfErr result (λ fault.
-        FilesRefused rows.now options.now (files_known F.bytes R.remaining records)
+    ensures refused { IfErr result (λ fault. FilesRefused rows.now options.now
+        (texts_known F.bytes records.entry.layout.now records.entry.sources.now)
         (S.taken sink.old) (S.taken sink.new) fault) }
     ensures bad_option { IfSome (bad_option options.now) (λ fault. result ≡ Err fault) }
     ensures flushed { OnOk result (S.is_flushed sink.new ≡ true) }

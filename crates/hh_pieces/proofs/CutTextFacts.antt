@@ -1,19 +1,16 @@
 -- Texts in pieces, each of which is read by itself.
-use Rattle.std.proofs.Common.{Bor, ◌≡◌, ◌≤◌, ◌<◌, ◌∷◌, ◌++◌, ◌-◌, ◌∙◌, ℕ, zero, suc, List, [], get_or, length, map, replicate, take, Bool, true, false, Option, Some, None, Ok, Err, refl, sym, ap, append_assoc, append-nil}
+use Rattle.std.proofs.Common.{◌≡◌, ◌∷◌, ◌++◌, ◌-◌, ◌∙◌, ℕ, zero, suc, List, [], length, map, replicate, Bool, true, false, Option, Some, None, Ok, Err, refl, sym, ap, append-nil}
 use Rattle.std.specs.Prelude.{if◌then◌else◌}
 use Rattle.std.specs.List.{AllByRecursion}
-use Rattle.std.proofs.lemmas.List.{get_or-map, get_or_append_left, length-map, map-append, take_all}
+use Rattle.std.proofs.lemmas.List.{map-append}
 use Rattle.std.proofs.lemmas.Grind.{flat_map-append}
-use Rattle.std.proofs.lemmas.Simd.{map-map}
 use Rattle.hh_stream.specs.Cuttings.{whole_of}
 use Rattle.hh_stream.specs.Weights.{Entry}
-use Rattle.hh_pieces.specs.CutTexts.{AddsPieces, AreReadByPieces, Begins, Piece, items_of, padded, piece_items, piece_of}
+use Rattle.hh_pieces.specs.CutTexts.{AreReadByPieces, Begins, Piece, items_of, padded, piece_items}
 use Rattle.hh_pieces.specs.Laws.{FeedsOutsideQuotesAreCuts, PiecesAreRead}
 use Rattle.hh_records.specs.Layouts.{Places}
-use Rattle.hh_pieces.specs.Pieces.{InPieces, IsInPieces, LaterBeginWithFeed, all_pieces, ends_outside, piece_reading, text_of, with_columns}
-use Rattle.hh_records.specs.Layouts.{columns_of, rows_in}
+use Rattle.hh_pieces.specs.Pieces.{InPieces, IsInPieces, all_pieces, ends_outside, piece_reading, text_of, with_columns}
 use Rattle.hh_records.specs.Streams.{Reading}
-use Rattle.hh_pieces.specs.declared.cut_texts.TextPiece.{TextPiece}
 use Rattle.hh_records.specs.declared.layout.Layout.{Layout}
 use Rattle.hh_records.proofs.OpenFacts.{some-is}
 
@@ -135,15 +132,6 @@ module _ (layout : Layout) where
       let (all, outside) = pieces-read (all_pieces ts) parts (rw is at e) in
       rw (← are) (reads layout ts parts (texts-cut law ts begin outside) all few)
 
-  -- the same of texts that were gone through
-  pub read-through : FeedsOutsideQuotesAreCuts → PiecesAreRead → (texts : List (Bor (List ℕ))) (i : ℕ)
-      (pieces : List TextPiece) → length texts ≤ i
-      → ArePiecesOf (map (λ text. text.now) (take i texts)) (map piece_of pieces)
-      → AreReadByPieces layout (map (λ text. text.now) texts) (map (λ piece. piece_items layout (piece_of piece)) pieces)
-  read-through law reads texts i pieces long are parts e few =
-      read-by-pieces law reads (map (λ text. text.now) texts) (map piece_of pieces) (rw (take_all i texts long) at are) parts
-      (map-map (piece_items layout) piece_of pieces ∙ e) few
-
   -- and by these with pieces of no items behind them
   pub read-padded : (bytes : List (List ℕ)) (pieces : List (Option (List Entry))) (count : ℕ)
       → AreReadByPieces layout bytes pieces → AreReadByPieces layout bytes (padded count pieces)
@@ -154,32 +142,3 @@ module _ (layout : Layout) where
       ap whole_of both ∙ flat_map-append (λ part. part) ps qs ∙ ap (λ l. whole_of ps ++ l) none
       ∙ append-nil (whole_of ps) in
       rw same (h ps left (rw same at few))
-
--- the pieces of a text are added, the first one before the later ones
--- what a piece has whose bytes have these items
-pub text-fed : (layout : Layout) (pieces : List TextPiece) (count piece : ℕ) (part : TextPiece) (xs : List Entry)
-    → piece < length pieces → part ≡ get_or pieces piece part → piece_items layout (piece_of part) ≡ Some xs
-    → get_or (padded count (map (λ piece. piece_items layout (piece_of piece)) pieces)) piece None ≡ Some xs
-text-fed layout pieces count piece part xs l at items =
-    let F : TextPiece → Option (List Entry) = λ piece. piece_items layout (piece_of piece) in
-    get_or_append_left (map F pieces) _ None piece (rw (length-map pieces F) l)
-    ∙ get_or-map F pieces piece part None l
-    ∙ ap F (sym at)
-    ∙ items
-
-pub text-added : (layout : Layout) (text : List ℕ) (old mid new : List TextPiece) (columns : Places) (piece : TextPiece)
-    (first : List ℕ) (later cut : List (Bor (List ℕ))) → map (λ p. p.now) cut ≡ first ∷ map (λ p. p.now) later
-    → whole_of (map (λ p. p.now) cut) ≡ text → LaterBeginWithFeed (map (λ p. p.now) cut)
-    → columns_of layout (rows_in layout first) ≡ Some columns → mid ≡ old ++ piece ∷ [] → piece_of piece ≡ (None, first)
-    → map piece_of new ≡ map piece_of mid ++ map (λ p. (Some columns, p.now)) later → AddsPieces layout text old new
-text-added layout text old mid new columns piece first later cut are whole feeds chosen more is added = record {
-  t = record { pieces = map (λ p. p.now) cut; columns = columns };
-  begins = record { feeds = feeds; columns = rw are chosen };
-  is = whole;
-  added =
-      added ∙ ap (λ l. map piece_of l ++ map (λ p. (Some columns, p.now)) later) more
-      ∙ ap (λ l. l ++ map (λ p. (Some columns, p.now)) later) (map-append piece_of old (piece ∷ []))
-      ∙ append_assoc (map piece_of old) (piece_of piece ∷ []) (map (λ p. (Some columns, p.now)) later)
-      ∙ ap (λ (q : Piece). map piece_of old ++ q ∷ map (λ p. (Some columns, p.now)) later) is
-      ∙ rw are (ap (λ (l : List Piece). map piece_of old ++ (None, first) ∷ l) (sym (map-map _ _ later)));
-}

@@ -2,7 +2,7 @@ pub mod ChunkFacts
 pub mod CutFacts
 pub mod CutTextFacts
 pub mod FileFacts
-pub mod KeptFacts
+pub mod KnownFacts
 pub mod LineFacts
 pub mod PieceFacts
 pub mod PlaceFacts

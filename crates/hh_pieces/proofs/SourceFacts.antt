@@ -5,7 +5,7 @@ use Rattle.std.specs.Io.Take.{take_remaining}
 use Rattle.std.specs.declared.io.traits.Take.{Take}
 use Rattle.hh_stream.specs.Weights.{Entry}
 use Rattle.hh_pieces.specs.Files.{length_of}
-use Rattle.hh_pieces.specs.Kept.{IsKnownStill}
+use Rattle.hh_pieces.specs.Sources.{IsKnownStill}
 use Rattle.hh_records.specs.Layouts.{TextsRefused, every, gathered, items_after, stream_with}
 use Rattle.hh_records.specs.Streams.{Reading}
 use Rattle.hh_records.specs.Taking.{TakesItems}
@@ -13,7 +13,7 @@ use Rattle.hh_records.specs.declared.layout.Layout.{Layout}
 use Rattle.hh_pieces.specs.declared.read_at.FromPlace.{FromPlace}
 use Rattle.hh_faults.specs.declared.records.TextError.{TextError}
 use Rattle.hh_faults.specs.declared.records.TextError.TheVariants as text
-use Rattle.hh_pieces.proofs.KeptFacts.{KnownSoFar, known-first, known-more}
+use Rattle.hh_pieces.proofs.KnownFacts.{KnownSoFar, known-first, known-more}
 
 -- the bytes that what reads a source up to a place has left
 abbrev pub reader_left : {S : Type 0} → (S → Option (List ℕ)) → Take (FromPlace S) → Option (List ℕ)

@@ -3,12 +3,11 @@ use Rattle.std.specs.Prelude.{◌≡◌, ◌-◌, ◌≤◌, ◌++◌, ℕ, List
 use Rattle.hh_stream.specs.Cuttings.{whole_of}
 use Rattle.hh_stream.specs.Weights.{Entry, max_total, total_of}
 use Rattle.hh_records.specs.Layouts.{Places, stream_with}
-use Rattle.hh_pieces.specs.Pieces.{InPieces, LaterBeginWithFeed, ends_outside, first_piece, piece_reading, text_of, with_columns}
+use Rattle.hh_pieces.specs.Pieces.{InPieces, LaterBeginWithFeed, ends_outside, first_piece, piece_reading}
 use Rattle.hh_records.specs.Layouts.{columns_of, rows_in}
 use Rattle.hh_records.specs.Streams.{Reading}
 use Rattle.hh_stream.specs.declared.taking.PieceFault.{PieceFault}
 use Rattle.hh_stream.specs.declared.taking.PieceFault.TheVariants as fault
-use Rattle.hh_pieces.specs.declared.cut_texts.TextPiece.{TextPiece}
 use Rattle.hh_records.specs.declared.layout.Layout.{Layout}
 use Rattle.hh_faults.specs.declared.records.TextError.{TextError}
 use Rattle.hh_faults.specs.declared.records.TextError.TheVariants as text
@@ -16,9 +15,6 @@ use Rattle.hh_faults.specs.declared.records.TextError.TheVariants as text
 -- a piece's bytes, and the columns that it is read by
 abbrev pub Piece : Type 0
 Piece = Option Places × List ℕ
-
-abbrev pub piece_of : TextPiece → Piece
-piece_of piece = (piece.columns, piece.bytes.now)
 
 -- why a piece was not read, by what refused it
 abbrev pub piece_fault : TextError → PieceFault
@@ -52,10 +48,3 @@ AreReadByPieces layout texts pieces =
 pub record Begins (layout : Layout) (t : InPieces) : Type 0 where
   pub feeds : LaterBeginWithFeed t.pieces
   pub columns : columns_of layout (rows_in layout (first_piece t.pieces)) ≡ Some t.columns
-
--- the pieces of a text are added to others
-pub record AddsPieces (layout : Layout) (text : List ℕ) (old new : List TextPiece) : Type 0 where
-  pub t : InPieces
-  pub begins : Begins layout t
-  pub is : text_of t ≡ text
-  pub added : map piece_of new ≡ map piece_of old ++ with_columns t.columns t.pieces

@@ -2,7 +2,6 @@ pub mod Chunks
 pub mod CutFiles
 pub mod CutTexts
 pub mod Files
-pub mod Kept
 pub mod Laws
 pub mod Lines
 pub mod Pieces

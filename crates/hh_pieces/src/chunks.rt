@@ -3,14 +3,14 @@
 ghost use Rattle.std.specs.Prelude.{◌≡◌, ◌≤◌, ◌++◌, ℕ, List, [], Some, drop, length, option_map, IfOk, IfSome, OnOk};
 ghost use Rattle.hh_stream.specs.Weights.{max_total};
 ghost use Rattle.hh_pieces.specs.Chunks.{LeadsTo};
-ghost use Rattle.hh_pieces.specs.CutTexts.{piece_items};
+ghost use Rattle.hh_pieces.specs.CutTexts.{piece_fault, piece_items};
 ghost use Rattle.hh_pieces.specs.Windows.{held_in};
 ghost use Rattle.hh_stream.specs.Taking.{Takes};
 
-use crate::cut_texts::{feed_bytes, piece_fault};
-use crate::cuts::whole_records;
+use crate::cuts::{ends_outside_quotes, whole_records};
 use crate::pieces::{Columns, read_piece};
 use crate::window::Window;
+use hh_faults::TextError;
 use hh_records::Layout;
 use hh_stream::{PieceFault, TakeItems};
 use std::alloc::{AllocError, Global};
@@ -22,6 +22,18 @@ const CHUNK_LEN: usize = 262_144;
 // From how many bytes on in which no record ends at a line feed a piece is refused: those who read
 // it in one go hold no more than a record.
 pub(crate) const MOST_HELD: usize = 1_048_576;
+
+/// Why a piece was not read, by what refused it.
+fn piece_fault(error: TextError) -> PieceFault
+    ensures { result ≡ piece_fault error }
+{
+    match error {
+        TextError::Memory => PieceFault::Memory,
+        TextError::ReadFault | TextError::NoColumn | TextError::BadRecord { .. } => {
+            PieceFault::Refused
+        }
+    }
+}
 
 /// The same columns, if any.
 fn copy_columns(alloc: Global, columns: Option<&Columns>) -> Result<Option<Columns>, AllocError>
@@ -73,6 +85,28 @@ fn take_chunk<T: TakeItems>(
     }
     *columns = Some(chosen);
     Ok(count)
+}
+
+/// Hands the items of a piece to a taker, in order, where it ends outside quotes.
+fn feed_bytes<T: TakeItems>(
+    alloc: Global,
+    layout: &Layout,
+    columns: Option<&Columns>,
+    piece: &[u8],
+    taker: &mut T,
+) -> Result<(), PieceFault>
+    ensures items { OnOk result
+        (Takes T.with_item T.weight_taken taker.old taker.new (λ xs.
+        piece_items layout.now (option_map (λ c. c.now) columns.entry, piece.now) ≡ Some xs)) }
+    ensures bounded { OnOk result (T.weight_taken taker.new ≤ max_total) }
+{
+    if !ends_outside_quotes(piece, layout.delimiter) {
+        return Err(PieceFault::Refused);
+    }
+    match read_piece(alloc, layout, columns, piece, taker) {
+        Ok(()) => Ok(()),
+        Err(error) => Err(piece_fault(error)),
+    }
 }
 
 /// Hands on the items of a piece that a reader has left, chunk by chunk, in a window that holds

@@ -9,11 +9,10 @@ ghost use Rattle.hh_records.specs.Layouts.{every};
 ghost use Rattle.hh_pieces.specs.Pieces.{begins_with_feed};
 
 use crate::chunks::{MOST_HELD, feed_left};
-use crate::cut_texts::LEAST_LEN;
-use crate::kept::{READ_LEN, zeros};
 use crate::laws::{feeds_outside_quotes_are_cuts, pieces_are_read};
 use crate::pieces::Columns;
 use crate::read_at::{ReadAt, read_between};
+use crate::window::zeros;
 use hh_faults::TextError;
 use hh_records::Layout;
 use hh_stream::{PieceFault, TakeItems};
@@ -63,6 +62,12 @@ impl<'t, S: ReadAt> Model for CutFiles<'t, S> {
           (every S.bytes files.sources.now);
     } };
 }
+
+// The fewest bytes of a piece, but of a file's last.
+const LEAST_LEN: u64 = 65_536;
+
+// How many bytes are read at once where a line feed is looked for.
+const READ_LEN: usize = 65_536;
 
 // How often a line feed is looked for behind a place. A piece that has none for so long is refused.
 const MOST_READS: usize = MOST_HELD / READ_LEN;
@@ -193,7 +198,7 @@ fn piece_size<S: ReadAt>(sources: &[S], count: usize) -> Option<u64>
         all = all.saturating_add(len);
     }
     let spare = count.saturating_sub(sources.len()).max(1) as u64;
-    Some((all / spare).saturating_add(1).max(LEAST_LEN as u64))
+    Some((all / spare).saturating_add(1).max(LEAST_LEN))
 }
 
 /// The pieces of sources with this layout, at most so many.

@@ -1,14 +1,12 @@
 //! Where a text of records may be cut.
 
-ghost use Rattle.std.specs.Prelude.{◌≡◌, ◌≤◌, ◌<◌, length, map, take, IfOk};
+ghost use Rattle.std.specs.Prelude.{◌≡◌, ◌≤◌, length, take};
 ghost use Rattle.memchr.specs.Find.{IsLast};
-ghost use Rattle.hh_stream.specs.Cuttings.{whole_of};
-ghost use Rattle.hh_pieces.specs.Pieces.{IsCutAt, LaterBeginWithFeed, ends_outside};
+ghost use Rattle.hh_pieces.specs.Pieces.{IsCutAt, ends_outside};
 ghost use Rattle.hh_pieces.specs.Quotes as spec;
 ghost use Rattle.hh_pieces.specs.Quotes.{IsFeedAt, NoQuote, place_behind};
 
 use memchr::{memchr, memrchr};
-use std::alloc::{AllocError, Global};
 
 /// A place in a text, as far as it tells what a quote does there.
 #[derive(Clone, Copy)]
@@ -155,36 +153,4 @@ pub fn whole_records(text: &[u8], delimiter: u8) -> Option<usize>
         Some(at) => Some(mark + at),
         None => None,
     }
-}
-
-/// Cuts a text into pieces of about equal size, at most so many. Each piece but the first begins
-/// with a line feed, the first from an even place on; nothing is copied.
-///
-/// A line feed may stand in quotes: [`ends_outside_quotes`] tells, of each piece by itself, whether
-/// the text may be cut behind it.
-pub fn cut_text<'t>(alloc: Global, text: &'t [u8], most: usize) -> Result<Vec<&'t [u8]>, AllocError>
-    requires some { 0 < most }
-    ensures whole { IfOk result (λ pieces.
-        whole_of (map (λ p. p.now) pieces.items) ≡ text.now) }
-    ensures some { IfOk result (λ pieces. 0 < length pieces.items) }
-    ensures few { IfOk result (λ pieces. length pieces.items ≤ most) }
-    ensures feeds { IfOk result (λ pieces.
-        LaterBeginWithFeed (map (λ p. p.now) pieces.items)) }
-{
-    let size = text.len() / most + 1;
-    let mut pieces = Vec::new(alloc);
-    let mut rest = text;
-    for _ in 1..most {
-        if rest.len() <= size {
-            break;
-        }
-        let Some(after) = memchr(b'\n', &rest[size..]) else {
-            break;
-        };
-        let (piece, later) = rest.split_at(size + after);
-        pieces.push(piece)?;
-        rest = later;
-    }
-    pieces.push(rest)?;
-    Ok(pieces)
 }

@@ -2,7 +2,7 @@
 
 ghost use Rattle.std.specs.Prelude.{◌≡◌, List, ℕ, None, Option, Some, drop, length, option_map, IfOk, IfSome};
 ghost use Rattle.std.specs.Io.{ReadsAtMost};
-ghost use Rattle.hh_pieces.specs.Files.{GivesFrom, bytes_between, source_bytes};
+ghost use Rattle.hh_pieces.specs.Files.{GivesFrom, bytes_between};
 
 use std::fs::{File, OpenFile};
 use std::io::{self, Error, ErrorKind, Read, Take};
@@ -49,33 +49,6 @@ impl ReadAt for Vec<u8> {
         let at = at.min(self.as_slice().len() as u64) as usize;
         let mut rest = &self.as_slice()[at..];
         rest.read(buf)
-    }
-}
-
-/// A file, or bytes that are kept because they can be read only once.
-#[derive(Drop)]
-pub enum Source<F> {
-    /// What is read from its place each time.
-    File(F),
-    /// Kept bytes.
-    Kept(Vec<u8>),
-}
-
-impl<F: ReadAt> ReadAt for Source<F> {
-    ghost bytes = { source_bytes F.bytes };
-
-    fn len(&self) -> io::Result<u64> {
-        match self {
-            Source::File(file) => file.len(),
-            Source::Kept(bytes) => ReadAt::len(bytes),
-        }
-    }
-
-    fn read_at(&self, buf: &mut [u8], at: u64) -> io::Result<usize> {
-        match self {
-            Source::File(file) => file.read_at(buf, at),
-            Source::Kept(bytes) => bytes.read_at(buf, at),
-        }
     }
 }
 

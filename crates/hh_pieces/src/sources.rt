@@ -1,33 +1,17 @@
-//! Records in files that are read at any place, and in pipes whose text is kept.
+//! Records in files, or in other bytes that are read at any place.
 
 ghost use Rattle.std.specs.Prelude.{◌≡◌, Some, true, length, IfErr, IfOk};
-ghost use Rattle.hh_pieces.specs.Files.{length_of, source_bytes};
-ghost use Rattle.hh_pieces.specs.Kept.{IsKnownStill};
+ghost use Rattle.hh_pieces.specs.Files.{length_of};
 ghost use Rattle.hh_records.specs.Layouts.{TextsRefused, every, texts_known};
-ghost use Rattle.hh_pieces.specs.Sources.{KeepRefused, input_bytes};
+ghost use Rattle.hh_pieces.specs.Sources.{IsKnownStill, NotRead};
 ghost use Rattle.hh_records.specs.Taking.{TakesItems};
 
-use crate::kept::{KeptText, Rest};
-use crate::read_at::{FromPlace, ReadAt, Source, read_between};
+use crate::read_at::{FromPlace, ReadAt, read_between};
 use hh_faults::TextError;
 use hh_records::{Layout, ReadRecords, read_texts};
 use hh_stream::{KeyHash, TakeItems};
 use std::alloc::Global;
 use std::io::{Read, Take};
-
-/// Where records come from: a file, which is read at any place, or a pipe, which is read once.
-#[derive(Drop)]
-pub enum FileOrPipe<F, R> {
-    File(F),
-    Pipe(R),
-}
-
-/// Records of files and pipes, one after the other, each of which is read as a text of its own.
-#[derive(Drop)]
-pub struct FileRecords<F, R> {
-    pub layout: Layout,
-    pub inputs: Vec<FileOrPipe<F, R>>,
-}
 
 /// Records of what can be read at any place, so that they can be read again.
 #[derive_where(Clone, Copy)]
@@ -36,54 +20,11 @@ pub struct SourceRecords<'s, S> {
     pub sources: &'s [S],
 }
 
-/// What is read of an input: the file, or the text of a pipe, which is kept whole.
-fn source_of<F: ReadAt, R: Read + Drop>(
-    alloc: Global,
-    input: FileOrPipe<F, R>,
-) -> Result<Source<F>, TextError>
-    ensures kept { IfOk result (λ source.
-        IsKnownStill (input_bytes F.bytes R.remaining input) (source_bytes F.bytes source)) }
-    ensures refused { IfErr result KeepRefused }
-{
-    let pipe = match input {
-        FileOrPipe::File(file) => return Ok(Source::File(file)),
-        FileOrPipe::Pipe(pipe) => pipe,
-    };
-    let Ok(text) = KeptText::of_reader(alloc, pipe) else {
-        return Err(TextError::Memory);
-    };
-    match text.rest {
-        Rest::Ended => Ok(Source::Kept(text.bytes)),
-        Rest::Unread(_) | Rest::Failed(_) => Err(TextError::ReadFault),
-    }
-}
-
-/// What is read of some inputs. Pipes are read here, in their order, and their texts are kept.
-pub fn keep_pipes<F: ReadAt + Drop, R: Read + Drop>(
-    alloc: Global,
-    inputs: Vec<FileOrPipe<F, R>>,
-) -> Result<Vec<Source<F>>, TextError>
-    ensures kept { IfOk result (λ sources. IsKnownStill
-        (every (input_bytes F.bytes R.remaining) inputs.items)
-        (every (source_bytes F.bytes) sources.items)) }
-    ensures refused { IfErr result KeepRefused }
-{
-    let mut sources = Vec::new(alloc);
-    for input in inputs {
-        let source = source_of(alloc, input)?;
-        match sources.push(source) {
-            Ok(()) => {}
-            Err(_) => return Err(TextError::Memory),
-        }
-    }
-    Ok(sources)
-}
-
 /// A reader of all bytes of a source, from its start.
 fn reader_of<'s, S: ReadAt>(source: &'s S) -> Result<Take<FromPlace<'s, S>>, TextError>
     ensures reader { IfOk result (λ reader. IsKnownStill (S.bytes source.now)
         (⟦<Take<FromPlace<'s, S>> as Read>⟧.remaining reader)) }
-    ensures refused { IfErr result KeepRefused }
+    ensures refused { IfErr result NotRead }
 {
     match source.len() {
         Ok(len) => Ok(read_between(source, 0, len)),
@@ -98,7 +39,7 @@ fn readers_of<'s, S: ReadAt>(
 ) -> Result<Vec<Take<FromPlace<'s, S>>>, TextError>
     ensures readers { IfOk result (λ readers. IsKnownStill (every S.bytes sources.now)
         (every ⟦<Take<FromPlace<'s, S>> as Read>⟧.remaining readers.items)) }
-    ensures refused { IfErr result KeepRefused }
+    ensures refused { IfErr result NotRead }
 {
     let mut readers = Vec::new(alloc);
     for source in sources {
@@ -116,7 +57,7 @@ pub fn lengths<S: ReadAt>(alloc: Global, sources: &[S]) -> Result<Vec<u64>, Text
     ensures count { IfOk result (λ lengths. length lengths.items ≡ length sources.now) }
     ensures known { IfOk result (λ lengths.
         IsKnownStill (every (length_of S.bytes) sources.now) (Some lengths.items)) }
-    ensures refused { IfErr result KeepRefused }
+    ensures refused { IfErr result NotRead }
 {
     let mut lengths = Vec::new(alloc);
     for source in sources {
@@ -139,7 +80,7 @@ pub fn are_as_long<S: ReadAt>(
 ) -> Result<bool, TextError>
     ensures still { IfOk result (λ same. same ≡ true
         → IsKnownStill (every (length_of S.bytes) sources.now) (Some before.now)) }
-    ensures refused { IfErr result KeepRefused }
+    ensures refused { IfErr result NotRead }
 {
     let after = lengths(alloc, sources)?;
     Ok(after.as_slice() == before)

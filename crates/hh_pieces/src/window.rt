@@ -3,10 +3,16 @@
 ghost use Rattle.std.specs.Prelude.{◌≡◌, ◌≤◌, ◌<◌, ◌++◌, ℕ, List, [], drop, length, IfOk, OnOk};
 ghost use Rattle.std.specs.Io.KnownBytes.{Consumes, IsAtEnd};
 
-use crate::kept::zeros;
 use hh_records::retrying::read;
 use std::alloc::{AllocError, Global};
 use std::io::{self, Read};
+
+/// So many zeros.
+pub(crate) fn zeros(alloc: Global, len: usize) -> Result<Vec<u8>, AllocError>
+    ensures { IfOk result (λ zeros. length zeros.items ≡ len) }
+{
+    vec![in alloc; 0u8; len]
+}
 
 /// A buffer, and how many bytes at its front are held.
 #[derive(Drop)]

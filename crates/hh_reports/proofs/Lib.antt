@@ -1,3 +1,1 @@
-pub mod KeptFacts
-pub mod PieceFacts
 pub mod ReportFacts

@@ -1,15 +1,15 @@
 -- What a report leaves in a sink, and what its refusals tell.
-use Rattle.std.specs.Prelude.{◌≡◌, ◌<◌, ◌≤◌, ◌-◌, not, ℕ, List, [], map, Bool, true, false, length, Option, Some, None, is_none, Result, Ok, Err, ⊤, if◌then◌else◌}
+use Rattle.std.specs.Prelude.{◌≡◌, ◌-◌, not, ℕ, List, Bool, true, false, Option, Some, None, is_none, Result, Ok, Err, ⊤, if◌then◌else◌}
 use Rattle.std.specs.Io.KnownBytes.{Appends, Keeps}
-use Rattle.hh_stream.specs.Cuttings.{max_pieces, whole_of}
-use Rattle.hh_stream.specs.Weights.{Entry, max_total, total_of}
+use Rattle.hh_stream.specs.Cuttings.{max_pieces}
+use Rattle.hh_stream.specs.Weights.{Entry, total_of}
 use Rattle.hh_summaries.specs.Report.{IsShare, heavy}
 use Rattle.hh_summaries.specs.Counters.{max_k}
 use Rattle.hh_countmin.specs.Family.{drawn_family, max_depth, max_width}
 use Rattle.hh_workers.specs.PlanTexts.{PlanRefused, SpellsTree}
 use Rattle.hh_pool.specs.Settings.{Settings}
 use Rattle.hh_workers.specs.Workers.{max_workers}
-use Rattle.hh_workers.specs.Trees.{IsBalanced, IsMergeTree, MergeTree, chain_of, leaves}
+use Rattle.hh_workers.specs.Trees.{IsBalanced, IsMergeTree, MergeTree, chain_of}
 use Rattle.hh_workers.specs.declared.parsing.PlanFault.{PlanFault}
 use Rattle.hh_workers.specs.declared.parsing.PlanFault.TheVariants as plan
 use Rattle.hh_stream.specs.Ranges.{in_range}
@@ -100,31 +100,17 @@ ReportsKeys o known xs keys =
     (p : ℕ) × (q : ℕ) × (threshold_of o.k o.threshold ≡ Some (p, q))
     × ReadsAs known (Ok xs) × (keys ≡ heavy xs p q)
 
--- the items of a piece, and none of a piece that can't be read by itself
-abbrev pub items_or_none : Option (List Entry) → List Entry
-items_or_none None = []
-items_or_none (Some xs) = xs
-
--- each piece has items, and these are the total of them all and their keys above p/q
-abbrev pub AreKeysOfPieces : List (Option (List Entry)) → ℕ → ℕ → ℕ → List Entry → Type 0
-AreKeysOfPieces pieces p q total keys =
-    (parts : List (List Entry)) × (pieces ≡ map Some parts) × (total_of (whole_of parts) ≤ max_total)
-    × (total ≡ total_of (whole_of parts)) × (keys ≡ heavy (whole_of parts) p q)
-
 -- the records are a stream, and these are its total and its keys above p/q
 abbrev pub AreKeysOf : Known → ℕ → ℕ → ℕ → List Entry → Type 0
 AreKeysOf known p q total keys =
     (xs : List Entry) × ReadsAs known (Ok xs) × (total ≡ total_of xs) × (keys ≡ heavy xs p q)
 
--- the options pass all tests, and by these a report is made: how many pieces workers read, and the
--- settings for their threshold
+-- the options pass all tests, and by these settings for their threshold a report is made
 pub record IsPrepared (o : ReportOptions) (prepared : Prepared) : Type 0 where
   pub options : AreOptions o
   pub threshold : threshold_of o.k o.threshold ≡ Some (prepared.p, prepared.q)
   pub share : IsShare prepared.p prepared.q
   pub settings : prepared.settings ≡ settings_of o prepared.p prepared.q
-  pub some : 0 < prepared.pieces
-  pub few : prepared.pieces ≤ max_pieces
 
 -- what a refusal to write the rows of some keys tells, and what it leaves in the sink
 abbrev pub KeysNotWritten : List ℕ → Option (List ℕ) → Option (List ℕ) → ToolError → Type 0

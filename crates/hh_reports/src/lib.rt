@@ -1,7 +1,8 @@
-//! Exact reports of records, by workers in threads of their own.
+//! Exact reports of records by a plan, by workers in threads of their own.
 #![tactic(auto)]
 
 mod report;
-mod text_pieces;
 
-pub use report::{Prepared, ReportedBy, piece_count, prepare, report_rows, run_report, write_keys};
+pub use report::{
+    Prepared, check_options, piece_count, prepare, report_rows, run_report, write_keys,
+};

@@ -8,35 +8,30 @@ ghost use Rattle.hh_summaries.specs.Report.{IsShare, heavy};
 ghost use Rattle.hh_stream.specs.Ranges.{in_range};
 ghost use Rattle.hh_stream.specs.Weights.{Entry, total_of};
 ghost use Rattle.std.specs.Io.KnownBytes.{Appends};
-ghost use Rattle.hh_pieces.specs.Kept.{kept_left};
 ghost use Rattle.hh_rows.specs.Printed.{printed_rows};
 ghost use Rattle.hh_records.specs.Layouts.{records_known};
 ghost use Rattle.hh_records.specs.Streams.{Known, ReadsAs, text_known};
 ghost use Rattle.hh_rows.specs.Thresholds.{threshold_of};
 ghost use Rattle.hh_records.specs.Refusals.{RecordsRefused};
-ghost use Rattle.hh_reports.specs.Report.{AreKeysOf, AreKeysOfPieces, AreOptions, IsOptionFault, IsPrinted, IsReported, Names};
+ghost use Rattle.hh_reports.specs.Report.{AreKeysOf, AreOptions, IsOptionFault, IsPrinted, IsReported, Names};
 ghost use Rattle.hh_reports.specs.Report.{PrintRefused, ReportRefused};
 ghost use Rattle.hh_reports.specs.Report.{IsPrepared, KeysNotWritten, ReportsKeys, StartRefused, TreeRefused, bad_option};
 ghost use Rattle.hh_reports.specs.Report.{failed_by, settings_of};
 
-use crate::text_pieces::TextPieces;
 use hh_counters::{Heavy, MAX_K};
 use hh_countmin::{Family, MAX_DEPTH, MAX_WIDTH};
 use hh_faults::{ToolError, TreeFault};
-use hh_pieces::{CutTexts, KeptText, keep_records, read_again, whole_texts};
-use hh_pool::{
-    MAX_WORKERS, OpenGate, Options, PieceFault, Plan, PlanFault, RunError, analyse, report_pieces,
-};
+use hh_pool::{MAX_WORKERS, OpenGate, Options, Plan, PlanFault, RunError, analyse};
 use hh_records::{Records, read_records};
 use hh_rows::{ReportFault, ReportOptions, RowOptions, Sink, Tree, threshold_of, write_printed};
-use hh_stream::{Cutting, KeyHash, MAX_PIECES, Stream, in_range};
+use hh_stream::{Cutting, MAX_PIECES, Stream, in_range};
 use std::alloc::{AllocError, Global};
 use std::io::Read;
 use std::sync::Wait;
 use std::thread::Threads;
 
 /// Tests the options, but for the tree, and gives the p and q of the threshold.
-fn check_options(options: &ReportOptions) -> Result<(u64, u64), ToolError>
+pub fn check_options(options: &ReportOptions) -> Result<(u64, u64), ToolError>
     ensures tests { MatchResult result
         (λ _. bad_option options.now ≡ None)
         (λ fault. bad_option options.now ≡ Some fault) }
@@ -130,51 +125,6 @@ fn heavy_keys<T: Threads + Wait + Sync>(
     }
 }
 
-/// The total of texts in pieces and the heavy keys of their items, where each piece can be read by
-/// itself.
-fn keys_of_pieces<T: Threads + Wait + Sync>(
-    rt: &T,
-    alloc: Global,
-    texts: CutTexts<'_>,
-    settings: &Options,
-    hash: KeyHash,
-) -> Result<Option<(u64, Vec<Heavy>)>, AllocError>
-    requires some { 0 < length texts }
-    requires few { length texts ≤ max_pieces }
-    ensures { IfOk result (λ keys. IfSome keys (λ keys.
-        AreKeysOfPieces texts.entry settings.now.p settings.now.q keys.0 keys.1.items)) }
-{
-    let pieces = TextPieces { texts };
-    match report_pieces(rt, alloc, &pieces, settings, hash) {
-        Ok(keys) => Ok(Some(keys)),
-        Err(PieceFault::Refused) => Ok(None),
-        Err(PieceFault::Memory) => Err(AllocError),
-    }
-}
-
-/// The total of kept records and their heavy keys, where the texts can be read in so many pieces.
-fn keys_of_kept<T: Threads + Wait + Sync, R: Read + Drop>(
-    rt: &T,
-    alloc: Global,
-    kept: &Records<KeptText<R>>,
-    pieces: usize,
-    settings: &Options,
-) -> Result<Option<(u64, Vec<Heavy>)>, AllocError>
-    requires some { 0 < pieces }
-    requires few { pieces ≤ max_pieces }
-    ensures { IfOk result (λ keys. IfSome keys (λ keys.
-        AreKeysOf (records_known (kept_left R.remaining) kept.now) settings.now.p settings.now.q
-        keys.0 keys.1.items)) }
-{
-    let Some(texts) = whole_texts(alloc, kept)? else {
-        return Ok(None);
-    };
-    let Some(cut) = CutTexts::new(alloc, &kept.layout, &texts, pieces)? else {
-        return Ok(None);
-    };
-    keys_of_pieces(rt, alloc, cut, settings, kept.layout.hash)
-}
-
 /// The stream that records are.
 fn stream_of<R: Read + Drop>(alloc: Global, records: Records<R>) -> Result<Stream, ToolError>
     ensures stream { IfOk result (λ stream.
@@ -201,46 +151,6 @@ fn keys_of_stream<T: Threads + Wait + Sync, R: Read + Drop>(
     Ok((stream.total(), keys))
 }
 
-/// [`keys_of_stream`] of records that were kept as text, from their start.
-fn keys_read_again<T: Threads + Wait + Sync, R: Read + Drop>(
-    rt: &T,
-    alloc: Global,
-    kept: Records<KeptText<R>>,
-    plan: &Plan,
-    settings: &Options,
-) -> Result<(u64, Vec<Heavy>), ToolError>
-    ensures keys { IfOk result (λ keys. AreKeysOf (records_known (kept_left R.remaining) kept)
-        settings.now.p settings.now.q keys.0 keys.1.items) }
-    ensures refused { IfErr result
-        (RecordsRefused (records_known (kept_left R.remaining) kept)) }
-{
-    let again = read_again(alloc, kept)?;
-    keys_of_stream(rt, alloc, again, plan, settings)
-}
-
-/// The total of records and their heavy keys. What is read is kept as text, which workers read in
-/// so many pieces. Where a piece can't be read by itself, one thread reads the text.
-fn keys_of_records<T: Threads + Wait + Sync, R: Read + Drop>(
-    rt: &T,
-    alloc: Global,
-    records: Records<R>,
-    pieces: usize,
-    plan: &Plan,
-    settings: &Options,
-) -> Result<(u64, Vec<Heavy>), ToolError>
-    requires some { 0 < pieces }
-    requires few { pieces ≤ max_pieces }
-    ensures keys { IfOk result (λ keys. AreKeysOf (records_known R.remaining records)
-        settings.now.p settings.now.q keys.0 keys.1.items) }
-    ensures refused { IfErr result (RecordsRefused (records_known R.remaining records)) }
-{
-    let kept = keep_records(alloc, records)?;
-    match keys_of_kept(rt, alloc, &kept, pieces, settings)? {
-        Some(keys) => Ok(keys),
-        None => keys_read_again(rt, alloc, kept, plan, settings),
-    }
-}
-
 /// How many pieces so many texts are read in by so many workers: four for each worker, and one for
 /// each text.
 pub fn piece_count(workers: u64, texts: usize) -> usize
@@ -252,21 +162,9 @@ pub fn piece_count(workers: u64, texts: usize) -> usize
     4 * workers as usize + texts.min(most)
 }
 
-/// How a report is made. The rows are the same.
-#[derive(Clone, Copy)]
-pub enum ReportedBy {
-    /// By the plan that the options name: the items are kept, cut evenly, summarised and merged,
-    /// and a table is filled.
-    Plan,
-    /// By tallies of the workers, whose maps hash as the layout says. The text is kept, but no
-    /// item.
-    Tally,
-}
-
-/// What a report is made by: how many pieces workers read texts in, the plan, and the settings.
+/// What a report is made by: the plan and the settings.
 #[derive(Drop)]
 pub struct Prepared {
-    pub pieces: usize,
     pub plan: Plan,
     pub settings: Options,
     /// The threshold is p/q.
@@ -274,8 +172,8 @@ pub struct Prepared {
     pub q: u64,
 }
 
-/// Tests the options, before anything is read of so many texts.
-pub fn prepare(alloc: Global, options: &ReportOptions, texts: usize) -> Result<Prepared, ToolError>
+/// Tests the options, before anything is read.
+pub fn prepare(alloc: Global, options: &ReportOptions) -> Result<Prepared, ToolError>
     ensures prepared { IfOk result (IsPrepared options.now) }
     ensures refused { IfErr result (λ fault.
         (known : Known) → StartRefused options.now known fault) }
@@ -287,41 +185,13 @@ pub fn prepare(alloc: Global, options: &ReportOptions, texts: usize) -> Result<P
         Err(NoPlan::Bad(fault)) => return Err(ToolError::BadTree(fault)),
         Err(NoPlan::Memory) => return Err(ToolError::Memory),
     };
-    let pieces = piece_count(options.workers, texts);
     let settings = settings_of(alloc, options, p, q)?;
     Ok(Prepared {
-        pieces,
         plan,
         settings,
         p,
         q,
     })
-}
-
-/// The total of records and their heavy keys: by their stream and the plan, or by their text.
-fn keys_by<T: Threads + Wait + Sync, R: Read + Drop>(
-    rt: &T,
-    alloc: Global,
-    records: Records<R>,
-    by: ReportedBy,
-    prepared: &Prepared,
-) -> Result<(u64, Vec<Heavy>), ToolError>
-    requires some { 0 < prepared.now.pieces }
-    requires few { prepared.now.pieces ≤ max_pieces }
-    ensures keys { IfOk result (λ keys. AreKeysOf (records_known R.remaining records)
-        prepared.now.settings.p prepared.now.settings.q keys.0 keys.1.items) }
-    ensures refused { IfErr result (RecordsRefused (records_known R.remaining records)) }
-{
-    let Prepared {
-        pieces,
-        plan,
-        settings,
-        ..
-    } = prepared;
-    match by {
-        ReportedBy::Plan => keys_of_stream(rt, alloc, records, plan, settings),
-        ReportedBy::Tally => keys_of_records(rt, alloc, records, *pieces, plan, settings),
-    }
 }
 
 /// The total of some records, and the keys that a report of them has.
@@ -330,7 +200,6 @@ fn reported<T: Threads + Wait + Sync, R: Read + Drop>(
     alloc: Global,
     options: &ReportOptions,
     records: Records<R>,
-    by: ReportedBy,
 ) -> Result<(u64, Vec<Heavy>), ToolError>
     ensures keys { IfOk result (λ keys. (xs : List Entry) × AreOptions options.now
         × ReportsKeys options.now (records_known R.remaining records) xs keys.1.items
@@ -339,9 +208,8 @@ fn reported<T: Threads + Wait + Sync, R: Read + Drop>(
         (StartRefused options.now (records_known R.remaining records)) }
     ensures bad_option { IfSome (bad_option options.now) (λ fault. result ≡ Err fault) }
 {
-    let texts = records.others.len().saturating_add(1);
-    match prepare(alloc, options, texts) {
-        Ok(prepared) => keys_by(rt, alloc, records, by, &prepared),
+    match prepare(alloc, options) {
+        Ok(prepared) => keys_of_stream(rt, alloc, records, &prepared.plan, &prepared.settings),
         Err(fault) => Err(fault),
     }
 }
@@ -402,21 +270,18 @@ pub fn run_report<T: Threads + Wait + Sync, R: Read + Drop, S: Sink>(
         options,
         &rows,
         Records::of_reader(alloc, reader),
-        ReportedBy::Plan,
         sink,
     )
 }
 
-/// [`run_report`] of records in texts and columns of one's own, made as `by` says, with rows as
-/// `rows` wants them. Shares are of the total of all records. Where a piece of the text can't be
-/// read by itself, one thread reads the text once more.
+/// [`run_report`] of records in texts and columns of one's own, with rows as `rows` wants them.
+/// Shares are of the total of all records.
 pub fn report_rows<T: Threads + Wait + Sync, R: Read + Drop, S: Sink>(
     rt: &T,
     alloc: Global,
     options: &ReportOptions,
     rows: &RowOptions,
     records: Records<R>,
-    by: ReportedBy,
     sink: &mut S,
 ) -> Result<(), ToolError>
     requires { S.has_failed sink.old ≡ false }
@@ -430,6 +295,6 @@ pub fn report_rows<T: Threads + Wait + Sync, R: Read + Drop, S: Sink>(
     ensures flushed { OnOk result (S.is_flushed sink.new ≡ true) }
     ensures failed { S.has_failed sink.new ≡ failed_by result }
 {
-    let (total, keys) = reported(rt, alloc, options, records, by)?;
+    let (total, keys) = reported(rt, alloc, options, records)?;
     write_keys(alloc, sink, rows, total, &keys)
 }

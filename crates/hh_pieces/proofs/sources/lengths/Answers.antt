@@ -1,7 +1,7 @@
 use Rattle.std.proofs.Common.{Some, [], ◌∷◌, ap, arith, length, length-append}
 use Rattle.std.proofs.lemmas.List.{drop_all}
 use Rattle.hh_pieces.specs.Files.{length_of}
-use Rattle.hh_pieces.proofs.KeptFacts.{known-end, known-start}
+use Rattle.hh_pieces.proofs.KnownFacts.{known-end, known-start}
 use Rattle.hh_pieces.proofs.SourceFacts.{every-some, known-next, length-still}
 use Rattle.hh_pieces.proofs.sources.lengths.Goals as goal
 

@@ -1,6 +1,6 @@
 use Rattle.std.proofs.Common.{◌≡◌, Some, drop, length}
 use Rattle.hh_pieces.specs.Files.{length_of}
-use Rattle.hh_pieces.proofs.KeptFacts.{KnownSoFar}
+use Rattle.hh_pieces.proofs.KnownFacts.{KnownSoFar}
 use Rattle.hh_pieces.proofs.sources.lengths.Given as goal
 
 abbrev pub invariant-loop-source : goal.invariant-loop-source

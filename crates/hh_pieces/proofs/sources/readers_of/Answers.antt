@@ -1,5 +1,5 @@
 use Rattle.std.proofs.lemmas.List.{drop_all}
-use Rattle.hh_pieces.proofs.KeptFacts.{known-end, known-start}
+use Rattle.hh_pieces.proofs.KnownFacts.{known-end, known-start}
 use Rattle.hh_pieces.proofs.SourceFacts.{known-next, reader_left}
 use Rattle.hh_pieces.proofs.sources.readers_of.Goals as goal
 

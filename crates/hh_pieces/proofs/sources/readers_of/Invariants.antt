@@ -1,5 +1,5 @@
 use Rattle.std.proofs.Common.{drop}
-use Rattle.hh_pieces.proofs.KeptFacts.{KnownSoFar}
+use Rattle.hh_pieces.proofs.KnownFacts.{KnownSoFar}
 use Rattle.hh_pieces.proofs.SourceFacts.{reader_left}
 use Rattle.hh_pieces.proofs.sources.readers_of.Given as goal
 

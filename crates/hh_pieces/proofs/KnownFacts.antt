@@ -1,13 +1,7 @@
--- What is known of texts that are kept.
-use Rattle.std.proofs.Common.{◌+◌, ◌<◌, ℕ, get_or, length, take, Global, Vec, ◌≡◌, ◌∷◌, ◌++◌, ◌∙◌, List, [], Option, Some, None, refl, sym, ap, append_assoc, append-nil}
+-- What is known of the elements of two lists.
+use Rattle.std.proofs.Common.{◌≡◌, ◌∷◌, ◌++◌, ◌∙◌, List, [], Option, Some, None, refl, sym, ap, append_assoc, append-nil}
 use Rattle.std.specs.Prelude.{IfSome, option_and_then, option_map}
-use Rattle.std.proofs.lemmas.List.{take_more}
-use Rattle.std.specs.Io.Chain.{chain_remaining}
-use Rattle.std.specs.Io.Cursor.{cursor_remaining}
-use Rattle.std.specs.declared.io.impls.Cursor.{Cursor}
-use Rattle.std.specs.declared.io.traits.Chain.{Chain}
-use Rattle.hh_pieces.specs.Kept.{IsKnownStill, rest_left}
-use Rattle.hh_pieces.specs.declared.kept.Rest.{Rest}
+use Rattle.hh_pieces.specs.Sources.{IsKnownStill}
 use Rattle.hh_records.specs.Layouts.{every}
 use Rattle.hh_records.proofs.LayoutFacts.{every-push}
 use Rattle.hh_records.proofs.OpenFacts.{every-first, some-is}
@@ -75,25 +69,3 @@ module _ {A B C : Type 0} (f : A → Option C) (g : B → Option C) where
       by None p h k = tt
       by (Some z) None h k = tt
       by (Some z) (Some zs) h k = rw (h, k) refl
-
--- what f gives of a first and of one more of the others
-pub every-take : {A B : Type 0} (f : A → Option B) (x : A) (xs : List A) (i : ℕ) (z : A) (y : B) (ys : List B)
-    → every f (x ∷ take i xs) ≡ Some ys → i < length xs → z ≡ get_or xs i z → f z ≡ Some y
-    → every f (x ∷ take (i + 1) xs) ≡ Some (ys ++ y ∷ [])
-every-take f x xs i z y ys e h g k =
-    rw (take_more xs i z h, ← g) (every-push f (x ∷ take i xs) z y ys e (sym k))
-
--- what is known still of two, is so of what is made of them
-pub known-map : {A B : Type 0} (f : A → B) (o p : Option A) → IsKnownStill o p
-    → IsKnownStill (option_map f o) (option_map f p)
-known-map f None p h = tt
-known-map f (Some x) p h = ap (option_map f) h
-
--- what two tell the same of is known still
-pub known-same : {A : Type 0} (o p : Option A) → p ≡ o → IsKnownStill o p
-known-same None p e = tt
-known-same (Some x) p e = e
-
--- the bytes that what reads a kept text has left
-abbrev pub again_left : {R : Type 0} → (R → Option (List ℕ)) → Chain (Cursor (Vec ℕ Global)) (Rest R) → Option (List ℕ)
-again_left remaining = chain_remaining (cursor_remaining (λ (v : Vec ℕ Global). Some v.items)) (rest_left remaining)
