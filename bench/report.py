@@ -84,4 +84,5 @@ def main() -> None:
         measured.write("report", ratios)
 
 
-main()
+if __name__ == "__main__":
+    main()

@@ -3,6 +3,8 @@
 //! plain report K WORKERS < FILE          the heavy keys, in the shape of heavy's report
 //! plain group K < FILE                   the heavy keys, by a map that holds the sum of every key
 //! plain groups K WORKERS < FILE          the same over pieces of the text, a map for each worker, merged at the end
+//! plain batches K WORKERS < FILE         the heavy keys, by sums over pieces of the text that are lowered in batches
+//! plain total WORKERS < FILE             the total weight over pieces of the text: reading, splitting and numbers alone
 //! plain mg|ss K < FILE                   counts by Misra and Gries or by Space-Saving, no record kept
 //! plain columns K KEY WEIGHT < FILE      as mg, by the columns with these numbers, over the crate csv alone
 //! plain table < FILE                     a Count-Min table, no record kept
@@ -10,6 +12,7 @@
 //! plain time WHAT K < FILE               prints nanoseconds for each item of a stream that is kept; WHAT is read, ss
 //!                                        or table
 
+mod batches;
 mod counting;
 mod reading;
 mod report;
@@ -57,6 +60,8 @@ fn main() {
         "report" => report::by_two_passes(number(2), number(3)),
         "group" => report::by_group(number(2)),
         "groups" => report::by_groups(number(2), number(3)),
+        "batches" => batches::report(number(2), number(3)),
+        "total" => batches::total(number(2)),
         "mg" => {
             let (k, mut counters) = (number(2), Map::default());
             reading::each_record(|key, weight| counting::misra_gries(&mut counters, k, key, weight));

@@ -121,6 +121,31 @@ fn hand_on(take: &mut impl FnMut(&[u8], u64), text: &[u8], ends: &[usize]) {
     }
 }
 
+/// Hands each line of a text without quotes to the function, as a key and, behind the last comma, its weight.
+pub fn each_line_of(mut text: &[u8], mut take: impl FnMut(&[u8], u64)) {
+    while !text.is_empty() {
+        let end = feed_in(text).unwrap_or(text.len());
+        let line = &text[..end];
+        text = &text[text.len().min(end + 1)..];
+        match line.iter().rposition(|&byte| byte == b',') {
+            Some(comma) => take(&line[..comma], number(&line[comma + 1..])),
+            None if line.is_empty() => {}
+            None => take(line, 1),
+        }
+    }
+}
+
+/// Where the first line feed stands.
+#[cfg(feature = "csv")]
+fn feed_in(text: &[u8]) -> Option<usize> {
+    memchr::memchr(b'\n', text)
+}
+
+#[cfg(not(feature = "csv"))]
+fn feed_in(text: &[u8]) -> Option<usize> {
+    text.iter().position(|&byte| byte == b'\n')
+}
+
 fn number(text: &[u8]) -> u64 {
     text.iter().fold(0, |value, byte| value * 10 + u64::from(byte - b'0'))
 }

@@ -116,7 +116,7 @@ pub fn by_groups(k: usize, workers: usize) {
 }
 
 /// Writes the keys above the share 1/(k+1), by falling weight and then key.
-fn write_heavy<'a>(k: usize, total: u64, sums: impl Iterator<Item = (&'a [u8], u64)>) {
+pub fn write_heavy<'a>(k: usize, total: u64, sums: impl Iterator<Item = (&'a [u8], u64)>) {
     let mut rows: Vec<_> = sums.filter(|row| u128::from(row.1) * (k as u128 + 1) > u128::from(total)).collect();
     rows.sort_unstable_by(|a, b| b.1.cmp(&a.1).then(a.0.cmp(b.0)));
     let mut out = io::stdout().lock();

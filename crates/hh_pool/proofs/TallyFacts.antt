@@ -13,7 +13,7 @@ use Rattle.hh_tally.specs.declared.room.Room.{Room}
 use Rattle.hh_workers.specs.Workers.{HasEach}
 use Rattle.hh_workers.specs.Pieces.{piece_of}
 use Rattle.hh_pool.specs.Passes.{items_at}
-use Rattle.hh_pool.specs.Tallied.{HasTallied, IsTallied}
+use Rattle.hh_pool.specs.Tallied.{BoundsSome, HasTallied, IsTallied}
 use Rattle.hh_pool.proofs.PieceFacts.{sum_by-all_items}
 use Rattle.hh_pool.proofs.Tried.{items_at-push, taken_joined}
 
@@ -76,6 +76,18 @@ whole_bounds law pieces numbers t each =
     law t (items_at pieces numbers) (whole_of pieces)
     (sum_by-all_items (λ (e : Entry). e.1) pieces numbers each.distinct each.all)
     (λ x. sum_by-all_items (at_key x) pieces numbers each.distinct each.all)
+
+-- a tally of no items bounds some, so does one that took those of a piece more, and so do two that are merged
+pub some_none : (room : Room) (t : TallyView) → t ≡ empty_tally room → AreBounds (empty_tally room) [] → BoundsSome t
+some_none room t is bounds = ([], subst (λ (u : TallyView). AreBounds u []) (sym is) bounds)
+
+pub some_more : {gives : List Entry → Type 0} (was t : TallyView) → IsTallied gives was t → BoundsSome was → BoundsSome t
+some_more was t q (xs, bounds) = (xs ++ q.xs, q.on xs bounds)
+
+pub some_joined : BoundsMerge → (t u both : TallyView) → both ≡ merged_tally t u → BoundsSome t → BoundsSome u
+    → BoundsSome both
+some_joined law t u both is (xs, p) (ys, q) =
+    (xs ++ ys, subst (λ (v : TallyView). AreBounds v (xs ++ ys)) (sym is) (law t u xs ys p q))
 
 -- what is known of a piece's items, where all are known
 pub tallied_known : {known : Type 0} (known_now : known) (piece : List Entry) (was t : TallyView)

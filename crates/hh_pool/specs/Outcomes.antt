@@ -5,10 +5,6 @@ use Rattle.hh_summaries.specs.Counters.{SummaryView, misra_gries, IsHonest}
 use Rattle.hh_summaries.specs.Report.{heavy, rows_above, weights_at}
 use Rattle.hh_pool.specs.Trees.{tree_value}
 use Rattle.hh_workers.specs.Trees.{MergeTree}
-use Rattle.hh_pool.specs.declared.outcome.PiecesError.{PiecesError}
-use Rattle.hh_pool.specs.declared.outcome.PiecesError.TheVariants as error
-use Rattle.hh_stream.specs.declared.taking.PieceFault.{PieceFault}
-use Rattle.hh_stream.specs.declared.taking.PieceFault.TheVariants as fault
 
 -- counted in xs, these keys give the report above p/q
 abbrev pub AreEnough : List Bytes → List Entry → ℕ → ℕ → Type 0
@@ -22,8 +18,3 @@ pub record IsMerged (tree : MergeTree) (k : ℕ) (pieces : List (List Entry)) (x
   pub total : summary.total ≡ total_of xs
   pub counters : summary.counters ≡ tree_value tree (map (λ piece. misra_gries piece k) pieces) k
   pub honest : IsHonest summary.counters (total_of xs) xs k
-
--- as what an analysis tells a fault of its pieces
-abbrev pub error_of : PieceFault → PiecesError
-error_of fault.Memory = error.Memory
-error_of fault.Refused = error.Refused

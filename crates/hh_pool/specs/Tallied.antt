@@ -17,3 +17,7 @@ pub record HasTallied (reads : ℕ → Type 0) (pieces : List (List Entry)) (cla
     : Type 0 where
   pub taken : HaveTaken reads pieces claims tally.total
   pub bounds : AreBounds tally (items_at pieces claims)
+
+-- a tally bounds the weights of some items, whatever these are
+abbrev pub BoundsSome : TallyView → Type 0
+BoundsSome tally = (xs : List Entry) × AreBounds tally xs

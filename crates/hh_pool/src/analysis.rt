@@ -1,5 +1,4 @@
-//! The analysis of a stream, or of pieces of any kind: two passes by workers, and a merge between
-//! them.
+//! The analysis of a stream: two passes by workers over pieces, and a merge between them.
 
 ghost use Rattle.std.specs.Prelude.{◌≡◌, ◌≢◌, ◌+◌, ◌*◌, ◌≤◌, ◌<◌, ◌↔◌, true};
 ghost use Rattle.std.specs.Prelude.{List, length, map, sum, IfOk, IsErr, IsErrOf, OnErr, OnOk, Err, Ok};
@@ -12,12 +11,12 @@ ghost use Rattle.hh_countmin.specs.Table.{estimate_in, table_of};
 ghost use Rattle.hh_workers.specs.Workers.{max_workers};
 ghost use Rattle.hh_workers.specs.Trees.{IsMergeTree, leaves};
 ghost use Rattle.hh_pool.specs.Outcomes.{AreEnough, IsMerged};
-ghost use Rattle.hh_pool.specs.Passes.{AreRead, MayRefuse};
+ghost use Rattle.hh_pool.specs.Passes.{MayRefuse};
 
 use crate::first::FirstPass;
 use crate::merging::merge_by;
 use crate::options::Options;
-use crate::outcome::{Outcome, PiecesError, RunError};
+use crate::outcome::{Outcome, RunError};
 use crate::second::SecondPass;
 use hh_counters::laws::{contenders_suffice, misra_gries_is_honest, pruned_suffice};
 use hh_counters::{Candidates, Heavy, MergeFault, Summary};
@@ -25,7 +24,7 @@ use hh_countmin::Table;
 use hh_countmin::laws::{cells_are_cell_sums, estimate_is_never_below, tables_fit};
 use hh_stream::laws::pieces_make_the_whole;
 use hh_stream::{Cutting, PieceFault, Stream};
-use hh_workers::{CutStream, Gate, Pieces, Plan, Work, share_work};
+use hh_workers::{CutStream, Gate, Pieces, Plan, Work, only_memory, share_work};
 use std::alloc::{AllocError, Global};
 use std::sync::Wait;
 use std::thread::Threads;
@@ -45,8 +44,6 @@ fn summarise<R: Threads + Wait + Sync, P: Pieces + Sync, G: Gate + Sync>(
     ensures table { let options = options.now in let pieces = work.now.pieces.now in
         IfOk result (λ r. P.known pieces
         → r.1 ≡ table_of options.family options.width (whole_of (P.pieces pieces))) }
-    ensures read { let pieces = work.now.pieces.now in
-        OnOk result (P.known pieces → AreRead (P.reads pieces) (P.pieces pieces)) }
     ensures refused { let pieces = work.now.pieces.now in
         IsErrOf result PieceFault.Refused → P.known pieces
         → MayRefuse (P.refuses pieces) (P.pieces pieces) }
@@ -168,8 +165,6 @@ fn merge_pieces<R: Threads + Wait + Sync, P: Pieces + Sync, G: Gate + Sync>(
     ensures table { let options = options.now in let pieces = work.now.pieces.now in
         IfOk result (λ merged. P.known pieces → merged.1
         ≡ table_of options.family options.width (whole_of (P.pieces pieces))) }
-    ensures read { let pieces = work.now.pieces.now in
-        OnOk result (P.known pieces → AreRead (P.reads pieces) (P.pieces pieces)) }
     ensures refused { let pieces = work.now.pieces.now in
         IsErrOf result PieceFault.Refused → P.known pieces
         → MayRefuse (P.refuses pieces) (P.pieces pieces) }
@@ -284,10 +279,6 @@ fn run_passes<R: Threads + Wait + Sync, P: Pieces + Sync, G: Gate + Sync>(
     ensures heavy { let pieces = work.now.pieces.now in let xs = whole_of (P.pieces pieces) in
         IfOk result (λ outcome. P.known pieces
         → outcome.heavy.items ≡ heavy xs options.now.p options.now.q) }
-    ensures read { let pieces = work.now.pieces.now in
-        OnOk result (P.known pieces → AreRead (P.reads pieces) (P.pieces pieces)) }
-    ensures total { let pieces = work.now.pieces.now in OnOk result
-        (P.known pieces → total_of (whole_of (P.pieces pieces)) ≤ max_total) }
     ensures refused { let pieces = work.now.pieces.now in
         IsErrOf result PieceFault.Refused → P.known pieces
         → MayRefuse (P.refuses pieces) (P.pieces pieces) }
@@ -302,76 +293,18 @@ fn run_passes<R: Threads + Wait + Sync, P: Pieces + Sync, G: Gate + Sync>(
 }
 
 /// Whether the plan has as many pieces as there are.
-fn check_counts(plan: &Plan, count: usize) -> Result<(), PiecesError>
+fn check_counts(plan: &Plan, count: usize) -> Result<(), RunError>
     ensures same { OnOk result (length (leaves plan.now) ≡ count) }
     ensures plan { OnOk result (IsMergeTree plan.now count) }
     ensures some { OnOk result (0 < count) }
     ensures few { OnOk result (count ≤ max_pieces) }
     ensures mismatch { OnErr result (length (leaves plan.now) ≢ count) }
-    ensures told { IsErr result → result ≡ Err PiecesError.PlanMismatch }
+    ensures told { IsErr result → result ≡ Err RunError.PlanMismatch }
 {
     if plan.count() != count {
-        return Err(PiecesError::PlanMismatch);
+        return Err(RunError::PlanMismatch);
     }
     Ok(())
-}
-
-/// Analyses pieces of any kind as [`analyse`] does those of a stream: what it says of the stream
-/// holds of the items of the pieces, one after the other. Each piece is asked for once in the first
-/// pass, and once more in the second where any key can be heavy; where a step fails by chance, a
-/// pass is done again by the calling thread.
-///
-/// It answers Refused where a piece was refused, or the weights of all pieces add up to more than
-/// [`MAX_TOTAL`](hh_stream::MAX_TOTAL). Where the items aren't known, nothing is said of the
-/// outcome; pieces that change between two readings may also be Refused.
-pub fn analyse_pieces<R: Threads + Wait + Sync, P: Pieces + Sync, G: Gate + Sync>(
-    rt: &R,
-    alloc: Global,
-    pieces: &P,
-    plan: &Plan,
-    options: &Options,
-    gate: &G,
-) -> Result<Outcome, PiecesError>
-    ensures plan_mismatch { IsErrOf result PiecesError.PlanMismatch
-        ↔ (length (leaves plan.now) ≢ length (P.pieces pieces.now)) }
-    ensures refused { IsErrOf result PiecesError.Refused → P.known pieces.now
-        → MayRefuse (P.refuses pieces.now) (P.pieces pieces.now) }
-    ensures read { OnOk result
-        (P.known pieces.now → AreRead (P.reads pieces.now) (P.pieces pieces.now)) }
-    ensures total { OnOk result
-        (P.known pieces.now → total_of (whole_of (P.pieces pieces.now)) ≤ max_total) }
-    ensures summary { let lists = P.pieces pieces.now in IfOk result (λ outcome.
-        P.known pieces.now
-        → IsMerged plan.now options.now.k lists (whole_of lists) outcome.summary) }
-    ensures table { let options = options.now in IfOk result (λ outcome. P.known pieces.now
-        → outcome.table
-        ≡ table_of options.family options.width (whole_of (P.pieces pieces.now))) }
-    ensures heavy { let xs = whole_of (P.pieces pieces.now) in IfOk result (λ outcome.
-        P.known pieces.now
-        → outcome.heavy.items ≡ heavy xs options.now.p options.now.q) }
-{
-    check_counts(plan, pieces.count())?;
-    let work = Work {
-        alloc,
-        pieces,
-        gate,
-    };
-    Ok(run_passes(rt, &work, plan, options)?)
-}
-
-/// The outcome of a stream, whose pieces are never refused.
-fn of_stream(given: Result<Outcome, PiecesError>) -> Result<Outcome, RunError>
-    requires { ¬ IsErrOf given PiecesError.Refused }
-    ensures outcome { IfOk result (λ outcome. given ≡ Ok outcome) }
-    ensures plan_mismatch { IsErrOf result RunError.PlanMismatch
-        ↔ IsErrOf given PiecesError.PlanMismatch }
-{
-    match given {
-        Ok(outcome) => Ok(outcome),
-        Err(PiecesError::PlanMismatch) => Err(RunError::PlanMismatch),
-        Err(PiecesError::Memory) => Err(RunError::Memory),
-        Err(PiecesError::Refused) => unreachable!("pieces that fit are not refused"),
-    }
 }
 
 /// Analyses a stream, with workers that share nothing but atomic sums: they summarise the pieces
@@ -406,5 +339,14 @@ pub fn analyse<R: Threads + Wait + Sync, G: Gate + Sync>(
     // It bounds the weights of the pieces.
     let _total = stream.total();
     let pieces = CutStream::new(stream, cutting);
-    of_stream(analyse_pieces(rt, alloc, &pieces, plan, options, gate))
+    check_counts(plan, pieces.count())?;
+    let work = Work {
+        alloc,
+        pieces: &pieces,
+        gate,
+    };
+    match only_memory(run_passes(rt, &work, plan, options)) {
+        Ok(outcome) => Ok(outcome),
+        Err(_) => Err(RunError::Memory),
+    }
 }

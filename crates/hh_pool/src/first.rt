@@ -10,7 +10,7 @@ ghost use Rattle.hh_counters.specs.SpaceSaving.{monitor_of, translation_of};
 ghost use Rattle.hh_countmin.specs.Family.{Coefficients};
 ghost use Rattle.hh_countmin.specs.Table.{table_of};
 ghost use Rattle.hh_shared.specs.Seats.{fresh};
-ghost use Rattle.hh_pool.specs.Passes.{AreRead, AreSummaries, IsFirstPass, MayRefuse};
+ghost use Rattle.hh_pool.specs.Passes.{AreSummaries, IsFirstPass, MayRefuse};
 ghost use Rattle.hh_workers.specs.Pieces.{piece_of};
 ghost use Rattle.hh_pool.specs.Progress.{IsSummarised, sketches_with};
 
@@ -211,8 +211,6 @@ impl<'a, P: Pieces, G: Gate> FirstPass<'a, P, G> {
         ensures table { let options = self.now.options.now in
             let pieces = self.now.work.now.pieces.now in IfOk result (λ r. P.known pieces
             → r.1 ≡ table_of options.family options.width (whole_of (P.pieces pieces))) }
-        ensures reads { let pieces = self.now.work.now.pieces.now in
-            OnOk result (P.known pieces → AreRead (P.reads pieces) (P.pieces pieces)) }
         ensures refused { let pieces = self.now.work.now.pieces.now in
             IsErrOf result PieceFault.Refused → P.known pieces
             → MayRefuse (P.refuses pieces) (P.pieces pieces) }

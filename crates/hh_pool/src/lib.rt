@@ -1,6 +1,6 @@
-//! Weighted streams analysed by threads: plans to merge summaries by, and two passes over the
-//! pieces of a stream, or over pieces of any kind, whose outcome is the same whatever worker does
-//! which piece.
+//! Weighted streams analysed by threads: plans to merge summaries by, two passes over the pieces of
+//! a stream, whose outcome is the same whatever worker does which piece, and passes over pieces of
+//! any kind.
 #![tactic(auto)]
 
 mod analysis;
@@ -14,13 +14,13 @@ mod second;
 mod tabulate;
 mod tallying;
 
-pub use analysis::{analyse, analyse_pieces};
+pub use analysis::analyse;
 pub use first::first_pass;
 pub use hh_stream::PieceFault;
 pub use hh_workers::{CutStream, Gate, MAX_WORKERS, OpenGate, Pieces, Plan, PlanFault};
 pub use merging::merge_by;
 pub use one_pass::{count_pieces, tabulate_pieces};
 pub use options::{Options, OptionsFault};
-pub use outcome::{Outcome, PiecesError, RunError};
+pub use outcome::{Outcome, RunError};
 pub use second::second_pass;
-pub use tallying::report_pieces;
+pub use tallying::{report_pieces, summarise_pieces};

@@ -8,7 +8,7 @@ use Rattle.hh_stream.specs.Weights.{Bytes, Entry}
 use Rattle.hh_summaries.proofs.Level.{positive-lower}
 use Rattle.hh_tally.specs.declared.room.Room.{Room}
 use Rattle.hh_tally.specs.Tallies.{TallyView, IsRoom, IsLoss, IsTally, add_in, bytes_of, is_over, loss_of, left_of, tally_with}
-use Rattle.hh_tally.proofs.Raising.{positive-add_in, total_of-add_in}
+use Rattle.hh_tally.proofs.Raising.{positive-add_all, positive-add_in, total_of-add_in}
 use Rattle.hh_tally.proofs.Bounds.{total_of-add_all, loss_none, loss_paid, left_same, settled_within}
 
 -- ---- what is lost
@@ -73,6 +73,34 @@ tally_settled room total lost bytes loss es fs is_room fits paid some is left at
   bytes_is = at;
   bounded_bytes = most;
 }
+
+-- a new item, settled
+pub tally_taken : {room : Room} {total lost bytes : ℕ} {es fs gs : List Entry} (w more left : ℕ) (x : Bytes)
+    → IsTally room total lost bytes es → 0 < w → total + w < 2 ^ 63 → fs ≡ add_in es (x, w)
+    → more ≡ loss_of room fs → gs ≡ left_of room fs → left ≡ bytes_of (keys_of gs) → left ≤ 4096 * length gs
+    → IsTally room (total + w) (lost + more) left gs
+tally_taken {room} {total} {lost} {es = es} {fs = fs} {gs = gs} w more left x h some fits is =
+    tally_settled room (total + w) lost left more fs gs h.room_is fits
+    (subst (IsLoss room.few (total + w) lost) (sym is) (loss_with room.few total lost es (x, w) h.loss))
+    (subst (AllByRecursion (λ (e : Entry). 0 < e.1)) (sym is) (positive-add_in es (x, w) some h.positive))
+
+-- two tallies with one room, added up and settled
+pub tally_merged : {room room' : Room} {total total' lost lost' bytes bytes' : ℕ} {es fs all gs : List Entry} (more left : ℕ)
+    → IsTally room total lost bytes es → IsTally room' total' lost' bytes' fs → room' ≡ room → total + total' < 2 ^ 63
+    → all ≡ fold add_in es fs → more ≡ loss_of room all → gs ≡ left_of room all → left ≡ bytes_of (keys_of gs)
+    → left ≤ 4096 * length gs → IsTally room (total + total') (lost + lost' + more) left gs
+tally_merged {room} {total = total} {total' = total'} {lost = lost} {lost' = lost'} {es = es} {fs = fs} {all = all} {gs = gs}
+    more left h g same fits is =
+    let theirs = subst (λ (r : Room). IsLoss r.few total' lost' fs) same g.loss in
+    tally_settled room (total + total') (lost + lost') left more all gs h.room_is fits
+    (subst (IsLoss room.few (total + total') (lost + lost')) (sym is)
+    (loss_merged room.few total total' lost lost' es fs h.loss theirs))
+    (subst (AllByRecursion (λ (e : Entry). 0 < e.1)) (sym is) (positive-add_all es fs h.positive g.positive))
+
+-- what was lost fits in a number
+pub lost_fits : {room : Room} {total lost bytes : ℕ} {es : List Entry} → IsTally room total lost bytes es → lost < 2 ^ 63
+lost_fits {room} {total} {lost} {es = es} h =
+    omega (arith, loss-le-total room.few total lost es h.room_is.some h.loss, h.bounded_total)
 
 -- what an item leaves where there are not too many keys
 pub with_known : (room : Room) (total lost w : ℕ) (x : Bytes) (es fs : List Entry) → fs ≡ add_in es (x, w)

@@ -13,7 +13,8 @@ use Rattle.hh_summaries.proofs.Weights.{positive_in, number_from_in, in_from_num
 use Rattle.hh_summaries.proofs.Level.{is_level, length-lower, weight_of-lower, total_of-lower-le, counters-lower}
 use Rattle.hh_summaries.proofs.Summaries.{total_of-cut}
 use Rattle.hh_summaries.proofs.Reports.{in_heavy, in_filter, filter_in, filter_all, rising-filter, counters-filter, report_with_counters}
-use Rattle.hh_tally.specs.Tallies.{TallyView, AreBounds, IsLoss, can_exceed, contenders_of}
+use Rattle.hh_tally.specs.Tallies.{TallyView, AreBounds, IsLoss, IsTally, can_exceed, contenders_of}
+use Rattle.hh_tally.specs.declared.room.Room.{Room}
 use Rattle.hh_tally.proofs.Bounds.{exact_weights}
 
 -- ---- the contenders
@@ -187,6 +188,16 @@ found_contenders t p q n es some loss positive le agrees is =
       exact = λ xs h none. contenders_exact t xs p q h none;
     })
 
+-- the same of what a tally with these parts finds
+pub tally_contends : {room : Room} {total lost bytes : ℕ} {all : List Entry} (t : TallyView) (p q n : ℕ) (es : List Entry)
+    → IsTally room total lost bytes all → record { room = room; total = total; lost = lost; counters = all } ≡ t
+    → q ≤ p * (t.room.few / 2)
+    → ((m : ℕ) → 0 < m → nat_lt n m ≡ nat_lt (p * total) (q * (m + lost)))
+    → es ≡ filter (exceeds n) (tally all) → AreContenders t p q es
+tally_contends t p q n es parts is le agrees are =
+    subst (λ (v : TallyView). q ≤ p * (v.room.few / 2) → AreContenders v p q es) is
+    (λ few. found_contenders _ p q n es parts.room_is.some parts.loss parts.positive few agrees are) le
+
 -- the least counter that reaches the share: n is above it exactly where it and l are more than a / q
 pub reach_test : (a q l n : ℕ) → 0 < q → 0 < n → nat_lt (a / q - l) n ≡ nat_lt a (q * (n + l))
 reach_test a q l n some positive =
@@ -213,7 +224,12 @@ pub all_above : (es : List Entry) → AllByRecursion (λ (e : Entry). 0 < e.1) e
 all_above es some = filter_all (exceeds 0) (tally es) (λ e i.
     let above = positive_in (tally es) e (counters-tally es some) i in grind (arith, nat_tests, above))
 
--- what is left of them makes a summary
+-- what is left of them where they are cut
+pub cut_above : (es found left : List Entry) (k : ℕ) → AllByRecursion (λ (e : Entry). 0 < e.1) es
+    → found ≡ filter (exceeds 0) (tally es) → left ≡ cut found k → left ≡ cut (tally es) k
+cut_above es found left k some are is = is ∙ ap (λ c. cut c k) (are ∙ all_above es some)
+
+-- it makes a summary
 pub pruned_fits : (es : List Entry) (k total : ℕ) → 1 ≤ k → k ≤ max_k → total < 2 ^ 63 → total_of es ≤ total
     → Fits k total (cut (tally es) k)
 pruned_fits es k total some most fits within =

@@ -26,9 +26,9 @@ pub record IsRoom (room : Room) : Type 0 where
   pub keys : room.keys ≤ max_keys
 
 -- the room in which no more is lost than a summary with k counters may lack: 4,096 keys, or as many as 2 (k + 1), that
--- many of them whatever bytes they have, and 16 MiB of bytes
+-- many of them whatever bytes they have, and 4 MiB of bytes
 abbrev pub room_for : ℕ → Room
-room_for k = record { keys = max 4096 (2 * (k + 1)); few = 2 * (k + 1); bytes = 16777216 }
+room_for k = record { keys = max 4096 (2 * (k + 1)); few = 2 * (k + 1); bytes = 4194304 }
 
 -- whether the keys, more than a few, have too many bytes
 abbrev pub are_large : Room → List Bytes → Bool

@@ -86,9 +86,8 @@ pub fn settle(
     ensures bounded { IfOk result (λ r. r.1 ≤ 4096 * length index.new.entries) }
     ensures unchanged { OnErr result (index.new.entries ≡ index.old.entries) }
 {
-    let len = index.len();
-    let large = are_large(room, len, bytes);
-    if !is_over(room, len, large) {
+    let large = are_large(room, index, bytes);
+    if !is_over(room, index, large) {
         return Ok((0, bytes));
     }
     let lost = level_in(alloc, index, most_left(room, large))?;
@@ -96,18 +95,20 @@ pub fn settle(
     Ok((lost, key_bytes(index)))
 }
 
-// Whether `len` keys are more than a few and have too many bytes.
-fn are_large(room: &Room, len: usize, bytes: usize) -> bool
-    ensures { result ≡ (nat_lt room.now.few len && nat_lt room.now.bytes bytes) }
+// Whether the keys, of which `bytes` are the bytes, are more than a few and have too many bytes.
+fn are_large(room: &Room, index: &IndexMap<Key, u64, KeyHash>, bytes: usize) -> bool
+    requires { bytes ≡ bytes_of (keys_of index.now.entries) }
+    ensures { result ≡ are_large room.now (keys_of index.now.entries) }
 {
-    room.few < len && room.bytes < bytes
+    room.few < index.len() && room.bytes < bytes
 }
 
 // Whether there are too many keys, or `large` ones.
-fn is_over(room: &Room, len: usize, large: bool) -> bool
-    ensures { result ≡ (nat_lt room.now.keys len || large) }
+fn is_over(room: &Room, index: &IndexMap<Key, u64, KeyHash>, large: bool) -> bool
+    requires { large ≡ are_large room.now (keys_of index.now.entries) }
+    ensures { result ≡ is_over room.now (keys_of index.now.entries) }
 {
-    room.keys < len || large
+    room.keys < index.len() || large
 }
 
 // The most keys that then stay.

@@ -11,7 +11,7 @@ pub const MAX_KEYS: usize = 1_000_000;
 // The fewest keys for which `for_counters` makes room, and the bytes that they may have.
 const LEAST_KEYS: usize = 4096;
 
-const MOST_BYTES: usize = 16_777_216;
+const MOST_BYTES: usize = 4_194_304;
 
 /// How much a [`Tally`](crate::Tally) keeps before it lowers its counters.
 #[derive(Clone, Copy, Debug, PartialEq, Eq)]
@@ -26,7 +26,7 @@ pub struct Room {
 
 impl Room {
     /// Room in which no more is lost than a summary with `k` counters may lack: for 4,096 keys, or
-    /// 2 (k + 1) where that is more, with up to 16 MiB of bytes. 2 (k + 1) keys are kept whatever
+    /// 2 (k + 1) where that is more, with up to 4 MiB of bytes. 2 (k + 1) keys are kept whatever
     /// bytes they have.
     pub fn for_counters(k: u64) -> Room
         requires { in_range k max_k ≡ true }

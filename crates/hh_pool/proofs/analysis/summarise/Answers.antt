@@ -46,11 +46,6 @@ returns-in_ok-table_of_cells-in-Some-clause-table g c = λ known.
       cells = parts.1 i;
     })
 
-pub returns-in_ok-table_of_cells-in-Some-clause-read : goal.returns-in_ok-table_of_cells-in-Some-clause-read
-returns-in_ok-table_of_cells-in-Some-clause-read g c = λ known i low.
-    let shared = rw c.in-Some.is at c.in_ok-cells.ensures.done in
-    (shared.done.1 known).1.read i (shared.each.all.has i low)
-
 pub returns-in_ok-table_of_cells-in-Some-clause-count : goal.returns-in_ok-table_of_cells-in-Some-clause-count
 returns-in_ok-table_of_cells-in-Some-clause-count g c =
     let pieces = g.P.Pieces.pieces c.args.work.now.pieces.now in
@@ -67,9 +62,6 @@ returns-in_err-cells-clause-summaries g c = search rules
 pub returns-in_err-cells-clause-table : goal.returns-in_err-cells-clause-table
 returns-in_err-cells-clause-table g c = search rules
 
-pub returns-in_err-cells-clause-read : goal.returns-in_err-cells-clause-read
-returns-in_err-cells-clause-read g c = search rules
-
 pub returns-in_err-summaries-in-Some-clause-count : goal.returns-in_err-summaries-in-Some-clause-count
 returns-in_err-summaries-in-Some-clause-count g c = search rules
 
@@ -79,9 +71,6 @@ returns-in_err-summaries-in-Some-clause-summaries g c = search rules
 pub returns-in_err-summaries-in-Some-clause-table : goal.returns-in_err-summaries-in-Some-clause-table
 returns-in_err-summaries-in-Some-clause-table g c = search rules
 
-pub returns-in_err-summaries-in-Some-clause-read : goal.returns-in_err-summaries-in-Some-clause-read
-returns-in_err-summaries-in-Some-clause-read g c = search rules
-
 pub returns-in_err-table_of_cells-in-Some-clause-count : goal.returns-in_err-table_of_cells-in-Some-clause-count
 returns-in_err-table_of_cells-in-Some-clause-count g c = search rules
 
@@ -90,6 +79,3 @@ returns-in_err-table_of_cells-in-Some-clause-summaries g c = search rules
 
 pub returns-in_err-table_of_cells-in-Some-clause-table : goal.returns-in_err-table_of_cells-in-Some-clause-table
 returns-in_err-table_of_cells-in-Some-clause-table g c = search rules
-
-pub returns-in_err-table_of_cells-in-Some-clause-read : goal.returns-in_err-table_of_cells-in-Some-clause-read
-returns-in_err-table_of_cells-in-Some-clause-read g c = search rules

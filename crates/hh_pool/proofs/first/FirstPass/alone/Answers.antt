@@ -23,8 +23,3 @@ returns-clause-table g c = λ known.
     let options = c.args.self.now.options.now in
     let (numbers, each, made) = c.in_ok-summaries.ensures.made in
     (made.1 known).table ∙ whole_table pieces options.family options.width numbers each
-
-pub returns-clause-reads : goal.returns-clause-reads
-returns-clause-reads g c = λ known i low.
-    let (numbers, each, made) = c.in_ok-summaries.ensures.made in
-    (made.1 known).read i (each.all.has i low)

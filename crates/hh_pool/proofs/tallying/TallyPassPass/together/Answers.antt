@@ -1,19 +1,20 @@
 use Rattle.std.proofs.Common.{◌≡◌, ◌∙◌, ap, arith, rules, IsErr}
 use Rattle.hh_tally.specs.Tallies.{TallyView, merged_tally}
-use Rattle.hh_pool.proofs.TallyFacts.{tally_joined}
+use Rattle.hh_pool.proofs.TallyFacts.{some_joined, tally_joined}
 use Rattle.hh_pool.proofs.Tried.{taken_too_much}
 use Rattle.hh_pool.proofs.tallying.TallyPassPass.together.Goals as goal
 
 pub returns-in_err-sum_of_totals-clause-refused : goal.returns-in_err-sum_of_totals-clause-refused
 returns-in_err-sum_of_totals-clause-refused g c is a b apart p q known =
     let refused : IsErr c.sum_of_totals.result = search rules in
-    taken_too_much _ _ _ _ _ _ _ (p.1 known).taken (q.1 known).taken apart
+    taken_too_much _ _ _ _ _ _ _ (p.2 known).taken (q.2 known).taken apart
     (omega (arith, c.sum_of_totals.ensures.refused refused, c.total.ensures.total, c.total-2.ensures.total))
 
 pub returns-clause-both : goal.returns-clause-both
 returns-clause-both g c a b apart p q =
     let is : c.in_ok-both.both ≡ merged_tally c.args.one c.args.other = c.in_ok-both.ensures in (
       ap (λ (t : TallyView). t.room) is ∙ p.0,
+      some_joined c.tallies_bound_weights.ensures.merge c.args.one c.args.other c.in_ok-both.both is p.1 q.1,
       λ known.
           let work = c.args.self.now.work.now.pieces.now in
           tally_joined (g.P.Pieces.reads work) (g.P.Pieces.pieces work) c.tallies_bound_weights.ensures.merge
@@ -26,5 +27,5 @@ returns-clause-both g c a b apart p q =
             c.total.ensures.total,
             c.total-2.ensures.total,
           ))
-          apart (p.1 known) (q.1 known),
+          apart (p.2 known) (q.2 known),
     )

@@ -1,9 +1,9 @@
 use Rattle.std.proofs.Common.{◌+◌, ◌*◌, ◌≤◌, sym, ap, ◌∙◌, subst, arith}
 use Rattle.std.proofs.lemmas.Bool.Decides.{nat_tests}
-use Rattle.hh_summaries.specs.Counters.{Fits, IsCounters, IsHonest, SummaryView, cut, max_k}
+use Rattle.hh_summaries.specs.Counters.{Fits, IsCounters, IsHonest, SummaryView, max_k}
 use Rattle.hh_summaries.proofs.Weights.{counters-tally}
 use Rattle.hh_tally.specs.Tallies.{AreBounds, TallyView, pruned}
-use Rattle.hh_tally.proofs.Reporting.{all_above, pruned_fits, pruned_honest}
+use Rattle.hh_tally.proofs.Reporting.{all_above, cut_above, pruned_fits, pruned_honest}
 use Rattle.hh_tally.proofs.tally.Tally.into_summary.Goals as goal
 
 pub cut-requires : goal.cut-requires
@@ -16,8 +16,7 @@ pub from_entries-requires : goal.from_entries-requires
 from_entries-requires c =
     let t = c.self.inside in
     let es = t.index.entries in
-    let left = c.in_ok-cut.ensures
-    ∙ ap (λ e. cut e c.args.k) (c.in_ok-entries.ensures ∙ all_above es c.self.invariant.positive) in
+    let left = cut_above es _ _ c.args.k c.self.invariant.positive c.in_ok-entries.ensures c.in_ok-cut.ensures in
     let some : 1 ≤ c.args.k = grind (arith, nat_tests, c.requires) in
     let most : c.args.k ≤ max_k = grind (arith, nat_tests, c.requires) in
     subst (Fits c.args.k t.total) (sym left)
@@ -27,8 +26,7 @@ pub returns-clause-summary : goal.returns-clause-summary
 returns-clause-summary c =
     let t = c.self.inside in
     let es = t.index.entries in
-    let left = c.in_ok-cut.ensures
-    ∙ ap (λ e. cut e c.args.k) (c.in_ok-entries.ensures ∙ all_above es c.self.invariant.positive) in
+    let left = cut_above es _ _ c.args.k c.self.invariant.positive c.in_ok-entries.ensures c.in_ok-cut.ensures in
     c.from_entries.ensures
     ∙ (λ i. record { k = c.args.k; total = t.total; counters = left i })
     ∙ ap (pruned c.args.k) c.self.view_is
@@ -38,8 +36,7 @@ returns-clause-honest c = λ room xs bounds.
     let t = c.self.inside in
     let es = t.index.entries in
     let k = c.args.k in
-    let left = c.in_ok-cut.ensures
-    ∙ ap (λ e. cut e k) (c.in_ok-entries.ensures ∙ all_above es c.self.invariant.positive) in
+    let left = cut_above es _ _ k c.self.invariant.positive c.in_ok-entries.ensures c.in_ok-cut.ensures in
     let inside : TallyView = record { room = t.room; total = t.total; lost = t.lost; counters = es } in
     let theirs = subst (λ (v : TallyView). AreBounds v xs) (sym c.self.view_is) bounds in
     let enough = subst (λ (v : TallyView). 2 * (k + 1) ≤ v.room.few) (sym c.self.view_is) room in
