@@ -152,7 +152,8 @@ fn reported_of_files<T: Threads + Wait + Sync, F: ReadAt + Sync + Drop, R: Read 
         (StartRefused options.now (files_known F.bytes R.remaining records)) }
     ensures bad_option { IfSome (bad_option options.now) (λ fault. result ≡ Err fault) }
 {
-    let prepared = match prepare(alloc, options, records.inputs.len()) {
+    let (texts, hash) = (records.inputs.len(), records.layout.hash);
+    let prepared = match prepare(alloc, options, texts, hash) {
         Ok(prepared) => prepared,
         Err(fault) => return Err(fault),
     };

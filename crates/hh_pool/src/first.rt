@@ -92,12 +92,7 @@ struct Sketches {
 
 impl Sketches {
     // The monitor has taken no item yet.
-    fn beside(
-        table: Table,
-        alloc: Global,
-        k: u64,
-        hash: KeyHash,
-    ) -> Result<Sketches, AllocError>
+    fn beside(table: Table, alloc: Global, k: u64, hash: KeyHash) -> Result<Sketches, AllocError>
         requires { in_range k max_k ≡ true }
         ensures { IfOk result
             (λ s. s ≡ record { monitor = monitor_of k []; table = table }) }
@@ -179,8 +174,7 @@ impl<'a, P: Pieces, G: Gate> FirstPass<'a, P, G> {
         summaries_follow_items();
         tables_follow_items();
         let hash = self.options.hash();
-        let mut sketches =
-            Sketches::beside(table, self.work.alloc, self.options.k(), hash)?;
+        let mut sketches = Sketches::beside(table, self.work.alloc, self.options.k(), hash)?;
         self.work
             .pieces
             .feed(self.work.alloc, piece, &mut sketches)?;
