@@ -146,7 +146,7 @@ fn reported_of_files<T: Threads + Wait + Sync, S: ReadAt + Sync>(
         (texts_known S.bytes records.entry.layout.now records.entry.sources.now)) }
     ensures bad_option { IfSome (bad_option options.now) (λ fault. result ≡ Err fault) }
 {
-    match prepare(alloc, options) {
+    match prepare(alloc, options, records.layout.hash) {
         Ok(prepared) => {
             keys_of_sources(rt, alloc, records, options.k, options.workers, &prepared)
         }

@@ -23,7 +23,7 @@ use hh_counters::{Candidates, Heavy, MergeFault, Summary};
 use hh_countmin::Table;
 use hh_countmin::laws::{cells_are_cell_sums, estimate_is_never_below, tables_fit};
 use hh_stream::laws::pieces_make_the_whole;
-use hh_stream::{Cutting, PieceFault, Stream};
+use hh_stream::{Cutting, KeyHash, PieceFault, Stream};
 use hh_workers::{CutStream, Gate, Pieces, Plan, Work, only_memory, share_work};
 use std::alloc::{AllocError, Global};
 use std::sync::Wait;
@@ -130,6 +130,7 @@ fn candidates(
     table: &Table,
     p: u64,
     q: u64,
+    hash: KeyHash,
 ) -> Result<Candidates, AllocError>
     requires share { IsShare p q }
     requires rows { 1 ≤ length table.now.family.rows }
@@ -144,7 +145,7 @@ fn candidates(
     pruned_suffice();
     estimate_is_never_below();
     cells_are_cell_sums();
-    let contenders = Candidates::contenders(alloc, summary, p, q)?;
+    let contenders = Candidates::contenders_with_hasher(alloc, summary, p, q, hash)?;
     let estimates = estimates(alloc, table, &contenders)?;
     contenders.pruned(&estimates, table.total(), p, q)
 }
@@ -256,7 +257,7 @@ fn heavy_keys<R: Threads + Wait + Sync, P: Pieces + Sync, G: Gate + Sync>(
         → MayRefuse (P.refuses pieces) (P.pieces pieces) }
 {
     let (p, q) = options.threshold();
-    let candidates = candidates(work.alloc, summary, table, p, q)?;
+    let candidates = candidates(work.alloc, summary, table, p, q, options.hash())?;
     heavy_among(rt, work, &candidates, summary.total(), options)
 }
 

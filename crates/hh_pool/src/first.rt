@@ -21,7 +21,7 @@ use hh_countmin::Table;
 use hh_countmin::laws::{cells_are_cell_sums, tables_follow_items};
 use hh_shared::{SharedSums, SumSeat};
 use hh_stream::laws::pieces_make_the_whole;
-use hh_stream::{Cutting, MAX_TOTAL, PieceFault, Stream, TakeItems};
+use hh_stream::{Cutting, KeyHash, MAX_TOTAL, PieceFault, Stream, TakeItems};
 use hh_workers::{
     CutStream, Gate, Pass, Pieces, Work, add_numbers, only_memory, run_alone, run_worker,
 };
@@ -92,12 +92,12 @@ struct Sketches {
 
 impl Sketches {
     // The monitor has taken no item yet.
-    fn beside(table: Table, alloc: Global, k: u64) -> Result<Sketches, AllocError>
+    fn beside(table: Table, alloc: Global, k: u64, hash: KeyHash) -> Result<Sketches, AllocError>
         requires { in_range k max_k ≡ true }
         ensures { IfOk result
             (λ s. s ≡ record { monitor = monitor_of k []; table = table }) }
     {
-        let monitor = BucketSaving::empty(alloc, k)?;
+        let monitor = BucketSaving::with_hasher(alloc, k, hash)?;
         Ok(Sketches { monitor, table })
     }
 
@@ -173,7 +173,8 @@ impl<'a, P: Pieces, G: Gate> FirstPass<'a, P, G> {
     {
         summaries_follow_items();
         tables_follow_items();
-        let mut sketches = Sketches::beside(table, self.work.alloc, self.options.k())?;
+        let hash = self.options.hash();
+        let mut sketches = Sketches::beside(table, self.work.alloc, self.options.k(), hash)?;
         self.work
             .pieces
             .feed(self.work.alloc, piece, &mut sketches)?;

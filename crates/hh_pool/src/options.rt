@@ -9,7 +9,7 @@ ghost use Rattle.hh_workers.specs.Workers.{max_workers};
 
 use hh_counters::{MAX_K, is_threshold};
 use hh_countmin::{Family, MAX_WIDTH};
-use hh_stream::in_range;
+use hh_stream::{KeyHash, in_range};
 use hh_workers::MAX_WORKERS;
 use std::marker::Model;
 use thiserror::Error;
@@ -24,6 +24,8 @@ pub struct Options {
     workers: u64,
     width: u64,
     family: Family,
+    // no number of an outcome depends on it
+    hash: KeyHash,
 }
 
 impl Model for Options {
@@ -71,7 +73,9 @@ pub enum OptionsFault {
 
 impl Options {
     /// The options with these parts. The report has the keys above p/q of the total weight. That is
-    /// at least 1/(k + 1), since a key above it always has a counter. They take no memory.
+    /// at least 1/(k + 1), since a key above it always has a counter. They take no memory. Keys are
+    /// hashed by the words that all runs have: where others choose them,
+    /// [`hashed_by`](Options::hashed_by) takes words of the run.
     ///
     /// The refusals are tested in the order BadK, BadWorkers, BadWidth, BadThreshold.
     pub fn new(
@@ -138,7 +142,20 @@ impl Options {
             workers,
             width,
             family,
+            hash: KeyHash::fixed(),
         }
+    }
+
+    /// The same options, with keys hashed by `hash`. It decides how fast a key is found, and nothing
+    /// of an outcome.
+    pub fn hashed_by(self, hash: KeyHash) -> Options
+        ensures { result ≡ self }
+    {
+        Options { hash, ..self }
+    }
+
+    pub(crate) fn hash(&self) -> KeyHash {
+        self.hash
     }
 
     pub(crate) fn k(&self) -> u64

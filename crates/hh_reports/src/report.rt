@@ -92,19 +92,22 @@ fn plan_of(alloc: Global, tree: &Tree, pieces: usize) -> Result<Plan, NoPlan>
     }
 }
 
-/// The settings of an analysis with the threshold p/q, and the family drawn from the seed.
+/// The settings of an analysis with the threshold p/q, the family drawn from the seed, and keys
+/// hashed by `hash`.
 fn settings_of(
     alloc: Global,
     options: &ReportOptions,
     p: u64,
     q: u64,
+    hash: KeyHash,
 ) -> Result<Options, AllocError>
     requires options { bad_option options.now ≡ None }
     requires threshold { threshold_of options.now.k options.now.threshold ≡ Some (p, q) }
     ensures { IfOk result (λ settings. settings ≡ settings_of options.now p q) }
 {
     let family = Family::of_seed(alloc, options.seed, options.depth)?;
-    Ok(Options::within(options.k, p, q, options.workers, options.width, family))
+    let settings = Options::within(options.k, p, q, options.workers, options.width, family);
+    Ok(settings.hashed_by(hash))
 }
 
 /// The heavy keys of a stream that is cut evenly, into as many pieces as the plan has.
@@ -172,8 +175,12 @@ pub struct Prepared {
     pub q: u64,
 }
 
-/// Tests the options, before anything is read.
-pub fn prepare(alloc: Global, options: &ReportOptions) -> Result<Prepared, ToolError>
+/// Tests the options, before anything is read. An analysis hashes keys by `hash`.
+pub fn prepare(
+    alloc: Global,
+    options: &ReportOptions,
+    hash: KeyHash,
+) -> Result<Prepared, ToolError>
     ensures prepared { IfOk result (IsPrepared options.now) }
     ensures refused { IfErr result (λ fault.
         (known : Known) → StartRefused options.now known fault) }
@@ -185,7 +192,7 @@ pub fn prepare(alloc: Global, options: &ReportOptions) -> Result<Prepared, ToolE
         Err(NoPlan::Bad(fault)) => return Err(ToolError::BadTree(fault)),
         Err(NoPlan::Memory) => return Err(ToolError::Memory),
     };
-    let settings = settings_of(alloc, options, p, q)?;
+    let settings = settings_of(alloc, options, p, q, hash)?;
     Ok(Prepared {
         plan,
         settings,
@@ -208,7 +215,7 @@ fn reported<T: Threads + Wait + Sync, R: Read + Drop>(
         (StartRefused options.now (records_known R.remaining records)) }
     ensures bad_option { IfSome (bad_option options.now) (λ fault. result ≡ Err fault) }
 {
-    match prepare(alloc, options) {
+    match prepare(alloc, options, records.layout.hash) {
         Ok(prepared) => keys_of_stream(rt, alloc, records, &prepared.plan, &prepared.settings),
         Err(fault) => Err(fault),
     }
