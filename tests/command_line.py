@@ -174,7 +174,7 @@ class CommandLine(programs.Checks):
         for method in ([], ["--method", "mg"], ["--method", "ss"]):
             expected = reference.answer(reference.summarise, MANY, 100)
             self.expect(["summarise", *method], expected, MANY)
-            self.expect(["summarise", "--k", "2", *method], reference.answer(reference.summarise, RECORDS, 2))
+            self.expect(["summarise", "--k", "2", *method], (0, ONE_IN_2, b""))
 
     def test_texts(self) -> None:
         """Texts with their reports, with the first record that is bad, and condensed, each written by hand."""
@@ -486,10 +486,12 @@ class CommandLine(programs.Checks):
         """Keys of one byte up to the most, in summaries of both methods and in both versions, and keys of one byte more."""
         for size in (1, 24, 25, 255, 256, 4096):
             key = b"x" * size
-            summary = reference.Summary(1, 9, {key: 9})
+            summary, lightest = reference.Summary(1, 9, {key: 9}), reference.Summary(1, 1, {key: 1})
             for method in ("mg", "ss"):
                 words = ["summarise", "--k", "1", "--method", method]
                 self.expect(words, (0, reference.written(summary), b""), key + b",9\n")
+                self.expect(words, (0, reference.written(lightest), b""), key + b"\n")
+            self.expect(["report", "--k", "1"], (0, key + b",1\n", b""), key + b",1\n")
             self.check(f"a key of {size} bytes takes as many", len(reference.written(summary)) == 17 + 2 + size + 8)
             for magic, (_, longest) in reference.VERSIONS.items():
                 if size <= longest:

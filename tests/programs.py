@@ -26,6 +26,8 @@ def only() -> list[str] | None:
 
 
 ONLY = only()
+# a name that is no UTF-8 is printed too, with its bytes escaped
+sys.stdout.reconfigure(errors="backslashreplace")
 
 
 def built(crate: str) -> str:

@@ -80,6 +80,12 @@ def woven(random: Random) -> bytes:
     return bytes(text)
 
 
+def rows_wanted(random: Random) -> list[str]:
+    """Options of the rows that `confirm` prints of a summary with 3 counters, each in every other case."""
+    options = [["--share"], ["--top", random.choice("0123")], ["--threshold", random.choice(["1/4", "1/3", "1/2", "1/1"])]]
+    return [word for option in options if random.random() < 0.5 for word in option]
+
+
 def feed(path: str, text: bytes) -> None:
     """Writes the text into a pipe, of which a refused run reads no more."""
     try:
@@ -240,6 +246,15 @@ class OnePassFiles(programs.Checks):
         """The three commands, two of them by a saved summary."""
         return [["table"], ["condense", saved], ["confirm", saved]]
 
+    def test_files_without_a_size(self) -> None:
+        """A file of the kernel, whose size is 0, is read whole by each command."""
+        saved = self.saved("saved", ["summarise", "--k", "2"], b"Linux\n")
+        table = programs.run([self.program, "table"], b"Linux\n").out
+        wanted = [b"Linux,1\n", Path(saved).read_bytes(), table, b"Linux,1\n", b"Linux,1\n"]
+        for words, out in zip([["report"], ["summarise", "--k", "2"], *self.by_file(saved)], wanted):
+            ended = programs.run([self.program, *words, "/proc/sys/kernel/ostype"])
+            self.check(f"{words[0]} of a file without a size", (ended.status, ended.out) == (0, out), ended)
+
     def test_rows(self) -> None:
         """Four records in files, by hand: some end in no line feed, and with an empty one among them one thread reads."""
         commands = self.by_file(self.saved("saved", ["summarise", "--k", "2"], RECORDS))
@@ -289,7 +304,7 @@ class OnePassFiles(programs.Checks):
             summary = piped([self.program, "summarise", "--k", "3", *layout], texts, self.room)
             Path(of_them).write_bytes(summary.out)
             for words in self.by_file(other if summary.status != 0 or random.random() < 0.1 else of_them):
-                words = [self.program, *words, *layout]
+                words = [self.program, *words, *layout, *(rows_wanted(random) if words[0] == "confirm" else [])]
                 here = programs.run([*words, "--workers", workers, *self.files(*texts)])
                 there = piped(words, texts, self.room)
                 differed += not same(here, there)

@@ -191,7 +191,7 @@ const COLUMN_ARGUMENTS: [Argument; 6] = [
     Argument::Given(
         Kind::Byte,
         DELIMITER,
-        "The byte between two fields, \\t for a tab [default: ,]",
+        "The byte between two fields, \\t for a tab, =- for a hyphen [default: ,]",
     ),
     Argument::Given(
         Kind::Flag,

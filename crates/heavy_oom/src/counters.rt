@@ -2,8 +2,8 @@
 
 use crate::lab::{Lab, Said, marked, no_such_call};
 use crate::monitors;
-use crate::show::Counters;
-use hh_counters::{AddFault, MergeFault, OfItemsFault, Summary};
+use crate::show::{Counters, Numbers};
+use hh_counters::{AddFault, Candidates, MergeFault, OfItemsFault, Summary};
 use hh_stream::Key;
 use std::test::Fail;
 
@@ -13,6 +13,8 @@ pub fn call(lab: &Lab, name: &str) -> Result<Said, Fail> {
         "Summary::of_items" => summary_of_items(lab),
         "Summary::merge" => summary_merge(lab),
         "Summary::new" => summary_new(lab),
+        "Summary readers" => summary_readers(lab),
+        "Candidates readers" => candidates_readers(lab),
         _ => monitors::call(lab, name),
     }
 }
@@ -89,4 +91,39 @@ fn merged(lab: &Lab, summary: &mut Summary, other: &Summary) -> Result<Said, Fai
 fn summary_new(lab: &Lab) -> Result<Said, Fail> {
     let made = marked!(lab, Summary::new(lab.alloc, 2));
     lab.answer(Counters(&made?))
+}
+
+// The calls on a summary that take no memory.
+fn summary_readers(lab: &Lab) -> Result<Said, Fail> {
+    let (summary, a) = (lab.summary()?, lab.key(b'a')?);
+    lab.begin();
+    let fits = Summary::fits(2, 0, &[]);
+    let empty = Summary::from_entries(2, 0, Vec::new(lab.alloc)).len();
+    let numbers = [
+        summary.k(),
+        summary.total(),
+        summary.sum(),
+        summary.len() as u64,
+        summary.slack(),
+        summary.get(&a),
+    ];
+    lab.end();
+    let numbers = Numbers(&numbers);
+    lab.answer(format_args!("{fits} {empty} {numbers}"))
+}
+
+// The calls on candidates that take no memory.
+fn candidates_readers(lab: &Lab) -> Result<Said, Fail> {
+    let (summary, b, stream) = (lab.summary()?, lab.key(b'b')?, lab.stream()?);
+    let candidates = Candidates::of(lab.alloc, &summary)?;
+    let mut numbers = [0u64; 2];
+    lab.begin();
+    let len = candidates.len();
+    let is_second = candidates.place(&b) == Some(1);
+    if len == 2 {
+        candidates.count_piece(stream.items(), &mut numbers);
+    }
+    lab.end();
+    let numbers = Numbers(&numbers);
+    lab.answer(format_args!("{len} {is_second} {numbers}"))
 }

@@ -4,7 +4,7 @@ ghost use Rattle.std.specs.Prelude.{◌<◌};
 
 use crate::lab::{Lab, Said, marked, no_such_call};
 use crate::show::{Counters, Numbers};
-use hh_counters::{AddFault, BucketSaving, Monitor, SpaceSaving};
+use hh_counters::{AddFault, BucketSaving, Monitor, NewFault, SpaceSaving};
 use hh_stream::{Item, Key};
 use std::fmt;
 use std::test::Fail;
@@ -35,6 +35,7 @@ fn bucketed(lab: &Lab, name: &str) -> Result<Said, Fail> {
         "BucketSaving::add monitored" => added(lab, buckets(lab), b'c', 4),
         "BucketSaving::into_summary" => translated(lab, buckets(lab)),
         "BucketSaving readers" => readers(lab, buckets(lab)),
+        "BucketSaving::new" => bucket_saving_new(lab),
         _ => Err(no_such_call(name)),
     }
 }
@@ -182,6 +183,13 @@ fn translated_once<M: Monitor>(lab: &Lab, monitor: M, keys: &[Key]) -> Result<Op
 fn space_saving_new(lab: &Lab) -> Result<Said, Fail> {
     let made = marked!(lab, SpaceSaving::new(lab.alloc, 2));
     lab.answer(made?.total())
+}
+
+fn bucket_saving_new(lab: &Lab) -> Result<Said, Fail> {
+    match marked!(lab, BucketSaving::new(lab.alloc, 2)) {
+        Err(NewFault::Memory) => lab.refused(),
+        made => lab.answer(made?.total()),
+    }
 }
 
 // The calls on a monitor of the four items that take no memory.

@@ -5,8 +5,12 @@ ghost use Rattle.std.specs.Prelude.{◌≡◌, length, sum};
 use crate::lab::{Lab, Said, marked, no_such_call};
 use crate::show::{Cells, Counters, Numbers, Report};
 use hh_countmin::Family;
-use hh_pool::{Gate, OpenGate, Options, Outcome, Plan, RunError, analyse};
-use hh_stream::{Cutting, Stream};
+use hh_counters::Candidates;
+use hh_pool::{
+    Gate, OpenGate, Options, Outcome, Plan, RunError, analyse, first_pass, second_pass,
+};
+use hh_shared::SharedSums;
+use hh_stream::{Cutting, Key, Stream};
 use std::sync::Wait;
 use std::sync::atomic::AtomicU64;
 use std::sync::atomic::Ordering::SeqCst;
@@ -17,6 +21,9 @@ pub fn call<R: Threads + Wait + Sync>(rt: &R, lab: &Lab, name: &str) -> Result<S
     match name {
         "analyse" => analysed(rt, lab),
         "analyse many keys" => analysed_many(rt, lab),
+        "Plan, Options and OpenGate" => plain_calls(lab),
+        "first_pass" => first_passed(lab),
+        "second_pass" => second_passed(lab),
         _ => Err(no_such_call(name)),
     }
 }
@@ -47,6 +54,55 @@ fn outcome<R: Threads + Wait + Sync, G: Gate + Sync>(
         Err(RunError::Memory) => Ok(None),
         Err(fault) => Err(fault.into()),
     }
+}
+
+// What one worker finds in the first pass over the four items, in two pieces.
+fn first_passed(lab: &Lab) -> Result<Said, Fail> {
+    let (alloc, stream) = (lab.alloc, lab.stream()?);
+    let cutting = Cutting::even(alloc, stream.len(), 2)?;
+    let family = Family::from_parts(alloc, 256, &[(1, 0), (3, 1)])?;
+    let cells = (family.depth() * 4) as usize;
+    let options = Options::new(2, 1, 3, 1, 4, family)?;
+    let (sums, seat) = SharedSums::new(alloc, cutting.count(), cells)?;
+    let pass = marked!(
+        lab,
+        first_pass(alloc, &sums, seat, &stream, &cutting, &options, &OpenGate, 0)
+    );
+    match pass {
+        Ok((_seat, found)) => lab.answer(found.len()),
+        Err(_) => lab.refused(),
+    }
+}
+
+// Whether one worker has done the second pass over the four items, in two pieces.
+fn second_passed(lab: &Lab) -> Result<Said, Fail> {
+    let (alloc, stream) = (lab.alloc, lab.stream()?);
+    let cutting = Cutting::even(alloc, stream.len(), 2)?;
+    let candidates = Candidates::of(alloc, &lab.summary()?)?;
+    if candidates.len() != 2 {
+        return Err(Fail::new("two keys have counters"));
+    }
+    let (sums, seat) = SharedSums::new(alloc, cutting.count(), candidates.len())?;
+    let pass = marked!(
+        lab,
+        second_pass(alloc, &sums, seat, &stream, &cutting, &candidates, &OpenGate, 0)
+    );
+    match pass {
+        Ok(seat) => lab.answer(sums.holds_all(&seat)),
+        Err(_) => lab.refused(),
+    }
+}
+
+// The calls on plans, options and the open gate that take no memory.
+fn plain_calls(lab: &Lab) -> Result<Said, Fail> {
+    let plan = Plan::balanced(lab.alloc, 4)?;
+    let family = Family::from_parts(lab.alloc, 256, &[(1, 0)])?;
+    lab.begin();
+    let count = plan.count();
+    let is_made = Options::new(2, 1, 3, 1, 4, family).is_ok();
+    OpenGate.before(1, 0, 0);
+    lab.end();
+    lab.answer(format_args!("{count} {is_made}"))
 }
 
 fn show(lab: &Lab, outcome: &Outcome) -> Result<Said, Fail> {
@@ -92,11 +148,11 @@ impl Gate for Counting {
     }
 }
 
-// 1,000 different keys, and then the item a.
+// 2,000 different keys of two bytes, and then the item a.
 fn many_items(lab: &Lab) -> Result<Stream, Fail> {
     let mut stream = Stream::new(lab.alloc);
-    for i in 0u16..1000 {
-        lab.push_one(&mut stream, b'x', &i.to_be_bytes())?;
+    for i in 0u16..2000 {
+        stream.push(Key::new(lab.alloc, &i.to_be_bytes())?, 1)?;
     }
     lab.push(&mut stream, b'a', 1)?;
     Ok(stream)
@@ -111,7 +167,7 @@ fn in_two_pieces<R: Threads + Wait + Sync>(
 ) -> Result<Option<Outcome>, Fail> {
     let options = options(lab, 1)?;
     let plan = Plan::chain(lab.alloc, 2)?;
-    let cutting = Cutting::by_lengths(lab.alloc, stream.len(), &[1000, 1])?;
+    let cutting = Cutting::by_lengths(lab.alloc, stream.len(), &[2000, 1])?;
     outcome(rt, lab, stream, &cutting, &plan, &options, gate)
 }
 

@@ -14,8 +14,36 @@ pub fn call(lab: &Lab, name: &str) -> Result<Said, Fail> {
         "Stream::push" => stream_push(lab),
         "Cutting::even" => cutting_even(lab),
         "Cutting::by_lengths" => cutting_by_lengths(lab),
+        "Key and Stream readers" => stream_readers(lab),
+        "Cutting readers" => cutting_readers(lab),
         _ => Err(no_such_call(name)),
     }
+}
+
+// The calls on keys, items and streams that take no memory.
+fn stream_readers(lab: &Lab) -> Result<Said, Fail> {
+    let (stream, a) = (lab.stream()?, lab.key(b'a')?);
+    lab.begin();
+    let none = Stream::new(lab.alloc).len();
+    let (len, total) = (stream.len(), stream.total());
+    let is_first = match stream.items().first() {
+        Some(item) => *item.key() == a && item.weight() == 5,
+        None => false,
+    };
+    let is_one_byte = a.bytes().len() == 1;
+    lab.end();
+    lab.answer(format_args!("{none} {len} {total} {is_first} {is_one_byte}"))
+}
+
+// The calls on a cutting that take no memory.
+fn cutting_readers(lab: &Lab) -> Result<Said, Fail> {
+    let stream = lab.stream()?;
+    let cutting = Cutting::even(lab.alloc, stream.len(), 3)?;
+    lab.begin();
+    let (count, len) = (cutting.count(), cutting.len());
+    let first = cutting.piece(&stream, 0).len();
+    lab.end();
+    lab.answer(format_args!("{count} {len} {first}"))
 }
 
 fn key_new(lab: &Lab) -> Result<Said, Fail> {

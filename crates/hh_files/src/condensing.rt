@@ -1,6 +1,8 @@
 //! Files condensed by a summary, which workers read in pieces.
 
-ghost use Rattle.std.specs.Prelude.{IfOk, IfErr, OnOk};
+ghost use Rattle.std.specs.Prelude.{◌≡◌, IfOk, IfErr, OnOk, true};
+ghost use Rattle.hh_stream.specs.Ranges.{in_range};
+ghost use Rattle.hh_workers.specs.Workers.{max_workers};
 ghost use Rattle.hh_records.specs.Layouts.{texts_known};
 ghost use Rattle.hh_commands.specs.Bounds.{ComparesBounds};
 ghost use Rattle.hh_commands.specs.Condense.{CondensesRows, TellsAbove};
@@ -50,6 +52,7 @@ pub fn condense_files<T: Threads + Wait + Sync, S: ReadAt + Sync>(
         compared.new.outside) }
     ensures refused { IfErr result (CondenseFilesRefused compared.old.refuses workers file.now
         (texts_known S.bytes records.entry.layout.now records.entry.sources.now)) }
+    ensures workers { OnOk result (in_range workers max_workers ≡ true) }
     ensures told { IfErr result (TellsAbove file.now
         (texts_known S.bytes records.entry.layout.now records.entry.sources.now) compared.new) }
     ensures early { StopsAtHead 1 file.now result }

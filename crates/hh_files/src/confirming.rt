@@ -1,6 +1,8 @@
 //! A summary confirmed by files, which workers read in pieces.
 
-ghost use Rattle.std.specs.Prelude.{IfOk, IfErr, OnOk};
+ghost use Rattle.std.specs.Prelude.{◌≡◌, IfOk, IfErr, OnOk, true};
+ghost use Rattle.hh_stream.specs.Ranges.{in_range};
+ghost use Rattle.hh_workers.specs.Workers.{max_workers};
 ghost use Rattle.hh_records.specs.Layouts.{texts_known};
 ghost use Rattle.hh_commands.specs.Bounds.{ComparesBounds};
 ghost use Rattle.hh_commands.specs.Confirm.{ConfirmsPrinted, TellsCompared};
@@ -52,6 +54,7 @@ pub fn confirm_files<T: Threads + Wait + Sync, S: ReadAt + Sync>(
     ensures refused { IfErr result
         (ConfirmFilesRefused compared.old.refuses share.now workers file.now
         (texts_known S.bytes records.entry.layout.now records.entry.sources.now)) }
+    ensures workers { OnOk result (in_range workers max_workers ≡ true) }
     ensures told { IfErr result (TellsCompared file.now
         (texts_known S.bytes records.entry.layout.now records.entry.sources.now) compared.new) }
     ensures early { StopsAtHead 1 file.now result }

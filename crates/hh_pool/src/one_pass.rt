@@ -24,7 +24,7 @@ use std::thread::Threads;
 
 /// The weight of each candidate in the items of all pieces, at its place, and the total of all
 /// items where there are candidates: without any, no piece is read. Each piece is asked for once;
-/// where a step fails by chance, the calling thread asks for all of them again.
+/// where one was claimed by no worker, the calling thread asks for all of them again.
 ///
 /// It starts the workers, numbered from 0, in threads of their own, and waits for them. It answers
 /// Refused where a piece was refused, or the weights of all pieces add up to more than
@@ -59,8 +59,8 @@ pub fn count_pieces<R: Threads + Wait + Sync, P: Pieces + Sync>(
 }
 
 /// The Count-Min table of the items of all pieces (Cormode and Muthukrishnan 2005). Each worker
-/// fills a table of its own, and these are merged. Each piece is asked for once; where a step fails
-/// by chance, the calling thread asks for all of them again.
+/// fills a table of its own, and these are merged. Each piece is asked for once; where one was
+/// claimed by no worker, the calling thread asks for all of them again.
 ///
 /// It starts the workers, waits for them and answers Refused as [`count_pieces`] does. Where the
 /// items aren't known, the table is one of some items.

@@ -248,8 +248,8 @@ pub fn report_pieces<R: Threads + Wait + Sync, P: Pieces + Sync>(
 /// greatest counters are kept, each less the next one (Agarwal et al. 2012). `hash` decides how fast
 /// keys are found. The counters may differ from run to run, by which worker claims which piece.
 ///
-/// Each piece is asked for once; where a step fails by chance, the calling thread asks for all of
-/// them again. It starts the workers, waits for them and answers Refused as [`report_pieces`] does.
+/// Each piece is asked for once; where one was claimed by no worker, the calling thread asks for all
+/// of them again. It starts the workers, waits for them and answers Refused as [`report_pieces`] does.
 /// Where the items aren't known, the summary is one of some items.
 pub fn summarise_pieces<R: Threads + Wait + Sync, P: Pieces + Sync>(
     rt: &R,

@@ -24,7 +24,7 @@ use hh_faults::{ToolError, TreeFault};
 use hh_pool::{MAX_WORKERS, OpenGate, Options, Plan, PlanFault, RunError, analyse};
 use hh_records::{Records, read_records};
 use hh_rows::{ReportFault, ReportOptions, RowOptions, Sink, Tree, threshold_of, write_printed};
-use hh_stream::{Cutting, MAX_PIECES, Stream, in_range};
+use hh_stream::{Cutting, KeyHash, MAX_PIECES, Stream, in_range};
 use std::alloc::{AllocError, Global};
 use std::io::Read;
 use std::sync::Wait;
