@@ -141,11 +141,15 @@ def library_runs(path: Path) -> dict[str, Callable[[], float]]:
 
     text = path.read_bytes()
     summary = heavy.Summary.of_csv(text, k=K)
+    keys, weights = zip(*(line.rsplit(b",", 1) for line in text.split(b"\n") if line))
+    items = list(keys), list(map(int, weights))
     calls = {
         "C and Python: summarise": lambda: heavy.Summary.of_csv(text, k=K),
         "C and Python: summarise by ss": lambda: heavy.Summary.of_csv(text, k=K, method="ss"),
         "C and Python: confirm": lambda: summary.confirm(text),
         "C and Python: condense": lambda: summary.condense(text),
+        "C and Python: confirm_items": lambda: summary.confirm_items(*items),
+        "C and Python: condense_items": lambda: summary.condense_items(*items),
     }
 
     def timed(call: Callable[[], object]) -> float:

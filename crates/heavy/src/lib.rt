@@ -16,8 +16,9 @@ pub use hh_faults::{
 pub use hh_files::{condense_files, confirm_files, report_files, table_files};
 pub use hh_library::{
     ConfirmFault, add_items, add_text, ask_bytes, ask_key, ask_keys, condense_bytes,
-    condense_items, confirm, confirm_above, confirm_bytes, confirm_items, confirm_share,
-    empty_summary, empty_table, list_entries, list_keys, summary_bytes, table_bytes,
+    condense_bytes_with_hasher, condense_items, confirm, confirm_above, confirm_bytes,
+    confirm_bytes_with_hasher, confirm_items, confirm_share, empty_summary, empty_table,
+    list_entries, list_keys, summary_bytes, summary_bytes_with_hasher, table_bytes,
 };
 pub use hh_pieces::{ReadAt, SourceRecords};
 pub use hh_pool::MAX_WORKERS;
@@ -28,3 +29,4 @@ pub use hh_rows::{
     report_text, write_printed, write_report,
 };
 pub use hh_saved::Place;
+pub use hh_stream::KeyHash;

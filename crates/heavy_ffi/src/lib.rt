@@ -5,6 +5,7 @@
 #![tactic(auto)]
 
 mod fault;
+mod hash;
 mod items;
 mod parts;
 mod room;
@@ -43,14 +44,15 @@ ghost use Rattle.heavy_ffi.specs.Outcomes.{TellsFault, TellsHead, bad_summary, b
 
 pub use fault::Fault;
 use fault::tell;
+use hash::hash_of_call;
 use hh_commands::{Method, describe_file, merge_bytes};
 use hh_counters::laws::summaries_follow_items;
 use hh_countmin::laws::drawn_families_are_families;
 use hh_faults::{SavedFault, ToolError};
 use hh_library::{
-    add_items, add_text, ask_key, ask_keys, condense_bytes, condense_items, confirm_bytes,
-    confirm_items, confirm_share, empty_summary, empty_table, list_entries, list_keys,
-    summary_bytes, table_bytes,
+    add_items, add_text, ask_key, ask_keys, condense_bytes_with_hasher, condense_items,
+    confirm_bytes_with_hasher, confirm_items, confirm_share, empty_summary, empty_table,
+    list_entries, list_keys, summary_bytes_with_hasher, table_bytes,
 };
 use hh_pieces::whole_records;
 use hh_saved::laws::sizes_are_bounded;
@@ -76,7 +78,7 @@ fn summary_by(alloc: Global, text: &[u8], k: u64, method: u32) -> Result<Vec<u8>
         2 => Method::SpaceSaving,
         _ => return Err(ToolError::BadMethod),
     };
-    summary_bytes(alloc, k, method, text)
+    summary_bytes_with_hasher(alloc, k, method, text, hash_of_call())
 }
 
 /// Gives the saved summary of a text's records with k counters, by method 1, Misra-Gries, or 2,
@@ -363,7 +365,7 @@ pub extern "C" fn heavy_confirm(
     ensures early { TellsHead file.now result fault.new }
     ensures no_bytes { result ≢ 0 → result ≢ 5 → needed.new ≡ 0 }
 {
-    let bytes = confirm_bytes(alloc, file, text);
+    let bytes = confirm_bytes_with_hasher(alloc, file, text, hash_of_call());
     answer(bytes, out, needed, fault)
 }
 
@@ -387,7 +389,7 @@ pub extern "C" fn heavy_confirm_above(
     ensures early { TellsHead file.now result fault.new }
     ensures no_bytes { result ≢ 0 → result ≢ 5 → needed.new ≡ 0 }
 {
-    let bytes = confirm_share(alloc, file, p, q, text);
+    let bytes = confirm_share(alloc, file, p, q, text, hash_of_call());
     answer(bytes, out, needed, fault)
 }
 
@@ -410,7 +412,7 @@ pub extern "C" fn heavy_condense(
     ensures early { TellsHead file.now result fault.new }
     ensures no_bytes { result ≢ 0 → result ≢ 5 → needed.new ≡ 0 }
 {
-    let bytes = condense_bytes(alloc, file, text);
+    let bytes = condense_bytes_with_hasher(alloc, file, text, hash_of_call());
     answer(bytes, out, needed, fault)
 }
 
@@ -429,7 +431,7 @@ fn condensed_of(
     ensures early { StopsAtHead 1 file.now result }
 {
     match items_of(alloc, keys, ends, weights) {
-        Ok(items) => condense_items(alloc, file, &items),
+        Ok(items) => condense_items(alloc, file, &items, hash_of_call()),
         Err(_) => Err(refusal_of(alloc, file)),
     }
 }
@@ -483,7 +485,7 @@ fn confirmed_of(
     ensures early { StopsAtHead 1 file.now result }
 {
     match items_of(alloc, keys, ends, weights) {
-        Ok(items) => confirm_items(alloc, file, share, &items),
+        Ok(items) => confirm_items(alloc, file, share, &items, hash_of_call()),
         Err(_) => Err(refusal_of(alloc, file)),
     }
 }

@@ -12,7 +12,7 @@ ghost use Rattle.hh_commands.specs.Records.{IsCountOf};
 use hh_counters::laws::counts_follow_items;
 use hh_counters::{Counts, Summary};
 use hh_faults::{BadRecordCause, ToolError};
-use hh_stream::{MAX_KEY_LEN, MAX_TOTAL};
+use hh_stream::{KeyHash, MAX_KEY_LEN, MAX_TOTAL};
 use std::alloc::Global;
 
 /// What is wrong with the item with this number, behind items of this total.
@@ -36,11 +36,12 @@ pub(crate) fn item_fault(number: u64, total: u64, key: &[u8], weight: u64) -> Op
     Some(ToolError::BadRecord { number, cause })
 }
 
-/// The counts of a summary's keys in items, numbered from 1.
+/// The counts of a summary's keys, hashed by `hash`, in items, numbered from 1.
 pub(crate) fn count_items(
     alloc: Global,
     summary: &Summary,
     items: &[(&[u8], u64)],
+    hash: KeyHash,
 ) -> Result<Counts, ToolError>
     ensures passes { IfOk result (λ counts.
         bad_item 1 0 (map (λ item. (item.0.now, item.1)) items.now) ≡ None) }
@@ -51,7 +52,7 @@ pub(crate) fn count_items(
         (unless (bad_item 1 0 (map (λ item. (item.0.now, item.1)) items.now)) summary.now)) }
 {
     counts_follow_items();
-    let mut counts = Counts::of(alloc, summary)?;
+    let mut counts = Counts::with_hasher(alloc, summary, hash)?;
     for i in 0..items.len() {
         let (key, weight) = items[i];
         if let Some(fault) = item_fault(i as u64 + 1, counts.total(), key, weight) {

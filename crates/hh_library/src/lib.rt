@@ -15,5 +15,6 @@ pub use commands::entries::list_entries;
 pub use commands::grow_table::empty_table;
 pub use commands::keys::{ask_key, ask_keys};
 pub use commands::plain::{
-    ask_bytes, condense_bytes, confirm_above, confirm_bytes, list_keys, summary_bytes, table_bytes,
+    ask_bytes, condense_bytes, condense_bytes_with_hasher, confirm_above, confirm_bytes,
+    confirm_bytes_with_hasher, list_keys, summary_bytes, summary_bytes_with_hasher, table_bytes,
 };

@@ -11,18 +11,20 @@ use hh_counters::is_threshold;
 use hh_faults::ToolError;
 use hh_records::Records;
 use hh_rows::report_text;
+use hh_stream::KeyHash;
 use std::alloc::Global;
 use std::io::Read;
 
 /// [`confirm_above`](crate::confirm_above) a share p/q whose two numbers are given as such, with
 /// 1 <= p <= q <= 4,294,967,296 and p/q at least 1/(k + 1) for the summary's k. Another one is
-/// refused ([`ToolError::BadThreshold`]) before any record is read.
+/// refused ([`ToolError::BadThreshold`]) before any record is read. Keys are hashed by `hash`.
 pub fn confirm_share<R: Read + Drop>(
     alloc: Global,
     file: &[u8],
     p: u64,
     q: u64,
     reader: R,
+    hash: KeyHash,
 ) -> Result<Vec<u8>, ToolError>
     ensures rows { IfOk result (λ rows.
         ConfirmsShare p q file.now (text_known (R.remaining reader)) rows.items) }
@@ -34,6 +36,7 @@ pub fn confirm_share<R: Read + Drop>(
     if !is_threshold(summary.k(), p, q) {
         return Err(ToolError::BadThreshold);
     }
-    let rows = confirm_records(alloc, &summary, p, q, Records::of_reader(alloc, reader))?;
+    let records = Records::with_hasher(alloc, reader, hash);
+    let rows = confirm_records(alloc, &summary, p, q, records)?;
     Ok(report_text(alloc, &rows)?)
 }

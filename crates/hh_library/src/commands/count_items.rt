@@ -12,11 +12,13 @@ use hh_commands::{condensed_rows, rows_above, summary_in};
 use hh_counters::{Summary, is_threshold};
 use hh_faults::ToolError;
 use hh_rows::{condensed_text, report_text};
+use hh_stream::KeyHash;
 use std::alloc::Global;
 
 /// [`condense_bytes`](crate::condense_bytes) of items in memory, each a key and its weight: records
 /// that say the same of the summary's keys. So a second pass may go over a stream in parts, and
-/// the condensed records of the parts, joined in any order, are confirmed as the stream is.
+/// the condensed records of the parts, joined in any order, are confirmed as the stream is. Keys are
+/// hashed by `hash`.
 ///
 /// The file is tested first ([`ToolError::BadFile`], as file 1), then its kind
 /// ([`ToolError::NotCounters`]), and then the items in order, numbered from 1
@@ -26,6 +28,7 @@ pub fn condense_items(
     alloc: Global,
     file: &[u8],
     items: &[(&[u8], u64)],
+    hash: KeyHash,
 ) -> Result<Vec<u8>, ToolError>
     ensures rows { IfOk result (λ rows.
         condensed_items file.now (map (λ item. (item.0.now, item.1)) items.now) ≡ Ok rows.items) }
@@ -34,7 +37,7 @@ pub fn condense_items(
     ensures early { StopsAtHead 1 file.now result }
 {
     let summary = summary_in(alloc, file)?;
-    let counts = count_items(alloc, &summary, items)?;
+    let counts = count_items(alloc, &summary, items, hash)?;
     let rows = condensed_rows(alloc, &summary, &counts)?;
     Ok(condensed_text(alloc, &rows)?)
 }
@@ -63,6 +66,7 @@ fn confirmed_items_text(
     summary: &Summary,
     share: (u64, u64),
     items: &[(&[u8], u64)],
+    hash: KeyHash,
 ) -> Result<Vec<u8>, ToolError>
     requires { IsShare share.0 share.1 }
     ensures rows { IfOk result (λ rows. confirmed_in summary.now (Some share)
@@ -70,7 +74,7 @@ fn confirmed_items_text(
     ensures refused { IfErr result (Refuses (confirmed_in summary.now (Some share)
         (map (λ item. (item.0.now, item.1)) items.now))) }
 {
-    let counts = count_items(alloc, summary, items)?;
+    let counts = count_items(alloc, summary, items, hash)?;
     if summary.total() != counts.total() {
         return Err(ToolError::TotalDiffers);
     }
@@ -80,7 +84,7 @@ fn confirmed_items_text(
 
 /// [`confirm_share`](crate::confirm_share) over items in memory, each a key and its weight, which
 /// are those of the summary's stream, and of any stream that has its keys' weights and its total.
-/// Without a share it is 1/(k + 1), the least for the summary's k.
+/// Without a share it is 1/(k + 1), the least for the summary's k. Keys are hashed by `hash`.
 ///
 /// The file is tested first ([`ToolError::BadFile`], as file 1), then its kind
 /// ([`ToolError::NotCounters`]), then the share ([`ToolError::BadThreshold`]), then the items in
@@ -90,6 +94,7 @@ pub fn confirm_items(
     file: &[u8],
     share: Option<(u64, u64)>,
     items: &[(&[u8], u64)],
+    hash: KeyHash,
 ) -> Result<Vec<u8>, ToolError>
     ensures rows { IfOk result (λ rows. confirmed_items share file.now
         (map (λ item. (item.0.now, item.1)) items.now) ≡ Ok rows.items) }
@@ -101,5 +106,5 @@ pub fn confirm_items(
     let Some(share) = share_or_least(share, summary.k()) else {
         return Err(ToolError::BadThreshold);
     };
-    confirmed_items_text(alloc, &summary, share, items)
+    confirmed_items_text(alloc, &summary, share, items, hash)
 }

@@ -25,10 +25,12 @@ use hh_commands::{
 use hh_faults::ToolError;
 use hh_records::Records;
 use hh_rows::{RowOptions, Share, report_text};
+use hh_stream::KeyHash;
 use std::alloc::Global;
 use std::io::Read;
 
-/// [`summary_bytes_from`](hh_commands::summary_bytes_from) of the records of a reader.
+/// [`summary_bytes_from`](hh_commands::summary_bytes_from) of the records of a reader. Keys are
+/// hashed by the words that all runs have.
 pub fn summary_bytes<R: Read + Drop>(
     alloc: Global,
     k: u64,
@@ -41,7 +43,25 @@ pub fn summary_bytes<R: Read + Drop>(
         RefusedAfter (bad_k k) (text_known (R.remaining reader)) fault) }
     ensures bad_k { IfSome (bad_k k) (λ fault. result ≡ Err fault) }
 {
-    summary_bytes_from(alloc, k, method, Records::of_reader(alloc, reader))
+    summary_bytes_with_hasher(alloc, k, method, reader, KeyHash::fixed())
+}
+
+/// [`summary_bytes`], with keys hashed by `hash`. It decides how fast a key is found, and no byte.
+pub fn summary_bytes_with_hasher<R: Read + Drop>(
+    alloc: Global,
+    k: u64,
+    method: Method,
+    reader: R,
+    hash: KeyHash,
+) -> Result<Vec<u8>, ToolError>
+    ensures saved { IfOk result (λ bytes. SavesStream (λ xs. Counters (sketch_of k xs))
+        (text_known (R.remaining reader)) bytes.items) }
+    ensures refused { IfErr result (λ fault.
+        RefusedAfter (bad_k k) (text_known (R.remaining reader)) fault) }
+    ensures bad_k { IfSome (bad_k k) (λ fault. result ≡ Err fault) }
+{
+    let records = Records::with_hasher(alloc, reader, hash);
+    summary_bytes_from(alloc, k, method, records)
 }
 
 /// [`table_bytes_from`](hh_commands::table_bytes_from) of the records of a reader.
@@ -82,7 +102,7 @@ pub fn list_keys(alloc: Global, file: &[u8]) -> Result<Vec<u8>, ToolError>
 }
 
 /// [`condense_bytes_from`](hh_commands::condense_bytes_from) of the records of a reader, where a
-/// key outside its bounds refuses nothing.
+/// key outside its bounds refuses nothing. Keys are hashed by the words that all runs have.
 pub fn condense_bytes<R: Read + Drop>(
     alloc: Global,
     file: &[u8],
@@ -94,12 +114,29 @@ pub fn condense_bytes<R: Read + Drop>(
         CondenseRefused file.now (text_known (R.remaining reader)) fault) }
     ensures early { StopsAtHead 1 file.now result }
 {
-    let records = Records::of_reader(alloc, reader);
+    condense_bytes_with_hasher(alloc, file, reader, KeyHash::fixed())
+}
+
+/// [`condense_bytes`], with keys hashed by `hash`. It decides how fast a key is found, and no byte.
+pub fn condense_bytes_with_hasher<R: Read + Drop>(
+    alloc: Global,
+    file: &[u8],
+    reader: R,
+    hash: KeyHash,
+) -> Result<Vec<u8>, ToolError>
+    ensures rows { IfOk result (λ rows.
+        CondensesRows 0 file.now (text_known (R.remaining reader)) rows.items) }
+    ensures refused { IfErr result (λ fault.
+        CondenseRefused file.now (text_known (R.remaining reader)) fault) }
+    ensures early { StopsAtHead 1 file.now result }
+{
+    let records = Records::with_hasher(alloc, reader, hash);
     condense_bytes_from(alloc, file, records, &mut Comparison::new(false))
 }
 
 /// The report text of the saved summary's keys that are heavy in the stream of the reader's
-/// records, as [`confirm`](crate::confirm) finds them.
+/// records, as [`confirm`](crate::confirm) finds them. Keys are hashed by the words that all runs
+/// have.
 pub fn confirm_bytes<R: Read + Drop>(
     alloc: Global,
     file: &[u8],
@@ -111,9 +148,26 @@ pub fn confirm_bytes<R: Read + Drop>(
         ConfirmRefused file.now (text_known (R.remaining reader)) fault) }
     ensures early { StopsAtHead 1 file.now result }
 {
+    confirm_bytes_with_hasher(alloc, file, reader, KeyHash::fixed())
+}
+
+/// [`confirm_bytes`], with keys hashed by `hash`. It decides how fast a key is found, and no byte.
+pub fn confirm_bytes_with_hasher<R: Read + Drop>(
+    alloc: Global,
+    file: &[u8],
+    reader: R,
+    hash: KeyHash,
+) -> Result<Vec<u8>, ToolError>
+    ensures rows { IfOk result (λ rows.
+        ConfirmsRows file.now (text_known (R.remaining reader)) rows.items) }
+    ensures refused { IfErr result (λ fault.
+        ConfirmRefused file.now (text_known (R.remaining reader)) fault) }
+    ensures early { StopsAtHead 1 file.now result }
+{
     let summary = summary_in(alloc, file)?;
     let q = summary.k() + 1;
-    let rows = confirm_records(alloc, &summary, 1, q, Records::of_reader(alloc, reader))?;
+    let records = Records::with_hasher(alloc, reader, hash);
+    let rows = confirm_records(alloc, &summary, 1, q, records)?;
     Ok(report_text(alloc, &rows)?)
 }
 
