@@ -13,7 +13,7 @@ pub use hh_counters::Heavy;
 pub use hh_faults::{
     BadRecordCause, KeyCause, MergeCause, ReadError, ToolError, Totals, TreeFault, WriteFault,
 };
-pub use hh_files::{condense_files, confirm_files, report_files, table_files};
+pub use hh_files::{condense_files, confirm_files, report_files, summarise_files, table_files};
 pub use hh_library::{
     ConfirmFault, add_items, add_text, ask_bytes, ask_key, ask_keys, condense_bytes,
     condense_bytes_with_hasher, condense_items, confirm, confirm_above, confirm_bytes,

@@ -5,3 +5,4 @@ pub mod ShareFacts
 pub mod SourceReportFacts
 pub mod TableFacts
 pub mod WeighFacts
+pub mod SummaryFacts

@@ -1,3 +1,4 @@
 pub mod FilePasses
 pub mod ReportFiles
 pub mod TableFiles
+pub mod SummaryFiles

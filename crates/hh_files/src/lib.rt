@@ -1,5 +1,5 @@
 //! Files of any size, which workers read in pieces in threads of their own: exact reports of them,
-//! and the passes that make a table, confirm a summary and condense records.
+//! and the passes that make a summary or a table, confirm a summary and condense records.
 #![tactic(auto)]
 
 mod condensing;
@@ -7,9 +7,11 @@ mod confirming;
 mod file_passes;
 mod file_pieces;
 mod reporting;
+mod summarising;
 mod tabulating;
 
 pub use condensing::condense_files;
 pub use confirming::confirm_files;
 pub use reporting::report_files;
+pub use summarising::summarise_files;
 pub use tabulating::table_files;

@@ -1,0 +1,12 @@
+use Rattle.hh_records.specs.Layouts.{every, names_columns}
+use Rattle.hh_files.proofs.SummaryFacts.{pieces_summarise}
+use Rattle.hh_files.proofs.summarising.summary_side_by_side.Goals as goal
+
+pub returns-in-Ok : goal.returns-in-Ok
+returns-in-Ok g c =
+    let layout = c.args.records.layout.now in
+    let files = c.new-pieces.result.files in
+    let read = rw (← c.new-pieces.ensures) at (rw c.in-Some.is at c.in_ok-files.ensures.read) in
+    pieces_summarise c.args.k c.in-Ok.summary layout (names_columns layout)
+    (every g.S.ReadAt.bytes c.args.records.sources.now) files.count files.pieces read c.in-Ok.ensures.k
+    c.in-Ok.ensures.some c.in-Ok.ensures.honest c.in-Ok.ensures.total

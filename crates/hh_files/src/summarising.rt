@@ -1,0 +1,142 @@
+//! Files summarised, which workers read in pieces.
+
+ghost use Rattle.std.specs.Prelude.{◌≡◌, true, IfOk, IfErr, IfSome, Err};
+ghost use Rattle.hh_stream.specs.Ranges.{in_range};
+ghost use Rattle.hh_summaries.specs.Counters.{max_k, sketch_of};
+ghost use Rattle.hh_workers.specs.Workers.{max_workers};
+ghost use Rattle.hh_saved.specs.declared.saved.Saved.TheVariants.{Counters};
+ghost use Rattle.hh_records.specs.Layouts.{texts_known};
+ghost use Rattle.hh_records.specs.Refusals.{RecordsRefused, RefusedAfter};
+ghost use Rattle.hh_commands.specs.Records.{SavesStream};
+ghost use Rattle.hh_files.specs.SummaryFiles.{SavesSummary, SummarisesRecords};
+ghost use Rattle.hh_files.specs.SummaryFiles.{bad_summary_of_files};
+
+use crate::file_pieces::FilePieces;
+use hh_commands::{Method, summary_by_monitoring, summary_bytes_from};
+use hh_counters::laws::misra_gries_is_honest;
+use hh_counters::{MAX_K, Summary};
+use hh_faults::ToolError;
+use hh_pieces::{CutFiles, ReadAt, SourceRecords, are_as_long, lengths};
+use hh_pool::{MAX_WORKERS, PieceFault, summarise_pieces};
+use hh_records::ReadRecords;
+use hh_reports::piece_count;
+use hh_saved::{Saved, write};
+use hh_stream::in_range;
+use std::alloc::{AllocError, Global};
+use std::sync::Wait;
+use std::thread::Threads;
+
+/// The summary of records in files, by workers, where each piece of the files can be read by
+/// itself.
+fn summary_side_by_side<T: Threads + Wait + Sync, S: ReadAt + Sync>(
+    rt: &T,
+    alloc: Global,
+    k: u64,
+    workers: u64,
+    records: SourceRecords<'_, S>,
+) -> Result<Option<Summary>, AllocError>
+    requires k { in_range k max_k ≡ true }
+    requires workers { in_range workers max_workers ≡ true }
+    ensures { IfOk result (λ summary. IfSome summary (SummarisesRecords k
+        (texts_known S.bytes records.entry.layout.now records.entry.sources.now))) }
+{
+    let most = piece_count(workers, records.sources.len());
+    let Some(files) = CutFiles::new(alloc, records.layout, records.sources, most)? else {
+        return Ok(None);
+    };
+    let pieces = FilePieces::new(files);
+    match summarise_pieces(rt, alloc, &pieces, k, records.layout.hash, workers) {
+        Ok(summary) => Ok(Some(summary)),
+        Err(PieceFault::Refused) => Ok(None),
+        Err(PieceFault::Memory) => Err(AllocError),
+    }
+}
+
+/// The same of any records by one thread, item by item.
+fn summary_in_turn<R: ReadRecords>(
+    alloc: Global,
+    k: u64,
+    records: R,
+) -> Result<Summary, ToolError>
+    requires { in_range k max_k ≡ true }
+    ensures summary { IfOk result (SummarisesRecords k (R.known records)) }
+    ensures refused { IfErr result (λ fault. RecordsRefused (R.known records) fault) }
+{
+    misra_gries_is_honest();
+    summary_by_monitoring(alloc, k, records)
+}
+
+/// The summary of records in files. Workers read the files in pieces, once; where a piece can't be
+/// read by itself, or a length changes meanwhile, one thread reads them from their starts.
+fn summary_of_sources<T: Threads + Wait + Sync, S: ReadAt + Sync>(
+    rt: &T,
+    alloc: Global,
+    k: u64,
+    workers: u64,
+    records: SourceRecords<'_, S>,
+) -> Result<Summary, ToolError>
+    requires k { in_range k max_k ≡ true }
+    requires workers { in_range workers max_workers ≡ true }
+    ensures summary { IfOk result (SummarisesRecords k
+        (texts_known S.bytes records.entry.layout.now records.entry.sources.now)) }
+    ensures refused { IfErr result (RecordsRefused
+        (texts_known S.bytes records.entry.layout.now records.entry.sources.now)) }
+{
+    let before = lengths(alloc, records.sources)?;
+    let Some(summary) = summary_side_by_side(rt, alloc, k, workers, records)? else {
+        return summary_in_turn(alloc, k, records);
+    };
+    if !are_as_long(alloc, records.sources, &before)? {
+        return summary_in_turn(alloc, k, records);
+    }
+    Ok(summary)
+}
+
+/// The saved summary of files of any size, or other bytes that are read at any place: one with `k`
+/// counters that promises what [`summary_bytes_from`](hh_commands::summary_bytes_from)'s does, and
+/// is merged, asked, listed, confirmed and condensed by as that one is.
+///
+/// One worker makes the very bytes of that call. Two or more read the files in pieces, through a
+/// buffer each, and once; each tallies the items of its pieces, and the `k` greatest counters of
+/// all are kept, each less the next one. Within what a summary promises they may differ from run
+/// to run, by which worker reads which piece. Nothing of a file is kept. Where a piece can't be
+/// read by itself, or a file's length changes meanwhile, one thread reads all files from their
+/// starts, so that the first refusal is told with its number.
+///
+/// k is tested first ([`ToolError::BadK`]), then the workers, of whom there are 1 to 64
+/// ([`ToolError::BadWorkers`]), and then come the records ([`ToolError::ReadFault`],
+/// [`ToolError::NoColumn`], [`ToolError::BadRecord`]).
+///
+/// Where the bytes of all files are known, the summary is one of their records, one file after the
+/// other. A file of the system may change while it is read, which can't be seen where its length
+/// stays the same.
+pub fn summarise_files<T: Threads + Wait + Sync, S: ReadAt + Sync>(
+    rt: &T,
+    alloc: Global,
+    k: u64,
+    workers: u64,
+    records: SourceRecords<'_, S>,
+) -> Result<Vec<u8>, ToolError>
+    ensures saved { IfOk result (λ bytes. SavesSummary k
+        (texts_known S.bytes records.entry.layout.now records.entry.sources.now) bytes.items) }
+    ensures one_worker { workers ≡ 1 → IfOk result (λ bytes.
+        SavesStream (λ xs. Counters (sketch_of k xs))
+        (texts_known S.bytes records.entry.layout.now records.entry.sources.now) bytes.items) }
+    ensures refused { IfErr result (RefusedAfter (bad_summary_of_files k workers)
+        (texts_known S.bytes records.entry.layout.now records.entry.sources.now)) }
+    ensures bad_option { IfSome (bad_summary_of_files k workers)
+        (λ fault. result ≡ Err fault) }
+{
+    misra_gries_is_honest();
+    if !in_range(k, MAX_K) {
+        return Err(ToolError::BadK);
+    }
+    if !in_range(workers, MAX_WORKERS) {
+        return Err(ToolError::BadWorkers);
+    }
+    if workers == 1 {
+        return summary_bytes_from(alloc, k, Method::MisraGries, records);
+    }
+    let summary = summary_of_sources(rt, alloc, k, workers, records)?;
+    Ok(write(alloc, &Saved::Counters(summary))?)
+}
