@@ -14,7 +14,7 @@ _heavy() {
   esac
   case ${COMP_WORDS[1]} in
     report) options='--k --threshold --top --share --delimiter --header --key --weight --allow-zero --decimals --workers --pieces --tree --width --depth --seed --progress --explain' ;;
-    summarise) options='--k --method --delimiter --header --key --weight --allow-zero --decimals --progress --explain' ;;
+    summarise) options='--k --method --workers --delimiter --header --key --weight --allow-zero --decimals --progress --explain' ;;
     table) options='--width --depth --seed --workers --delimiter --header --key --weight --allow-zero --decimals --progress --explain' ;;
     merge | describe) options='--explain' ;;
     ask | list) options='--decimals --explain' ;;

@@ -174,7 +174,8 @@ class CommandLine(programs.Checks):
         for method in ([], ["--method", "mg"], ["--method", "ss"]):
             expected = reference.answer(reference.summarise, MANY, 100)
             self.expect(["summarise", *method], expected, MANY)
-            self.expect(["summarise", "--k", "2", *method], (0, ONE_IN_2, b""))
+            for workers in ([], ["--workers", "1"], ["--workers", "4"]):
+                self.expect(["summarise", "--k", "2", *method, *workers], (0, ONE_IN_2, b""))
 
     def test_texts(self) -> None:
         """Texts with their reports, with the first record that is bad, and condensed, each written by hand."""
@@ -361,7 +362,7 @@ class CommandLine(programs.Checks):
 
     def test_hidden_options(self) -> None:
         """Options of a report that its rows don't show. Without an option of a plan the workers start once where there are at
-        most 4,096 keys, and once more where there are more. With one, each of two passes starts them; a worker's table takes
+        most 4,096 keys of 4 MiB, and once more where there are more. With one, each of two passes starts them; a worker's table takes
         8 bytes for each cell, and the shared words are those cells and a claim for each piece. By the seed keys meet in other
         cells, and so more or fewer of them are counted in the second pass."""
         library = programs.preloaded("watch.c", self.room)
@@ -371,6 +372,9 @@ class CommandLine(programs.Checks):
         ]:
             told = watched(self.program, library, ["report", *words], b"".join(b"k%d\n" % number for number in range(count)))
             self.check(f"report {' '.join(words)} of {count} keys", told.count(0) == threads, told)
+        for count, threads in ((1024, 4), (1025, 8)):
+            told = watched(self.program, library, ["report"], b"".join(b"%04096d\n" % number for number in range(count)))
+            self.check(f"report of {count} keys of the most bytes", told.count(0) == threads, told)
         for words, workers, pieces, cells in [
             (["--pieces", "19"], 4, 19, 1024 * 4), (["--workers", "5", "--pieces", "27"], 5, 27, 1024 * 4),
             (["--width", "1100"], 4, 4, 1100 * 4), (["--depth", "12"], 4, 4, 1024 * 12), (["--seed", "3"], 4, 4, 1024 * 4),
@@ -397,9 +401,10 @@ class CommandLine(programs.Checks):
         one, two, empty = [f"{self.room}/{name}" for name in ("one", "two", "empty")]
         for path, text in ((one, RECORDS[:8]), (two, RECORDS[8:]), (empty, b"")):
             Path(path).write_bytes(text)
-        for command in (["table"], ["condense", f"{self.room}/saved"], ["confirm", f"{self.room}/saved"]):
+        saved = f"{self.room}/saved"
+        for command, default in ((["summarise"], 0), (["table"], 4), (["condense", saved], 4), (["confirm", saved], 4)):
             for words, given, threads in [
-                ([one, two], b"", 4), (["--workers", "6", one, two], b"", 6), (["--workers", "6", one, "-"], RECORDS[8:], 0),
+                ([one, two], b"", default), (["--workers", "6", one, two], b"", 6), (["--workers", "6", one, "-"], RECORDS[8:], 0),
                 ([one, two, empty], b"", 0), ([], RECORDS, 0),
             ]:
                 status = self.heavy([*command, *words], given)[0]

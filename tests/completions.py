@@ -64,7 +64,7 @@ class Told:
     commands: set[str]
     # of each command, and of "", the program itself
     options: dict[str, set[str]]
-    numbers: dict[str, tuple[str, str, str]]
+    numbers: dict[str, set[tuple[str, str, str]]]
 
 
 def spelled(help: str) -> set[str]:
@@ -84,7 +84,7 @@ def told_by(program: str) -> Told:
     for help in helps.values():
         for option in re.split(r"\n +(?=-)", help):
             if found := NUMBERS.search(option):
-                numbers[option.split()[0]] = found.groups()
+                numbers.setdefault(option.split()[0], set()).add(found.groups())
     options = {"": spelled(whole), "help": set(), **{name: spelled(help) for name, help in helps.items()}}
     return Told(said("--version").split()[-1], commands, options, numbers)
 
@@ -104,8 +104,9 @@ def man_faults(text: str, told: Told) -> list[str]:
     faults += differ("OPTIONS", set(re.findall(r"(?<![\w-])--?[A-Za-z-]+", heads)), every)
     for option, numbers in told.numbers.items():
         found = re.search(rf"^\.B\w* {option}\b.*\n((?:(?!\.TP).*\n)*)", section["OPTIONS"], re.MULTILINE)
-        range = re.search(r"from (\d+) to (\d+)\.\n(?:.*\n)*?Default (\d+)\.", found[1] if found else "")
-        faults += differ(f"range and default of {option}", range and range.groups(), numbers)
+        range = re.search(r"from (\d+) to (\d+)\.\n(?:.*\n)*?Default (.*)\.\n", found[1] if found else "")
+        defaults = {(range[1], range[2], default) for default in re.findall(r"\d+", range[3])} if range else set()
+        faults += differ(f"range and defaults of {option}", defaults, numbers)
     version = re.search(r'^\.TH HEAVY 1 \S+ "heavy (\S+)"', text, re.MULTILINE)
     return faults + differ("version", version and version[1], told.version)
 

@@ -275,6 +275,8 @@ class OnePassFiles(programs.Checks):
         files, none = self.files(b"a,5\n", b"b,0\n"), f"{self.room}/none"
         workers, share = b"workers must be 1 to 64", b"threshold must be P/Q with 1 <= P <= Q <= 4294967296 and P*(K+1) >= Q"
         for words, status, text in [
+            (["summarise"], 2, workers), (["summarise", "--k", "0"], 2, b"k must be 1 to 65535"),
+            (["summarise", "--k", "0", "--method", "x"], 2, b"method must be mg or ss"),
             (["table"], 2, workers), (["table", "--depth", "0", "--width", "0"], 2, b"depth must be 1 to 16"),
             (["table", "--width", "0"], 2, b"width must be 1 to 65536"), (["condense", saved], 2, workers),
             (["condense", table], 3, b"file 1: not a counter summary"), (["confirm", saved], 2, workers),
@@ -285,7 +287,7 @@ class OnePassFiles(programs.Checks):
                     ended = programs.run([self.program, *words, *paths, "--workers", number], b"c,0\n")
                     holds = (ended.status, ended.out, ended.err) == (status, b"", b"heavy: %s\n" % text)
                     self.check(f"{words} of {paths} by {number}", holds, ended)
-        for place, words in ((3, ["table"]), (4, ["condense", saved]), (4, ["confirm", saved])):
+        for place, words in ((3, ["summarise"]), (3, ["table"]), (4, ["condense", saved]), (4, ["confirm", saved])):
             ended = programs.run([self.program, *words, *files, none, "--workers", "0"])
             told = b"heavy: file %d: could not be read\n" % place
             self.check(f"{words} of a file that is missing", (ended.status, ended.out, ended.err) == (1, b"", told), ended)

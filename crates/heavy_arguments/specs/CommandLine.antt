@@ -132,7 +132,7 @@ program_app = program_of (
     command (codes "report") (reading ++ number (codes "k") ∷ rows ++ records ∷ columns
     ++ workers ∷ number (codes "pieces") ∷ option (codes "tree") ∷ grid)
     ∷ command (codes "summarise")
-    (reading ++ number (codes "k") ∷ option (codes "method") ∷ records ∷ columns)
+    (reading ++ number (codes "k") ∷ option (codes "method") ∷ workers ∷ records ∷ columns)
     ∷ command (codes "table") (reading ++ grid ++ workers ∷ records ∷ columns)
     ∷ command (codes "merge") (flag (codes "explain") ∷ some_words (codes "FILE") ∷ [])
     ∷ command (codes "ask") (flag (codes "explain") ∷ digit (codes "decimals") ∷ saved

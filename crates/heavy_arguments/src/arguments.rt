@@ -78,6 +78,13 @@ pub const WORKERS: Number = Number {
     default: 4,
 };
 
+/// The workers of a summary: one makes the bytes that its definition says.
+pub const SUMMARY_WORKERS: Number = Number {
+    name: "workers",
+    help: "Threads that work at once, from 1 to 64 [default: 1]",
+    default: 1,
+};
+
 pub const PIECES: Number = Number {
     name: "pieces",
     help: "Pieces that the records are cut into, from 1 to 1024 [default: 4]",
@@ -255,11 +262,12 @@ const REPORT_GROUPS: [Group; 2] = [
 
 const RECORD_GROUPS: [Group; 1] = [COLUMN_GROUP];
 
-const SUMMARISE_ARGUMENTS: [Argument; 5] = [
+const SUMMARISE_ARGUMENTS: [Argument; 6] = [
     EXPLAIN_FLAG,
     PROGRESS_FLAG,
     Argument::Number(K),
     METHOD,
+    Argument::Number(SUMMARY_WORKERS),
     RECORD_FILES,
 ];
 

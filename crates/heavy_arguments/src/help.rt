@@ -57,7 +57,10 @@ pub const SUMMARISE: Help = Help {
     about: "Write a summary of records to standard output",
     whole: "Write a summary of records to standard output: at most k counters, for `heavy ask`,
 `heavy confirm` and `heavy merge`. Records are those of the files, or of standard
-input. It holds one record at a time, so input can be larger than memory.",
+input. No record is kept, so input can be larger than memory. With --workers 2 or
+more, workers read files in pieces. Their counters keep the same bounds but may differ
+from run to run, and --method changes nothing. One thread reads standard input, and
+all files where one of them is a pipe, a device or empty.",
     end: "Exit status: 0 the summary is whole; 1 input or a file could not be read or output
 not be written; 2 an option is refused; 3 a record is refused, or a header has no
 such column; 4 out of memory.

@@ -8,5 +8,5 @@ mod options;
 
 pub use arguments::{
     ALLOW_ZERO, DECIMALS, DELIMITER, DEPTH, EXPLAIN, HEADER, K, KEY, Number, PIECES, PROGRESS,
-    RECORDS, SEED, SHARE, TOP, WEIGHT, WIDTH, WORKERS, command_line,
+    RECORDS, SEED, SHARE, SUMMARY_WORKERS, TOP, WEIGHT, WIDTH, WORKERS, command_line,
 };

@@ -12,13 +12,33 @@ use hh_commands::{
     merge_bytes, summary_bytes_from, table_bytes_from,
 };
 use hh_faults::ToolError;
-use hh_files::{condense_files, confirm_files, report_files, table_files};
+use hh_files::{condense_files, confirm_files, report_files, summarise_files, table_files};
 use hh_reports::{check_options, report_rows};
 use hh_rows::{Out, ReportOptions, RowOptions, Share, put};
 use std::cell::Cell;
 use std::process::ExitCode;
 use std::sync::Wait;
 use std::thread::Threads;
+
+/// The bytes that `summarise` is answered by.
+fn summarise_answer<T: Threads + Wait + Sync>(
+    threads: &T,
+    inputs: Inputs<'_>,
+    records: &RecordWords,
+    k: u64,
+    method: &[u8],
+    workers: u64,
+) -> Result<Vec<u8>, ToolError> {
+    let alloc = inputs.rt.alloc();
+    let method = Method::of(method)?;
+    if workers == 1 {
+        return summary_bytes_from(alloc, k, method, inputs.records(records, 0)?);
+    }
+    match inputs.once(records, 0, workers)? {
+        Once::Files(files) => summarise_files(threads, alloc, k, workers, files.records()),
+        Once::Stream(records) => summary_bytes_from(alloc, k, method, records),
+    }
+}
 
 /// The bytes that `table` is answered by.
 fn table_answer<T: Threads + Wait + Sync>(
@@ -93,9 +113,8 @@ fn answer<T: Threads + Wait + Sync>(
 ) -> Result<Vec<u8>, ToolError> {
     let alloc = inputs.rt.alloc();
     match command {
-        Command::Summarise { k, method } => {
-            let method = Method::of(method)?;
-            summary_bytes_from(alloc, *k, method, inputs.records(records, 0)?)
+        Command::Summarise { k, method, workers } => {
+            summarise_answer(threads, inputs, records, *k, method, *workers)
         }
         Command::Table {
             width,

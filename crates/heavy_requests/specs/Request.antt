@@ -100,9 +100,10 @@ pub record AreTableOptions (found : Found) (width depth seed workers : ℕ) : Ty
   pub workers_given : IsNumberOf found (codes "workers") 4 workers
 
 -- the options of a summary
-pub record AreSummaryOptions (found : Found) (k : ℕ) (method : List ℕ) : Type 0 where
+pub record AreSummaryOptions (found : Found) (k : ℕ) (method : List ℕ) (workers : ℕ) : Type 0 where
   pub k_given : IsNumberOf found (codes "k") 100 k
   pub method_given : method ≡ first_word (codes "mg") found (codes "method")
+  pub workers_given : IsNumberOf found (codes "workers") 1 workers
 
 -- the first of the files and the others, in their order
 pub record AreFiles (found : Found) (first : List ℕ) (others : List (List ℕ)) : Type 0 where
@@ -116,7 +117,8 @@ pub record AreKeys (found : Found) (file : List ℕ) (keys : List (List ℕ)) : 
 
 -- what the command with a name asks for, but for a report
 abbrev pub Answers : Text → Found → Command → Type 0
-Answers name found (Summarise k method) = (name ≡ codes "summarise") × AreSummaryOptions found k method.items
+Answers name found (Summarise k method workers) =
+    (name ≡ codes "summarise") × AreSummaryOptions found k method.items workers
 Answers name found (Table width depth seed workers) =
     (name ≡ codes "table") × AreTableOptions found width depth seed workers
 Answers name found (Merge first others) = (name ≡ codes "merge") × AreFiles found first.items (map (λ w. w.items) others.items)

@@ -14,7 +14,7 @@ use clap::error::ErrorKind;
 use clap::{ArgMatches, Error};
 use heavy_arguments::{
     ALLOW_ZERO, DECIMALS, DELIMITER, DEPTH, EXPLAIN, HEADER, K, KEY, PIECES, PROGRESS, RECORDS,
-    SEED, SHARE, TOP, WEIGHT, WIDTH, WORKERS, command_line,
+    SEED, SHARE, SUMMARY_WORKERS, TOP, WEIGHT, WIDTH, WORKERS, command_line,
 };
 use heavy_host::{WordSource, behind_first, bytes_of, read_words, texts_of};
 use hh_records::LayoutWords;
@@ -81,6 +81,7 @@ impl Request {
     pub fn passes(&self) -> u64 {
         match self {
             Request::Report { .. } => 2,
+            Request::Answer(Command::Summarise { workers, .. }) => u64::from(*workers != 1),
             Request::Answer(Command::Table { .. }) => 1,
             Request::Answer(Command::Condense { .. } | Command::Confirm { .. }) => 1,
             Request::Answer(_) => 0,
@@ -95,6 +96,7 @@ pub enum Command {
     Summarise {
         k: u64,
         method: Vec<u8>,
+        workers: u64,
     },
     /// The saved table of standard input.
     Table {
@@ -339,6 +341,7 @@ fn summarise(alloc: Global, found: &ArgMatches) -> Result<Request, AllocError>
     Ok(Request::Answer(Command::Summarise {
         k: K.of(found),
         method,
+        workers: SUMMARY_WORKERS.of(found),
     }))
 }
 

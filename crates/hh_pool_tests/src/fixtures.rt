@@ -77,7 +77,7 @@ pub(crate) fn has_cells(table: &Table) -> bool {
     table.total() == 11 && table.cells() == [2, 0, 6, 3, 0, 2, 3, 6].as_slice()
 }
 
-fn lists_a(heavy: &[Heavy]) -> bool {
+pub(crate) fn lists_a(heavy: &[Heavy]) -> bool {
     if heavy.len() != 1 {
         return false;
     }
@@ -85,7 +85,8 @@ fn lists_a(heavy: &[Heavy]) -> bool {
     row.key.bytes() == b"a".as_slice() && row.weight == 6
 }
 
-fn has_counters(rt: &(impl Abort + AllocGlobal), summary: &Summary) -> bool {
+// Whether the summary is that of the four items for k = 2.
+pub(crate) fn has_counters(rt: &(impl Abort + AllocGlobal), summary: &Summary) -> bool {
     let a = counter_of(rt, summary, b"a");
     let b = counter_of(rt, summary, b"b");
     (summary.len(), a, b) == (2, 4, 1)

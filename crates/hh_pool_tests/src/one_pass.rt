@@ -1,9 +1,12 @@
 //! One pass over the four items in two pieces, by two workers.
 
-use crate::fixtures::{assert_same, candidates_of, four_items, has_cells, plain_family};
+use crate::fixtures::{
+    assert_same, candidates_of, four_items, has_cells, has_counters, plain_family,
+};
+use hh_counters::Summary;
 use hh_countmin::Table;
-use hh_pool::{CutStream, count_pieces, tabulate_pieces};
-use hh_stream::Cutting;
+use hh_pool::{CutStream, count_pieces, summarise_pieces, tabulate_pieces};
+use hh_stream::{Cutting, KeyHash};
 use std::process::Abort;
 use std::sync::Wait;
 use std::thread::Threads;
@@ -37,4 +40,17 @@ fn tabulated<R: AllocGlobal + Threads + Wait + Abort + Sync>(rt: &R) -> Table {
 #[test]
 fn table_is_filled(rt: HostRuntime) {
     assert!(rt; has_cells(&tabulated(&rt)));
+}
+
+// The summary of the items, with two counters.
+fn summarised<R: AllocGlobal + Threads + Wait + Abort + Sync>(rt: &R) -> Summary {
+    let stream = four_items(rt);
+    let cutting = Cutting::even(rt.alloc(), stream.len(), 2).expect(rt, "pieces");
+    let pieces = CutStream::new(&stream, &cutting);
+    summarise_pieces(rt, rt.alloc(), &pieces, 2, KeyHash::fixed(), 2).expect(rt, "a summary")
+}
+
+#[test]
+fn greatest_counters_are_kept(rt: HostRuntime) {
+    assert!(rt; has_counters(&rt, &summarised(&rt)));
 }

@@ -2,11 +2,10 @@
 
 ghost use Rattle.std.specs.Prelude.{◌≡◌, ◌≢◌};
 
-use crate::fixtures::{four_items, is_of_four_items, options};
-use hh_pool::{
-    CutStream, OpenGate, Outcome, PieceFault, Pieces, PiecesError, Plan, analyse_pieces,
-};
-use hh_stream::{Cutting, TakeItems};
+use crate::fixtures::{four_items, lists_a, options};
+use hh_counters::Heavy;
+use hh_pool::{CutStream, PieceFault, Pieces, report_pieces};
+use hh_stream::{Cutting, KeyHash, TakeItems};
 use std::alloc::Global;
 use std::process::Abort;
 use std::sync::Wait;
@@ -45,38 +44,37 @@ impl<'a> Pieces for Torn<'a> {
     }
 }
 
-// What becomes of the four items in four pieces, of which this one is refused.
-fn outcome_torn_at<R: AllocGlobal + Threads + Wait + Abort + Sync>(
+// The report of the four items in four pieces, of which this one is refused.
+fn report_torn_at<R: AllocGlobal + Threads + Wait + Abort + Sync>(
     rt: &R,
     at: usize,
     workers: u64,
-) -> Result<Outcome, PiecesError> {
+) -> Result<(u64, Vec<Heavy>), PieceFault> {
     let stream = four_items(rt);
     let cutting = Cutting::even(rt.alloc(), stream.len(), 4).expect(rt, "pieces");
     let pieces = Torn {
         pieces: CutStream::new(&stream, &cutting),
         at,
     };
-    let plan = Plan::balanced(rt.alloc(), 4).expect(rt, "a plan");
     let options = options(rt, 2, workers);
-    analyse_pieces(rt, rt.alloc(), &pieces, &plan, &options, &OpenGate)
+    report_pieces(rt, rt.alloc(), &pieces, &options, KeyHash::fixed())
 }
 
 #[test]
 fn torn_piece_is_refused(rt: HostRuntime) {
     for (at, workers) in &[(0, 1), (3, 1), (0, 2), (3, 2), (2, 7)] {
-        let refused = outcome_torn_at(&rt, *at, *workers).err();
+        let refused = report_torn_at(&rt, *at, *workers).err();
         assert!(rt;
-            refused == Some(PiecesError::Refused),
+            refused == Some(PieceFault::Refused),
             "piece {at}, {workers} workers"
         );
     }
 }
 
 #[test]
-fn pieces_that_are_whole_are_analysed(rt: HostRuntime) {
+fn pieces_that_are_whole_are_reported(rt: HostRuntime) {
     for workers in &[1, 2, 7] {
-        let outcome = outcome_torn_at(&rt, 4, *workers).expect(&rt, "an outcome");
-        assert!(rt; is_of_four_items(&rt, &outcome), "{workers} workers");
+        let (total, heavy) = report_torn_at(&rt, 4, *workers).expect(&rt, "a report");
+        assert!(rt; total == 11 && lists_a(&heavy), "{workers} workers");
     }
 }

@@ -1,5 +1,5 @@
-//! The worked rows on keys, streams and cuttings, on summaries, monitors and candidates, and on
-//! tables. They are a crate of their own, since a crate with tests is proved twice.
+//! The worked rows on keys, streams and cuttings, on summaries, tallies, monitors and candidates,
+//! and on tables. They are a crate of their own, since a crate with tests is proved twice.
 #![tactic(auto)]
 
 #[cfg(test)]
@@ -16,3 +16,5 @@ mod streams;
 mod summaries;
 #[cfg(test)]
 mod tables;
+#[cfg(test)]
+mod tallies;

@@ -1,0 +1,116 @@
+//! Tallies with room for few keys, beside what a second program computed.
+
+ghost use Rattle.std.specs.Prelude.{◌≤◌};
+ghost use Rattle.hh_tally.specs.Tallies.{IsRoom};
+
+use crate::fixtures::{assert_same, key_of, show_counter};
+use hh_stream::{KeyHash, MAX_TOTAL, TakeItems};
+use hh_tally::{MAX_KEYS, Room, Tally};
+use std::process::Abort;
+
+const LETTERS: &str = "ABCDEFGHIJKLMNOPQRSTUVWXYZabcdefghijklmnopqrstuvwxyz0123456789";
+
+// Takes the item with this number. The key of three in five is A and of one in five BC, and the
+// others have 53 keys in turn, of 1 to 7 bytes.
+fn take_item(rt: &(impl Abort + AllocGlobal), tally: &mut Tally, number: usize)
+    requires { number ≤ 6400 }
+{
+    let place = match number % 5 {
+        0 | 1 | 2 => 0,
+        3 => 1,
+        _ => number * 17 % 53,
+    };
+    let bytes = LETTERS.as_bytes().get(place..place + 1 + place % 7).expect(rt, "letters");
+    let key = key_of(rt, bytes);
+    let weight = 1 + number as u64 % 3;
+    assert!(rt; weight <= MAX_TOTAL - tally.total());
+    tally.take(rt.alloc(), key.bytes(), weight).expect(rt, "room");
+}
+
+fn room_of(rt: &impl Abort, keys: usize, few: usize, bytes: usize) -> Room
+    ensures { IsRoom result }
+{
+    assert!(rt; 2 <= few && few <= keys && keys <= MAX_KEYS);
+    Room { keys, few, bytes }
+}
+
+// The tally of so many items from this number on.
+fn tally_of(rt: &(impl Abort + AllocGlobal), room: Room, first: usize, count: usize) -> Tally
+    requires room { IsRoom room }
+    requires first { first ≤ 6400 }
+    requires count { first + count ≤ 6400 }
+{
+    let mut tally = Tally::new(rt.alloc(), room, KeyHash::fixed()).expect(rt, "room");
+    for number in first..first + count {
+        take_item(rt, &mut tally, number);
+    }
+    tally
+}
+
+// The tally of the items of both.
+fn merged(rt: &(impl Abort + AllocGlobal), one: Tally, other: &Tally) -> Tally {
+    assert!(rt; one.has_room_of(other) && one.total() <= MAX_TOTAL - other.total());
+    one.merge(rt.alloc(), other).expect(rt, "room")
+}
+
+// What was lost, how many counters there are, and the keys that can weigh more than one share of
+// half of the room's few, as "lost 86, 2 counters: A 637 ".
+fn shown(rt: &(impl Abort + AllocGlobal), tally: &Tally, room: Room) -> String
+    requires { IsRoom room }
+{
+    let same = Tally::new(rt.alloc(), room, KeyHash::fixed()).expect(rt, "room");
+    assert!(rt; tally.has_room_of(&same));
+    let contenders = tally.contenders(rt.alloc(), 1, room.few as u64 / 2).expect(rt, "room");
+    let mut text = String::new(rt.alloc());
+    write!(text, "lost {}, {} counters: ", tally.lost(), tally.len()).expect(rt, "room");
+    for (key, counter) in &contenders {
+        show_counter(rt, &mut text, key.bytes(), *counter);
+    }
+    text
+}
+
+// The room is too small for what comes at nearly each newcomer, at times for its bytes, and in the
+// end large enough.
+#[test]
+fn little_room_loses_as_computed(rt: HostRuntime) {
+    let rows = [
+        (2, 2, 1000, "lost 320, 1 counters: "),
+        (3, 2, 1000, "lost 245, 1 counters: "),
+        (5, 4, 1000, "lost 86, 2 counters: A 637 "),
+        (10, 10, 1000, "lost 34, 4 counters: A 689 BC 211 "),
+        (16, 6, 20, "lost 61, 2 counters: A 662 "),
+        (50, 12, 60, "lost 21, 11 counters: A 702 BC 224 "),
+        (52, 52, 1000, "lost 4, 28 counters: A 719 BC 241 "),
+        (53, 53, 1000, "lost 0, 53 counters: A 723 BC 245 "),
+    ];
+    for (keys, few, bytes, expected) in &rows {
+        let room = room_of(&rt, *keys, *few, *bytes);
+        let tally = tally_of(&rt, room, 0, 600);
+        assert_same(&rt, shown(&rt, &tally, room).as_str(), *expected);
+    }
+}
+
+// The sum of the tallies of 64 workers, of 100 items each.
+fn tally_of_all(rt: &(impl Abort + AllocGlobal), room: Room) -> Tally
+    requires { IsRoom room }
+{
+    let mut all = tally_of(rt, room, 0, 100);
+    for worker in 1..64 {
+        all = merged(rt, all, &tally_of(rt, room, 100 * worker, 100));
+    }
+    all
+}
+
+// Each of the 64 is lowered for the bytes of its keys, which are never too many by themselves.
+#[test]
+fn merged_tallies_lose_as_computed(rt: HostRuntime) {
+    let rows = [
+        (6, "lost 237, 9 counters: A 7491 "),
+        (12, "lost 229, 9 counters: A 7499 BC 2379 "),
+    ];
+    for (few, expected) in &rows {
+        let room = room_of(&rt, 60, *few, 60);
+        let all = tally_of_all(&rt, room);
+        assert_same(&rt, shown(&rt, &all, room).as_str(), *expected);
+    }
+}
