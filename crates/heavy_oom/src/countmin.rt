@@ -19,10 +19,7 @@ pub fn call(lab: &Lab, name: &str) -> Result<Said, Fail> {
 }
 
 fn family_from_parts(lab: &Lab) -> Result<Said, Fail> {
-    match marked!(
-        lab,
-        Family::from_parts(lab.alloc, 256, &[(1, 0), (3, 1)])
-    ) {
+    match marked!(lab, Family::from_parts(lab.alloc, 256, &[(1, 0), (3, 1)])) {
         Err(PartsFault::Memory) => lab.refused(),
         made => lab.answer(Rows(&made?)),
     }
@@ -88,7 +85,12 @@ fn table_readers(lab: &Lab) -> Result<Said, Fail> {
     lab.begin();
     let fits = Table::fits(&parts, 4, 0, table.cells());
     let depth = table.family().depth();
-    let numbers = [table.total(), table.width(), table.estimate(&a), table.cells().len() as u64];
+    let numbers = [
+        table.total(),
+        table.width(),
+        table.estimate(&a),
+        table.cells().len() as u64,
+    ];
     lab.end();
     let numbers = Numbers(&numbers);
     lab.answer(format_args!("{fits} {depth} {numbers}"))

@@ -4,11 +4,9 @@ ghost use Rattle.std.specs.Prelude.{◌≡◌, length, sum};
 
 use crate::lab::{Lab, Said, marked, no_such_call};
 use crate::show::{Cells, Counters, Numbers, Report};
-use hh_countmin::Family;
 use hh_counters::Candidates;
-use hh_pool::{
-    Gate, OpenGate, Options, Outcome, Plan, RunError, analyse, first_pass, second_pass,
-};
+use hh_countmin::Family;
+use hh_pool::{Gate, OpenGate, Options, Outcome, Plan, RunError, analyse, first_pass, second_pass};
 use hh_shared::SharedSums;
 use hh_stream::{Cutting, Key, Stream};
 use std::sync::Wait;
@@ -66,7 +64,9 @@ fn first_passed(lab: &Lab) -> Result<Said, Fail> {
     let (sums, seat) = SharedSums::new(alloc, cutting.count(), cells)?;
     let pass = marked!(
         lab,
-        first_pass(alloc, &sums, seat, &stream, &cutting, &options, &OpenGate, 0)
+        first_pass(
+            alloc, &sums, seat, &stream, &cutting, &options, &OpenGate, 0
+        )
     );
     match pass {
         Ok((_seat, found)) => lab.answer(found.len()),
@@ -85,7 +85,16 @@ fn second_passed(lab: &Lab) -> Result<Said, Fail> {
     let (sums, seat) = SharedSums::new(alloc, cutting.count(), candidates.len())?;
     let pass = marked!(
         lab,
-        second_pass(alloc, &sums, seat, &stream, &cutting, &candidates, &OpenGate, 0)
+        second_pass(
+            alloc,
+            &sums,
+            seat,
+            &stream,
+            &cutting,
+            &candidates,
+            &OpenGate,
+            0
+        )
     );
     match pass {
         Ok(seat) => lab.answer(sums.holds_all(&seat)),

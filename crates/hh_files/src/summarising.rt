@@ -53,11 +53,7 @@ fn summary_side_by_side<T: Threads + Wait + Sync, S: ReadAt + Sync>(
 }
 
 /// The same of any records by one thread, item by item.
-fn summary_in_turn<R: ReadRecords>(
-    alloc: Global,
-    k: u64,
-    records: R,
-) -> Result<Summary, ToolError>
+fn summary_in_turn<R: ReadRecords>(alloc: Global, k: u64, records: R) -> Result<Summary, ToolError>
     requires { in_range k max_k ≡ true }
     ensures summary { IfOk result (SummarisesRecords k (R.known records)) }
     ensures refused { IfErr result (λ fault. RecordsRefused (R.known records) fault) }

@@ -176,11 +176,7 @@ pub struct Prepared {
 }
 
 /// Tests the options, before anything is read. An analysis hashes keys by `hash`.
-pub fn prepare(
-    alloc: Global,
-    options: &ReportOptions,
-    hash: KeyHash,
-) -> Result<Prepared, ToolError>
+pub fn prepare(alloc: Global, options: &ReportOptions, hash: KeyHash) -> Result<Prepared, ToolError>
     ensures prepared { IfOk result (IsPrepared options.now) }
     ensures refused { IfErr result (λ fault.
         (known : Known) → StartRefused options.now known fault) }

@@ -20,11 +20,16 @@ fn take_item(rt: &(impl Abort + AllocGlobal), tally: &mut Tally, number: usize)
         3 => 1,
         _ => number * 17 % 53,
     };
-    let bytes = LETTERS.as_bytes().get(place..place + 1 + place % 7).expect(rt, "letters");
+    let bytes = LETTERS
+        .as_bytes()
+        .get(place..place + 1 + place % 7)
+        .expect(rt, "letters");
     let key = key_of(rt, bytes);
     let weight = 1 + number as u64 % 3;
     assert!(rt; weight <= MAX_TOTAL - tally.total());
-    tally.take(rt.alloc(), key.bytes(), weight).expect(rt, "room");
+    tally
+        .take(rt.alloc(), key.bytes(), weight)
+        .expect(rt, "room");
 }
 
 fn room_of(rt: &impl Abort, keys: usize, few: usize, bytes: usize) -> Room
@@ -60,7 +65,9 @@ fn shown(rt: &(impl Abort + AllocGlobal), tally: &Tally, room: Room) -> String
 {
     let same = Tally::new(rt.alloc(), room, KeyHash::fixed()).expect(rt, "room");
     assert!(rt; tally.has_room_of(&same));
-    let contenders = tally.contenders(rt.alloc(), 1, room.few as u64 / 2).expect(rt, "room");
+    let contenders = tally
+        .contenders(rt.alloc(), 1, room.few as u64 / 2)
+        .expect(rt, "room");
     let mut text = String::new(rt.alloc());
     write!(text, "lost {}, {} counters: ", tally.lost(), tally.len()).expect(rt, "room");
     for (key, counter) in &contenders {
