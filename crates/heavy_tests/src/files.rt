@@ -68,7 +68,9 @@ impl ReadAt for ManyRecords<'_> {
                 } else {
                     self.calls.load(Ordering::SeqCst)
                 };
-                text = self.texts[(reading % 2) as usize];
+                if reading % 2 == 0 {
+                    text = self.texts[1];
+                }
             }
             Course::Fails(from) => {
                 if self.call() >= from && from > 0 {
