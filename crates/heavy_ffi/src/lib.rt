@@ -5,7 +5,6 @@
 #![tactic(auto)]
 
 mod fault;
-mod hash;
 mod items;
 mod parts;
 mod room;
@@ -44,7 +43,6 @@ ghost use Rattle.heavy_ffi.specs.Outcomes.{TellsFault, TellsHead, bad_summary, b
 
 pub use fault::Fault;
 use fault::tell;
-use hash::hash_of_call;
 use hh_commands::{Method, describe_file, merge_bytes};
 use hh_counters::laws::summaries_follow_items;
 use hh_countmin::laws::drawn_families_are_families;
@@ -57,6 +55,7 @@ use hh_library::{
 use hh_pieces::whole_records;
 use hh_saved::laws::sizes_are_bounded;
 use hh_saved::{Place, read};
+use hh_stream::KeyHash;
 use items::{items_of, shape_fault};
 use parts::files_of;
 pub use room::Bounds;
@@ -78,7 +77,7 @@ fn summary_by(alloc: Global, text: &[u8], k: u64, method: u32) -> Result<Vec<u8>
         2 => Method::SpaceSaving,
         _ => return Err(ToolError::BadMethod),
     };
-    summary_bytes_with_hasher(alloc, k, method, text, hash_of_call())
+    summary_bytes_with_hasher(alloc, k, method, text, KeyHash::fixed())
 }
 
 /// Gives the saved summary of a text's records with k counters, by method 1, Misra-Gries, or 2,
@@ -365,7 +364,7 @@ pub extern "C" fn heavy_confirm(
     ensures early { TellsHead file.now result fault.new }
     ensures no_bytes { result ≢ 0 → result ≢ 5 → needed.new ≡ 0 }
 {
-    let bytes = confirm_bytes_with_hasher(alloc, file, text, hash_of_call());
+    let bytes = confirm_bytes_with_hasher(alloc, file, text, KeyHash::fixed());
     answer(bytes, out, needed, fault)
 }
 
@@ -389,7 +388,7 @@ pub extern "C" fn heavy_confirm_above(
     ensures early { TellsHead file.now result fault.new }
     ensures no_bytes { result ≢ 0 → result ≢ 5 → needed.new ≡ 0 }
 {
-    let bytes = confirm_share(alloc, file, p, q, text, hash_of_call());
+    let bytes = confirm_share(alloc, file, p, q, text, KeyHash::fixed());
     answer(bytes, out, needed, fault)
 }
 
@@ -412,7 +411,7 @@ pub extern "C" fn heavy_condense(
     ensures early { TellsHead file.now result fault.new }
     ensures no_bytes { result ≢ 0 → result ≢ 5 → needed.new ≡ 0 }
 {
-    let bytes = condense_bytes_with_hasher(alloc, file, text, hash_of_call());
+    let bytes = condense_bytes_with_hasher(alloc, file, text, KeyHash::fixed());
     answer(bytes, out, needed, fault)
 }
 
@@ -431,7 +430,7 @@ fn condensed_of(
     ensures early { StopsAtHead 1 file.now result }
 {
     match items_of(alloc, keys, ends, weights) {
-        Ok(items) => condense_items(alloc, file, &items, hash_of_call()),
+        Ok(items) => condense_items(alloc, file, &items, KeyHash::fixed()),
         Err(_) => Err(refusal_of(alloc, file)),
     }
 }
@@ -485,7 +484,7 @@ fn confirmed_of(
     ensures early { StopsAtHead 1 file.now result }
 {
     match items_of(alloc, keys, ends, weights) {
-        Ok(items) => confirm_items(alloc, file, share, &items, hash_of_call()),
+        Ok(items) => confirm_items(alloc, file, share, &items, KeyHash::fixed()),
         Err(_) => Err(refusal_of(alloc, file)),
     }
 }
