@@ -1,7 +1,7 @@
 #!/usr/bin/env python3
 """Each library has a page CALLING.md for its callers in Rattle: a caller, which is a function of
-crates/heavy_example/src/callers.rt, and what the library offers, with its contracts. Both are made of the sources. Compares the
-pages with these, or writes what is made.
+crates/heavy_example/src/callers.rt, and what the library offers, with its contracts. docs/CALLS.md has the first sentence above
+each call of all libraries. All are made of the sources. Compares the pages with these, or writes what is made.
 
 usage: tests/calling.py [--write]
 """
@@ -12,6 +12,7 @@ import programs
 
 CRATES = programs.TOP / "crates"
 CALLERS = CRATES / "heavy_example" / "src" / "callers.rt"
+CALLS = programs.TOP / "docs" / "CALLS.md"
 # each library with the function that calls it
 LIBRARIES = {
     "hh_faults": "status_of_records", "hh_stream": "stream_of_one", "hh_summaries": "slack_of_both",
@@ -42,11 +43,10 @@ def declaration_at(lines: list[str], at: int) -> list[str]:
     return found
 
 
-def declarations_of(text: str, offered: set[str]) -> list[str]:
-    """The functions of a file that the crate offers, those of its types and traits under their names."""
+def calls_of(text: str, offered: set[str]) -> list[tuple[str, int]]:
+    """The functions of a file that the crate offers, those of its types and traits under their names: each with its line."""
     found, owner, in_trait = [], "", False
-    lines = text.splitlines()
-    for at, line in enumerate(lines):
+    for at, line in enumerate(text.splitlines()):
         if head := OWNER.match(line):
             owner, in_trait = "" if " for " in line else head["name"], head["shown"] == "pub trait"
         elif line == "}":
@@ -55,10 +55,45 @@ def declarations_of(text: str, offered: set[str]) -> list[str]:
         if not name or (line.startswith("    fn") and not in_trait):
             continue
         if (owner if line.startswith(" ") else name[1]) in offered:
-            shown = declaration_at(lines, at)
-            shown[0] = re.sub(r"^(?:pub )?fn ", f"fn {owner}::" if owner else "fn ", shown[0])
-            found.append("\n".join(shown))
+            found.append((f"{owner}::{name[1]}" if owner else name[1], at))
     return found
+
+
+def declarations_of(text: str, offered: set[str]) -> list[str]:
+    """The declarations of these functions."""
+    lines, found = text.splitlines(), []
+    for name, at in calls_of(text, offered):
+        shown = declaration_at(lines, at)
+        shown[0] = re.sub(r"^(?:pub )?fn \w+", f"fn {name}", shown[0])
+        found.append("\n".join(shown))
+    return found
+
+
+def sentence_above(lines: list[str], at: int) -> str:
+    """The first sentence of the comment above a function, without its links."""
+    start = at
+    while start > 0 and lines[start - 1].lstrip().startswith(("///", "#[")):
+        start -= 1
+    words = [line.strip().removeprefix("///").strip() for line in lines[start:at] if line.lstrip().startswith("///")]
+    text = " ".join(words[: words.index("")] if "" in words else words)
+    text = re.sub(r"\[(`[^`]*`)\](?:\([^)]*\))?", r"\1", text)
+    return re.split(r"(?<=[.:]) (?=[A-Z`])", text)[0].rstrip(":").replace("|", "\\|")
+
+
+def sentences_of(crate: str) -> str:
+    """The part of docs/CALLS.md on a crate, or nothing where no call of it has a comment."""
+    rows = []
+    for path in sorted((CRATES / crate / "src").rglob("*.rt")):
+        text = path.read_text()
+        rows += [(name, sentence_above(text.splitlines(), at)) for name, at in calls_of(text, offered_by(crate))]
+    shown = [f"| `{name}` | {sentence} |\n" for name, sentence in rows if sentence]
+    return f"\n## {crate}\n\n| call | what it does |\n|---|---|\n{''.join(shown)}" if shown else ""
+
+
+def made_calls() -> str:
+    """docs/CALLS.md."""
+    head = "# Calls\n\nEach public call of the libraries, by crate and file, with the first sentence of the comment above it. What is promised\nof a call is its contract, in CALLING.md of its crate. `tests/calling.py --write` makes this page.\n"
+    return head + "".join(sentences_of(crate) for crate in LIBRARIES)
 
 
 def offered_by(crate: str) -> set[str]:
@@ -96,11 +131,16 @@ class Calling(programs.Checks):
             self.check(f"a drift in {crate}/CALLING.md", MADE.findall(text.replace("ensures", "ensure", 1)) != [made_of(crate)])
             self.check(f"{crate}/CALLING.md has contracts", made_of(crate).count("\nfn ") > 0)
 
+    def test_calls(self) -> None:
+        self.check("docs/CALLS.md is as tests/calling.py --write makes it", CALLS.read_text() == made_calls(), "not so")
+        self.check("docs/CALLS.md has calls", made_calls().count("\n| `") > 100)
+
 
 if __name__ == "__main__":
     if sys.argv[1:] == ["--write"]:
         for name in LIBRARIES:
             page = CRATES / name / "CALLING.md"
             page.write_text(page.read_text()[: page.read_text().index("## A caller")] + made_of(name))
+        CALLS.write_text(made_calls())
     else:
         programs.run_tests("calling")
