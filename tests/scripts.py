@@ -1,10 +1,12 @@
 #!/usr/bin/env python3
 """Reads the repository's own shell scripts by shellcheck, and tries .ci/run, tests/run and .ci/setup by stand-ins: what they
-count, what is installed, and that a part which can't be had fails the gate where CI is set.
+count, what is installed, and that a part which can't be had fails the gate where CI is set. Counts the phrases of
+tests/words.txt in the pages and in the comments of the crates' code.
 
 usage: tests/scripts.py
 """
 import os
+import re
 import shutil
 import subprocess
 import unittest
@@ -34,6 +36,30 @@ def shell_scripts() -> list[str]:
     return [name for name in files if (programs.TOP / name).read_bytes()[:30].startswith((b"#!/bin/sh", b"#!/usr/bin/env bash"))]
 
 
+def paragraph(text: str) -> str:
+    """The text in one line."""
+    return " ".join(text.split())
+
+
+def pages() -> list[str]:
+    """The pages outside crates/, each in one line. What CHANGELOG.md says of a release stays as it was, and is left out."""
+    tops = [path for path in programs.TOP.iterdir() if path.name not in ("crates", ".git")]
+    found = [file for top in tops for file in [top, *top.rglob("*.md")] if file.suffix == ".md"]
+    files = [file for file in found if "out" not in file.relative_to(programs.TOP).parts]
+    return [paragraph(re.split(r"^## \[\d", file.read_text(), flags=re.MULTILINE)[0]) for file in files]
+
+
+def comments_of(text: str) -> list[str]:
+    """The doc comments of a file of Rattle, each in one line."""
+    blocks = re.findall(r"(?:^ *//[/!].*\n)+", text, re.MULTILINE)
+    return [paragraph(re.sub(r"^ *//[/!]", "", block, flags=re.MULTILINE)) for block in blocks]
+
+
+def times(phrase: str, texts: list[str]) -> int:
+    """How often a phrase stands in texts, as whole words, in capitals or not."""
+    return sum(len(re.findall(rf"\b{re.escape(phrase)}\b", text, re.IGNORECASE)) for text in texts)
+
+
 class Scripts(programs.Checks):
     """The scripts that build, install and test."""
 
@@ -43,6 +69,20 @@ class Scripts(programs.Checks):
         self.check("there are scripts", len(names) > 10, names)
         ended = subprocess.run(["shellcheck", "-x", *names], cwd=programs.TOP, capture_output=True, text=True)
         self.check("shellcheck finds nothing", ended.returncode == 0, ended.stdout)
+
+    def test_words(self) -> None:
+        """A phrase that was mended doesn't come back: it stands at most as often as tests/words.txt says."""
+        sources = (programs.TOP / "crates").glob("*/src/**/*.rt")
+        texts = {"pages": pages(), "comments": [it for file in sources for it in comments_of(file.read_text())]}
+        lines = (programs.TOP / "tests" / "words.txt").read_text().splitlines()
+        rows = [line.split(maxsplit=2) for line in lines if not line.startswith("#")]
+        self.check("there are phrases, pages and comments", rows and len(texts["pages"]) > 10 and len(texts["comments"]) > 500)
+        for *most, phrase in rows:
+            for (place, there), allowed in zip(texts.items(), map(int, most)):
+                found = times(phrase, there)
+                self.check(f"{phrase!r} in the {place}", found <= allowed, f"{found} times, and {allowed} are allowed")
+        planted = comments_of("/// So\n    /// many, so manyfold.\nlet a = \"so many\";\n/// Or so\n\n/// many\n")
+        self.check("a phrase over two lines", times("so many", planted) == 1, planted)
 
     def run_gate(self, env: dict[str, str], proofs: str, tests: str, setup: int) -> programs.Ended:
         """The gate over stand-ins that print these closing lines, with a setup that ends so."""
