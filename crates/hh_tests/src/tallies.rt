@@ -1,6 +1,6 @@
 //! Tallies with room for few keys, beside what a second program computed.
 
-ghost use Rattle.std.specs.Prelude.{◌≤◌};
+ghost use Rattle.std.specs.Prelude.{◌+◌, ◌≤◌};
 ghost use Rattle.hh_tally.specs.Tallies.{IsRoom};
 
 use crate::fixtures::{assert_same, key_of, show_counter};
