@@ -32,8 +32,10 @@ enum Course {
 struct ManyRecords<'a> {
     course: Course,
     calls: &'a AtomicU64,
-    /// The file with `a,5000`, and that with `a,6000`.
-    texts: [&'a [u8]; 2],
+    /// The text with `a,5000`.
+    first: String,
+    /// The text with `a,6000`.
+    second: String,
 }
 
 impl ManyRecords<'_> {
@@ -44,7 +46,7 @@ impl ManyRecords<'_> {
 
     /// How many bytes each of the texts has.
     fn size(&self) -> u64 {
-        self.texts[0].len() as u64
+        self.first.len() as u64
     }
 }
 
@@ -59,7 +61,7 @@ impl ReadAt for ManyRecords<'_> {
     }
 
     fn read_at(&self, buf: &mut [u8], at: u64) -> io::Result<usize> {
-        let mut text = self.texts[0];
+        let mut text = self.first.as_bytes();
         match self.course {
             Course::Grows => {}
             Course::Changes => {
@@ -69,7 +71,7 @@ impl ReadAt for ManyRecords<'_> {
                     self.calls.load(Ordering::SeqCst)
                 };
                 if reading % 2 == 0 {
-                    text = self.texts[1];
+                    text = self.second.as_bytes();
                 }
             }
             Course::Fails(from) => {
@@ -116,11 +118,11 @@ fn report_of(
 ) -> (Vec<u8>, Option<ToolError>, u64) {
     let alloc = rt.alloc();
     let calls = AtomicU64::new(0);
-    let (five, six) = (with_many_keys(rt, "a,5000"), with_many_keys(rt, "a,6000"));
     let sources = [ManyRecords {
         course,
         calls: &calls,
-        texts: [five.as_bytes(), six.as_bytes()],
+        first: with_many_keys(rt, "a,5000"),
+        second: with_many_keys(rt, "a,6000"),
     }];
     let layout = Layout::plain(alloc);
     let records = SourceRecords {
