@@ -98,7 +98,6 @@ fn summary_readers(lab: &Lab) -> Result<Said, Fail> {
     let (summary, a) = (lab.summary()?, lab.key(b'a')?);
     lab.begin();
     let fits = Summary::fits(2, 0, &[]);
-    let empty = Summary::from_entries(2, 0, Vec::new(lab.alloc)).len();
     let numbers = [
         summary.k(),
         summary.total(),
@@ -109,7 +108,7 @@ fn summary_readers(lab: &Lab) -> Result<Said, Fail> {
     ];
     lab.end();
     let numbers = Numbers(&numbers);
-    lab.answer(format_args!("{fits} {empty} {numbers}"))
+    lab.answer(format_args!("{fits} {numbers}"))
 }
 
 // The calls on candidates that take no memory.
