@@ -849,7 +849,7 @@ class CommandLine(programs.Checks):
             status, out, err = self.heavy(words)
             said = (status, err) == (0, b"") and re.fullmatch(rb"heavy \d+\.\d+\.\d+\n", out)
             self.check(f"{words}", said, (status, out, err))
-        for command, count in (("report", 6), ("summarise", 1), ("table", 4)):
+        for command, count in (("report", 6), ("summarise", 2), ("table", 4)):
             ranges = RANGE.findall(self.heavy([command, "--help"])[1])
             self.check(f"{command} --help has ranges", len(ranges) == count, ranges)
             plain = self.heavy([command])
