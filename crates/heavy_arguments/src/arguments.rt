@@ -394,7 +394,7 @@ fn described<'a>(alloc: Global, name: &'a str, help: &Help) -> Command<'a>
         .after_long_help(help.end)
 }
 
-/// The same command, with these arguments more.
+/// Adds `arguments` to `command`.
 fn with<'a>(alloc: Global, mut command: Command<'a>, arguments: &[Argument]) -> Built<'a>
     requires { (fields_of command).has_globals ≡ false }
     ensures app { IsApp (with_rules (app_of command.entry) (rules_of_arguments arguments.now)) result }

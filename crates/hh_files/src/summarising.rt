@@ -52,7 +52,7 @@ fn summary_side_by_side<T: Threads + Wait + Sync, S: ReadAt + Sync>(
     }
 }
 
-/// The same of any records by one thread, item by item.
+/// Summarises any records by one thread, item by item.
 fn summary_in_turn<R: ReadRecords>(alloc: Global, k: u64, records: R) -> Result<Summary, ToolError>
     requires { in_range k max_k ≡ true }
     ensures summary { IfOk result (SummarisesRecords k (R.known records)) }
@@ -97,7 +97,7 @@ fn summary_of_sources<T: Threads + Wait + Sync, S: ReadAt + Sync>(
 /// all are kept, each less the next one. Within what a summary promises they may differ from run
 /// to run, by which worker reads which piece. Nothing of a file is kept. Where a piece can't be
 /// read by itself, or a file's length changes meanwhile, one thread reads all files from their
-/// starts, so that the first refusal is told with its number.
+/// starts, so that the first refusal has its number.
 ///
 /// k is tested first ([`ToolError::BadK`]), then the workers, of whom there are 1 to 64
 /// ([`ToolError::BadWorkers`]), and then come the records ([`ToolError::ReadFault`],

@@ -146,8 +146,8 @@ impl Options {
         }
     }
 
-    /// The same options, with keys hashed by `hash`. It decides how fast a key is found, and nothing
-    /// of an outcome.
+    /// Has keys hashed by `hash`, which decides how fast a key is found, and nothing of an
+    /// outcome.
     pub fn hashed_by(self, hash: KeyHash) -> Options
         ensures { result ≡ self }
     {

@@ -243,14 +243,14 @@ pub fn report_pieces<R: Threads + Wait + Sync, P: Pieces + Sync>(
     Ok((total, rows))
 }
 
-/// A summary with `k` counters of the items of all pieces, as good as one that is made item by item:
+/// Summarises the items of all pieces with `k` counters, as well as one that is made item by item:
 /// each worker tallies the items of the pieces that it claims, the tallies add up, and the `k`
-/// greatest counters are kept, each less the next one (Agarwal et al. 2012). `hash` decides how fast
-/// keys are found. The counters may differ from run to run, by which worker claims which piece.
+/// greatest counters are kept, each less the next one (Agarwal et al. 2012). `hash` decides how
+/// fast keys are found. The counters may differ from run to run, by which worker claims which piece.
 ///
-/// Each piece is asked for once; where one was claimed by no worker, the calling thread asks for all
-/// of them again. It starts the workers, waits for them and answers Refused as [`report_pieces`] does.
-/// Where the items aren't known, the summary is one of some items.
+/// Each piece is asked for once; where one was claimed by no worker, the calling thread asks for
+/// all of them again. It starts the workers, waits for them and answers Refused as
+/// [`report_pieces`] does. Where the items aren't known, the summary is one of some items.
 pub fn summarise_pieces<R: Threads + Wait + Sync, P: Pieces + Sync>(
     rt: &R,
     alloc: Global,

@@ -39,7 +39,7 @@ fn room_of(rt: &impl Abort, keys: usize, few: usize, bytes: usize) -> Room
     Room { keys, few, bytes }
 }
 
-// The tally of so many items from this number on.
+// The tally of `count` items, from the item `first` on.
 fn tally_of(rt: &(impl Abort + AllocGlobal), room: Room, first: usize, count: usize) -> Tally
     requires room { IsRoom room }
     requires first { first ≤ 6400 }

@@ -17,8 +17,8 @@ use std::alloc::Global;
 
 /// [`condense_bytes`](crate::condense_bytes) of items in memory, each a key and its weight: records
 /// that say the same of the summary's keys. So a second pass may go over a stream in parts, and
-/// the condensed records of the parts, joined in any order, are confirmed as the stream is. Keys are
-/// hashed by `hash`.
+/// the condensed records of the parts, joined in any order, are confirmed as the stream is. Keys
+/// are hashed by `hash`.
 ///
 /// The file is tested first ([`ToolError::BadFile`], as file 1), then its kind
 /// ([`ToolError::NotCounters`]), and then the items in order, numbered from 1
