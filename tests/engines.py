@@ -434,7 +434,7 @@ def try_dask(test: programs.Checks, python: str, room: Room) -> None:
     """The example and the module over Dask, case by case."""
     ended = programs.install_library(f"{room.path}/usr", programs.compilers()[0])
     test.check("the library for C is there", ended.status == 0, ended)
-    room.env["LIBHEAVY"] = f"{room.path}/usr/lib/libheavy.so.1"
+    room.env |= {"LIBHEAVY": f"{room.path}/usr/lib/libheavy.so.1", "PYTHONPATH": str(programs.TOP / "python")}
     tried(test, room, "Dask alone", lambda: try_alone(test, python, room))
     tried(test, room, "three workers", lambda: try_collections(test, python, room))
     dask = Dask(python, room)
