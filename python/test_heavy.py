@@ -418,6 +418,8 @@ class Misuses(unittest.TestCase):
             self.assertEqual(summary.confirm_items("a b c a".split(), weights, (kind(1), kind(2))), [(b"a", 6)])
             self.assertEqual(summary.condense_items("a b c a".split(), weights), summary.condense(RECORDS))
             self.assertEqual(summary.top(kind(1)), [(b"a", 4, 6)])
+            layout = heavy.Layout(key=kind(1), weight=kind(2), decimals=kind(0))
+            self.assertEqual(heavy.Summary.of_csv(b"a,5\nb,3\nc,2\na,1\n", 2, layout=layout), summary)
             self.assertEqual(heavy.report(RECORDS, kind(2), workers=kind(2)), [(b"a", 6)])
             table = heavy.Table(width=kind(8), depth=kind(2), seed=kind(7))
             table.update("a", kind(5))
@@ -1190,6 +1192,20 @@ class Arrays(unittest.TestCase):
 
 
 class Reports(unittest.TestCase):
+    def test_records_that_contradict(self) -> None:
+        """Records of the same total in which a key weighs other than the summary says are refused, as are parts above it."""
+        # a weighs 5, b 2: no counter was lowered, so each low is the high
+        summary = heavy.Summary.of_csv(b"a,5\nb,2\n", 2)
+        for call in (
+            lambda: summary.confirm(b"b,5\na,2\n"), lambda: summary.confirm_csv(b"c,7\n"), lambda: summary.condense(b"b,3\n"),
+            lambda: summary.confirm_items({"b": 5, "a": 2}), lambda: summary.confirm_items(["c"], [7]),
+            lambda: summary.confirm(summary.condense_items({"a": 2, "b": 5})),
+        ):
+            with self.assertRaisesRegex(heavy.HeavyError, "a key's weight in the input is outside its bounds$") as caught:
+                call()
+            self.assertEqual(caught.exception.status, 3)
+        self.assertEqual(summary.confirm_items({"a": 5, "b": 2}), [(b"a", 5)])
+
     def test_items_are_confirmed(self) -> None:
         summary = heavy.Summary.of_csv(RECORDS, 2)
         keys, weights = ["a", b"b", "c", "a"], [5, 3, 2, 1]
@@ -1318,6 +1334,111 @@ class Reports(unittest.TestCase):
             self.assertRaises(FileNotFoundError, summary.save, Path(room, "none", "saved"))
             self.assertRaises(IsADirectoryError, summary.save, room)
             self.assertEqual(sorted(os.listdir(room)), ["records", "saved"])
+
+
+class Layouts(unittest.TestCase):
+    """Records of any layout, as the program reads them by its options."""
+
+    # texts, layouts, and the program's words for them
+    CASES = [
+        (b"a;5\nb;3\nc;2\na\n", {"delimiter": ";"}, ["--delimiter", ";"]),
+        (b"a\t5\nb\t3\n", {"delimiter": "\t"}, ["--delimiter", "\\t"]),
+        (b"a-5\nb-3\n", {"delimiter": b"-"}, ["--delimiter=-"]),
+        (b"host,bytes\na,5\nb,3\nc,2\na,1\n", {"header": True}, ["--header"]),
+        (b"\xef\xbb\xbfhost,bytes\na,5\nb,3\nc,2\na,1\n", {"header": True, "key": "host"}, ["--header", "--key", "host"]),
+        (b'x,"the\nhost",y\n1,a,5\n2,b,3\n1,a,2\n', {"header": True, "key": "the\nhost", "weight": "y"},
+         ["--header", "--key", "the\nhost", "--weight", "y"]),
+        (b"5,x,a\n3,y,b\n2,x,c\n1,z,a\n", {"key": 3, "weight": 1}, ["--key", "3", "--weight", "1"]),
+        (b"5,x,a\n3,y,b\n2,x,c\n1,x,a\n", {"key": [3, 2], "weight": 1}, ["--key", "3,2", "--weight", "1"]),
+        (b"a,5\nb,3\na,9\n", {"key": 1}, ["--key", "1"]), (b"a,x,5\nb,y,3\n", {"weight": 3}, ["--weight", "3"]),
+        (b"a,0.25\nb,3\na,.5\nc,1\n", {"decimals": 2}, ["--decimals", "2"]),
+        (b"a,0\nb,-\na,5\nc,1\n", {"allow_zero": True}, ["--allow-zero"]),
+        (b'h b\n"a a" 5\nb -\n"a ""a" 1.5\n\nb 2\n', {"delimiter": " ", "header": True, "decimals": 1, "allow_zero": True},
+         ["--delimiter", " ", "--header", "--decimals", "1", "--allow-zero"]),
+        (b"", {"header": True, "key": "a"}, ["--header", "--key", "a"]), (b"h\n", {"header": True}, ["--header"]),
+    ]
+
+    def test_beside_the_program(self) -> None:
+        for text, options, words in self.CASES:
+            layout = heavy.Layout(**options)
+            for size in (1, 2, 5, 1 << 20):
+                with self.subTest(text=text, size=size), mock.patch.object(heavy._records, "_CHUNK", size):
+                    whole = program("summarise", "--k", "2", *words, given=text)
+                    self.assertEqual(whole.returncode, 0, whole.stderr)
+                    summary = heavy.Summary.of_csv(text, 2, layout=layout)
+                    self.assertEqual(summary.to_bytes(), whole.stdout)
+                    parts, cells = heavy.Summary(k=2), heavy.Table(width=8, depth=2)
+                    parts.update_csv(io.BytesIO(text), layout=layout)
+                    cells.update_csv(io.BytesIO(text), layout=layout)
+                    self.assertEqual(parts, summary)
+                    self.assertEqual(cells, heavy.Table.of_csv(text, 8, 2, layout=layout))
+                    self.assertEqual(cells.to_bytes(), program("table", "--width", "8", "--depth", "2", *words, given=text).stdout)
+            with self.subTest(text=text), tempfile.TemporaryDirectory() as room:
+                saved, records = Path(room, "saved"), Path(room, "records")
+                summary.save(saved)
+                records.write_bytes(text)
+                for k, share, more in ((2, None, []), (9, "1/4", ["--threshold", "1/4"])):
+                    rows = program("report", "--k", str(k), *more, *words, given=text).stdout
+                    for workers in (1, 2, 3):
+                        self.assertEqual(heavy.report_csv(records, k, share, workers, layout=layout), rows)
+                found = program("confirm", str(saved), *words, given=text)
+                self.assertEqual((summary.confirm_csv(records, layout=layout), found.returncode), (found.stdout, 0))
+                found = program("condense", str(saved), *words, given=text)
+                self.assertEqual((summary.condense(text, layout=layout), found.returncode), (found.stdout, 0))
+
+    def test_rows(self) -> None:
+        layout = heavy.Layout(key=[3, 2], weight=1, decimals=1)
+        records = b"5,x,a\n.3,y,b\n1.5,x,a\n2,x,c\n"
+        self.assertEqual(heavy.report(records, 2, layout=layout, text=True), [("a,x", Decimal("6.5"))])
+        # a summary counts tenths
+        self.assertEqual(heavy.Summary.of_csv(records, 9, layout=layout).items()[0], (b"a,x", 65, 65))
+
+    def test_refusals(self) -> None:
+        for text, options, words in (
+            (b"a,1\n", {"key": "a"}, ["--key", "a"]), (b"a,1\n", {"key": 0}, ["--key", "0"]), (b"a,1\n", {"weight": -3}, ["--key", "0"]),
+            (b"h\na\n", {"header": True, "key": "z"}, ["--header", "--key", "z"]), (b"a,1\n", {"key": 2, "weight": 3}, ["--key", "2", "--weight", "3"]),
+            (b"h,w\na,1\nb,0\n", {"header": True}, ["--header"]), (b"h,w\na,1\nb,2,3\n", {"header": True}, ["--header"]),
+            (b"a;1\nb;x\n", {"delimiter": ";"}, ["--delimiter", ";"]), (b"a,1.25\n", {"decimals": 1}, ["--decimals", "1"]),
+            (b"a,1\nb,-\n", {"decimals": 1}, ["--decimals", "1"]), (b"a,1\n,-\n", {"allow_zero": True}, ["--allow-zero"]),
+        ):
+            layout, ran = heavy.Layout(**options), program("summarise", "--k", "2", *words, given=text)
+            summary = heavy.Summary(k=2)
+            for call in (
+                lambda: heavy.Summary.of_csv(text, 2, layout=layout), lambda: heavy.Table.of_csv(text, layout=layout),
+                lambda: summary.update_csv(io.BytesIO(text), layout=layout), lambda: heavy.report(text, 2, layout=layout),
+                lambda: heavy.report_csv(text, 2, workers=3, layout=layout), lambda: summary.confirm(text, layout=layout),
+                lambda: summary.condense(text, layout=layout),
+            ):
+                with self.subTest(text=text, options=options), mock.patch.object(heavy._records, "_CHUNK", 3):
+                    with self.assertRaises(heavy.HeavyError) as caught:
+                        call()
+                    told = (f"heavy: {caught.exception}\n".encode(), caught.exception.status)
+                    self.assertEqual(told, (ran.stderr, ran.returncode))
+            self.assertEqual(summary, heavy.Summary(k=2))
+
+    def test_options(self) -> None:
+        for options, kind, text in (
+            ({"delimiter": "ab"}, heavy.HeavyError, "^delimiter must be one byte"), ({"delimiter": "é"}, heavy.HeavyError, "^delimiter"),
+            ({"delimiter": '"'}, heavy.HeavyError, "^delimiter"), ({"delimiter": "\n"}, heavy.HeavyError, "^delimiter"),
+            ({"delimiter": ""}, heavy.HeavyError, "^delimiter"), ({"delimiter": 44}, TypeError, "^delimiter must be a character, not 'int'"),
+            ({"header": "host"}, TypeError, "^header must be True or False, not 'str'"), ({"header": 0}, TypeError, "^header"),
+            ({"allow_zero": 1}, TypeError, "^allow_zero must be"), ({"decimals": 2.0}, TypeError, "^decimals must be an integer"),
+            ({"key": 1.5}, TypeError, "^key must be a column's number or name, not 'float'"), ({"key": True}, TypeError, "^key must"),
+            ({"key": []}, ValueError, "^key must name a column"), ({"weight": [1]}, TypeError, "^weight must be a column's number"),
+            ({"delimeter": ";"}, TypeError, "delimeter"),
+        ):
+            self.assertRaisesRegex(kind, text, lambda: heavy.Layout(**options))
+        for decimals in (-1, 10, 300):
+            self.assertRaisesRegex(ValueError, f"^decimals must be 0 to 9, not {decimals}$", heavy.Layout, decimals=decimals)
+        layout = heavy.Layout(delimiter=";", key="a", header=True)
+        self.assertEqual((layout, hash(layout)), (heavy.Layout(";", True, "a"), hash(heavy.Layout(";", True, "a"))))
+        self.assertEqual(pickle.loads(pickle.dumps(layout)), layout)
+
+    def test_random_words(self) -> None:
+        """Each call has random words to hash by, and its answer doesn't depend on them."""
+        drawn = [tuple(layout._words()[0]._obj.hash) for layout in [heavy.Layout()] * 20]
+        self.assertEqual((len(set(drawn)), (0, 0) in drawn), (20, False))
+        self.assertEqual(len({heavy.report_csv(OTHERS, 9) for _ in range(20)}), 1)
 
 
 class Same(unittest.TestCase):
@@ -1486,11 +1607,9 @@ class Same(unittest.TestCase):
                 ran = program("ask", self.saved(file, room, "1"), "a")
                 if ran.returncode != 0:
                     self.refused(lambda: file.ask("a"), ran)
-            self.refused(lambda: good.ask(b""), program("ask", self.saved(good, room, "1"), ""))
-            self.refused(lambda: good.ask(b"x" * 4097), program("ask", self.saved(good, room, "1"), "x" * 4097))
-            for keys in (["a", ""], ["a", "b", "x" * 4097, ""]):
-                self.refused(lambda: good.ask_many(keys), program("ask", self.saved(good, room, "1"), *keys))
-            self.refused(lambda: damaged[0].ask_many([""]), program("ask", self.saved(damaged[0], room, "1"), ""))
+                    self.refused(lambda: file.ask_many(["a", "b"]), ran)
+            # a key is refused before the file is read
+            self.assertRaisesRegex(ValueError, r"^keys\[0\]: a key must have", damaged[0].ask_many, [""])
             for file in (heavy.Summary(table.to_bytes()), damaged[20]):
                 ran = program("condense", self.saved(file, room, "1"), given=b"a\n")
                 self.refused(lambda: file.condense(b"a\n"), ran)

@@ -160,14 +160,14 @@ def _joined_texts(keys: list[Any]) -> Columns | None:
         lines = "\n".join(keys).encode()
     except (TypeError, UnicodeEncodeError):
         return None
-    breaks = lines.count(b"\n")
-    if numpy and breaks + 1 == len(keys):
-        places = numpy.flatnonzero(numpy.frombuffer(lines, numpy.uint8) == 10)
-        sizes = numpy.diff(places, prepend=-1, append=len(lines)) - 1
-        return Columns(lines.replace(b"\n", b""), _ends(sizes), True)
-    if not lines.isascii() or not keys:
+    breaks = numpy.flatnonzero(numpy.frombuffer(lines, numpy.uint8) == 10) if numpy else ()
+    if len(breaks) + 1 == len(keys):
+        sizes = numpy.diff(breaks, prepend=-1, append=len(lines)) - 1 if numpy else array.array("Q", [len(lines)])
+    elif lines.isascii() and keys:
+        sizes = _sizes(keys, len(keys))
+    else:
         return None
-    return Columns("".join(keys).encode(), _ends(_sizes(keys, len(keys))), True)
+    return Columns("".join(keys).encode(), _ends(sizes), True)
 
 
 class _ArrowSchema(ctypes.Structure):

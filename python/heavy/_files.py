@@ -15,8 +15,9 @@ from typing import Any, Dict, Iterable, Iterator, List, NamedTuple, Optional, Tu
 
 from ._columns import ANY, Columns, Items, Key, Keys, bytes_of_key, columns_of, integer_of_weight, items_of, lent_items
 from ._columns import sum_of, text_of_bytes
-from ._library import BAD_METHOD, BAD_RECORD, BAD_THRESHOLD, LARGE, MAX_KEY, MAX_TOTAL, MIXED_KINDS, NOT_COUNTERS, REFUSED
-from ._library import SMALL, TOTAL_TOO_LARGE, USAGE, Entry, Fault, HeavyError, Pair, answer, calls, given, integer, joined, lent, word
+from ._library import BAD_METHOD, BAD_RECORD, BAD_THRESHOLD, DONE, LARGE, MAX_KEY, MAX_TOTAL, MIXED_KINDS, NOT_COUNTERS, REFUSED
+from ._library import SMALL, TABLE, TOTAL_TOO_LARGE, USAGE, Entry, Fault, HeavyError, InfoWords, Pair, answer, calls, given
+from ._library import integer, joined, lent, word
 from ._options import PLAIN, Layout, Threshold, share_of
 from ._records import Bounds, Given, Named, Records, Row, bytes_of, is_file, parts_of, records_in, rows_of, with_records
 
@@ -38,6 +39,17 @@ class Info(NamedTuple):
     slack: Optional[int] = None
     depth: Optional[int] = None
     width: Optional[int] = None
+
+
+def _info(saved: bytes) -> Info:
+    """What is in a saved file."""
+    words, fault = InfoWords(), Fault()
+    status = calls.heavy_info(*lent(saved), ctypes.byref(words), ctypes.byref(fault))
+    if status != DONE:
+        raise HeavyError(status, fault.kind, fault.cause, fault.number)
+    if words.kind == TABLE:
+        return Info(words.version, "table", words.total, depth=words.depth, width=words.width)
+    return Info(words.version, "summary", words.total, words.k, words.keys, words.counters, words.slack)
 
 
 def _with_items(saved: bytes, columns: Columns, weights: Any) -> bytes:
@@ -148,11 +160,7 @@ class _File:
         """
         saved = self.to_bytes()
         if self._known[0] is not saved:
-            told: Dict[str, Any] = {}
-            for row in self.describe_csv().decode().splitlines():
-                name, value = row.split(",")
-                told[name] = value if name == "kind" else int(value)
-            self._known = saved, Info(**told)
+            self._known = saved, _info(saved)
         found: Info = self._known[1]
         return found
 
@@ -604,6 +612,7 @@ class Summary(_File):
     def confirm(self, records: Records, threshold: Threshold = None, *, layout: Layout = PLAIN) -> List[Row]:
         """The exact report of the summary's keys that are heavy in these records, which are those that were summarised:
         above a share of the total of at least 1/(k + 1), or above just that, by falling weight and then by rising key.
+        Records with another total, or with a key whose weight is outside its bounds, are refused.
 
         >>> Summary.of_csv(b"a,5\\nb,2\\n", k=2, text=True).confirm(b"a,5\\nb,2\\n", "1/2")
         [Row(key='a', weight=5)]
@@ -617,11 +626,12 @@ class Summary(_File):
         b'a,5\\n'
         """
         share = share_of(threshold)
-        text = records_in(records)
-        words = (*lent(self.to_bytes()), *lent(text))
-        if not share[0]:
-            return answer(calls.heavy_confirm, *words, guess=SMALL)
-        return answer(calls.heavy_confirm_above, *words, *share, guess=SMALL)
+        return self._confirmed(records_in(records), share, layout)
+
+    def _confirmed(self, text: bytes, share: Tuple[int, int], layout: Layout) -> bytes:
+        """The rows of a report of records."""
+        words = (*lent(self.to_bytes()), *lent(text), *layout._words(), *share)
+        return answer(calls.heavy_confirm_records, *words, guess=SMALL)
 
     def condense(self, records: Records, *, layout: Layout = PLAIN) -> bytes:
         """CSV records that confirm the same: the weight of each key of the summary that comes, and in one more that of all
@@ -631,7 +641,7 @@ class Summary(_File):
         b'a,1\\nothers,2\\n'
         """
         text = records_in(records)
-        return answer(calls.heavy_condense, *lent(self.to_bytes()), *lent(text), guess=SMALL)
+        return answer(calls.heavy_condense_records, *lent(self.to_bytes()), *lent(text), *layout._words(), guess=SMALL)
 
     def confirm_items(
         self, keys: Keys, weights: Iterable[int] | None = None, threshold: Threshold = None
@@ -645,12 +655,12 @@ class Summary(_File):
 
     def _confirm(self, items: Items, share: Tuple[int, int]) -> List[Row]:
         """The report of items that were checked."""
+        return rows_of(self._confirmed(self._condensed(items), share, PLAIN), self.text)
+
+    def _condensed(self, items: Items) -> bytes:
+        """Records that confirm the same as items that were checked."""
         words = (*lent(self.to_bytes()), *lent_items(items.columns, items.weights))
-        if share[0]:
-            rows = answer(calls.heavy_confirm_items_above, *words, *share, guess=SMALL)
-        else:
-            rows = answer(calls.heavy_confirm_items, *words, guess=SMALL)
-        return rows_of(rows, self.text)
+        return answer(calls.heavy_condense_items, *words, guess=SMALL)
 
     def condense_items(self, keys: Keys, weights: Iterable[int] | None = None) -> bytes:
         """What `condense` gives of items in memory, which are as `update_many` takes them: so a second pass goes over
@@ -660,9 +670,7 @@ class Summary(_File):
         >>> summary.confirm(summary.condense_items(["a", "b"], [3, 2]) + summary.condense_items({"a": 2}))
         [Row(key=b'a', weight=5)]
         """
-        items = items_of(keys, weights, ANY)
-        words = (*lent(self.to_bytes()), *lent_items(items.columns, items.weights))
-        return answer(calls.heavy_condense_items, *words, guess=SMALL)
+        return self._condensed(items_of(keys, weights, ANY))
 
 
 class _Rows(NamedTuple):
@@ -813,11 +821,11 @@ def report_csv(
     count = integer("workers", workers)
     if count < 1:
         raise ValueError("there must be a worker")
-    share_of(threshold)
+    share = share_of(threshold)
     whole = records_in(records)
     parts = parts_of(whole, min(count, 64), layout)
     if len(parts) == 1:
-        return Summary.of_csv(whole, k, layout=layout).confirm_csv(whole, threshold, layout=layout)
+        return answer(calls.heavy_report, *lent(whole), *layout._words(), word("k", k), *share, guess=SMALL)
     try:
         with ThreadPoolExecutor(len(parts)) as pool:
             summary = merge(pool.map(lambda part: Summary.of_csv(part, k, layout=layout), parts))

@@ -12,29 +12,9 @@ DONE, USAGE, REFUSED, TOO_SMALL = 0, 2, 3, 5
 BAD_K, BAD_METHOD, BAD_RECORD, MIXED_KINDS, NOT_COUNTERS = 2, 7, 9, 11, 14
 BAD_THRESHOLD, BAD_DELIMITER = 19, 22
 TOTAL_TOO_LARGE = 6  # a cause of BAD_RECORD
+TABLE = 2  # a kind of file
 MAX_KEY, MAX_TOTAL = 4096, 2**63 - 1
 SMALL, LARGE = 1 << 16, 1 << 20  # bytes of rooms that are tried first
-
-_RECORD = ["wrong number of fields", "empty key", "key too long", "bad weight", "zero weight", "total too large"]
-_FILE = [
-    "truncated", "bad magic", "bad kind", "bad k", "bad count", "bad key", "keys out of order", "bad counter",
-    "counters above total", "bad width", "bad depth", "bad coefficient", "total too large", "row does not sum to total",
-    "trailing bytes",
-]
-_MERGE = ["another k", "another hash family", "another width", "total too large"]
-_KEY = ["empty", "too long"]
-_CAUSES = {9: ("record", _RECORD), 10: ("file", _FILE), 12: ("file", _MERGE), 13: ("key", _KEY)}
-_TEXTS = {
-    1: "depth must be 1 to 16",
-    2: "k must be 1 to 65535",
-    4: "width must be 1 to 65536",
-    7: "method must be mg or ss",
-    14: "file 1: not a counter summary",
-    15: "file 1: its total is not the input's",
-    18: "out of memory",
-    19: "threshold must be P/Q with 1 <= P <= Q <= 4294967296 and P*(K+1) >= Q",
-    22: "delimiter must be one byte or \\t, and no quote, CR or LF",
-}
 
 
 class HeavyError(ValueError):
@@ -50,14 +30,7 @@ class HeavyError(ValueError):
     def __init__(self, status: int, kind: int, cause: int, number: int) -> None:
         self.status = status
         self.number = number
-        if kind in _CAUSES:
-            what, causes = _CAUSES[kind]
-            text = f"{what} {number}: {causes[cause - 1]}"
-        elif kind == MIXED_KINDS:
-            text = f"file {number}: another kind"
-        else:
-            text = _TEXTS.get(kind, f"fault {kind}")
-        super().__init__(text)
+        super().__init__(_text_of(Fault(kind, cause, number)))
         self.numbers = (status, kind, cause, number)
 
     def __reduce__(self) -> tuple[type[HeavyError], tuple[int, int, int, int], dict[str, Any]]:
@@ -80,6 +53,24 @@ class Entry(ctypes.Structure):
     _fields_ = [("start", ctypes.c_size_t), ("len", ctypes.c_size_t), ("counter", ctypes.c_uint64)]
 
 
+class LayoutWords(ctypes.Structure):
+    """How records are laid out, beside the columns."""
+
+    _fields_ = [
+        ("delimiter", ctypes.c_uint8), ("header", ctypes.c_uint8), ("allow_zero", ctypes.c_uint8),
+        ("decimals", ctypes.c_uint8), ("has_weight", ctypes.c_uint32), ("hash", ctypes.c_uint64 * 2),
+    ]
+
+
+class InfoWords(ctypes.Structure):
+    """What is in a saved file."""
+
+    _fields_ = [
+        ("kind", ctypes.c_uint32), ("version", ctypes.c_uint32),
+        *((name, ctypes.c_uint64) for name in ("total", "k", "keys", "counters", "slack", "width", "depth")),
+    ]
+
+
 def _loaded() -> ctypes.CDLL:
     """The library that LIBHEAVY names, or the one beside this file, or else the system's."""
     beside = Path(__file__).resolve().parent / "libheavy.so.1"
@@ -88,38 +79,45 @@ def _loaded() -> ctypes.CDLL:
     read, size, number = ctypes.c_void_p, ctypes.c_size_t, ctypes.c_uint64
     out = [ctypes.c_void_p, size, ctypes.POINTER(size), ctypes.POINTER(Fault)]
     items = [read, size, ctypes.POINTER(number), size, ctypes.POINTER(number), size]
+    layout = [ctypes.POINTER(LayoutWords), read, size, ctypes.POINTER(size), size]
     bounds = [ctypes.POINTER(number), ctypes.POINTER(number), ctypes.POINTER(Fault)]
     version = library.heavy_version
     version.argtypes, version.restype = [], ctypes.c_uint32
     if version() != _VERSION:
         raise ImportError(f"libheavy has interface {version()}, and this module is for {_VERSION}")
     for name, words in {
-        "heavy_summarise": [read, size, number, ctypes.c_uint32, *out],
+        "heavy_strerror": [ctypes.POINTER(Fault), *out[:3]],
+        "heavy_info": [read, size, ctypes.POINTER(InfoWords), ctypes.POINTER(Fault)],
         "heavy_empty": [number, *out],
         "heavy_add": [read, size, *items, *out],
-        "heavy_add_text": [read, size, read, size, *out],
+        "heavy_add_records": [read, size, read, size, *layout, *out],
         "heavy_empty_table": [number, number, number, *out],
-        "heavy_table": [read, size, number, number, number, *out],
         "heavy_merge": [read, size, ctypes.POINTER(size), size, *out],
         "heavy_ask": [read, size, read, size, *bounds],
         "heavy_ask_keys": [read, size, read, size, ctypes.POINTER(size), size, *out],
         "heavy_entries": [read, size, *out],
-        "heavy_confirm": [read, size, read, size, *out],
-        "heavy_confirm_above": [read, size, read, size, number, number, *out],
-        "heavy_condense": [read, size, read, size, *out],
+        "heavy_confirm_records": [read, size, read, size, *layout, number, number, *out],
+        "heavy_condense_records": [read, size, read, size, *layout, *out],
+        "heavy_report": [read, size, *layout, number, number, number, *out],
         "heavy_condense_items": [read, size, *items, *out],
-        "heavy_confirm_items": [read, size, *items, *out],
-        "heavy_confirm_items_above": [read, size, *items, number, number, *out],
         "heavy_list": [read, size, *out],
         "heavy_describe": [read, size, *out],
     }.items():
         getattr(library, name).argtypes = words
         getattr(library, name).restype = ctypes.c_uint32
-    library.heavy_whole_records.argtypes, library.heavy_whole_records.restype = [read, size], size
+    library.heavy_whole_records_by.argtypes, library.heavy_whole_records_by.restype = [read, size, ctypes.c_uint8], size
     return library
 
 
 calls = _loaded()
+
+
+def _text_of(fault: Fault) -> str:
+    """The text that the program has for a fault."""
+    out, needed = ctypes.create_string_buffer(128), ctypes.c_size_t()
+    if calls.heavy_strerror(ctypes.byref(fault), out, len(out), ctypes.byref(needed)) != DONE:
+        return "out of memory"
+    return out.raw[: needed.value].decode()
 
 
 def integer(name: str, number: Any) -> int:

@@ -10,7 +10,7 @@ from decimal import Decimal
 from fractions import Fraction
 from typing import Any, Optional, Sequence, Tuple, Union
 
-from ._library import BAD_DELIMITER, BAD_THRESHOLD, USAGE, HeavyError, integer, joined, word
+from ._library import BAD_DELIMITER, BAD_THRESHOLD, USAGE, HeavyError, LayoutWords, integer, joined, word
 
 Threshold = Union[None, str, Fraction, Decimal, float, Tuple[int, int]]
 Column = Union[int, str, bytes]
@@ -72,13 +72,6 @@ def _fraction_of(threshold: Any) -> Fraction:
     return share
 
 
-class _Words(ctypes.Structure):
-    _fields_ = [
-        ("delimiter", ctypes.c_uint8), ("header", ctypes.c_uint8), ("allow_zero", ctypes.c_uint8),
-        ("decimals", ctypes.c_uint8), ("has_weight", ctypes.c_uint32), ("hash", ctypes.c_uint64 * 2),
-    ]
-
-
 @dataclass(frozen=True, repr=False)
 class Layout:
     """How the records of a text are laid out, as the program's options say it.
@@ -106,7 +99,9 @@ class Layout:
         for name in ("header", "allow_zero"):
             if not isinstance(getattr(self, name), bool):
                 raise TypeError(f"{name} must be True or False, not {type(getattr(self, name)).__name__!r}")
-        integer("decimals", self.decimals)
+        object.__setattr__(self, "decimals", integer("decimals", self.decimals))
+        if not 0 <= self.decimals <= 9:
+            raise ValueError(f"decimals must be 0 to 9, not {self.decimals}")
         if isinstance(self.key, list):
             object.__setattr__(self, "key", tuple(self.key))
         self._separator, self._columns  # what is no option is refused here
@@ -129,15 +124,15 @@ class Layout:
     def _columns(self) -> list[bytes]:
         """The columns of the key, and behind them that of the weight."""
         keys: Any = self.key
-        listed = [] if keys is None else [keys] if isinstance(keys, (str, bytes)) or hasattr(keys, "__index__") else [*keys]
-        if keys is not None and not listed:
+        listed = [] if keys is None else keys if isinstance(keys, tuple) else [keys]
+        if not listed and keys is not None:
             raise ValueError("key must name a column")
         return [_column("key", it) for it in listed] + ([] if self.weight is None else [_column("weight", self.weight)])
 
     def _words(self) -> tuple[Any, ...]:
         """The layout as a call takes it, with random words by which it hashes keys."""
-        told = _Words(
-            self._separator[0], self.header, self.allow_zero, min(word("decimals", self.decimals), 255),
+        told = LayoutWords(
+            self._separator[0], self.header, self.allow_zero, self.decimals,
             self.weight is not None, (secrets.randbits(64) | 1, secrets.randbits(64)),
         )
         return ctypes.byref(told), *joined(self._columns)

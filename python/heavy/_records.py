@@ -68,7 +68,7 @@ def is_file(records: Records) -> bool:
 
 def whole_records(text: bytes, layout: Layout) -> int:
     """How many bytes of a part of a text are whole records, behind which the text may be cut before a line feed."""
-    return int(calls.heavy_whole_records(*lent(text)))
+    return int(calls.heavy_whole_records_by(*lent(text), layout._separator[0]))
 
 
 def parts_read(records: Records, layout: Layout) -> Iterator[bytes]:
@@ -105,7 +105,7 @@ def parts_of(text: bytes, count: int, layout: Layout) -> list[bytes]:
 
 def with_text(saved: bytes, text: bytes, layout: Layout) -> bytes:
     """A saved file with the records of a text added."""
-    return answer(calls.heavy_add_text, *lent(saved), *lent(text), guess=len(saved) + SMALL)
+    return answer(calls.heavy_add_records, *lent(saved), *lent(text), *layout._words(), guess=len(saved) + SMALL)
 
 
 def with_records(saved: bytes, records: Records, layout: Layout) -> bytes:
