@@ -1,6 +1,6 @@
 # What bin/install, bin/install-library, bin/wheel and bin/release share, over bin/build.bash: `build_library` builds
 # the library for C where its sources are newer than what was built, and `make_library FOLDER PREFIX` makes there what
-# is installed below that PREFIX. CC and AR may name the compiler and ar.
+# is installed below that PREFIX. CC, AR, LD and OBJCOPY may name the compiler, ar, ld and objcopy.
 # shellcheck shell=bash disable=SC2154
 library="$top/crates/heavy_ffi"
 archive="$library/out/libheavy_ffi.a"
@@ -30,11 +30,28 @@ build_library() {
 # The calls that the header declares.
 calls_of_library() { sed -n -E 's/^(uint32_t|size_t) (heavy_[a-z_]*)\(.*/\2/p' "$top/include/heavy.h"; }
 
+# Whether there is what hides the names of a static library that are no calls.
+can_hide() { command -v "${LD:-ld}" > /dev/null && command -v "${OBJCOPY:-objcopy}" > /dev/null; }
+
+# Makes of the static library in this folder one object, which shows the calls of the header and nothing else.
+hide_others() {
+  can_hide || { tell "there is no ld or no objcopy, so libheavy.a shows names beside those of heavy.h"; return 0; }
+  (
+    cd "$1"
+    calls_of_library > calls
+    "${LD:-ld}" -r -o heavy.o --whole-archive libheavy.a
+    "${OBJCOPY:-objcopy}" --keep-global-symbols=calls heavy.o
+    rm libheavy.a
+    "${AR:-ar}" rcs libheavy.a heavy.o
+  )
+}
+
 # The static library in this folder, with the toolchain's own few functions of C.
 make_static() {
   cp "$archive" "$1/libheavy.a"
   chmod u+w "$1/libheavy.a"
   (cd "$1" && "${AR:-ar}" x "$functions" && "${AR:-ar}" rs libheavy.a ./*.o 2> /dev/null)
+  hide_others "$1"
 }
 
 # The shared library beside it, which shows the calls of the header and nothing else.

@@ -68,6 +68,11 @@ extern "C" {
 #define HEAVY_BAD_THRESHOLD 19u
 #define HEAVY_BAD_END 20u /* number of the item */
 #define HEAVY_BAD_WEIGHT_COUNT 21u
+#define HEAVY_BAD_DELIMITER 22u
+#define HEAVY_BAD_COLUMN 23u
+#define HEAVY_NO_COLUMN 24u
+#define HEAVY_WEIGHT_OUTSIDE 25u
+#define HEAVY_BAD_LAYOUT 26u
 
 #define HEAVY_RECORD_FIELD_COUNT 1u
 #define HEAVY_RECORD_EMPTY_KEY 2u
@@ -100,6 +105,10 @@ extern "C" {
 #define HEAVY_KEY_EMPTY 1u
 #define HEAVY_KEY_TOO_LONG 2u
 
+/* Kinds of saved file. */
+#define HEAVY_SUMMARY 1u
+#define HEAVY_TABLE 2u
+
 /* Why a call refused. Records, items, files and keys are numbered from 1. */
 struct heavy_fault {
     uint32_t kind;
@@ -118,6 +127,36 @@ struct heavy_entry {
     size_t start;
     size_t len;
     uint64_t counter;
+};
+
+/* How the records of a text are laid out, beside the columns, which a call takes behind it: the next lengths[i] of the
+   columns_len bytes are column i, of count. Each is a column's number in digits, from 1 on, or with a header its name. A key
+   of several columns is the CSV text of their fields, as the program's --key makes it. Where there are no columns, a record
+   is a key and, behind the delimiter, its weight, or 1. Where there are only those of the key, each record weighs 1; where
+   there is only that of the weight, the key is column 1.
+   A call tests the layout first, before all that it tests else: its numbers (HEAVY_BAD_LAYOUT), then the delimiter
+   (HEAVY_BAD_DELIMITER), then the columns (HEAVY_BAD_COLUMN), all with HEAVY_USAGE. A column that the text's header has
+   not is told where the text is read, before its records: HEAVY_REFUSED and HEAVY_NO_COLUMN. */
+struct heavy_layout {
+    uint8_t delimiter;   /* the byte between two fields, but for a quote, CR or LF */
+    uint8_t header;      /* 1: the first record names the columns, and is no record; else 0 */
+    uint8_t allow_zero;  /* 1: a record of weight 0 or - adds nothing, and is no fault; else 0 */
+    uint8_t decimals;    /* the most digits of a weight behind its point, 0 to 9; it counts in units of the last */
+    uint32_t has_weight; /* 1: the last of the columns is the weight's; 0: all are the key's */
+    uint64_t hash[2];    /* the words by which keys are hashed, drawn at random where others choose the keys; or both 0 */
+};
+
+/* What is in a saved file. What the other kind of file has is 0. */
+struct heavy_info {
+    uint32_t kind;     /* HEAVY_SUMMARY or HEAVY_TABLE */
+    uint32_t version;  /* the file's, 1 or 2 */
+    uint64_t total;    /* what all items weigh */
+    uint64_t k;        /* a summary's k */
+    uint64_t keys;     /* how many keys have a counter */
+    uint64_t counters; /* what the counters add up to */
+    uint64_t slack;    /* how far a counter may be below its key's weight */
+    uint64_t width;    /* a table's width and depth */
+    uint64_t depth;
 };
 
 /* The most bytes of a key, and the largest k. */
@@ -254,6 +293,64 @@ uint32_t heavy_confirm_items_above(const uint8_t *file, size_t file_len, const u
                                    uint64_t p, uint64_t q, uint8_t *out, size_t out_len, size_t *needed,
                                    struct heavy_fault *fault);
 
+/* Gives the text that the program has for a fault, without a 0 at its end: "record 3: zero weight". Of no fault, all zeros,
+   it is "no fault", and of numbers that no call tells "unknown fault". It answers HEAVY_DONE, HEAVY_TOO_SMALL or
+   HEAVY_MEMORY, and never that last one for HEAVY_NO_MEMORY. No text has more than 128 bytes. */
+uint32_t heavy_strerror(const struct heavy_fault *fault, uint8_t *out, size_t out_len, size_t *needed);
+
+/* Tells what is in a saved file. At another status than HEAVY_DONE *info is as it was. */
+uint32_t heavy_info(const uint8_t *file, size_t file_len, struct heavy_info *info, struct heavy_fault *fault);
+
+/* Tells what heavy_whole_records tells, of a text with this byte between two fields. */
+size_t heavy_whole_records_by(const uint8_t *text, size_t text_len, uint8_t delimiter);
+
+/* Gives what heavy_summarise gives, of records of a layout. The layout is tested first, then k, then the records. */
+uint32_t heavy_summarise_records(const uint8_t *text, size_t text_len, const struct heavy_layout *layout,
+                                 const uint8_t *columns, size_t columns_len, const size_t *lengths, size_t count,
+                                 uint64_t k, uint8_t *out, size_t out_len, size_t *needed, struct heavy_fault *fault);
+
+/* Gives what heavy_table gives, of records of a layout. The layout is tested first, then the depth, then the width, then
+   the records. */
+uint32_t heavy_table_records(const uint8_t *text, size_t text_len, const struct heavy_layout *layout,
+                             const uint8_t *columns, size_t columns_len, const size_t *lengths, size_t count,
+                             uint64_t width, uint64_t depth, uint64_t seed, uint8_t *out, size_t out_len, size_t *needed,
+                             struct heavy_fault *fault);
+
+/* Gives what heavy_add_text gives, with records of a layout. With a header each text has its own, so a part of a longer text
+   is lent with the header's line in front. The layout is tested first, then the file, then the records, and then their items.
+   Weights that were summarised with other decimals are other units. */
+uint32_t heavy_add_records(const uint8_t *file, size_t file_len, const uint8_t *text, size_t text_len,
+                           const struct heavy_layout *layout, const uint8_t *columns, size_t columns_len,
+                           const size_t *lengths, size_t count, uint8_t *out, size_t out_len, size_t *needed,
+                           struct heavy_fault *fault);
+
+/* Gives the rows `key,weight` of a saved summary's keys above the share p/q in records of a layout, which have to be those
+   that were summarised; p and q are as heavy_confirm_above takes them, or both 0 for 1/(k + 1). Weights have as many digits
+   behind the point as the layout's. As in the program, records that contradict the summary are refused: where a key weighs
+   less than its counter, or more than its counter and the slack, the call answers HEAVY_REFUSED and HEAVY_WEIGHT_OUTSIDE.
+   The layout is tested first, then the file, then its kind, then the share, then the records, then the totals, then that. */
+uint32_t heavy_confirm_records(const uint8_t *file, size_t file_len, const uint8_t *text, size_t text_len,
+                               const struct heavy_layout *layout, const uint8_t *columns, size_t columns_len,
+                               const size_t *lengths, size_t count, uint64_t p, uint64_t q, uint8_t *out, size_t out_len,
+                               size_t *needed, struct heavy_fault *fault);
+
+/* Gives what heavy_condense gives, of records of a layout, which may be a part of those that were summarised: records of a
+   key, a comma and a weight, with as many digits behind the point as the layout's. Where a key weighs more than its counter
+   and the slack, the call answers HEAVY_REFUSED and HEAVY_WEIGHT_OUTSIDE. The layout is tested first, then the file, then
+   its kind, then the records, then that. */
+uint32_t heavy_condense_records(const uint8_t *file, size_t file_len, const uint8_t *text, size_t text_len,
+                                const struct heavy_layout *layout, const uint8_t *columns, size_t columns_len,
+                                const size_t *lengths, size_t count, uint8_t *out, size_t out_len, size_t *needed,
+                                struct heavy_fault *fault);
+
+/* Gives the exact report of records of a layout: the rows `key,weight` of all keys above the share p/q of the total, by
+   falling weight and then by rising key, as the program's report has them. k is from 1 to 65535, and p and q are as
+   heavy_confirm_records takes them. The text is read twice, and k counters are kept. The layout is tested first, then k,
+   then the share, then the records. */
+uint32_t heavy_report(const uint8_t *text, size_t text_len, const struct heavy_layout *layout, const uint8_t *columns,
+                      size_t columns_len, const size_t *lengths, size_t count, uint64_t k, uint64_t p, uint64_t q,
+                      uint8_t *out, size_t out_len, size_t *needed, struct heavy_fault *fault);
+
 #ifdef __cplusplus
 }
 #endif
@@ -267,6 +364,10 @@ _Static_assert(offsetof(struct heavy_bounds, high) == 8, "the most follows the l
 _Static_assert(sizeof(struct heavy_entry) == 24, "an entry has 24 bytes");
 _Static_assert(offsetof(struct heavy_entry, len) == 8, "the length follows the start");
 _Static_assert(offsetof(struct heavy_entry, counter) == 16, "the counter comes last");
+_Static_assert(sizeof(struct heavy_layout) == 24, "a layout has 24 bytes");
+_Static_assert(offsetof(struct heavy_layout, hash) == 8, "the hash's words come last");
+_Static_assert(sizeof(struct heavy_info) == 64, "an info has 64 bytes");
+_Static_assert(offsetof(struct heavy_info, total) == 8, "the total follows kind and version");
 _Static_assert(sizeof(size_t) == 8, "the library is built for 64-bit machines");
 #endif
 

@@ -10,12 +10,10 @@ CRATES = programs.TOP / "crates"
 FFI = CRATES / "heavy_ffi"
 # The definitions that give numbers, and how the header's names for them begin.
 GROUPS = {"kind_of": "", "record_cause": "RECORD_", "file_cause": "FILE_", "merge_cause": "MERGE_", "key_cause": "KEY_"}
-# Faults that no call has: of options that only the program has, of devices, and of records that contradict a summary, which
-# the program alone compares; and want of memory has a kind.
+# Faults that no call has: of options that only the program has, and of devices; and want of memory has a kind.
 NOT_FOR_C = {
-    "HEAVY_BAD_WORKERS", "HEAVY_BAD_PIECES", "HEAVY_BAD_TREE", "HEAVY_BAD_DELIMITER", "HEAVY_BAD_COLUMN",
-    "HEAVY_NO_COLUMN", "HEAVY_WEIGHT_OUTSIDE", "HEAVY_READ_FAULT", "HEAVY_WRITE_FAULT", "HEAVY_FILE_FAULT",
-    "HEAVY_FILE_MEMORY",
+    "HEAVY_BAD_WORKERS", "HEAVY_BAD_PIECES", "HEAVY_BAD_TREE", "HEAVY_READ_FAULT", "HEAVY_WRITE_FAULT",
+    "HEAVY_FILE_FAULT", "HEAVY_FILE_MEMORY",
 }
 # The faults whose statuses have names.
 STATUSES = {"DEVICE": "ReadFault", "USAGE": "BadK", "REFUSED": "BadRecord", "MEMORY": "Memory"}
@@ -23,10 +21,12 @@ STRUCTURES = {
     "heavy_fault": (FFI / "src" / "fault.rt", "Fault"),
     "heavy_bounds": (FFI / "src" / "room.rt", "Bounds"),
     "heavy_entry": (CRATES / "hh_saved" / "src" / "layout.rt", "Place"),
+    "heavy_layout": (FFI / "src" / "layout.rt", "TextLayout"),
+    "heavy_info": (FFI / "src" / "info.rt", "Info"),
 }
 TYPES = {"u8": "uint8_t", "u32": "uint32_t", "u64": "uint64_t", "usize": "size_t"}
 TYPES.update({name: f"struct {words}" for words, (_, name) in STRUCTURES.items()})
-SIZES = {"u32": 4, "u64": 8, "usize": 8}
+SIZES = {"u8": 1, "u32": 4, "u64": 8, "usize": 8}
 # The toolchain's clang has no headers of its own.
 HEADERS = programs.TOP / "tests" / "c" / "headers"
 
@@ -50,9 +50,10 @@ def numbers() -> dict[str, int]:
         if group in GROUPS:
             name = "NO_MEMORY" if (group, variant) == ("kind_of", "Memory") else words_of(variant)
             made[f"HEAVY_{GROUPS[group]}{name}"] = int(number)
-    items = (FFI / "specs" / "Items.antt").read_text()
-    for name, number in re.findall(r"^(\w+)_kind = (\d+)$", items, re.M):
-        made[f"HEAVY_{name.upper()}"] = int(number)
+    for file in ("Items", "Layouts", "Infos"):
+        kinds = (FFI / "specs" / f"{file}.antt").read_text()
+        for name, number in re.findall(r"^(\w+)_kind = (\d+)$", kinds, re.M):
+            made[f"HEAVY_{name.upper()}"] = int(number)
     for name, fault in STATUSES.items():
         status = found(rf"^status_of \(?tool\.{fault}\b[^=\n]*= (\d)$", CRATES / "hh_faults" / "specs" / "Status.antt")
         made[f"HEAVY_{name}"] = int(status)
@@ -86,11 +87,12 @@ def structures() -> list[str]:
     for name, (file, struct) in STRUCTURES.items():
         body = found(rf"^#\[repr\(C\)\]\npub struct {struct} \{{\n([^}}]*)\}}$", file)
         at = 0
-        for field, kind in re.findall(r"pub (\w+): (\w+),", body):
+        for field, kind, count in re.findall(r"pub (\w+): \[?(\w+)(?:; (\d+)\])?,", body):
             at += -at % SIZES[kind]
+            first = f"((struct {name} *)0)->{field}{'[0]' if count else ''}"
             lines.append(f'_Static_assert(offsetof(struct {name}, {field}) == {at}, "");')
-            lines.append(f'_Static_assert(_Generic(((struct {name} *)0)->{field}, {TYPES[kind]}: 1, default: 0), "");')
-            at += SIZES[kind]
+            lines.append(f'_Static_assert(_Generic({first}, {TYPES[kind]}: 1, default: 0), "");')
+            at += SIZES[kind] * int(count or 1)
         lines.append(f'_Static_assert(sizeof(struct {name}) == {at + -at % 8}, "");')
     return lines
 
@@ -108,7 +110,7 @@ def parameter(name: str, kind: str) -> str:
 def calls() -> dict[str, str]:
     """The declaration of each call, by name."""
     made = {}
-    source = (FFI / "src" / "lib.rt").read_text()
+    source = "".join(file.read_text() for file in sorted((FFI / "src").glob("*.rt")))
     for name, words, answer in re.findall(r'^pub extern "C" fn (\w+)\(([^)]*)\) -> (\w+)$', source, re.M):
         words = [it for it in re.findall(r"(\w+): ([^,]+)", words) if it[1] != "Global"]
         made[name] = f"{TYPES[answer]} {name}({', '.join(parameter(*it) for it in words) or 'void'});"

@@ -45,6 +45,11 @@ DRIFTS = [
     ("const uint64_t *ends,", "const size_t *ends,"),
     ("const uint8_t *key, size_t key_len, uint64_t *low", "const uint8_t *key, size_t key_len, uint64_t *least"),
     ("size_t heavy_whole_records(", "uint32_t heavy_whole_records("),
+    ("#define HEAVY_BAD_LAYOUT 26u", "#define HEAVY_BAD_LAYOUT 27u"),
+    ("#define HEAVY_TABLE 2u", "#define HEAVY_TABLE 3u"),
+    ("    uint8_t header;", "    uint16_t header;"),
+    ("    uint64_t hash[2];", "    uint64_t hash[3];"),
+    ("    uint64_t slack; ", "    uint32_t slack; "),
 ]
 
 
@@ -95,17 +100,30 @@ class Library(programs.Checks):
                         drifted != text and not header.compiles(drifted, self.room)[0])
 
     def try_c(self, compiler: str, prefix: str) -> None:
-        """The calls, and the calls without memory."""
-        program = compiled(compiler, "calls.c", prefix, self.room, "-fsanitize=address,undefined", "-fno-sanitize-recover=all")
-        if program is None:
+        """The calls, random sequences of them, and the calls without memory."""
+        sanitized = ["-fsanitize=address,undefined", "-fno-sanitize-recover=all"]
+        if compiled(compiler, "calls.c", prefix, self.room, *sanitized) is None:
             print(f"library: {compiler} has no sanitizers; the calls are tried without", flush=True)
-            program = compiled(compiler, "calls.c", prefix, self.room)
-        for name, made in [
-            ("calls", program),
-            ("calls without memory", compiled(compiler, "memory.c", prefix, self.room, "-fno-builtin")),
-        ]:
+            sanitized = []
+        for source in ("calls.c", "records.c", "sequences.c", "memory.c"):
+            words = ["-fno-builtin"] if source == "memory.c" else sanitized
+            made = compiled(compiler, source, prefix, self.room, *words)
             ended = programs.run([made]) if made else None
-            self.check(f"{name}, by {compiler}", ended is not None and (ended.status, ended.err) == (0, b""), ended)
+            self.check(f"{source}, by {compiler}", ended is not None and (ended.status, ended.err) == (0, b""), ended)
+
+    def try_example(self, compiler: str, prefix: str) -> None:
+        """The program of docs/C.md reports, and tells a fault as the program does."""
+        (source,) = re.findall(r"^```c\n(.*?)^```$", (programs.TOP / "docs" / "C.md").read_text(), re.M | re.S)
+        Path(self.room, "report.c").write_text(source)
+        made = compiled(compiler, f"{self.room}/report.c", prefix, self.room)
+        for text, wanted in [
+            (b"client;bytes\n10.0.0.1;5\n10.0.0.2;1\n10.0.0.1;2\n", (0, b"10.0.0.1,7\n10.0.0.2,1\n", b"")),
+            (b"client;bytes\n10.0.0.1;5\n10.0.0.2;0\n", (3, b"", b"heavy: record 2: zero weight\n")),
+            (b"client;octets\n10.0.0.1;5\n", (3, b"", b"heavy: the header has no such column\n")),
+        ]:
+            ended = programs.run([made], text) if made else None
+            right = ended is not None and (ended.status, ended.out, ended.err) == wanted
+            self.check(f"the example of docs/C.md, by {compiler}", right, ended)
 
     def try_memory(self, compiler: str, prefix: str) -> None:
         """The calls under valgrind: no byte is read that was not written, and all memory is given back."""
@@ -171,11 +189,18 @@ class Library(programs.Checks):
             self.check("sixty minutes", (hour.status, hour.out, left) == (0, b"x,59,59\ny,1,1\n\n", 60), (hour, left))
 
     def try_symbols(self, prefix: str) -> None:
-        """The shared library shows its calls alone."""
+        """Both libraries show their calls alone."""
         words = ["llvm-nm", "-D", "--defined-only", "--format=posix", f"{prefix}/lib/libheavy.so.1"]
         shown = subprocess.run(words, executable=programs.clang(), capture_output=True, text=True, check=True).stdout
         names = sorted(line.split("@")[0] for line in shown.splitlines() if " T " in line)
         self.check("the shared library's names", names == sorted(header.calls()), names)
+        with self.subTest("names of the static library"):
+            if not (shutil.which("ld") and shutil.which("objcopy")):
+                self.skipTest("a static library with no names but its calls wants ld and objcopy")
+            words = ["llvm-nm", "--extern-only", "--defined-only", "--format=just-symbols", f"{prefix}/lib/libheavy.a"]
+            shown = subprocess.run(words, executable=programs.clang(), capture_output=True, text=True, check=True).stdout
+            names = sorted(line for line in shown.split() if not line.endswith(":"))
+            self.assertEqual(names, sorted(header.calls()))
 
     def try_library(self, compiler: str) -> None:
         """The library as this compiler makes it, and its callers."""
@@ -188,6 +213,7 @@ class Library(programs.Checks):
         self.check("all is there", all(Path(prefix, file).exists() for file in INSTALLED))
         self.try_symbols(prefix)
         self.try_c(compiler, prefix)
+        self.try_example(compiler, prefix)
         self.try_python(prefix)
         self.try_pool(prefix)
         self.try_stream(prefix)

@@ -38,12 +38,17 @@ static struct heavy_fault told;
 static struct heavy_bounds bounds[3];
 static struct heavy_entry entries[3];
 
-enum { CALLS = 20 };
+enum { CALLS = 27 };
+
+static struct heavy_info info;
 
 static uint32_t call(int which) {
     const size_t lengths[] = {summary_len / 2, summary_len / 2}, ones[] = {1, 1, 30};
     static const uint8_t KEYS[] = "abzzzzzzzzzzzzzzzzzzzzzzzzzzzzzz";
     static const uint64_t ENDS[] = {1, 2, 32}, WEIGHTS[] = {5, 3, 2}, ALL[] = {5, 3, 3};
+    static const struct heavy_layout LAYOUT = {',', 0, 0, 0, 1, {5, 9}};
+    static const uint8_t COLUMNS[] = "12";
+    static const size_t COLUMN_LENGTHS[] = {1, 1};
     switch (which) {
     case 0: return heavy_summarise(TEXT, 16, 2, 1, room, sizeof room, &needed, &told);
     case 1: return heavy_summarise(TEXT, 16, 2, 2, room, sizeof room, &needed, &told);
@@ -70,13 +75,28 @@ static uint32_t call(int which) {
                                          &needed, &told);
     case 17: return heavy_empty_table(4, 2, 0, room, sizeof room, &needed, &told);
     case 18: return heavy_add_text(summary, summary_len / 2, TEXT, 16, room, sizeof room, &needed, &told);
+    case 19: return heavy_info(summary, summary_len / 2, &info, &told);
+    case 20:
+        return heavy_summarise_records(TEXT, 16, &LAYOUT, COLUMNS, 2, COLUMN_LENGTHS, 2, 2, room, sizeof room, &needed, &told);
+    case 21:
+        return heavy_table_records(TEXT, 16, &LAYOUT, COLUMNS, 2, COLUMN_LENGTHS, 2, 4, 2, 0, room, sizeof room, &needed, &told);
+    case 22:
+        return heavy_add_records(empty, sizeof empty, TEXT, 16, &LAYOUT, COLUMNS, 2, COLUMN_LENGTHS, 2, room, sizeof room, &needed,
+                                 &told);
+    case 23:
+        return heavy_confirm_records(summary, summary_len / 2, TEXT, 16, &LAYOUT, COLUMNS, 2, COLUMN_LENGTHS, 2, 1, 2, room,
+                                     sizeof room, &needed, &told);
+    case 24:
+        return heavy_condense_records(summary, summary_len / 2, TEXT, 16, &LAYOUT, COLUMNS, 2, COLUMN_LENGTHS, 2, room, sizeof room,
+                                      &needed, &told);
+    case 25: return heavy_report(TEXT, 16, &LAYOUT, COLUMNS, 2, COLUMN_LENGTHS, 2, 2, 0, 0, room, sizeof room, &needed, &told);
     default: return heavy_add(cells, sizeof cells, KEYS, 32, ENDS, 3, WEIGHTS, 3, room, sizeof room, &needed, &told);
     }
 }
 
 static int is_untouched(void) {
-    const uint8_t *rooms[] = {room, (const uint8_t *)bounds, (const uint8_t *)entries};
-    return rooms[0][0] == 0xAA && rooms[1][0] == 0xAA && rooms[2][0] == 0xAA;
+    const uint8_t *rooms[] = {room, (const uint8_t *)bounds, (const uint8_t *)entries, (const uint8_t *)&info};
+    return rooms[0][0] == 0xAA && rooms[1][0] == 0xAA && rooms[2][0] == 0xAA && rooms[3][0] == 0xAA;
 }
 
 /* How many refusals the call met; -1 where one was answered wrongly. */
@@ -85,6 +105,7 @@ static int refusals_of(int which) {
         memset(room, 0xAA, sizeof room);
         memset(bounds, 0xAA, sizeof bounds);
         memset(entries, 0xAA, sizeof entries);
+        memset(&info, 0xAA, sizeof info);
         long before = held;
         left = i;
         uint32_t status = call(which);
@@ -94,7 +115,24 @@ static int refusals_of(int which) {
             return -1;
         if (!was_refused)
             return status == HEAVY_DONE ? i : -1;
-        if (status != HEAVY_MEMORY || told.kind != HEAVY_NO_MEMORY || (which != 4 && needed != 0) || !is_untouched())
+        if (status != HEAVY_MEMORY || told.kind != HEAVY_NO_MEMORY || (which != 4 && which != 19 && needed != 0)
+            || !is_untouched())
+            return -1;
+    }
+    return -1;
+}
+
+/* How many refusals the text of a fault met; -1 where one was answered wrongly. */
+static int refusals_of_text(struct heavy_fault fault, const char *text) {
+    for (int i = 0; i < 1000; i++) {
+        memset(room, 0xAA, sizeof room);
+        left = i;
+        uint32_t status = heavy_strerror(&fault, room, sizeof room, &needed);
+        int was_refused = left < 0;
+        left = -1;
+        if (!was_refused)
+            return status == HEAVY_DONE && needed == strlen(text) && memcmp(room, text, needed) == 0 ? i : -1;
+        if (status != HEAVY_MEMORY || needed != 0 || !is_untouched())
             return -1;
     }
     return -1;
@@ -134,6 +172,9 @@ int main(void) {
         wrong += met <= 0;
         refusals += met > 0 ? met : 0;
     }
+    static const struct heavy_fault ZERO = {HEAVY_BAD_RECORD, HEAVY_RECORD_ZERO_WEIGHT, 3}, NONE = {HEAVY_NO_MEMORY, 0, 0};
+    wrong += refusals_of_text(ZERO, "record 3: zero weight") <= 0;
+    wrong += refusals_of_text(NONE, "out of memory") != 0;
     static const char SUMMARY[] = "HHS1\1\xff\xff\0\0\0\0\0\0\0\0\xff\xff", TABLE[] = "HHS1\2\0\1\0\0\20";
     wrong += !is_cut_short(SUMMARY, sizeof SUMMARY - 1) + !is_cut_short(TABLE, sizeof TABLE - 1);
     wrong += !is_added_to_cut_short(SUMMARY, sizeof SUMMARY - 1);

@@ -1,2 +1,3 @@
+pub mod LayoutFacts
 pub mod OutcomeFacts
 pub mod SizeFacts

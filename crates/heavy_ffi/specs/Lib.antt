@@ -1,3 +1,5 @@
 pub mod Faults
+pub mod Infos
 pub mod Items
+pub mod Layouts
 pub mod Outcomes

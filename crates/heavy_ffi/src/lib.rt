@@ -5,9 +5,13 @@
 #![tactic(auto)]
 
 mod fault;
+mod info;
 mod items;
+mod layout;
 mod parts;
+mod records;
 mod room;
+mod told;
 
 ghost use Rattle.std.specs.Prelude.{◌≡◌, ◌≢◌, ◌<◌, ◌≤◌, ◌⊎◌, [], ◌∷◌, length, map, Ok, Some, None};
 ghost use Rattle.std.specs.Prelude.{IfErr, IfOk, IfSome};
@@ -56,7 +60,9 @@ use hh_pieces::whole_records;
 use hh_saved::laws::sizes_are_bounded;
 use hh_saved::{Place, read};
 use hh_stream::KeyHash;
+pub use info::Info;
 use items::{items_of, shape_fault};
+pub use layout::TextLayout;
 use parts::files_of;
 pub use room::Bounds;
 use room::{DONE, USAGE, all_bounds, answer};
@@ -71,6 +77,7 @@ fn summary_by(alloc: Global, text: &[u8], k: u64, method: u32) -> Result<Vec<u8>
         SavesStream (λ xs. Counters (sketch_of k xs)) (text_known (Some text.now)) bytes.items) }
     ensures refused { IfErr result (λ fault.
         RefusedAfter (bad_summary method k) (text_known (Some text.now)) fault) }
+    ensures early { IfSome (bad_summary method k) (λ fault. result ≡ Err fault) }
 {
     let method = match method {
         1 => Method::MisraGries,
@@ -96,6 +103,7 @@ pub extern "C" fn heavy_summarise(
         (SavesStream (λ xs. Counters (sketch_of k xs)) (text_known (Some text.now)))
         (RefusedAfter (bad_summary method k) (text_known (Some text.now)))
         result out.old out.new needed.new fault.new }
+    ensures early { IfSome (bad_summary method k) (IsTold result fault.new) }
     ensures no_bytes { result ≢ 0 → result ≢ 5 → needed.new ≡ 0 }
     ensures enough { most_summary_bytes k max_key_len ≤ length out.old → result ≢ 5 }
 {

@@ -26,7 +26,7 @@ pub struct Bounds {
 }
 
 /// Copies what a call gives into the room, where it has place, and tells its number.
-fn give<T: Copy>(given: &[T], out: &mut [T], needed: &mut usize) -> u32
+pub(crate) fn give<T: Copy>(given: &[T], out: &mut [T], needed: &mut usize) -> u32
     ensures needed { needed.new ≡ length given.now }
     ensures given { result ≡ 0 → take needed.new out.new ≡ given.now }
     ensures within { result ≡ 0 → needed.new ≤ length out.old }

@@ -4,3 +4,4 @@ pub mod Confirm
 pub mod ConfirmShare
 pub mod CountItems
 pub mod Entries
+pub mod LaidOut

@@ -8,4 +8,5 @@ pub(crate) mod count_items;
 pub(crate) mod entries;
 pub(crate) mod grow_table;
 pub(crate) mod keys;
+pub(crate) mod laid_out;
 pub(crate) mod plain;

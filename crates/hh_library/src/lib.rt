@@ -4,6 +4,7 @@
 #![tactic(auto)]
 
 mod commands;
+mod hashing;
 mod items;
 
 pub use commands::add::{add_items, empty_summary};
@@ -14,7 +15,11 @@ pub use commands::count_items::{condense_items, confirm_items};
 pub use commands::entries::list_entries;
 pub use commands::grow_table::empty_table;
 pub use commands::keys::{ask_key, ask_keys};
+pub use commands::laid_out::{
+    TextRecords, add_records, condense_bounded, confirm_bounded, report_bytes,
+};
 pub use commands::plain::{
     ask_bytes, condense_bytes, condense_bytes_with_hasher, confirm_above, confirm_bytes,
     confirm_bytes_with_hasher, list_keys, summary_bytes, summary_bytes_with_hasher, table_bytes,
 };
+pub use hashing::hash_of;

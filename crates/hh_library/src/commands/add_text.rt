@@ -12,7 +12,10 @@ use hh_stream::Stream;
 use std::alloc::{AllocError, Global};
 
 /// The items of a stream, as `add_items` takes them.
-fn items_in<'a>(alloc: Global, stream: &'a Stream) -> Result<Vec<(&'a [u8], u64)>, AllocError>
+pub(crate) fn items_in<'a>(
+    alloc: Global,
+    stream: &'a Stream,
+) -> Result<Vec<(&'a [u8], u64)>, AllocError>
     ensures { IfOk result (λ items.
         map (λ item. (item.0.now, item.1)) items.items ≡ stream.now) }
 {

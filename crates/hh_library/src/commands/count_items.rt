@@ -1,6 +1,6 @@
 //! Items in memory, condensed and confirmed by a saved summary.
 
-ghost use Rattle.std.specs.Prelude.{◌≡◌, Ok, Some, true, IfOk, IfErr, IfSome, map};
+ghost use Rattle.std.specs.Prelude.{◌≡◌, ◌*◌, ◌+◌, ◌≤◌, Ok, Some, true, IfOk, IfErr, IfSome, map};
 ghost use Rattle.hh_summaries.specs.Counters.{max_k};
 ghost use Rattle.hh_summaries.specs.Report.{IsShare};
 ghost use Rattle.hh_stream.specs.Ranges.{in_range};
@@ -43,10 +43,11 @@ pub fn condense_items(
 }
 
 /// The share above which keys are confirmed.
-fn share_or_least(share: Option<(u64, u64)>, k: u64) -> Option<(u64, u64)>
+pub(crate) fn share_or_least(share: Option<(u64, u64)>, k: u64) -> Option<(u64, u64)>
     requires { in_range k max_k ≡ true }
     ensures share { result ≡ share_or_least share k }
     ensures is_share { IfSome result (λ t. IsShare t.0 t.1) }
+    ensures enough { IfSome result (λ t. t.1 ≤ t.0 * (k + 1)) }
 {
     match share {
         None => Some((1, k + 1)),

@@ -1,0 +1,9 @@
+use Rattle.std.proofs.Common.{◌∷◌, ◌++◌, [], List, refl}
+use Rattle.hh_stream.specs.Weights.{Entry}
+use Rattle.hh_records.proofs.TakenFacts.{taken_all}
+use Rattle.hh_library.proofs.commands.laid_out.stream_of.Goals as goal
+
+pub returns-clause-stream : goal.returns-clause-stream
+returns-clause-stream g c =
+    let t = c.in_ok-read_into.ensures.items in
+    rw (taken_all (λ (xs : List Entry) (e : Entry). xs ++ e ∷ []) (λ xs. xs) (λ xs e. refl) t c.new.ensures) t.reads
