@@ -1,11 +1,11 @@
 #!/usr/bin/env python3
 """Times the calls of the Python module beside collections.Counter, pandas' groupby and DataSketches, where these are
-installed, and prints medians of interleaved runs in milliseconds, with the ratio to the first that stands beside.
+installed, and prints medians of interleaved runs in milliseconds of processor time, with the ratio to what stands beside.
 
-usage: bench/from_python.py [RUNS [ROWS]]
+usage: bench/from_python.py [RUNS [ROWS [KEYS]]]
 
-600,000 items by Zipf's law over 100,000 keys, unless ROWS says otherwise, with k = 1,000. The column of Arrow strings is
-one of pyarrow, or where that isn't installed the same buffers through Arrow's C interface.
+600,000 items by Zipf's law over 100,000 keys, unless ROWS and KEYS say otherwise, with k = 1,000. The column of Arrow
+strings is one of pyarrow, or where that isn't installed the same buffers through Arrow's C interface.
 """
 import collections
 import csv
@@ -22,7 +22,6 @@ from typing import Any, Callable
 import programs
 
 K = 1_000
-KEYS = 100_000
 PARTS = 1_000  # summaries that are merged
 Cell = Callable[[], Any]
 
@@ -108,7 +107,7 @@ def rows(heavy: Any, texts: list[str], weights: list[int], path: Path) -> dict[s
     made: dict[str, dict[str, Cell]] = {
         "update in a loop": {"heavy": lambda: updated(heavy.Summary(k=K), texts), "dict": lambda: counted(texts)},
         "update_many of a list": {"heavy": lambda: grown(heavy, texts), "Counter": lambda: collections.Counter(texts)},
-        "update_many of a Counter": {"heavy": lambda: grown(heavy, counter), "Counter": lambda: counter.copy()},
+        "update_many of a Counter": {"heavy": lambda: grown(heavy, counter), "Counter": lambda: counter + counter},
         "of_csv": {"heavy": lambda: heavy.Summary.of_csv(path, K), "csv, Counter": lambda: of_csv(path)},
         "top": {"heavy": lambda: summary.copy().top(10), "Counter": lambda: counter.most_common(10)},
         f"merge of {PARTS:,}": {"heavy": lambda: heavy.merge(summaries), "Counter": lambda: added(counters)},
@@ -127,10 +126,10 @@ def rows(heavy: Any, texts: list[str], weights: list[int], path: Path) -> dict[s
 
 
 def main() -> None:
-    runs, many = ([int(word) for word in sys.argv[1:]] + [5, 600_000][len(sys.argv) - 1 :])[:2]
+    runs, many, different = ([int(word) for word in sys.argv[1:]] + [5, 600_000, 100_000][len(sys.argv) - 1 :])[:3]
     draw = random.Random(1)
-    keys = [f"10.{i >> 16}.{i >> 8 & 255}.{i & 255}" for i in range(KEYS)]
-    texts = draw.choices(keys, [1 / (rank + 1) for rank in range(KEYS)], k=many)
+    keys = [f"10.{i >> 16}.{i >> 8 & 255}.{i & 255}" for i in range(different)]
+    texts = draw.choices(keys, [1 / (rank + 1) for rank in range(different)], k=many)
     weights = [draw.randrange(1, 1500) for _ in texts]
     with tempfile.TemporaryDirectory() as folder:
         room = Path(folder)
@@ -145,9 +144,9 @@ def main() -> None:
             times: dict[str, list[float]] = {name: [] for name in cells}
             for _ in range(runs):
                 for name, cell in cells.items():
-                    begin = time.perf_counter()
+                    begin = time.process_time()
                     cell()
-                    times[name].append(1000 * (time.perf_counter() - begin))
+                    times[name].append(1000 * (time.process_time() - begin))
             ours, *others = times.items()
             for name, each in others:
                 ratio = statistics.median(one / two for one, two in zip(ours[1], each))

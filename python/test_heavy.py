@@ -1177,6 +1177,53 @@ class Arrays(unittest.TestCase):
         ):
             self.refused(kind, text, pandas.Series(keys, dtype=object), weights)
 
+    def test_column_with_a_dictionary(self) -> None:
+        """A column that its library encodes by a dictionary gives the bytes of its items in order too."""
+        if not has("numpy"):
+            self.skipTest("numpy is not here")
+        import numpy
+
+        def arrow(texts: list[str]) -> Arrow:
+            return Arrow(b"u", len(texts), None, packed("i", 0, *itertools.accumulate(map(len, texts))), "".join(texts).encode())
+
+        class Coded:
+            """An array as pyarrow has it."""
+
+            def __init__(self, texts: list[str]) -> None:
+                self.texts, self.asked = texts, 0
+
+            def __len__(self) -> int:
+                return len(self.texts)
+
+            def to_numpy(self) -> None:
+                raise AssertionError("its values are taken one by one")
+
+            def combine_chunks(self) -> object:
+                return self
+
+            def dictionary_encode(self) -> object:
+                different = [*dict.fromkeys(self.texts)]
+                codes = numpy.array([different.index(text) for text in self.texts], dtype=numpy.int32)
+                return types.SimpleNamespace(
+                    indices=types.SimpleNamespace(to_numpy=lambda zero_copy_only: codes), dictionary=arrow(different)
+                )
+
+            def __arrow_c_array__(self) -> object:
+                self.asked, self.held = self.asked + 1, arrow(self.texts)
+                return self.held.__arrow_c_array__()
+
+        draw = random.Random(31)
+        texts = [f"k{draw.randrange(40)}" for _ in range(1500)]
+        weights = numpy.array([draw.randint(1, 99) for _ in texts])
+        for k, asked in ((100, 0), (5, 1)):
+            one, other, column = heavy.Summary(k=k), heavy.Summary(k=k), Coded(texts)
+            one.update_many(column, weights)
+            other.update_many(texts, weights.tolist())
+            self.assertEqual((one, one.total, column.asked), (other, other.total, asked))
+            self.assertEqual(one.confirm_items(column, weights), other.confirm_items(texts, weights.tolist()))
+            self.assertEqual(column.asked, asked)
+        self.refused(ValueError, r"^keys\[1499\]: .* not 0$", Coded([*texts[1:], ""]))
+
     def test_texts_with_breaks(self) -> None:
         """Texts are told apart whatever stands in them."""
         for texts in (["a\n", "b"], ["a", "\n", "\nb\n"], ["é", "\n"], ["a", ""], ["\n\n"], ["é", "ü" * 2048], ["a", "\udcff"]):

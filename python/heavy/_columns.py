@@ -265,13 +265,19 @@ class _Arrow(NamedTuple):
         return self.numbers(1, _ARROW_INTEGERS[self.format], self.array.length)
 
 
+def _arrow_of(given: Any) -> Any:
+    """What a column of pandas holds whose texts are pyarrow's; all else as it is."""
+    if type(given).__module__.split(".")[0] == "pandas" and getattr(getattr(given, "dtype", None), "storage", "") == "pyarrow":
+        return given.array.__arrow_array__()
+    return given
+
+
 _Taken = TypeVar("_Taken")
 
 
 def _arrow_parts(given: Any, take: Callable[[_Arrow], _Taken]) -> list[_Taken] | None:
     """What is taken of an array of Arrow, or of each of those in a stream. None of what is neither."""
-    if type(given).__module__.split(".")[0] == "pandas" and getattr(getattr(given, "dtype", None), "storage", "") == "pyarrow":
-        given = given.array.__arrow_array__()
+    given = _arrow_of(given)
     if hasattr(given, "__arrow_c_array__"):
         capsules = given.__arrow_c_array__()  # they free the array when they go
         schema = _ArrowSchema.from_address(_pointer(capsules[0], b"arrow_schema"))
@@ -419,15 +425,15 @@ class Items(NamedTuple):
 
 
 def items_of(keys: Any, weights: Any, room: int = 0) -> Items:
-    """Keys and weights, all of them checked: those given, or those of a mapping. Equal keys of a column of pandas are one
-    item where the different ones are at most `room`."""
+    """Keys and weights, all of them checked: those given, or those of a mapping. Equal keys of a column of pandas or pyarrow
+    are one item where the different ones are at most `room`."""
     if isinstance(keys, Mapping):
         if weights is not None:
             raise TypeError(f"keys is a {type(keys).__name__}, which has weights of its own; give none beside it")
         columns = columns_of([*keys])
         numbers = numbers_of([*keys.values()], len(columns.ends), [*keys])
     else:
-        together = _together(keys, weights, room) if room else None
+        together = _together(keys, weights, room) if room and hasattr(keys, "to_numpy") and columns_named(keys) is None else None
         if together is not None:
             return together
         columns = columns_of(keys)
@@ -436,23 +442,35 @@ def items_of(keys: Any, weights: Any, room: int = 0) -> Items:
 
 
 def _together(keys: Any, weights: Any, room: int) -> Items | None:
-    """The items of a column of objects of pandas with equal keys as one, at the first one's place. None where they are more
+    """The items of a column of pandas or pyarrow with equal keys as one, at the first one's place. None where they are more
     than `room`, or where something is to be refused."""
-    pandas: Any = sys.modules.get("pandas")
-    texts = _array_of(keys) if pandas and type(keys).__module__.split(".")[0] == "pandas" else None
-    if texts is None or texts.dtype.kind != "O" or not 1000 < len(texts) < 2**27 or not hasattr([] if weights is None else weights, "__len__"):
+    if not 1000 < len(keys) < 2**27 or not hasattr([] if weights is None else weights, "__len__"):
         return None
     try:
-        if len(set(texts[:20_000].tolist())) > room:
-            return None
-        codes, different = pandas.factorize(texts)
-        columns = _columns_of_list(different.tolist())
-        numbers = numbers_of(weights, len(texts))
+        codes, columns = _coded(keys, room) or (None, None)
+        numbers = numbers_of(weights, len(keys))
     except (TypeError, ValueError):
         return None
-    if len(different) > room or codes.min() < 0 or numbers is not None and sum_of(numbers) > MAX_TOTAL:
+    if codes is None or columns is None or len(columns.ends) > room or codes.dtype.kind not in "iu" or codes.min() < 0:
         return None
-    return Items(columns, _sums(codes, numbers, len(different)), numbers, len(texts))
+    if numbers is not None and sum_of(numbers) > MAX_TOTAL:
+        return None
+    return Items(columns, _sums(codes, numbers, len(columns.ends)), numbers, len(keys))
+
+
+def _coded(keys: Any, room: int) -> tuple[Any, Columns] | None:
+    """The different keys of a column, in the order of their first places, and for each key which of them it is; None where
+    the library of the column can't tell, or where they are soon more than `room`."""
+    given = _arrow_of(keys)
+    if hasattr(given, "dictionary_encode"):
+        coded = (given.combine_chunks() if hasattr(given, "combine_chunks") else given).dictionary_encode()
+        return coded.indices.to_numpy(zero_copy_only=False), columns_of(coded.dictionary)
+    pandas: Any = sys.modules.get("pandas")
+    texts = _array_of(keys) if pandas and type(keys).__module__.split(".")[0] == "pandas" else None
+    if texts is None or texts.dtype.kind != "O" or len(set(texts[:20_000].tolist())) > room:
+        return None
+    codes, different = pandas.factorize(texts)
+    return codes, _columns_of_list(different.tolist())
 
 
 def _sums(codes: Any, numbers: Any, count: int) -> Any:
