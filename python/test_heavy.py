@@ -125,6 +125,11 @@ class Index:
         return self.number
 
 
+def in_parts(size: int) -> object:
+    """Has files read `size` bytes at a time."""
+    return mock.patch.multiple(heavy._records, _CHUNK=size, _FIRST=size)
+
+
 class Growing(unittest.TestCase):
     """Summaries that begin empty and grow by items."""
 
@@ -1302,7 +1307,7 @@ class Reports(unittest.TestCase):
         for text in texts:
             for size in (1, 2, 5, 1 << 20):
                 for given in (text, io.BytesIO(text)):
-                    with self.subTest(text=text, size=size), mock.patch.object(heavy._records, "_CHUNK", size):
+                    with self.subTest(text=text, size=size), in_parts(size):
                         grown, cells = heavy.Summary(k=3), heavy.Table(width=8, depth=2)
                         try:
                             whole = heavy.Summary.of_csv(text, 3)
@@ -1329,7 +1334,7 @@ class Reports(unittest.TestCase):
                     quoted = b'"%s"' % key.replace(b'"', b'""') if key != b"a" or draw.randrange(2) else key
                     text += quoted + draw.choice([b"", b",%d" % draw.randrange(1, 9), b',"5"']) + draw.choice(ends)
                 path.write_bytes(text)
-                with self.subTest(text=text, size=size), mock.patch.object(heavy._records, "_CHUNK", size):
+                with self.subTest(text=text, size=size), in_parts(size):
                     grown = heavy.Summary(k=3)
                     grown.update_csv(path)
                     self.assertEqual(grown.to_bytes(), program("summarise", "--k", "3", str(path)).stdout)
@@ -1341,7 +1346,7 @@ class Reports(unittest.TestCase):
         draw = random.Random(37)
         for size in range(1, 301):
             text = bytes(draw.choice(b'aab,",""\r\n\n2') for _ in range(draw.randrange(40)))
-            with self.subTest(text=text, size=size), mock.patch.object(heavy._records, "_CHUNK", draw.randrange(1, 9)):
+            with self.subTest(text=text, size=size), in_parts(draw.randrange(1, 9)):
                 grown = heavy.Summary(k=3)
                 try:
                     whole = heavy.Summary.of_csv(text, 3)
@@ -1409,7 +1414,7 @@ class Layouts(unittest.TestCase):
         for text, options, words in self.CASES:
             layout = heavy.Layout(**options)
             for size in (1, 2, 5, 1 << 20):
-                with self.subTest(text=text, size=size), mock.patch.object(heavy._records, "_CHUNK", size):
+                with self.subTest(text=text, size=size), in_parts(size):
                     whole = program("summarise", "--k", "2", *words, given=text)
                     self.assertEqual(whole.returncode, 0, whole.stderr)
                     summary = heavy.Summary.of_csv(text, 2, layout=layout)
@@ -1456,7 +1461,7 @@ class Layouts(unittest.TestCase):
                 lambda: heavy.report_csv(text, 2, workers=3, layout=layout), lambda: summary.confirm(text, layout=layout),
                 lambda: summary.condense(text, layout=layout),
             ):
-                with self.subTest(text=text, options=options), mock.patch.object(heavy._records, "_CHUNK", 3):
+                with self.subTest(text=text, options=options), in_parts(3):
                     with self.assertRaises(heavy.HeavyError) as caught:
                         call()
                     told = (f"heavy: {caught.exception}\n".encode(), caught.exception.status)

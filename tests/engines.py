@@ -10,6 +10,7 @@ Where an engine isn't installed its test is skipped.
 """
 import contextlib
 import glob
+import itertools
 import json
 import os
 import random
@@ -84,7 +85,7 @@ def counter(path):
     return counted
 """
 # The module over a cluster of three workers on this machine, each a process of its own, of which it tells the numbers: a
-# report of each kind of collection, whose last part is a pipe, for each pass.
+# report of a kind of collection.
 COLLECTIONS = """
 import logging, os, sys
 import dask, dask.bag, dask.dataframe
@@ -99,17 +100,12 @@ def collection(kind, paths):
     return (dask.bag.from_delayed(loads), 0, 1) if kind == "items" else (loads,)
 
 if __name__ == "__main__":
-    k, *paths = sys.argv[1:]
+    kind, k, *paths = sys.argv[1:]
     with LocalCluster(n_workers=3, threads_per_worker=1, dashboard_address="127.0.0.1:0", silence_logs=logging.ERROR) as cluster:
         with Client(cluster) as client:
-            for kind in ("frame", "items", "counter"):
-                for number in ("1", "2"):
-                    client.wait_for_workers(3)
-                    with open("workers", "a") as told:
-                        print(*client.run(os.getpid).values(), file=told)
-                    rows = heavy.dask.report_csv(*collection(kind, [*paths, f"{kind}{number}"]), k=int(k))
-                    with open(f"{kind}{number}.out", "wb") as out:
-                        out.write(rows)
+            print(*client.run(os.getpid).values(), flush=True)
+            sys.stdout.buffer.write(heavy.dask.report_csv(*collection(kind, paths), k=int(k)))
+            sys.stdout.flush()
 """
 
 
@@ -407,27 +403,23 @@ def try_alone(test: programs.Checks, python: str, room: Room) -> None:
     test.check("over Dask on one machine", gave(ended) == room.expected_fed, ended)
 
 
-def try_collections(test: programs.Checks, python: str, room: Room) -> None:
-    """A cluster of three workers on one machine, of which one is killed while it loads a part, in each pass over a dataframe,
-    a bag and delayed parts."""
-    script = room.path / "collections_of_dask.py"
+def try_collection(test: programs.Checks, python: str, room: Room, kind: str, number: int) -> None:
+    """A cluster of three workers on one machine, of which one is killed while it loads a part of this kind in this pass."""
+    script, name = room.path / "collections_of_dask.py", f"{kind}{number}"
     script.write_text(COLLECTIONS)
     (room.path / "loading.py").write_text(LOADING)
-    text = room.parts[-1].read_bytes()
-    pipes = {f"{kind}{number}": Pipe(room.path / f"{kind}{number}", text, number)
-             for kind in ("frame", "items", "counter") for number in (1, 2)}
+    pipe = Pipe(room.path / name, room.parts[-1].read_bytes(), number)
     env = {**room.env, "PYTHONPATH": f"{room.path}:{programs.TOP / 'python'}"}
-    words = [python, str(script), str(K), *map(str, room.parts[:-1])]
+    words = [python, str(script), kind, str(K), *map(str, room.parts[:-1]), str(pipe.path)]
     # a cluster that ends beside a worker that starts anew says so on standard error
     with open(room.path / "workers.log", "ab") as said:
-        ran = subprocess.run(words, env=env, cwd=room.path, stdin=subprocess.DEVNULL, stdout=said, stderr=said, timeout=SECONDS)
-    test.check("a cluster of three", ran.returncode == 0, ran)
-    for (name, pipe), workers in zip(pipes.items(), room.lines("workers")):
-        killed = pipe.readers[pipe.victim - 1 :][:1]
-        test.check(f"{name}: one of three workers is killed", len(workers.split()) == 3 and str(*killed) in workers.split(), workers)
-        test.check(f"{name}: its part is loaded again", len(pipe.readers) >= 3, pipe.readers)
-        out = room.path / f"{name}.out"
-        test.check(f"{name}: the report", out.exists() and out.read_bytes() == room.expected[1], name)
+        how = {"env": env, "cwd": room.path, "stdin": subprocess.DEVNULL, "stdout": subprocess.PIPE, "stderr": said}
+        ran = subprocess.run(words, timeout=SECONDS, **how)
+    workers, _, rows = ran.stdout.partition(b"\n")
+    killed = pipe.readers[number - 1 :][:1]
+    test.check(f"{name}: one of three workers is killed", len(workers.split()) == 3 and str(*killed).encode() in workers.split(), workers)
+    test.check(f"{name}: its part is loaded again", len(pipe.readers) >= 3, pipe.readers)
+    test.check(f"{name}: the report", (ran.returncode, rows) == room.expected, ran)
 
 
 def try_dask(test: programs.Checks, python: str, room: Room) -> None:
@@ -436,7 +428,8 @@ def try_dask(test: programs.Checks, python: str, room: Room) -> None:
     test.check("the library for C is there", ended.status == 0, ended)
     room.env |= {"LIBHEAVY": f"{room.path}/usr/lib/libheavy.so.1", "PYTHONPATH": str(programs.TOP / "python")}
     tried(test, room, "Dask alone", lambda: try_alone(test, python, room))
-    tried(test, room, "three workers", lambda: try_collections(test, python, room))
+    for kind, number in itertools.product(("frame", "items", "counter"), (1, 2)):
+        tried(test, room, f"{kind}{number}", lambda: try_collection(test, python, room, kind, number))
     dask = Dask(python, room)
 
     def on_two_workers(case: Callable[[programs.Checks, Dask], None]) -> None:

@@ -11,7 +11,7 @@ import struct
 import tempfile
 from concurrent.futures import ThreadPoolExecutor
 from pathlib import Path
-from typing import Any, Dict, Iterable, Iterator, List, NamedTuple, Optional, Tuple, TypeVar, overload
+from typing import Any, Callable, Dict, Iterable, Iterator, List, NamedTuple, Optional, Tuple, TypeVar, overload
 
 from ._columns import ANY, Columns, Items, Key, Keys, bytes_of_key, columns_of, integer_of_weight, items_of, lent_items
 from ._columns import sum_of, text_of_bytes
@@ -260,7 +260,7 @@ class _File:
         self._total = total
 
     def update_csv(self, records: Records, *, layout: Layout = PLAIN) -> None:
-        """Adds CSV records `key,weight`, or those of another layout, in order. A file is read a megabyte at a time. After a
+        """Adds CSV records `key,weight`, or those of another layout, in order. A file is read some megabytes at a time. After a
         refusal, which has the record's number, none of them is added.
 
         >>> summary = Summary.of_csv(b"a,5\\n")
@@ -268,7 +268,11 @@ class _File:
         >>> summary.entries()
         [(b'a', 7), (b'b', 1)]
         """
-        self._saved, self._total = with_records(self.to_bytes(), records, layout), None
+        self._saved, self._total = with_records(self.to_bytes(), records, layout, self._begun(layout)), None
+
+    def _begun(self, layout: Layout) -> Callable[[bytes], bytes] | None:
+        """What makes a file of this kind of a text's records, where that is faster than to add them to one of no items."""
+        return None
 
     def _total_with(self, count: int, weights: Any) -> int:
         """The total with `count` items more, or the refusal of the first that makes it too large."""
@@ -445,6 +449,13 @@ class Summary(_File):
     def _room(self) -> int:
         # where no counter is lowered each is the sum of its key's weights
         return self.k - len(self)
+
+    def _begun(self, layout: Layout) -> Callable[[bytes], bytes] | None:
+        k = self.k
+        if self.total:
+            return None
+        guess = min(17 + k * (MAX_KEY + 10), LARGE)
+        return lambda text: answer(calls.heavy_summarise_records, *lent(text), *layout._words(), k, guess=guess)
 
     def _number(self, name: str) -> int:
         return int(getattr(self._told(), name))

@@ -88,6 +88,7 @@ def _loaded() -> ctypes.CDLL:
     for name, words in {
         "heavy_strerror": [ctypes.POINTER(Fault), *out[:3]],
         "heavy_info": [read, size, ctypes.POINTER(InfoWords), ctypes.POINTER(Fault)],
+        "heavy_summarise_records": [read, size, *layout, number, *out],
         "heavy_empty": [number, *out],
         "heavy_add": [read, size, *items, *out],
         "heavy_add_records": [read, size, read, size, *layout, *out],

@@ -145,8 +145,11 @@ class Layout:
     def _count(self, part: bytes) -> int:
         """How many records a part of a text has. Where a quote stands only at a field's ends or twice in one, each other
         run between quotes is outside them, and its lines are records."""
+        text = part[len(_MARK) :] if part.startswith(_MARK) else part
+        if not any(it in text for it in (b'"', b"\r", b"\n\n")):
+            return text.count(b"\n") + (text[-1:] not in b"\n") - text.startswith(b"\n")
         _, quote_in_a_field = _patterns(self._separator)
-        runs = part[len(_MARK) if part.startswith(_MARK) else 0 :].split(b'"')
+        runs = text.split(b'"')
         outside = b'"'.join(runs[::2])
         if len(runs) % 2 == 0 or quote_in_a_field.search(outside):
             return len(self._records_of(part))

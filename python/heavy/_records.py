@@ -15,7 +15,7 @@ Given = Union[bytes, bytearray, memoryview, BinaryIO]
 Named = Union[str, "os.PathLike[str]"]
 Records = Union[Given, Named]
 
-_CHUNK = 1 << 20  # bytes of a file of records that are read at a time
+_FIRST, _CHUNK = 1 << 24, 1 << 20  # bytes of a file of records that are read at first, and then at a time
 _ROW = re.compile(rb'(?:"((?:[^"]|"")*)"|([^",\r\n]*)),([0-9.]+)\n')
 
 
@@ -72,25 +72,27 @@ def whole_records(text: bytes, layout: Layout) -> int:
 
 
 def parts_read(records: Records, layout: Layout) -> Iterator[bytes]:
-    """Records in parts of whole ones. A file is read a megabyte at a time, and more where a record is longer."""
+    """Records in parts of whole ones. A file is read 16 megabytes at first and then one at a time, and more where a record is
+    longer."""
     if isinstance(records, (str, os.PathLike)):
         with open(records, "rb") as file:
             yield from parts_read(file, layout)
         return
     read: Callable[[int], bytes] = getattr(records, "read", None) or io.BytesIO(bytes_of(records)).read
-    rest, wanted = b"", 1
+    held, wanted = bytearray(), _FIRST
     while True:
         more = bytes_of(read(_CHUNK))
-        rest += more
-        if more and len(rest) < wanted:
+        held += more
+        if more and len(held) < wanted:
             continue
+        rest = bytes(held)
         cut = whole_records(rest, layout) if more else len(rest)
         if cut:
             yield rest[:cut]
-            rest = rest[cut:]
+            del held[:cut]
         if not more:
             return
-        wanted = 1 if cut else 2 * len(rest)
+        wanted = _CHUNK if cut else 2 * len(held)
 
 
 def parts_of(text: bytes, count: int, layout: Layout) -> list[bytes]:
@@ -108,11 +110,16 @@ def with_text(saved: bytes, text: bytes, layout: Layout) -> bytes:
     return answer(calls.heavy_add_records, *lent(saved), *lent(text), *layout._words(), guess=len(saved) + SMALL)
 
 
-def with_records(saved: bytes, records: Records, layout: Layout) -> bytes:
-    """A saved file with records added, or the refusal of the first bad one, by its number among all."""
+def with_records(saved: bytes, records: Records, layout: Layout, begun: Callable[[bytes], bytes] | None) -> bytes:
+    """A saved file with records added, or the refusal of the first bad one, by its number among all. Where the file has no
+    items, `begun` makes it of the first part at once."""
     before, header = 0, b""
     for part in parts_read(records, layout):
         text = header + part
+        if begun is not None:
+            saved, begun = begun(text), None
+            header, before = layout._header_of(part), layout._count(text) - (1 if layout._header_of(part) else 0)
+            continue
         try:
             saved = with_text(saved, text, layout)
         except HeavyError as refused:
