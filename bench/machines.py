@@ -101,11 +101,13 @@ def main() -> None:
         (room / "bin" / "heavy").symlink_to(programs.heavy())
         (room / "bin" / "ssh").write_text(SSH)
         (room / "bin" / "ssh").chmod(0o755)
-        env = {**os.environ, "PATH": f"{room}/bin:{os.environ['PATH']}"}
+        # the script over Dask stands on the Python module, and that on the library
+        has_library = programs.library(room)
+        env = {**os.environ, "PATH": f"{room}/bin:{os.environ['PATH']}", "PYTHONPATH": str(programs.TOP / "python")}
         whole = programs.records(room, "zipf", records)
         parts = parts_of(room, whole, count)
         dask = os.path.exists(PYTHON) and subprocess.run([PYTHON, "-c", "import distributed"], capture_output=True).returncode == 0
-        address, running = workers(room, env) if dask else (None, [])
+        address, running = workers(room, env) if dask and has_library else (None, [])
         try:
             measured(commands(whole, parts, address), runs, whole, env)
         finally:

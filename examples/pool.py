@@ -5,7 +5,7 @@ usage: examples/pool.py FILE [K [PROCESSES]]
 
 Each process summarises its part; the summaries are merged; each process condenses its part by what was merged, and the
 condensed parts are confirmed together. Only summaries and condensed records go from one process to another. The parts
-are cut after line feeds, so no key may have one. The library is found as python/heavy.py says, as by
+are cut after line feeds, so no key may have one. The library is found as python/README.md says, as by
 LIBHEAVY=/usr/local/lib/libheavy.so.1.
 """
 import multiprocessing
@@ -53,7 +53,7 @@ def report(path: str, k: int, processes: int) -> bytes:
     with multiprocessing.get_context("spawn").Pool(processes) as pool:
         whole = heavy.merge(*map(heavy.Summary, pool.map(partial(summarise, k), parts)))
         condensed = pool.map(partial(condense, whole.to_bytes()), parts)
-    return whole.confirm(b"".join(condensed))
+    return whole.confirm_csv(b"".join(condensed))
 
 
 def main() -> None:

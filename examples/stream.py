@@ -5,7 +5,7 @@ usage: COMMAND | examples/stream.py FOLDER [K [SECONDS]]
 
 Each line is a key. After each minute, or so many SECONDS, the summary of its lines is saved in FOLDER, where the last
 sixty stay, also when this is started anew. They are merged, and the rows `key,low,high` of the merge are printed, with a
-blank line behind them. So is what came last where the input ends. The library is found as python/heavy.py says.
+blank line behind them. So is what came last where the input ends. The library is found as python/README.md says.
 """
 import os
 import select
@@ -45,7 +45,7 @@ def main() -> None:
         for old in saved[:-60]:
             old.unlink()
         hour = heavy.merge(map(heavy.Summary.load, saved[-60:]))
-        sys.stdout.buffer.write(hour.list() + b"\n")
+        sys.stdout.buffer.write(hour.list_csv() + b"\n")
         sys.stdout.flush()
 
 

@@ -1,14 +1,16 @@
 #!/usr/bin/env python3
 """Runs the scripts of examples/machines over random records: what they print has to be what `heavy report` prints over all
 records. GNU parallel reaches its machines through a stand-in for ssh, which runs the words here, and loses a machine in either
-round. Over Dask, workers are started as that folder's README does it, and one is killed by its process id while it runs
-`heavy` on a part, in each of the two rounds, as is one of a LocalCluster of three; and the program fails in each way, to
-see what is tried again and what is told.
+round. Over Dask, workers are started as that folder's README does it, and one is killed by its process id while it reads
+a part, in each of the two passes, as is one of a LocalCluster of three, over a dataframe, a bag and delayed parts.
 
 usage: tests/engines.py [SEED]
 
 Where an engine isn't installed its test is skipped.
 """
+import contextlib
+import glob
+import itertools
 import json
 import os
 import random
@@ -16,6 +18,7 @@ import shutil
 import signal
 import subprocess
 import sys
+import threading
 import time
 import unittest
 from collections.abc import Callable, Iterator
@@ -34,14 +37,9 @@ SECONDS = 300
 WATCHED = r"""#!/bin/sh
 input=$(readlink /proc/$$/fd/0)
 echo "$1 $input" >> "$ROOM/log"
-held= fails= status= once=
+fails= status=
 . "$ROOM/rule"
-if [ "$1" = "$held" ] && mkdir "$ROOM/held" 2> /dev/null; then
-  echo "$PPID" > "$ROOM/holder.new"
-  mv "$ROOM/holder.new" "$ROOM/holder"
-  while [ -d "$ROOM" ] && [ ! -e "$ROOM/gate" ]; do sleep 0.05; done
-fi
-if [ "$1 $input" = "$fails" ] && { [ -z "$once" ] || mkdir "$ROOM/failed" 2> /dev/null; }; then
+if [ "$1 $input" = "$fails" ]; then
   echo "heavy: planted" >&2
   exit "$status"
 fi
@@ -69,20 +67,76 @@ case "$lost:$host:$*" in
 esac
 exec sh -c "$*"
 """
-# The example over a cluster of three workers on this machine, each a process of its own, of which it tells the numbers.
-THREE_WORKERS = """
+# What workers load the parts by: the items of a file of records, its frame, and its counter.
+LOADING = """
+import collections, csv, pandas
+
+def items(path):
+    with open(path, newline="", encoding="utf-8", errors="surrogateescape") as file:
+        return [(key, int(weight)) for key, weight in csv.reader(file)]
+
+def frame(path):
+    return pandas.DataFrame(items(path), columns=["key", "weight"])
+
+def counter(path):
+    counted = collections.Counter()
+    for key, weight in items(path):
+        counted[key] += weight
+    return counted
+"""
+# The module over a cluster of three workers on this machine, each a process of its own, of which it tells the numbers: a
+# report of a kind of collection.
+COLLECTIONS = """
 import logging, os, sys
-import over_dask
+import dask, dask.bag, dask.dataframe
 from dask.distributed import Client, LocalCluster
+import heavy, loading
+
+def collection(kind, paths):
+    loads = [dask.delayed(getattr(loading, kind))(path) for path in paths]
+    if kind == "frame":
+        meta = loading.pandas.DataFrame({"key": ["a"], "weight": [1]})
+        return dask.dataframe.from_delayed(loads, meta=meta, verify_meta=False), "key", "weight"
+    return (dask.bag.from_delayed(loads), 0, 1) if kind == "items" else (loads,)
+
 if __name__ == "__main__":
+    kind, k, *paths = sys.argv[1:]
     with LocalCluster(n_workers=3, threads_per_worker=1, dashboard_address="127.0.0.1:0", silence_logs=logging.ERROR) as cluster:
         with Client(cluster) as client:
-            with open("workers.new", "w") as told:
-                print(*client.run(os.getpid).values(), file=told)
-            os.rename("workers.new", "workers")
-            sys.stdout.buffer.write(over_dask.report(client, int(sys.argv[1]), sys.argv[2:]))
+            print(*client.run(os.getpid).values(), flush=True)
+            sys.stdout.buffer.write(heavy.dask.report_csv(*collection(kind, paths), k=int(k)))
             sys.stdout.flush()
 """
+
+
+class Pipe:
+    """A part that is a pipe, which a worker opens in each pass. One of those that open it is killed."""
+
+    def __init__(self, path: Path, text: bytes, victim: int) -> None:
+        self.path, self.text, self.victim = path, text, victim
+        self.readers: list[int] = []  # the processes that opened it, in order
+        os.mkfifo(path)
+        threading.Thread(target=self.feed, daemon=True).start()
+
+    def holders(self) -> list[int]:
+        """The other processes that have it open."""
+        found = set()
+        for place in glob.glob("/proc/[0-9]*/fd/*"):
+            with contextlib.suppress(OSError):
+                if os.readlink(place) == str(self.path):
+                    found.add(int(place.split("/")[2]))
+        return sorted(found - {os.getpid()})
+
+    def feed(self) -> None:
+        while True:
+            with contextlib.suppress(BrokenPipeError), open(self.path, "wb") as pipe:
+                waited("the pipe's reader", self.holders)
+                self.readers += self.holders()
+                if len(self.readers) == self.victim:
+                    os.kill(self.readers[-1], signal.SIGKILL)
+                else:
+                    pipe.write(self.text)
+            waited("the pipe's end", lambda: not self.holders())
 
 
 def waited(what: str, holds) -> None:
@@ -150,10 +204,9 @@ class Room:
 
     def forget(self, rule: str = "") -> None:
         """Begins a new case, in which the program follows this rule."""
-        for name in ("held", "failed"):
-            if (self.path / name).exists():
-                (self.path / name).rmdir()
-        for name in ("holder", "gate", "log", "hosts", "workers"):
+        if (self.path / "failed").exists():
+            (self.path / "failed").rmdir()
+        for name in ("log", "hosts"):
             (self.path / name).unlink(missing_ok=True)
         (self.path / "rule").write_text(f"{rule}\n")
 
@@ -248,7 +301,7 @@ def quoted(part: Path) -> str:
 
 
 class Dask:
-    """A scheduler on this machine, its workers, and the example over them, by the Python that has Dask."""
+    """A scheduler on this machine, its workers, and the example over them, by the Python that has Dask and by the module."""
 
     def __init__(self, python: str, room: Room) -> None:
         self.python, self.room, self.count = python, room, 0
@@ -292,115 +345,91 @@ class Dask:
         return [self.python, script, "--scheduler", self.address, str(K), *[str(part) for part in parts]]
 
 
-def kill_a_worker(test: programs.Checks, dask: Dask, held: str) -> None:
-    """A worker is killed while it runs this command on a part."""
+def kill_a_worker(test: programs.Checks, dask: Dask, number: int) -> None:
+    """A worker is killed while it reads a part in this pass."""
     room = dask.room
-    room.forget(f"held={held}")
+    pipe = Pipe(room.path / f"pipe{number}", room.parts[-1].read_bytes(), number)
     with dask.two_workers() as workers, open(room.path / "out", "wb") as out:
-        example = subprocess.Popen(dask.example(room.parts), env=room.env, cwd=room.path, stdout=out)
+        words = dask.example([*room.parts[:-1], pipe.path])
+        example = subprocess.Popen(words, env=room.env, cwd=room.path, stdout=out)
         try:
-            waited(f"a worker that runs heavy {held}", (room.path / "holder").exists)
-            holder = int(*room.lines("holder"))
-            victims = [worker for worker in workers if worker.pid == holder]
-            test.check("a worker runs the program", len(victims) == 1, (holder, workers))
-            for victim in victims:
-                victim.kill()
-                victim.wait(SECONDS)
-            (room.path / "gate").touch()
             status = example.wait(SECONDS)
         finally:
             example.kill()
             example.wait()
+        pids = {worker.pid for worker in workers}
+        test.check("workers read the part", len(pipe.readers) == 3 and set(pipe.readers) == pids, (pipe.readers, pids))
+        ended = {worker.pid: worker.poll() for worker in workers}
+        test.check("one of them was killed", ended[pipe.readers[number - 1]] == -signal.SIGKILL, ended)
     printed = (room.path / "out").read_bytes()
-    test.check(f"a worker killed in {held}", (status, printed) == room.expected == room.report, (status, printed))
-    test.check("its part is done again", room.times(held) > PARTS, room.lines("log"))
+    test.check(f"a worker killed in pass {number}", (status, printed) == room.expected == room.report, (status, printed))
 
 
 def try_faults(test: programs.Checks, dask: Dask) -> None:
-    """What is tried again, and what is told, where the program fails on a part."""
+    """What is told of a part that is refused."""
     room = dask.room
-    part = room.parts[3]
-    for status, command, once, times in [
-        (1, "summarise", True, 2), (4, "condense", True, 2), (1, "condense", False, 3), (4, "summarise", False, 3),
-        (2, "summarise", False, 1), (3, "summarise", False, 1), (3, "condense", False, 1),
-    ]:
-        room.forget(f'fails="{command} {quoted(part)}" status={status} once={"yes" if once else ""}')
-        ended = room.run(dask.example(room.parts))
-        case = f"status {status} of {command}, {'once' if once else 'each time'}"
-        if once:
-            test.check(case, gave(ended) == room.expected == room.report, ended)
-        else:
-            told = f"over_dask: {part}: status {status}: heavy: planted\n".encode()
-            test.check(case, gave(ended) == (status, b"") and told in ended.stderr, ended)
-        test.check(f"{case}: tried {times} times", room.times(command, part) == times, room.lines("log"))
+    bad = room.path / "bad.csv"
+    bad.write_bytes(b"a,1\nb,0\n")
+    ended = room.run(dask.example([*room.parts, bad]))
+    told = f"over_dask: {bad}: record 2: zero weight\n".encode()
+    test.check("a bad part", gave(ended) == (3, b"") and told in ended.stderr, ended)
+    ended = room.run([*dask.example([])[:-1], "0", *room.parts])
+    test.check("a bad k", gave(ended) == (2, b"") and b"over_dask: k must be 1 to 65535\n" in ended.stderr, ended)
 
 
 def try_places(test: programs.Checks, dask: Dask) -> None:
     """Parts that no worker has, and that some have."""
     room = dask.room
-    room.forget()
     ended = room.run(dask.example([*room.parts, "/nowhere/part.csv"]))
-    told = b"over_dask: /nowhere/part.csv: status 1: [Errno 2]" in ended.stderr
+    told = b"over_dask: [Errno 2] No such file or directory: '/nowhere/part.csv'" in ended.stderr
     test.check("a part that isn't there", gave(ended) == (1, b"") and told, ended)
     places = [f"127.0.0.1:{part}" for part in room.parts]
     ended = room.run(dask.example(places))
     test.check("parts at an address", gave(ended) == room.expected == room.report, ended)
-    room.forget()
-    example = subprocess.Popen(dask.example([*room.parts[1:], f"10.0.0.9:{room.parts[0]}"]), env=room.env, cwd=room.path)
+    here, there = (Pipe(room.path / name, b"a,1\n", 0) for name in ("here", "there"))
+    example = subprocess.Popen(dask.example([here.path, f"10.0.0.9:{there.path}"]), env=room.env, cwd=room.path)
     try:
-        waited("the other parts", lambda: room.times("summarise") == PARTS - 1)
+        waited("the other part", lambda: here.readers)
         time.sleep(0.5)
-        waits = example.poll() is None and room.times("summarise", room.parts[0]) == 0
-        test.check("a part waits for a worker at its address", waits, room.lines("log"))
+        test.check("a part waits for a worker at its address", example.poll() is None and not there.readers, there.readers)
     finally:
         example.kill()
         example.wait()
 
 
 def try_alone(test: programs.Checks, python: str, room: Room) -> None:
-    """The example without a scheduler, and a summary that isn't the one of all parts."""
-    room.forget()
-    script = EXAMPLES / "over_dask.py"
-    ended = room.run([python, script, str(K), *room.parts, room.fed])
+    """The example without a scheduler."""
+    ended = room.run([python, EXAMPLES / "over_dask.py", str(K), *room.parts, room.fed])
     test.check("over Dask on one machine", gave(ended) == room.expected_fed, ended)
-    asked = f"import over_dask\nover_dask.condense('p', {str(room.parts[0])!r}, b'this', over_dask.checksum(b'that'))"
-    ended = room.run([python, "-c", asked], EXAMPLES)
-    told = b"Fault: p: status 3: the merged summary is another" in ended.stderr
-    test.check("another summary", ended.returncode != 0 and told, ended)
-    test.check("is not condensed by", room.times("condense") == PARTS + 1, room.lines("log"))
 
 
-def try_three_workers(test: programs.Checks, python: str, room: Room) -> None:
-    """A cluster of three workers on one machine, of which one is killed while it runs the second pass over a part."""
-    room.forget("held=condense")
-    script = room.path / "three_workers.py"
-    script.write_text(THREE_WORKERS)
-    words = [python, str(script), str(K), *map(str, room.parts)]
+def try_collection(test: programs.Checks, python: str, room: Room, kind: str, number: int) -> None:
+    """A cluster of three workers on one machine, of which one is killed while it loads a part of this kind in this pass."""
+    script, name = room.path / "collections_of_dask.py", f"{kind}{number}"
+    script.write_text(COLLECTIONS)
+    (room.path / "loading.py").write_text(LOADING)
+    pipe = Pipe(room.path / name, room.parts[-1].read_bytes(), number)
+    env = {**room.env, "PYTHONPATH": f"{room.path}:{programs.TOP / 'python'}"}
+    words = [python, str(script), kind, str(K), *map(str, room.parts[:-1]), str(pipe.path)]
     # a cluster that ends beside a worker that starts anew says so on standard error
-    with open(room.path / "out", "wb") as out, open(room.path / "workers.log", "ab") as said:
-        env = {**room.env, "PYTHONPATH": str(EXAMPLES)}
-        example = subprocess.Popen(words, env=env, cwd=room.path, stdin=subprocess.DEVNULL, stdout=out, stderr=said)
-        try:
-            waited("a worker that runs heavy condense", (room.path / "holder").exists)
-            holder, workers = int(*room.lines("holder")), [int(word) for word in room.lines("workers")[0].split()]
-            test.check("one of three workers runs the program", len(workers) == 3 and holder in workers, (holder, workers))
-            if holder in workers:
-                os.kill(holder, signal.SIGKILL)
-            (room.path / "gate").touch()
-            status = example.wait(SECONDS)
-        finally:
-            example.kill()
-            example.wait()
-    printed = (room.path / "out").read_bytes()
-    killed = (status, printed) == room.expected == room.report
-    test.check("one of three workers killed in the second pass", killed, (status, printed))
-    test.check("its part is condensed again", room.times("condense") > PARTS, room.lines("log"))
+    with open(room.path / "workers.log", "ab") as said:
+        how = {"env": env, "cwd": room.path, "stdin": subprocess.DEVNULL, "stdout": subprocess.PIPE, "stderr": said}
+        ran = subprocess.run(words, timeout=SECONDS, **how)
+    workers, _, rows = ran.stdout.partition(b"\n")
+    killed = pipe.readers[number - 1 :][:1]
+    test.check(f"{name}: one of three workers is killed", len(workers.split()) == 3 and str(*killed).encode() in workers.split(), workers)
+    test.check(f"{name}: its part is loaded again", len(pipe.readers) >= 3, pipe.readers)
+    test.check(f"{name}: the report", (ran.returncode, rows) == room.expected, ran)
 
 
 def try_dask(test: programs.Checks, python: str, room: Room) -> None:
-    """The example over Dask, case by case."""
+    """The example and the module over Dask, case by case."""
+    ended = programs.install_library(f"{room.path}/usr", programs.compilers()[0])
+    test.check("the library for C is there", ended.status == 0, ended)
+    room.env |= {"LIBHEAVY": f"{room.path}/usr/lib/libheavy.so.1", "PYTHONPATH": str(programs.TOP / "python")}
     tried(test, room, "Dask alone", lambda: try_alone(test, python, room))
-    tried(test, room, "three workers", lambda: try_three_workers(test, python, room))
+    for kind, number in itertools.product(("frame", "items", "counter"), (1, 2)):
+        tried(test, room, f"{kind}{number}", lambda: try_collection(test, python, room, kind, number))
     dask = Dask(python, room)
 
     def on_two_workers(case: Callable[[programs.Checks, Dask], None]) -> None:
@@ -410,8 +439,8 @@ def try_dask(test: programs.Checks, python: str, room: Room) -> None:
     try:
         tried(test, room, "Dask's scheduler", dask.wait)
         if dask.address:
-            tried(test, room, "a worker killed in summarise", lambda: kill_a_worker(test, dask, "summarise"))
-            tried(test, room, "a worker killed in condense", lambda: kill_a_worker(test, dask, "condense"))
+            tried(test, room, "a worker killed in the first pass", lambda: kill_a_worker(test, dask, 1))
+            tried(test, room, "a worker killed in the second pass", lambda: kill_a_worker(test, dask, 2))
             tried(test, room, "faults over Dask", lambda: on_two_workers(try_faults))
             tried(test, room, "places over Dask", lambda: on_two_workers(try_places))
     finally:
@@ -433,9 +462,9 @@ class Engines(programs.Checks):
         tried(self, self.records, "parallel", lambda: try_parallel(self, self.records))
 
     def test_dask(self) -> None:
-        python = programs.python_with("distributed")
-        if not python:
-            self.skipTest("the script over Dask wants python3-distributed")
+        python = programs.python_with("distributed", "pandas")
+        if not python or not programs.has_library():
+            self.skipTest("the script over Dask wants python3-distributed, python3-pandas and the library for C")
         try_dask(self, python, self.records)
 
 

@@ -34,21 +34,38 @@ UNPROVED = b"heavy: nothing is proved by this run, which is slow: it compiles th
     b"bin/heavy proves it\n"
 # what the lines of Python over these days give
 GIVEN = {
-    "heavy.report('monday.csv', k=100)": [(b"10.0.0.1", 5), (b"10.0.0.2", 1)],
-    "cells.estimate('10.0.0.1')": 2,
-    "week.ask('10.0.0.1')": (7, 7),
-    "week.list()": b"10.0.0.1,7,7\n10.0.0.2,1,1\n",
-    "week.confirm(records)": b"10.0.0.1,7\n10.0.0.2,1\n",
-    "week.confirm(records, threshold=(1, 4))": b"10.0.0.1,7\n",
-    "(len(visits), visits.total, visits.slack)": (3, 11, 0),
-    "list(visits)": [(b"10.0.0.1", 5, 5), (b"10.0.0.2", 5, 5), (b"10.0.0.3", 1, 1)],
+    "heavy.report('monday.csv', k=100)": "[Row(key=b'10.0.0.1', weight=5), Row(key=b'10.0.0.2', weight=1)]",
+    "week.ask('10.0.0.1')": "(7, 7)",
+    "week.top(1)": "[Bounds(key=b'10.0.0.1', low=7, high=7)]",
+    "week.heavy_hitters('1/4')": "[Bounds(key=b'10.0.0.1', low=7, high=7)]",
+    "week.confirm(records, threshold='1/4')": "[Row(key=b'10.0.0.1', weight=7)]",
+    "(len(visits), visits.total, visits.slack)": "(3, 11, 0)",
+    "('10.0.0.3' in visits, visits['10.0.0.2'].low)": "(True, 5)",
+    "list(visits)": "['10.0.0.1', '10.0.0.2', '10.0.0.3']",
+    "visits.items()": "[Bounds(key='10.0.0.1', low=5, high=5), Bounds(key='10.0.0.2', low=5, high=5), Bounds(key='10.0.0.3', low=1, high=1)]",
+    "visits.confirm_items(['10.0.0.1', '10.0.0.2', '10.0.0.3'], [5, 5, 1], threshold=0.25)":
+        "[Row(key='10.0.0.1', weight=5), Row(key='10.0.0.2', weight=5)]",
+    "cells.estimate('10.0.0.1')": "2",
+    "heavy.report(b'host bytes\\na 512\\nb -\\na 2\\n', k=1, layout=log, text=True)": "[Row(key='a', weight=514)]",
+    "heavy.report(b'a,0.25\\nb,3\\n', k=1, layout=prices)": "[Row(key=b'b', weight=Decimal('3.00'))]",
+    "heavy.pandas.report(frame, 'client', 'bytes', k=100)": "[['10.0.0.1', 7], ['10.0.0.2', 1]]",
+    "heavy.dask.report(frames, 'client', 'bytes', k=100)": "[Row(key='10.0.0.1', weight=7), Row(key='10.0.0.2', weight=1)]",
 }
+# what those lines stand on, beside the days, and a frame told by its rows
+BEFORE = """
+import dask.dataframe, pandas
+frame = pandas.DataFrame({"client": ["10.0.0.1", "10.0.0.2", "10.0.0.1"], "bytes": [5, 1, 2]})
+frames = dask.dataframe.from_pandas(frame, npartitions=2)
+def told(value):
+    return value.values.tolist() if isinstance(value, pandas.DataFrame) else value
+"""
 
 
 def installed(tool: str) -> bool:
     if tool == "dask":
         words = ["/usr/bin/python3", "-c", "import distributed"]
-        return os.path.exists(words[0]) and subprocess.run(words, capture_output=True).returncode == 0
+        there = os.path.exists(words[0]) and subprocess.run(words, capture_output=True).returncode == 0
+        return there and programs.has_library()
     return shutil.which(tool) is not None
 
 
@@ -100,6 +117,9 @@ def faults_of(blocks: list[list[str]]) -> list[str]:
         (folder / "bin" / "ssh").chmod(0o755)
         shutil.copytree(programs.TOP / "examples", folder / "examples")
         env = {"PATH": f"{room}/bin:{os.environ['PATH']}", "HOME": room, "LC_ALL": "C"}
+        if any("over_dask" in command for block in blocks for command, _ in steps_of(block)) and installed("dask"):
+            programs.install_library(f"{room}/usr", programs.compilers()[0])
+            env |= {"LIBHEAVY": f"{room}/usr/lib/libheavy.so.1", "PYTHONPATH": str(programs.TOP / "python")}
         for command, printed in (step for block in blocks for step in steps_of(block)):
             if wanting(command):
                 continue
@@ -203,9 +223,14 @@ class Examples(programs.Checks):
     def test_python(self) -> None:
         """The lines of Python of python/README.md, each with what it gives."""
         blocks = [block for block in others_of((programs.TOP / "python" / "README.md").read_text()) if "import heavy" in block]
-        self.check("python/README.md has lines of Python", len(blocks) == 2, blocks)
-        if not programs.has_library():
-            self.skipTest("the lines of Python want the library for C")
+        self.check("python/README.md has lines of Python", len(blocks) == 3, blocks)
+        shown = ast.parse("\n".join(line for block in blocks for line in block)).body
+        values = [ast.unparse(step) for step in shown if isinstance(step, ast.Expr)]
+        changing = {value for value in values if value.startswith(("visits.update", "cells.update"))}
+        self.check("each is one that is compared", {*values} - changing == {*GIVEN}, {*values} - changing ^ {*GIVEN})
+        python = programs.python_with("pandas", "dask.dataframe")
+        if not programs.has_library() or not python:
+            self.skipTest("the lines of Python want the library for C, pandas and dask")
         with tempfile.TemporaryDirectory() as room:
             ended = programs.install_library(f"{room}/usr", programs.compilers()[0])
             self.check("the library for C is there", ended.status == 0, ended)
@@ -213,16 +238,14 @@ class Examples(programs.Checks):
                 Path(room, name).write_bytes(text)
             saved = programs.run([programs.built("heavy_cli"), "summarise", "--k", "100"], DAYS["tuesday.csv"]).out
             Path(room, "tuesday.heavy").write_bytes(saved)
-            shown = ast.parse("\n".join(line for block in blocks for line in block)).body
-            values = [ast.unparse(step) for step in shown if isinstance(step, ast.Expr)]
-            steps = [f"print(repr({ast.unparse(s)}))" if isinstance(s, ast.Expr) else ast.unparse(s) for s in shown]
-            program = "\n".join([f"records = {b''.join(DAYS.values())!r}", *steps])
+            steps = [f"print(repr(told({ast.unparse(s)})))" if isinstance(s, ast.Expr) else ast.unparse(s) for s in shown]
+            program = "\n".join([BEFORE, f"records = {b''.join(DAYS.values())!r}", *steps])
             env = {**os.environ, "LIBHEAVY": f"{room}/usr/lib/libheavy.so.1", "PYTHONPATH": str(programs.TOP / "python")}
-            ended = programs.run([sys.executable, "-B", "-c", program], env=env, cwd=room)
+            ended = programs.run([python, "-B", "-c", program], env=env, cwd=room)
             printed = dict(zip(values, ended.out.decode().splitlines()))
             self.check("the lines of Python", ended.status == 0, ended)
             for value, given in GIVEN.items():
-                self.check(f"{value} of python/README.md", printed.get(value) == repr(given), ended)
+                self.check(f"{value} of python/README.md", printed.get(value) == given, printed.get(value))
 
 
 if __name__ == "__main__":

@@ -70,7 +70,7 @@ tar -C "$1" --sort=name --owner=0 --group=0 --numeric-owner -cf "$2" .
     # a wheel by its name alone
     "python": f"""#!/bin/sh
 case $2 in
-  *build_wheel*) cat VERSION heavy/__init__.py heavy/libheavy.so.1 > ../made/heavy-{VERSION}-py3-none-any.whl ;;
+  *build_wheel*) cat VERSION heavy/VERSION heavy/*.py heavy/libheavy.so.1 > ../made/heavy-{VERSION}-py3-none-any.whl ;;
 esac
 """,
     "rattle-link": '#!/bin/sh\ncp "$LINKED" "$6"\n',
@@ -279,9 +279,10 @@ def try_release(checks: programs.Checks, room: str) -> None:
     parts = {name.removeprefix(f"{NAME}-objects/") for name in names_in(files[0][f"{NAME}-objects.tar.gz"])}
     checks.check("the objects", {"heavy_cli.o", "libos_c.a", "liblibc_c.a", "link"} <= parts, parts)
     wheel = files[0][f"heavy-{VERSION}-py3-none-any.whl"]
-    module = f"{VERSION}\n".encode() + (programs.TOP / "python" / "heavy.py").read_bytes()
-    right = wheel.startswith(module) and b"GLIBC_2.34" in wheel[len(module):]
-    checks.check("the wheel has the module and the library", right)
+    sources = sorted((programs.TOP / "python" / "heavy").glob("*.py"))
+    modules = 2 * f"{VERSION}\n".encode() + b"".join(source.read_bytes() for source in sources)
+    right = wheel.startswith(modules) and b"GLIBC_2.34" in wheel[len(modules):]
+    checks.check("the wheel has the modules and the library", len(sources) > 3 and right)
     try_tarball(checks, folders[0] / f"{NAME}.tar.gz", room)
     try_packages(checks, folders[0])
     ended = copy.release(f"{room}/third")

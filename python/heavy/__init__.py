@@ -1,0 +1,48 @@
+"""The heavy keys of weighted records: summaries, merges, questions and exact reports, over the library `libheavy.so.1`.
+
+    heavy.report("monday.csv", k=100)             # the heavy keys with their weights, exact
+    summary = heavy.Summary.of_csv("monday.csv", k=100)
+    both = heavy.merge(summary, heavy.Summary(saved))
+    both.update("10.0.0.1", 5)                    # one item more; heavy.Summary(k=100) begins empty
+    both.update_many({"10.0.0.1": 5})             # many: keys, keys and weights, or a mapping
+    both.ask(b"10.0.0.1")                         # (least, most)
+    both.top(10)                                  # rows of a key, its least and its most
+    both.confirm(records)                         # rows of a key and its weight, exact
+    both.condense(part)                           # fewer records that confirm the same
+
+What is given as bytes may be any object with the buffer protocol, or an open binary file, which is read to its end.
+Records may also be in a file that a str or a path names, in any `Layout`. Keys and weights may be arrays of numpy, columns
+of pandas, or what Arrow's interface gives; none of these libraries is needed. `heavy.pandas` reports the heavy keys of a
+frame, and `heavy.dask` those of a collection.
+
+What has the wrong type is a `TypeError`, and a wrong value a `ValueError`: a `HeavyError`, with the program's text and
+exit status, where the library refuses it. Calls share nothing and let other threads run meanwhile. A summary or table that
+one thread updates is for no other meanwhile. The library is looked for where LIBHEAVY says, in this folder, and then where
+the system looks.
+"""
+import re as _re
+from pathlib import Path as _Path
+
+from . import dask, pandas
+from ._files import Info, Summary, Table, merge, report, report_csv
+from ._library import HeavyError
+from ._options import Layout
+from ._records import Bounds, Row
+
+__all__ = ["Bounds", "HeavyError", "Info", "Layout", "Row", "Summary", "Table", "merge", "report", "report_csv"]
+
+for _public in (Bounds, HeavyError, Info, Layout, Row, Summary, Table, merge, report, report_csv):
+    _public.__module__ = __name__
+
+
+def _version() -> str:
+    """The version that a wheel has beside this file, or in the sources that of the library's header."""
+    folder = _Path(__file__).resolve().parent
+    if (folder / "VERSION").exists():
+        return (folder / "VERSION").read_text().strip()
+    header = folder.parent.parent / "include" / "heavy.h"
+    found = _re.search(r'^#define HEAVY_RELEASE "(.*)"', header.read_text(), _re.M) if header.exists() else None
+    return found[1] if found else "unknown"
+
+
+__version__ = _version()

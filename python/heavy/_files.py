@@ -1,0 +1,846 @@
+"""Saved files as objects: summaries, tables, their merge, and the report that two passes make."""
+from __future__ import annotations
+
+import array
+import copy
+import ctypes
+import importlib
+import itertools
+import os
+import struct
+import tempfile
+from concurrent.futures import ThreadPoolExecutor
+from pathlib import Path
+from typing import Any, Callable, Dict, Iterable, Iterator, List, NamedTuple, Optional, Tuple, TypeVar, overload
+
+from ._columns import ANY, Columns, Items, Key, Keys, bytes_of_key, columns_of, integer_of_weight, items_of, lent_items
+from ._columns import sum_of, text_of_bytes
+from ._library import BAD_METHOD, BAD_RECORD, BAD_THRESHOLD, DONE, LARGE, MAX_KEY, MAX_TOTAL, MIXED_KINDS, NOT_COUNTERS, REFUSED
+from ._library import SMALL, TABLE, TOTAL_TOO_LARGE, USAGE, Entry, Fault, HeavyError, InfoWords, Pair, answer, calls, given
+from ._library import integer, joined, lent, word
+from ._options import PLAIN, Layout, Threshold, share_of
+from ._records import Bounds, Given, Named, Records, Row, bytes_of, is_file, parts_of, records_in, rows_of, with_records
+
+_BATCH = 8192  # items that are gathered before the library adds them
+_COLUMN_BATCH = 1 << 20  # items of a column that the library adds at once
+_METHODS = ("mg", "ss")
+File = TypeVar("File", bound="_File")
+
+
+class Info(NamedTuple):
+    """What is in a saved file. What its kind has not is None."""
+
+    version: int
+    kind: str
+    total: int
+    k: Optional[int] = None
+    keys: Optional[int] = None
+    counters: Optional[int] = None
+    slack: Optional[int] = None
+    depth: Optional[int] = None
+    width: Optional[int] = None
+
+
+def _info(saved: bytes) -> Info:
+    """What is in a saved file."""
+    words, fault = InfoWords(), Fault()
+    status = calls.heavy_info(*lent(saved), ctypes.byref(words), ctypes.byref(fault))
+    if status != DONE:
+        raise HeavyError(status, fault.kind, fault.cause, fault.number)
+    if words.kind == TABLE:
+        return Info(words.version, "table", words.total, depth=words.depth, width=words.width)
+    return Info(words.version, "summary", words.total, words.k, words.keys, words.counters, words.slack)
+
+
+def _with_items(saved: bytes, columns: Columns, weights: Any) -> bytes:
+    """A saved file with these items added, at most `_COLUMN_BATCH` at a time."""
+    data, ends, text = columns
+    for start in range(0, len(ends), _COLUMN_BATCH):
+        base = int(ends[start - 1]) if start else 0
+        part = ends[start : start + _COLUMN_BATCH]
+        if base:
+            part = array.array("Q", [end - base for end in part.tolist()])
+        words = data if len(part) == len(ends) else data[base : base + int(part[-1])]
+        numbers = None if weights is None else weights[start : start + _COLUMN_BATCH]
+        items = lent_items(Columns(words, part, text), numbers)
+        saved = answer(calls.heavy_add, *lent(saved), *items, guess=len(saved) + min(len(words) + 10 * len(part), LARGE))
+    return saved
+
+
+def _empty(k: int) -> bytes:
+    """The saved summary of no items."""
+    return answer(calls.heavy_empty, word("k", k), guess=17)
+
+
+def _empty_table(width: int, depth: int, seed: int) -> bytes:
+    """The saved table of no items."""
+    shape, drawn = (word("width", width), word("depth", depth)), integer("seed", seed)
+    if not 0 <= drawn < 2**64:
+        raise ValueError("seed must be from 0 to 2^64 - 1")
+    room = 26 + min(shape[1], 16) * (16 + 8 * min(shape[0], 65536))
+    return answer(calls.heavy_empty_table, *shape, drawn, guess=room)
+
+
+class _File:
+    """A saved file, which grows by items. They are gathered, and added some thousands at a time and before a question."""
+
+    _row = ""  # what only a file of this kind has in its description
+    _other: Tuple[int, int] = (0, 0)  # the numbers of the refusal of another kind
+
+    def __init__(self, saved: Given) -> None:
+        self._saved = bytes_of(saved)
+        self._keys: List[bytes] = []
+        self._weights: List[int] = []
+        self._total: int | None = None
+        self._known: Tuple[Any, Any] = (None, None)  # the file's bytes, and what they say
+
+    def __getstate__(self) -> Dict[str, Any]:
+        return {**self.__dict__, "_saved": self.to_bytes(), "_keys": [], "_weights": [], "_known": (None, None)}
+
+    @classmethod
+    def load(cls: type[File], path: Named) -> File:
+        """The file that is at this path.
+
+        >>> import tempfile
+        >>> with tempfile.TemporaryDirectory() as folder:
+        ...     Summary.of_csv(b"a,5\\n").save(f"{folder}/a.heavy")
+        ...     Summary.load(f"{folder}/a.heavy").ask("a")
+        (5, 5)
+        """
+        with open(path, "rb") as file:
+            return cls(file)
+
+    def save(self, path: Named) -> None:
+        """Writes the file's bytes to this path. Who reads there meanwhile reads the old file or the new one, whole."""
+        whole = self.to_bytes()
+        place = Path(path)
+        made, name = tempfile.mkstemp(dir=place.parent, prefix=f".{place.name}.")
+        try:
+            with open(made, "wb") as file:
+                file.write(whole)
+                file.flush()
+                os.fsync(file.fileno())
+            mask = os.umask(0)
+            os.umask(mask)
+            os.chmod(name, 0o666 & ~mask)
+            os.replace(name, place)
+        except BaseException:
+            os.unlink(name)
+            raise
+
+    def to_bytes(self) -> bytes:
+        """The file's bytes with all items, as the program writes them.
+
+        >>> Summary(Summary.of_csv(b"a,5\\n").to_bytes()).ask("a")
+        (5, 5)
+        """
+        if self._keys:
+            ends = array.array("Q", itertools.accumulate(map(len, self._keys)))
+            columns = Columns(b"".join(self._keys), ends, False)
+            self._saved = _with_items(self._saved, columns, array.array("Q", self._weights))
+            self._keys, self._weights = [], []
+        return self._saved
+
+    def copy(self: File) -> File:
+        """A copy, which grows by itself.
+
+        >>> summary = Summary.of_csv(b"a,5\\n")
+        >>> other = summary.copy()
+        >>> other.update("a")
+        >>> summary.total, other.total
+        (5, 6)
+        """
+        return copy.copy(self)
+
+    def describe(self) -> Info:
+        """What is in the file.
+
+        >>> Table.of_csv(b"a,5\\n", 8, 2).describe().total
+        5
+        """
+        saved = self.to_bytes()
+        if self._known[0] is not saved:
+            self._known = saved, _info(saved)
+        found: Info = self._known[1]
+        return found
+
+    def describe_csv(self) -> bytes:
+        """What is in the file, in the rows `name,value` that `heavy describe` prints.
+
+        >>> Table.of_csv(b"a,5\\n", 8, 2).describe_csv().splitlines()[-3:]
+        [b'depth,2', b'width,8', b'total,5']
+        """
+        return answer(calls.heavy_describe, *lent(self.to_bytes()), guess=256)
+
+    def ask(self, key: Key) -> Tuple[int, int]:
+        """The least and the most that a key's weight in the stream can be. A text is its bytes in UTF-8.
+
+        >>> Summary.of_csv(b"a,5\\nb,2\\n", k=1).ask("a")
+        (3, 5)
+        """
+        low, high, fault = ctypes.c_uint64(), ctypes.c_uint64(), Fault()
+        held = bytes_of_key(key)
+        status = calls.heavy_ask(
+            *lent(self.to_bytes()), *lent(held), ctypes.byref(low), ctypes.byref(high), ctypes.byref(fault)
+        )
+        if status != 0:
+            raise HeavyError(status, fault.kind, fault.cause, fault.number)
+        return low.value, high.value
+
+    def ask_many(self, keys: Iterable[Key]) -> List[Tuple[int, int]]:
+        """What `ask` says of each of these keys, in order. The file is read once.
+
+        >>> Summary.of_csv(b"a,5\\nb,2\\n").ask_many(["b", "c"])
+        [(2, 2), (0, 0)]
+        """
+        words = columns_of(keys).words()
+        out, count = given(calls.heavy_ask_keys, *lent(self.to_bytes()), *joined(words), of=Pair, guess=len(words))
+        return [(low, high) for low, high in struct.iter_unpack("=QQ", memoryview(out).cast("B")[: 16 * count])]
+
+    def update(self, key: Key, weight: int = 1) -> None:
+        """Adds one item: what `update_many` does with one key and one weight.
+
+        >>> summary = Summary()
+        >>> summary.update("a")
+        >>> summary.update(b"a", 4)
+        >>> summary.ask("a")
+        (5, 5)
+        """
+        # bytes and int are most of what comes, and are tested here alone
+        held = key if type(key) is bytes and 1 <= len(key) <= MAX_KEY else bytes_of_key(key)
+        number = weight if type(weight) is int and 1 <= weight <= MAX_TOTAL else integer_of_weight(weight)
+        total = (self.total if self._total is None else self._total) + number
+        if total > MAX_TOTAL:
+            raise HeavyError(REFUSED, BAD_RECORD, TOTAL_TOO_LARGE, 1)
+        self._keys.append(held)
+        self._weights.append(number)
+        if len(self._keys) >= _BATCH:
+            try:
+                self.to_bytes()
+            except BaseException:
+                del self._keys[-1], self._weights[-1]
+                raise
+        self._total = total
+
+    def update_many(self, keys: Keys, weights: Iterable[int] | None = None) -> None:
+        """Adds an item for each of these keys, in order, with as many weights, or else of weight 1 each; or the keys and
+        weights of a mapping, such as a Counter. A text is its bytes in UTF-8. Keys and weights may be arrays of numpy,
+        columns of pandas, or what Arrow's interface gives.
+
+        What is no key or no integer is a `TypeError`, and a key or a weight outside of the limits, or another number of
+        weights, a `ValueError`, each with the index in keys or weights. A total above 2^63 - 1 is a `HeavyError` with the
+        item's number from 1 on. After a refusal none of these items is added.
+
+        >>> summary = Summary()
+        >>> summary.update_many(["a", b"b"], [5, 3])
+        >>> summary.update_many({"a": 2, "c": 1})
+        >>> summary.update_many(["c", ""])
+        Traceback (most recent call last):
+        ValueError: keys[1]: a key must have 1 to 4096 bytes, not 0
+        >>> summary.total
+        11
+        """
+        if isinstance(keys, _File):
+            raise TypeError(f"keys is a {type(keys).__name__}, which is merged, as by +=")
+        self._add(items_of(keys, weights, self._room() if hasattr(keys, "to_numpy") else 0))
+
+    def _room(self) -> int:
+        """How many different keys may come in any order for the same bytes."""
+        return ANY
+
+    def _add(self, items: Items) -> None:
+        """Adds items that were checked."""
+        columns, numbers = items.columns, items.weights
+        total, count = self._total_with(items.many, items.given), len(columns.ends)
+        if len(self._keys) + count < _BATCH:
+            self._keys += columns.words()
+            self._weights += [1] * count if numbers is None else numbers.tolist()
+        else:
+            self._saved = _with_items(self.to_bytes(), columns, numbers)
+        self._total = total
+
+    def update_csv(self, records: Records, *, layout: Layout = PLAIN) -> None:
+        """Adds CSV records `key,weight`, or those of another layout, in order. A file is read some megabytes at a time. After a
+        refusal, which has the record's number, none of them is added.
+
+        >>> summary = Summary.of_csv(b"a,5\\n")
+        >>> summary.update_csv(b"a,2\\nb\\n")
+        >>> summary.entries()
+        [(b'a', 7), (b'b', 1)]
+        """
+        self._saved, self._total = with_records(self.to_bytes(), records, layout, self._begun(layout)), None
+
+    def _begun(self, layout: Layout) -> Callable[[bytes], bytes] | None:
+        """What makes a file of this kind of a text's records, where that is faster than to add them to one of no items."""
+        return None
+
+    def _total_with(self, count: int, weights: Any) -> int:
+        """The total with `count` items more, or the refusal of the first that makes it too large."""
+        before = self.total
+        total = before + (count if weights is None else sum_of(weights))
+        if total > MAX_TOTAL:
+            added = itertools.repeat(1) if weights is None else weights.tolist()
+            totals = itertools.accumulate(added, initial=before)
+            number = next(i for i, reached in enumerate(totals) if reached > MAX_TOTAL)
+            raise HeavyError(REFUSED, BAD_RECORD, TOTAL_TOO_LARGE, number)
+        return total
+
+    def _like(self: File, saved: bytes) -> File:
+        """Another file of this kind, whose keys come back as this one's do."""
+        made = copy.copy(self)
+        made._saved, made._total = saved, None
+        return made
+
+    def __add__(self: File, other: File) -> File:
+        """The merge with another file of its kind.
+
+        >>> (Summary.of_csv(b"a,5\\n") + Summary.of_csv(b"a,2\\nb\\n")).entries()
+        [(b'a', 7), (b'b', 1)]
+        """
+        if type(other) is not type(self):
+            return NotImplemented
+        return merge(self, other)
+
+    def __radd__(self: File, other: int) -> File:
+        """A copy, where `sum` begins with 0.
+
+        >>> sum([Summary.of_csv(b"a,5\\n"), Summary.of_csv(b"a,2\\nb\\n")]).total
+        8
+        """
+        if type(other) is not int or other != 0:
+            return NotImplemented
+        return self.copy()
+
+    def __iadd__(self: File, other: File) -> File:
+        """Becomes the merge with another file of its kind, or is as it was where that is refused. `|=` does the same.
+
+        >>> summary = Summary.of_csv(b"a,5\\n")
+        >>> summary += Summary.of_csv(b"a,2\\nb\\n")
+        >>> summary.entries()
+        [(b'a', 7), (b'b', 1)]
+        """
+        if type(other) is not type(self):
+            return NotImplemented
+        self._saved, self._total = merge(self, other).to_bytes(), None
+        return self
+
+    __ior__ = __iadd__
+
+    def _told(self) -> Info:
+        """What is in the file, which has to be of this kind."""
+        info = self.describe()
+        if getattr(info, self._row) is None:
+            raise HeavyError(REFUSED, self._other[0], 0, self._other[1])
+        return info
+
+    @property
+    def total(self) -> int:
+        """The weight of all items.
+
+        >>> Summary.of_csv(b"a,5\\nb\\n").total
+        6
+        """
+        if self._total is None:
+            self._total = self._told().total
+        return self._total
+
+    def __eq__(self, other: object) -> bool:
+        """Whether both are of one kind, and saved as the same bytes.
+
+        >>> Summary.of_csv(b"a\\nb\\n") == Summary.of_csv(b"b\\na\\n")
+        True
+        """
+        if not isinstance(other, type(self)):
+            return NotImplemented
+        return self.to_bytes() == other.to_bytes()
+
+    __hash__ = None  # type: ignore[assignment]
+
+
+class Summary(_File):
+    """A summary of counters: a saved one, or with k alone a new one of no items, which grows by `update`.
+
+    It is a mapping from the keys that have a counter to rows of a key, the least and the most of its weight. Keys come back
+    as bytes, or with `text` as str.
+
+    >>> summary = Summary(k=2, text=True)
+    >>> summary.update_many(["a", "b", "a"])
+    >>> summary
+    <heavy.Summary k=2 total=3 keys=2 slack=0>
+    >>> list(summary), "a" in summary, "c" in summary
+    (['a', 'b'], True, False)
+    >>> summary["a"]
+    Bounds(key='a', low=2, high=2)
+    """
+
+    _row, _other = "k", (NOT_COUNTERS, 0)
+
+    @overload
+    def __init__(self, saved: Given, *, text: bool = False) -> None: ...
+
+    @overload
+    def __init__(self, *, k: int = 100, text: bool = False) -> None: ...
+
+    def __init__(self, saved: Any = ..., *, k: int | None = None, text: bool = False) -> None:
+        """A file's bytes as they are, tested where they are used; or else the summary of no items with k counters.
+
+        >>> Summary(k=5).to_bytes() == Summary.of_csv(b"", k=5).to_bytes()
+        True
+        """
+        if saved is ...:
+            saved = _empty(100 if k is None else k)
+        elif k is not None:
+            raise TypeError("a saved summary has a k of its own")
+        super().__init__(saved)
+        self.text = bool(text)
+        self._rows: Tuple[Any, Any] = (None, None)  # the file's bytes, and its rows by key
+
+    def __getstate__(self) -> Dict[str, Any]:
+        return {**super().__getstate__(), "_rows": (None, None)}
+
+    @classmethod
+    def of_csv(
+        cls, records: Records, k: int = 100, method: str = "mg", *, layout: Layout = PLAIN, text: bool = False
+    ) -> Summary:
+        """The summary of CSV records `key,weight`, or those of another layout, with k counters. The methods "mg" and "ss"
+        give the same bytes. A file is read as `update_csv` reads it.
+
+        >>> Summary.of_csv(b"a,5\\nb,2\\n", k=2).entries()
+        [(b'a', 5), (b'b', 2)]
+        """
+        if method not in _METHODS:
+            raise HeavyError(USAGE, BAD_METHOD, 0, 0)
+        made = cls(_empty(k), text=text)
+        made.update_csv(records if is_file(records) else records_in(records), layout=layout)
+        return made
+
+    @classmethod
+    def load(cls, path: Named, *, text: bool = False) -> Summary:
+        """The summary that was saved to this path.
+
+        >>> import tempfile
+        >>> with tempfile.TemporaryDirectory() as folder:
+        ...     Summary.of_csv(b"a,5\\n").save(f"{folder}/a.heavy")
+        ...     Summary.load(f"{folder}/a.heavy", text=True).keys()
+        ['a']
+        """
+        made = super().load(path)
+        made.text = bool(text)
+        return made
+
+    @property
+    def k(self) -> int:
+        """The most keys that have a counter.
+
+        >>> Summary(k=7).k
+        7
+        """
+        return self._number("k")
+
+    @property
+    def slack(self) -> int:
+        """By how much a key's weight can be above its counter.
+
+        >>> Summary.of_csv(b"a,5\\nb,2\\n", k=1).slack
+        2
+        """
+        return self._number("slack")
+
+    def _room(self) -> int:
+        # where no counter is lowered each is the sum of its key's weights
+        return self.k - len(self)
+
+    def _begun(self, layout: Layout) -> Callable[[bytes], bytes] | None:
+        k = self.k
+        if self.total:
+            return None
+        guess = min(17 + k * (MAX_KEY + 10), LARGE)
+        return lambda text: answer(calls.heavy_summarise_records, *lent(text), *layout._words(), k, guess=guess)
+
+    def _number(self, name: str) -> int:
+        return int(getattr(self._told(), name))
+
+    def _key(self, key: bytes) -> Any:
+        """A key as it comes back."""
+        return text_of_bytes(key) if self.text else key
+
+    def _by_key(self) -> Dict[bytes, Bounds]:
+        """The rows by the bytes of their keys, by falling low and then by rising key."""
+        saved = self.to_bytes()
+        if self._rows[0] is not saved or self._rows[1].text != self.text:
+            slack = self.slack
+            ordered = sorted(_entries(saved), key=lambda entry: (-entry[1], entry[0]))
+            self._rows = saved, _Rows(self.text, {key: Bounds(self._key(key), low, low + slack) for key, low in ordered})
+        found: Dict[bytes, Bounds] = self._rows[1].rows
+        return found
+
+    def __len__(self) -> int:
+        """How many keys have a counter.
+
+        >>> len(Summary.of_csv(b"a,5\\nb\\na\\n"))
+        2
+        """
+        return self._number("keys")
+
+    def __bool__(self) -> bool:
+        """A summary is true, as any object; one of no keys too."""
+        return True
+
+    def __iter__(self) -> Iterator[Any]:
+        """The keys that have a counter, by falling low and then by rising key.
+
+        >>> [*Summary.of_csv(b"b\\na,5\\n")]
+        [b'a', b'b']
+        """
+        return iter(self.keys())
+
+    def __contains__(self, key: Key) -> bool:
+        """Whether a key has a counter.
+
+        >>> "a" in Summary.of_csv(b"a,5\\n")
+        True
+        """
+        return self.get(key) is not None
+
+    def __getitem__(self, key: Key) -> Bounds:
+        """The row of a key that has a counter; of another key a `KeyError`. `ask` tells the bounds of any key.
+
+        >>> Summary.of_csv(b"b\\na,5\\n")["a"]
+        Bounds(key=b'a', low=5, high=5)
+        """
+        row = self.get(key)
+        if row is None:
+            raise KeyError(key)
+        return row
+
+    @overload
+    def get(self, key: Key) -> Optional[Bounds]: ...
+
+    @overload
+    def get(self, key: Key, default: Any) -> Any: ...
+
+    def get(self, key: Key, default: Any = None) -> Any:
+        """The row of a key that has a counter, or else the default.
+
+        >>> Summary.of_csv(b"a,5\\n").get("b", 0)
+        0
+        """
+        try:
+            held = bytes_of_key(key)
+        except ValueError:  # no key has so many bytes
+            return default
+        return self._by_key().get(held, default)
+
+    def keys(self) -> List[Any]:
+        """The keys that have a counter, by falling low and then by rising key.
+
+        >>> Summary.of_csv(b"b\\na,5\\n", text=True).keys()
+        ['a', 'b']
+        """
+        return [row.key for row in self._by_key().values()]
+
+    def items(self) -> List[Bounds]:
+        """The rows of the keys that have a counter, each with the least and the most of its weight, by falling low and then
+        by rising key.
+
+        >>> Summary.of_csv(b"b\\na,5\\n").items()
+        [Bounds(key=b'a', low=5, high=5), Bounds(key=b'b', low=1, high=1)]
+        """
+        return [*self._by_key().values()]
+
+    list = items
+
+    def list_csv(self) -> bytes:
+        """The rows of `items`, as `heavy list` prints them.
+
+        >>> Summary.of_csv(b"a,2\\nb,5\\n").list_csv()
+        b'b,5,5\\na,2,2\\n'
+        """
+        return answer(calls.heavy_list, *lent(self.to_bytes()), guess=SMALL)
+
+    def top(self, n: int) -> List[Bounds]:
+        """The first n rows of `items`.
+
+        >>> Summary.of_csv(b"b\\na,5\\n", text=True).top(1)
+        [Bounds(key='a', low=5, high=5)]
+        """
+        count = integer("n", n)
+        if count < 0:
+            raise ValueError(f"n must be at least 0, not {count}")
+        return self.items()[:count]
+
+    def heavy_hitters(self, threshold: Threshold = None, *, certain: bool = True) -> List[Bounds]:
+        """The rows of `items` for keys above a share of the total weight, 1/(k + 1) if none is given. With `certain` each of
+        them weighs more, since its low does, and others may too. Without, no other key weighs more, and some of these may
+        weigh less: their high is above. `report` and `confirm` tell which.
+
+        >>> summary = Summary.of_csv(b"a,5\\nb,2\\nc,1\\n", k=2, text=True)
+        >>> summary.items()
+        [Bounds(key='a', low=4, high=5), Bounds(key='b', low=1, high=2)]
+        >>> [row.key for row in summary.heavy_hitters("1/2")], [row.key for row in summary.heavy_hitters("5/8")]
+        ([], [])
+        >>> [row.key for row in summary.heavy_hitters("1/2", certain=False)]
+        ['a']
+        """
+        if not isinstance(certain, bool):
+            raise TypeError(f"certain must be True or False, not {type(certain).__name__!r}")
+        p, q = self._share(threshold)
+        least = p * self.total
+        return [row for row in self.items() if (row.low if certain else row.high) * q > least]
+
+    def _share(self, threshold: Threshold) -> Tuple[int, int]:
+        """A share of at least 1/(k + 1), which is that of no threshold."""
+        p, q = share_of(threshold)
+        if not p:
+            return 1, self.k + 1
+        if p * (self.k + 1) < q:
+            raise HeavyError(USAGE, BAD_THRESHOLD, 0, 0)
+        return p, q
+
+    def to_frame(self) -> Any:
+        """The rows of `items` as a frame of pandas, with the columns key, low and high."""
+        return importlib.import_module("pandas").DataFrame(self.items(), columns=[*Bounds._fields])
+
+    def entries(self) -> List[Tuple[Any, int]]:
+        """The keys that have a counter, by rising key, each with its counter.
+
+        >>> Summary.of_csv(b"b,5\\na,2\\n").entries()
+        [(b'a', 2), (b'b', 5)]
+        """
+        return [(self._key(key), counter) for key, counter in _entries(self.to_bytes())]
+
+    def __repr__(self) -> str:
+        """What is in the summary, or how its file is refused.
+
+        >>> Summary.of_csv(b"a,5\\n"), Summary(b"HHS")
+        (<heavy.Summary k=100 total=5 keys=1 slack=0>, <heavy.Summary file 1: truncated>)
+        """
+        try:
+            return f"<heavy.Summary k={self.k} total={self.total} keys={len(self)} slack={self.slack}>"
+        except HeavyError as refused:
+            return f"<heavy.Summary {refused}>"
+
+    def confirm(self, records: Records, threshold: Threshold = None, *, layout: Layout = PLAIN) -> List[Row]:
+        """The exact report of the summary's keys that are heavy in these records, which are those that were summarised:
+        above a share of the total of at least 1/(k + 1), or above just that, by falling weight and then by rising key.
+        Records with another total, or with a key whose weight is outside its bounds, are refused.
+
+        >>> Summary.of_csv(b"a,5\\nb,2\\n", k=2, text=True).confirm(b"a,5\\nb,2\\n", "1/2")
+        [Row(key='a', weight=5)]
+        """
+        return rows_of(self.confirm_csv(records, threshold, layout=layout), self.text)
+
+    def confirm_csv(self, records: Records, threshold: Threshold = None, *, layout: Layout = PLAIN) -> bytes:
+        """The rows of `confirm`, as `heavy confirm` prints them.
+
+        >>> Summary.of_csv(b"a,5\\nb,2\\n", k=2).confirm_csv(b"a,5\\nb,2\\n", "1/2")
+        b'a,5\\n'
+        """
+        share = share_of(threshold)
+        return self._confirmed(records_in(records), share, layout)
+
+    def _confirmed(self, text: bytes, share: Tuple[int, int], layout: Layout) -> bytes:
+        """The rows of a report of records."""
+        words = (*lent(self.to_bytes()), *lent(text), *layout._words(), *share)
+        return answer(calls.heavy_confirm_records, *words, guess=SMALL)
+
+    def condense(self, records: Records, *, layout: Layout = PLAIN) -> bytes:
+        """CSV records that confirm the same: the weight of each key of the summary that comes, and in one more that of all
+        others. So parts are condensed one by one, and confirmed together, joined in any order.
+
+        >>> Summary.of_csv(b"a,5\\nb,2\\n", k=1).condense(b"b,1\\na,1\\nb,1\\n")
+        b'a,1\\nothers,2\\n'
+        """
+        text = records_in(records)
+        return answer(calls.heavy_condense_records, *lent(self.to_bytes()), *lent(text), *layout._words(), guess=SMALL)
+
+    def confirm_items(
+        self, keys: Keys, weights: Iterable[int] | None = None, threshold: Threshold = None
+    ) -> List[Row]:
+        """What `confirm` gives of items in memory, which are as `update_many` takes them.
+
+        >>> Summary.of_csv(b"a,5\\nb,2\\n", k=2).confirm_items(["a", "b", "a"], [4, 2, 1])
+        [Row(key=b'a', weight=5)]
+        """
+        return self._confirm(items_of(keys, weights, ANY), share_of(threshold))
+
+    def _confirm(self, items: Items, share: Tuple[int, int]) -> List[Row]:
+        """The report of items that were checked."""
+        return rows_of(self._confirmed(self._condensed(items), share, PLAIN), self.text)
+
+    def _condensed(self, items: Items) -> bytes:
+        """Records that confirm the same as items that were checked."""
+        words = (*lent(self.to_bytes()), *lent_items(items.columns, items.weights))
+        return answer(calls.heavy_condense_items, *words, guess=SMALL)
+
+    def condense_items(self, keys: Keys, weights: Iterable[int] | None = None) -> bytes:
+        """What `condense` gives of items in memory, which are as `update_many` takes them: so a second pass goes over
+        parts of a stream, and what comes of them is confirmed together, joined in any order.
+
+        >>> summary = Summary.of_csv(b"a,5\\nb,2\\n", k=1)
+        >>> summary.confirm(summary.condense_items(["a", "b"], [3, 2]) + summary.condense_items({"a": 2}))
+        [Row(key=b'a', weight=5)]
+        """
+        return self._condensed(items_of(keys, weights, ANY))
+
+
+class _Rows(NamedTuple):
+    """The rows of a summary by the bytes of their keys, and whether their keys are texts."""
+
+    text: bool
+    rows: Dict[bytes, Bounds]
+
+
+def _entries(saved: bytes) -> List[Tuple[bytes, int]]:
+    """The keys and counters of a saved summary, by rising key."""
+    out, count = given(calls.heavy_entries, *lent(saved), of=Entry, guess=len(saved) // 16 + 1)
+    places = struct.iter_unpack("=QQQ", memoryview(out).cast("B")[: 24 * count])
+    return [(saved[start : start + size], counter) for start, size, counter in places]
+
+
+class Table(_File):
+    """A saved Count-Min table: one that was saved, or else a new one of no items, which grows by `update`. It has as many
+    rows of cells as its depth, with the hash family that is drawn from the seed.
+
+    >>> table = Table(width=64, depth=3)
+    >>> table.update_many(["a", "b", "a"], [5, 1, 2])
+    >>> table
+    <heavy.Table width=64 depth=3 total=8>
+    >>> table.estimate("a")
+    7
+    """
+
+    _row, _other = "width", (MIXED_KINDS, 1)
+
+    @overload
+    def __init__(self, saved: Given) -> None: ...
+
+    @overload
+    def __init__(self, *, width: int = 1024, depth: int = 4, seed: int = 0) -> None: ...
+
+    def __init__(
+        self, saved: Any = ..., *, width: int | None = None, depth: int | None = None, seed: int | None = None
+    ) -> None:
+        """A file's bytes as they are, tested where they are used; or else the table of no items.
+
+        >>> Table(width=8).to_bytes() == Table.of_csv(b"", width=8).to_bytes()
+        True
+        """
+        if saved is ...:
+            saved = _empty_table(1024 if width is None else width, 4 if depth is None else depth, 0 if seed is None else seed)
+        elif not width is depth is seed is None:
+            raise TypeError("a saved table has a width, a depth and a hash family of its own")
+        super().__init__(saved)
+
+    @property
+    def width(self) -> int:
+        """How many cells a row has.
+
+        >>> Table().width
+        1024
+        """
+        return int(self._told().width or 0)
+
+    @property
+    def depth(self) -> int:
+        """How many rows there are.
+
+        >>> Table().depth
+        4
+        """
+        return int(self._told().depth or 0)
+
+    def estimate(self, key: Key) -> int:
+        """The least of the key's cells: at least its weight.
+
+        >>> Table.of_csv(b"a,5\\na\\n").estimate("a")
+        6
+        """
+        return self.ask(key)[1]
+
+    def __repr__(self) -> str:
+        """What is in the table, or how its file is refused.
+
+        >>> Table(width=8, depth=2), Table(b"HHS")
+        (<heavy.Table width=8 depth=2 total=0>, <heavy.Table file 1: truncated>)
+        """
+        try:
+            return f"<heavy.Table width={self.width} depth={self.depth} total={self.total}>"
+        except HeavyError as refused:
+            return f"<heavy.Table {refused}>"
+
+    @classmethod
+    def of_csv(
+        cls, records: Records, width: int = 1024, depth: int = 4, seed: int = 0, *, layout: Layout = PLAIN
+    ) -> Table:
+        """The table of CSV records `key,weight`, or those of another layout, with the hash family that is drawn from the
+        seed. A file is read as `update_csv` reads it.
+
+        >>> Table.of_csv(b"a,5\\na\\n").ask("a")
+        (0, 6)
+        """
+        made = cls(_empty_table(width, depth, seed))
+        made.update_csv(records if is_file(records) else records_in(records), layout=layout)
+        return made
+
+
+def merge(first: File | Iterable[File], *others: File) -> File:
+    """The merge of saved files of one kind, given one by one or as one iterable of them. The answer is of their kind too,
+    and files are numbered from 1 in a refusal.
+
+    >>> days = [Summary.of_csv(b"a,5\\n"), Summary.of_csv(b"a,2\\nb,1\\n")]
+    >>> merge(*days).entries(), merge(days).ask("a")
+    ([(b'a', 7), (b'b', 1)], (7, 7))
+    """
+    one: Any = first
+    listed: List[File] = [one, *others] if others or isinstance(one, _File) else [*one]
+    for index, file in enumerate(listed):
+        if not isinstance(file, _File):
+            raise TypeError(f"files[{index}] must be a Summary or a Table, not {type(file).__name__!r}")
+    if not listed:
+        raise ValueError("there is no file to merge")
+    files = [file.to_bytes() for file in listed]
+    sizes = [len(file) for file in files]
+    return listed[0]._like(answer(calls.heavy_merge, *joined(files), guess=max(min(sum(sizes), LARGE), max(sizes))))
+
+
+def report(
+    records: Records, k: int = 100, threshold: Threshold = None, workers: int = 1, *,
+    layout: Layout = PLAIN, text: bool = False,
+) -> List[Row]:
+    """The keys of CSV records `key,weight`, or those of another layout, that weigh more than the total divided by k + 1, or
+    more than a share of it that is at least that: `"1/20"`, a pair (1, 20), a Fraction, or a float such as 0.5. Each has its
+    exact weight, by falling weight and then by rising key. The rows are those of the program's `report`, whatever the
+    number of workers, which are threads.
+
+    >>> report(b"a,5\\nb,2\\na,1\\n", k=1)
+    [Row(key=b'a', weight=6)]
+    >>> report(b"a,5\\nb,2\\na,1\\n", k=2, threshold="1/2", workers=2, text=True)
+    [Row(key='a', weight=6)]
+    """
+    return rows_of(report_csv(records, k, threshold, workers, layout=layout), text)
+
+
+def report_csv(
+    records: Records, k: int = 100, threshold: Threshold = None, workers: int = 1, *, layout: Layout = PLAIN
+) -> bytes:
+    """The rows of `report`, as `heavy report` prints them.
+
+    >>> report_csv(b"a,5\\nb,2\\na,1\\n", k=1)
+    b'a,6\\n'
+    """
+    count = integer("workers", workers)
+    if count < 1:
+        raise ValueError("there must be a worker")
+    share = share_of(threshold)
+    whole = records_in(records)
+    parts = parts_of(whole, min(count, 64), layout)
+    if len(parts) == 1:
+        return answer(calls.heavy_report, *lent(whole), *layout._words(), word("k", k), *share, guess=SMALL)
+    try:
+        with ThreadPoolExecutor(len(parts)) as pool:
+            summary = merge(pool.map(lambda part: Summary.of_csv(part, k, layout=layout), parts))
+            condensed = b"".join(pool.map(lambda part: summary.condense(part, layout=layout), parts))
+        return summary.confirm_csv(condensed, threshold, layout=Layout(decimals=layout.decimals))
+    except HeavyError:  # told again with the number that the record has among all
+        return report_csv(whole, k, threshold, layout=layout)

@@ -1,0 +1,164 @@
+"""The calls of libheavy.so.1, why they refuse, and the rooms that their answers are written to."""
+from __future__ import annotations
+
+import ctypes
+import operator
+import os
+from pathlib import Path
+from typing import Any, Callable
+
+_VERSION = 1
+DONE, USAGE, REFUSED, TOO_SMALL = 0, 2, 3, 5
+BAD_K, BAD_METHOD, BAD_RECORD, MIXED_KINDS, NOT_COUNTERS = 2, 7, 9, 11, 14
+BAD_THRESHOLD, BAD_DELIMITER = 19, 22
+TOTAL_TOO_LARGE = 6  # a cause of BAD_RECORD
+TABLE = 2  # a kind of file
+MAX_KEY, MAX_TOTAL = 4096, 2**63 - 1
+SMALL, LARGE = 1 << 16, 1 << 20  # bytes of rooms that are tried first
+
+
+class HeavyError(ValueError):
+    """A refusal by the library: of a record, a saved file, an option such as k, or for want of memory.
+
+    Its text is the program's, and `status` the program's exit status: 2 an option, 3 a record, a file or a key, 4 memory.
+    `number` is that of the record, the file or the key, from 1 on, or 0. `part` is the path, or else the number from 0 on,
+    of the part of a collection of Dask whose records are refused, or None.
+    """
+
+    part: Any = None
+
+    def __init__(self, status: int, kind: int, cause: int, number: int) -> None:
+        self.status = status
+        self.number = number
+        super().__init__(_text_of(Fault(kind, cause, number)))
+        self.numbers = (status, kind, cause, number)
+
+    def __reduce__(self) -> tuple[type[HeavyError], tuple[int, int, int, int], dict[str, Any]]:
+        return HeavyError, self.numbers, self.__dict__
+
+
+class Fault(ctypes.Structure):
+    _fields_ = [("kind", ctypes.c_uint32), ("cause", ctypes.c_uint32), ("number", ctypes.c_uint64)]
+
+
+class Pair(ctypes.Structure):
+    """The bounds of a key."""
+
+    _fields_ = [("low", ctypes.c_uint64), ("high", ctypes.c_uint64)]
+
+
+class Entry(ctypes.Structure):
+    """Where a key lies in a saved summary, and its counter."""
+
+    _fields_ = [("start", ctypes.c_size_t), ("len", ctypes.c_size_t), ("counter", ctypes.c_uint64)]
+
+
+class LayoutWords(ctypes.Structure):
+    """How records are laid out, beside the columns."""
+
+    _fields_ = [
+        ("delimiter", ctypes.c_uint8), ("header", ctypes.c_uint8), ("allow_zero", ctypes.c_uint8),
+        ("decimals", ctypes.c_uint8), ("has_weight", ctypes.c_uint32), ("hash", ctypes.c_uint64 * 2),
+    ]
+
+
+class InfoWords(ctypes.Structure):
+    """What is in a saved file."""
+
+    _fields_ = [
+        ("kind", ctypes.c_uint32), ("version", ctypes.c_uint32),
+        *((name, ctypes.c_uint64) for name in ("total", "k", "keys", "counters", "slack", "width", "depth")),
+    ]
+
+
+def _loaded() -> ctypes.CDLL:
+    """The library that LIBHEAVY names, or the one beside this file, or else the system's."""
+    beside = Path(__file__).resolve().parent / "libheavy.so.1"
+    named = os.environ.get("LIBHEAVY")
+    library = ctypes.CDLL(named or (str(beside) if beside.exists() else "libheavy.so.1"))
+    read, size, number = ctypes.c_void_p, ctypes.c_size_t, ctypes.c_uint64
+    out = [ctypes.c_void_p, size, ctypes.POINTER(size), ctypes.POINTER(Fault)]
+    items = [read, size, ctypes.POINTER(number), size, ctypes.POINTER(number), size]
+    layout = [ctypes.POINTER(LayoutWords), read, size, ctypes.POINTER(size), size]
+    bounds = [ctypes.POINTER(number), ctypes.POINTER(number), ctypes.POINTER(Fault)]
+    version = library.heavy_version
+    version.argtypes, version.restype = [], ctypes.c_uint32
+    if version() != _VERSION:
+        raise ImportError(f"libheavy has interface {version()}, and this module is for {_VERSION}")
+    for name, words in {
+        "heavy_strerror": [ctypes.POINTER(Fault), *out[:3]],
+        "heavy_info": [read, size, ctypes.POINTER(InfoWords), ctypes.POINTER(Fault)],
+        "heavy_summarise_records": [read, size, *layout, number, *out],
+        "heavy_empty": [number, *out],
+        "heavy_add": [read, size, *items, *out],
+        "heavy_add_records": [read, size, read, size, *layout, *out],
+        "heavy_empty_table": [number, number, number, *out],
+        "heavy_merge": [read, size, ctypes.POINTER(size), size, *out],
+        "heavy_ask": [read, size, read, size, *bounds],
+        "heavy_ask_keys": [read, size, read, size, ctypes.POINTER(size), size, *out],
+        "heavy_entries": [read, size, *out],
+        "heavy_confirm_records": [read, size, read, size, *layout, number, number, *out],
+        "heavy_condense_records": [read, size, read, size, *layout, *out],
+        "heavy_report": [read, size, *layout, number, number, number, *out],
+        "heavy_condense_items": [read, size, *items, *out],
+        "heavy_list": [read, size, *out],
+        "heavy_describe": [read, size, *out],
+    }.items():
+        getattr(library, name).argtypes = words
+        getattr(library, name).restype = ctypes.c_uint32
+    library.heavy_whole_records_by.argtypes, library.heavy_whole_records_by.restype = [read, size, ctypes.c_uint8], size
+    return library
+
+
+calls = _loaded()
+
+
+def _text_of(fault: Fault) -> str:
+    """The text that the program has for a fault."""
+    out, needed = ctypes.create_string_buffer(128), ctypes.c_size_t()
+    if calls.heavy_strerror(ctypes.byref(fault), out, len(out), ctypes.byref(needed)) != DONE:
+        return "out of memory"
+    return out.raw[: needed.value].decode()
+
+
+def integer(name: str, number: Any) -> int:
+    """An integer of any kind, as numpy's are."""
+    if not hasattr(number, "__index__"):
+        raise TypeError(f"{name} must be an integer, not {type(number).__name__!r}")
+    return operator.index(number)
+
+
+def word(name: str, number: Any) -> int:
+    """An integer as 64 bits hold it, or where they don't the largest, which each option refuses."""
+    held = integer(name, number)
+    return held if 0 <= held < 2**64 else 2**64 - 1
+
+
+def lent(held: bytes) -> tuple[ctypes.c_void_p, int]:
+    """A pointer, never null, and a length."""
+    return ctypes.cast(ctypes.c_char_p(held), ctypes.c_void_p), len(held)
+
+
+def joined(parts: list[bytes]) -> tuple[ctypes.c_void_p, int, ctypes.Array[ctypes.c_size_t], int]:
+    """Parts as one slice, and their lengths as another, neither of them null."""
+    lengths = (ctypes.c_size_t * max(len(parts), 1))(*map(len, parts))
+    return *lent(b"".join(parts)), lengths, len(parts)
+
+
+def given(call: Callable[..., int], *words: object, of: Any, guess: int) -> tuple[Any, int]:
+    """An array, and how much of it a call fills: in a room for `guess` elements, or else for as many as the call says."""
+    needed, fault, size = ctypes.c_size_t(), Fault(), max(guess, 1)
+    while True:
+        out = (of * size)()
+        status = call(*words, out, size, ctypes.byref(needed), ctypes.byref(fault))
+        if status == DONE:
+            return out, needed.value
+        if status != TOO_SMALL:
+            raise HeavyError(status, fault.kind, fault.cause, fault.number)
+        size = needed.value
+
+
+def answer(call: Callable[..., int], *words: object, guess: int) -> bytes:
+    """The bytes that a call gives."""
+    out, size = given(call, *words, of=ctypes.c_char, guess=guess)
+    return ctypes.string_at(out, size)
