@@ -218,7 +218,7 @@ const COLUMN_ARGUMENTS: [Argument; 6] = [
     Argument::Given(
         Kind::Columns,
         KEY,
-        "The column of the key, by number or name; several, as 4,5, are one key",
+        "The column of the key, by number or name; several, as 4,5 or '\"a, b\",c', are one key",
     ),
     Argument::Given(
         Kind::Text("COLUMN"),
