@@ -10,16 +10,16 @@ _heavy() {
   case $prev in
     --method) mapfile -t COMPREPLY < <(compgen -W 'mg ss' -- "$cur"); return ;;
     --tree) mapfile -t COMPREPLY < <(compgen -W 'balanced chain' -- "$cur"); return ;;
-    --k | --threshold | --top | --delimiter | --key | --weight | --decimals | --workers | --pieces | --width | --depth | --seed) return ;;
+    -k | --k | -t | --threshold | -n | --top | -d | --delimiter | --key | --weight | --decimals | --workers | --pieces | --width | --depth | --seed) return ;;
   esac
   case ${COMP_WORDS[1]} in
-    report) options='--k --threshold --top --share --delimiter --header --key --weight --allow-zero --decimals --workers --pieces --tree --width --depth --seed --progress --explain' ;;
-    summarise) options='--k --method --workers --delimiter --header --key --weight --allow-zero --decimals --progress --explain' ;;
-    table) options='--width --depth --seed --workers --delimiter --header --key --weight --allow-zero --decimals --progress --explain' ;;
+    report) options='-k --k -t --threshold -n --top --share -d --delimiter -H --header --key --weight --allow-zero --decimals --workers --pieces --tree --width --depth --seed --progress --explain' ;;
+    summarise) options='-k --k --method --workers -d --delimiter -H --header --key --weight --allow-zero --decimals --progress --explain' ;;
+    table) options='--width --depth --seed --workers -d --delimiter -H --header --key --weight --allow-zero --decimals --progress --explain' ;;
     merge | describe) options='--explain' ;;
     ask | list) options='--decimals --explain' ;;
-    condense) options='--workers --delimiter --header --key --weight --allow-zero --decimals --progress --explain' ;;
-    confirm) options='--threshold --top --share --workers --delimiter --header --key --weight --allow-zero --decimals --progress --explain' ;;
+    condense) options='--workers -d --delimiter -H --header --key --weight --allow-zero --decimals --progress --explain' ;;
+    confirm) options='-t --threshold -n --top --share --workers -d --delimiter -H --header --key --weight --allow-zero --decimals --progress --explain' ;;
     help) mapfile -t COMPREPLY < <(compgen -W "$commands" -- "$cur"); return ;;
   esac
   case $cur in

@@ -177,6 +177,50 @@ class CommandLine(programs.Checks):
             for workers in ([], ["--workers", "1"], ["--workers", "4"]):
                 self.expect(["summarise", "--k", "2", *method, *workers], (0, ONE_IN_2, b""))
 
+    def test_letters(self) -> None:
+        """Options by their letters, with the value in the same word or in the next, and several in one word."""
+        for words in (["-k", "2"], ["-k2"], ["-k=2"]):
+            self.expect(["report", *words], (0, b"a,6\n", b""))
+            self.expect(["summarise", *words], (0, ONE_IN_2, b""))
+        self.expect(["report", "-k100"], (0, b"a,6\nb,3\nc,2\n", b""))
+        self.expect(["report", "-k100", "-n", "2"], (0, b"a,6\nb,3\n", b""))
+        self.expect(["report", "-k9", "-t", "1/4", "-n1"], (0, b"a,6\n", b""))
+        self.expect(["report", "-k9", "-t1/4", "-"], (0, b"a,6\nb,3\n", b""))
+        for words, text in [
+            (["-d", ";"], b"a;5\n"), (["-d;"], b"a;5\n"), (["-d-"], b"a-5\n"), (["--delimiter=-"], b"a-5\n"), (["-d", "\\t"], b"a\t5\n"),
+            (["-H"], b"x,y\na,5\n"), (["-Hd;", "--key", "x", "--weight", "y"], b"x;y\na;5\n"),
+        ]:
+            for command in ("report", "summarise", "table"):
+                plain = self.heavy([command], b"a,5\n")
+                self.expect([command, *words], plain, text)
+        self.save("day", ["summarise", "-k9"])
+        self.expect(["confirm", "-n1", "-t1/4", "day"], (0, b"a,6\n", b""))
+        self.expect(["condense", "-Hd;", "day"], (0, b"a,5\n", b""), b"x;y\na;5\n")
+        for words, option in [
+            (["report", "-k", "1", "--k", "2"], "--k <N>"), (["report", "-n1", "-n1"], "--top <N>"), (["table", "-HH"], "--header"),
+        ]:
+            status, out, err = self.heavy(words)
+            said = f"error: the argument '{option}' cannot be used multiple times\n".encode()
+            self.check(f"{words}", (status, out, err.startswith(said)) == (2, b"", True), err)
+        for words in (["report", "-k"], ["report", "-x"], ["table", "-k", "1"], ["merge", "-H", "day"], ["ask", "-n1", "day", "a"]):
+            status, out, err = self.heavy(words)
+            self.check(f"{words}", (status, out, err[:6]) == (2, b"", b"error:"), err)
+
+    def test_column_names(self) -> None:
+        """Names in quotes, as CSV has them, and words without quotes."""
+        text = b'"Last, First",City,"a ""b""",n\n"Ng, Al",Bern,x,5\n"Ng, Al",Bern,y,3\n'
+        plain = b'x"y,City,n\na,Bern,5\n'
+        for key, given, rows in [
+            ('"Last, First"', text, b'"Ng, Al",8\n'), ('"Last, First",City', text, b'"""Ng, Al"",Bern",8\n'),
+            ('City,"Last, First"', text, b'"Bern,""Ng, Al""",8\n'), ('"a ""b"""', text, b"x,5\ny,3\n"), ('"City"', text, b"Bern,8\n"),
+            ('"City', text, b"Bern,8\n"), ('"Ci"ty', text, b"Bern,8\n"), ('"2","3"', text, b'"Bern,x",5\n"Bern,y",3\n'),
+            ("City,3", text, b'"Bern,x",5\n"Bern,y",3\n'), ('x"y', plain, b"a,5\n"), ('x"y,City', plain, b'"a,Bern",5\n'),
+        ]:
+            self.expect(["report", "-H", "--key", key, "--weight", "n"], (0, rows, b""), given)
+            self.expect(["report", "-H", f"--key={key}", "--weight", "n"], (0, rows, b""), given)
+        for key in ("Last, First", '"Last","First"', '"Last, First",', '""', '"a "b""'):
+            self.refuses(["report", "-H", "--key", key, "--weight", "n"], "the header has no such column", 3, text)
+
     def test_texts(self) -> None:
         """Texts with their reports, with the first record that is bad, and condensed, each written by hand."""
         for text, k, rows in REPORTS:
@@ -522,6 +566,16 @@ class CommandLine(programs.Checks):
         terminal = on_terminal([self.program, *words], given, self.room)
         self.check(f"{name}: on a terminal", terminal == (status, both), (terminal, both))
 
+    def names(self, words: list, more: str, status: int, given: bytes = RECORDS) -> None:
+        """A fault of records that files or options name has a second line, always."""
+        plain = self.heavy(words, given)
+        both = programs.first_line(plain[2]) + f"  {more}\n".encode()
+        self.check(f"two lines about {words}", plain == (status, b"", both), (plain, both))
+        explained = self.heavy([*words[:1], "--explain", *words[1:]], given)
+        self.check(f"two lines about {words}: --explain", explained == plain, (explained, both))
+        terminal = on_terminal([self.program, *words], given, self.room)
+        self.check(f"two lines about {words}: on a terminal", terminal == (status, both), (terminal, both))
+
     def test_more_about_faults(self) -> None:
         """The second line of each fault that has one, and faults without."""
         weight = "a weight is a whole number from 1 on"
@@ -540,17 +594,21 @@ class CommandLine(programs.Checks):
             (b"a,1.25\n", behind), (b"k,w\n", behind), (b"a,0.0\n", "a weight is more than 0; --allow-zero takes 0"),
             (b"a,922337203685477580.8\n", "all weights together are at most 9223372036854775807 of the last decimal"),
         ]:
-            self.tells(["report", "--decimals", "1"], more, 3, text)
+            self.names(["report", "--decimals", "1"], more, 3, text)
         self.save("day", ["summarise", "--k", "2"])
         self.save("table", ["table", "--width", "8"])
         self.save("k3", ["summarise", "--k", "3"])
         for share, more in [
             ("1/100", "1/100 needs a k of 99 or more"), ("2/7", "2/7 needs a k of 3 or more"),
-            ("1/65536", "1/65536 needs a k of 65535 or more"), ("1/65537", None), ("50%", None), ("3/2", None), ("", None),
+            ("1/65536", "1/65536 needs a k of 65535 or more"), ("1/65537", None), ("3/2", None), ("", None), ("%", None), (".", None),
+            ("0", None), ("0%", None), ("101%", None), ("1.5", None), ("5 %", None), ("0.0000000005", None), ("1e-2", None),
+            ("5%", "5% is written 1/20"), ("0.05", "0.05 is written 1/20"), (".05", ".05 is written 1/20"), ("50%", "50% is written 1/2"),
+            ("2.5%", "2.5% is written 1/40"), ("100%", "100% is written 1/1"), ("0.3", "0.3 is written 3/10"), ("1", "1 is written 1/1"),
+            ("33.33%", "33.33% is written 3333/10000"), ("0.10", "0.10 is written 1/10"), ("12.5%", "12.5% is written 1/8"),
         ]:
             told = more or "a share is two whole numbers, as 1/50, from 1/65536 to 1/1"
             self.tells(["report", "--k", "2", "--threshold", share], told, 2)
-            told += ", and the summary has a k of its own" if more else ""
+            told += ", and the summary has a k of its own" if more and "needs" in more else ""
             self.tells(["confirm", "--threshold", share, "day"], told, 2)
         self.tells(["confirm", "day"], "day has 11, and the records have 5", 3, b"a,5\n")
         self.tells(["confirm", "table"], "table is a Count-Min table", 3)
@@ -564,6 +622,7 @@ class CommandLine(programs.Checks):
             "gz": (b"\x1f\x8b\x08\0", "looks like gzip: `gzip -dc` unpacks it"), "zip": (b"PK\3\4", "looks like a zip archive"),
             "zst": (b"\x28\xb5\x2f\xfd", "looks like zstd: `zstd -dc` unpacks it"), "bz2": (b"BZh9", "looks like bzip2: `bzip2 -dc` unpacks it"),
             "xz": (b"\xfd7zXZ\0", "looks like xz: `xz -dc` unpacks it"),
+            "wide": (b"\xff\xfea\0", "looks like UTF-16: `iconv -f UTF-16 -t UTF-8` makes it UTF-8"),
         }
         for name, (data, looks) in files.items():
             Path(self.room, name).write_bytes(data)
@@ -575,7 +634,8 @@ class CommandLine(programs.Checks):
             self.tells(words, "", status)
 
     def test_more_about_bad_records(self) -> None:
-        """Of a record in a file, the file's name, the line, and the first 60 bytes; nothing of standard input and of pipes."""
+        """Of a record in a file, the file's name, the line, and the first 60 bytes; nothing of standard input and of pipes, but
+        what a record has to be."""
         wanted = "a weight is a whole number from 1 on; is the first line a header? --header; has it a point? --decimals"
         alone = "a key has 1 to 4096 bytes"
         long, marked = b"k" * 70_000, b"\xef\xbb\xbf"
@@ -602,19 +662,62 @@ class CommandLine(programs.Checks):
             ([*semicolons, "names", "names"], r'names, line 4, "c;\"d\ne\";x"'),
         ]:
             for command in (["report"], ["summarise", "--k", "2"], ["table"]):
-                self.tells([*command, *words], f"{place}: {wanted}", 3)
-        self.tells(["report", "good", "long"], f'long, line 65537, "{"k" * 60}"..: {alone}', 3)
-        self.tells(["report", "edge"], f'edge, line 65535, "b,xy": {wanted}', 3)
-        self.tells(["report", "good", "-", "bad"], wanted, 3, b"q\n")
-        self.tells(["report", "-"], wanted, 3, b"q,\n")
-        self.tells(["report", "good", "-"], wanted, 3, b"q,\n")
-        self.tells(["report", "bad", "-"], f'bad, line 4, "b,x": {wanted}', 3)
+                self.names([*command, *words], f"{place}: {wanted}", 3)
+        self.names(["report", "good", "long"], f'long, line 65537, "{"k" * 60}"..: {alone}', 3)
+        self.names(["report", "edge"], f'edge, line 65535, "b,xy": {wanted}', 3)
+        self.names(["report", "good", "-", "bad"], wanted, 3, b"q\n")
+        self.names(["report", "-"], wanted, 3, b"q,\n")
+        self.names(["report", "good", "-"], wanted, 3, b"q,\n")
+        self.names(["report", "bad", "-"], f'bad, line 4, "b,x": {wanted}', 3)
         self.save("day", ["summarise", "--k", "2"])
         for command in ("confirm", "condense"):
-            self.tells([command, "day", "bad"], f'bad, line 4, "b,x": {wanted}', 3)
-            self.tells([command, "day", "good", "bad"], f'bad, line 4, "b,x": {wanted}', 3)
+            self.names([command, "day", "bad"], f'bad, line 4, "b,x": {wanted}', 3)
+            self.names([command, "day", "good", "bad"], f'bad, line 4, "b,x": {wanted}', 3)
         said = self.of_pipe(b"a,1\nb,x\n")
         self.check("a pipe is not read again", said == f"heavy: record 2: bad weight\n  {wanted}\n".encode(), said)
+
+    def test_more_about_columns(self) -> None:
+        """A column that is missing, fields that are too few, a weight of -, and records of other formats."""
+        files = {
+            "flows": b'\xef\xbb\xbfhost,"bytes, sent",n\r\nx,5,1\r\n', "other": b"\nHost;n\nx;5\n", "empty": b"", "two": b"a,1\nb\nc,2\n",
+            "dash": b"x a 5\ny a -\n", "dashes": b'k,w\na,"-"\n', "late": b"q" * 70 + b",-\n", "json": b'{"a":1,"b":2}\n',
+            "list": b"a,1\n[1,2,3]\n", "gz": b"\x1f\x8b\x08\0,,,\n", "zst": b"\x28\xb5\x2f\xfd,1,2\n", "wide": b"\xff\xfea\0,\0\x31\0\n\0",
+            "big": b"\xfe\xff\0a\0,\0,\0\n", "a\x1bb": b"host\nx\n",
+        }
+        for name, data in files.items():
+            Path(self.room, name).write_bytes(data)
+        self.save("day", ["summarise", "--k", "2"])
+        named = 'flows has no column "%s"; its header has "host", "bytes, sent", "n"'
+        for words, more in [
+            (["-H", "--key", "Host", "flows"], named % "Host"), (["-H", "--key", "host,n,m", "flows"], named % "m"),
+            (["-H", "--key", "host", "--weight", "bytes", "flows"], named % "bytes"), (["-H", "--weight", "w", "flows"], named % "w"),
+            (["-H", "--key", "host", "empty", "flows", "other"], 'other has no column "host"; its header has "Host;n"'),
+            (["-Hd;", "--key", "n,host", "other", "flows"], 'other has no column "host"; its header has "Host", "n"'),
+            (["-H", "--key", "n", "a\x1bb"], 'a\\u{1b}b has no column "n"; its header has "host"'),
+        ]:
+            for command in (["report"], ["summarise"], ["table"]):
+                self.names([*command, *words], more, 3)
+        self.names(["confirm", "-H", "--key", "m", "day", "flows"], named % "m", 3)
+        self.refuses(["report", "-H", "--key", "m", "-"], "the header has no such column", 3, b"host\n")
+        weight = "a weight is a whole number from 1 on; is the first line a header? --header; has it a point? --decimals"
+        for words, more in [
+            (["--key", "3", "two"], 'two, line 1, "a,1": it has 2 fields, and --key or --weight names another'),
+            (["--key", "2", "two"], 'two, line 2, "b": it has 1 field, and --key or --weight names another'),
+            (["--key", "1", "--weight", "2", "two"], 'two, line 2, "b": it has 1 field, and --key or --weight names another'),
+            (["-d ", "--key", "1", "--weight", "3", "dash"], 'dash, line 2, "y a -": --allow-zero takes a weight of -, as 0'),
+            (["-H", "--weight", "w", "dashes"], 'dashes, line 2, "a,\\"-\\"": --allow-zero takes a weight of -, as 0'),
+            (["late"], f'late, line 1, "{"q" * 60}"..: --allow-zero takes a weight of -, as 0'),
+            (["-d ", "--key", "3", "--weight", "2", "dash"], f'dash, line 1, "x a 5": {weight}'),
+            (["json"], 'json, line 1, "{\\"a\\":1,\\"b\\":2}": looks like JSON, and a record is CSV'),
+            (["list"], 'list, line 2, "[1,2,3]": looks like JSON, and a record is CSV'),
+            (["gz"], "gz looks like gzip: `gzip -dc` unpacks it"), (["zst"], "zst looks like zstd: `zstd -dc` unpacks it"),
+            (["wide"], "wide looks like UTF-16: `iconv -f UTF-16 -t UTF-8` makes it UTF-8"),
+            (["big"], "big looks like UTF-16: `iconv -f UTF-16 -t UTF-8` makes it UTF-8"),
+        ]:
+            for command in (["report"], ["summarise"], ["condense"]):
+                saved = ["day"] if command == ["condense"] else []
+                place = words.index(words[-1]) if saved else 0
+                self.names([*command, *words[:place], *saved, *words[place:]], more, 3)
 
     def test_places_of_records(self) -> None:
         """Of random texts in files: a bad record that is put at the place that is told, with nothing behind it, has the same
@@ -715,6 +818,80 @@ class CommandLine(programs.Checks):
         self.tells(["report"], "a key has 1 to 4096 bytes", 3, b'"')
         self.tells(["report"], "a key has 1 to 4096 bytes", 3, b"a;1\n\"\"\n")
 
+    def test_notes_about_last_records(self) -> None:
+        """A last record that begins with a quote and has more than 100 lines or 65,536 bytes: one line, always."""
+        note = "heavy: note: the last record of %s begins with a quote and has %d lines, %d bytes: a quote that isn't closed takes all that follows\n"
+        rows = b'"b,1\n' + b"c,1\n" * 100
+        wide = b'"' + b"y" * 65_532 + b'",kk'
+        second, quoted = ["--key", "2"], b'"a","1"\n' * 30_000
+        cases = [
+            ([], b"a,1\n" + rows, (101, 405)), ([], rows, (101, 405)), ([], b"\xef\xbb\xbf" + rows, (101, 405)),
+            ([], b"\n\r\n" + rows.replace(b"\n", b"\r\n"), (101, 506)), ([], rows.replace(b"\n", b"\r"), (101, 405)),
+            ([], b"a,1\n" + rows[:-4], None), ([], b"a,1\n" + rows + b'"', (102, 406)), ([], rows + b'"\n\n\n', (102, 406)),
+            ([], rows + b'"\na,1', None), ([], rows + b'"\n"a",1', None), ([], b'b"' + rows, None), ([], b"a\n" * 300, None),
+            (second, wide, (1, 65_537)), (second, b"x,k\n" + wide + b"\n", (1, 65_537)), (second, wide[:-1], None),
+            (second, wide + b"\nx,k\n", None), (second, b'"x",' + b"k" * 4_000 + b"," + b"z" * 61_532, (1, 65_537)),
+            (second, b'x,"' + b"\n" * 200 + b'"\n', None), (second, b'"x,1\n' + b"c,1\n" * 50_000 + b'",k\n', (50_002, 200_008)),
+            (second, b'"x,1\n' + b"c,1\n" * 50_000 + b'",k\ny,k\n', None), (second, b'"x","k"\n' + b"c,1\n" * 50_000, None),
+            (second, quoted, None), (second, quoted + b'"b,1\n' + b"c,1\n" * 100 + b'",k', (102, 408)),
+            (second, b"x,k\n" * 20_000 + b'"' + b"\n" * 100 + b'",k\n' + b"x,k\n" * 50_000, None), (second, b'a"b,k\n' * 30_000, None),
+            (["-d;", *second], b'"a;\n' + b"\n" * 100 + b'";k', (102, 107)), ([], b"", None),
+        ]
+        summary = self.save("one", ["summarise", "-k", "1"], b"x\n")
+        self.check("a summary of one key", summary != b"")
+        for number, (words, text, size) in enumerate(cases):
+            Path(self.room, f"{number}.csv").write_bytes(text)
+            Path(self.room, "plain.csv").write_bytes(b"z;1\n" if "-d;" in words else b"z,1\n")
+            for command in (["report"], ["summarise"], ["summarise", "--workers", "3"], ["table"], ["condense", "one"]):
+                name = f"{number}.csv"
+                said = (note % (name, *size)).encode() if size else b""
+                for files, given in (([name], b""), ([name, "plain.csv"], b""), (["plain.csv", name], b""), (["-"], text), ([], text)):
+                    shown = said if files and files != ["-"] else said.replace(name.encode(), b"standard input")
+                    status, _, err = self.heavy([command[0], *words, *command[1:], *files], given)
+                    where = f"the last record of case {number}, {command} {files}"
+                    self.check(where, (status, err) == (0, shown), (status, err[:300], shown))
+        Path(self.room, "two.csv").write_bytes(rows)
+        found = self.heavy(["report", "two.csv", "0.csv"])
+        self.check("the first of two", found[2] == (note % ("two.csv", 101, 405)).encode(), found[2])
+        found = self.heavy(["report", "two.csv", "none.csv"])
+        self.check("none beside a fault", found[2].startswith(b"heavy: file 2: could not be read\n") and b"note" not in found[2], found)
+        terminal = on_terminal([self.program, "report", "two.csv"], b"", self.room)
+        both = b"heavy: note: a quote is open at the end of two.csv\n" + (note % ("two.csv", 101, 405)).encode()
+        self.check("on a terminal too", terminal == (0, both), terminal)
+
+    def test_last_records_of_random_texts(self) -> None:
+        """Of texts of random records the last one is reported by its own bytes and lines, or isn't; by workers, and by one thread."""
+        seed = int.from_bytes(os.urandom(4))
+        print(f"last records of seed {seed}", flush=True)
+        draws, reported = random.Random(seed), 0
+
+        def drawn(count: int) -> bytes:
+            inside = b"".join(draws.choices([b"y", b"\n", b"\r\n", b"\r", b'""', b",k\n", b"z" * 40], (3, 3, 2, 1, 1, 2, 3), k=count))
+            return b'"' + inside.removeprefix(b'""') + b'",k'
+
+        for number in range(40):
+            kinds = [b"x,k", b'a"b,k', b'"a ""b"" c","k"', b'"d",k', drawn(5), b'e"",k']
+            rows = draws.choices(kinds, (5, 1, 3, 2, 1, 1), k=draws.choice([0, 1, 40, 4_000, 30_000]))
+            rows += [drawn(draws.choice([100, 130, 2_000, 20_000])) for _ in range(draws.randrange(2))]
+            rows += draws.choices(kinds, k=draws.choice([0, 0, 0, 1, 3_000])) + [drawn(draws.choice([1, 90, 150, 9_000]))] * draws.randrange(2)
+            text = draws.choice([b"", b"\xef\xbb\xbf"]) + b"\n".join(rows) + draws.choice([b"", b"\n", b"\r\n\n"])
+            last = rows[-1] if rows else b""
+            lines = 1 + len(re.findall(rb"\r\n|\r|\n", last))
+            note = ""
+            if last[:1] == b'"' and (len(last) > 65_536 or lines > 100):
+                note = f"begins with a quote and has {lines} lines, {len(last)} bytes: a quote that isn't closed takes all that follows\n"
+                reported += 1
+            path = Path(self.room, "drawn")
+            path.write_bytes(text)
+            for words, given, name in [
+                (["table", "--width", "1", "--key", "2", "--workers", "3", "drawn"], b"", "drawn"), (["report", "--key", "2", "drawn"], b"", "drawn"),
+                (["summarise", "--key", "2"], text, "standard input"),
+            ]:
+                status, _, err = self.heavy(words, given)
+                wanted = f"heavy: note: the last record of {name} {note}".encode() if note else b""
+                self.check(f"the last record of text {number} of seed {seed}, {words[0]}", (status, err) == (0, wanted), (status, err, wanted))
+        self.check("some last records are reported", 5 < reported < 35, reported)
+
     def test_more_about_words(self) -> None:
         """A k where the summary has one of its own, and help of `help`."""
         own = b"  the summary has a k of its own, which `heavy describe` tells\n"
@@ -725,6 +902,7 @@ class CommandLine(programs.Checks):
             ("merge", ["--k", "1", "day"], False),
             ("ask", ["--k", "1", "day", "a"], False), ("table", ["--k", "2"], False), ("confirm", [], False),
             ("condense", ["--top"], False), ("report", ["--k"], False), ("nothing", ["--k", "1"], False),
+            ("confirm", ["-k", "10"], True), ("condense", ["day", "-k10"], True), ("confirm", ["-w"], False), ("merge", ["-k1", "day"], False),
         ]:
             plain = self.heavy([command, *words])
             name = f"{command} {' '.join(words)}"
@@ -745,6 +923,18 @@ class CommandLine(programs.Checks):
         for words in (["help", "nothing", "--help"], ["help", "nothing"], ["help", "--help", "report"]):
             found = self.heavy(words)
             self.check(f"{words}: no help", found[0] == 2 and found[1] == b"" and found[2] != b"", found)
+
+    def test_unknown_letters(self) -> None:
+        """An unknown letter isn't advised to be a value, but for a key of `ask`."""
+        for words, advised in [
+            (["report", "-x"], False), (["summarise", "-w", "4"], False), (["table", "-k", "1"], False), (["confirm", "-Hx", "day"], False),
+            (["merge", "-o", "day"], False), (["list", "-a", "day"], False), (["ask", "day", "-a"], True), (["ask", "-n", "day"], True),
+        ]:
+            status, out, err = self.heavy(words)
+            letter = next(word for word in words if word[:1] == "-")[-1]
+            said = f"error: unexpected argument '-{letter}' found\n\n"
+            lines = b"  tip: to pass '-%s' as a value, use '-- -%s'\n\nUsage: " % (letter.encode(), letter.encode()) if advised else b"Usage: "
+            self.check(f"{words}", (status, out, err.startswith(said.encode() + lines)) == (2, b"", True), err)
 
     def test_control_characters(self) -> None:
         """Words that `clap` refuses are told so that a terminal finds no command in them."""
@@ -769,7 +959,10 @@ class CommandLine(programs.Checks):
         self.save("day", ["summarise"])
         self.tells(["merge", "day", "day", "missing"], "missing: No such file or directory", 1)
         for words in (["report"], ["summarise"], ["table"], ["condense", "day"], ["confirm", "day"]):
-            self.tells([*words, "folder"], "folder: Is a directory", 1)
+            self.names([*words, "folder"], "folder: Is a directory", 1)
+            self.names([*words, "day", "missing"], "missing: No such file or directory", 1)
+            self.names([*words, b"\xff"], "\\xff: its name isn't UTF-8", 1)
+        self.tells(["list", "--decimals", "2", "missing"], "missing: No such file or directory", 1)
 
     def test_reasons_that_are_gone(self) -> None:
         """What was in the way of a file when it was tried is told, though it is gone by then; and a pipe that is refused isn't

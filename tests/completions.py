@@ -23,6 +23,7 @@ from pathlib import Path
 import programs
 
 MAN, BASH, ZSH, FISH = "man/heavy.1", "completions/heavy.bash", "completions/_heavy", "completions/heavy.fish"
+LONG = re.compile(r"--[a-z-]+")
 OPTION = re.compile(r"^ +(?:(-\w), )?(--[a-z-]+)", re.MULTILINE)
 NUMBERS = re.compile(r"from (\d+) to (\d+) \[default: (\d+)\]")
 # a shell, the words that start it on a terminal with no settings, and how it takes our completions there
@@ -39,6 +40,7 @@ DRIFTS = [
     (MAN, ".RB [ \\-\\-threshold", ".RB [ \\-\\-bound"),
     (MAN, '.BI \\-\\-seed " N"', '.BI \\-\\-sow " N"'),
     (MAN, '.BR \\-V ", " \\-\\-version', ".BR \\-\\-version"),
+    (MAN, '.BR \\-d ", " \\-\\-delimiter', ".BR \\-\\-delimiter"),
     (MAN, "from 1 to 65535", "from 1 to 65536"),
     (MAN, "Default 1024.", "Default 512."),
     (MAN, '"heavy ', '"heavy 0.'),
@@ -46,12 +48,15 @@ DRIFTS = [
     (BASH, "--workers --pieces", "--pieces"),
     (BASH, "merge ask list describe condense", "merge ask describe condense"),
     (BASH, "-h --help -V --version", "-h --help"),
+    (BASH, "-t --threshold -n --top", "-t --threshold --top"),
     (BASH, "'balanced chain'", "'balanced'"),
     (ZSH, "'merge:", "'join:"),
     (ZSH, "'--depth=", "'--rows="),
+    (ZSH, "(-H --header)'{-H,--header}'", "--header"),
     (ZSH, "$k $progress $records \\\n", "$k $records \\\n"),
     (FISH, "-a confirm ", "-a recount "),
     (FISH, "-l threshold", "-l bound"),
+    (FISH, "-s k -l k", "-l k"),
     (FISH, "-s V -l version", "-l version"),
 ]
 
@@ -84,7 +89,7 @@ def told_by(program: str) -> Told:
     for help in helps.values():
         for option in re.split(r"\n +(?=-)", help):
             if found := NUMBERS.search(option):
-                numbers.setdefault(option.split()[0], set()).add(found.groups())
+                numbers.setdefault(LONG.search(option)[0], set()).add(found.groups())
     options = {"": spelled(whole), "help": set(), **{name: spelled(help) for name, help in helps.items()}}
     return Told(said("--version").split()[-1], commands, options, numbers)
 
@@ -98,12 +103,13 @@ def man_faults(text: str, told: Told) -> list[str]:
     faults += differ("COMMANDS", listed, told.commands)
     for name, line in synopsis.items():
         named = set(re.findall(r"--[a-z-]+", line))
-        faults += differ(f"synopsis of {name}", named, told.options.get(name, set()) - {"-h", "--help"})
+        wanted = {option for option in told.options.get(name, set()) if LONG.fullmatch(option)} - {"--help"}
+        faults += differ(f"synopsis of {name}", named, wanted)
     every = set().union(*told.options.values())
     heads = "".join(re.findall(r"^\.TP\n(.*\n)", section["OPTIONS"], re.MULTILINE))
     faults += differ("OPTIONS", set(re.findall(r"(?<![\w-])--?[A-Za-z-]+", heads)), every)
     for option, numbers in told.numbers.items():
-        found = re.search(rf"^\.B\w* {option}\b.*\n((?:(?!\.TP).*\n)*)", section["OPTIONS"], re.MULTILINE)
+        found = re.search(rf"^\.B\w* (?:-\w \", \" )?{option}\b.*\n((?:(?!\.TP).*\n)*)", section["OPTIONS"], re.MULTILINE)
         range = re.search(r"from (\d+) to (\d+)\.\n(?:.*\n)*?Default (.*)\.\n", found[1] if found else "")
         defaults = {(range[1], range[2], default) for default in re.findall(r"\d+", range[3])} if range else set()
         faults += differ(f"range and defaults of {option}", defaults, numbers)

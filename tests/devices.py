@@ -24,7 +24,7 @@ FILE_1 = (1, b"", b"heavy: file 1: could not be read\n")
 
 
 def said(ended: programs.Ended) -> tuple[int, bytes, bytes]:
-    return ended.status, ended.out, ended.err
+    return ended.status, ended.out, programs.first_line(ended.err)
 
 
 def shell(script: str, words: list[str], given: bytes = RECORDS, **how) -> tuple[int, bytes, bytes]:

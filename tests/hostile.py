@@ -62,7 +62,7 @@ def ran(program: str, room: str, number: int, case: Case) -> str | None:
     ended = programs.run([*LIMITED, program, *case.command, *paths, "--", *case.words], case.given)
     for path in saved:
         os.remove(path)
-    said = (ended.status, ended.out, ended.err)
+    said = (ended.status, ended.out, programs.first_line(ended.err))
     status, out, err = case.expected
     expected = (status, out, err.replace(reference.SAVED, f"{room}/{number}-0".encode()))
     if said != expected:

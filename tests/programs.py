@@ -82,6 +82,13 @@ class Ended:
     seconds: float
 
 
+def first_line(err: bytes) -> bytes:
+    """The first line of what a run wrote on standard error, but for the note on a long last record. The second line of a
+    fault of records names the file and the reason."""
+    lines = [line for line in err.splitlines(True) if b" begins with a quote and has " not in line]
+    return lines[0] if lines else b""
+
+
 def run(words: list[bytes | str], given: bytes = b"", env: dict[str, str] | None = None, **how) -> Ended:
     """Runs a program on these bytes, and measures the processor time that it takes."""
     with tempfile.TemporaryFile() as stdin, tempfile.TemporaryFile() as out, tempfile.TemporaryFile() as err:

@@ -125,8 +125,9 @@ def drawn_cases() -> Iterator[tuple[Random, str]]:
 
 
 def same(here: programs.Ended, there: programs.Ended) -> bool:
-    """Whether two runs ended alike, and said the same."""
-    return (here.status, here.out, here.err) == (there.status, there.out, there.err)
+    """Whether two runs ended alike, and said the same in the first line."""
+    said = programs.first_line(here.err), programs.first_line(there.err)
+    return (here.status, here.out, said[0]) == (there.status, there.out, said[1])
 
 
 class ReportFiles(programs.Checks):
@@ -175,7 +176,8 @@ class ReportFiles(programs.Checks):
         for words, number in (([path, self.room], 2), ([self.room, path], 1), ([path, f"{self.room}/none"], 2)):
             ended = programs.run([program, "report", *words])
             told = b"heavy: file %d: could not be read\n" % number
-            self.check(str(words), (ended.status, ended.out, ended.err) == (1, b"", told), ended)
+            said = programs.first_line(ended.err)
+            self.check(str(words), (ended.status, ended.out, said) == (1, b"", told), ended)
 
     def test_kept(self) -> None:
         """Each text that is kept, so often that workers read it in pieces, reads as the reference reads it."""
@@ -188,7 +190,7 @@ class ReportFiles(programs.Checks):
             for workers in ("1", "4"):
                 words = [program, "report", "--k", "3", "--workers", workers]
                 for ended in (programs.run([*words, *self.files(text)]), programs.run(words, text)):
-                    holds = (ended.status, ended.out, ended.err) == wanted
+                    holds = (ended.status, ended.out, programs.first_line(ended.err)) == wanted
                     self.check(f"{file.name} by {workers}", holds, (file.why, ended, wanted))
 
     def test_random_files(self) -> None:
@@ -290,7 +292,8 @@ class OnePassFiles(programs.Checks):
         for place, words in ((3, ["summarise"]), (3, ["table"]), (4, ["condense", saved]), (4, ["confirm", saved])):
             ended = programs.run([self.program, *words, *files, none, "--workers", "0"])
             told = b"heavy: file %d: could not be read\n" % place
-            self.check(f"{words} of a file that is missing", (ended.status, ended.out, ended.err) == (1, b"", told), ended)
+            said = programs.first_line(ended.err)
+            self.check(f"{words} of a file that is missing", (ended.status, ended.out, said) == (1, b"", told), ended)
 
     def test_random_files(self) -> None:
         """Files read as pipes with the same texts do, whatever these have, however they are read, and by a summary of them or
@@ -404,7 +407,7 @@ class DrawnFiles(programs.Checks):
                 ]
             for words, (status, out, err) in runs:
                 ended = self.ended(random, [program, *words], texts)
-                said = b"".join(line for line in ended.err.splitlines(True) if b": note: " not in line)
+                said = programs.first_line(b"".join(line for line in ended.err.splitlines(True) if b": note: " not in line))
                 holds = (ended.status, ended.out, said) == (status, out, err)
                 differed += not holds
                 self.check(f"{words[0]}, again by {again}", holds, (words, ended.status, ended.err, status, err))

@@ -104,7 +104,7 @@ class Tallies(programs.Checks):
 
     def heavy(self, *words: str | bytes) -> tuple[int, bytes, bytes]:
         ended = programs.run([self.program, *words])
-        return ended.status, ended.out, ended.err
+        return ended.status, ended.out, programs.first_line(ended.err)
 
     def test_by_hand(self) -> None:
         """The summary of four records, which one thread makes and workers do; and records that are refused."""

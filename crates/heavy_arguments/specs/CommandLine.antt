@@ -64,9 +64,14 @@ rule_of_kind kind.Word name = word name
 rule_of_kind kind.Words name = some_words name
 rule_of_kind kind.Files name = words name
 
+-- an option that this letter behind one hyphen gives too
+abbrev pub with_letter : ℕ → Rule → Rule
+with_letter letter rule = record rule { short = Some letter }
+
 abbrev pub rule_of_argument : Argument → Rule
 rule_of_argument (argument.Number it) = number it.name.now
 rule_of_argument (argument.Given kind name help) = rule_of_kind kind name.now
+rule_of_argument (argument.Short letter kind name help) = with_letter letter (rule_of_kind kind name.now)
 
 abbrev pub rules_of_arguments : List Argument → List Rule
 rules_of_arguments = map rule_of_argument
@@ -104,14 +109,18 @@ command name rules = record (new_shape name) { rules = rules }
 abbrev pub reading : List Rule
 reading = flag (codes "explain") ∷ flag (codes "progress") ∷ []
 
--- how records are read
+-- how records are read; `-d` and `-H` are letters of two
 abbrev pub columns : List Rule
-columns = option (codes "delimiter") ∷ flag (codes "header") ∷ options (codes "key")
+columns = with_letter 100 (option (codes "delimiter")) ∷ with_letter 72 (flag (codes "header")) ∷ options (codes "key")
     ∷ option (codes "weight") ∷ flag (codes "allow-zero") ∷ digit (codes "decimals") ∷ []
 
--- the rows that are printed
+-- the rows that are printed; `-t` and `-n` are letters of two
 abbrev pub rows : List Rule
-rows = option (codes "threshold") ∷ number (codes "top") ∷ flag (codes "share") ∷ []
+rows = with_letter 116 (option (codes "threshold")) ∷ with_letter 110 (number (codes "top")) ∷ flag (codes "share") ∷ []
+
+-- the number of counters, by `-k` too
+abbrev pub counters : Rule
+counters = with_letter 107 (number (codes "k"))
 
 -- a table
 abbrev pub grid : List Rule
@@ -129,10 +138,10 @@ saved = word (codes "FILE")
 -- the command line of the program
 abbrev pub program_app : App
 program_app = program_of (
-    command (codes "report") (reading ++ number (codes "k") ∷ rows ++ records ∷ columns
+    command (codes "report") (reading ++ counters ∷ rows ++ records ∷ columns
     ++ workers ∷ number (codes "pieces") ∷ option (codes "tree") ∷ grid)
     ∷ command (codes "summarise")
-    (reading ++ number (codes "k") ∷ option (codes "method") ∷ workers ∷ records ∷ columns)
+    (reading ++ counters ∷ option (codes "method") ∷ workers ∷ records ∷ columns)
     ∷ command (codes "table") (reading ++ grid ++ workers ∷ records ∷ columns)
     ∷ command (codes "merge") (flag (codes "explain") ∷ some_words (codes "FILE") ∷ [])
     ∷ command (codes "ask") (flag (codes "explain") ∷ digit (codes "decimals") ∷ saved

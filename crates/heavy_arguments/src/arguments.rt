@@ -66,9 +66,12 @@ pub struct Number {
     pub default: u64,
 }
 
+const K_HELP: &str =
+    "Keys above 1/(k+1) of the total weight are heavy, k from 1 to 65535 [default: 100]";
+
 pub const K: Number = Number {
     name: "k",
-    help: "Keys above 1/(k+1) of the total weight are heavy, k from 1 to 65535 [default: 100]",
+    help: K_HELP,
     default: 100,
 };
 
@@ -140,8 +143,12 @@ const PROGRESS_FLAG: Argument = Argument::Given(
     "Tell on standard error how far the input is read, about once a second",
 );
 
+/// The option with the number of counters.
+const COUNTERS: Argument = Argument::Short('k', Kind::Number, "k", K_HELP);
+
 /// The option that says how many rows are printed.
-const TOP_ROWS: Argument = Argument::Given(
+const TOP_ROWS: Argument = Argument::Short(
+    'n',
     Kind::Number,
     TOP,
     "Print at most the first N rows [default: all]",
@@ -155,7 +162,8 @@ const SHARE_FLAG: Argument = Argument::Given(
 );
 
 /// The option with the share above which keys are heavy.
-const THRESHOLD: Argument = Argument::Given(
+const THRESHOLD: Argument = Argument::Short(
+    't',
     Kind::Share,
     "threshold",
     "Keys above this share of the total are heavy, as 1/50 [default: 1/(k+1)]",
@@ -195,12 +203,14 @@ const RECORD_FILES: Argument = Argument::Given(
 
 /// The options that say how records are read.
 const COLUMN_ARGUMENTS: [Argument; 6] = [
-    Argument::Given(
+    Argument::Short(
+        'd',
         Kind::Byte,
         DELIMITER,
         "The byte between two fields, \\t for a tab, =- for a hyphen [default: ,]",
     ),
-    Argument::Given(
+    Argument::Short(
+        'H',
         Kind::Flag,
         HEADER,
         "The first record of each file names the columns, and is no record",
@@ -208,7 +218,7 @@ const COLUMN_ARGUMENTS: [Argument; 6] = [
     Argument::Given(
         Kind::Columns,
         KEY,
-        "The column of the key, by number or name; several, as 4,5, are one key",
+        "The column of the key, by number or name; several, as 4,5 or '\"a, b\",c', are one key",
     ),
     Argument::Given(
         Kind::Text("COLUMN"),
@@ -245,7 +255,7 @@ const MEANS_ARGUMENTS: [Argument; 6] = [
 const REPORT_ARGUMENTS: [Argument; 7] = [
     EXPLAIN_FLAG,
     PROGRESS_FLAG,
-    Argument::Number(K),
+    COUNTERS,
     THRESHOLD,
     TOP_ROWS,
     SHARE_FLAG,
@@ -265,7 +275,7 @@ const RECORD_GROUPS: [Group; 1] = [COLUMN_GROUP];
 const SUMMARISE_ARGUMENTS: [Argument; 6] = [
     EXPLAIN_FLAG,
     PROGRESS_FLAG,
-    Argument::Number(K),
+    COUNTERS,
     METHOD,
     Argument::Number(SUMMARY_WORKERS),
     RECORD_FILES,

@@ -21,7 +21,8 @@ key,weight or a key alone, which weighs 1. A key has 1 to 4096 bytes, a weight i
 number from 1 on, and all weights together are at most 9223372036854775807. A key with
 a comma, a quote or a line feed in it stands in quotes. Options of the commands that
 read records say where key and weight stand in others. Answers go to standard output; a
-fault is one line on standard error, and two on a terminal or with --explain.",
+fault is one line on standard error, and two on a terminal, with --explain, and where
+records of files are at fault.",
     end: "Exit status: 0 done; 1 a device failed (input, output or a file); 2 wrong usage;
 3 refused input (a record, a file or a key); 4 out of memory.
 

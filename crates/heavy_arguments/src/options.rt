@@ -52,6 +52,9 @@ pub(crate) enum Argument {
     Number(Number),
     /// Another, by how it is given, its name and its help.
     Given(Kind, &'static str, &'static str),
+    /// An option that a letter behind one hyphen gives too: the letter, how it is given, its name
+    /// and its help.
+    Short(char, Kind, &'static str, &'static str),
 }
 
 /// The word with this name, that of its value, and its help.
@@ -125,6 +128,9 @@ impl Argument {
         match self {
             Argument::Number(it) => Kind::Number.told(alloc, it.name, it.help),
             Argument::Given(kind, name, help) => kind.told(alloc, name, help),
+            Argument::Short(letter, kind, name, help) => {
+                kind.told(alloc, name, help).short(letter)
+            }
         }
     }
 }

@@ -5,7 +5,7 @@ use heavy_host::hold_closed;
 use heavy_progress::NOTHING;
 use heavy_requests::{
     Command, Inputs, Once, RecordWords, Request, Unread, UsageError, read_request, shared_progress,
-    status_after, status_of, status_told, tells_more,
+    status_after, status_of, status_told,
 };
 use hh_commands::{
     Comparison, Method, ask_rows, condense_bytes_from, confirm_rows, describe_file, list_rows,
@@ -35,7 +35,11 @@ fn summarise_answer<T: Threads + Wait + Sync>(
         return summary_bytes_from(alloc, k, method, inputs.records(records, 0)?);
     }
     match inputs.once(records, 0, workers)? {
-        Once::Files(files) => summarise_files(threads, alloc, k, workers, files.records()),
+        Once::Files(files) => {
+            let bytes = summarise_files(threads, alloc, k, workers, files.records())?;
+            files.look(inputs);
+            Ok(bytes)
+        }
         Once::Stream(records) => summary_bytes_from(alloc, k, method, records),
     }
 }
@@ -53,7 +57,10 @@ fn table_answer<T: Threads + Wait + Sync>(
     let alloc = inputs.rt.alloc();
     match inputs.once(records, 0, workers)? {
         Once::Files(files) => {
-            table_files(threads, alloc, width, depth, seed, workers, files.records())
+            let records = files.records();
+            let bytes = table_files(threads, alloc, width, depth, seed, workers, records)?;
+            files.look(inputs);
+            Ok(bytes)
         }
         Once::Stream(records) => table_bytes_from(alloc, width, depth, seed, records),
     }
@@ -73,7 +80,9 @@ fn condense_answer<T: Threads + Wait + Sync>(
     match inputs.once(records, 1, workers)? {
         Once::Files(files) => {
             let records = files.records();
-            condense_files(threads, alloc, &file, workers, records, compared)
+            let bytes = condense_files(threads, alloc, &file, workers, records, compared)?;
+            files.look(inputs);
+            Ok(bytes)
         }
         Once::Stream(records) => condense_bytes_from(alloc, &file, records, compared),
     }
@@ -95,9 +104,11 @@ fn confirm_answer<T: Threads + Wait + Sync>(
     match inputs.once(records, 1, workers)? {
         Once::Files(files) => {
             let records = files.records();
-            confirm_files(
+            let bytes = confirm_files(
                 threads, alloc, &file, share, rows, workers, records, compared,
-            )
+            )?;
+            files.look(inputs);
+            Ok(bytes)
         }
         Once::Stream(records) => confirm_rows(alloc, &file, share, rows, records, compared),
     }
@@ -178,7 +189,9 @@ fn write_report<T: Threads + Wait + Sync>(
     let opened = inputs.twice(records)?;
     check_options(options)?;
     let files = opened.kept(alloc)?;
-    report_files(threads, alloc, options, rows, files.records(), &mut out)
+    report_files(threads, alloc, options, rows, files.records(), &mut out)?;
+    files.look(inputs);
+    Ok(())
 }
 
 fn main(rt: HostRuntime) -> ExitCode {
@@ -193,8 +206,7 @@ fn main(rt: HostRuntime) -> ExitCode {
     let mut compared = Comparison::new(!asked.records.are_plain());
     let (unread, seen) = (Unread::new(), Cell::new(NOTHING));
     let progress = shared_progress(&rt, &asked);
-    let watched = tells_more(&rt, &asked).then_some(&seen);
-    let inputs = Inputs::new(&rt, &asked, progress.as_ref(), &unread, watched);
+    let inputs = Inputs::new(&rt, &asked, progress.as_ref(), &unread, &seen);
     let outcome = match &asked.request {
         Request::Report {
             options,

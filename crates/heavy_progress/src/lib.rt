@@ -1,11 +1,13 @@
-//! What is told of an input while it is read: how far it is, how many records it has, and whether
-//! it looks like another format.
+//! What is reported of an input while it is read: how far it is, how many records it has, whether
+//! it looks like another format, and whether a quote may have taken its end.
 #![tactic(auto)]
 
+mod last_record;
 mod other_format;
 mod progress;
 mod record_count;
 
-pub use other_format::{NOTHING, Seen, Watch};
+pub use last_record::{LastRecord, LastRecordGuesses, RecordSize};
+pub use other_format::{LongRecord, NOTHING, Seen, Watch};
 pub use progress::{Metered, SharedProgress};
 pub use record_count::{Form, RecordCount};

@@ -1,6 +1,7 @@
 //! Whether texts that are read as records look like another format.
 
-use crate::record_count::{Form, RecordCount};
+use crate::last_record::{LastRecord, RecordSize};
+use crate::record_count::Form;
 use std::cell::Cell;
 
 /// Which bytes that part fields elsewhere a line has.
@@ -30,6 +31,14 @@ impl Line {
     }
 }
 
+/// The last record of a text, where it began with a quote and is long.
+#[derive(Clone, Copy)]
+pub struct LongRecord {
+    /// The number of its text.
+    pub number: u64,
+    pub size: RecordSize,
+}
+
 /// What was seen in texts. Lines are counted up to the first comma.
 #[derive(Clone, Copy)]
 pub struct Seen {
@@ -40,6 +49,8 @@ pub struct Seen {
     bars: u64,
     /// The number of a text at whose end a quote was open.
     pub open: Option<u64>,
+    /// The first text whose last record began with a quote and is long.
+    pub long: Option<LongRecord>,
 }
 
 pub const NOTHING: Seen = Seen {
@@ -49,6 +60,7 @@ pub const NOTHING: Seen = Seen {
     semicolons: 0,
     bars: 0,
     open: None,
+    long: None,
 };
 
 impl Seen {
@@ -67,12 +79,23 @@ impl Seen {
         }
     }
 
-    /// Whether so many are more than half of the lines.
+    /// Adds the last record of the text `number`, if it has a size to report.
+    pub fn with_last(self, number: u64, size: Option<RecordSize>) -> Seen {
+        match (self.long, size) {
+            (None, Some(size)) => Seen {
+                long: Some(LongRecord { number, size }),
+                ..self
+            },
+            _ => self,
+        }
+    }
+
+    /// Whether `lines` are more than half of the lines.
     fn are_most(self, lines: u64) -> bool {
         lines > self.lines / 2
     }
 
-    /// What stands in most lines in place of a comma, which is in none, with the word for it.
+    /// Gives what stands in most lines in place of a comma, which is in none, with the word for it.
     pub fn delimiter(self) -> Option<(&'static str, &'static str)> {
         if self.has_comma {
             None
@@ -88,7 +111,7 @@ impl Seen {
     }
 }
 
-/// Sees the bytes of a text as they come.
+/// A watch over the bytes of a text as they come.
 #[derive(Drop)]
 pub struct Watch<'a> {
     seen: &'a Cell<Seen>,
@@ -98,11 +121,11 @@ pub struct Watch<'a> {
     /// Whether lines are looked at, since no option says how they are parted.
     looks_for_format: bool,
     line: Line,
-    records: RecordCount,
+    last: LastRecord,
 }
 
 impl<'a> Watch<'a> {
-    /// Nothing of the text came.
+    /// Begins with nothing of the text `number`.
     pub fn new(seen: &'a Cell<Seen>, number: u64, form: Form, looks_for_format: bool) -> Watch<'a> {
         Watch {
             seen,
@@ -110,11 +133,11 @@ impl<'a> Watch<'a> {
             form,
             looks_for_format,
             line: EMPTY,
-            records: RecordCount::new(form.delimiter),
+            last: LastRecord::new(form.delimiter),
         }
     }
 
-    /// Takes the next byte into its line.
+    /// Takes `byte` into its line.
     fn with_byte(&mut self, seen: Seen, byte: u8) -> Seen {
         if !matches!(byte, b'\r' | b'\n') {
             self.line = self.line.with(byte);
@@ -125,7 +148,7 @@ impl<'a> Watch<'a> {
         seen
     }
 
-    /// Takes the next bytes into the lines.
+    /// Takes `bytes` into their lines.
     fn with_lines(&mut self, mut seen: Seen, bytes: &[u8]) -> Seen {
         for byte in bytes {
             seen = self.with_byte(seen, *byte);
@@ -133,33 +156,34 @@ impl<'a> Watch<'a> {
         seen
     }
 
-    /// Sees the end of the text.
+    /// Takes the end of the text.
     fn end(&mut self, seen: Seen) -> Seen {
-        let open = if self.records.is_quoted() {
+        let open = if self.last.is_open() {
             Some(self.number)
         } else {
             seen.open
         };
-        let seen = Seen { open, ..seen }.with_line(self.line);
+        let seen = Seen { open, ..seen }
+            .with_line(self.line)
+            .with_last(self.number, self.last.suspicious());
         self.line = EMPTY;
-        self.records = RecordCount::new(self.form.delimiter);
+        self.last = LastRecord::new(self.form.delimiter);
         seen
     }
 
-    /// Takes the next bytes. None are the end. Bytes without a quote, behind the begin of the text
-    /// and in no quotes, leave the place that their last one does.
+    /// Takes the next `bytes`. None are the end.
     pub fn add(&mut self, bytes: &[u8]) {
         let mut seen = self.seen.get();
-        seen.has_comma = seen.has_comma || bytes.contains(&b',');
+        if self.looks_for_format && !seen.has_comma {
+            seen.has_comma = bytes.contains(&b',');
+        }
         if self.looks_for_format && !seen.has_comma {
             seen = self.with_lines(seen, bytes);
         }
-        match bytes.last() {
-            None => seen = self.end(seen),
-            Some(_) if self.records.has_open_place() || bytes.contains(&b'"') => {
-                self.records.add(bytes);
-            }
-            Some(byte) => self.records.add(&[*byte]),
+        if bytes.is_empty() {
+            seen = self.end(seen);
+        } else {
+            self.last.add(bytes);
         }
         self.seen.set(seen);
     }

@@ -1,4 +1,4 @@
-//! Input that tells on standard error how far it is read, where that is asked for.
+//! Input that reports on standard error how far it is read, where that is asked for.
 
 ghost use Rattle.std.specs.Prelude.{◌≡◌, ◌≤◌};
 
@@ -8,7 +8,7 @@ use std::sync::atomic::{AtomicU64, Ordering};
 use std::time::Instant;
 use std::{fmt, fs, io};
 
-/// It is told at most so often, in seconds; the end is told whenever it comes.
+/// The least seconds between two reports. The end is reported whenever it comes.
 const PAUSE: u64 = 1;
 
 /// A number of bytes, shown in megabytes.
@@ -22,7 +22,7 @@ impl fmt::Display for Megabytes {
     }
 }
 
-/// How far a reader of so many bytes is, if they are known.
+/// The progress of a reader whose `size` may be known.
 #[derive(Drop)]
 struct Progress<'a> {
     rt: &'a HostRuntime,
@@ -35,7 +35,7 @@ struct Progress<'a> {
 }
 
 impl<'a> Progress<'a> {
-    /// Nothing is read yet. A size is known where a file is at the path.
+    /// Starts with nothing read. The size is known where a file is at `path`.
     fn start(rt: &'a HostRuntime, path: &str, form: Form) -> io::Result<Progress<'a>> {
         let now = Instant::now(rt)?;
         let size = match fs::metadata(rt, path) {
@@ -53,7 +53,7 @@ impl<'a> Progress<'a> {
         })
     }
 
-    /// Counts bytes that were read, and tells how far the reader is. No bytes are the end.
+    /// Counts `bytes` that were read, and reports how far the reader is. No bytes are the end.
     fn add(&mut self, bytes: &[u8]) -> io::Result<()> {
         self.read = self.read.saturating_add(bytes.len() as u64);
         self.records.add(bytes);
@@ -65,8 +65,8 @@ impl<'a> Progress<'a> {
         self.tell(now.duration_since(self.started).as_millis().max(1))
     }
 
-    /// Tells what was read in so many milliseconds. Of a file that has more it tells the share that
-    /// is read, and how long the rest takes at the same rate.
+    /// Reports what was read in `millis` milliseconds. Of a file that has more it adds the share
+    /// that is read, and how long the rest takes at this rate.
     fn tell(&self, millis: u128) -> io::Result<()>
         requires { 1 ≤ millis }
     {
@@ -91,7 +91,7 @@ impl<'a> Progress<'a> {
     }
 }
 
-/// A reader that hands each read on, and tells how far it is.
+/// A reader that hands each read on, and reports how far it is.
 #[derive(Drop)]
 pub struct Metered<'a, R> {
     inner: R,
@@ -125,8 +125,8 @@ impl<'a, R: Read> Read for Metered<'a, R> {
     }
 }
 
-/// How far workers are that read files of so many bytes in one pass or in two. It is told at most
-/// once in a pause, whichever worker reads.
+/// The progress of workers that read files in one pass or in two. It is reported at most once in a
+/// pause, whichever worker reads.
 #[derive(Drop)]
 pub struct SharedProgress<'a> {
     rt: &'a HostRuntime,
@@ -135,12 +135,12 @@ pub struct SharedProgress<'a> {
     size: u64,
     read: AtomicU64,
     started: Instant,
-    /// When it was told, in milliseconds from the start.
+    /// The time of the last report, in milliseconds from the start.
     told: AtomicU64,
 }
 
 impl<'a> SharedProgress<'a> {
-    /// Nothing is read yet of the files with these names.
+    /// Starts with nothing read of the files with these `names`.
     pub fn start(
         rt: &'a HostRuntime,
         names: &[Vec<u8>],
@@ -164,7 +164,7 @@ impl<'a> SharedProgress<'a> {
         })
     }
 
-    /// Counts bytes that were read, and tells how far the reading is.
+    /// Counts `count` bytes that were read, and reports how far the reading is.
     pub fn add(&self, count: u64) {
         let read = self
             .read
@@ -187,7 +187,7 @@ impl<'a> SharedProgress<'a> {
         }
     }
 
-    /// Tells the share of all passes that is read, and how long the rest takes at the same rate.
+    /// Reports the share of all passes that is read, and how long the rest takes at this rate.
     fn tell(&self, read: u128, millis: u128) -> io::Result<()>
         requires { 1 ≤ millis }
     {

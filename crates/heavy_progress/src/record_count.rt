@@ -8,8 +8,8 @@ pub struct Form {
 }
 
 /// What the byte before the next one was part of.
-#[derive(Clone, Copy)]
-enum Place {
+#[derive(Clone, Copy, PartialEq, Eq)]
+pub(crate) enum Place {
     /// In a byte order mark, with the number of its bytes that came. The text begins after it.
     Mark(u8),
     /// The end of a record, or nothing yet.
@@ -25,8 +25,8 @@ enum Place {
 }
 
 impl Place {
-    /// The place after the next byte.
-    fn after(self, byte: u8, delimiter: u8) -> Place {
+    /// Gives the place after `byte`.
+    pub(crate) fn after(self, byte: u8, delimiter: u8) -> Place {
         match (self, byte) {
             (Place::Mark(0), b'\xef') => Place::Mark(1),
             (Place::Mark(1), b'\xbb') => Place::Mark(2),
@@ -37,7 +37,7 @@ impl Place {
         }
     }
 
-    /// The same behind a mark.
+    /// Gives the place after `byte` where no byte order mark can be.
     fn in_text(self, byte: u8, delimiter: u8) -> Place {
         if matches!(self, Place::Quoted) {
             return if byte == b'"' {
@@ -55,8 +55,14 @@ impl Place {
     }
 
     /// Whether a record has begun and not ended.
-    fn is_in_record(self) -> bool {
+    pub(crate) fn is_in_record(self) -> bool {
         !matches!(self, Place::Mark(0) | Place::Between)
+    }
+
+    /// Whether the next bytes need to be taken one by one: they are part of a quoted field, or
+    /// stand where a byte order mark may be.
+    pub(crate) fn is_open(self) -> bool {
+        matches!(self, Place::Quoted | Place::Quote | Place::Mark(_))
     }
 }
 
@@ -70,7 +76,7 @@ pub struct RecordCount {
 }
 
 impl RecordCount {
-    /// No bytes came. This byte stands between two fields.
+    /// Begins with no bytes. `delimiter` stands between two fields.
     pub fn new(delimiter: u8) -> RecordCount {
         RecordCount {
             delimiter,
@@ -102,23 +108,12 @@ impl RecordCount {
         }
     }
 
-    /// Whether the next byte is part of a quoted field.
-    pub fn is_quoted(&self) -> bool {
-        matches!(self.place, Place::Quoted)
-    }
-
-    /// Whether the next bytes need to be taken one by one: they are part of a quoted field, or
-    /// stand where a byte order mark may.
-    pub fn has_open_place(&self) -> bool {
-        matches!(self.place, Place::Quoted | Place::Quote | Place::Mark(_))
-    }
-
-    /// The records that are ended.
+    /// Counts the records that are ended.
     pub fn ended(&self) -> u64 {
         self.ended
     }
 
-    /// The records that are ended, and the one that has begun.
+    /// Counts the records that are ended, and the one that has begun.
     pub fn begun(&self) -> u64 {
         self.ended
             .saturating_add(u64::from(self.place.is_in_record()))

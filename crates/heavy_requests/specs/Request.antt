@@ -1,6 +1,6 @@
 -- What a command line asks for, by what the program's own command line finds in it.
-use Rattle.std.specs.Prelude.{ℕ, ◌≡◌, ◌≢◌, ◌<◌, ◌^◌, ◌==◌, ◌||◌, Bool, is_some, ⊤, true, false, List, [], Option, Some, None, codes, map, drop, option_map, unwrap_or}
-use Rattle.std.specs.List.{flat_map, slice_split}
+use Rattle.std.specs.Prelude.{ℕ, ◌≡◌, ◌≢◌, ◌<◌, ◌^◌, ◌==◌, ◌||◌, Bool, is_some, ⊤, true, false, List, [], Option, Some, None, codes, map, drop, option_map, unwrap_or, if◌then◌else◌}
+use Rattle.std.specs.List.{flat_map, list_any, slice_split}
 use Rattle.std.specs.Str.Parse.{IsNumeral, without_leading_plus}
 use Rattle.clap.specs.Words.{Text, first_value, matched_of, one_text, raw_values, rows_of, subcommand_of, takes}
 use Rattle.clap.specs.declared.parser.matches.Found.{Found}
@@ -13,6 +13,7 @@ use Rattle.hh_rows.specs.declared.threshold.Share.TheVariants as limit
 use Rattle.heavy_arguments.specs.CommandLine.{program_app}
 use Rattle.heavy_arguments.specs.Numbers.{IsNumberOf, number_in}
 use Rattle.heavy_host.specs.Words.{AreAllWords, word_of}
+use Rattle.heavy_requests.specs.Fields.{fields_in}
 use Rattle.heavy_requests.specs.declared.request.Command.{Command}
 use Rattle.heavy_requests.specs.declared.request.Command.TheVariants.{Summarise, Table, Merge, Ask, List as ListKeys, Describe, Condense, Confirm}
 use Rattle.heavy_requests.specs.declared.request.RecordWords.{RecordWords}
@@ -34,10 +35,13 @@ all_words found name = map word_of (unwrap_or (option_map raw_values (matched_of
 abbrev pub between_commas : Text → List Text
 between_commas text = slice_split (λ b. b == 44) text
 
+-- the columns that a text names: what stands between its commas or, where it has a quote, the fields that CSV has in it
+abbrev pub columns_in : Text → List (List ℕ)
+columns_in text = if list_any (λ b. b == 34) text then fields_in 44 (word_of text) else map word_of (between_commas text)
+
 -- the columns of all words of a name, in their order
 abbrev pub all_columns : Found → Text → List (List ℕ)
-all_columns found name =
-    map word_of (flat_map between_commas (unwrap_or (option_map raw_values (matched_of found name)) []))
+all_columns found name = flat_map columns_in (unwrap_or (option_map raw_values (matched_of found name)) [])
 
 -- the threshold: the text that was given, or else that of the counters
 abbrev pub GivesShare : Option Text → Share → Type 0

@@ -1,14 +1,14 @@
 //! More about a fault, in a second line: where standard error is a terminal, or where it is asked
 //! for. No contract says what these lines say, and each may change.
 
-use crate::record_place::place_of;
+use crate::record_place::{RecordPlace, delimiter_in, header_of, place_of};
 use crate::request::{Command, Invocation, RecordWords, Request};
 use crate::told::Told;
 use crate::unread::Unread;
 use heavy_progress::Seen;
 use hh_commands::{Comparison, Outside};
 use hh_faults::{BadRecordCause, ToolError, Totals};
-use hh_records::pointed;
+use hh_records::{Column, column_of, pointed};
 use hh_rows::{Share, threshold_of};
 use std::fmt;
 use std::fs::{self, File};
@@ -30,17 +30,40 @@ const STANDARD: &[u8] = b"standard input";
 const WEIGHT: &str = "a weight is a whole number from 1 on; is the first line a header? --header; \
     has it a point? --decimals";
 
-/// The same where a weight may have a point.
+/// What a weight has to be where it may have a point.
 const DECIMAL: &str = "a weight has at most as many digits behind a point as --decimals says; \
     is the first line a header? --header";
 
-/// Whether more is told: where that is asked for, or standard error is a terminal.
+/// Whether a command reads records.
+fn reads_records(request: &Request) -> bool {
+    match request {
+        Request::Report { .. } => true,
+        Request::Answer(Command::Summarise { .. } | Command::Table { .. }) => true,
+        Request::Answer(Command::Condense { .. } | Command::Confirm { .. }) => true,
+        Request::Answer(_) => false,
+    }
+}
+
+/// Whether a fault is one of records that files or options of records name. Of plain records on
+/// standard input a fault is one line.
+pub fn names_records(fault: &ToolError, asked: &Invocation) -> bool {
+    if !reads_records(&asked.request) || asked.records.are_plain() {
+        return false;
+    }
+    match fault {
+        ToolError::FileFault { number } => *number > asked.request.saved(),
+        ToolError::BadRecord { .. } | ToolError::NoColumn => true,
+        _ => false,
+    }
+}
+
+/// Whether a fault has a second line: where that is asked for, or standard error is a terminal.
 pub fn tells_more(rt: &HostRuntime, asked: &Invocation) -> bool {
     asked.explains || rt.stderr().is_terminal()
 }
 
-/// What a record has to be, by what is wrong with one, where a weight may have so many digits
-/// behind a point.
+/// Says what a record has to be, by what is wrong with one, where a weight may have this number of
+/// `decimals`.
 fn wanted(cause: BadRecordCause, decimals: u8) -> &'static str {
     match cause {
         BadRecordCause::FieldCount => {
@@ -60,7 +83,7 @@ fn wanted(cause: BadRecordCause, decimals: u8) -> &'static str {
     }
 }
 
-/// What a text of lines has, in which a terminal finds no command.
+/// A text of lines with its control characters escaped, so that a terminal finds no command.
 #[derive(Clone, Copy)]
 pub struct Lines<'a>(pub &'a str);
 
@@ -77,7 +100,7 @@ impl<'a> fmt::Display for Lines<'a> {
     }
 }
 
-/// A file's name, in which a terminal finds no command.
+/// A file's name with its control characters escaped, so that a terminal finds no command.
 #[derive(Clone, Copy)]
 struct Name<'a>(&'a [u8]);
 
@@ -97,7 +120,7 @@ impl<'a> fmt::Display for Name<'a> {
     }
 }
 
-/// The name in a place, from 0 on.
+/// Gives the name in a `place`, from 0 on.
 fn name_at(names: &[Vec<u8>], place: u64) -> &[u8] {
     match names.get(place as usize) {
         Some(name) => name.as_slice(),
@@ -105,8 +128,7 @@ fn name_at(names: &[Vec<u8>], place: u64) -> &[u8] {
     }
 }
 
-/// The name of the file with this number, from 1 on, that a command was given: the first of these,
-/// or else one of the others.
+/// Gives the name of the file `number`, from 1 on: `first`, or else one of the `others`.
 fn name_behind<'a>(first: &'a [u8], others: &'a [Vec<u8>], number: u64) -> &'a [u8] {
     match number.checked_sub(2) {
         None => first,
@@ -114,7 +136,8 @@ fn name_behind<'a>(first: &'a [u8], others: &'a [Vec<u8>], number: u64) -> &'a [
     }
 }
 
-/// The same of what was asked for, where files of records come behind a saved file.
+/// Gives the name of the file `number` that `asked` names. Files of records stand behind a saved
+/// one.
 fn name_of(asked: &Invocation, number: u64) -> &[u8] {
     let records = asked.records.files.as_slice();
     let Request::Answer(command) = &asked.request else {
@@ -133,29 +156,40 @@ fn name_of(asked: &Invocation, number: u64) -> &[u8] {
     }
 }
 
-/// Whether bytes are what a text has.
+/// Whether `bytes` are those of a text.
 fn are_text(bytes: &[u8]) -> bool {
     bytes.iter().all(|byte| *byte >= b' ' || matches!(*byte, b'\t' | b'\n' | b'\r'))
 }
 
-/// What the bytes of a file that is refused look like.
+/// Names the format that the bytes of a file begin as, where it is one that no command reads.
+fn other_format(bytes: &[u8]) -> Option<&'static str> {
+    if bytes.starts_with(b"\x1f\x8b") {
+        Some("looks like gzip: `gzip -dc` unpacks it")
+    } else if bytes.starts_with(b"\x28\xb5\x2f\xfd") {
+        Some("looks like zstd: `zstd -dc` unpacks it")
+    } else if bytes.starts_with(b"\xfd7zXZ") {
+        Some("looks like xz: `xz -dc` unpacks it")
+    } else if bytes.starts_with(b"BZh") {
+        Some("looks like bzip2: `bzip2 -dc` unpacks it")
+    } else if bytes.starts_with(b"PK\x03\x04") {
+        Some("looks like a zip archive")
+    } else if bytes.starts_with(b"\xff\xfe") || bytes.starts_with(b"\xfe\xff") {
+        Some("looks like UTF-16: `iconv -f UTF-16 -t UTF-8` makes it UTF-8")
+    } else {
+        None
+    }
+}
+
+/// Says what the `bytes` of a file that is refused look like.
 fn looks(bytes: &[u8]) -> &'static str {
-    if bytes.is_empty() {
+    if let Some(format) = other_format(bytes) {
+        format
+    } else if bytes.is_empty() {
         "is empty"
     } else if bytes.starts_with(b"HHS1") || bytes.starts_with(b"HHS2") {
         "begins as a saved file, and is damaged or cut off"
     } else if bytes.starts_with(b"HHS") {
         "is a saved file of a version that isn't known here"
-    } else if bytes.starts_with(b"\x1f\x8b") {
-        "looks like gzip: `gzip -dc` unpacks it"
-    } else if bytes.starts_with(b"\x28\xb5\x2f\xfd") {
-        "looks like zstd: `zstd -dc` unpacks it"
-    } else if bytes.starts_with(b"\xfd7zXZ") {
-        "looks like xz: `xz -dc` unpacks it"
-    } else if bytes.starts_with(b"BZh") {
-        "looks like bzip2: `bzip2 -dc` unpacks it"
-    } else if bytes.starts_with(b"PK\x03\x04") {
-        "looks like a zip archive"
     } else if are_text(bytes) {
         "looks like text: `heavy summarise` saves records of such"
     } else {
@@ -163,7 +197,7 @@ fn looks(bytes: &[u8]) -> &'static str {
     }
 }
 
-/// The system's reason in the text of a fault, which ends by the fault's number.
+/// Gives the system's reason in the `text` of an error, which ends by the error's number.
 fn reason_in(text: &str) -> &str {
     match text.split_once(" (os error") {
         Some((reason, _)) => reason,
@@ -171,12 +205,12 @@ fn reason_in(text: &str) -> &str {
     }
 }
 
-/// Tells the reason why a file can't be read.
+/// Prints the `reason` why the file `name` can't be read.
 fn tell_reason(rt: &HostRuntime, name: &[u8], reason: &str) {
     let _ = eprintln!(rt; "  {}: {reason}", Name(name));
 }
 
-/// Tells why a file couldn't be read when it was tried.
+/// Prints why the file `name` couldn't be read when it was tried.
 fn tell_unread(rt: &HostRuntime, name: &[u8], unread: &Unread) {
     if str::from_utf8(name).is_err() {
         tell_reason(rt, name, "its name isn't UTF-8");
@@ -191,8 +225,8 @@ fn tell_unread(rt: &HostRuntime, name: &[u8], unread: &Unread) {
     }
 }
 
-/// The first bytes of a file of the disk with this name. No other file is opened again: a pipe
-/// would have other bytes now, or none for ever.
+/// Reads the first bytes of the file `name`, where it is one of the disk. No other file is opened
+/// again: a pipe would have other bytes now, or none for ever.
 fn begin_of(rt: &HostRuntime, name: &[u8]) -> Option<Vec<u8>> {
     let path = str::from_utf8(name).ok()?;
     if !fs::metadata(rt, path).ok()?.is_file() {
@@ -204,14 +238,14 @@ fn begin_of(rt: &HostRuntime, name: &[u8]) -> Option<Vec<u8>> {
     Some(bytes)
 }
 
-/// Tells what a file that is refused looks like, by its first bytes.
+/// Prints what the file `name`, which is refused, looks like by its first bytes.
 fn tell_looks(rt: &HostRuntime, name: &[u8]) {
     if let Some(bytes) = begin_of(rt, name) {
         let _ = eprintln!(rt; "  {} {}", Name(name), looks(&bytes));
     }
 }
 
-/// Tells two totals that differ, with so many digits behind a point.
+/// Prints two totals that differ, with `decimals` digits behind the point.
 fn tell_totals(rt: &HostRuntime, name: &[u8], totals: Option<Totals>, decimals: u8) {
     let Some(Totals { summary, records }) = totals else {
         return;
@@ -246,15 +280,76 @@ fn tell_outside(rt: &HostRuntime, words: &str, name: &[u8], outside: &Outside, d
     }
 }
 
-/// Tells that records which a command took aren't those of its summary.
+/// Prints that records which a command took aren't those of its summary.
 pub fn tell_contradicted(rt: &HostRuntime, asked: &Invocation, outside: &Outside) {
     let words = "heavy: note: these aren't the records that were summarised: ";
     let decimals = asked.records.layout.decimals;
     tell_outside(rt, words, name_of(asked, 1), outside, decimals);
 }
 
-/// Tells which k a share needs.
+/// The most digits of a share that is no fraction.
+const SHARE_DIGITS: usize = 9;
+
+/// Divides `numerator` and `denominator`, which is more than 0, by what they have in common.
+fn reduced(numerator: u64, denominator: u64) -> (u64, u64) {
+    let (mut larger, mut smaller) = (denominator, numerator);
+    for _ in 0..u64::MAX {
+        match larger.checked_rem(smaller) {
+            None => break,
+            Some(rest) => {
+                larger = smaller;
+                smaller = rest;
+            }
+        }
+    }
+    (
+        numerator.checked_div(larger).unwrap_or(numerator),
+        denominator.checked_div(larger).unwrap_or(denominator),
+    )
+}
+
+/// Gives the number that a digit stands for.
+fn digit_of(byte: u8) -> Option<u64> {
+    if byte.is_ascii_digit() {
+        return Some(u64::from(byte - b'0'));
+    }
+    None
+}
+
+/// Reads a share that is a percentage, as `5%`, or a decimal, as `0.05`, as a fraction.
+fn fraction_of(word: &[u8]) -> Option<(u64, u64)> {
+    let text = str::from_utf8(word).ok()?;
+    let (number, hundred) = match text.strip_suffix("%") {
+        Some(number) => (number, 100u64),
+        None => (text, 1),
+    };
+    let (whole, decimals) = number.split_once('.').unwrap_or((number, ""));
+    let mut digits = 0u64;
+    let mut one = hundred;
+    if whole.len().saturating_add(decimals.len()) > SHARE_DIGITS {
+        return None;
+    }
+    for digit in whole.bytes() {
+        digits = digits.saturating_mul(10).saturating_add(digit_of(digit)?);
+    }
+    for digit in decimals.bytes() {
+        digits = digits.saturating_mul(10).saturating_add(digit_of(digit)?);
+        one = one.saturating_mul(10);
+    }
+    if digits == 0 || digits > one {
+        return None;
+    }
+    Some(reduced(digits, one))
+}
+
+/// Prints which k a share needs, or how it is written.
 fn tell_share(rt: &HostRuntime, share: &Share, owner: &str) {
+    if let Share::Text(word) = share {
+        if let Some((p, q)) = fraction_of(word) {
+            let _ = eprintln!(rt; "  {} is written {p}/{q}", Name(word.as_slice()));
+            return;
+        }
+    }
     match threshold_of(MOST_COUNTERS, share) {
         Some((p, q)) => {
             let least = q.saturating_sub(1).checked_div(p).unwrap_or(0);
@@ -266,7 +361,7 @@ fn tell_share(rt: &HostRuntime, share: &Share, owner: &str) {
     }
 }
 
-/// Tells which k the share needs that a command was given.
+/// Prints which k the share of `request` needs.
 fn tell_threshold(rt: &HostRuntime, request: &Request) {
     match request {
         Request::Report { options, .. } => tell_share(rt, &options.threshold, ""),
@@ -277,26 +372,162 @@ fn tell_threshold(rt: &HostRuntime, request: &Request) {
     }
 }
 
-/// Tells where a bad record stands and how it begins, where its file can be read again, and what
-/// was wanted.
-fn tell_record(rt: &HostRuntime, records: &RecordWords, number: u64, wanted: &str) {
+/// What a bad record has to be, or what it is.
+#[derive(Clone, Copy)]
+enum Verdict {
+    Wanted(&'static str),
+    /// A record with `count` fields, where another column is named.
+    Fields { count: u64 },
+}
+
+impl fmt::Display for Verdict {
+    fn fmt<W: fmt::Write>(&self, f: &mut fmt::Formatter<W>) -> fmt::Result {
+        match self {
+            Verdict::Wanted(text) => write!(f, "{text}"),
+            Verdict::Fields { count: 1 } => {
+                write!(f, "it has 1 field, and --key or --weight names another")
+            }
+            Verdict::Fields { count } => {
+                write!(
+                    f,
+                    "it has {count} fields, and --key or --weight names another"
+                )
+            }
+        }
+    }
+}
+
+/// Gives the place, from 0 on, of the column that `word` names in the file `name`.
+fn column_place(
+    rt: &HostRuntime,
+    records: &RecordWords,
+    name: &[u8],
+    word: &[u8],
+) -> Option<usize> {
+    match column_of(rt.alloc(), word, records.layout.has_header).ok()?? {
+        Column::Number(number) => number.checked_sub(1),
+        Column::Name(column) => {
+            let header = header_of(rt, records, name)?;
+            header
+                .iter()
+                .position(|field| field.as_slice() == column.as_slice())
+        }
+    }
+}
+
+/// Whether the weight of a record in the file `name` is `-`.
+fn weight_is_none(
+    rt: &HostRuntime,
+    records: &RecordWords,
+    name: &[u8],
+    fields: &[Vec<u8>],
+) -> bool {
+    let place = match &records.layout.weight {
+        Some(word) => column_place(rt, records, name, word),
+        None => Some(1),
+    };
+    match place.and_then(|place| fields.get(place)) {
+        Some(weight) => weight.as_slice() == b"-".as_slice(),
+        None => false,
+    }
+}
+
+/// Says what is wrong with a record at `place` in the file `name`.
+fn verdict_on(
+    rt: &HostRuntime,
+    records: &RecordWords,
+    name: &[u8],
+    place: &RecordPlace,
+    cause: BadRecordCause,
+) -> Verdict {
+    let layout = &records.layout;
+    let wanted = Verdict::Wanted(wanted(cause, layout.decimals));
+    if let [b'{' | b'[', ..] = place.begin() {
+        return Verdict::Wanted("looks like JSON, and a record is CSV");
+    }
+    let fields = match delimiter_in(records) {
+        Some(delimiter) => place.fields(rt.alloc(), delimiter),
+        None => None,
+    };
+    let Some(fields) = fields else {
+        return wanted;
+    };
+    let has_columns = !layout.key.is_empty() || layout.weight.is_some();
+    match cause {
+        BadRecordCause::FieldCount if has_columns => Verdict::Fields {
+            count: fields.len() as u64,
+        },
+        BadRecordCause::BadWeight if weight_is_none(rt, records, name, &fields) => {
+            Verdict::Wanted("--allow-zero takes a weight of -, as 0")
+        }
+        _ => wanted,
+    }
+}
+
+/// Prints where a bad record stands and how it begins, where its file can be read again, and what
+/// is wrong with it. Of a file in another format it prints that.
+fn tell_record(rt: &HostRuntime, records: &RecordWords, number: u64, cause: BadRecordCause) {
     let Some(place) = place_of(rt, records, number) else {
-        let _ = eprintln!(rt; "  {wanted}");
+        let _ = eprintln!(rt; "  {}", wanted(cause, records.layout.decimals));
         return;
     };
-    let (name, line) = (
-        Name(name_at(records.files.as_slice(), place.file)),
-        place.line,
-    );
-    let (begin, cut) = (place.begin(), place.is_cut());
-    let more = if cut { ".." } else { "" };
+    let bytes = name_at(records.files.as_slice(), place.file);
+    let (name, line) = (Name(bytes), place.line);
+    if let Some(format) = begin_of(rt, bytes).and_then(|begin| other_format(&begin)) {
+        let _ = eprintln!(rt; "  {name} {format}");
+        return;
+    }
+    let verdict = verdict_on(rt, records, bytes, &place, cause);
+    let more = if place.is_cut() { ".." } else { "" };
     let _ = eprintln!(rt;
-        "  {name}, line {line}, \"{}\"{more}: {wanted}",
-        begin.escape_ascii()
+        "  {name}, line {line}, \"{}\"{more}: {verdict}",
+        place.begin().escape_ascii()
     );
 }
 
-/// Tells more about a fault of what was asked for, where there is more to say.
+/// The names of a header, each in quotes.
+#[derive(Clone, Copy)]
+struct Columns<'a>(&'a [Vec<u8>]);
+
+impl<'a> fmt::Display for Columns<'a> {
+    fn fmt<W: fmt::Write>(&self, f: &mut fmt::Formatter<W>) -> fmt::Result {
+        let mut between = "";
+        for name in self.0 {
+            write!(f, "{between}\"{}\"", Name(name.as_slice()))?;
+            between = ", ";
+        }
+        Ok(())
+    }
+}
+
+/// Finds the first column that the file `name` doesn't have.
+fn missing_column<'a>(rt: &HostRuntime, records: &'a RecordWords, name: &[u8]) -> Option<&'a [u8]> {
+    for word in &records.layout.key {
+        if column_place(rt, records, name, word).is_none() {
+            return Some(word.as_slice());
+        }
+    }
+    match &records.layout.weight {
+        Some(word) if column_place(rt, records, name, word).is_none() => Some(word.as_slice()),
+        _ => None,
+    }
+}
+
+/// Prints which column is missing, in which file, and what columns its header has, where the file
+/// can be read again.
+fn tell_columns(rt: &HostRuntime, records: &RecordWords) {
+    for name in &records.files {
+        let header = header_of(rt, records, name);
+        if let (Some(header), Some(column)) = (header, missing_column(rt, records, name)) {
+            let (name, column) = (Name(name.as_slice()), Name(column));
+            let columns = Columns(&header);
+            let _ = eprintln!(rt; "  {name} has no column \"{column}\"; its header has {columns}");
+            return;
+        }
+    }
+}
+
+/// Prints more about the `fault` of what was asked for, where there is more to say.
 pub fn tell_more(
     rt: &HostRuntime,
     fault: &ToolError,
@@ -325,30 +556,29 @@ pub fn tell_more(
         }
         ToolError::BadThreshold => tell_threshold(rt, &asked.request),
         ToolError::BadRecord { number, cause } => {
-            let decimals = asked.records.layout.decimals;
-            tell_record(rt, &asked.records, *number, wanted(*cause, decimals));
+            tell_record(rt, &asked.records, *number, *cause);
         }
+        ToolError::NoColumn => tell_columns(rt, &asked.records),
         _ => {}
     }
 }
 
-/// Tells that a summary has a k of its own, where one was given and more is told.
+/// Prints that a summary has a k of its own, where one was given and a fault has a second line.
 pub fn tell_own_k(rt: &HostRuntime, told: &Told) {
     if told.gives_k && (told.explains || rt.stderr().is_terminal()) {
         let _ = eprintln!(rt; "  the summary has a k of its own, which `heavy describe` tells");
     }
 }
 
-/// Tells what is told of a text at whose end a quote was open.
-fn tell_open(rt: &HostRuntime, name: &[u8]) {
-    let name = match name {
-        [] | [b'-'] => STANDARD,
-        _ => name,
-    };
-    let _ = eprintln!(rt; "heavy: note: a quote is open at the end of {}", Name(name));
+/// Gives the name of the input `number`. Standard input is `-`, or has the number 0.
+fn input_name(asked: &Invocation, number: u64) -> Name<'_> {
+    match name_of(asked, number) {
+        name if number > 0 && name != b"-".as_slice() => Name(name),
+        _ => Name(STANDARD),
+    }
 }
 
-/// Tells where records that were read look like another format.
+/// Prints where records that were read look like another format.
 pub fn tell_format(rt: &HostRuntime, seen: Seen, asked: &Invocation) {
     if let Some((name, word)) = seen.delimiter() {
         let _ = eprintln!(rt;
@@ -357,6 +587,19 @@ pub fn tell_format(rt: &HostRuntime, seen: Seen, asked: &Invocation) {
         );
     }
     if let Some(number) = seen.open {
-        tell_open(rt, name_of(asked, number));
+        let name = input_name(asked, number);
+        let _ = eprintln!(rt; "heavy: note: a quote is open at the end of {name}");
+    }
+}
+
+/// Prints that the last record of an input began with a quote and is long, where one is so.
+pub fn tell_last(rt: &HostRuntime, seen: Seen, asked: &Invocation) {
+    if let Some(long) = seen.long {
+        let name = input_name(asked, long.number);
+        let (lines, bytes) = (long.size.lines, long.size.bytes);
+        let _ = eprintln!(rt;
+            "heavy: note: the last record of {name} begins with a quote and has {lines} lines, \
+            {bytes} bytes: a quote that isn't closed takes all that follows"
+        );
     }
 }

@@ -2,10 +2,13 @@
 
 ghost use Rattle.std.specs.Prelude.{◌≡◌, ◌<◌, ℕ, None, IfOk, length, ⊤};
 
+use crate::explain::tells_more;
 use crate::request::{Invocation, RecordWords};
 use crate::unread::Unread;
 use heavy_host::{FileError, FileFault, FileSource, read_file, read_files};
-use heavy_progress::{Form, Metered, Seen, SharedProgress, Watch};
+use heavy_progress::{
+    Form, LastRecord, LastRecordGuesses, Metered, RecordSize, Seen, SharedProgress, Watch,
+};
 use hh_faults::ToolError;
 use hh_pieces::{ReadAt, SourceRecords};
 use hh_records::{Layout, Records, delimiter_of, layout_of};
@@ -16,6 +19,7 @@ use std::cell::Cell;
 use std::fs::{self, File};
 use std::io::{self, Read, Stdin};
 use std::os::unix::fs::FileExt;
+use std::sync::atomic::{AtomicU64, Ordering};
 
 /// What is read.
 #[derive(Drop)]
@@ -26,15 +30,18 @@ enum Source {
     Nothing,
 }
 
-/// The bytes of each read that looks at a file.
+/// The bytes of a byte order mark.
+const MARK_LEN: u64 = 3;
+
+/// The bytes of each read after the workers'.
 const LOOK_LEN: usize = 65_536;
 
-/// Whether a name is that of standard input.
+/// Whether `name` is that of standard input.
 fn is_standard(name: &[u8]) -> bool {
     name == b"-".as_slice()
 }
 
-/// Puts one behind others.
+/// Pushes `one` behind `others`.
 fn push_behind<T: Drop>(others: &mut Vec<T>, one: T) -> Result<(), ToolError> {
     match others.push(one) {
         Ok(()) => Ok(()),
@@ -42,7 +49,7 @@ fn push_behind<T: Drop>(others: &mut Vec<T>, one: T) -> Result<(), ToolError> {
     }
 }
 
-/// Reads an input to its end, for what sees its bytes.
+/// Reads `input` to its end, for its watch.
 fn read_all(input: &mut Input<'_>, buffer: &mut [u8]) {
     for _ in 0..u64::MAX {
         if let Ok(0) | Err(_) = input.read(buffer) {
@@ -51,7 +58,7 @@ fn read_all(input: &mut Input<'_>, buffer: &mut [u8]) {
     }
 }
 
-/// The fault of a saved file, as the library has it.
+/// Translates the fault of a saved file into the library's.
 fn fault_of(fault: FileFault) -> ToolError
     ensures unread { (number : ℕ) → fault ≡ FileFault.Unreadable number
         → result ≡ ToolError.FileFault number }
@@ -63,19 +70,19 @@ fn fault_of(fault: FileFault) -> ToolError
     }
 }
 
-/// Standard input or a file, which leaves its number where it can't be read.
+/// Standard input or a file, which notes its number and the error where it can't be read.
 #[derive(Drop)]
 pub struct Input<'a> {
     source: Source,
     /// Its place among the command line's files, from 1 on, and 0 where it has none.
     number: u64,
     unread: &'a Unread,
-    /// What sees its bytes, where that is asked for.
-    watch: Option<Watch<'a>>,
+    /// What sees its bytes.
+    watch: Watch<'a>,
 }
 
 impl<'a> Input<'a> {
-    /// Leaves what a read is to leave.
+    /// Notes the `outcome` of a read into `buf`: its error, or the bytes for the watch.
     fn leave(&mut self, outcome: &io::Result<usize>, buf: &[u8]) {
         let count = match outcome {
             Ok(count) => count,
@@ -84,8 +91,8 @@ impl<'a> Input<'a> {
                 return;
             }
         };
-        if let (Some(watch), Some(bytes)) = (&mut self.watch, buf.get(..*count)) {
-            watch.add(bytes);
+        if let Some(bytes) = buf.get(..*count) {
+            self.watch.add(bytes);
         }
     }
 }
@@ -104,8 +111,8 @@ impl<'a> Read for Input<'a> {
     }
 }
 
-/// A file of the disk that is read at any place, by several workers at once. It leaves its number
-/// where a read fails, or where it isn't as long any more as it was when it was opened.
+/// A file of the disk that is read at any place, by several workers at once. It notes its number
+/// where a read fails, or where its length isn't what it was when it was opened.
 #[derive(Drop)]
 pub struct DiskFile<'a> {
     file: File,
@@ -113,6 +120,71 @@ pub struct DiskFile<'a> {
     number: u64,
     unread: &'a Unread,
     progress: Option<&'a SharedProgress<'a>>,
+    /// Where the last quote that was read ends, and 0 where none was.
+    quote_end: AtomicU64,
+}
+
+impl<'a> DiskFile<'a> {
+    /// Counts `bytes`, which were read at `at`, and leaves where their last quote ends.
+    fn see(&self, bytes: &[u8], at: u64) {
+        if let Some(progress) = self.progress {
+            progress.add(bytes.len() as u64);
+        }
+        if let Some(quote) = bytes.iter().rposition(|byte| *byte == b'"') {
+            let end = at.saturating_add(quote as u64).saturating_add(1);
+            self.quote_end.fetch_max(end, Ordering::SeqCst);
+        }
+    }
+
+    /// Whether the last record may have begun with a quote and be long, by what stands around the
+    /// last quote, which ends at `quote_end`. There is no answer where the file can't be read.
+    fn may_end_quoted(&self, alloc: Global, delimiter: u8, quote_end: u64) -> Option<bool> {
+        let mut buffer = vec![in alloc; 0u8; LOOK_LEN].ok()?;
+        let mut guesses = LastRecordGuesses::new(delimiter);
+        let mut at = quote_end.saturating_sub(LOOK_LEN as u64);
+        if at < MARK_LEN {
+            at = 0;
+        }
+        for _ in 0..u64::MAX {
+            let count = FileExt::read_at(&self.file, &mut buffer, at).ok()?;
+            if count == 0 {
+                return Some(guesses.may_be_suspicious());
+            }
+            guesses.add(buffer.get(..count)?);
+            at = at.saturating_add(count as u64);
+            if at >= quote_end && (guesses.are_plain() || guesses.may_be_open()) {
+                return Some(guesses.may_be_open());
+            }
+        }
+        None
+    }
+
+    /// Follows all records to the last one, and gives its size where that is to be reported.
+    fn follow(&self, alloc: Global, delimiter: u8) -> Option<RecordSize> {
+        let mut buffer = vec![in alloc; 0u8; LOOK_LEN].ok()?;
+        let mut last = LastRecord::new(delimiter);
+        let mut at = 0u64;
+        for _ in 0..u64::MAX {
+            let count = FileExt::read_at(&self.file, &mut buffer, at).ok()?;
+            if count == 0 {
+                return last.suspicious();
+            }
+            last.add(buffer.get(..count)?);
+            at = at.saturating_add(count as u64);
+        }
+        None
+    }
+
+    /// Gives the size of the last record of a file that workers have read, where it began with a
+    /// quote and is long. A file without a quote isn't read again, and one of which the bytes
+    /// around the last quote tell that it doesn't isn't read whole.
+    fn last_record(&self, alloc: Global, delimiter: u8) -> Option<RecordSize> {
+        let quote_end = self.quote_end.load(Ordering::SeqCst);
+        if quote_end == 0 || !self.may_end_quoted(alloc, delimiter, quote_end)? {
+            return None;
+        }
+        self.follow(alloc, delimiter)
+    }
 }
 
 impl<'a> ReadAt for DiskFile<'a> {
@@ -132,11 +204,7 @@ impl<'a> ReadAt for DiskFile<'a> {
         let outcome = FileExt::read_at(&self.file, buf, at);
         match &outcome {
             Err(error) => self.unread.leave(self.number, error),
-            Ok(count) => {
-                if let Some(progress) = self.progress {
-                    progress.add(*count as u64);
-                }
-            }
+            Ok(count) => self.see(buf.get(..*count).unwrap_or(&[]), at),
         }
         outcome
     }
@@ -146,8 +214,8 @@ impl<'a> ReadAt for DiskFile<'a> {
 #[derive(Drop)]
 pub struct KeptPipe {
     bytes: Vec<u8>,
-    /// Whether the pipe came to its end. Where it could not be read so far, a byte more is told
-    /// than there is: what is read up to there fails, behind the bytes that are there.
+    /// Whether the pipe came to its end. Where it could not be read to there, its length is one
+    /// more than its bytes, so that a reader fails behind them.
     is_whole: bool,
 }
 
@@ -166,7 +234,7 @@ impl ReadAt for KeptPipe {
     }
 }
 
-/// What is read at any place, as often as is wanted.
+/// An input that is read at any place, any number of times.
 #[derive(Drop)]
 pub enum OpenFile<'a> {
     Disk(DiskFile<'a>),
@@ -193,10 +261,10 @@ impl<'a> ReadAt for OpenFile<'a> {
     }
 }
 
-/// What reads records, and tells how far it is where that is asked for.
+/// A reader of records, which reports its progress where that is asked for.
 pub type Reader<'a> = Metered<'a, Input<'a>>;
 
-/// What is read of a pipe, which is kept whole, or as far as it could be read.
+/// Reads `pipe` to its end, or as far as it can be read, and keeps what it gave.
 fn keep_pipe(alloc: Global, mut pipe: Reader<'_>) -> Result<KeptPipe, ToolError> {
     let mut bytes = Vec::new(alloc);
     let is_whole = match pipe.read_to_end(&mut bytes) {
@@ -225,8 +293,8 @@ pub struct OpenInputs<'a> {
 }
 
 impl<'a> OpenInputs<'a> {
-    /// The same, with what the pipes give kept. They are read here, in their order. What stands
-    /// behind a pipe that can't be read is left out: it is told before anything of that.
+    /// Reads the pipes in their order, and keeps what they give. Inputs behind a pipe that can't be
+    /// read are left out: its fault comes before anything of them.
     pub fn kept(self, alloc: Global) -> Result<OpenFiles<'a>, ToolError> {
         let mut files = Vec::new(alloc);
         for input in self.inputs {
@@ -259,11 +327,23 @@ pub struct OpenFiles<'a> {
 }
 
 impl<'a> OpenFiles<'a> {
-    /// Their records, which workers read.
+    /// Gives their records to workers.
     pub fn records(&self) -> SourceRecords<'_, OpenFile<'a>> {
         SourceRecords {
             layout: &self.layout,
             sources: &self.files,
+        }
+    }
+
+    /// Notes the last record of each of these files, which workers have read, where it began with a
+    /// quote and is long.
+    pub fn look(&self, inputs: Inputs<'_>) {
+        for file in &self.files {
+            if let OpenFile::Disk(disk) = file {
+                let size = disk.last_record(inputs.rt.alloc(), self.layout.delimiter);
+                let seen = inputs.seen.get();
+                inputs.seen.set(seen.with_last(disk.number, size));
+            }
         }
     }
 }
@@ -282,26 +362,28 @@ pub enum Once<'a> {
 #[derive(Clone, Copy)]
 pub struct Inputs<'a> {
     pub rt: &'a HostRuntime,
-    /// How far workers read them, where that is told.
+    /// The progress of workers, where it is reported.
     pub progress: Option<&'a SharedProgress<'a>>,
-    /// Where an input that can't be read is left, and why.
+    /// The input that can't be read, and why.
     pub unread: &'a Unread,
-    /// Where it is left what was seen in the inputs, where that is asked for.
-    pub seen: Option<&'a Cell<Seen>>,
+    /// What was seen in the inputs.
+    pub seen: &'a Cell<Seen>,
     /// How records are parted.
     form: Form,
-    /// Whether no option says that.
+    /// Whether notes on their format are printed.
+    tells_more: bool,
+    /// Whether no option says how they are parted.
     looks_for_format: bool,
 }
 
 impl<'a> Inputs<'a> {
-    /// Those of what was asked for.
+    /// Opens the inputs that `asked` names, over what the run shares.
     pub fn new(
         rt: &'a HostRuntime,
         asked: &Invocation,
         progress: Option<&'a SharedProgress<'a>>,
         unread: &'a Unread,
-        seen: Option<&'a Cell<Seen>>,
+        seen: &'a Cell<Seen>,
     ) -> Inputs<'a> {
         let layout = &asked.records.layout;
         let delimiter = layout.delimiter.as_ref();
@@ -316,29 +398,35 @@ impl<'a> Inputs<'a> {
                     .unwrap_or(b','),
                 has_header: layout.has_header,
             },
+            tells_more: tells_more(rt, asked),
             looks_for_format: delimiter.is_none()
                 && layout.key.is_empty()
                 && layout.weight.is_none(),
         }
     }
 
-    /// A source with its number.
+    /// Makes an input of `source` with its `number`.
     fn input(self, source: Source, number: u64) -> Input<'a> {
         Input {
             source,
             number,
             unread: self.unread,
-            watch: self.seen.map(|seen| Watch::new(seen, number, self.form, self.looks_for_format)),
+            watch: Watch::new(
+                self.seen,
+                number,
+                self.form,
+                self.tells_more && self.looks_for_format,
+            ),
         }
     }
 
-    /// The same, whose size is that of the file at a path.
+    /// Makes a reader of `source` with its `number`, whose size is that of the file at `path`.
     fn reader(self, source: Source, number: u64, path: &str) -> Reader<'a> {
         let input = self.input(source, number);
         Metered::new(self.rt, input, path, self.form, self.progress.is_some())
     }
 
-    /// Standard input, or what is left of it where it is taken.
+    /// Makes a reader of standard input, or of nothing where `is_taken`.
     fn standard(self, number: u64, is_taken: bool) -> Reader<'a> {
         if is_taken {
             self.reader(Source::Nothing, number, "/dev/null")
@@ -347,19 +435,19 @@ impl<'a> Inputs<'a> {
         }
     }
 
-    /// The bytes of the saved file with this name.
+    /// Reads the saved file `name`.
     pub fn saved_file(self, name: &[u8]) -> Result<Vec<u8>, ToolError> {
         read_file(&self, 1, name).map_err(fault_of)
     }
 
-    /// The bytes of the saved files with these names, in their order.
+    /// Reads the saved file `first` and the `others`, in their order.
     pub fn saved_files(self, first: &[u8], others: &[Vec<u8>]) -> Result<Vec<Vec<u8>>, ToolError>
         ensures some { IfOk result (λ files. 0 < length files.items) }
     {
         read_files(&self, first, others).map_err(fault_of)
     }
 
-    /// The open file with this name and number.
+    /// Opens the file `name` with its `number`.
     fn file(self, name: &[u8], number: u64) -> Result<File, ToolError> {
         let Ok(path) = str::from_utf8(name) else {
             return Err(ToolError::FileFault { number });
@@ -376,7 +464,7 @@ impl<'a> Inputs<'a> {
         }
     }
 
-    /// A file that has so many bytes, for workers.
+    /// Makes a file of `size` bytes ready for workers.
     fn disk_file(self, file: File, size: u64, number: u64) -> DiskFile<'a> {
         DiskFile {
             file,
@@ -384,11 +472,12 @@ impl<'a> Inputs<'a> {
             number,
             unread: self.unread,
             progress: self.progress,
+            quote_end: AtomicU64::new(0),
         }
     }
 
-    /// Whether a name is that of a file of the disk that has a size. A pipe is not opened for it,
-    /// since it can be opened once.
+    /// Whether `name` is a file of the disk that isn't empty. A pipe isn't opened for it, since it
+    /// can be opened once.
     fn has_size(self, name: &[u8]) -> bool {
         let Ok(path) = str::from_utf8(name) else {
             return false;
@@ -405,7 +494,7 @@ impl<'a> Inputs<'a> {
         !words.files.is_empty() && words.files.iter().all(|name| self.has_size(name))
     }
 
-    /// Reads a file of the disk, for what sees its bytes.
+    /// Reads the file `name` of the disk, for a watch.
     fn look_at(self, name: &[u8], number: u64) {
         if !self.has_size(name) {
             return;
@@ -419,7 +508,8 @@ impl<'a> Inputs<'a> {
         read_all(&mut self.input(Source::File(file), number), &mut buffer);
     }
 
-    /// Sees the files that workers have read, where that is asked for: they read them in no order.
+    /// Reads once more, in order, the files that workers have read, where notes on their format are
+    /// printed.
     pub fn look(self, asked: &Invocation) {
         let (words, saved) = (&asked.records, asked.request.saved());
         let has_workers = match asked.request.passes() {
@@ -427,7 +517,7 @@ impl<'a> Inputs<'a> {
             1 => self.have_size(words),
             _ => true,
         };
-        if self.seen.is_none() || !has_workers {
+        if !self.tells_more || !has_workers {
             return;
         }
         for (place, name) in words.files.iter().enumerate() {
@@ -436,8 +526,8 @@ impl<'a> Inputs<'a> {
         }
     }
 
-    /// The inputs with these names behind so many saved files. All are opened here. Standard input
-    /// is read where it is named first.
+    /// Opens all inputs with these `names`, which stand behind `saved` files. Standard input is
+    /// read where it is named first.
     fn open_all<T: Opened<'a>>(self, names: &[Vec<u8>], saved: u64) -> Result<Vec<T>, ToolError> {
         let mut inputs = Vec::new(self.rt.alloc());
         let mut is_taken = false;
@@ -449,8 +539,8 @@ impl<'a> Inputs<'a> {
         Ok(inputs)
     }
 
-    /// The layout that a command line says. Keys are hashed by words of this run, where the system
-    /// has random numbers for them, and else by those that all runs have.
+    /// Reads the layout that `words` describe. Keys are hashed by words of this run, where the
+    /// system has random numbers for them, and else by those that all runs have.
     fn layout(self, words: &RecordWords) -> Result<Layout, ToolError> {
         let mut layout = layout_of(self.rt.alloc(), &words.layout)?;
         if let Ok(hash) = KeyHash::random(self.rt) {
@@ -459,7 +549,7 @@ impl<'a> Inputs<'a> {
         Ok(layout)
     }
 
-    /// The inputs that a command line names for a command that reads them twice: its files, or else
+    /// Opens the inputs that `words` name for a command that reads them twice: files, or else
     /// standard input.
     pub fn twice(self, words: &RecordWords) -> Result<OpenInputs<'a>, ToolError> {
         let layout = self.layout(words)?;
@@ -470,8 +560,8 @@ impl<'a> Inputs<'a> {
         Ok(OpenInputs { layout, inputs })
     }
 
-    /// The records that a command line names behind so many saved files: those of its files, or
-    /// else those of standard input.
+    /// Opens the records that `words` name behind `saved` files: those of files, or else those of
+    /// standard input.
     pub fn records(
         self,
         words: &RecordWords,
@@ -491,7 +581,7 @@ impl<'a> Inputs<'a> {
         })
     }
 
-    /// The files of the disk that a command line names behind so many saved files.
+    /// Opens the files of the disk that `words` name behind `saved` files.
     fn open_files(self, words: &RecordWords, saved: u64) -> Result<OpenFiles<'a>, ToolError> {
         Ok(OpenFiles {
             layout: self.layout(words)?,
@@ -499,9 +589,9 @@ impl<'a> Inputs<'a> {
         })
     }
 
-    /// The same records as [`Inputs::records`] has, for a command that reads them once and has so
-    /// many workers. They read files of the disk that have a size, and all else is read by one
-    /// thread. A number of workers that is refused comes with no files, so that nothing is read.
+    /// Opens the records of [`Inputs::records`] for a command that reads them once and has this
+    /// number of `workers`. They read files of the disk that aren't empty, and one thread reads all
+    /// else. Where the number is refused there are no files, so that nothing is read.
     pub fn once(
         self,
         words: &RecordWords,
@@ -523,11 +613,11 @@ impl<'a> Inputs<'a> {
     }
 }
 
-/// How many bytes tell that a file is none that was saved.
+/// The bytes by which a file is seen to be none that was saved.
 const MAGIC_LEN: u64 = 4;
 
-/// The bytes of a saved file. Of a file that begins as none they are its first ones, by which it is
-/// refused as by all of them.
+/// Reads the saved file at `path`. Of a file that begins as none it gives the first bytes, by which
+/// it is refused as by all.
 fn saved_bytes(rt: &HostRuntime, path: &str) -> io::Result<Vec<u8>> {
     let mut bytes = Vec::new(rt.alloc());
     let mut file = File::open(rt, path)?;
@@ -564,9 +654,9 @@ impl<'a> FileSource for Inputs<'a> {
     }
 }
 
-/// What is opened by the name and the number of an input.
+/// An input that is opened by its name and number.
 trait Opened<'a>: Drop {
-    /// It is opened, where an input before it may have taken standard input.
+    /// Opens the input. One before it has taken standard input where `is_taken`.
     fn open(
         inputs: Inputs<'a>,
         name: &[u8],
@@ -575,7 +665,7 @@ trait Opened<'a>: Drop {
     ) -> Result<Self, ToolError>;
 }
 
-/// What reads an input once. `-` is standard input.
+/// A reader of an input that is read once. `-` is standard input.
 impl<'a> Opened<'a> for Reader<'a> {
     fn open(
         inputs: Inputs<'a>,
@@ -592,8 +682,8 @@ impl<'a> Opened<'a> for Reader<'a> {
     }
 }
 
-/// The same of a file that may be read twice: one of the disk that has a size is read at any place,
-/// and all else as a pipe.
+/// An input that may be read twice: a file of the disk that isn't empty is read at any place, and
+/// all else as a pipe.
 impl<'a> Opened<'a> for FileOrPipe<'a> {
     fn open(
         inputs: Inputs<'a>,
@@ -640,7 +730,7 @@ impl<'a> Opened<'a> for OpenFile<'a> {
     }
 }
 
-/// How far workers read the files of records, where that is to be told.
+/// Starts the progress of workers over the files of records, where `asked` wants it reported.
 pub fn shared_progress<'a>(rt: &'a HostRuntime, asked: &Invocation) -> Option<SharedProgress<'a>> {
     if !asked.tells_progress {
         return None;

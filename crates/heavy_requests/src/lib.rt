@@ -1,8 +1,9 @@
 //! What a command line asks the program `heavy` for, the inputs that it names, and how a run ends:
-//! what is told of it, and its exit status.
+//! what it prints on standard error, and its exit status.
 #![tactic(auto)]
 
 mod explain;
+mod fields;
 mod inputs;
 mod record_place;
 mod request;

@@ -1,17 +1,21 @@
 //! Where a record stands in the files that it was read from.
 
+use crate::fields::split_fields;
 use crate::request::RecordWords;
 use heavy_progress::RecordCount;
 use hh_records::delimiter_of;
-use std::alloc::AllocError;
+use std::alloc::{AllocError, Global};
 use std::fs::{self, File};
 use std::io::Read;
 
-/// A file is read in buffers of so many bytes.
+/// The bytes of the buffers in which a file is read.
 const BUFFER: usize = 65_536;
 
-/// At most so many bytes of a record are kept.
-const MOST: usize = 60;
+/// The most bytes of a record that are kept.
+const MOST_KEPT: usize = 65_536;
+
+/// The most bytes of a record that are shown.
+const MOST_SHOWN: usize = 60;
 
 /// What may stand before a text, and is no part of it.
 const MARK: &[u8] = b"\xef\xbb\xbf";
@@ -27,9 +31,9 @@ pub struct RecordPlace {
 }
 
 impl RecordPlace {
-    /// The first bytes of the record.
+    /// Gives the first bytes of the record.
     pub fn begin(&self) -> &[u8] {
-        match self.bytes.get(..MOST) {
+        match self.bytes.get(..MOST_SHOWN) {
             Some(bytes) => bytes,
             None => self.bytes.as_slice(),
         }
@@ -37,14 +41,22 @@ impl RecordPlace {
 
     /// Whether the record has more of them.
     pub fn is_cut(&self) -> bool {
-        self.bytes.len() > MOST
+        self.bytes.len() > MOST_SHOWN
+    }
+
+    /// Splits the record into its fields, where it isn't too long for that.
+    pub fn fields(&self, alloc: Global, delimiter: u8) -> Option<Vec<Vec<u8>>> {
+        if self.bytes.len() > MOST_KEPT {
+            return None;
+        }
+        split_fields(alloc, delimiter, &self.bytes).ok()
     }
 }
 
-/// Looks for a record in the bytes of a text as they come.
+/// A search for a record in the bytes of a text as they come.
 #[derive(Drop)]
 struct Search {
-    /// How many records are before it.
+    /// The number of records before it.
     before: u64,
     records: RecordCount,
     line: u64,
@@ -73,7 +85,7 @@ impl Search {
         }
         if self.records.begun() > self.before {
             self.bytes.push(byte)?;
-            return Ok(self.bytes.len() > MOST);
+            return Ok(self.bytes.len() > MOST_KEPT);
         }
         if byte == b'\r' || (byte == b'\n' && !self.behind_return) {
             self.line = self.line.saturating_add(1);
@@ -92,8 +104,8 @@ impl Search {
         Ok(false)
     }
 
-    /// Takes the bytes of a file, up to those with the record. It tells no fault: where the file
-    /// can't be read or there is no memory, there is no search.
+    /// Takes the bytes of `file`, up to those with the record. Where the file can't be read or
+    /// there is no memory, there is no search.
     fn through(mut self, rt: &HostRuntime, mut file: File) -> Option<Search> {
         let mut buffer = vec![in rt.alloc(); 0u8; BUFFER].ok()?;
         for turn in 0..u64::MAX {
@@ -111,7 +123,7 @@ impl Search {
     }
 }
 
-/// Looks in the file with this name for the record behind so many, where it can be read again.
+/// Looks in the file `name` for the record behind `before` others, where it can be read again.
 fn search_in(rt: &HostRuntime, name: &[u8], before: u64, delimiter: u8) -> Option<Search> {
     let path = str::from_utf8(name).ok()?;
     if name == b"-".as_slice() || !fs::metadata(rt, path).ok()?.is_file() {
@@ -121,13 +133,28 @@ fn search_in(rt: &HostRuntime, name: &[u8], before: u64, delimiter: u8) -> Optio
     Search::new(rt, before, delimiter).through(rt, file)
 }
 
-/// Where the record with this number, from 1 on, stands in the files of records, if each of them up
+/// Gives the byte between two fields of the records that `words` name.
+pub fn delimiter_in(words: &RecordWords) -> Option<u8> {
+    match &words.layout.delimiter {
+        Some(word) => delimiter_of(word),
+        None => Some(b','),
+    }
+}
+
+/// Gives the names in the header of the file `name`, where it has one that can be read again.
+pub fn header_of(rt: &HostRuntime, words: &RecordWords, name: &[u8]) -> Option<Vec<Vec<u8>>> {
+    let delimiter = delimiter_in(words)?;
+    let search = search_in(rt, name, 0, delimiter)?;
+    if !words.layout.has_header || search.bytes.is_empty() {
+        return None;
+    }
+    split_fields(rt.alloc(), delimiter, &search.bytes).ok()
+}
+
+/// Gives the place of the record `number`, from 1 on, in the files of records, if each of them up
 /// to its own can be read again.
 pub fn place_of(rt: &HostRuntime, words: &RecordWords, number: u64) -> Option<RecordPlace> {
-    let delimiter = match &words.layout.delimiter {
-        Some(word) => delimiter_of(word)?,
-        None => b',',
-    };
+    let delimiter = delimiter_in(words)?;
     let header = u64::from(words.layout.has_header);
     let mut before = number.checked_sub(1)?;
     for (file, name) in words.files.iter().enumerate() {

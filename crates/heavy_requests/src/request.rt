@@ -7,8 +7,9 @@ ghost use Rattle.heavy_requests.specs.Request.{AreDecimals, AreOptions, AreRecor
 ghost use Rattle.heavy_requests.specs.Request.{AreRowOptions, AsksFor, GivesShare, IsAskedBy};
 ghost use Rattle.heavy_requests.specs.Request.{IsAskedFrom, IsReportName, NamesTree, all_words, asks_plan};
 ghost use Rattle.heavy_requests.specs.Request.{MayRefuse, MayRefuseFrom, all_columns, between_commas};
-ghost use Rattle.heavy_requests.specs.Request.{first_word};
+ghost use Rattle.heavy_requests.specs.Request.{columns_in, first_word};
 
+use crate::fields::split_fields;
 use crate::told::{Told, told_of};
 use clap::error::ErrorKind;
 use clap::{ArgMatches, Error};
@@ -26,13 +27,13 @@ use std::alloc::{AllocError, Global};
 pub struct Invocation {
     pub request: Request,
     pub records: RecordWords,
-    /// Whether it is told how far standard input is read.
+    /// Whether the progress of reading is reported.
     pub tells_progress: bool,
-    /// Whether more is told about a fault.
+    /// Whether a fault has a second line.
     pub explains: bool,
 }
 
-/// Which records are read, in words.
+/// The words that say which records are read.
 #[derive(Drop)]
 pub struct RecordWords {
     /// The names of their files. None is standard input, and so is `-`.
@@ -57,7 +58,7 @@ impl RecordWords {
 /// What a command line asks for.
 #[derive(Drop)]
 pub enum Request {
-    /// The report of standard input, written as it is made.
+    /// The report of records, written as it is made.
     Report {
         options: ReportOptions,
         rows: RowOptions,
@@ -69,7 +70,7 @@ pub enum Request {
 }
 
 impl Request {
-    /// How many saved files are named before those of records.
+    /// Counts the saved files that are named before those of records.
     pub fn saved(&self) -> u64 {
         match self {
             Request::Answer(Command::Condense { .. } | Command::Confirm { .. }) => 1,
@@ -77,7 +78,7 @@ impl Request {
         }
     }
 
-    /// In how many passes workers read files of records, or 0 where they read none.
+    /// Counts the passes in which workers read files of records: 0 where they read none.
     pub fn passes(&self) -> u64 {
         match self {
             Request::Report { .. } => 2,
@@ -92,13 +93,13 @@ impl Request {
 /// What bytes are asked for. Words are taken by their bytes.
 #[derive(Drop)]
 pub enum Command {
-    /// The saved summary of standard input.
+    /// The saved summary of records.
     Summarise {
         k: u64,
         method: Vec<u8>,
         workers: u64,
     },
-    /// The saved table of standard input.
+    /// The saved table of records.
     Table {
         width: u64,
         depth: u64,
@@ -125,12 +126,12 @@ pub enum Command {
     Describe {
         file: Vec<u8>,
     },
-    /// Standard input in fewer records, by a saved summary.
+    /// Records made fewer, by a saved summary.
     Condense {
         file: Vec<u8>,
         workers: u64,
     },
-    /// The heavy keys of a saved summary in standard input.
+    /// The heavy keys of a saved summary in records.
     Confirm {
         file: Vec<u8>,
         threshold: Share,
@@ -159,7 +160,7 @@ impl From<AllocError> for UsageError {
     }
 }
 
-/// The bytes of the first word of this name, or else of another.
+/// Gives the bytes of the first word of `name`, or else those of `other`.
 fn word_or(
     alloc: Global,
     found: &ArgMatches,
@@ -172,7 +173,7 @@ fn word_or(
     bytes_of(alloc, found.get_str(name).unwrap_or(other))
 }
 
-/// The bytes of all words of this name.
+/// Collects the bytes of all words of `name`.
 fn words(alloc: Global, found: &ArgMatches, name: &str) -> Result<Vec<Vec<u8>>, AllocError>
     ensures { IfOk result (λ words.
         map (λ w. w.items) words.items ≡ all_words (found_of found.now) name.now) }
@@ -187,7 +188,7 @@ fn words(alloc: Global, found: &ArgMatches, name: &str) -> Result<Vec<Vec<u8>>, 
     Ok(words)
 }
 
-/// What stands between the commas of a text.
+/// Splits `text` at its commas.
 fn parts_of<'a>(alloc: Global, text: &'a str) -> Result<Vec<&'a str>, AllocError>
     ensures { IfOk result (λ parts.
         map (λ part. part.now) parts.items ≡ between_commas text.now) }
@@ -195,7 +196,7 @@ fn parts_of<'a>(alloc: Global, text: &'a str) -> Result<Vec<&'a str>, AllocError
     text.split(',').collect(alloc)
 }
 
-/// Puts the bytes of these texts behind other words.
+/// Pushes the bytes of `texts` behind `words`.
 fn push_words(alloc: Global, words: &mut Vec<Vec<u8>>, texts: &[&str]) -> Result<(), AllocError>
     ensures { OnOk result (map (λ w. w.items) words.new.items
         ≡ map (λ w. w.items) words.old.items ++ map word_of (map (λ t. t.now) texts.now)) }
@@ -206,7 +207,20 @@ fn push_words(alloc: Global, words: &mut Vec<Vec<u8>>, texts: &[&str]) -> Result
     Ok(())
 }
 
-/// The bytes of all columns of this name, of which several stand between commas.
+/// Pushes the columns that `text` names behind `words`. Commas part them; in a text with quotes one
+/// between two quotes is part of a name.
+fn push_columns(alloc: Global, words: &mut Vec<Vec<u8>>, text: &str) -> Result<(), AllocError>
+    ensures { OnOk result (map (λ w. w.items) words.new.items
+        ≡ map (λ w. w.items) words.old.items ++ columns_in text.now) }
+{
+    if !text.as_bytes().contains(&b'"') {
+        return push_words(alloc, words, &parts_of(alloc, text)?);
+    }
+    let mut names = split_fields(alloc, b',', &bytes_of(alloc, text)?)?;
+    words.append(&mut names)
+}
+
+/// Collects all columns that the words of `name` name, of which a word may name several.
 fn columns(alloc: Global, found: &ArgMatches, name: &str) -> Result<Vec<Vec<u8>>, AllocError>
     ensures { IfOk result (λ words.
         map (λ w. w.items) words.items ≡ all_columns (found_of found.now) name.now) }
@@ -216,12 +230,12 @@ fn columns(alloc: Global, found: &ArgMatches, name: &str) -> Result<Vec<Vec<u8>>
         return Ok(words);
     };
     for text in texts {
-        push_words(alloc, &mut words, &parts_of(alloc, text)?)?;
+        push_columns(alloc, &mut words, text)?;
     }
     Ok(words)
 }
 
-/// The bytes of the first word of this name, if one is given.
+/// Gives the bytes of the first word of `name`, if one is given.
 fn word_given(alloc: Global, found: &ArgMatches, name: &str) -> Result<Option<Vec<u8>>, AllocError>
     ensures { IfOk result (λ word. option_map (λ w. w.items) word
         ≡ option_map word_of (first_value (found_of found.now) name.now)) }
@@ -232,14 +246,14 @@ fn word_given(alloc: Global, found: &ArgMatches, name: &str) -> Result<Option<Ve
     }
 }
 
-/// How many digits a weight may have behind a point.
+/// Gives the number of digits that a weight may have behind a point.
 fn decimals_of(found: &ArgMatches) -> u8
     ensures { AreDecimals (found_of found.now) result }
 {
     found.get_one(DECIMALS).unwrap_or(0)
 }
 
-/// Which records are read.
+/// Reads which records are asked for.
 fn records_of(alloc: Global, found: &ArgMatches) -> Result<RecordWords, AllocError>
     ensures { IfOk result (AreRecordWords (found_of found.now)) }
 {
@@ -257,7 +271,7 @@ fn records_of(alloc: Global, found: &ArgMatches) -> Result<RecordWords, AllocErr
     })
 }
 
-/// The tree that a word names.
+/// Reads the tree that `word` names.
 fn tree_of(word: Vec<u8>) -> Tree
     ensures { NamesTree word.items result }
 {
@@ -270,7 +284,7 @@ fn tree_of(word: Vec<u8>) -> Tree
     }
 }
 
-/// The threshold that is asked for, if one is.
+/// Reads the threshold that is asked for, if one is.
 fn threshold_of(alloc: Global, found: &ArgMatches) -> Result<Share, AllocError>
     ensures { IfOk result
         (GivesShare (first_value (found_of found.now) (codes "threshold"))) }
@@ -281,7 +295,7 @@ fn threshold_of(alloc: Global, found: &ArgMatches) -> Result<Share, AllocError>
     }
 }
 
-/// Which rows are printed, and how.
+/// Reads which rows are printed, and how.
 fn rows_of(found: &ArgMatches) -> RowOptions
     ensures { AreRowOptions (found_of found.now) result }
 {
@@ -292,8 +306,8 @@ fn rows_of(found: &ArgMatches) -> RowOptions
     }
 }
 
-/// The file that is named. One that is not, which `clap` lets not come, is one without a name: it
-/// can't be read.
+/// Gives the name of the saved file, which `clap` requires. Where there is none the name is empty,
+/// so that it can't be read.
 fn file_named(alloc: Global, found: &ArgMatches) -> Result<Vec<u8>, AllocError>
     ensures { IfOk result (λ word.
         word.items ≡ first_word [] (found_of found.now) (codes "FILE")) }
@@ -312,7 +326,7 @@ fn asks_plan(found: &ArgMatches) -> bool
         || found.contains_id("seed")
 }
 
-/// The report that is asked for, by a name that is none of the other commands'.
+/// Reads the report that is asked for.
 fn report(alloc: Global, found: &ArgMatches) -> Result<Request, AllocError>
     ensures { IfOk result (λ asked. (name : Text) → IsReportName name
         → AsksFor name (found_of found.now) asked) }
@@ -389,8 +403,8 @@ fn confirm(alloc: Global, found: &ArgMatches) -> Result<Request, AllocError>
     }))
 }
 
-/// What a command with these words asks for. `clap` lets these nine names come: the one that is
-/// none of the other eight is the report's.
+/// Reads what the command `name` asks for. `clap` takes the nine commands' names alone, so that
+/// the one that isn't named here is `report`.
 fn request_of(alloc: Global, name: &str, found: &ArgMatches) -> Result<Request, AllocError>
     ensures { IfOk result (AsksFor name.now (found_of found.now)) }
 {
@@ -415,7 +429,7 @@ fn request_of(alloc: Global, name: &str, found: &ArgMatches) -> Result<Request, 
     }
 }
 
-/// Why words ask for nothing, where `clap` gave this error.
+/// Says why `words` ask for nothing, where `clap` gave this `error`.
 fn usage_error(alloc: Global, words: &[Vec<u8>], error: Error) -> UsageError
     ensures { kind_of error ≡ ErrorKind.OutOfMemory → result ≡ UsageError.Memory }
 {
@@ -428,7 +442,7 @@ fn usage_error(alloc: Global, words: &[Vec<u8>], error: Error) -> UsageError
     }
 }
 
-/// What these words ask for, the first of which is the program's name.
+/// Reads what `words` ask for, the first of which is the program's name.
 fn request_in(alloc: Global, words: &[Vec<u8>]) -> Result<Invocation, UsageError>
     ensures asked { IfOk result (IsAskedBy (map (λ w. w.items) words.now)) }
     ensures refused { IfErr result (MayRefuse (map (λ w. w.items) words.now)) }
@@ -449,7 +463,7 @@ fn request_in(alloc: Global, words: &[Vec<u8>]) -> Result<Invocation, UsageError
     })
 }
 
-/// What the words of a source ask for.
+/// Reads what the words of `source` ask for.
 pub fn read_request<W: WordSource>(source: &W, alloc: Global) -> Result<Invocation, UsageError>
     ensures asked { IfOk result (IsAskedFrom (W.gives source.now)) }
     ensures refused { IfErr result (MayRefuseFrom (W.gives source.now)) }

@@ -1,6 +1,9 @@
-//! How a run of the program ends: what is told of it, and its exit status.
+//! How a run of the program ends: what it prints on standard error, and its exit status.
 
-use crate::explain::{Lines, tell_contradicted, tell_format, tell_more, tell_own_k, tells_more};
+use crate::explain::{
+    Lines, names_records, tell_contradicted, tell_format, tell_last, tell_more, tell_own_k,
+    tells_more,
+};
 use crate::inputs::Inputs;
 use crate::request::Invocation;
 use crate::told::Told;
@@ -11,7 +14,7 @@ use std::process::ExitCode;
 /// The exit status of the command line's own faults.
 const USAGE: u8 = 2;
 
-/// The fault of an input that can't be read, by the number that it left.
+/// Gives the fault of an input that can't be read its `number`, where it has one.
 fn numbered(fault: ToolError, number: u64) -> ToolError {
     match fault {
         ToolError::ReadFault if number > 0 => ToolError::FileFault { number },
@@ -19,14 +22,14 @@ fn numbered(fault: ToolError, number: u64) -> ToolError {
     }
 }
 
-/// Tells a fault of the product, and gives its status.
+/// Prints `fault`, and gives its status.
 pub fn status_after(rt: &HostRuntime, fault: ToolError) -> ExitCode {
     let _ = eprintln!(rt; "heavy: {fault}");
     ExitCode::from(fault.status())
 }
 
-/// The same of a fault of what was asked for, with more about it where that is asked for too or
-/// standard error is a terminal.
+/// Prints a fault of what was asked for, and gives its status. More about it comes where that is
+/// asked for, standard error is a terminal, or the fault is one of records that are named.
 fn status_explained(
     inputs: Inputs<'_>,
     fault: ToolError,
@@ -35,7 +38,7 @@ fn status_explained(
 ) -> ExitCode {
     let rt = inputs.rt;
     let status = status_after(rt, fault);
-    if tells_more(rt, asked) {
+    if tells_more(rt, asked) || names_records(&fault, asked) {
         tell_more(rt, &fault, asked, compared, inputs.unread);
     }
     status
@@ -53,7 +56,8 @@ pub fn status_told(rt: &HostRuntime, told: &Told) -> ExitCode {
     }
     match format!(in rt.alloc(); "{}", told.error) {
         Ok(text) => {
-            let _ = eprint!(rt; "{}", Lines(&text));
+            let (begin, end) = told.without_tip(&text);
+            let _ = eprint!(rt; "{}{}", Lines(begin), Lines(end));
             tell_own_k(rt, told);
             ExitCode::from(USAGE)
         }
@@ -61,8 +65,8 @@ pub fn status_told(rt: &HostRuntime, told: &Told) -> ExitCode {
     }
 }
 
-/// Tells what came of what was asked for, and gives its status. Where files of records are not what
-/// they were before, it is told of the first one.
+/// Prints what came of what was asked for, and gives its status. Where files of records are not
+/// what they were before, the first one has the fault.
 pub fn status_of(
     inputs: Inputs<'_>,
     asked: &Invocation,
@@ -73,9 +77,11 @@ pub fn status_of(
     match outcome {
         Ok(()) => {
             inputs.look(asked);
-            if let Some(seen) = inputs.seen {
-                tell_format(rt, seen.get(), asked);
+            let seen = inputs.seen.get();
+            if tells_more(rt, asked) {
+                tell_format(rt, seen, asked);
             }
+            tell_last(rt, seen, asked);
             if let Some(outside) = &compared.outside {
                 tell_contradicted(rt, asked, outside);
             }

@@ -1,4 +1,4 @@
-//! What is said of a command line that asks for nothing.
+//! What is printed of a command line that asks for nothing.
 
 use clap::Error;
 use clap::error::ErrorKind;
@@ -6,17 +6,40 @@ use heavy_arguments::command_line;
 use heavy_host::texts_of;
 use std::alloc::{AllocError, Global};
 
-/// What `clap` says, and what is known of the words.
+/// The error of `clap`, and what is known of the words.
 #[derive(Drop)]
 pub struct Told {
     pub error: Error,
-    /// Whether more is to be told about a fault.
+    /// Whether a fault has a second line.
     pub explains: bool,
     /// Whether they give a k to a command whose summary has one of its own.
     pub gives_k: bool,
+    /// Whether they are for a command that takes keys, which may look like options.
+    takes_keys: bool,
 }
 
-/// Whether one of the words before `--` is an option, alone or with its value behind `=`.
+impl Told {
+    /// Splits the text of the error around the tip that an unknown letter be given as a value,
+    /// which serves a command with keys alone. Where there is none, all of it comes first.
+    pub fn without_tip<'a>(&self, text: &'a str) -> (&'a str, &'a str) {
+        let is_letter = match text.strip_prefix("error: unexpected argument '-") {
+            Some(rest) => !rest.starts_with("-"),
+            None => false,
+        };
+        if self.takes_keys || !is_letter {
+            return (text, "");
+        }
+        let Some((begin, rest)) = text.split_once("  tip: to pass ") else {
+            return (text, "");
+        };
+        match rest.split_once("\n\n") {
+            Some((_, end)) => (begin, end),
+            None => (text, ""),
+        }
+    }
+}
+
+/// Whether one of the `words` before `--` is `option`, alone or with its value behind `=`.
 fn has_option(words: &[Vec<u8>], option: &[u8]) -> bool {
     for word in words {
         if word.as_slice() == b"--".as_slice() {
@@ -29,7 +52,20 @@ fn has_option(words: &[Vec<u8>], option: &[u8]) -> bool {
     false
 }
 
-/// Whether the words ask `help` for help, which `clap` doesn't know.
+/// Whether one of the `words` before `--` begins with `letter`, which may have its value behind it.
+fn has_letter(words: &[Vec<u8>], letter: &[u8]) -> bool {
+    for word in words {
+        if word.as_slice() == b"--".as_slice() {
+            return false;
+        }
+        if word.starts_with(letter) {
+            return true;
+        }
+    }
+    false
+}
+
+/// Whether `words` ask `help` for help, which `clap` doesn't know.
 fn asks_help_for_help(words: &[Vec<u8>]) -> bool {
     let (Some(first), Some(last)) = (words.first(), words.last()) else {
         return false;
@@ -39,8 +75,8 @@ fn asks_help_for_help(words: &[Vec<u8>]) -> bool {
     asks && first.as_slice() == b"help".as_slice()
 }
 
-/// What `clap` says of these words, the first of which is the program's name, where it gave this
-/// error. Help of `help` is that of the same words without it.
+/// Gives what `clap` says of `words`, where it gave this `error`. Help of `help` is that of the
+/// same words without it.
 fn error_of(alloc: Global, words: &[Vec<u8>], error: Error) -> Result<Error, AllocError> {
     if !asks_help_for_help(words) {
         return Ok(error);
@@ -56,20 +92,20 @@ fn error_of(alloc: Global, words: &[Vec<u8>], error: Error) -> Result<Error, All
     Ok(said)
 }
 
-/// What is said of words, the first of which is the program's name, where `clap` gave this error.
+/// Collects what is printed of `words`, the first of which is the program's name, where `clap` gave
+/// this `error`.
 pub fn told_of(alloc: Global, words: &[Vec<u8>], error: Error) -> Result<Told, AllocError> {
     let words = words.get(1..).unwrap_or(words);
-    let passes = match words.first() {
-        Some(name) => {
-            let name = name.as_slice();
-            name == b"condense".as_slice() || name == b"confirm".as_slice()
-        }
-        None => false,
+    let name = match words.first() {
+        Some(name) => name.as_slice(),
+        None => b"".as_slice(),
     };
+    let passes = name == b"condense".as_slice() || name == b"confirm".as_slice();
     let is_unknown = matches!(error.kind(), ErrorKind::UnknownArgument);
     Ok(Told {
         error: error_of(alloc, words, error)?,
         explains: has_option(words, b"--explain"),
-        gives_k: passes && is_unknown && has_option(words, b"--k"),
+        gives_k: passes && is_unknown && (has_option(words, b"--k") || has_letter(words, b"-k")),
+        takes_keys: name == b"ask".as_slice(),
     })
 }

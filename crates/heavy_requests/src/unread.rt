@@ -3,7 +3,7 @@
 use std::io::Error;
 use std::sync::atomic::{AtomicI32, AtomicU64, Ordering};
 
-/// Where an input that can't be read leaves its number and the reason, also from other threads.
+/// The number of an input that can't be read, and the reason, which any thread may note.
 #[derive(Drop)]
 pub struct Unread {
     /// 0 is standard input, or nothing yet.
@@ -13,7 +13,7 @@ pub struct Unread {
 }
 
 impl Unread {
-    /// Nothing is left yet.
+    /// Begins with none.
     pub fn new() -> Unread {
         Unread {
             number: AtomicU64::new(0),
@@ -21,25 +21,25 @@ impl Unread {
         }
     }
 
-    /// Leaves an input's number and the error that it met.
+    /// Notes an input's `number` and the `error` that it met.
     pub fn leave(&self, number: u64, error: &Error) {
         self.number.store(number, Ordering::SeqCst);
         let code = error.raw_os_error().unwrap_or(0);
         self.code.store(code, Ordering::SeqCst);
     }
 
-    /// Leaves the number of an input whose length changed.
+    /// Notes the `number` of an input whose length changed.
     pub fn leave_changed(&self, number: u64) {
         self.number.store(number, Ordering::SeqCst);
         self.code.store(0, Ordering::SeqCst);
     }
 
-    /// The number that was left.
+    /// Gives the number that was noted.
     pub fn number(&self) -> u64 {
         self.number.load(Ordering::SeqCst)
     }
 
-    /// The error of the system that was left, if there is one.
+    /// Gives the error of the system that was noted, if there is one.
     pub fn error(&self) -> Option<Error> {
         match self.code.load(Ordering::SeqCst) {
             0 => None,
