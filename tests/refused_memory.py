@@ -29,6 +29,8 @@ CALLS = {
         "BucketSaving::into_summary",
     ],
     "hh_countmin": ["Family::from_parts", "Family::draw", "Family::copy", "Table::new"],
+    "hh_saved": ["read", "write"],
+    "hh_shared": ["SharedSums::new", "SharedSums::close"],
     "hh_pool": ["analyse", "first_pass", "second_pass"],
     "heavy": ["confirm"],
 }
@@ -37,10 +39,11 @@ CALLS = {
 TAKE_NONE = {
     "hh_stream": ["Key and Stream readers", "Cutting readers"],
     "hh_counters": [
-        "Summary::new", "Summary readers", "Candidates readers", "SpaceSaving::new", "SpaceSaving readers",
-        "BucketSaving readers", "SpaceSaving::add monitored", "BucketSaving::add monitored",
+        "Summary::new", "Summary::from_entries", "Summary readers", "Candidates readers", "SpaceSaving::new",
+        "SpaceSaving readers", "BucketSaving readers", "SpaceSaving::add monitored", "BucketSaving::add monitored",
     ],
-    "hh_countmin": ["Family readers", "Table::add and merge", "Table readers"],
+    "hh_countmin": ["Family readers", "Table::from_cells", "Table::add and merge", "Table readers"],
+    "hh_shared": ["SharedSums seats"],
     "hh_pool": ["Plan, Options and OpenGate"],
     "heavy": ["put"],
 }

@@ -14,6 +14,7 @@ pub fn call(lab: &Lab, name: &str) -> Result<Said, Fail> {
         "Summary::merge" => summary_merge(lab),
         "Summary::new" => summary_new(lab),
         "Summary readers" => summary_readers(lab),
+        "Summary::from_entries" => summary_from_entries(lab),
         "Candidates readers" => candidates_readers(lab),
         _ => monitors::call(lab, name),
     }
@@ -111,6 +112,25 @@ fn summary_readers(lab: &Lab) -> Result<Said, Fail> {
     lab.answer(format_args!("{fits} {numbers}"))
 }
 
+// The summary of counters a 4 and b 1 that are there, and its entries, without memory.
+fn summary_from_entries(lab: &Lab) -> Result<Said, Fail> {
+    let mut entries = Vec::with_capacity(lab.alloc, 2)?;
+    entries.push((lab.key(b'a')?, 4))?;
+    entries.push((lab.key(b'b')?, 1))?;
+    if !Summary::fits(2, 11, entries.as_slice()) {
+        return Err(Fail::new("a 4 and b 1 are counters of a total of 11"));
+    }
+    lab.begin();
+    let summary = Summary::from_entries(2, 11, entries);
+    let counter = match summary.len() {
+        0 => 0,
+        _ => summary.entry(0).1,
+    };
+    lab.end();
+    lab.show(Counters(&summary))?;
+    lab.answer(counter)
+}
+
 // The calls on candidates that take no memory.
 fn candidates_readers(lab: &Lab) -> Result<Said, Fail> {
     let (summary, b, stream) = (lab.summary()?, lab.key(b'b')?, lab.stream()?);
@@ -119,10 +139,12 @@ fn candidates_readers(lab: &Lab) -> Result<Said, Fail> {
     lab.begin();
     let len = candidates.len();
     let is_second = candidates.place(&b) == Some(1);
+    let mut is_same = false;
     if len == 2 {
         candidates.count_piece(stream.items(), &mut numbers);
+        is_same = *candidates.key(1) == b;
     }
     lab.end();
     let numbers = Numbers(&numbers);
-    lab.answer(format_args!("{len} {is_second} {numbers}"))
+    lab.answer(format_args!("{len} {is_second} {is_same} {numbers}"))
 }

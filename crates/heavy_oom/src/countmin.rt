@@ -14,6 +14,7 @@ pub fn call(lab: &Lab, name: &str) -> Result<Said, Fail> {
         "Table::new" => table_new(lab),
         "Table::add and merge" => table_added(lab),
         "Table readers" => table_readers(lab),
+        "Table::from_cells" => table_from_cells(lab),
         _ => Err(no_such_call(name)),
     }
 }
@@ -76,6 +77,16 @@ fn table_added(lab: &Lab) -> Result<Said, Fail> {
     lab.end();
     let cells = Cells(&table);
     lab.answer(format_args!("{is_added} {is_merged} {cells}"))
+}
+
+// The table of cells that are there, without memory.
+fn table_from_cells(lab: &Lab) -> Result<Said, Fail> {
+    let (family, cells) = (family(lab)?, vec![in lab.alloc; 0u64; 8]?);
+    if !Table::fits(&family, 4, 0, cells.as_slice()) {
+        return Err(Fail::new("two rows of four cells are a table of no items"));
+    }
+    let table = marked!(lab, Table::from_cells(family, 4, 0, cells));
+    lab.answer(Cells(&table))
 }
 
 // The calls on a table that take no memory.

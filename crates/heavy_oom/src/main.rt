@@ -11,8 +11,10 @@ mod countmin;
 mod lab;
 mod monitors;
 mod pool;
+mod saved;
 mod show;
 mod stream;
+mod sums;
 
 use lab::{Lab, Said};
 use std::env;
@@ -26,6 +28,8 @@ fn call<R: Threads + Wait + Sync>(rt: &R, lab: &Lab, of: &str, name: &str) -> Re
         "hh_stream" => stream::call(lab, name),
         "hh_counters" => counters::call(lab, name),
         "hh_countmin" => countmin::call(lab, name),
+        "hh_shared" => sums::call(lab, name),
+        "hh_saved" => saved::call(lab, name),
         "hh_pool" => pool::call(rt, lab, name),
         "heavy" => commands::call(lab, name),
         _ => Err(lab::no_such_call(name)),

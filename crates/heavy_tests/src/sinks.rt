@@ -1,8 +1,9 @@
-//! What is put to sinks over writers that fail.
+//! What is put to sinks over writers that fail, bytes and the rows of a report.
 
 use crate::devices::{Manner, Target};
 use crate::fixtures::assert_same;
-use heavy::{Out, Sink, WriteFault, put};
+use heavy::{Heavy, Out, ReportFault, Sink, WriteFault, put, write_report};
+use hh_stream::Key;
 use std::process::Abort;
 
 /// What a writer takes of five bytes, the fault, and whether the sink fails.
@@ -61,4 +62,37 @@ fn put_of_no_bytes_flushes(rt: HostRuntime) {
     assert_same(&rt, put_none(&rt, Manner::taking(0)), None);
     let fault = put_none(&rt, Manner::without_flush());
     assert_same(&rt, fault, Some(WriteFault { written: 0 }));
+}
+
+/// The row of a key of one letter.
+fn row(rt: &(impl Abort + AllocGlobal), letter: u8, weight: u64) -> Heavy {
+    let key = Key::new(rt.alloc(), &[letter]).expect(rt, "a key");
+    Heavy { key, weight }
+}
+
+/// What a writer takes of the rows of `a` and `b`, and the fault.
+fn report_to(rt: &(impl Abort + AllocGlobal), manner: Manner) -> (Vec<u8>, Option<ReportFault>) {
+    let rows = [row(rt, b'a', 6), row(rt, b'b', 3)];
+    let mut taken = Vec::new(rt.alloc());
+    let mut out = Out::new(Target::new(manner, &mut taken));
+    let fault = write_report(rt.alloc(), &mut out, &rows).err();
+    drop(out);
+    (taken, fault)
+}
+
+#[test]
+fn rows_of_a_report_are_written(rt: HostRuntime) {
+    for (manner, written) in &[
+        (Manner::taking(99), None),
+        (Manner::slow(), None),
+        (Manner::taking(5), Some(5)),
+        (Manner::taking(0), Some(0)),
+        (Manner::without_flush(), Some(8)),
+    ] {
+        let (taken, fault) = report_to(&rt, *manner);
+        let expected = written.map(|written| ReportFault::WriteFault { written });
+        assert_same(&rt, fault, expected);
+        let len = written.unwrap_or(8) as usize;
+        assert_same(&rt, Some(taken.as_slice()), b"a,6\nb,3\n".get(..len));
+    }
 }
