@@ -35,13 +35,9 @@ struct Progress<'a> {
 }
 
 impl<'a> Progress<'a> {
-    /// Starts with nothing read. The size is known where a file is at `path`.
-    fn start(rt: &'a HostRuntime, path: &str, form: Form) -> io::Result<Progress<'a>> {
+    /// Starts with nothing read of an input that has `size` bytes, where that is known.
+    fn start(rt: &'a HostRuntime, size: Option<u64>, form: Form) -> io::Result<Progress<'a>> {
         let now = Instant::now(rt)?;
-        let size = match fs::metadata(rt, path) {
-            Ok(file) if file.is_file() => Some(file.len()),
-            _ => None,
-        };
         Ok(Progress {
             rt,
             size,
@@ -99,13 +95,19 @@ pub struct Metered<'a, R> {
 }
 
 impl<'a, R: Read> Metered<'a, R> {
-    /// Reads the bytes of `inner`, a file at `path` with records of this form. With `tells`, and
-    /// where there is a clock, it reports how far it is.
-    pub fn new(rt: &'a HostRuntime, inner: R, path: &str, form: Form, tells: bool) -> Metered<'a, R>
+    /// Reads the bytes of `inner`, `size` where that is known, whose records have this form. With
+    /// `tells`, and where there is a clock, it reports how far it is.
+    pub fn new(
+        rt: &'a HostRuntime,
+        inner: R,
+        size: Option<u64>,
+        form: Form,
+        tells: bool,
+    ) -> Metered<'a, R>
         ensures { ⟦<Metered<'a, R> as Read>⟧.remaining result ≡ R.remaining inner }
     {
         let progress = if tells {
-            Progress::start(rt, path, form).ok()
+            Progress::start(rt, size, form).ok()
         } else {
             None
         };

@@ -1,22 +1,21 @@
 //! Where records come from: standard input, or files that the command line names.
 
-ghost use Rattle.std.specs.Prelude.{◌≡◌, ◌<◌, ℕ, None, IfOk, length, ⊤};
+ghost use Rattle.std.specs.Prelude.{◌≡◌, None, ⊤};
+ghost use Rattle.heavy_requests.specs.Inputs.{names_standard};
 
 use crate::explain::tells_more;
 use crate::request::{Invocation, RecordWords};
 use crate::unread::Unread;
-use heavy_host::{FileError, FileFault, FileSource, read_file, read_files};
+use heavy_host::{FileError, FileSource};
 use heavy_progress::{
     Form, LastRecord, LastRecordGuesses, Metered, RecordSize, Seen, SharedProgress, Watch,
 };
 use hh_faults::ToolError;
-use hh_pieces::{ReadAt, SourceRecords};
-use hh_records::{Layout, Records, delimiter_of, layout_of};
-use hh_stream::KeyHash;
-use hh_workers::MAX_WORKERS;
+use hh_pieces::ReadAt;
+use hh_records::delimiter_of;
 use std::alloc::Global;
 use std::cell::Cell;
-use std::fs::{self, File};
+use std::fs::{self, File, Metadata};
 use std::io::{self, Read, Stdin};
 use std::os::unix::fs::FileExt;
 use std::sync::atomic::{AtomicU64, Ordering};
@@ -37,15 +36,12 @@ const MARK_LEN: u64 = 3;
 const LOOK_LEN: usize = 65_536;
 
 /// Whether `name` is that of standard input.
-fn is_standard(name: &[u8]) -> bool {
-    name == b"-".as_slice()
-}
-
-/// Pushes `one` behind `others`.
-fn push_behind<T: Drop>(others: &mut Vec<T>, one: T) -> Result<(), ToolError> {
-    match others.push(one) {
-        Ok(()) => Ok(()),
-        Err(_) => Err(ToolError::Memory),
+pub fn is_standard(name: &[u8]) -> bool
+    ensures { result ≡ names_standard name.now }
+{
+    match name {
+        [byte] => *byte == b'-',
+        _ => false,
     }
 }
 
@@ -58,15 +54,16 @@ fn read_all(input: &mut Input<'_>, buffer: &mut [u8]) {
     }
 }
 
-/// Translates the fault of a saved file into the library's.
-fn fault_of(fault: FileFault) -> ToolError
-    ensures unread { (number : ℕ) → fault ≡ FileFault.Unreadable number
-        → result ≡ ToolError.FileFault number }
-    ensures memory { fault ≡ FileFault.Memory → result ≡ ToolError.Memory }
-{
-    match fault {
-        FileFault::Unreadable { number } => ToolError::FileFault { number },
-        FileFault::Memory => ToolError::Memory,
+/// How many bytes a file has, where it is one of the disk that isn't empty.
+fn size_in(metadata: &Metadata) -> Option<u64> {
+    (metadata.is_file() && metadata.len() > 0).then_some(metadata.len())
+}
+
+/// How many bytes an open file has, where it is one of the disk that isn't empty.
+fn size_of(file: &File) -> Option<u64> {
+    match file.metadata() {
+        Ok(metadata) => size_in(&metadata),
+        Err(_) => None,
     }
 }
 
@@ -241,6 +238,21 @@ pub enum OpenFile<'a> {
     Kept(KeptPipe),
 }
 
+impl<'a> OpenFile<'a> {
+    ghost use Rattle.std.specs.Prelude.{false};
+    ghost use Rattle.heavy_requests.specs.Inputs.{open_bytes};
+
+    /// Whether all of it could be read so far. What a pipe gave before it failed is not all of it.
+    pub fn is_whole(&self) -> bool
+        ensures part { result ≡ false → open_bytes self.now ≡ None }
+    {
+        match self {
+            OpenFile::Disk(_) => true,
+            OpenFile::Kept(pipe) => pipe.is_whole,
+        }
+    }
+}
+
 impl<'a> ReadAt for OpenFile<'a> {
     ghost use Rattle.heavy_requests.specs.Inputs.{open_bytes};
 
@@ -277,85 +289,21 @@ fn keep_pipe(alloc: Global, mut pipe: Reader<'_>) -> Result<KeptPipe, ToolError>
     Ok(KeptPipe { bytes, is_whole })
 }
 
-/// An input of records that are read twice.
+/// An input of records that is open.
 #[derive(Drop)]
-pub enum FileOrPipe<'a> {
-    File(DiskFile<'a>),
-    /// What is read once.
-    Pipe(Reader<'a>),
+pub struct OpenInput {
+    source: Source,
+    /// Its place among the command line's files, from 1 on, and 0 where it has none.
+    number: u64,
+    /// How many bytes it has, where it is a file of the disk that isn't empty.
+    size: Option<u64>,
 }
 
-/// Inputs of records that are read twice, all of which are open.
-#[derive(Drop)]
-pub struct OpenInputs<'a> {
-    layout: Layout,
-    inputs: Vec<FileOrPipe<'a>>,
-}
-
-impl<'a> OpenInputs<'a> {
-    /// Reads the pipes in their order, and keeps what they give. Inputs behind a pipe that can't be
-    /// read are left out: its fault comes before anything of them.
-    pub fn kept(self, alloc: Global) -> Result<OpenFiles<'a>, ToolError> {
-        let mut files = Vec::new(alloc);
-        for input in self.inputs {
-            let mut is_whole = true;
-            let file = match input {
-                FileOrPipe::File(file) => OpenFile::Disk(file),
-                FileOrPipe::Pipe(pipe) => {
-                    let kept = keep_pipe(alloc, pipe)?;
-                    is_whole = kept.is_whole;
-                    OpenFile::Kept(kept)
-                }
-            };
-            push_behind(&mut files, file)?;
-            if !is_whole {
-                break;
-            }
-        }
-        Ok(OpenFiles {
-            layout: self.layout,
-            files,
-        })
+impl OpenInput {
+    /// Whether it is a file of the disk that isn't empty, which can be read at any place.
+    pub fn has_size(&self) -> bool {
+        self.size.is_some()
     }
-}
-
-/// Files of the disk and kept pipes, which workers read.
-#[derive(Drop)]
-pub struct OpenFiles<'a> {
-    layout: Layout,
-    files: Vec<OpenFile<'a>>,
-}
-
-impl<'a> OpenFiles<'a> {
-    /// Gives their records to workers.
-    pub fn records(&self) -> SourceRecords<'_, OpenFile<'a>> {
-        SourceRecords {
-            layout: &self.layout,
-            sources: &self.files,
-        }
-    }
-
-    /// Notes the last record of each of these files, which workers have read, where it began with a
-    /// quote and is long.
-    pub fn look(&self, inputs: Inputs<'_>) {
-        for file in &self.files {
-            if let OpenFile::Disk(disk) = file {
-                let size = disk.last_record(inputs.rt.alloc(), self.layout.delimiter);
-                let seen = inputs.seen.get();
-                inputs.seen.set(seen.with_last(disk.number, size));
-            }
-        }
-    }
-}
-
-/// What is read where records are read once.
-#[derive(Drop)]
-pub enum Once<'a> {
-    /// Files of the disk that have a size, by workers; or none, where the number of these is
-    /// refused.
-    Files(OpenFiles<'a>),
-    /// All else, by one thread.
-    Stream(Records<Reader<'a>>),
 }
 
 /// How the inputs of a command are opened.
@@ -420,31 +368,64 @@ impl<'a> Inputs<'a> {
         }
     }
 
-    /// Makes a reader of `source` with its `number`, whose size is that of the file at `path`.
-    fn reader(self, source: Source, number: u64, path: &str) -> Reader<'a> {
-        let input = self.input(source, number);
-        Metered::new(self.rt, input, path, self.form, self.progress.is_some())
+    /// Opens the input `name` with its `number`. Standard input is empty where it `is_taken`.
+    pub fn open(self, name: &[u8], number: u64, is_taken: bool) -> Result<OpenInput, ToolError> {
+        let (source, size) = match (is_standard(name), is_taken) {
+            (true, true) => (Source::Nothing, None),
+            (true, false) => (Source::Standard(self.rt.stdin()), None),
+            (false, _) => {
+                let file = self.file(name, number)?;
+                let size = size_of(&file);
+                (Source::File(file), size)
+            }
+        };
+        Ok(OpenInput {
+            source,
+            number,
+            size,
+        })
     }
 
-    /// Makes a reader of standard input, or of nothing where `is_taken`.
-    fn standard(self, number: u64, is_taken: bool) -> Reader<'a> {
-        if is_taken {
-            self.reader(Source::Nothing, number, "/dev/null")
-        } else {
-            self.reader(Source::Standard(self.rt.stdin()), number, "/dev/stdin")
+    /// Makes a reader of an open `input`.
+    pub fn reader(self, input: OpenInput) -> Reader<'a> {
+        let size = match &input.source {
+            Source::Standard(_) => self.size_at("/dev/stdin"),
+            _ => input.size,
+        };
+        let inner = self.input(input.source, input.number);
+        Metered::new(self.rt, inner, size, self.form, self.progress.is_some())
+    }
+
+    /// Makes of an open `input` what is read at any place: a file of the disk is read as it is, and
+    /// all else is read to its end here, and kept.
+    pub fn source(self, input: OpenInput) -> Result<OpenFile<'a>, ToolError> {
+        let OpenInput {
+            source,
+            number,
+            size,
+        } = input;
+        match (source, size) {
+            (Source::File(file), Some(size)) => {
+                Ok(OpenFile::Disk(self.disk_file(file, size, number)))
+            }
+            (source, _) => {
+                let pipe = self.reader(OpenInput {
+                    source,
+                    number,
+                    size: None,
+                });
+                Ok(OpenFile::Kept(keep_pipe(self.rt.alloc(), pipe)?))
+            }
         }
     }
 
-    /// Reads the saved file `name`.
-    pub fn saved_file(self, name: &[u8]) -> Result<Vec<u8>, ToolError> {
-        read_file(&self, 1, name).map_err(fault_of)
-    }
-
-    /// Reads the saved file `first` and the `others`, in their order.
-    pub fn saved_files(self, first: &[u8], others: &[Vec<u8>]) -> Result<Vec<Vec<u8>>, ToolError>
-        ensures some { IfOk result (λ files. 0 < length files.items) }
-    {
-        read_files(&self, first, others).map_err(fault_of)
+    /// Notes the last record of a file that workers have read, where it began with a quote and is
+    /// long.
+    pub fn note_last(self, file: &OpenFile<'_>) {
+        if let OpenFile::Disk(disk) = file {
+            let size = disk.last_record(self.rt.alloc(), self.form.delimiter);
+            self.seen.set(self.seen.get().with_last(disk.number, size));
+        }
     }
 
     /// Opens the file `name` with its `number`.
@@ -476,14 +457,19 @@ impl<'a> Inputs<'a> {
         }
     }
 
+    /// How many bytes the file at `path` has, where it is one of the disk that isn't empty.
+    fn size_at(self, path: &str) -> Option<u64> {
+        match fs::metadata(self.rt, path) {
+            Ok(metadata) => size_in(&metadata),
+            Err(_) => None,
+        }
+    }
+
     /// Whether `name` is a file of the disk that isn't empty. A pipe isn't opened for it, since it
     /// can be opened once.
     fn has_size(self, name: &[u8]) -> bool {
-        let Ok(path) = str::from_utf8(name) else {
-            return false;
-        };
-        match fs::metadata(self.rt, path) {
-            Ok(metadata) => !is_standard(name) && metadata.is_file() && metadata.len() > 0,
+        match str::from_utf8(name) {
+            Ok(path) => !is_standard(name) && self.size_at(path).is_some(),
             Err(_) => false,
         }
     }
@@ -525,92 +511,6 @@ impl<'a> Inputs<'a> {
             self.look_at(name, number);
         }
     }
-
-    /// Opens all inputs with these `names`, which stand behind `saved` files. Standard input is
-    /// read where it is named first.
-    fn open_all<T: Opened<'a>>(self, names: &[Vec<u8>], saved: u64) -> Result<Vec<T>, ToolError> {
-        let mut inputs = Vec::new(self.rt.alloc());
-        let mut is_taken = false;
-        for (place, name) in names.iter().enumerate() {
-            let number = saved.saturating_add(place as u64).saturating_add(1);
-            push_behind(&mut inputs, T::open(self, name, number, is_taken)?)?;
-            is_taken = is_taken || is_standard(name);
-        }
-        Ok(inputs)
-    }
-
-    /// Reads the layout that `words` describe. Keys are hashed by words of this run, where the
-    /// system has random numbers for them, and else by those that all runs have.
-    fn layout(self, words: &RecordWords) -> Result<Layout, ToolError> {
-        let mut layout = layout_of(self.rt.alloc(), &words.layout)?;
-        if let Ok(hash) = KeyHash::random(self.rt) {
-            layout.hash = hash;
-        }
-        Ok(layout)
-    }
-
-    /// Opens the inputs that `words` name for a command that reads them twice: files, or else
-    /// standard input.
-    pub fn twice(self, words: &RecordWords) -> Result<OpenInputs<'a>, ToolError> {
-        let layout = self.layout(words)?;
-        let mut inputs = self.open_all(&words.files, 0)?;
-        if inputs.is_empty() {
-            push_behind(&mut inputs, FileOrPipe::Pipe(self.standard(0, false)))?;
-        }
-        Ok(OpenInputs { layout, inputs })
-    }
-
-    /// Opens the records that `words` name behind `saved` files: those of files, or else those of
-    /// standard input.
-    pub fn records(
-        self,
-        words: &RecordWords,
-        saved: u64,
-    ) -> Result<Records<Reader<'a>>, ToolError> {
-        let layout = self.layout(words)?;
-        let mut others: Vec<Reader<'a>> = self.open_all(&words.files, saved)?;
-        let first = if others.is_empty() {
-            self.standard(0, false)
-        } else {
-            others.remove(0)
-        };
-        Ok(Records {
-            layout,
-            first,
-            others,
-        })
-    }
-
-    /// Opens the files of the disk that `words` name behind `saved` files.
-    fn open_files(self, words: &RecordWords, saved: u64) -> Result<OpenFiles<'a>, ToolError> {
-        Ok(OpenFiles {
-            layout: self.layout(words)?,
-            files: self.open_all(&words.files, saved)?,
-        })
-    }
-
-    /// Opens the records of [`Inputs::records`] for a command that reads them once and has this
-    /// number of `workers`. They read files of the disk that aren't empty, and one thread reads all
-    /// else. Where the number is refused there are no files, so that nothing is read.
-    pub fn once(
-        self,
-        words: &RecordWords,
-        saved: u64,
-        workers: u64,
-    ) -> Result<Once<'a>, ToolError> {
-        if self.have_size(words) {
-            return Ok(Once::Files(self.open_files(words, saved)?));
-        }
-        let records = self.records(words, saved)?;
-        if 1 <= workers && workers <= MAX_WORKERS {
-            return Ok(Once::Stream(records));
-        }
-        let files = Vec::new(self.rt.alloc());
-        Ok(Once::Files(OpenFiles {
-            layout: records.layout,
-            files,
-        }))
-    }
 }
 
 /// The bytes by which a file is seen to be none that was saved.
@@ -651,82 +551,6 @@ impl<'a> FileSource for Inputs<'a> {
 
     fn memory(&self) -> Global {
         self.rt.alloc()
-    }
-}
-
-/// An input that is opened by its name and number.
-trait Opened<'a>: Drop {
-    /// Opens the input. One before it has taken standard input where `is_taken`.
-    fn open(
-        inputs: Inputs<'a>,
-        name: &[u8],
-        number: u64,
-        is_taken: bool,
-    ) -> Result<Self, ToolError>;
-}
-
-/// A reader of an input that is read once. `-` is standard input.
-impl<'a> Opened<'a> for Reader<'a> {
-    fn open(
-        inputs: Inputs<'a>,
-        name: &[u8],
-        number: u64,
-        is_taken: bool,
-    ) -> Result<Reader<'a>, ToolError> {
-        if is_standard(name) {
-            return Ok(inputs.standard(number, is_taken));
-        }
-        let file = inputs.file(name, number)?;
-        let path = str::from_utf8(name).unwrap_or("");
-        Ok(inputs.reader(Source::File(file), number, path))
-    }
-}
-
-/// An input that may be read twice: a file of the disk that isn't empty is read at any place, and
-/// all else as a pipe.
-impl<'a> Opened<'a> for FileOrPipe<'a> {
-    fn open(
-        inputs: Inputs<'a>,
-        name: &[u8],
-        number: u64,
-        is_taken: bool,
-    ) -> Result<FileOrPipe<'a>, ToolError> {
-        if is_standard(name) {
-            return Ok(FileOrPipe::Pipe(inputs.standard(number, is_taken)));
-        }
-        let file = inputs.file(name, number)?;
-        match file.metadata() {
-            Ok(metadata) if metadata.is_file() && metadata.len() > 0 => {
-                let size = metadata.len();
-                Ok(FileOrPipe::File(inputs.disk_file(file, size, number)))
-            }
-            _ => {
-                let path = str::from_utf8(name).unwrap_or("");
-                Ok(FileOrPipe::Pipe(inputs.reader(Source::File(file), number, path)))
-            }
-        }
-    }
-}
-
-/// A file of the disk.
-impl<'a> Opened<'a> for OpenFile<'a> {
-    fn open(
-        inputs: Inputs<'a>,
-        name: &[u8],
-        number: u64,
-        _: bool,
-    ) -> Result<OpenFile<'a>, ToolError> {
-        let file = inputs.file(name, number)?;
-        match file.metadata() {
-            Ok(metadata) => {
-                let file = inputs.disk_file(file, metadata.len(), number);
-                Ok(OpenFile::Disk(file))
-            }
-            Err(error) => {
-                inputs.unread.leave(number, &error);
-                Err(ToolError::FileFault { number })
-            }
-        }
     }
 }
 

@@ -12,7 +12,7 @@ mod told;
 mod unread;
 
 pub use explain::tells_more;
-pub use inputs::{Inputs, Once, shared_progress};
+pub use inputs::{Inputs, OpenFile, OpenInput, Reader, is_standard, shared_progress};
 pub use request::{Command, Invocation, RecordWords, Request, UsageError, read_request};
 pub use status::{status_after, status_of, status_told};
 pub use told::Told;

@@ -1,0 +1,101 @@
+//! What gives the bytes of files.
+
+ghost use Rattle.std.specs.Prelude.{◌≡◌, ℕ, Bool, List, None, Option, false, IfOk, IfSome};
+
+use heavy_host::FileSource;
+use heavy_requests::{Inputs, OpenFile, OpenInput, Reader};
+use hh_faults::ToolError;
+use hh_pieces::ReadAt;
+use hh_stream::KeyHash;
+use std::io::Read;
+
+/// What gives the bytes of the files that a command line names, and of standard input, whose name
+/// is `-`.
+pub trait Host: FileSource {
+    /// An input of records that is open.
+    type Input: Drop;
+    /// What reads an input once.
+    type Reader: Read + Drop;
+    /// What reads an input at any place, as often as is wanted.
+    type File: ReadAt + Sync + Drop;
+
+    // the bytes of an open input, where they are known
+    ghost text: { Self.Input → Option (List ℕ) };
+
+    // the input with this name is opened with these bytes, where they are known; standard input may
+    // have been taken by an input before
+    ghost opens: { Self → Bool → List ℕ → Option (List ℕ) → Type 0 };
+
+    /// Opens the input with this name. Its number is its place among the files of the command line,
+    /// from 1 on, and 0 where it has none. Standard input is empty where one before took it.
+    fn open(&self, name: &[u8], number: u64, is_taken: bool) -> Result<Self::Input, ToolError>
+        ensures opened { IfOk result (λ input. opens self.now is_taken name.now (text input)) };
+
+    /// Whether an open input can be read at any place as it is.
+    fn has_size(&self, input: &Self::Input) -> bool;
+
+    /// What reads an open input once.
+    fn reader(&self, input: Self::Input) -> Self::Reader
+        ensures text { Self.Reader.remaining result ≡ text input };
+
+    /// What reads an open input at any place. Of one that can be read once the bytes are read and
+    /// kept here.
+    fn source(&self, input: Self::Input) -> Result<Self::File, ToolError>
+        ensures text { IfOk result (λ file. IfSome (text input) (λ bytes.
+            IfSome (Self.File.bytes file) (λ known. known ≡ bytes))) };
+
+    /// Whether all of an input could be read so far.
+    fn is_whole(&self, file: &Self::File) -> bool
+        ensures part { result ≡ false → Self.File.bytes file.now ≡ None };
+
+    /// Notes how a file ends that workers have read, for what is printed of it.
+    fn note_last(&self, file: &Self::File);
+
+    /// How keys are hashed in this run.
+    fn hash(&self) -> KeyHash;
+}
+
+/// The machine that the program runs on. No contract knows the bytes of its files.
+impl<'a> Host for Inputs<'a> {
+    type Input = OpenInput;
+
+    type Reader = Reader<'a>;
+
+    type File = OpenFile<'a>;
+
+    ghost use Rattle.std.specs.Prelude.{⊤};
+
+    ghost text = { λ _. None };
+
+    ghost opens = { λ _ _ _ _. ⊤ };
+
+    fn open(&self, name: &[u8], number: u64, is_taken: bool) -> Result<OpenInput, ToolError> {
+        Inputs::open(*self, name, number, is_taken)
+    }
+
+    fn has_size(&self, input: &OpenInput) -> bool {
+        input.has_size()
+    }
+
+    fn reader(&self, input: OpenInput) -> Reader<'a> {
+        Inputs::reader(*self, input)
+    }
+
+    fn source(&self, input: OpenInput) -> Result<OpenFile<'a>, ToolError> {
+        Inputs::source(*self, input)
+    }
+
+    fn is_whole(&self, file: &OpenFile<'a>) -> bool {
+        file.is_whole()
+    }
+
+    fn note_last(&self, file: &OpenFile<'a>) {
+        Inputs::note_last(*self, file);
+    }
+
+    /// Words of this run, where the system has random numbers for them, and else those that all
+    /// runs have.
+    fn hash(&self) -> KeyHash {
+        KeyHash::random(self.rt).unwrap_or(KeyHash::fixed())
+    }
+}

@@ -1,0 +1,10 @@
+//! What answers a request of the command line: the calls of the libraries that it stands for, with
+//! the bytes of the files that it names, in their order.
+#![tactic(auto)]
+
+mod answering;
+mod host;
+mod opening;
+
+pub use answering::answer;
+pub use host::Host;
