@@ -890,7 +890,7 @@ class CommandLine(programs.Checks):
                 status, _, err = self.heavy(words, given)
                 wanted = f"heavy: note: the last record of {name} {note}".encode() if note else b""
                 self.check(f"the last record of text {number} of seed {seed}, {words[0]}", (status, err) == (0, wanted), (status, err, wanted))
-        self.check("some last records are reported", 5 < reported < 35, reported)
+        self.check("some last records are reported", 0 < reported < 40, reported)
 
     def test_more_about_words(self) -> None:
         """A k where the summary has one of its own, and help of `help`."""
@@ -963,6 +963,9 @@ class CommandLine(programs.Checks):
             self.names([*words, "day", "missing"], "missing: No such file or directory", 1)
             self.names([*words, b"\xff"], "\\xff: its name isn't UTF-8", 1)
         self.tells(["list", "--decimals", "2", "missing"], "missing: No such file or directory", 1)
+        ended = programs.run(["sh", "-c", '"$@" < /', "", self.program, "report", "-"], cwd=self.room)
+        said = b"heavy: file 1: could not be read\n  standard input: Is a directory\n"
+        self.check("standard input that is a folder", (ended.status, ended.out, ended.err) == (1, b"", said), ended)
 
     def test_reasons_that_are_gone(self) -> None:
         """What was in the way of a file when it was tried is told, though it is gone by then; and a pipe that is refused isn't

@@ -536,7 +536,10 @@ pub fn tell_more(
     unread: &Unread,
 ) {
     match fault {
-        ToolError::FileFault { number } => tell_unread(rt, name_of(asked, *number), unread),
+        ToolError::FileFault { number } => {
+            let Name(name) = input_name(asked, *number);
+            tell_unread(rt, name, unread);
+        }
         ToolError::BadFile { number, .. } => tell_looks(rt, name_of(asked, *number)),
         ToolError::MixedKinds { number } | ToolError::CannotMerge { number, .. } => {
             let _ = eprintln!(rt; "  {}", Name(name_of(asked, *number)));

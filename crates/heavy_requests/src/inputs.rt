@@ -122,10 +122,13 @@ pub struct DiskFile<'a> {
 }
 
 impl<'a> DiskFile<'a> {
-    /// Counts `bytes`, which were read at `at`, and leaves where their last quote ends.
+    /// Counts `bytes`, which were read at `at`, and notes where their last quote ends.
     fn see(&self, bytes: &[u8], at: u64) {
         if let Some(progress) = self.progress {
             progress.add(bytes.len() as u64);
+        }
+        if !bytes.contains(&b'"') {
+            return;
         }
         if let Some(quote) = bytes.iter().rposition(|byte| *byte == b'"') {
             let end = at.saturating_add(quote as u64).saturating_add(1);
