@@ -53,7 +53,7 @@ fn summarised<T: Threads + Wait + Sync, H: Host>(
     let method = Method::of(method)?;
     if workers == 1 {
         let records = open_records(host, words, 0)?;
-        return summary_bytes_from(host.memory(), k, method, records);
+        return Ok(summary_bytes_from(host.memory(), k, method, records)?);
     }
     match open_once(host, words, 0, workers)? {
         OnePass::Files(files) => {
@@ -61,7 +61,7 @@ fn summarised<T: Threads + Wait + Sync, H: Host>(
             files.note_last(host);
             Ok(bytes)
         }
-        OnePass::Stream(records) => summary_bytes_from(host.memory(), k, method, records),
+        OnePass::Stream(records) => { Ok(summary_bytes_from(host.memory(), k, method, records)?) }
     }
 }
 
@@ -86,7 +86,7 @@ fn tabulated<T: Threads + Wait + Sync, H: Host>(
             files.note_last(host);
             Ok(bytes)
         }
-        OnePass::Stream(records) => table_bytes_from(alloc, width, depth, seed, records),
+        OnePass::Stream(records) => { Ok(table_bytes_from(alloc, width, depth, seed, records)?) }
     }
 }
 
@@ -112,7 +112,7 @@ fn condensed<T: Threads + Wait + Sync, H: Host>(
             files.note_last(host);
             Ok(bytes)
         }
-        OnePass::Stream(records) => condense_bytes_from(alloc, &file, records, compared),
+        OnePass::Stream(records) => { Ok(condense_bytes_from(alloc, &file, records, compared)?) }
     }
 }
 
@@ -142,7 +142,9 @@ fn confirmed<T: Threads + Wait + Sync, H: Host>(
             files.note_last(host);
             Ok(bytes)
         }
-        OnePass::Stream(records) => confirm_rows(alloc, &file, share, rows, records, compared),
+        OnePass::Stream(records) => {
+            Ok(confirm_rows(alloc, &file, share, rows, records, compared)?)
+        }
     }
 }
 
@@ -215,7 +217,7 @@ fn report<T: Threads + Wait + Sync, H: Host, S: Sink>(
     let alloc = host.memory();
     if by_plan {
         let records = open_records(host, words, 0)?;
-        return report_rows(threads, alloc, options, rows, records, sink);
+        return Ok(report_rows(threads, alloc, options, rows, records, sink)?);
     }
     let opened = open(host, words, 0)?;
     check_options(options)?;

@@ -175,7 +175,7 @@ pub(crate) fn open_records<H: Host>(
         records.layout (records_known H.Reader.remaining records)) }
 {
     let Opened { layout, inputs } = open(host, words, saved)?;
-    records_of(host, layout, inputs)
+    Ok(records_of(host, layout, inputs)?)
 }
 
 /// The records of inputs that are open, for several readings.
