@@ -1,5 +1,5 @@
 -- Inputs that are opened in their order, and what is known of their bytes.
-use Rattle.std.proofs.Common.{◌≡◌, ◌∙◌, refl, ℕ, ◌+◌, ◌<◌, ◌||◌, Bool, true, false, List, [], ◌∷◌, ◌++◌, Option, Some, None, IfSome, map, option_map, option_and_then, take, drop, length, slice_index_or, sym, ap, subst, arith}
+use Rattle.std.proofs.Common.{◌≡◌, ◌∙◌, refl, ℕ, ◌+◌, ◌<◌, ◌||◌, Bool, false, List, [], ◌∷◌, ◌++◌, Option, Some, None, IfSome, map, option_map, option_and_then, take, drop, length, slice_index_or, sym, ap, subst, arith}
 use Rattle.std.specs.Prelude.{⊤}
 use Rattle.std.proofs.lemmas.List.{append_assoc, take_more, map-append}
 use Rattle.hh_records.specs.Layouts.{every, stream_with, texts_known}

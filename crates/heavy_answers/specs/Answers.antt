@@ -1,7 +1,6 @@
 -- What answers a request, by the bytes that are given of the files that it names.
 use Rattle.std.specs.Io.KnownBytes.{Appends}
 use Rattle.std.specs.Prelude.{ℕ, ◌≡◌, ◌⊎◌, Bool, true, false, List, ◌∷◌, Option, Some, Ok, map}
-use Rattle.hh_stream.specs.Weights.{Entry}
 use Rattle.hh_summaries.specs.Counters.{sketch_of}
 use Rattle.hh_countmin.specs.Family.{drawn_family}
 use Rattle.hh_countmin.specs.Table.{table_of}
@@ -118,7 +117,7 @@ AnswersRequest gives opens (Report options rows by_plan) words refuses outside o
 AnswersRequest gives opens (Answer command) words refuses outside old new =
     (bytes : List ℕ) × MakesBytes gives opens command words refuses outside bytes × Appends old new bytes
 
--- the same of what was asked for on the command line
+-- what was asked for on the command line was answered so
 abbrev pub IsAnswered : (List ℕ → Option (List ℕ) → Type 0) → (Bool → List ℕ → Option (List ℕ) → Type 0) → Invocation
     → Bool → Option Outside → Option (List ℕ) → Option (List ℕ) → Type 0
 IsAnswered gives opens asked refuses outside old new = AnswersRequest gives opens asked.request asked.records refuses outside old new

@@ -1,5 +1,5 @@
 -- The inputs of records that a request names.
-use Rattle.std.specs.Prelude.{ℕ, ◌≡◌, ◌||◌, Bool, true, false, ⊤, List, [], ◌∷◌, Option, Some, None, IfSome, map, option_map}
+use Rattle.std.specs.Prelude.{ℕ, ◌≡◌, ◌||◌, Bool, true, false, ⊤, List, [], ◌∷◌, Option, IfSome, map}
 use Rattle.hh_stream.specs.Ranges.{in_range}
 use Rattle.hh_workers.specs.Workers.{max_workers}
 use Rattle.hh_records.specs.Layouts.{every, names_columns, records_known, stream_with, texts_known}

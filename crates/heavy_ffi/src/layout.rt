@@ -29,7 +29,7 @@ const BAD_LAYOUT: u32 = 26;
 /// The most digits that a weight may have behind its point.
 const MAX_DECIMALS: u8 = 9;
 
-/// How it is told that a layout has other numbers than it may have beside `count` columns.
+/// The fault of a layout that has other numbers than it may have beside `count` columns.
 pub(crate) fn layout_fault(layout: &TextLayout, count: usize) -> Option<Fault>
     ensures { result ≡ layout_fault layout.now count }
 {

@@ -1,4 +1,4 @@
-use Rattle.std.proofs.Common.{◌≡◌, ◌∙◌, ◌<◌, ◌∷◌, ◌++◌, [], length, map, sym, ap, subst, append-nil, arith}
+use Rattle.std.proofs.Common.{◌∙◌, ◌∷◌, ◌++◌, length, map, sym, ap, append-nil, arith}
 use Rattle.std.specs.Vec.Iter.{into_iter_items}
 use Rattle.heavy_answers.proofs.InputLemmas.{agree_same, first_and_rest, mapped_some, nothing_left, so_far_more}
 use Rattle.heavy_answers.proofs.opening.records_of.Goals as goal

@@ -1,4 +1,4 @@
-use Rattle.std.proofs.Common.{◌≡◌, ◌∙◌, ◌∷◌, ◌++◌, [], length, map, refl, sym, ap, subst, append_assoc, append-nil, arith}
+use Rattle.std.proofs.Common.{◌∙◌, ◌∷◌, ◌++◌, [], length, map, refl, sym, ap, subst, append_assoc, append-nil, arith}
 use Rattle.std.specs.Vec.Iter.{into_iter_items}
 use Rattle.hh_records.specs.Layouts.{every}
 use Rattle.heavy_answers.proofs.InputLemmas.{Alike, agree_none, alike_agree, alike_more, every_none, nothing_left}
