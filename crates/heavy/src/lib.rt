@@ -15,10 +15,10 @@ pub use hh_faults::{
 };
 pub use hh_files::{condense_files, confirm_files, report_files, summarise_files, table_files};
 pub use hh_library::{
-    ConfirmFault, add_items, add_text, ask_bytes, ask_key, ask_keys, condense_bytes,
-    condense_bytes_with_hasher, condense_items, confirm, confirm_above, confirm_bytes,
-    confirm_bytes_with_hasher, confirm_items, confirm_share, empty_summary, empty_table,
-    list_entries, list_keys, summary_bytes, summary_bytes_with_hasher, table_bytes,
+    ConfirmFault, TextRecords, add_items, add_records, add_text, ask_bytes, ask_key, ask_keys,
+    condense_bounded, condense_bytes, condense_items, confirm, confirm_above, confirm_bounded,
+    confirm_bytes, confirm_items, confirm_share, empty_summary, empty_table, hash_of, list_entries,
+    list_keys, report_bytes, summary_bytes, table_bytes,
 };
 pub use hh_pieces::{ReadAt, SourceRecords};
 pub use hh_pool::MAX_WORKERS;

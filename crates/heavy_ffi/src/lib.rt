@@ -52,9 +52,9 @@ use hh_counters::laws::summaries_follow_items;
 use hh_countmin::laws::drawn_families_are_families;
 use hh_faults::{SavedFault, ToolError};
 use hh_library::{
-    add_items, add_text, ask_key, ask_keys, condense_bytes_with_hasher, condense_items,
-    confirm_bytes_with_hasher, confirm_items, confirm_share, empty_summary, empty_table,
-    list_entries, list_keys, summary_bytes_with_hasher, table_bytes,
+    add_items, add_text, ask_key, ask_keys, condense_bytes, condense_items, confirm_bytes,
+    confirm_items, confirm_share, empty_summary, empty_table, list_entries, list_keys,
+    summary_bytes, table_bytes,
 };
 use hh_pieces::whole_records;
 use hh_saved::laws::sizes_are_bounded;
@@ -84,7 +84,7 @@ fn summary_by(alloc: Global, text: &[u8], k: u64, method: u32) -> Result<Vec<u8>
         2 => Method::SpaceSaving,
         _ => return Err(ToolError::BadMethod),
     };
-    summary_bytes_with_hasher(alloc, k, method, text, KeyHash::fixed())
+    summary_bytes(alloc, k, method, text)
 }
 
 /// Gives the saved summary of a text's records with k counters, by method 1, Misra-Gries, or 2,
@@ -372,7 +372,7 @@ pub extern "C" fn heavy_confirm(
     ensures early { TellsHead file.now result fault.new }
     ensures no_bytes { result ≢ 0 → result ≢ 5 → needed.new ≡ 0 }
 {
-    let bytes = confirm_bytes_with_hasher(alloc, file, text, KeyHash::fixed());
+    let bytes = confirm_bytes(alloc, file, text);
     answer(bytes, out, needed, fault)
 }
 
@@ -419,7 +419,7 @@ pub extern "C" fn heavy_condense(
     ensures early { TellsHead file.now result fault.new }
     ensures no_bytes { result ≢ 0 → result ≢ 5 → needed.new ≡ 0 }
 {
-    let bytes = condense_bytes_with_hasher(alloc, file, text, KeyHash::fixed());
+    let bytes = condense_bytes(alloc, file, text);
     answer(bytes, out, needed, fault)
 }
 

@@ -1,6 +1,6 @@
 -- What is known of the records of one text in a layout.
 use Rattle.std.proofs.Common.{◌≡◌, ◌∙◌, ◌∷◌, [], ℕ, List, Ok, Option, Some, refl, sym}
-use Rattle.hh_records.specs.Layouts.{every, names_columns, stream_with, texts_known}
+use Rattle.hh_records.specs.Layouts.{every, texts_known}
 use Rattle.hh_stream.specs.Weights.{Entry}
 use Rattle.hh_records.specs.Streams.{Reading}
 use Rattle.hh_records.specs.declared.layout.Layout.{Layout}

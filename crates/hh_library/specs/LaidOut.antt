@@ -1,5 +1,5 @@
 -- The records of a text whose keys and weights stand in columns of one's own.
-use Rattle.std.specs.Prelude.{◌≡◌, ◌⊎◌, not, ℕ, false, true, List, [], ◌∷◌, Option, Some, None, Result, Ok, Err, ⊤, if◌then◌else◌}
+use Rattle.std.specs.Prelude.{◌≡◌, ◌⊎◌, not, ℕ, false, true, List, [], ◌∷◌, Option, Some, None, Ok, if◌then◌else◌}
 use Rattle.hh_stream.specs.Ranges.{in_range}
 use Rattle.hh_stream.specs.Weights.{Entry, total_of}
 use Rattle.hh_summaries.specs.Counters.{SummaryView, max_k}
@@ -13,9 +13,8 @@ use Rattle.hh_commands.specs.Bounds.{AreWithin}
 use Rattle.hh_commands.specs.declared.compared.Bounds.TheVariants as bounds
 use Rattle.hh_commands.specs.Condense.{CondensePartRefused, CondensesRows}
 use Rattle.hh_commands.specs.Confirm.{CompareAboveRefused, confirmed_above}
-use Rattle.hh_commands.specs.Files.{HoldsSummary, RefusedFrom, Refuses, file_of, ◌>>=◌}
+use Rattle.hh_commands.specs.Files.{HoldsSummary, RefusedFrom, Refuses, file_of}
 use Rattle.hh_records.specs.Refusals.{RecordsRefused}
-use Rattle.hh_saved.specs.declared.saved.Saved.{Saved}
 use Rattle.hh_library.specs.Add.{GoesOn, IsAdded, TableGoesOn, added}
 use Rattle.hh_library.specs.CountItems.{share_or_least}
 use Rattle.hh_faults.specs.declared.error.ToolError.{ToolError}

@@ -3,10 +3,10 @@ use Rattle.heavy_ffi.proofs.heavy_confirm.Goals as goal
 
 pub returns-clause-outcome : goal.returns-clause-outcome
 returns-clause-outcome c =
-    outcome_of _ _ c.confirm_bytes_with_hasher-bytes.result c.confirm_bytes_with_hasher-bytes.ensures.rows c.confirm_bytes_with_hasher-bytes.ensures.refused
+    outcome_of _ _ c.confirm_bytes-bytes.result c.confirm_bytes-bytes.ensures.rows c.confirm_bytes-bytes.ensures.refused
     c.answer.ensures.outcome
 
 pub returns-clause-early : goal.returns-clause-early
 returns-clause-early c =
-    told_early c.args.file.now c.confirm_bytes_with_hasher-bytes.result c.confirm_bytes_with_hasher-bytes.ensures.early
+    told_early c.args.file.now c.confirm_bytes-bytes.result c.confirm_bytes-bytes.ensures.early
     c.answer.ensures.size c.answer.ensures.outcome

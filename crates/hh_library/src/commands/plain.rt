@@ -25,7 +25,6 @@ use hh_commands::{
 use hh_faults::ToolError;
 use hh_records::Records;
 use hh_rows::{RowOptions, Share, report_text};
-use hh_stream::KeyHash;
 use std::alloc::Global;
 use std::io::Read;
 
@@ -43,25 +42,7 @@ pub fn summary_bytes<R: Read + Drop>(
         RefusedAfter (bad_k k) (text_known (R.remaining reader)) fault) }
     ensures bad_k { IfSome (bad_k k) (λ fault. result ≡ Err fault) }
 {
-    summary_bytes_with_hasher(alloc, k, method, reader, KeyHash::fixed())
-}
-
-/// [`summary_bytes`], with keys hashed by `hash`. It decides how fast a key is found, and no byte.
-pub fn summary_bytes_with_hasher<R: Read + Drop>(
-    alloc: Global,
-    k: u64,
-    method: Method,
-    reader: R,
-    hash: KeyHash,
-) -> Result<Vec<u8>, ToolError>
-    ensures saved { IfOk result (λ bytes. SavesStream (λ xs. Counters (sketch_of k xs))
-        (text_known (R.remaining reader)) bytes.items) }
-    ensures refused { IfErr result (λ fault.
-        RefusedAfter (bad_k k) (text_known (R.remaining reader)) fault) }
-    ensures bad_k { IfSome (bad_k k) (λ fault. result ≡ Err fault) }
-{
-    let records = Records::with_hasher(alloc, reader, hash);
-    summary_bytes_from(alloc, k, method, records)
+    summary_bytes_from(alloc, k, method, Records::of_reader(alloc, reader))
 }
 
 /// [`table_bytes_from`](hh_commands::table_bytes_from) of the records of a reader.
@@ -114,23 +95,7 @@ pub fn condense_bytes<R: Read + Drop>(
         CondenseRefused file.now (text_known (R.remaining reader)) fault) }
     ensures early { StopsAtHead 1 file.now result }
 {
-    condense_bytes_with_hasher(alloc, file, reader, KeyHash::fixed())
-}
-
-/// [`condense_bytes`], with keys hashed by `hash`. It decides how fast a key is found, and no byte.
-pub fn condense_bytes_with_hasher<R: Read + Drop>(
-    alloc: Global,
-    file: &[u8],
-    reader: R,
-    hash: KeyHash,
-) -> Result<Vec<u8>, ToolError>
-    ensures rows { IfOk result (λ rows.
-        CondensesRows 0 file.now (text_known (R.remaining reader)) rows.items) }
-    ensures refused { IfErr result (λ fault.
-        CondenseRefused file.now (text_known (R.remaining reader)) fault) }
-    ensures early { StopsAtHead 1 file.now result }
-{
-    let records = Records::with_hasher(alloc, reader, hash);
+    let records = Records::of_reader(alloc, reader);
     condense_bytes_from(alloc, file, records, &mut Comparison::new(false))
 }
 
@@ -148,25 +113,9 @@ pub fn confirm_bytes<R: Read + Drop>(
         ConfirmRefused file.now (text_known (R.remaining reader)) fault) }
     ensures early { StopsAtHead 1 file.now result }
 {
-    confirm_bytes_with_hasher(alloc, file, reader, KeyHash::fixed())
-}
-
-/// [`confirm_bytes`], with keys hashed by `hash`. It decides how fast a key is found, and no byte.
-pub fn confirm_bytes_with_hasher<R: Read + Drop>(
-    alloc: Global,
-    file: &[u8],
-    reader: R,
-    hash: KeyHash,
-) -> Result<Vec<u8>, ToolError>
-    ensures rows { IfOk result (λ rows.
-        ConfirmsRows file.now (text_known (R.remaining reader)) rows.items) }
-    ensures refused { IfErr result (λ fault.
-        ConfirmRefused file.now (text_known (R.remaining reader)) fault) }
-    ensures early { StopsAtHead 1 file.now result }
-{
     let summary = summary_in(alloc, file)?;
     let q = summary.k() + 1;
-    let records = Records::with_hasher(alloc, reader, hash);
+    let records = Records::of_reader(alloc, reader);
     let rows = confirm_records(alloc, &summary, 1, q, records)?;
     Ok(report_text(alloc, &rows)?)
 }

@@ -5,23 +5,23 @@ use Rattle.hh_commands.specs.declared.compared.Comparison.{Comparison}
 use Rattle.hh_records.specs.Layouts.{records_known}
 use Rattle.hh_records.specs.Streams.{text_known}
 use Rattle.hh_library.proofs.UnaskedFacts.{condense_unasked}
-use Rattle.hh_library.proofs.commands.plain.condense_bytes_with_hasher.Goals as goal
+use Rattle.hh_library.proofs.commands.plain.condense_bytes.Goals as goal
 
 pub returns-clause-rows : goal.returns-clause-rows
 returns-clause-rows g c =
     subst (λ d. IfOk c.condense_bytes_from.result (λ rows. CondensesRows d c.args.file.now
     (text_known (g.R.Read.remaining c.args.reader)) rows.items))
-    c.with_hasher-records.ensures.whole
+    c.of_reader-records.ensures.whole
     (subst (λ known. IfOk c.condense_bytes_from.result
-    (λ rows. CondensesRows c.with_hasher-records.result.layout.decimals c.args.file.now known rows.items))
-    c.with_hasher-records.ensures.known c.condense_bytes_from.ensures.rows)
+    (λ rows. CondensesRows c.of_reader-records.result.layout.decimals c.args.file.now known rows.items))
+    c.of_reader-records.ensures.known c.condense_bytes_from.ensures.rows)
 
 pub returns-clause-refused : goal.returns-clause-refused
 returns-clause-refused g c =
     let file = c.args.file.now in
     let result = c.condense_bytes_from.result in
-    let here = records_known g.R.Read.remaining c.with_hasher-records.result in
+    let here = records_known g.R.Read.remaining c.of_reader-records.result in
     let asked : c.new.result.refuses ≡ false = ap (λ (n : Comparison). n.refuses) c.new.ensures in
     condense_unasked file (text_known (g.R.Read.remaining c.args.reader)) result
-    (subst (λ known. IfErr result (CondensePartRefused false file known)) c.with_hasher-records.ensures.known
+    (subst (λ known. IfErr result (CondensePartRefused false file known)) c.of_reader-records.ensures.known
     (subst (λ refuses. IfErr result (CondensePartRefused refuses file here)) asked c.condense_bytes_from.ensures.refused))
