@@ -52,7 +52,7 @@ class Pages(unittest.TestCase):
             for name in names if has(*wanted) else ():
                 for example in finder.find(getattr(module, name), name, module=False, globs={**vars(heavy), **vars(module)}):
                     runner.run(example)
-        self.assertEqual((runner.failures, runner.tries > 60), (0, True))
+        self.assertEqual((runner.failures, runner.tries > 40), (0, True))
 
     def test_names(self) -> None:
         """The module has the names that it lists, each of them with a docstring, and the version of the header."""
