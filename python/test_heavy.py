@@ -1083,14 +1083,36 @@ class Arrays(unittest.TestCase):
         """A column of pandas whose texts are pyarrow's is handed over by Arrow's interface."""
 
         class Column:
+            """A column of texts that are pyarrow's."""
+
             __module__ = "pandas.core.series"
             dtype = types.SimpleNamespace(storage="pyarrow")
-            array = types.SimpleNamespace(__arrow_array__=lambda: ArrowStream(Arrow(b"U", 2, None, packed("q", 0, 2, 3), b"abc")))
+
+            def __arrow_array__(self) -> object:
+                return ArrowStream(Arrow(b"U", 2, None, packed("q", 0, 2, 3), b"abc"))
 
             def __iter__(self) -> object:
                 raise AssertionError("it is not iterated")
 
-        self.assertEqual(self.given(Column(), [5, 3]), [(b"ab", 5), (b"c", 3)])
+        class Within(Column):
+            __module__ = "pandas.core.series"
+            dtype = types.SimpleNamespace(pyarrow_dtype="string")
+            array, __arrow_array__ = Column(), None
+
+        class Other(Column):
+            """A column that isn't pyarrow's, which gives an Arrow interface only where pyarrow is there."""
+
+            __module__ = "pandas.core.series"
+            dtype = types.SimpleNamespace(storage="python")
+
+            def __arrow_c_stream__(self) -> object:
+                raise ImportError("pyarrow is not here")
+
+            def __iter__(self) -> object:
+                return iter(["ab", "c"])
+
+        for column in (Column(), Within(), Other()):
+            self.assertEqual(self.given(column, [5, 3]), [(b"ab", 5), (b"c", 3)])
 
     def test_refused_arrow(self) -> None:
         texts = packed("i", 0, 1, 2, 3), b"abc"
@@ -1100,7 +1122,7 @@ class Arrays(unittest.TestCase):
         self.assertEqual(self.given(Arrow(b"u", 2, b"\x06", *texts, offset=1, nulls=-1)), [(b"b", 1), (b"c", 1)])
         self.refused(ValueError, r"^keys\[1\]: .* not 0$", Arrow(b"u", 3, None, packed("i", 0, 1, 1, 2), b"ab"))
         self.refused(ValueError, r"^keys\[0\]: .* not 4097$", Arrow(b"u", 1, None, packed("i", 0, 4097), b"x" * 4097))
-        self.refused(TypeError, "Arrow's 'l'", Arrow(b"l", 1, None, packed("q", 1)))
+        self.refused(TypeError, "Arrow's 'l'; of numbers give their texts$", Arrow(b"l", 1, None, packed("q", 1)))
         self.refused(TypeError, "Arrow's 'g'", ["a"], Arrow(b"g", 1, None, b"\0" * 8))
         self.refused(TypeError, r"^weights\[0\]: .*null", ["a"], Arrow(b"l", 1, b"\0", packed("q", 1), nulls=1))
         self.refused(ValueError, r"^weights\[1\]: .* not -1$", ["a", "b"], Arrow(b"l", 2, None, packed("q", 1, -1)))

@@ -240,7 +240,8 @@ class _Arrow(NamedTuple):
     def columns(self) -> Columns:
         """Its texts, or bytes."""
         if self.format not in _ARROW_OFFSETS:
-            raise TypeError(f"keys must be texts or bytes, not Arrow's {self.format.decode()!r}")
+            advice = "; of numbers give their texts" if self.format in _ARROW_INTEGERS or self.format in b"efg" else ""
+            raise TypeError(f"keys must be texts or bytes, not Arrow's {self.format.decode()!r}{advice}")
         null = self.first_null()
         if null is not None:
             raise TypeError(f"keys[{null}]: a key must be bytes or str, not null")
@@ -265,11 +266,17 @@ class _Arrow(NamedTuple):
         return self.numbers(1, _ARROW_INTEGERS[self.format], self.array.length)
 
 
+def _is_pandas(given: Any) -> bool:
+    return type(given).__module__.split(".")[0] == "pandas"
+
+
 def _arrow_of(given: Any) -> Any:
-    """What a column of pandas holds whose texts are pyarrow's; all else as it is."""
-    if type(given).__module__.split(".")[0] == "pandas" and getattr(getattr(given, "dtype", None), "storage", "") == "pyarrow":
-        return given.array.__arrow_array__()
-    return given
+    """What a column of pandas holds where that is pyarrow's, and else None; what is no column of pandas as it is."""
+    if not _is_pandas(given):
+        return given
+    kind = getattr(given, "dtype", None)
+    is_arrow = getattr(kind, "storage", "") == "pyarrow" or hasattr(kind, "pyarrow_dtype")
+    return getattr(given, "array", given).__arrow_array__() if is_arrow else None
 
 
 _Taken = TypeVar("_Taken")
@@ -326,7 +333,7 @@ def _joined_columns(parts: list[Columns]) -> Columns:
 
 def _array_of(given: Any) -> Any:
     """The numpy array that this is, or that a pandas Series has; else None."""
-    if type(given).__module__.split(".")[0] == "pandas" and hasattr(given, "to_numpy"):
+    if _is_pandas(given) and hasattr(given, "to_numpy"):
         given = given.to_numpy()
     return given if type(given).__module__ == "numpy" and getattr(given, "ndim", 0) == 1 else None
 
@@ -466,7 +473,7 @@ def _coded(keys: Any, room: int) -> tuple[Any, Columns] | None:
         coded = (given.combine_chunks() if hasattr(given, "combine_chunks") else given).dictionary_encode()
         return coded.indices.to_numpy(zero_copy_only=False), columns_of(coded.dictionary)
     pandas: Any = sys.modules.get("pandas")
-    texts = _array_of(keys) if pandas and type(keys).__module__.split(".")[0] == "pandas" else None
+    texts = _array_of(keys) if pandas and _is_pandas(keys) else None
     if texts is None or texts.dtype.kind != "O" or len(set(texts[:20_000].tolist())) > room:
         return None
     codes, different = pandas.factorize(texts)
