@@ -758,6 +758,23 @@ class Collections(unittest.TestCase):
                     key if number != 8 else key.encode(): weight for key, weight in self.exact.items()
                 })
 
+    def test_layouts(self) -> None:
+        """Parts that are records have a layout, and a refusal names its part."""
+        one, layout = self.dask.delayed(loaded), heavy.Layout(delimiter=";", header=True, decimals=1)
+        with tempfile.TemporaryDirectory() as room:
+            path = Path(room, "part")
+            path.write_bytes(b"h;w\na;1\n")
+            # of 4.5 in all a has 2.5
+            parts = [one(b"h;w\na;1.5\nb;2\n"), one(path)]
+            self.assertEqual(heavy.dask.report(parts, k=1, layout=layout), [(b"a", Decimal("2.5"))])
+            self.assertEqual(heavy.dask.report_csv(parts, k=1, layout=layout), b"a,2.5\n")
+            self.assertEqual(heavy.dask.summary(parts, k=1, layout=layout).total, 45)
+            path.write_bytes(b"h;w\na;1\nb;0\n")
+            for given, named in (([*parts], path), ([parts[0], one(path.read_bytes())], 1)):
+                with self.assertRaisesRegex(heavy.HeavyError, "^record 2: zero weight$") as caught:
+                    heavy.dask.report(given, layout=layout)
+                self.assertEqual((caught.exception.part, pickle.loads(pickle.dumps(caught.exception)).part), (named, named))
+
     def test_counts(self) -> None:
         keys = [key for key, _ in self.items]
         counted = collections.Counter(keys)
