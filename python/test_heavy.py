@@ -1096,6 +1096,25 @@ class Arrays(unittest.TestCase):
             self.refused((ValueError, TypeError), "stream of Arrow could not be read|Arrow's 'l'", failing)
             self.assertEqual(failing.held, 0)
 
+    def test_other_texts_of_arrow(self) -> None:
+        """Views of texts, and texts with a dictionary, are taken value by value, as their library gives them."""
+
+        class Views(ArrowStream):
+            def __iter__(self) -> object:
+                return iter(["ab", "c", "ab"])
+
+        class Values(Arrow):
+            def to_pylist(self) -> list[str]:
+                return ["ab", "c", "ab"]
+
+            def __iter__(self) -> object:
+                raise AssertionError("it is not iterated")
+
+        views = Views(Arrow(b"vu", 3, None))
+        for given in (views, Values(b"vz", 3, None)):
+            self.assertEqual(self.given(given, [5, 3, 2]), [(b"ab", 7), (b"c", 3)])
+        self.assertEqual(views.held, 0)
+
     def test_column_of_arrow(self) -> None:
         """A column of pandas whose texts are pyarrow's is handed over by Arrow's interface."""
 

@@ -198,6 +198,8 @@ class _ArrowStream(ctypes.Structure):
 # what Arrow's letters for integers are in the module `array`, and those for texts' and bytes' offsets
 _ARROW_INTEGERS = {b"c": "b", b"C": "B", b"s": "h", b"S": "H", b"i": "i", b"I": "I", b"l": "q", b"L": "Q"}
 _ARROW_OFFSETS = {b"u": "i", b"z": "i", b"U": "q", b"Z": "q"}
+# kinds of texts and bytes that are taken value by value, as their library gives them
+_ARROW_OTHERS = {b"vu", b"vz", b"dictionary"}
 _RELEASE = ctypes.CFUNCTYPE(None, ctypes.c_void_p)
 
 
@@ -283,11 +285,14 @@ _Taken = TypeVar("_Taken")
 
 
 def _arrow_parts(given: Any, take: Callable[[_Arrow], _Taken]) -> list[_Taken] | None:
-    """What is taken of an array of Arrow, or of each of those in a stream. None of what is neither."""
+    """What is taken of an array of Arrow, or of each of those in a stream. None of what is neither, or of another kind of
+    text."""
     given = _arrow_of(given)
     if hasattr(given, "__arrow_c_array__"):
         capsules = given.__arrow_c_array__()  # they free the array when they go
         schema = _ArrowSchema.from_address(_pointer(capsules[0], b"arrow_schema"))
+        if _format(schema) in _ARROW_OTHERS:
+            return None
         return [take(_Arrow(_format(schema), _ArrowArray.from_address(_pointer(capsules[1], b"arrow_array"))))]
     if hasattr(given, "__arrow_c_stream__"):
         return _stream_parts(given.__arrow_c_stream__(), take)
@@ -298,15 +303,15 @@ def _format(schema: _ArrowSchema) -> bytes:
     return b"dictionary" if schema.dictionary else bytes(schema.format)
 
 
-def _stream_parts(capsule: Any, take: Callable[[_Arrow], _Taken]) -> list[_Taken]:
-    """What is taken of each array of a stream."""
+def _stream_parts(capsule: Any, take: Callable[[_Arrow], _Taken]) -> list[_Taken] | None:
+    """What is taken of each array of a stream, or None of another kind of text."""
     stream = _ArrowStream.from_address(_pointer(capsule, b"arrow_array_stream"))
     schema = _ArrowSchema()
     parts: list[_Taken] = []
     if stream.get_schema(ctypes.addressof(stream), ctypes.byref(schema)):
         raise ValueError("the stream of Arrow could not be read")
     try:
-        while True:
+        while _format(schema) not in _ARROW_OTHERS:
             one = _ArrowArray()
             if stream.get_next(ctypes.addressof(stream), ctypes.byref(one)):
                 raise ValueError("the stream of Arrow could not be read")
@@ -316,6 +321,7 @@ def _stream_parts(capsule: Any, take: Callable[[_Arrow], _Taken]) -> list[_Taken
                 parts.append(take(_Arrow(_format(schema), one)))
             finally:
                 _released(one)
+        return None
     finally:
         _released(schema)
 
@@ -370,7 +376,7 @@ def columns_of(keys: Any) -> Columns:
     if texts is None:
         if isinstance(keys, (str, bytes, bytearray, memoryview)) or not _is_iterable(keys):
             raise TypeError(f"keys must be an iterable of keys, not {type(keys).__name__!r}")
-        return _columns_of_list([*keys])
+        return _columns_of_list(keys.to_pylist() if hasattr(keys, "to_pylist") else [*keys])
     return _numpy_columns(texts) if texts.dtype.kind == "S" else _columns_of_list(texts.tolist())
 
 
