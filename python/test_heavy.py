@@ -689,7 +689,7 @@ class Frames(unittest.TestCase):
         frame = self.pandas.DataFrame({"a": ["x", "y"], "b": [1, 2], "c": [0.5, 1], "d": [1, 0], "e": ["x", None]})
         for words, kind, text in (
             ((frame, "z"), KeyError, "the frame has no column 'z', but 'a', 'b'"), ((frame, "a", "z"), KeyError, "no column 'z'"),
-            ((frame, "b"), TypeError, r"^keys\[0\]: .*'int'; of a number"), ((frame, "a", "c"), TypeError, r"^weights\[0\]: .*'float'"),
+            ((frame, "b"), TypeError, r"^keys\[0\]: .*'int64'; of numbers"), ((frame, "a", "c"), TypeError, r"^weights\[0\]: .*'float'"),
             ((frame, "a", "d"), ValueError, r"^weights\[1\]: .* not 0$"), ((frame, "e"), TypeError, r"^keys\[1\]: .*'NoneType'"),
             ((frame, "a", "b", 0), heavy.HeavyError, "^k must"), ((frame, "a", "b", 1, "1/3"), heavy.HeavyError, "^threshold must"),
             ((frame, "a", "b", 1, 0.7), ValueError, "write '7/10'"), (({"a": ["x"]}, "a"), TypeError, "DataFrame of pandas .*'dict'$"),
@@ -794,7 +794,7 @@ class Collections(unittest.TestCase):
         for words, kind, text in (
             ((frames,), TypeError, "key must be a column of the frame: one of 'client', 'bytes'"),
             ((frames, "z"), KeyError, "no column 'z', but 'client', 'bytes'"), ((frames, "client", "z"), KeyError, "no column 'z'"),
-            ((frames, "bytes"), TypeError, r"keys\[0\]: .* of a number"), ((bag,), TypeError, r"keys\[0\]: .*'tuple'"),
+            ((frames, "bytes"), TypeError, r"keys\[0\]: .* of numbers"), ((bag,), TypeError, r"keys\[0\]: .*'tuple'"),
             (([one(frame)],), TypeError, "key must be a column"), (([frame], "client"), TypeError, r"^collection\[0\] must be a part"),
             (([],), ValueError, "^there is no part$"), ((bag, 0, 1, 0), heavy.HeavyError, "^k must be 1 to 65535$"),
             (([one({"a": 1, "b": 0})],), ValueError, r"weights\['b'\]"), (([one(b"a,1\nb,0\n")],), heavy.HeavyError, "record 2: zero weight"),
@@ -1183,7 +1183,8 @@ class Arrays(unittest.TestCase):
         self.assertEqual(self.given(numpy.array([], dtype="S3"), numpy.array([], dtype="i8")), [])
         for keys, weights, kind, text in (
             (numpy.array([b"a", b""]), None, ValueError, r"^keys\[1\]: .* not 0$"),
-            (numpy.array([1, 2]), None, TypeError, r"^keys\[0\]: .*'int'"),
+            (numpy.array([1, 2]), None, TypeError, r"^keys\[0\]: .* not 'int64'; of numbers give keys.astype\(str\)$"),
+            (numpy.array([0.5]), None, TypeError, r"^keys\[0\]: .* not 'float64'; of numbers give keys.astype\(str\)$"),
             (numpy.array([[b"a"], [b"b"]]), None, TypeError, r"^keys\[0\]: .*'ndarray'"),
             (["a", "b"], numpy.array([1, -1]), ValueError, r"^weights\[1\]: .* not -1$"),
             (["a", "b"], numpy.array([1, 2**63], dtype="u8"), ValueError, r"^weights\[1\]"),
@@ -1203,6 +1204,9 @@ class Arrays(unittest.TestCase):
             keys = pandas.Series(["ab", "c", "ab"], index=[7, 5, 3], dtype=kind)
             self.assertEqual(self.given(keys, pandas.Series([5, 3, 2])), [(b"ab", 7), (b"c", 3)])
         self.refused(TypeError, r"^keys\[1\]", pandas.Series(["a", None]))
+        sums = pandas.DataFrame({"a": ["x", "y", "x"], "b": [1, 2, 3]}).groupby("a")["b"].sum()
+        self.refused(TypeError, r"'int64'; of numbers give keys.astype\(str\), of weights by key keys.to_dict\(\)$", sums)
+        self.assertEqual(self.given(sums.to_dict()), [(b"x", 4), (b"y", 2)])
         self.refused(TypeError, r"^weights\[1\]", ["a", "b"], pandas.Series([1, None], dtype=object))
         self.refused(TypeError, r"^weights\[0\]: .*'float'", ["a", "b"], pandas.Series([1, None]))
 

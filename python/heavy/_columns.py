@@ -377,6 +377,9 @@ def columns_of(keys: Any) -> Columns:
         if isinstance(keys, (str, bytes, bytearray, memoryview)) or not _is_iterable(keys):
             raise TypeError(f"keys must be an iterable of keys, not {type(keys).__name__!r}")
         return _columns_of_list(keys.to_pylist() if hasattr(keys, "to_pylist") else [*keys])
+    if texts.dtype.kind in "iufcb" and len(texts):
+        advice = "of numbers give keys.astype(str)" + (", of weights by key keys.to_dict()" if hasattr(keys, "to_dict") else "")
+        raise TypeError(f"keys[0]: a key must be bytes or str, not '{texts.dtype}'; {advice}")
     return _numpy_columns(texts) if texts.dtype.kind == "S" else _columns_of_list(texts.tolist())
 
 
