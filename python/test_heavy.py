@@ -1,4 +1,6 @@
 """The module against the program, whose path HEAVY has: the same bytes, and the same texts of refusals."""
+from __future__ import annotations
+
 import array
 import collections
 import copy
