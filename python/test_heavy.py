@@ -1,4 +1,6 @@
 """The module against the program, whose path HEAVY has: the same bytes, and the same texts of refusals."""
+from __future__ import annotations
+
 import array
 import collections
 import copy
@@ -52,7 +54,7 @@ class Pages(unittest.TestCase):
             for name in names if has(*wanted) else ():
                 for example in finder.find(getattr(module, name), name, module=False, globs={**vars(heavy), **vars(module)}):
                     runner.run(example)
-        self.assertEqual((runner.failures, runner.tries > 60), (0, True))
+        self.assertEqual((runner.failures, runner.tries > 40), (0, True))
 
     def test_names(self) -> None:
         """The module has the names that it lists, each of them with a docstring, and the version of the header."""
@@ -689,7 +691,7 @@ class Frames(unittest.TestCase):
         frame = self.pandas.DataFrame({"a": ["x", "y"], "b": [1, 2], "c": [0.5, 1], "d": [1, 0], "e": ["x", None]})
         for words, kind, text in (
             ((frame, "z"), KeyError, "the frame has no column 'z', but 'a', 'b'"), ((frame, "a", "z"), KeyError, "no column 'z'"),
-            ((frame, "b"), TypeError, r"^keys\[0\]: .*'int'; of a number"), ((frame, "a", "c"), TypeError, r"^weights\[0\]: .*'float'"),
+            ((frame, "b"), TypeError, r"^keys\[0\]: .*'int64'; of numbers"), ((frame, "a", "c"), TypeError, r"^weights\[0\]: .*'float'"),
             ((frame, "a", "d"), ValueError, r"^weights\[1\]: .* not 0$"), ((frame, "e"), TypeError, r"^keys\[1\]: .*'NoneType'"),
             ((frame, "a", "b", 0), heavy.HeavyError, "^k must"), ((frame, "a", "b", 1, "1/3"), heavy.HeavyError, "^threshold must"),
             ((frame, "a", "b", 1, 0.7), ValueError, "write '7/10'"), (({"a": ["x"]}, "a"), TypeError, "DataFrame of pandas .*'dict'$"),
@@ -758,6 +760,23 @@ class Collections(unittest.TestCase):
                     key if number != 8 else key.encode(): weight for key, weight in self.exact.items()
                 })
 
+    def test_layouts(self) -> None:
+        """Parts that are records have a layout, and a refusal names its part."""
+        one, layout = self.dask.delayed(loaded), heavy.Layout(delimiter=";", header=True, decimals=1)
+        with tempfile.TemporaryDirectory() as room:
+            path = Path(room, "part")
+            path.write_bytes(b"h;w\na;1\n")
+            # of 4.5 in all a has 2.5
+            parts = [one(b"h;w\na;1.5\nb;2\n"), one(path)]
+            self.assertEqual(heavy.dask.report(parts, k=1, layout=layout), [(b"a", Decimal("2.5"))])
+            self.assertEqual(heavy.dask.report_csv(parts, k=1, layout=layout), b"a,2.5\n")
+            self.assertEqual(heavy.dask.summary(parts, k=1, layout=layout).total, 45)
+            path.write_bytes(b"h;w\na;1\nb;0\n")
+            for given, named in (([*parts], path), ([parts[0], one(path.read_bytes())], 1)):
+                with self.assertRaisesRegex(heavy.HeavyError, "^record 2: zero weight$") as caught:
+                    heavy.dask.report(given, layout=layout)
+                self.assertEqual((caught.exception.part, pickle.loads(pickle.dumps(caught.exception)).part), (named, named))
+
     def test_counts(self) -> None:
         keys = [key for key, _ in self.items]
         counted = collections.Counter(keys)
@@ -777,7 +796,7 @@ class Collections(unittest.TestCase):
         for words, kind, text in (
             ((frames,), TypeError, "key must be a column of the frame: one of 'client', 'bytes'"),
             ((frames, "z"), KeyError, "no column 'z', but 'client', 'bytes'"), ((frames, "client", "z"), KeyError, "no column 'z'"),
-            ((frames, "bytes"), TypeError, r"keys\[0\]: .* of a number"), ((bag,), TypeError, r"keys\[0\]: .*'tuple'"),
+            ((frames, "bytes"), TypeError, r"keys\[0\]: .* of numbers"), ((bag,), TypeError, r"keys\[0\]: .*'tuple'"),
             (([one(frame)],), TypeError, "key must be a column"), (([frame], "client"), TypeError, r"^collection\[0\] must be a part"),
             (([],), ValueError, "^there is no part$"), ((bag, 0, 1, 0), heavy.HeavyError, "^k must be 1 to 65535$"),
             (([one({"a": 1, "b": 0})],), ValueError, r"weights\['b'\]"), (([one(b"a,1\nb,0\n")],), heavy.HeavyError, "record 2: zero weight"),
@@ -1079,18 +1098,59 @@ class Arrays(unittest.TestCase):
             self.refused((ValueError, TypeError), "stream of Arrow could not be read|Arrow's 'l'", failing)
             self.assertEqual(failing.held, 0)
 
-    def test_column_of_arrow(self) -> None:
-        """A column of pandas whose texts are pyarrow's is handed over by Arrow's interface."""
+    def test_other_texts_of_arrow(self) -> None:
+        """Views of texts, and texts with a dictionary, are taken value by value, as their library gives them."""
 
-        class Column:
-            __module__ = "pandas.core.series"
-            dtype = types.SimpleNamespace(storage="pyarrow")
-            array = types.SimpleNamespace(__arrow_array__=lambda: ArrowStream(Arrow(b"U", 2, None, packed("q", 0, 2, 3), b"abc")))
+        class Views(ArrowStream):
+            def __iter__(self) -> object:
+                return iter(["ab", "c", "ab"])
+
+        class Values(Arrow):
+            def to_pylist(self) -> list[str]:
+                return ["ab", "c", "ab"]
 
             def __iter__(self) -> object:
                 raise AssertionError("it is not iterated")
 
-        self.assertEqual(self.given(Column(), [5, 3]), [(b"ab", 5), (b"c", 3)])
+        views = Views(Arrow(b"vu", 3, None))
+        for given in (views, Values(b"vz", 3, None)):
+            self.assertEqual(self.given(given, [5, 3, 2]), [(b"ab", 7), (b"c", 3)])
+        self.assertEqual(views.held, 0)
+
+    def test_column_of_arrow(self) -> None:
+        """A column of pandas whose texts are pyarrow's is handed over by Arrow's interface."""
+
+        class Column:
+            """A column of texts that are pyarrow's."""
+
+            __module__ = "pandas.core.series"
+            dtype = types.SimpleNamespace(storage="pyarrow")
+
+            def __arrow_array__(self) -> object:
+                return ArrowStream(Arrow(b"U", 2, None, packed("q", 0, 2, 3), b"abc"))
+
+            def __iter__(self) -> object:
+                raise AssertionError("it is not iterated")
+
+        class Within(Column):
+            __module__ = "pandas.core.series"
+            dtype = types.SimpleNamespace(pyarrow_dtype="string")
+            array, __arrow_array__ = Column(), None
+
+        class Other(Column):
+            """A column that isn't pyarrow's, which gives an Arrow interface only where pyarrow is there."""
+
+            __module__ = "pandas.core.series"
+            dtype = types.SimpleNamespace(storage="python")
+
+            def __arrow_c_stream__(self) -> object:
+                raise ImportError("pyarrow is not here")
+
+            def __iter__(self) -> object:
+                return iter(["ab", "c"])
+
+        for column in (Column(), Within(), Other()):
+            self.assertEqual(self.given(column, [5, 3]), [(b"ab", 5), (b"c", 3)])
 
     def test_refused_arrow(self) -> None:
         texts = packed("i", 0, 1, 2, 3), b"abc"
@@ -1100,7 +1160,7 @@ class Arrays(unittest.TestCase):
         self.assertEqual(self.given(Arrow(b"u", 2, b"\x06", *texts, offset=1, nulls=-1)), [(b"b", 1), (b"c", 1)])
         self.refused(ValueError, r"^keys\[1\]: .* not 0$", Arrow(b"u", 3, None, packed("i", 0, 1, 1, 2), b"ab"))
         self.refused(ValueError, r"^keys\[0\]: .* not 4097$", Arrow(b"u", 1, None, packed("i", 0, 4097), b"x" * 4097))
-        self.refused(TypeError, "Arrow's 'l'", Arrow(b"l", 1, None, packed("q", 1)))
+        self.refused(TypeError, "Arrow's 'l'; of numbers give their texts$", Arrow(b"l", 1, None, packed("q", 1)))
         self.refused(TypeError, "Arrow's 'g'", ["a"], Arrow(b"g", 1, None, b"\0" * 8))
         self.refused(TypeError, r"^weights\[0\]: .*null", ["a"], Arrow(b"l", 1, b"\0", packed("q", 1), nulls=1))
         self.refused(ValueError, r"^weights\[1\]: .* not -1$", ["a", "b"], Arrow(b"l", 2, None, packed("q", 1, -1)))
@@ -1125,7 +1185,8 @@ class Arrays(unittest.TestCase):
         self.assertEqual(self.given(numpy.array([], dtype="S3"), numpy.array([], dtype="i8")), [])
         for keys, weights, kind, text in (
             (numpy.array([b"a", b""]), None, ValueError, r"^keys\[1\]: .* not 0$"),
-            (numpy.array([1, 2]), None, TypeError, r"^keys\[0\]: .*'int'"),
+            (numpy.array([1, 2]), None, TypeError, r"^keys\[0\]: .* not 'int64'; of numbers give keys.astype\(str\)$"),
+            (numpy.array([0.5]), None, TypeError, r"^keys\[0\]: .* not 'float64'; of numbers give keys.astype\(str\)$"),
             (numpy.array([[b"a"], [b"b"]]), None, TypeError, r"^keys\[0\]: .*'ndarray'"),
             (["a", "b"], numpy.array([1, -1]), ValueError, r"^weights\[1\]: .* not -1$"),
             (["a", "b"], numpy.array([1, 2**63], dtype="u8"), ValueError, r"^weights\[1\]"),
@@ -1145,6 +1206,9 @@ class Arrays(unittest.TestCase):
             keys = pandas.Series(["ab", "c", "ab"], index=[7, 5, 3], dtype=kind)
             self.assertEqual(self.given(keys, pandas.Series([5, 3, 2])), [(b"ab", 7), (b"c", 3)])
         self.refused(TypeError, r"^keys\[1\]", pandas.Series(["a", None]))
+        sums = pandas.DataFrame({"a": ["x", "y", "x"], "b": [1, 2, 3]}).groupby("a")["b"].sum()
+        self.refused(TypeError, r"'int64'; of numbers give keys.astype\(str\), of weights by key keys.to_dict\(\)$", sums)
+        self.assertEqual(self.given(sums.to_dict()), [(b"x", 4), (b"y", 2)])
         self.refused(TypeError, r"^weights\[1\]", ["a", "b"], pandas.Series([1, None], dtype=object))
         self.refused(TypeError, r"^weights\[0\]: .*'float'", ["a", "b"], pandas.Series([1, None]))
 

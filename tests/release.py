@@ -58,7 +58,9 @@ while [ $# -gt 1 ]; do [ "$1" != -o ] || file=$2; shift; done
 printf '#!/bin/sh\\necho built GLIBC_2.34 GLIBC_2.4\\n' > "$file"
 chmod +x "$file"
 """,
-    "ar": '#!/bin/sh\ncase $1 in x) echo object > heap.o ;; esac\n',
+    "ar": '#!/bin/sh\ncase $1 in x) echo object > heap.o ;; rcs) cp "$3" "$2" ;; esac\n',
+    "ld": '#!/bin/sh\nwhile [ "$1" != -o ]; do shift; done\necho object > "$2"\n',
+    "objcopy": "#!/bin/sh\n",
     "strip": "#!/bin/sh\n",
     "lintian": '#!/bin/sh\ncase $* in --version) echo lintian v1 ;; esac\nexit "$LINTIAN"\n',
     # the tree with the folder DEBIAN, as a tar whose entries are in order
@@ -338,7 +340,7 @@ def try_uninstall(checks: programs.Checks, room: str) -> None:
     tools.mkdir()
     for tool in TOOLS:
         (tools / tool).symlink_to(shutil.which(tool))
-    for tool in ("cc", "ar"):
+    for tool in ("cc", "ar", "ld", "objcopy"):
         (tools / tool).symlink_to(Path(room, "uninstall", "tools", tool))
     env = {"PATH": str(tools)}
     others = ["bin/other", "lib/pkgconfig/other.pc"]

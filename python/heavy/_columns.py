@@ -198,6 +198,8 @@ class _ArrowStream(ctypes.Structure):
 # what Arrow's letters for integers are in the module `array`, and those for texts' and bytes' offsets
 _ARROW_INTEGERS = {b"c": "b", b"C": "B", b"s": "h", b"S": "H", b"i": "i", b"I": "I", b"l": "q", b"L": "Q"}
 _ARROW_OFFSETS = {b"u": "i", b"z": "i", b"U": "q", b"Z": "q"}
+# kinds of texts and bytes that are taken value by value, as their library gives them
+_ARROW_OTHERS = {b"vu", b"vz", b"dictionary"}
 _RELEASE = ctypes.CFUNCTYPE(None, ctypes.c_void_p)
 
 
@@ -240,7 +242,8 @@ class _Arrow(NamedTuple):
     def columns(self) -> Columns:
         """Its texts, or bytes."""
         if self.format not in _ARROW_OFFSETS:
-            raise TypeError(f"keys must be texts or bytes, not Arrow's {self.format.decode()!r}")
+            advice = "; of numbers give their texts" if self.format in _ARROW_INTEGERS or self.format in b"efg" else ""
+            raise TypeError(f"keys must be texts or bytes, not Arrow's {self.format.decode()!r}{advice}")
         null = self.first_null()
         if null is not None:
             raise TypeError(f"keys[{null}]: a key must be bytes or str, not null")
@@ -265,22 +268,31 @@ class _Arrow(NamedTuple):
         return self.numbers(1, _ARROW_INTEGERS[self.format], self.array.length)
 
 
+def _is_pandas(given: Any) -> bool:
+    return type(given).__module__.split(".")[0] == "pandas"
+
+
 def _arrow_of(given: Any) -> Any:
-    """What a column of pandas holds whose texts are pyarrow's; all else as it is."""
-    if type(given).__module__.split(".")[0] == "pandas" and getattr(getattr(given, "dtype", None), "storage", "") == "pyarrow":
-        return given.array.__arrow_array__()
-    return given
+    """What a column of pandas holds where that is pyarrow's, and else None; what is no column of pandas as it is."""
+    if not _is_pandas(given):
+        return given
+    kind = getattr(given, "dtype", None)
+    is_arrow = getattr(kind, "storage", "") == "pyarrow" or hasattr(kind, "pyarrow_dtype")
+    return getattr(given, "array", given).__arrow_array__() if is_arrow else None
 
 
 _Taken = TypeVar("_Taken")
 
 
 def _arrow_parts(given: Any, take: Callable[[_Arrow], _Taken]) -> list[_Taken] | None:
-    """What is taken of an array of Arrow, or of each of those in a stream. None of what is neither."""
+    """What is taken of an array of Arrow, or of each of those in a stream. None of what is neither, or of another kind of
+    text."""
     given = _arrow_of(given)
     if hasattr(given, "__arrow_c_array__"):
         capsules = given.__arrow_c_array__()  # they free the array when they go
         schema = _ArrowSchema.from_address(_pointer(capsules[0], b"arrow_schema"))
+        if _format(schema) in _ARROW_OTHERS:
+            return None
         return [take(_Arrow(_format(schema), _ArrowArray.from_address(_pointer(capsules[1], b"arrow_array"))))]
     if hasattr(given, "__arrow_c_stream__"):
         return _stream_parts(given.__arrow_c_stream__(), take)
@@ -291,15 +303,15 @@ def _format(schema: _ArrowSchema) -> bytes:
     return b"dictionary" if schema.dictionary else bytes(schema.format)
 
 
-def _stream_parts(capsule: Any, take: Callable[[_Arrow], _Taken]) -> list[_Taken]:
-    """What is taken of each array of a stream."""
+def _stream_parts(capsule: Any, take: Callable[[_Arrow], _Taken]) -> list[_Taken] | None:
+    """What is taken of each array of a stream, or None of another kind of text."""
     stream = _ArrowStream.from_address(_pointer(capsule, b"arrow_array_stream"))
     schema = _ArrowSchema()
     parts: list[_Taken] = []
     if stream.get_schema(ctypes.addressof(stream), ctypes.byref(schema)):
         raise ValueError("the stream of Arrow could not be read")
     try:
-        while True:
+        while _format(schema) not in _ARROW_OTHERS:
             one = _ArrowArray()
             if stream.get_next(ctypes.addressof(stream), ctypes.byref(one)):
                 raise ValueError("the stream of Arrow could not be read")
@@ -309,6 +321,7 @@ def _stream_parts(capsule: Any, take: Callable[[_Arrow], _Taken]) -> list[_Taken
                 parts.append(take(_Arrow(_format(schema), one)))
             finally:
                 _released(one)
+        return None
     finally:
         _released(schema)
 
@@ -326,7 +339,7 @@ def _joined_columns(parts: list[Columns]) -> Columns:
 
 def _array_of(given: Any) -> Any:
     """The numpy array that this is, or that a pandas Series has; else None."""
-    if type(given).__module__.split(".")[0] == "pandas" and hasattr(given, "to_numpy"):
+    if _is_pandas(given) and hasattr(given, "to_numpy"):
         given = given.to_numpy()
     return given if type(given).__module__ == "numpy" and getattr(given, "ndim", 0) == 1 else None
 
@@ -363,7 +376,10 @@ def columns_of(keys: Any) -> Columns:
     if texts is None:
         if isinstance(keys, (str, bytes, bytearray, memoryview)) or not _is_iterable(keys):
             raise TypeError(f"keys must be an iterable of keys, not {type(keys).__name__!r}")
-        return _columns_of_list([*keys])
+        return _columns_of_list(keys.to_pylist() if hasattr(keys, "to_pylist") else [*keys])
+    if texts.dtype.kind in "iufcb" and len(texts):
+        advice = "of numbers give keys.astype(str)" + (", of weights by key keys.to_dict()" if hasattr(keys, "to_dict") else "")
+        raise TypeError(f"keys[0]: a key must be bytes or str, not '{texts.dtype}'; {advice}")
     return _numpy_columns(texts) if texts.dtype.kind == "S" else _columns_of_list(texts.tolist())
 
 
@@ -466,7 +482,7 @@ def _coded(keys: Any, room: int) -> tuple[Any, Columns] | None:
         coded = (given.combine_chunks() if hasattr(given, "combine_chunks") else given).dictionary_encode()
         return coded.indices.to_numpy(zero_copy_only=False), columns_of(coded.dictionary)
     pandas: Any = sys.modules.get("pandas")
-    texts = _array_of(keys) if pandas and type(keys).__module__.split(".")[0] == "pandas" else None
+    texts = _array_of(keys) if pandas and _is_pandas(keys) else None
     if texts is None or texts.dtype.kind != "O" or len(set(texts[:20_000].tolist())) > room:
         return None
     codes, different = pandas.factorize(texts)

@@ -15,7 +15,7 @@ import os
 from collections.abc import Mapping
 from typing import Any, Callable, List, Optional, Tuple
 
-from ._columns import columns_named, items_of
+from ._columns import ANY, columns_named, items_of
 from ._files import Summary, merge
 from ._library import HeavyError
 from ._options import PLAIN, Layout, Threshold, share_of
@@ -151,7 +151,8 @@ def _summarise(part: Any, key: Any, weight: Any, k: int, layout: Layout) -> _Sum
     if _is_records(part):
         return Summary.of_csv(part, k, layout=layout).to_bytes(), False
     made = Summary(k=k)
-    items = items_of(*_items(part, key, weight))
+    # parts are merged in no order of items, so equal keys of one may be one item
+    items = items_of(*_items(part, key, weight), ANY)
     made._add(items)
     return made.to_bytes(), items.columns.text or not items.many
 
