@@ -142,7 +142,7 @@ def pages(program: str) -> dict[str, list[list[str]]]:
     texts = {"heavy --help": help(), **{f"heavy {name} --help": help(name) for name in names if name != "help"}}
     found = {page: blocks_of(text) for page, text in texts.items()}
     found["man/heavy.1"] = man_blocks_of((programs.TOP / "man" / "heavy.1").read_text())
-    for page in ["docs/WALK.md", *PAGES]:
+    for page in ["docs/WALK.md", "docs/TASKS.md", *PAGES]:
         found[page] = blocks_of((programs.TOP / page).read_text())
     return found
 
