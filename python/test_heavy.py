@@ -1529,7 +1529,7 @@ class Layouts(unittest.TestCase):
                     with self.assertRaises(heavy.HeavyError) as caught:
                         call()
                     told = (f"heavy: {caught.exception}\n".encode(), caught.exception.status)
-                    self.assertEqual(told, (ran.stderr, ran.returncode))
+                    self.assertEqual(told, (ran.stderr.splitlines(keepends=True)[0], ran.returncode))
             self.assertEqual(summary, heavy.Summary(k=2))
 
     def test_options(self) -> None:
