@@ -112,11 +112,18 @@ def is_lawful_call(name: str, ample: programs.Ended, ended: programs.Ended) -> b
     return same(ample, ended) or (ended.status, ended.out, ended.err) == (0, again, b"")
 
 
+def same_fault(ample: programs.Ended, ended: programs.Ended) -> bool:
+    """The ample answer, where of the lines that explain a fault, behind its own, those may be missing that take memory."""
+    lines, ample_lines = ended.err.splitlines(), ample.err.splitlines()
+    explained = lines[:1] == ample_lines[:1] and set(lines) <= set(ample_lines)
+    return (ended.status, ended.out, explained) == (ample.status, ample.out, True)
+
+
 def is_lawful_run(ample: programs.Ended, ended: programs.Ended) -> bool:
     """The ample answer, or status 4 with its line and nothing on standard output. Where the ample run tells progress,
     one without memory may have told it before."""
     memory = [OUT_OF_MEMORY] + [PROGRESS + OUT_OF_MEMORY] * (ample.err == PROGRESS)
-    return same(ample, ended) or (ended.status, ended.out) == (4, b"") and ended.err in memory
+    return same_fault(ample, ended) or (ended.status, ended.out) == (4, b"") and ended.err in memory
 
 
 def refuse_commands(refusing: Refusing, program: str, room: str) -> list[list[str]]:
