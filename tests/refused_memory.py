@@ -113,10 +113,11 @@ def is_lawful_call(name: str, ample: programs.Ended, ended: programs.Ended) -> b
 
 
 def same_fault(ample: programs.Ended, ended: programs.Ended) -> bool:
-    """The ample answer, where of the lines that explain a fault, behind its own, those may be missing that take memory."""
-    lines, ample_lines = ended.err.splitlines(), ample.err.splitlines()
-    explained = lines[:1] == ample_lines[:1] and set(lines) <= set(ample_lines)
-    return (ended.status, ended.out, explained) == (ample.status, ample.out, True)
+    """The ample answer, but that of the lines that explain a fault, behind its own, the place may be missing, or all."""
+    fault, *lines = ended.err.splitlines() or [b""]
+    ample_fault, *ample_lines = ample.err.splitlines() or [b""]
+    explained = all(any(whole.endswith(line.strip()) for whole in ample_lines) for line in lines)
+    return (ended.status, ended.out, fault, explained) == (ample.status, ample.out, ample_fault, True)
 
 
 def is_lawful_run(ample: programs.Ended, ended: programs.Ended) -> bool:
