@@ -433,7 +433,8 @@ def try_versions(checks: programs.Checks) -> None:
     for name, version in told.items():
         checks.check(f"the version of {name}", version == VERSION, version)
     numbers = [str(file.relative_to(programs.TOP)) for folder in ("packaging", "python", "bin")
-               for file in (programs.TOP / folder).rglob("*") if file.is_file() and VERSION in file.read_text()]
+               for file in (programs.TOP / folder).rglob("*")
+               if file.is_file() and file.suffix != ".pyc" and VERSION in file.read_text()]
     checks.check("what is filled in has no version of its own", not numbers, numbers)
 
 
