@@ -121,6 +121,12 @@ def main() -> None:
             path = different(room, length, 100_000 if length > 24 else 2_000_000)
             peak, _ = watched([heavy, "report", "--k", str(k), str(path)], path)
             print(f"report of keys of {length} bytes, k = {k}: {peak:.1f} MB at most", flush=True)
+        path = programs.records(room, "zipf", 10_000_000)
+        for megabytes in (1_000_000, 64):
+            words = [heavy, "report", "--k", str(K), "--memory", str(megabytes)]
+            peak, _ = watched(words, path)
+            length = path.stat().st_size / 2**20
+            print(f"report of {length:.0f} MB of a pipe, --memory {megabytes}: {peak:.1f} MB at most", flush=True)
         for name, path in (("3,000 keys", few(room, 3_000, 1_000_000)), ("all different", programs.records(room, "different", 1_000_000))):
             _, read = watched([heavy, "report", str(path)], path)
             print(f"report of a file, {name}: reads {read / path.stat().st_size:.2f} times its length", flush=True)

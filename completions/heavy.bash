@@ -10,10 +10,10 @@ _heavy() {
   case $prev in
     --method) mapfile -t COMPREPLY < <(compgen -W 'mg ss' -- "$cur"); return ;;
     --tree) mapfile -t COMPREPLY < <(compgen -W 'balanced chain' -- "$cur"); return ;;
-    -k | --k | -t | --threshold | -n | --top | -d | --delimiter | --key | --weight | --decimals | --workers | --pieces | --width | --depth | --seed) return ;;
+    -k | --k | -t | --threshold | -n | --top | -d | --delimiter | --key | --weight | --decimals | --workers | --memory | --pieces | --width | --depth | --seed) return ;;
   esac
   case ${COMP_WORDS[1]} in
-    report) options='-k --k -t --threshold -n --top --share -d --delimiter -H --header --key --weight --allow-zero --decimals --workers --pieces --tree --width --depth --seed --progress --explain' ;;
+    report) options='-k --k -t --threshold -n --top --share -d --delimiter -H --header --key --weight --allow-zero --decimals --workers --memory --pieces --tree --width --depth --seed --progress --explain' ;;
     summarise) options='-k --k --method --workers -d --delimiter -H --header --key --weight --allow-zero --decimals --progress --explain' ;;
     table) options='--width --depth --seed --workers -d --delimiter -H --header --key --weight --allow-zero --decimals --progress --explain' ;;
     merge | describe) options='--explain' ;;

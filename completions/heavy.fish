@@ -16,6 +16,7 @@ complete -c heavy -n '__fish_seen_subcommand_from report confirm' -s t -l thresh
 complete -c heavy -n '__fish_seen_subcommand_from report confirm' -s n -l top -x -d 'Print at most the first N rows'
 complete -c heavy -n '__fish_seen_subcommand_from report confirm' -l share -d 'Print shares of the total in percent'
 complete -c heavy -n '__fish_seen_subcommand_from report summarise table condense confirm' -l workers -x -d 'Threads that work at once'
+complete -c heavy -n '__fish_seen_subcommand_from report' -l memory -x -d 'Megabytes of a pipe to keep in memory'
 complete -c heavy -n '__fish_seen_subcommand_from report' -l pieces -x -d 'Pieces that the records are cut into'
 complete -c heavy -n '__fish_seen_subcommand_from report' -l tree -x -a 'balanced chain' -d 'How to merge the pieces'
 complete -c heavy -n '__fish_seen_subcommand_from summarise' -l method -x -a 'mg ss' -d 'How, with the same result'

@@ -10,9 +10,9 @@
      another          fault says why, *needed is 0, and out is as it was
    No call answers HEAVY_DEVICE today; treat it as a fault.
 
-   Memory. The caller owns all that it lends, and the library keeps nothing after a call. A call takes memory by
-   malloc and realloc while it runs, gives all of it back by free, and answers HEAVY_MEMORY where it gets none.
-   The three have to be of one allocator.
+   Memory. The caller owns all that it lends, and the library keeps nothing after a call but what a struct heavy_growing
+   has. A call takes memory by malloc and realloc while it runs, gives all else back by free, and answers HEAVY_MEMORY
+   where it gets none. The three have to be of one allocator.
 
    Pointers. No pointer may be null, also where a length is 0: lend the address of any byte. Lengths are counted in
    elements, and no slice has 2^63 bytes or more. What is written (out, *needed, *low, *high, *fault) overlaps nothing
@@ -157,6 +157,14 @@ struct heavy_info {
     uint64_t slack;    /* how far a counter may be below its key's weight */
     uint64_t width;    /* a table's width and depth */
     uint64_t depth;
+};
+
+/* The value of a saved file in the library's memory, where it grows item by item. It begins as {0}, which has no value; what
+   it has later is heavy_open's to make and heavy_free's to give back. No call may be lent a copy of it, and no two calls at
+   once the same one. */
+struct heavy_growing {
+    void *place;
+    uint64_t full;
 };
 
 /* The most bytes of a key, and the largest k. */
@@ -351,6 +359,23 @@ uint32_t heavy_report(const uint8_t *text, size_t text_len, const struct heavy_l
                       size_t columns_len, const size_t *lengths, size_t count, uint64_t k, uint64_t p, uint64_t q,
                       uint8_t *out, size_t out_len, size_t *needed, struct heavy_fault *fault);
 
+/* Puts the value of a saved file, summary or table, into memory, as that of heavy_empty(k), which has no items. A value that
+   growing had is given back. At another status than HEAVY_DONE growing is as it was. */
+uint32_t heavy_open(const uint8_t *file, size_t file_len, struct heavy_growing *growing, struct heavy_fault *fault);
+
+/* Adds one item to the value that growing has, as heavy_add adds it to a saved file, with no copy of the file. An item is
+   refused as heavy_add refuses item 1, and at another status than HEAVY_DONE the value is as it was. Where growing has no
+   value, the call answers HEAVY_USAGE, and fault has zeros. */
+uint32_t heavy_update(struct heavy_growing *growing, const uint8_t *key, size_t key_len, uint64_t weight,
+                      struct heavy_fault *fault);
+
+/* Gives the saved file of the value that growing has, which stays there. Where it has none, the call answers HEAVY_USAGE, and
+   fault has zeros. */
+uint32_t heavy_save(struct heavy_growing *growing, uint8_t *out, size_t out_len, size_t *needed, struct heavy_fault *fault);
+
+/* Gives back the memory of the value that growing has, if it has one; it has none then. It answers HEAVY_DONE. */
+uint32_t heavy_free(struct heavy_growing *growing);
+
 #ifdef __cplusplus
 }
 #endif
@@ -366,6 +391,7 @@ _Static_assert(offsetof(struct heavy_entry, len) == 8, "the length follows the s
 _Static_assert(offsetof(struct heavy_entry, counter) == 16, "the counter comes last");
 _Static_assert(sizeof(struct heavy_layout) == 24, "a layout has 24 bytes");
 _Static_assert(offsetof(struct heavy_layout, hash) == 8, "the hash's words come last");
+_Static_assert(sizeof(struct heavy_growing) == 16, "what grows has 16 bytes");
 _Static_assert(sizeof(struct heavy_info) == 64, "an info has 64 bytes");
 _Static_assert(offsetof(struct heavy_info, total) == 8, "the total follows kind and version");
 _Static_assert(sizeof(size_t) == 8, "the library is built for 64-bit machines");

@@ -218,8 +218,12 @@ class CommandLine(programs.Checks):
         ]:
             self.expect(["report", "-H", "--key", key, "--weight", "n"], (0, rows, b""), given)
             self.expect(["report", "-H", f"--key={key}", "--weight", "n"], (0, rows, b""), given)
-        for key in ("Last, First", '"Last","First"', '"Last, First",', '""', '"a "b""'):
-            self.refuses(["report", "-H", "--key", key, "--weight", "n"], "the header has no such column", 3, text)
+        columns = '"Last, First", "City", "a "b"", "n"'
+        for key, missing in [
+            ("Last, First", "Last"), ('"Last","First"', "Last"), ('"Last, First",', ""), ('""', ""), ('"a "b""', 'a b""'),
+        ]:
+            said = f'the header has no such column\n  standard input has no column "{missing}"; its header has {columns}'
+            self.refuses(["report", "-H", "--key", key, "--weight", "n"], said, 3, text)
 
     def test_texts(self) -> None:
         """Texts with their reports, with the first record that is bad, and condensed, each written by hand."""
@@ -579,22 +583,22 @@ class CommandLine(programs.Checks):
     def test_more_about_faults(self) -> None:
         """The second line of each fault that has one, and faults without."""
         weight = "a weight is a whole number from 1 on"
-        for text, more in [
-            (b"key,weight\na,1\n", f"{weight}; is the first line a header? --header; has it a point? --decimals"),
-            (b"a,1.5\n", f"{weight}; is the first line a header? --header; has it a point? --decimals"),
-            (b"a,0\n", f"{weight}; --allow-zero takes 0"),
-            (b"a,1,2\n", "a record is key,weight or a key alone; --key and --weight choose columns"),
-            (b",1\n", "a key has 1 to 4096 bytes"), (b"k" * 4097, "a key has 1 to 4096 bytes"),
-            (b"a,9223372036854775807\nb\n", "all weights together are at most 9223372036854775807"),
+        for text, place, more in [
+            (b"key,weight\na,1\n", '1, "key,weight"', f"{weight}; is the first line a header? --header; has it a point? --decimals"),
+            (b"a,1.5\n", '1, "a,1.5"', f"{weight}; is the first line a header? --header; has it a point? --decimals"),
+            (b"a,0\n", '1, "a,0"', f"{weight}; --allow-zero takes 0"), (b"\na\n\nb,-\n", '4, "b,-"', "--allow-zero takes a weight of -, as 0"),
+            (b"a,1,2\n", '1, "a,1,2"', "a record is key,weight or a key alone; --key and --weight choose columns"),
+            (b",1\n", '1, ",1"', "a key has 1 to 4096 bytes"), (b"k" * 4097, f'1, "{"k" * 60}"..', "a key has 1 to 4096 bytes"),
+            (b"a,9223372036854775807\nb\n", '2, "b"', "all weights together are at most 9223372036854775807"),
         ]:
             for command in (["report"], ["summarise"], ["table"]):
-                self.tells(command, more, 3, text)
+                self.tells(command, f"standard input, line {place}: {more}", 3, text)
         behind = "a weight has at most as many digits behind a point as --decimals says; is the first line a header? --header"
         for text, more in [
-            (b"a,1.25\n", behind), (b"k,w\n", behind), (b"a,0.0\n", "a weight is more than 0; --allow-zero takes 0"),
-            (b"a,922337203685477580.8\n", "all weights together are at most 9223372036854775807 of the last decimal"),
+            (b"a,1.25", behind), (b"k,w", behind), (b"a,0.0", "a weight is more than 0; --allow-zero takes 0"),
+            (b"a,922337203685477580.8", "all weights together are at most 9223372036854775807 of the last decimal"),
         ]:
-            self.names(["report", "--decimals", "1"], more, 3, text)
+            self.names(["report", "--decimals", "1"], f'standard input, line 1, "{text.decode()}": {more}', 3, text + b"\n")
         self.save("day", ["summarise", "--k", "2"])
         self.save("table", ["table", "--width", "8"])
         self.save("k3", ["summarise", "--k", "3"])
@@ -634,8 +638,8 @@ class CommandLine(programs.Checks):
             self.tells(words, "", status)
 
     def test_more_about_bad_records(self) -> None:
-        """Of a record in a file, the file's name, the line, and the first 60 bytes; nothing of standard input and of pipes, but
-        what a record has to be."""
+        """Of a record in a file, on standard input or in a pipe, the name, the line, and the first 60 bytes, where the record
+        ends in the first 65,536 bytes of what can't be read again; else what a record has to be."""
         wanted = "a weight is a whole number from 1 on; is the first line a header? --header; has it a point? --decimals"
         alone = "a key has 1 to 4096 bytes"
         long, marked = b"k" * 70_000, b"\xef\xbb\xbf"
@@ -665,16 +669,28 @@ class CommandLine(programs.Checks):
                 self.names([*command, *words], f"{place}: {wanted}", 3)
         self.names(["report", "good", "long"], f'long, line 65537, "{"k" * 60}"..: {alone}', 3)
         self.names(["report", "edge"], f'edge, line 65535, "b,xy": {wanted}', 3)
-        self.names(["report", "good", "-", "bad"], wanted, 3, b"q\n")
-        self.names(["report", "-"], wanted, 3, b"q,\n")
-        self.names(["report", "good", "-"], wanted, 3, b"q,\n")
-        self.names(["report", "bad", "-"], f'bad, line 4, "b,x": {wanted}', 3)
+        for command in (["report"], ["summarise"], ["table"]):
+            self.names([*command, "good", "-", "bad"], f'bad, line 4, "b,x": {wanted}', 3, b"q\n")
+            self.names([*command, "-"], f'standard input, line 1, "q,": {wanted}', 3, b"q,\n")
+            self.names([*command, "good", "-"], f'standard input, line 3, "q,": {wanted}', 3, marked + b"\r\n\nq,\n")
+            self.names([*command, "bad", "-"], f'bad, line 4, "b,x": {wanted}', 3)
+            self.names([*command, *semicolons], r'standard input, line 4, "c;\"d\ne\";x": ' + wanted, 3, files["names"])
+            # what stands past the bytes that are kept, and what begins in them and doesn't end there
+            kept = b"\n" * 65_532 + b"b,x\n"
+            self.names([*command, "-"], f'standard input, line 65533, "b,x": {wanted}', 3, kept + b"c,y\n")
+            self.names([*command, "-"], f'standard input, line 65534, "b,x": {wanted}', 3, b"\n" + kept[:-1])
+            self.names([*command, "-"], wanted, 3, b"\n" + kept)
+            self.names([*command, "-"], wanted, 3, b"a" * 4096 + b"\n" + kept)
+            self.names([*command, "-", "bad"], wanted, 3, b"a\n" * 40_000)
         self.save("day", ["summarise", "--k", "2"])
         for command in ("confirm", "condense"):
             self.names([command, "day", "bad"], f'bad, line 4, "b,x": {wanted}', 3)
             self.names([command, "day", "good", "bad"], f'bad, line 4, "b,x": {wanted}', 3)
+            self.names([command, "--header", "day"], f'standard input, line 2, "b,x": {wanted}', 3, b"k,w\nb,x\n")
+            self.names([command, "day", "-"], f'standard input, line 2, "b,x": {wanted}', 3, b"a,1\nb,x\n")
         said = self.of_pipe(b"a,1\nb,x\n")
-        self.check("a pipe is not read again", said == f"heavy: record 2: bad weight\n  {wanted}\n".encode(), said)
+        told = re.fullmatch(rb'heavy: record 2: bad weight\n  /dev/fd/\d+, line 2, "b,x": (.*)\n', said)
+        self.check("the begin of a pipe is kept", told and told[1] == wanted.encode(), said)
 
     def test_more_about_columns(self) -> None:
         """A column that is missing, fields that are too few, a weight of -, and records of other formats."""
@@ -682,7 +698,7 @@ class CommandLine(programs.Checks):
             "flows": b'\xef\xbb\xbfhost,"bytes, sent",n\r\nx,5,1\r\n', "other": b"\nHost;n\nx;5\n", "empty": b"", "two": b"a,1\nb\nc,2\n",
             "dash": b"x a 5\ny a -\n", "dashes": b'k,w\na,"-"\n', "late": b"q" * 70 + b",-\n", "json": b'{"a":1,"b":2}\n',
             "list": b"a,1\n[1,2,3]\n", "gz": b"\x1f\x8b\x08\0,,,\n", "zst": b"\x28\xb5\x2f\xfd,1,2\n", "wide": b"\xff\xfea\0,\0\x31\0\n\0",
-            "big": b"\xfe\xff\0a\0,\0,\0\n", "a\x1bb": b"host\nx\n",
+            "big": b"\xfe\xff\0a\0,\0,\0\n", "a\x1bb": b"host\nx\n", "short": b"k,w\na\n",
         }
         for name, data in files.items():
             Path(self.room, name).write_bytes(data)
@@ -698,12 +714,22 @@ class CommandLine(programs.Checks):
             for command in (["report"], ["summarise"], ["table"]):
                 self.names([*command, *words], more, 3)
         self.names(["confirm", "-H", "--key", "m", "day", "flows"], named % "m", 3)
-        self.refuses(["report", "-H", "--key", "m", "-"], "the header has no such column", 3, b"host\n")
+        for command in (["report"], ["summarise"], ["table"], ["confirm", "day"]):
+            for name in ([], ["-"]):
+                more = 'standard input has no column "m"; its header has "host", "bytes, sent", "n"'
+                self.names([*command[:1], "-H", "--key", "m", *command[1:], *name], more, 3, files["flows"])
+        self.names(["report", "-H", "--key", "n", "flows", "-"], 'standard input has no column "n"; its header has "host"', 3, b"host\n")
+        long = b"q" * 65_536 + b",w\na,1\n"
+        self.refuses(["report", "-H", "--key", "m", "-"], "the header has no such column", 3, long)
+        self.names(["report", "--key", "3", "-"], "a record has each column that --key and --weight name", 3, long)
         weight = "a weight is a whole number from 1 on; is the first line a header? --header; has it a point? --decimals"
         for words, more in [
-            (["--key", "3", "two"], 'two, line 1, "a,1": it has 2 fields, and --key or --weight names another'),
-            (["--key", "2", "two"], 'two, line 2, "b": it has 1 field, and --key or --weight names another'),
-            (["--key", "1", "--weight", "2", "two"], 'two, line 2, "b": it has 1 field, and --key or --weight names another'),
+            (["--key", "3", "two"], 'two, line 1, "a,1": it has 2 fields, and --key names column 3'),
+            (["--key", "2", "two"], 'two, line 2, "b": it has 1 field, and --key names column 2'),
+            (["--key", "1,002", "--weight", "4", "two"], 'two, line 1, "a,1": it has 2 fields, and --weight names column 4'),
+            (["--key", "1", "--weight", "2", "two"], 'two, line 2, "b": it has 1 field, and --weight names column 2'),
+            (["-H", "--weight", "w", "short"], 'short, line 2, "a": it has 1 field, and --weight names column 2, "w"'),
+            (["-H", "--key", "w,k", "short"], 'short, line 2, "a": it has 1 field, and --key names column 2, "w"'),
             (["-d ", "--key", "1", "--weight", "3", "dash"], 'dash, line 2, "y a -": --allow-zero takes a weight of -, as 0'),
             (["-H", "--weight", "w", "dashes"], 'dashes, line 2, "a,\\"-\\"": --allow-zero takes a weight of -, as 0'),
             (["late"], f'late, line 1, "{"q" * 60}"..: --allow-zero takes a weight of -, as 0'),
@@ -718,6 +744,8 @@ class CommandLine(programs.Checks):
                 saved = ["day"] if command == ["condense"] else []
                 place = words.index(words[-1]) if saved else 0
                 self.names([*command, *words[:place], *saved, *words[place:]], more, 3)
+                name = words[-1]
+                self.names([*command, *words[:-1], *saved, "-"], more.replace(name, "standard input", 1), 3, files[name])
 
     def test_places_of_records(self) -> None:
         """Of random texts in files: a bad record that is put at the place that is told, with nothing behind it, has the same
@@ -815,8 +843,8 @@ class CommandLine(programs.Checks):
         self.notes(["condense", "day", "plain", "op\ten"], opened[:30] + r"op\ten")
         for words in (["list", "day"], ["describe", "day"], ["ask", "day", "a;1"], ["merge", "day"]):
             self.notes(words, "")
-        self.tells(["report"], "a key has 1 to 4096 bytes", 3, b'"')
-        self.tells(["report"], "a key has 1 to 4096 bytes", 3, b"a;1\n\"\"\n")
+        self.tells(["report"], r'standard input, line 1, "\"": a key has 1 to 4096 bytes', 3, b'"')
+        self.tells(["report"], r'standard input, line 2, "\"\"": a key has 1 to 4096 bytes', 3, b"a;1\n\"\"\n")
 
     def test_notes_about_last_records(self) -> None:
         """A last record that begins with a quote and has more than 100 lines or 65,536 bytes: one line, always."""

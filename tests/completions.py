@@ -45,7 +45,7 @@ DRIFTS = [
     (MAN, "Default 1024.", "Default 512."),
     (MAN, '"heavy ', '"heavy 0.'),
     (MAN, ".TP\n.B heavy ask\n", ".TP\n.B heavy tell\n"),
-    (BASH, "--workers --pieces", "--pieces"),
+    (BASH, "--memory --pieces", "--pieces"),
     (BASH, "merge ask list describe condense", "merge ask describe condense"),
     (BASH, "-h --help -V --version", "-h --help"),
     (BASH, "-t --threshold -n --top", "-t --threshold --top"),

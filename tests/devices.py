@@ -7,10 +7,12 @@ usage: tests/devices.py
 import os
 import resource
 import shutil
+import signal
 import stat
 import subprocess
 import tempfile
 import tty
+from functools import partial
 from pathlib import Path
 
 import programs
@@ -30,6 +32,13 @@ def said(ended: programs.Ended) -> tuple[int, bytes, bytes]:
 def shell(script: str, words: list[str], given: bytes = RECORDS, **how) -> tuple[int, bytes, bytes]:
     """What the program said under a line of the shell, in which "$@" is the program with its words."""
     return said(programs.run(["sh", "-c", script, "", *words], given, **how))
+
+
+def short_files(limit: int | None) -> None:
+    """Has each file of this process end at `limit` bytes, if there is one: a write beyond fails."""
+    if limit is not None:
+        signal.signal(signal.SIGXFSZ, signal.SIG_IGN)
+        resource.setrlimit(resource.RLIMIT_FSIZE, (limit, limit))
 
 
 class Devices(programs.Checks):
@@ -56,7 +65,7 @@ class Devices(programs.Checks):
     def test_inputs_that_fail_in_the_middle(self) -> None:
         """Every command that reads records, where their device fails behind some of them: these are judged first."""
         by_file = [["condense", self.summary], ["confirm", self.summary]]
-        for command in [REPORT, [*REPORT, "--pieces", "4"], ["summarise"], ["table"], *by_file]:
+        for command in [REPORT, [*REPORT, "--memory", "0"], [*REPORT, "--pieces", "4"], ["summarise"], ["table"], *by_file]:
             number = 1 + (command[-1] == self.summary)
             fails = (1, b"", b"heavy: file %d: could not be read\n" % number)
             bad = (3, b"", b"heavy: record 2: zero weight\n")
@@ -71,6 +80,30 @@ class Devices(programs.Checks):
                 found = said(programs.run([self.program, *command, *files], stdin=ear))
                 os.close(ear)
                 self.check(f"{command[0]} of {text} and {files}", found == wanted, found)
+
+    def test_kept_pipes(self) -> None:
+        """A pipe that is longer than may be kept in memory goes to a file that leaves no name, and its fault is a device's."""
+        text = b"".join(b"key%d,%d\n" % (i % 700, i % 5 + 1) for i in range(200_000))
+        folder = f"{self.room}/temporary"
+        os.mkdir(folder)
+        words = [self.program, "report", "--k", "800"]
+        wanted = said(programs.run(words, text))
+        self.check("report of a pipe", wanted[0] == 0 and wanted[1].count(b"\n") == 420, wanted[1][:200])
+        for megabytes in ("0", "1", "2", "3", "18446744073709551615"):
+            found = said(programs.run([*words, "--memory", megabytes], text, env=os.environ | {"TMPDIR": folder}))
+            self.check(f"report of a pipe, {megabytes} MB in memory", found == wanted, found[1:][:200])
+        self.check("no file is left", os.listdir(folder) == [], os.listdir(folder))
+        for name, environment, limit, reason in (
+            ("no folder", {"TMPDIR": f"{folder}/none"}, None, b"No such file or directory"),
+            ("a full folder", {"TMPDIR": folder}, 65_536, b"File too large"),
+        ):
+            for more, second in (([], b""), (["--explain"], b"  the temporary folder: %s\n" % reason)):
+                ended = programs.run(
+                    [*words, "--memory", "1", *more], text, env=os.environ | environment, preexec_fn=partial(short_files, limit)
+                )
+                found = (ended.status, ended.out, ended.err)
+                self.check(f"report of a pipe, {name} {more}", found == (1, b"", b"heavy: input could not be read\n" + second), found)
+        self.check("no file is left of a fault", os.listdir(folder) == [], os.listdir(folder))
 
     def test_closed_streams(self) -> None:
         """A file that is opened is never taken for a standard stream that is closed, and a closed stream is a fault."""

@@ -1,8 +1,9 @@
 #!/usr/bin/env python3
 """Runs the scripts of examples/machines over random records: what they print has to be what `heavy report` prints over all
-records. GNU parallel reaches its machines through a stand-in for ssh, which runs the words here, and loses a machine in either
-round. Over Dask, workers are started as that folder's README does it, and one is killed by its process id while it reads
-a part, in each of the two passes, as is one of a LocalCluster of three, over a dataframe, a bag and delayed parts.
+records, by its options for records and rows too. GNU parallel reaches its machines through a stand-in for ssh, which runs the
+words here, and loses a machine in either round. Over Dask, workers are started as that folder's README does it, and one is
+killed by its process id while it reads a part, in each of the two passes, as is one of a LocalCluster of three, over a
+dataframe, a bag and delayed parts.
 
 usage: tests/engines.py [SEED]
 
@@ -67,6 +68,10 @@ case "$lost:$host:$*" in
 esac
 exec sh -c "$*"
 """
+# How Tables are read, with names that a shell has to be kept from reading, and which of their rows are wanted.
+RECORDS = ["-Hd", ";", "--key", '"it\'s, $HOME",path', "--weight={#} s", "--allow-zero", "--decimals", "3"]
+ROWS = ["--share", "-t", "1/40", "--top=4"]
+NAMES = [b"day", b"it's, $HOME", b"{#} s", b"path"]
 # What workers load the parts by: the items of a file of records, its frame, and its counter.
 LOADING = """
 import collections, csv, pandas
@@ -164,7 +169,7 @@ class Room:
     """A folder with the parts of a stream, and with `heavy` and `ssh` on the path."""
 
     def __init__(self, room: str, seed: int) -> None:
-        self.path = Path(room)
+        self.path, self.seed = Path(room), seed
         draw = random.Random(seed)
         keys = [b"%d" % i for i in range(300)] + [b'"a,b"', b"others", b"\xff"]
         self.parts: list[Path] = []
@@ -229,6 +234,55 @@ class Room:
             return subprocess.Popen(words, env=self.env, cwd=self.path, stdout=said, stderr=said)
 
 
+class Tables:
+    """Parts with a header, a key of two columns and decimals, and the reports of them."""
+
+    def __init__(self, room: Room) -> None:
+        draw = random.Random(room.seed)
+        hosts = [b"a", b"o'neil", b"b;c", b'd "e"', b"{}"]
+        self.items: list[tuple[bytes, int]] = []
+        self.parts: list[Path] = []
+        whole = b"\n" + table_line(NAMES)
+        for i in range(3):
+            rows = []
+            for _ in range(draw.randrange(60, 90)):
+                host, path = draw.choice(hosts), draw.choice([b"/", b"/one,two", b"/three"])
+                units = draw.choice([0, 1, 500, 12250, draw.randrange(1, 90000)])
+                # a point may have no digit before it
+                weight = draw.choice([b"-", b"0"]) if units == 0 else reference.number_text(units, 3).removeprefix(b"0")
+                rows.append([b"%d" % i, host, weight, path])
+                if units:
+                    self.items.append((reference.row_text(host, path).removesuffix(b"\n"), units))
+            # columns are found by name, in whatever order a part has them
+            order = draw.sample(range(4), 4)
+            text = b"".join(table_line([row[at] for at in order]) for row in [NAMES, *rows])
+            self.parts.append(room.path / f"table {i}.csv")
+            self.parts[-1].write_bytes(text)
+            whole += b"".join(map(table_line, rows))
+        self.whole = room.path / "tables.csv"
+        self.whole.write_bytes(whole)
+        total = reference.total_of(self.items)
+        # each case has options, what says k to a script, and the report
+        self.cases = [
+            ([*RECORDS], ["60"], reference.printed_rows(reference.heavy(self.items, 1, 61), total, None, False, 3)),
+            ([*ROWS, *RECORDS], ["-k60", "--"], reference.printed_rows(reference.heavy(self.items, 1, 40), total, 4, True, 3)),
+        ]
+
+    def try_all(self, test: programs.Checks, room: Room, name: str, words: list[str | Path], parts: list[str | Path]) -> None:
+        """Each case by a script, and by the program."""
+        for options, k, expected in self.cases:
+            report = programs.run([room.env["HEAVY"], "report", *options, "-k60", *map(str, self.parts)])
+            test.check(f"the report of tables {options}", (report.status, report.out) == (0, expected), (report, expected))
+            ended = room.run([*words, *options, *k, *parts])
+            test.check(f"{name} over tables {options}", gave(ended) == (0, expected), (ended, expected))
+
+
+def table_line(fields: list[bytes]) -> bytes:
+    """A line of a table with semicolons, in which a field with a quote or a semicolon is quoted."""
+    quoted = [b'"' + field.replace(b'"', b'""') + b'"' if any(it in field for it in b';"') else field for field in fields]
+    return b";".join(quoted) + b"\n"
+
+
 def gave(ended: subprocess.CompletedProcess) -> tuple[int, bytes]:
     """How a script ended, as what is expected of it is written."""
     return ended.returncode, ended.stdout
@@ -273,12 +327,48 @@ def try_parallel(test: programs.Checks, room: Room) -> None:
     test.check("a fault in the second round", gave(ended) == (3, b""), ended)
     try_lost(test, room, places)
     room.forget()
+    try_options(test, room)
+    room.forget()
     other = room.path / "other"
     other.write_bytes(programs.run([room.env["HEAVY"], "summarise", "--k", str(K)], b"a,1\n").out)
     room.forget(f'swapped="{other}"')
     ended = room.run([machines, str(K), *places])
     test.check("another summary on a machine", ended.returncode != 0 and ended.stdout == b"", ended)
     test.check("is not condensed by there", room.times("summarise") == PARTS and room.times("condense") == 0, room.lines("log"))
+
+
+def try_options(test: programs.Checks, room: Room) -> None:
+    """The scripts over GNU parallel with options."""
+    one_file, machines = EXAMPLES / "one_file.sh", EXAMPLES / "many_machines.sh"
+    tables = Tables(room)
+    tables.try_all(test, room, "one file", [one_file], [tables.whole])
+    cores = len(os.sched_getaffinity(0))
+    test.check("one table in parts", room.times("summarise") == room.times("condense") >= 2 * cores, room.lines("log"))
+    places = [f"{'two' if i % 2 else 'one'}:{part}" for i, part in enumerate(tables.parts)]
+    tables.try_all(test, room, "many machines", [machines], places)
+    # what has another content in the second round, of the same weight
+    weight = sum(int(line.rsplit(b",", 1)[1]) for line in room.parts[-1].read_bytes().splitlines())
+    (room.path / "changed").write_bytes(b"changed,%d\n" % weight)
+    room.forget(f'if [ "$1 $input" = "condense {quoted(room.parts[-1])}" ]; then exec < "$ROOM/changed"; fi')
+    ended = room.run([machines, str(K), *[f"one:{part}" for part in room.parts]])
+    told = b"outside its bounds" in ended.stderr
+    test.check("a part that was changed between the rounds", gave(ended) == (3, b"") and told, ended)
+    room.forget()
+    for name, text in [("a header alone", table_line(NAMES)), ("a header without a line feed", table_line(NAMES)[:-1])]:
+        (room.path / "head").write_bytes(text)
+        ended = room.run([one_file, *RECORDS, "60", room.path / "head"])
+        test.check(name, gave(ended) == (0, b"") and ended.stderr == b"", ended)
+    ended = room.run(["bash", "-c", '"$0" -k2 <(echo a; echo b; echo a)', one_file])
+    test.check("a pipe", gave(ended) == (0, b"a,2\n"), ended)
+    room.forget()
+    for words, told in [
+        (["-t", "1/100", "60"], b"heavy: threshold must be P/Q"), (["-k3", "-k", "4"], b"'--k <N>' cannot be used multiple times"),
+        (["-d", "ab", "60"], b"heavy: delimiter must be one byte"), (["--workers=2", "60"], b"usage: many_machines.sh "),
+        (["60", "-H"], b"usage: many_machines.sh "), (["60", "-oA:b"], b"usage: many_machines.sh "), (["-H"], b"usage: many_machines.sh "),
+    ]:
+        ended = room.run([machines, *words, *places[: words != ["-H"]]])
+        test.check(f"{words} are refused", gave(ended) == (2, b"") and told in ended.stderr, ended)
+    test.check("before a machine is reached", not room.lines("hosts"), room.lines("hosts"))
 
 
 def try_lost(test: programs.Checks, room: Room, places: list[str]) -> None:
@@ -397,6 +487,19 @@ def try_places(test: programs.Checks, dask: Dask) -> None:
         example.wait()
 
 
+def try_tables(test: programs.Checks, dask: Dask) -> None:
+    """The example with options, and some that are refused."""
+    tables = Tables(dask.room)
+    script = [dask.python, EXAMPLES / "over_dask.py", "--scheduler", dask.address]
+    tables.try_all(test, dask.room, "Dask", script, tables.parts)
+    for words, told in [
+        (["-t", "1/100", "60"], b"over_dask: threshold must be P/Q"), (["-t", "5%", "60"], b"write '1/20'"),
+        (["-d", "ab", "60"], b"over_dask: delimiter must be one byte"), (["--workers=2", "60"], b"unrecognized arguments: --workers=2"),
+    ]:
+        ended = dask.room.run([*script, *words, tables.whole])
+        test.check(f"Dask: {words} are refused", gave(ended) == (2, b"") and told in ended.stderr, ended)
+
+
 def try_alone(test: programs.Checks, python: str, room: Room) -> None:
     """The example without a scheduler."""
     ended = room.run([python, EXAMPLES / "over_dask.py", str(K), *room.parts, room.fed])
@@ -443,6 +546,7 @@ def try_dask(test: programs.Checks, python: str, room: Room) -> None:
             tried(test, room, "a worker killed in the second pass", lambda: kill_a_worker(test, dask, 2))
             tried(test, room, "faults over Dask", lambda: on_two_workers(try_faults))
             tried(test, room, "places over Dask", lambda: on_two_workers(try_places))
+            tried(test, room, "options over Dask", lambda: on_two_workers(try_tables))
     finally:
         stop([dask.scheduler])
 

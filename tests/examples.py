@@ -3,8 +3,9 @@
 
 An example is a block of lines indented by four spaces (in the man page, between .EX and .EE) with a line that begins
 with `$ `: what stands behind it is run by bash, and has to print the lines below it and nothing else. The blocks of a
-page are run in order in one folder, which has the folder examples/, the program as `heavy` and as bin/heavy, bin/try, and
-a stand-in for ssh that runs the words here.
+page are run in order in one folder, which has the folder examples/, the program as `heavy` and as bin/heavy, bin/try, a
+stand-in for ssh that runs the words here, and where nfdump is installed a folder flows/ with what its nfcapd wrote of the
+flows of examples/flows.csv.
 
 Of other blocks, that of python/README.md is Python over the library for C, which is run where that was built, or all
 that it stands on; Rattle in the README stands in the sources, word for word; a drawing needs nothing; and each line of any
@@ -13,12 +14,16 @@ other begins with a command, which has to be there with the options that are sho
 usage: tests/examples.py
 """
 import ast
+import csv
 import os
 import re
 import shutil
+import socket
+import struct
 import subprocess
 import sys
 import tempfile
+import time
 from pathlib import Path
 
 import programs
@@ -74,6 +79,46 @@ def wanting(command: str) -> set[str]:
     return {tool for word, tool in TOOLS.items() if re.search(word, command) and not installed(tool)}
 
 
+def netflow() -> bytes:
+    """The flows of examples/flows.csv, as a router reports them: a packet of NetFlow version 5."""
+    with open(programs.TOP / "examples" / "flows.csv", newline="") as file:
+        rows = [*csv.DictReader(file)]
+    packet = struct.pack("!HHIIIIBBH", 5, len(rows), 9000, 1795328710, 0, 0, 0, 0, 0)
+    for row in rows:
+        addresses = socket.inet_aton(row["sa"]) + socket.inet_aton(row["da"]) + bytes(4)
+        counts = struct.pack("!HHIIII", 1, 2, int(row["ipkt"]), int(row["ibyt"]), 1000, 8000)
+        ends = struct.pack("!HHBBBB", int(row["sp"]), int(row["dp"]), 0, 0, getattr(socket, f"IPPROTO_{row['pr']}"), 0)
+        packet += addresses + counts + ends + bytes(8)
+    return packet
+
+
+def capture(folder: Path) -> None:
+    """Has nfcapd write the flows that it is sent into this folder."""
+    folder.mkdir()
+    log = folder.parent / "nfcapd.log"
+
+    def waited(for_words: str) -> None:
+        end = time.monotonic() + 60
+        while for_words not in log.read_text():
+            if time.monotonic() > end or nfcapd.poll() is not None:
+                raise TimeoutError(f"nfcapd has not said {for_words!r}, but {log.read_text()!r}")
+            time.sleep(0.05)
+
+    with socket.socket(socket.AF_INET, socket.SOCK_DGRAM) as sender, open(log, "wb") as said:
+        with socket.socket(socket.AF_INET, socket.SOCK_DGRAM) as free:
+            free.bind(("127.0.0.1", 0))
+            place = free.getsockname()
+        words = ["nfcapd", "-b", place[0], "-p", str(place[1]), "-w", str(folder)]
+        nfcapd = subprocess.Popen(words, stdin=subprocess.DEVNULL, stdout=said, stderr=said)
+        try:
+            waited("Startup nfcapd")
+            sender.sendto(netflow(), place)
+            waited("New exporter")
+        finally:
+            nfcapd.terminate()
+            nfcapd.wait(60)
+
+
 def blocks_of(text: str) -> list[list[str]]:
     """The blocks of a text that have a line to type, without the indentation."""
     blocks = re.findall(r"(?:^    .*\n?)+", FENCED.sub("", text), re.MULTILINE)
@@ -120,6 +165,8 @@ def faults_of(blocks: list[list[str]]) -> list[str]:
         if any("over_dask" in command for block in blocks for command, _ in steps_of(block)) and installed("dask"):
             programs.install_library(f"{room}/usr", programs.compilers()[0])
             env |= {"LIBHEAVY": f"{room}/usr/lib/libheavy.so.1", "PYTHONPATH": str(programs.TOP / "python")}
+        if any("nfdump" in command for block in blocks for command, _ in steps_of(block)) and installed("nfdump"):
+            capture(folder / "flows")
         for command, printed in (step for block in blocks for step in steps_of(block)):
             if wanting(command):
                 continue

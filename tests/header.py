@@ -26,6 +26,8 @@ STRUCTURES = {
 }
 TYPES = {"u8": "uint8_t", "u32": "uint32_t", "u64": "uint64_t", "usize": "size_t"}
 TYPES.update({name: f"struct {words}" for words, (_, name) in STRUCTURES.items()})
+# What the library alone reads: a pointer and a number of 64 bits.
+TYPES["Growing"] = "struct heavy_growing"
 SIZES = {"u8": 1, "u32": 4, "u64": 8, "usize": 8}
 # The toolchain's clang has no headers of its own.
 HEADERS = programs.TOP / "tests" / "c" / "headers"

@@ -105,7 +105,7 @@ class Library(programs.Checks):
         if compiled(compiler, "calls.c", prefix, self.room, *sanitized) is None:
             print(f"library: {compiler} has no sanitizers; the calls are tried without", flush=True)
             sanitized = []
-        for source in ("calls.c", "records.c", "sequences.c", "memory.c"):
+        for source in ("calls.c", "records.c", "growing.c", "sequences.c", "memory.c"):
             words = ["-fno-builtin"] if source == "memory.c" else sanitized
             made = compiled(compiler, source, prefix, self.room, *words)
             ended = programs.run([made]) if made else None

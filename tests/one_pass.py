@@ -47,6 +47,7 @@ class OnePass(programs.Checks):
             "condense FILE": lambda of: ["condense", "--workers", "2", f"{self.room}/{of}", f"{self.room}/{of}.csv"],
             "confirm FILE": lambda of: ["confirm", "--workers", "2", f"{self.room}/{of}", f"{self.room}/{of}.csv"],
             "report": lambda of: ["report", "--workers", "2", f"{self.room}/{of}.csv"],
+            "report of a pipe": lambda of: ["report", "--workers", "2", "--memory", "0"],
         }
         for name, words in commands.items():
             ample = programs.run([program, *words("many")], many)

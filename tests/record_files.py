@@ -61,8 +61,8 @@ def delimiter_of(word: bytes | None) -> str:
 
 
 def column_of(word: bytes, has_header: bool) -> int | str:
-    """The place of a column from 0 on, or its name. Up to ten digits are a number."""
-    if re.fullmatch(rb"[0-9]{1,10}", word):
+    """The place of a column from 0 on, or its name. Digits alone are a number, however many there are."""
+    if re.fullmatch(rb"[0-9]+", word):
         if int(word) > 0:
             return int(word) - 1
     elif has_header:
@@ -241,7 +241,7 @@ def some_text(draw: Random, layout: Layout, names: list[bytes]) -> bytes:
     weight = None
     if layout.weight in columns:
         weight = columns.index(layout.weight)
-    if re.fullmatch(rb"[0-9]{1,10}", layout.weight or b""):
+    if re.fullmatch(rb"[0-9]+", layout.weight or b""):
         weight = int(layout.weight) - 1
     rows += [some_record(draw, layout, len(columns), weight) for _ in range(draw.randrange(9))]
     end = draw.choice(ENDS)
@@ -498,6 +498,10 @@ REPORTS = [
     (["--weight", "2"], [b"a,5,x\nb,3\n"], b"a,5\nb,3\n"), (["--weight", "1"], [b"5,a\n"], b"5,5\n"),
     (["--key", "1"], [b"a,5\nb\na,x,y\n"], b"a,2\nb,1\n"),
     (["--key", "001", "--weight", "0000000002"], [b"a,5\n"], b"a,5\n"),
+    (["--key", "00000000002", "--weight", "1"], [b"5,a\n2,b\n"], b"a,5\nb,2\n"),
+    (["--key", "0" * 300 + "2"], [b"5,a\n"], b"a,1\n"),
+    (["--header", "--key", "00000000002"], [b"00000000002,w\n5,a\n"], b"a,1\n"),
+    (["--header", "--key", "12345678901"], [b"12345678901\n"], b""),
     # delimiters
     (["--delimiter=-"], [b"a-5\nb,c-2\n"], b'a,5\n"b,c",2\n'), (["--delimiter", "\\"], [b"a\\5\n"], b"a,5\n"),
     (["--delimiter", b"\xff"], [b"a\xff5\n"], b"a,5\n"), (["--delimiter", ","], [b"a,5\n"], b"a,5\n"),
@@ -523,6 +527,11 @@ REPORTS = [
     (["--decimals", "2", "--delimiter", ";"], [b"a;1.5\n", b"a;.25"], b"a,1.75\n"),
 ]
 
+# Columns that no record has, about the largest numbers of 32 and of 64 bits and past them.
+MANY_DIGITS = [
+    "9999999999", "12345678901", "4294967297", "18446744073709551615", "18446744073709551616", "18446744073709551617", "9" * 300,
+]
+
 # Options, texts, and the first record that is refused, with the cause.
 BAD_RECORDS = [
     ([*LOG_WORDS, "10"], [LOG], 1, "bad weight"), ([*LOG_WORDS, "11"], [LOG], 1, "wrong number of fields"),
@@ -534,7 +543,8 @@ BAD_RECORDS = [
     ([], [b"x," + LARGEST, b"y"], 2, "total too large"),
     (["--allow-zero"], [b"x,0", b"y," + LARGEST, b"z"], 3, "total too large"),
     (["--key", "2"], [b"a,b\na\n"], 2, "wrong number of fields"), (["--key", "1"], [b"a\n,b\n"], 2, "empty key"),
-    (["--key", "9999999999"], [b"a\n"], 1, "wrong number of fields"),
+    *((["--key", digits], [b"a,1\n"], 1, "wrong number of fields") for digits in MANY_DIGITS),
+    *((["--header", "--weight", digits], [b"%s\na\n" % digits.encode()], 1, "wrong number of fields") for digits in MANY_DIGITS),
     (["--weight", "3"], [b",x\n"], 1, "wrong number of fields"),
     (["--weight", "2"], [b",x\n"], 1, "empty key"), (["--weight", "2"], [b"k" * 4097 + b",x\n"], 1, "key too long"),
     (["--weight", "2"], [b"k" * 4096 + b",x\n"], 1, "bad weight"), (["--weight", "2"], [b"a," + b"0" * 21], 1, "bad weight"),
@@ -557,10 +567,10 @@ BAD_RECORDS = [
     (["--decimals", "3"], [b"a,9223372036854775\nb\n"], 2, "total too large"),
 ]
 
-# Options that are refused, whatever the records: among them numbers of more than ten digits, which only a header names.
+# Options that are refused, whatever the records.
 NO_DELIMITERS = ["", '"', "\r", "\n", ",,", "\\n", "\\tt", "ä", "tab", b"\xff\xff"]
-NO_KEYS = ["", "0", "00", "x", "1,", ",1", "1,x", "1,0", "+1", "1.0", " 1", "12345678901"]
-NO_WEIGHTS = ["", "0", "x", "1,2", "9999999999999", b"\xff"]
+NO_KEYS = ["", "0", "00", "x", "1,", ",1", "1,x", "1,0", "+1", "1.0", " 1", "0" * 11]
+NO_WEIGHTS = ["", "0", "x", "1,2", "0" * 300, b"\xff"]
 BAD_OPTIONS = [
     *((["--delimiter", word], BAD_DELIMITER) for word in NO_DELIMITERS),
     *((["--key", word], BAD_COLUMN) for word in NO_KEYS),
@@ -578,7 +588,6 @@ NO_COLUMNS = [
     (["--key", " a"], [b"a\n"]), (["--key", "a"], [b" a\n"]), (["--key", "a"], [b"a\n1\n", b"b\n1\n"]),
     (["--key", "a", "--weight", "w"], [b"a,w\n1,0\n", b"a,b\n"]),
     (["--key", "a", "--weight", "w"], [b"a,w\nx\n", b"", b"w,b\n"]),
-    (["--key", "12345678901"], [b"a\n"]),
 ]
 
 

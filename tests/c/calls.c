@@ -1,32 +1,8 @@
 /* Every call of the library, with answers known by hand: full rooms, small rooms, empty slices, refusals; then two
    threads at once. Prints what is wrong, and how many checks passed. */
 #include <pthread.h>
-#include <stdio.h>
-#include <stdlib.h>
-#include <string.h>
 
-#include "heavy.h"
-
-static int passed, failed;
-
-static void check(const char *name, int holds) {
-    if (holds) {
-        passed++;
-    } else {
-        failed++;
-        printf("FAILED: %s\n", name);
-    }
-}
-
-/* A block of exactly so many bytes, so that a read or a write beyond it is found; and never null. */
-static uint8_t *block(const void *bytes, size_t size) {
-    uint8_t *made = malloc(size ? size : 1);
-    if (!made)
-        abort();
-    if (size)
-        memcpy(made, bytes, size);
-    return made;
-}
+#include "checks.h"
 
 struct answer {
     uint32_t status;
@@ -193,10 +169,6 @@ static int small(const struct answer *a, size_t size) {
         && a->told.cause == 0 && a->told.number == 0;
 }
 
-#define BYTES(text) text, sizeof(text) - 1
-
-/* k 2, a total of 8, two counters: a 5 and b 3, each key with a length of two bytes. */
-static const char ONE[] = "HHS2\1\0\2\0\0\0\0\0\0\0\10\0\2\0\1a\0\0\0\0\0\0\0\5\0\1b\0\0\0\0\0\0\0\3";
 /* k 2, a total of 6: c 4 and a 2. */
 static const char TWO[] = "HHS2\1\0\2\0\0\0\0\0\0\0\6\0\2\0\1a\0\0\0\0\0\0\0\2\0\1c\0\0\0\0\0\0\0\4";
 /* a 7, b 3 and c 4 are three keys; 3 is taken from each: a 4, c 1. */

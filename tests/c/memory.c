@@ -38,9 +38,22 @@ static struct heavy_fault told;
 static struct heavy_bounds bounds[3];
 static struct heavy_entry entries[3];
 
-enum { CALLS = 27 };
+enum { CALLS = 28 };
 
 static struct heavy_info info;
+
+/* The saved summary with an item more, by way of what grows. */
+static uint32_t grown(void) {
+    struct heavy_growing growing = {0};
+    needed = 0;
+    uint32_t status = heavy_open(summary, summary_len / 2, &growing, &told);
+    if (status == HEAVY_DONE)
+        status = heavy_update(&growing, (const uint8_t *)"new", 3, 9, &told);
+    if (status == HEAVY_DONE)
+        status = heavy_save(&growing, room, sizeof room, &needed, &told);
+    heavy_free(&growing);
+    return status;
+}
 
 static uint32_t call(int which) {
     const size_t lengths[] = {summary_len / 2, summary_len / 2}, ones[] = {1, 1, 30};
@@ -89,6 +102,7 @@ static uint32_t call(int which) {
     case 24:
         return heavy_condense_records(summary, summary_len / 2, TEXT, 16, &LAYOUT, COLUMNS, 2, COLUMN_LENGTHS, 2, room, sizeof room,
                                       &needed, &told);
+    case 26: return grown();
     case 25: return heavy_report(TEXT, 16, &LAYOUT, COLUMNS, 2, COLUMN_LENGTHS, 2, 2, 0, 0, room, sizeof room, &needed, &told);
     default: return heavy_add(cells, sizeof cells, KEYS, 32, ENDS, 3, WEIGHTS, 3, room, sizeof room, &needed, &told);
     }

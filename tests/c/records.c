@@ -1,31 +1,6 @@
 /* The calls over records of any layout, what is told of a saved file and of a fault, with answers known by hand. Prints what
    is wrong, and how many checks passed. */
-#include <stdio.h>
-#include <stdlib.h>
-#include <string.h>
-
-#include "heavy.h"
-
-static int passed, failed;
-
-static void check(const char *name, int holds) {
-    if (holds) {
-        passed++;
-    } else {
-        failed++;
-        printf("FAILED: %s\n", name);
-    }
-}
-
-/* A block of exactly so many bytes, so that a read or a write beyond it is found; and never null. */
-static uint8_t *block(const void *bytes, size_t size) {
-    uint8_t *made = malloc(size ? size : 1);
-    if (!made)
-        abort();
-    if (size)
-        memcpy(made, bytes, size);
-    return made;
-}
+#include "checks.h"
 
 enum call { SUMMARISE, TABLE, ADD, CONFIRM, CONDENSE, REPORT };
 
@@ -108,11 +83,7 @@ static int gave(struct answer a, const void *bytes, size_t size) {
         && a.told.cause == 0 && a.told.number == 0;
 }
 
-#define BYTES(text) text, sizeof(text) - 1
-
-/* k 2, a total of 8, two counters: a 5 and b 3, each key with a length of two bytes; so each weight is known exactly. */
-static const char ONE[] = "HHS2\1\0\2\0\0\0\0\0\0\0\10\0\2\0\1a\0\0\0\0\0\0\0\5\0\1b\0\0\0\0\0\0\0\3";
-/* The same of no items. */
+/* ONE of no items. */
 static const char NONE[] = "HHS2\1\0\2\0\0\0\0\0\0\0\0\0\0";
 
 static const struct heavy_layout PLAIN = {',', 0, 0, 0, 0, {0, 0}}, NAMED = {';', 1, 0, 0, 1, {3, 7}};

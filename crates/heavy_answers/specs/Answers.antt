@@ -34,21 +34,24 @@ use Rattle.heavy_requests.specs.declared.request.RecordWords.{RecordWords}
 use Rattle.heavy_requests.specs.declared.request.Request.{Request}
 use Rattle.heavy_requests.specs.declared.request.Request.TheVariants.{Report, Answer}
 use Rattle.heavy_answers.specs.Inputs.{AreRecords}
+use Rattle.heavy_answers.specs.declared.single_pass.SinglePass.{SinglePass}
+use Rattle.heavy_answers.specs.declared.single_pass.SinglePass.TheVariants as one
 
--- the bytes save the summary of the records: by one worker that of the definition, and by several one that is as good
-pub record MakesSummary (opens : Bool → List ℕ → Option (List ℕ) → Type 0) (words : RecordWords) (k workers : ℕ) (bytes : List ℕ) : Type 0 where
+-- of the records that the words name this is made
+pub record OfRecords (opens : Bool → List ℕ → Option (List ℕ) → Type 0) (words : RecordWords) (Makes : Layout → Known → Type 0) : Type 0 where
   pub layout : Layout
   pub known : Known
   pub records : AreRecords opens words layout known
+  pub made : Makes layout known
+
+-- the bytes save the summary of the records: by one worker that of the definition, and by several one that is as good
+pub record SavesByWorkers (k workers : ℕ) (known : Known) (bytes : List ℕ) : Type 0 where
   pub alone : workers ≡ 1 → SavesStream (λ xs. Counters (sketch_of k xs)) known bytes
   pub saved : SavesStream (λ xs. Counters (sketch_of k xs)) known bytes ⊎ SavesSummary k known bytes
 
 -- the bytes save the table of the records
-pub record MakesTable (opens : Bool → List ℕ → Option (List ℕ) → Type 0) (words : RecordWords) (width depth seed : ℕ) (bytes : List ℕ) : Type 0 where
-  pub layout : Layout
-  pub known : Known
-  pub records : AreRecords opens words layout known
-  pub saved : SavesStream (λ xs. Cells (table_of (drawn_family seed depth) width xs)) known bytes
+abbrev pub SavesTable : ℕ → ℕ → ℕ → Known → List ℕ → Type 0
+SavesTable width depth seed known bytes = SavesStream (λ xs. Cells (table_of (drawn_family seed depth) width xs)) known bytes
 
 -- the bytes save the merge of the files with these names, in their order
 pub record MakesMerge (gives : List ℕ → Option (List ℕ) → Type 0) (names : List (List ℕ)) (bytes : List ℕ) : Type 0 where
@@ -58,64 +61,61 @@ pub record MakesMerge (gives : List ℕ → Option (List ℕ) → Type 0) (names
   pub merged : merged_files files ≡ Ok saved
   pub spelled : Spells version.Two bytes saved
 
--- the rows are the records, condensed by the saved file with this name
-pub record Condenses (gives : List ℕ → Option (List ℕ) → Type 0) (opens : Bool → List ℕ → Option (List ℕ) → Type 0) (words : RecordWords)
-    (name : List ℕ) (refuses : Bool) (outside : Option Outside) (bytes : List ℕ) : Type 0 where
-  pub file : List ℕ
-  pub read : gives name (Some file)
-  pub layout : Layout
-  pub known : Known
-  pub records : AreRecords opens words layout known
-  pub rows : CondensesRows layout.decimals file known bytes
-  pub compared : ComparesBounds refuses bounds.High file known outside
+-- the rows are the records, condensed by a saved file
+abbrev pub Condenses : List ℕ → Bool → Option Outside → Layout → Known → List ℕ → Type 0
+Condenses file refuses outside layout known bytes =
+    CondensesRows layout.decimals file known bytes × ComparesBounds refuses bounds.High file known outside
 
--- the rows are the heavy keys of the saved file with this name in the records
-pub record Confirms (gives : List ℕ → Option (List ℕ) → Type 0) (opens : Bool → List ℕ → Option (List ℕ) → Type 0) (words : RecordWords)
-    (name : List ℕ) (share : Share) (rows : RowOptions) (refuses : Bool) (outside : Option Outside) (bytes : List ℕ) : Type 0 where
-  pub file : List ℕ
-  pub read : gives name (Some file)
-  pub layout : Layout
-  pub known : Known
-  pub records : AreRecords opens words layout known
-  pub printed : ConfirmsPrinted rows share file known bytes
-  pub compared : ComparesBounds refuses bounds.Both file known outside
+-- the rows are the heavy keys of a saved file in the records
+abbrev pub Confirms : List ℕ → Share → RowOptions → Bool → Option Outside → Known → List ℕ → Type 0
+Confirms file share rows refuses outside known bytes =
+    ConfirmsPrinted rows share file known bytes × ComparesBounds refuses bounds.Both file known outside
+
+-- a command makes this of the records in one pass, where a key outside its bounds may refuse
+abbrev pub MakesInOnePass : SinglePass → Bool → Option Outside → ℕ → Layout → Known → List ℕ → Type 0
+MakesInOnePass (one.Summarise k method) refuses outside workers layout known bytes = SavesByWorkers k workers known bytes
+MakesInOnePass (one.Table width depth seed) refuses outside workers layout known bytes = SavesTable width depth seed known bytes
+MakesInOnePass (one.Condense file) refuses outside workers layout known bytes = Condenses file.now refuses outside layout known bytes
+MakesInOnePass (one.Confirm file share rows) refuses outside workers layout known bytes =
+    Confirms file.now share.now rows.now refuses outside known bytes
 
 -- the report of the records was written: by the plan that was asked for, or by tallies
-pub record MakesReport (opens : Bool → List ℕ → Option (List ℕ) → Type 0) (options : ReportOptions) (rows : RowOptions) (by_plan : Bool)
-    (words : RecordWords) (old new : Option (List ℕ)) : Type 0 where
-  pub layout : Layout
-  pub known : Known
-  pub records : AreRecords opens words layout known
+pub record PrintsReport (options : ReportOptions) (rows : RowOptions) (by_plan : Bool) (known : Known) (old new : Option (List ℕ)) : Type 0 where
   pub planned : by_plan ≡ true → IsPrinted rows options known old new
   pub tallied : by_plan ≡ false → IsPrintedOfFiles rows options known old new
 
--- what a saved file with this name says of itself or of keys
-abbrev pub Says : (List ℕ → Option (List ℕ) → Type 0) → List ℕ → (List ℕ → Type 0) → Type 0
-Says gives name says = (file : List ℕ) × gives name (Some file) × says file
+-- this holds of the saved file with this name
+abbrev pub OfSaved : (List ℕ → Option (List ℕ) → Type 0) → List ℕ → (List ℕ → Type 0) → Type 0
+OfSaved gives name Holds = (file : List ℕ) × gives name (Some file) × Holds file
 
 -- the bytes answer the command
-abbrev pub MakesBytes : (List ℕ → Option (List ℕ) → Type 0) → (Bool → List ℕ → Option (List ℕ) → Type 0) → Command → RecordWords
+abbrev pub AnswersCommand : (List ℕ → Option (List ℕ) → Type 0) → (Bool → List ℕ → Option (List ℕ) → Type 0) → Command → RecordWords
     → Bool → Option Outside → List ℕ → Type 0
-MakesBytes gives opens (Summarise k method workers) words refuses outside bytes = MakesSummary opens words k workers bytes
-MakesBytes gives opens (Table width depth seed workers) words refuses outside bytes = MakesTable opens words width depth seed bytes
-MakesBytes gives opens (Merge first others) words refuses outside bytes =
+AnswersCommand gives opens (Summarise k method workers) words refuses outside bytes =
+    OfRecords opens words (λ _ known. SavesByWorkers k workers known bytes)
+AnswersCommand gives opens (Table width depth seed workers) words refuses outside bytes =
+    OfRecords opens words (λ _ known. SavesTable width depth seed known bytes)
+AnswersCommand gives opens (Merge first others) words refuses outside bytes =
     MakesMerge gives (first.items ∷ map (λ w. w.items) others.items) bytes
-MakesBytes gives opens (Ask name keys decimals) words refuses outside bytes =
-    Says gives name.items (λ file. answers_in decimals file (map (λ w. w.items) keys.items) ≡ Ok bytes)
-MakesBytes gives opens (ListKeys name decimals) words refuses outside bytes =
-    Says gives name.items (λ file. ListsRows decimals file bytes)
-MakesBytes gives opens (Describe name) words refuses outside bytes = Says gives name.items (λ file. description file ≡ Ok bytes)
-MakesBytes gives opens (Condense name workers) words refuses outside bytes = Condenses gives opens words name.items refuses outside bytes
-MakesBytes gives opens (Confirm name share rows workers) words refuses outside bytes =
-    Confirms gives opens words name.items share rows refuses outside bytes
+AnswersCommand gives opens (Ask name keys decimals) words refuses outside bytes =
+    OfSaved gives name.items (λ file. answers_in decimals file (map (λ w. w.items) keys.items) ≡ Ok bytes)
+AnswersCommand gives opens (ListKeys name decimals) words refuses outside bytes =
+    OfSaved gives name.items (λ file. ListsRows decimals file bytes)
+AnswersCommand gives opens (Describe name) words refuses outside bytes = OfSaved gives name.items (λ file. description file ≡ Ok bytes)
+AnswersCommand gives opens (Condense name workers) words refuses outside bytes =
+    OfSaved gives name.items
+    (λ file. OfRecords opens words (λ layout known. Condenses file refuses outside layout known bytes))
+AnswersCommand gives opens (Confirm name share rows workers) words refuses outside bytes =
+    OfSaved gives name.items
+    (λ file. OfRecords opens words (λ _ known. Confirms file share rows refuses outside known bytes))
 
 -- the request was answered: what it asks for of the files that it names was written, and nothing else
 abbrev pub AnswersRequest : (List ℕ → Option (List ℕ) → Type 0) → (Bool → List ℕ → Option (List ℕ) → Type 0) → Request → RecordWords
     → Bool → Option Outside → Option (List ℕ) → Option (List ℕ) → Type 0
 AnswersRequest gives opens (Report options rows by_plan) words refuses outside old new =
-    MakesReport opens options rows by_plan words old new
+    OfRecords opens words (λ _ known. PrintsReport options rows by_plan known old new)
 AnswersRequest gives opens (Answer command) words refuses outside old new =
-    (bytes : List ℕ) × MakesBytes gives opens command words refuses outside bytes × Appends old new bytes
+    (bytes : List ℕ) × AnswersCommand gives opens command words refuses outside bytes × Appends old new bytes
 
 -- what was asked for on the command line was answered so
 abbrev pub IsAnswered : (List ℕ → Option (List ℕ) → Type 0) → (Bool → List ℕ → Option (List ℕ) → Type 0) → Invocation

@@ -50,4 +50,5 @@ abbrev pub IsReadOnce : {R F : Type 0} → (Bool → List ℕ → Option (List �
     → RecordWords → ℕ → OnePass R F → Type 0
 IsReadOnce opens remaining bytes words workers (pass.Files sources) =
     in_range workers max_workers ≡ true → AreRecords opens words sources.layout (texts_known bytes sources.layout sources.files.items)
-IsReadOnce opens remaining bytes words workers (pass.Stream records) = AreRecords opens words records.layout (records_known remaining records)
+IsReadOnce opens remaining bytes words workers (pass.Stream records) =
+    AreRecords opens words records.layout (records_known remaining records) × (in_range workers max_workers ≡ true)

@@ -1,6 +1,8 @@
 //! What gives the bytes of files.
 
-ghost use Rattle.std.specs.Prelude.{◌≡◌, ℕ, Bool, List, None, Option, false, IfOk, IfSome};
+ghost use Rattle.std.specs.Prelude.{◌≡◌, ℕ, Bool, List, None, Option, false, IfErr, IfOk, IfSome};
+ghost use Rattle.hh_faults.specs.declared.error.ToolError.{ToolError};
+ghost use Rattle.heavy_answers.specs.Refusals.{IsUnkept};
 
 use heavy_host::FileSource;
 use heavy_requests::{Inputs, OpenFile, OpenInput, Reader};
@@ -26,10 +28,14 @@ pub trait Host: FileSource {
     // have been taken by an input before
     ghost opens: { Self → Bool → List ℕ → Option (List ℕ) → Type 0 };
 
+    // the input with this name and number is not opened with this fault
+    ghost unopened: { Self → List ℕ → ℕ → ToolError → Type 0 };
+
     /// Opens the input with this name. Its number is its place among the files of the command line,
     /// from 1 on, and 0 where it has none. Standard input is empty where one before took it.
     fn open(&self, name: &[u8], number: u64, is_taken: bool) -> Result<Self::Input, ToolError>
-        ensures opened { IfOk result (λ input. opens self.now is_taken name.now (text input)) };
+        ensures opened { IfOk result (λ input. opens self.now is_taken name.now (text input)) }
+        ensures refused { IfErr result (unopened self.now name.now number) };
 
     /// Whether an open input can be read at any place as it is.
     fn has_size(&self, input: &Self::Input) -> bool;
@@ -42,7 +48,8 @@ pub trait Host: FileSource {
     /// kept here.
     fn source(&self, input: Self::Input) -> Result<Self::File, ToolError>
         ensures text { IfOk result (λ file. IfSome (text input) (λ bytes.
-            IfSome (Self.File.bytes file) (λ known. known ≡ bytes))) };
+            IfSome (Self.File.bytes file) (λ known. known ≡ bytes))) }
+        ensures refused { IfErr result IsUnkept };
 
     /// Whether all of an input could be read so far.
     fn is_whole(&self, file: &Self::File) -> bool
@@ -64,10 +71,13 @@ impl<'a> Host for Inputs<'a> {
     type File = OpenFile<'a>;
 
     ghost use Rattle.std.specs.Prelude.{⊤};
+    ghost use Rattle.heavy_requests.specs.Inputs.{FailsToOpen};
 
     ghost text = { λ _. None };
 
     ghost opens = { λ _ _ _ _. ⊤ };
+
+    ghost unopened = { λ _. FailsToOpen };
 
     fn open(&self, name: &[u8], number: u64, is_taken: bool) -> Result<OpenInput, ToolError> {
         Inputs::open(*self, name, number, is_taken)

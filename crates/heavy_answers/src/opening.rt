@@ -1,11 +1,14 @@
 //! Opens the inputs of records that a request names.
 
-ghost use Rattle.std.specs.Prelude.{◌≡◌, ◌<◌, ◌∷◌, ◌++◌, ◌||◌, [], false, length, map, IfOk, OnOk};
+ghost use Rattle.std.specs.Prelude.{◌≡◌, ◌<◌, ◌∷◌, ◌++◌, ◌||◌, ◌⊎◌, ℕ, [], false, true, length, map, Err, IfErr, IfOk, IsErr, OnOk};
 ghost use Rattle.hh_records.specs.Layouts.{every, records_known};
-ghost use Rattle.hh_records.specs.LayoutWords.{SaysLayout};
+ghost use Rattle.hh_records.specs.LayoutWords.{LayoutRefused, SaysLayout};
+ghost use Rattle.hh_stream.specs.Ranges.{in_range};
+ghost use Rattle.hh_workers.specs.Workers.{max_workers};
 ghost use Rattle.heavy_requests.specs.Inputs.{names_standard};
 ghost use Rattle.heavy_answers.specs.Inputs.{Agree, AreInputs, AreRecords, IsReadOnce};
 ghost use Rattle.heavy_answers.specs.Inputs.{input_names};
+ghost use Rattle.heavy_answers.specs.Refusals.{IsUnkept, IsUnopened, IsUnopenedAt, OpenRefused};
 
 use crate::host::Host;
 use heavy_requests::{RecordWords, is_standard};
@@ -18,6 +21,7 @@ use hh_workers::MAX_WORKERS;
 /// Pushes `one` behind `others`.
 fn push_behind<T: Drop>(others: &mut Vec<T>, one: T) -> Result<(), ToolError>
     ensures pushed { OnOk result (others.new.items ≡ others.old.items ++ one ∷ []) }
+    ensures refused { IsErr result → result ≡ Err ToolError.Memory }
 {
     match others.push(one) {
         Ok(()) => Ok(()),
@@ -37,11 +41,13 @@ fn is_taken_by(is_taken: bool, name: &[u8]) -> bool
 fn open_named<H: Host>(host: &H, names: &[Vec<u8>], saved: u64) -> Result<Vec<H::Input>, ToolError>
     ensures opened { IfOk result (λ inputs. AreInputs (H.opens host.now) false
         (map (λ name. name.items) names.now) (map H.text inputs.items)) }
+    ensures refused { IfErr result (λ fault. (fault ≡ ToolError.Memory) ⊎ ((place : ℕ)
+        × IsUnopenedAt (H.unopened host.now) (map (λ w. w.items) names.now) saved fault place)) }
 {
     let mut inputs = Vec::new(host.memory());
     let mut is_taken = false;
     for (place, name) in names.iter().enumerate() {
-        let number = saved.saturating_add(place as u64).saturating_add(1);
+        let number = saved.saturating_add(place as u64 + 1);
         push_behind(&mut inputs, host.open(name, number, is_taken)?)?;
         is_taken = is_taken_by(is_taken, name);
     }
@@ -56,6 +62,8 @@ fn open_inputs<H: Host>(
 ) -> Result<Vec<H::Input>, ToolError>
     ensures opened { IfOk result (λ inputs.
         AreInputs (H.opens host.now) false (input_names words.now) (map H.text inputs.items)) }
+    ensures refused { IfErr result (λ fault. (fault ≡ ToolError.Memory)
+        ⊎ IsUnopened (H.unopened host.now) (map (λ w. w.items) words.now.files.items) saved fault) }
 {
     if !words.files.is_empty() {
         return open_named(host, &words.files, saved);
@@ -68,33 +76,11 @@ fn open_inputs<H: Host>(
 /// The layout that the words say, by which keys are hashed as the host has it.
 fn layout_on<H: Host>(host: &H, words: &RecordWords) -> Result<Layout, ToolError>
     ensures said { IfOk result (SaysLayout words.now.layout) }
+    ensures refused { IfErr result (LayoutRefused words.now.layout) }
 {
     let mut layout = layout_of(host.memory(), &words.layout)?;
     layout.hash = host.hash();
     Ok(layout)
-}
-
-/// The records of open inputs, which are read once, one after the other.
-fn records_of<H: Host>(
-    host: &H,
-    layout: Layout,
-    inputs: Vec<H::Input>,
-) -> Result<Records<H::Reader>, ToolError>
-    requires some { 0 < length inputs.items }
-    ensures layout { IfOk result (λ records. records.layout ≡ layout) }
-    ensures texts { IfOk result (λ records. Agree (every H.text inputs.items)
-        (every H.Reader.remaining (records.first ∷ records.others.items))) }
-{
-    let mut readers = Vec::new(host.memory());
-    for input in inputs {
-        push_behind(&mut readers, host.reader(input))?;
-    }
-    let first = readers.remove(0);
-    Ok(Records {
-        layout,
-        first,
-        others: readers,
-    })
 }
 
 /// Sources of the bytes of open inputs, which can be read several times. What stands behind an
@@ -102,6 +88,7 @@ fn records_of<H: Host>(
 fn sources_of<H: Host>(host: &H, inputs: Vec<H::Input>) -> Result<Vec<H::File>, ToolError>
     ensures texts { IfOk result (λ files.
         Agree (every H.text inputs.items) (every H.File.bytes files.items)) }
+    ensures refused { IfErr result IsUnkept }
 {
     let mut files = Vec::new(host.memory());
     for input in inputs {
@@ -159,10 +146,32 @@ pub(crate) fn open<H: Host>(
     ensures some { IfOk result (λ opened. 0 < length opened.inputs.items) }
     ensures opened { IfOk result (λ opened. AreInputs (H.opens host.now) false
         (input_names words.now) (map H.text opened.inputs.items)) }
+    ensures refused { IfErr result (OpenRefused (H.unopened host.now) words.now saved) }
 {
     let layout = layout_on(host, words)?;
     let inputs = open_inputs(host, words, saved)?;
     Ok(Opened { layout, inputs })
+}
+
+/// The records of inputs that are open, for one reading, one after the other.
+fn records_of<H: Host>(host: &H, opened: Opened<H::Input>) -> Result<Records<H::Reader>, ToolError>
+    requires some { 0 < length opened.inputs.items }
+    ensures layout { IfOk result (λ records. records.layout ≡ opened.layout) }
+    ensures texts { IfOk result (λ records. Agree (every H.text opened.inputs.items)
+        (every H.Reader.remaining (records.first ∷ records.others.items))) }
+    ensures refused { IsErr result → result ≡ Err ToolError.Memory }
+{
+    let Opened { layout, inputs } = opened;
+    let mut readers = Vec::new(host.memory());
+    for input in inputs {
+        push_behind(&mut readers, host.reader(input))?;
+    }
+    let first = readers.remove(0);
+    Ok(Records {
+        layout,
+        first,
+        others: readers,
+    })
 }
 
 /// The records of these inputs by one thread, which reads them once.
@@ -173,9 +182,10 @@ pub(crate) fn open_records<H: Host>(
 ) -> Result<Records<H::Reader>, ToolError>
     ensures records { IfOk result (λ records. AreRecords (H.opens host.now) words.now
         records.layout (records_known H.Reader.remaining records)) }
+    ensures refused { IfErr result (OpenRefused (H.unopened host.now) words.now saved) }
 {
-    let Opened { layout, inputs } = open(host, words, saved)?;
-    Ok(records_of(host, layout, inputs)?)
+    let opened = open(host, words, saved)?;
+    Ok(records_of(host, opened)?)
 }
 
 /// The records of inputs that are open, for several readings.
@@ -186,6 +196,7 @@ pub(crate) fn keep<H: Host>(
     ensures layout { IfOk result (λ sources. sources.layout ≡ opened.layout) }
     ensures texts { IfOk result (λ sources.
         Agree (every H.text opened.inputs.items) (every H.File.bytes sources.files.items)) }
+    ensures refused { IfErr result IsUnkept }
 {
     let Opened { layout, inputs } = opened;
     let files = sources_of(host, inputs)?;
@@ -202,25 +213,30 @@ pub(crate) enum OnePass<R, F> {
 }
 
 /// Opens the records that the words name behind `saved` saved files, for one reading by `workers`.
-/// They read files of the disk that have a size; all else is read by one thread. A number of
-/// workers that is refused comes with no files then, so that nothing is read.
+/// They read files of the disk that have a size; all else is read by one thread, and so are these
+/// where it `is_alone`. A number of workers that is refused comes with no files then, so that
+/// nothing is read.
 pub(crate) fn open_once<H: Host>(
     host: &H,
     words: &RecordWords,
     saved: u64,
     workers: u64,
+    is_alone: bool,
 ) -> Result<OnePass<H::Reader, H::File>, ToolError>
+    requires alone { is_alone ≡ true → in_range workers max_workers ≡ true }
     ensures records { IfOk result (IsReadOnce (H.opens host.now) H.Reader.remaining H.File.bytes
         words.now workers) }
+    ensures refused { IfErr result (OpenRefused (H.unopened host.now) words.now saved) }
 {
-    let Opened { layout, inputs } = open(host, words, saved)?;
-    if inputs.iter().all(|input| host.has_size(input)) {
-        let files = sources_of(host, inputs)?;
-        return Ok(OnePass::Files(Sources { layout, files }));
+    let opened = open(host, words, saved)?;
+    if !is_alone && opened.inputs.iter().all(|input| host.has_size(input)) {
+        return Ok(OnePass::Files(keep(host, opened)?));
     }
     if in_range(workers, MAX_WORKERS) {
-        return Ok(OnePass::Stream(records_of(host, layout, inputs)?));
+        return Ok(OnePass::Stream(records_of(host, opened)?));
     }
-    let files = Vec::new(host.memory());
-    Ok(OnePass::Files(Sources { layout, files }))
+    Ok(OnePass::Files(Sources {
+        layout: opened.layout,
+        files: Vec::new(host.memory()),
+    }))
 }

@@ -5,7 +5,7 @@ use Rattle.std.proofs.lemmas.List.{map-append, take_more}
 use Rattle.std.proofs.lemmas.Grind.{flat_map-append, fold-append}
 use Rattle.clap.specs.Walk.{Rule}
 use Rattle.clap.specs.Simple.{App, new_app, with_rule, with_subcommand}
-use Rattle.heavy_arguments.specs.CommandLine.{rule_of_argument, rules_of_arguments, rules_of_group, shape_of_words, with_rules}
+use Rattle.heavy_arguments.specs.CommandLine.{rule_of_argument, argument_rules, rules_of_group, shape_of_words, with_rules}
 use Rattle.heavy_arguments.specs.declared.arguments.CommandWords.{CommandWords}
 use Rattle.heavy_arguments.specs.declared.arguments.Group.{Group}
 use Rattle.heavy_arguments.specs.declared.options.Argument.{Argument}
@@ -17,14 +17,14 @@ rules_more app rules more =
 
 -- a command with the arguments so far, and then the next
 pub argument_added : (app now next : App) (arguments : List Argument) (i : ℕ) (d : Argument) (rule : Rule) → i < length arguments
-    → now ≡ with_rules app (rules_of_arguments (take i arguments)) → rule ≡ rule_of_argument (get_or arguments i d)
-    → next ≡ with_rule now rule → next ≡ with_rules app (rules_of_arguments (take (i + 1) arguments))
+    → now ≡ with_rules app (argument_rules (take i arguments)) → rule ≡ rule_of_argument (get_or arguments i d)
+    → next ≡ with_rule now rule → next ≡ with_rules app (argument_rules (take (i + 1) arguments))
 argument_added app now next arguments i d rule below so_far is added =
     let one = rule_of_argument (get_or arguments i d) in
-    let before = rules_of_arguments (take i arguments) in
+    let before = argument_rules (take i arguments) in
     added ∙ ap (λ (a : App). with_rule a rule) so_far ∙ ap (with_rule (with_rules app before)) is
     ∙ rules_more app before (one ∷ [])
-    ∙ ap (with_rules app) (sym (ap rules_of_arguments (take_more arguments i d below)
+    ∙ ap (with_rules app) (sym (ap argument_rules (take_more arguments i d below)
     ∙ map-append rule_of_argument (take i arguments) (get_or arguments i d ∷ [])))
 
 -- a command with the groups so far, and then the next
@@ -42,11 +42,11 @@ group_added app now headed next groups i d below so_far same added =
 
 -- a command with its arguments, and then with all groups
 pub groups_added : (words : CommandWords) (base first all : App) (i : ℕ) → base ≡ new_app words.name.now
-    → first ≡ with_rules base (rules_of_arguments words.arguments.now)
+    → first ≡ with_rules base (argument_rules words.arguments.now)
     → all ≡ with_rules first (flat_map rules_of_group (take i words.groups.now)) → length words.groups.now ≤ i
     → all ≡ record { top = shape_of_words words; subs = [] }
 groups_added words base first all i named own grouped done =
-    let arguments = rules_of_arguments words.arguments.now in
+    let arguments = argument_rules words.arguments.now in
     let groups = flat_map rules_of_group words.groups.now in
     grouped ∙ ap (λ (gs : List Group). with_rules first (flat_map rules_of_group gs)) (take_all i words.groups.now done)
     ∙ ap (λ (a : App). with_rules a groups) (own ∙ ap (λ (a : App). with_rules a arguments) named)

@@ -73,8 +73,8 @@ rule_of_argument (argument.Number it) = number it.name.now
 rule_of_argument (argument.Given kind name help) = rule_of_kind kind name.now
 rule_of_argument (argument.Short letter kind name help) = with_letter letter (rule_of_kind kind name.now)
 
-abbrev pub rules_of_arguments : List Argument → List Rule
-rules_of_arguments = map rule_of_argument
+abbrev pub argument_rules : List Argument → List Rule
+argument_rules = map rule_of_argument
 
 -- ---- commands
 
@@ -83,10 +83,10 @@ abbrev pub with_rules : App → List Rule → App
 with_rules app rules = on_top (λ s. record s { rules = s.rules ++ rules }) app
 
 abbrev pub rules_of_group : Group → List Rule
-rules_of_group it = rules_of_arguments it.arguments.now
+rules_of_group it = argument_rules it.arguments.now
 
 abbrev pub rules_of_words : CommandWords → List Rule
-rules_of_words it = rules_of_arguments it.arguments.now ++ flat_map rules_of_group it.groups.now
+rules_of_words it = argument_rules it.arguments.now ++ flat_map rules_of_group it.groups.now
 
 abbrev pub shape_of_words : CommandWords → Shape
 shape_of_words it = record (new_shape it.name.now) { rules = rules_of_words it }
@@ -139,7 +139,7 @@ saved = word (codes "FILE")
 abbrev pub program_app : App
 program_app = program_of (
     command (codes "report") (reading ++ counters ∷ rows ++ records ∷ columns
-    ++ workers ∷ number (codes "pieces") ∷ option (codes "tree") ∷ grid)
+    ++ workers ∷ number (codes "memory") ∷ number (codes "pieces") ∷ option (codes "tree") ∷ grid)
     ∷ command (codes "summarise")
     (reading ++ counters ∷ option (codes "method") ∷ workers ∷ records ∷ columns)
     ∷ command (codes "table") (reading ++ grid ++ workers ∷ records ∷ columns)

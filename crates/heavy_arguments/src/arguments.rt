@@ -5,7 +5,7 @@ ghost use Rattle.clap.specs.declared.builder.command.Command.TheViews.{out-Comma
 ghost use Rattle.clap.specs.Words.{found_of};
 ghost use Rattle.clap.specs.Simple.{app_of, new_app, with_subcommand};
 ghost use Rattle.heavy_arguments.specs.Commands.{HasNoGlobals, IsApp};
-ghost use Rattle.heavy_arguments.specs.CommandLine.{bare_program, program_app, rules_of_arguments};
+ghost use Rattle.heavy_arguments.specs.CommandLine.{bare_program, program_app, argument_rules};
 ghost use Rattle.heavy_arguments.specs.CommandLine.{shape_of_words, with_rules};
 ghost use Rattle.heavy_arguments.specs.Numbers.{IsNumberOf};
 
@@ -86,6 +86,12 @@ pub const SUMMARY_WORKERS: Number = Number {
     name: "workers",
     help: "Threads that work at once, from 1 to 64 [default: 1]",
     default: 1,
+};
+
+pub const MEMORY: Number = Number {
+    name: "memory",
+    help: "Megabytes of a pipe to keep in memory; a longer one goes to a file [default: 64]",
+    default: 64,
 };
 
 pub const PIECES: Number = Number {
@@ -242,9 +248,10 @@ const COLUMN_GROUP: Group = Group {
     arguments: &COLUMN_ARGUMENTS,
 };
 
-/// The options of workers and of a table.
-const MEANS_ARGUMENTS: [Argument; 6] = [
+/// The options of workers, of what is kept and of a table.
+const MEANS_ARGUMENTS: [Argument; 7] = [
     Argument::Number(WORKERS),
+    Argument::Number(MEMORY),
     Argument::Number(PIECES),
     TREE,
     Argument::Number(WIDTH),
@@ -407,7 +414,7 @@ fn described<'a>(alloc: Global, name: &'a str, help: &Help) -> Command<'a>
 /// Adds `arguments` to `command`.
 fn with<'a>(alloc: Global, mut command: Command<'a>, arguments: &[Argument]) -> Built<'a>
     requires { (fields_of command).has_globals ≡ false }
-    ensures app { IsApp (with_rules (app_of command.entry) (rules_of_arguments arguments.now)) result }
+    ensures app { IsApp (with_rules (app_of command.entry) (argument_rules arguments.now)) result }
     ensures globals { HasNoGlobals result }
 {
     for argument in arguments {

@@ -35,8 +35,9 @@ pub const REPORT: Help = Help {
     about: "Print the heavy keys of records, with their weights",
     whole: "Print the heavy keys of records, with their weights: rows key,weight, by falling
 weight and then by key. The weights are exact. Records are those of the files, or of
-standard input. Files are read once or twice, and may be larger than memory; standard
-input and pipes are kept in memory. With --pieces, --tree, --width, --depth or --seed
+standard input. Files are read once or twice, and may be larger than memory. Standard
+input and pipes are kept in memory up to --memory megabytes, and else in a file without
+a name in the folder TMPDIR, or /tmp. With --pieces, --tree, --width, --depth or --seed
 the records are kept, and the report is made by that plan; the rows are the same.",
     end: "Exit status: 0 the report is whole; 1 input or a file could not be read or output
 not be written; 2 an option is refused; 3 a record is refused, or a header has no

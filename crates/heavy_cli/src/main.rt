@@ -3,7 +3,7 @@
 
 use heavy_answers::answer;
 use heavy_host::hold_closed;
-use heavy_progress::NOTHING;
+use heavy_progress::{Begin, NOTHING};
 use heavy_requests::{
     Inputs, Unread, UsageError, read_request, shared_progress, status_after, status_of, status_told,
 };
@@ -24,8 +24,9 @@ fn main(rt: HostRuntime) -> ExitCode {
     };
     let mut compared = Comparison::new(!asked.records.are_plain());
     let (unread, seen) = (Unread::new(), Cell::new(NOTHING));
+    let begin = Begin::new(rt.alloc());
     let progress = shared_progress(&rt, &asked);
-    let inputs = Inputs::new(&rt, &asked, progress.as_ref(), &unread, &seen);
+    let inputs = Inputs::new(&rt, &asked, progress.as_ref(), &unread, &seen, &begin);
     let mut out = Out::new(rt.stdout());
     let outcome = answer(&rt, &inputs, &asked, &mut out, &mut compared);
     status_of(inputs, &asked, outcome, &compared)

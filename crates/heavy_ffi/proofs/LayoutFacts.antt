@@ -1,6 +1,6 @@
 -- What holds of the layout that is said, and what a refusal of it tells.
-use Rattle.std.proofs.Common.{ℕ, List, Result, Ok, Err, IfOk, inr}
-use Rattle.std.specs.Prelude.{IfErr}
+use Rattle.std.proofs.Common.{◌≡◌, ℕ, List, Option, Some, None, Result, Ok, Err, IfOk, inr}
+use Rattle.std.specs.Prelude.{IfErr, IfSome, IsErrAnd}
 use Rattle.hh_records.specs.LayoutWords as said
 use Rattle.hh_records.specs.declared.layout.Layout.{Layout}
 use Rattle.hh_records.specs.declared.layout_words.LayoutWords.{LayoutWords}
@@ -26,3 +26,9 @@ module _ {A : Type 0} (o : TextLayout) (columns : List (List ℕ)) (layout : Lay
       → IfErr result (LaidRefused o columns Follows)
   laid_refused Follows (Ok x) h = tt
   laid_refused Follows (Err e) h = inr (layout, is, h)
+
+  pub laid_early : (wrong : Option ToolError) (result : Result A ToolError) → IfSome wrong (λ w. result ≡ Err w)
+      → IfSome wrong (λ w. IsErrAnd result (LaidRefused o columns (λ l e. e ≡ w)))
+  laid_early None result h = tt
+  laid_early (Some w) (Ok x) h = absurd cc
+  laid_early (Some w) (Err e) h = let same : e ≡ w = cc in inr (layout, is, same)

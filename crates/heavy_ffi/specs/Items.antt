@@ -1,6 +1,11 @@
 -- Items whose keys lie in one slice, one behind the other.
-use Rattle.std.specs.Prelude.{◌+◌, ◌-◌, ◌==◌, ◌&&◌, ◌||◌, nat_le, ℕ, List, [], ◌∷◌, length, take, drop, slice_index_or, Option, Some, None, if◌then◌else◌}
+use Rattle.std.specs.Prelude.{◌+◌, ◌-◌, ◌==◌, ◌&&◌, ◌||◌, nat_le, ℕ, List, [], ◌∷◌, length, take, drop, slice_index_or, Option, Some, None, Result, if◌then◌else◌}
+use Rattle.std.proofs.Common.{ap}
 use Rattle.hh_stream.specs.Weights.{Entry}
+use Rattle.hh_saved.specs.declared.saved.Saved.{Saved}
+use Rattle.hh_commands.specs.Files.{Refuses, file_of, ◌>>=◌}
+use Rattle.hh_faults.specs.declared.error.ToolError.{ToolError}
+use Rattle.hh_faults.specs.declared.error.ToolError.TheVariants as tool
 use Rattle.hh_library.specs.Add.{GoesOn, IsAdded, TableGoesOn}
 use Rattle.heavy_ffi.specs.declared.fault.Fault.{Fault}
 
@@ -29,14 +34,14 @@ bad_end_kind = 20
 abbrev pub bad_weight_count_kind : ℕ
 bad_weight_count_kind = 21
 
--- how an end of this number is told, or else the number of weights
+-- the fault of an end of this number, or else of the number of weights
 abbrev pub told_shape : Option ℕ → ℕ → ℕ → Option Fault
 told_shape (Some n) count weights = Some (record { kind = bad_end_kind; cause = 0; number = n })
 told_shape None count weights =
     if weights == 0 || weights == count then None
     else Some (record { kind = bad_weight_count_kind; cause = 0; number = 0 })
 
--- how it is told that keys of so many bytes in all don't have these ends, or not these weights
+-- the fault of ends or weights that keys of len bytes in all can't have
 abbrev pub shape_fault : ℕ → List ℕ → List ℕ → Option Fault
 shape_fault len ends weights = told_shape (bad_end 1 0 len ends) (length ends) (length weights)
 
@@ -45,3 +50,9 @@ pub record AddsItems (file : List ℕ) (xs : List Entry) (bytes : List ℕ) : Ty
   pub added : IsAdded file xs bytes
   pub stream : GoesOn file xs bytes
   pub table : TableGoesOn file xs bytes
+
+-- a refusal of the file is one of what is made of its value
+pub refused_first : {X : Type 0} (file : List ℕ) (follows : Saved → Result X ToolError) (e : ToolError)
+    → Refuses (file_of 1 file) e → Refuses (file_of 1 file >>= follows) e
+refused_first file follows tool.Memory h = tt
+refused_first file follows e h = ap (λ (r : Result Saved ToolError). r >>= follows) h

@@ -7,6 +7,7 @@ use Rattle.hh_records.specs.declared.layout.Layout.{Layout}
 use Rattle.hh_records.specs.declared.layout_words.LayoutWords.{LayoutWords}
 use Rattle.hh_faults.specs.declared.error.ToolError.{ToolError}
 use Rattle.hh_faults.specs.declared.error.ToolError.TheVariants as tool
+use Rattle.heavy_ffi.specs.Outcomes.{IsRefused}
 use Rattle.heavy_ffi.specs.declared.fault.Fault.{Fault}
 use Rattle.heavy_ffi.specs.declared.layout.TextLayout.{TextLayout}
 
@@ -14,7 +15,7 @@ use Rattle.heavy_ffi.specs.declared.layout.TextLayout.{TextLayout}
 abbrev pub bad_layout_kind : ℕ
 bad_layout_kind = 26
 
--- how it is told that a layout has other numbers than it may have beside a count of columns
+-- the fault of a layout that has other numbers than it may have beside a count of columns
 abbrev pub layout_fault : TextLayout → ℕ → Option Fault
 layout_fault o count =
     if nat_le o.header 1 && nat_le o.allow_zero 1 && nat_le o.decimals 9 && nat_le o.has_weight 1 && nat_le o.has_weight count
@@ -46,6 +47,10 @@ Laid o columns Holds = (layout : Layout) × IsLayout o columns layout × Holds l
 -- what a refusal tells where the layout comes first: of its words, or of what follows
 abbrev pub LaidRefused : TextLayout → List (List ℕ) → (Layout → ToolError → Type 0) → ToolError → Type 0
 LaidRefused o columns Follows e = LayoutRefused o columns e ⊎ Laid o columns (λ layout. Follows layout e)
+
+-- an argument is wrong, and the call tells that, or what is wrong with the layout, which is tested before it
+abbrev pub TellsEarly : TextLayout → List (List ℕ) → ToolError → ℕ → Fault → Type 0
+TellsEarly o columns wrong = IsRefused (LaidRefused o columns (λ layout e. e ≡ wrong))
 
 -- a share of two numbers, and none where both are 0
 abbrev pub share_given : ℕ → ℕ → Option (ℕ × ℕ)

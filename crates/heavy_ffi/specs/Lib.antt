@@ -1,4 +1,6 @@
 pub mod Faults
+pub mod Growing
+pub mod Held
 pub mod Infos
 pub mod Items
 pub mod Layouts

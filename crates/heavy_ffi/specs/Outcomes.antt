@@ -1,5 +1,5 @@
 -- What a call leaves that gives its answer in a room.
-use Rattle.std.specs.Prelude.{◌≡◌, ◌≢◌, ◌<◌, ◌≤◌, not, ℕ, List, [], ◌∷◌, length, map, take, slice_index_or, Option, Some, Result, Ok, Err, IsOkAnd, if◌then◌else◌}
+use Rattle.std.specs.Prelude.{◌≡◌, ◌≢◌, ◌<◌, ◌≤◌, not, ℕ, List, [], ◌∷◌, length, map, take, slice_index_or, Option, Some, None, Result, Ok, Err, IsOkAnd, if◌then◌else◌}
 use Rattle.std.specs.Global.{Vec}
 use Rattle.hh_saved.specs.Reading.{head_at}
 use Rattle.hh_faults.specs.declared.saved.SavedFault.{SavedFault}
@@ -49,6 +49,14 @@ first_of files = slice_index_or files 0 []
 -- where a file fails at its head, the call tells so, whatever the memory
 abbrev pub TellsHead : List ℕ → ℕ → Fault → Type 0
 TellsHead file status fault = (f : SavedFault) → head_at file ≡ Err f → IsTold status fault (file_fault 1 f)
+
+-- the refusal of a file that fails at its head
+abbrev pub fault_at : Result (List ℕ) SavedFault → Option ToolError
+fault_at (Ok rest) = None
+fault_at (Err f) = Some (file_fault 1 f)
+
+abbrev pub head_refusal : List ℕ → Option ToolError
+head_refusal file = fault_at (head_at file)
 
 -- these elements are those that came
 abbrev pub IsGiven : {X : Type 0} → Result (Vec X) ToolError → List X → Type 0

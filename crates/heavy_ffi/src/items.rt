@@ -1,14 +1,21 @@
 //! Items whose keys lie in one slice, one behind the other.
 
-ghost use Rattle.std.specs.Prelude.{◌≡◌, IfOk, map};
+ghost use Rattle.std.specs.Prelude.{◌≡◌, ◌≢◌, ℕ, List, map, length, None, IfErr, IfOk, IfSome};
+ghost use Rattle.hh_stream.specs.Weights.{Entry};
+ghost use Rattle.hh_commands.specs.Files.{Refuses, StopsAtHead, file_of};
+ghost use Rattle.hh_faults.specs.declared.error.ToolError.{ToolError};
 ghost use Rattle.heavy_ffi.specs.Items.{bad_end, items_of, shape_fault};
+ghost use Rattle.heavy_ffi.specs.Outcomes.{IsOutcome, TellsHead};
 
 use crate::fault::Fault;
+use crate::refusal_of;
+use crate::room::{USAGE, answer};
+use hh_faults::ToolError;
 use std::alloc::{AllocError, Global};
 
 /// The items of keys that end there, each from the end of the one before it to its own, with these
 /// weights. Those behind the last weight weigh 1.
-pub(crate) fn items_of<'a>(
+fn items_of<'a>(
     alloc: Global,
     keys: &'a [u8],
     ends: &[u64],
@@ -31,7 +38,7 @@ pub(crate) fn items_of<'a>(
     Ok(items)
 }
 
-/// The number of the first end that is before the end before it, or behind so many bytes.
+/// The number of the first end that is before the end before it, or behind `len` bytes.
 fn bad_end(len: usize, ends: &[u64]) -> Option<u64>
     ensures { result ≡ bad_end 1 0 len ends.now }
 {
@@ -51,8 +58,8 @@ const BAD_END: u32 = 20;
 /// The kind of the fault of a number of weights.
 const BAD_WEIGHT_COUNT: u32 = 21;
 
-/// How it is told that keys of so many bytes in all don't have these ends, or not these weights.
-pub(crate) fn shape_fault(len: usize, ends: &[u64], weights: &[u64]) -> Option<Fault>
+/// The fault of ends or weights that keys of `len` bytes in all can't have.
+fn shape_fault(len: usize, ends: &[u64], weights: &[u64]) -> Option<Fault>
     ensures { result ≡ shape_fault len ends.now weights.now }
 {
     if let Some(number) = bad_end(len, ends) {
@@ -70,4 +77,82 @@ pub(crate) fn shape_fault(len: usize, ends: &[u64], weights: &[u64]) -> Option<F
         cause: 0,
         number: 0,
     })
+}
+
+/// A call over a saved file and items, with its other arguments.
+pub(crate) trait ItemsCall: Drop {
+    // what it gives, by the file's bytes and the items
+    ghost gives: { Self → List ℕ → List Entry → List ℕ → Type 0 };
+
+    // what a refusal tells of both
+    ghost refuses: { Self → List ℕ → List Entry → ToolError → Type 0 };
+
+    /// What the call gives by the file and the items.
+    fn bytes_by(
+        self,
+        alloc: Global,
+        file: &[u8],
+        items: &[(&[u8], u64)],
+    ) -> Result<Vec<u8>, ToolError>
+        ensures given { IfOk result (λ bytes. gives self file.now
+            (map (λ item. (item.0.now, item.1)) items.now) bytes.items) }
+        ensures refused { IfErr result (refuses self file.now
+            (map (λ item. (item.0.now, item.1)) items.now)) }
+        ensures early { StopsAtHead 1 file.now result };
+
+    // the file is tested before the items
+    ghost file_first: { (call : Self) (file : List ℕ) (xs : List Entry) (fault : ToolError)
+        → Refuses (file_of 1 file) fault → refuses call file xs fault };
+}
+
+/// What a call gives by a file and the items of keys that end there.
+fn bytes_with<C: ItemsCall>(
+    alloc: Global,
+    call: C,
+    file: &[u8],
+    keys: &[u8],
+    ends: &[u64],
+    weights: &[u64],
+) -> Result<Vec<u8>, ToolError>
+    ensures given { IfOk result (λ bytes.
+        C.gives call file.now (items_of keys.now ends.now weights.now) bytes.items) }
+    ensures refused { IfErr result
+        (C.refuses call file.now (items_of keys.now ends.now weights.now)) }
+    ensures early { StopsAtHead 1 file.now result }
+{
+    match items_of(alloc, keys, ends, weights) {
+        Ok(items) => call.bytes_by(alloc, file, &items),
+        Err(_) => Err(refusal_of(alloc, file)),
+    }
+}
+
+/// The answer of a call over a file and items in the room, or its refusal.
+pub(crate) fn answer_with<C: ItemsCall>(
+    alloc: Global,
+    call: C,
+    file: &[u8],
+    keys: &[u8],
+    ends: &[u64],
+    weights: &[u64],
+    out: &mut [u8],
+    needed: &mut usize,
+    fault: &mut Fault,
+) -> u32
+    ensures outcome { shape_fault (length keys.now) ends.now weights.now ≡ None → IsOutcome
+        (C.gives call file.now (items_of keys.now ends.now weights.now))
+        (C.refuses call file.now (items_of keys.now ends.now weights.now))
+        result out.old out.new needed.new fault.new }
+    ensures shape { IfSome (shape_fault (length keys.now) ends.now weights.now) (λ shape.
+        (result ≡ 2) × (fault.new ≡ shape) × (out.new ≡ out.old)) }
+    ensures early { shape_fault (length keys.now) ends.now weights.now ≡ None
+        → TellsHead file.now result fault.new }
+    ensures no_bytes { result ≢ 0 → result ≢ 5 → needed.new ≡ 0 }
+{
+    if let Some(shape) = shape_fault(keys.len(), ends, weights) {
+        *needed = 0;
+        *fault = shape;
+        return USAGE;
+    }
+    let bytes = bytes_with(alloc, call, file, keys, ends, weights);
+    answer(bytes, out, needed, fault)
 }

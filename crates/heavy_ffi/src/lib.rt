@@ -5,35 +5,38 @@
 #![tactic(auto)]
 
 mod fault;
+mod growing;
+mod held;
 mod info;
 mod items;
+mod laid;
 mod layout;
 mod parts;
 mod records;
 mod room;
 mod told;
+mod with_items;
 
-ghost use Rattle.std.specs.Prelude.{◌≡◌, ◌≢◌, ◌<◌, ◌≤◌, ◌⊎◌, [], ◌∷◌, length, map, Ok, Some, None};
+ghost use Rattle.std.specs.Prelude.{◌≡◌, ◌≢◌, ◌<◌, ◌≤◌, ◌⊎◌, [], ◌∷◌, length, map, Ok, Some};
 ghost use Rattle.std.specs.Prelude.{IfErr, IfOk, IfSome};
 ghost use Rattle.hh_stream.specs.Cuttings.{pieces_of};
 ghost use Rattle.hh_stream.specs.Weights.{max_key_len};
 ghost use Rattle.hh_summaries.specs.Counters.{SummaryView, sketch_of};
 ghost use Rattle.hh_countmin.specs.Family.{drawn_family};
-ghost use Rattle.hh_countmin.specs.Table.{TableView, table_of};
+ghost use Rattle.hh_countmin.specs.Table.{table_of};
 ghost use Rattle.hh_pieces.specs.Pieces.{AreWholeRecords};
 ghost use Rattle.hh_records.specs.Streams.{text_known};
 ghost use Rattle.hh_saved.specs.Sizes.{most_summary_bytes, table_bytes};
 ghost use Rattle.hh_saved.specs.declared.saved.Saved.TheVariants.{Cells, Counters};
-ghost use Rattle.hh_library.specs.Add.{IsEmpty, IsEmptyTable, added, empty_of, empty_table_of};
+ghost use Rattle.hh_library.specs.Add.{IsEmpty, IsEmptyTable, empty_of, empty_table_of};
 ghost use Rattle.hh_library.specs.AddText.{AddTextRefused, AddsText};
 ghost use Rattle.hh_commands.specs.Ask.{answer, answers_of};
 ghost use Rattle.hh_commands.specs.Condense.{CondenseRefused, CondensesRows};
 ghost use Rattle.hh_commands.specs.Confirm.{ConfirmRefused, ConfirmsRows};
 ghost use Rattle.hh_library.specs.ConfirmShare.{ConfirmShareRefused, ConfirmsShare};
-ghost use Rattle.hh_library.specs.CountItems.{condensed_items, confirmed_items};
 ghost use Rattle.hh_commands.specs.Describe.{description};
 ghost use Rattle.hh_library.specs.Entries.{ListsEntries};
-ghost use Rattle.hh_commands.specs.Files.{HoldsSummary, HoldsTable, Refuses, StopsAtHead, SummaryRefused, file_of};
+ghost use Rattle.hh_commands.specs.Files.{Refuses, StopsAtHead, SummaryRefused, file_of};
 ghost use Rattle.hh_commands.specs.List.{ListsKeys};
 ghost use Rattle.hh_commands.specs.Merge.{merged_files};
 ghost use Rattle.hh_commands.specs.Records.{SavesStream};
@@ -41,29 +44,27 @@ ghost use Rattle.hh_records.specs.Refusals.{RefusedAfter};
 ghost use Rattle.hh_commands.specs.Summarise.{bad_k};
 ghost use Rattle.hh_commands.specs.Table.{bad_table};
 ghost use Rattle.heavy_ffi.specs.Faults.{IsTold, no_fault};
-ghost use Rattle.heavy_ffi.specs.Items.{AddsItems, items_of, shape_fault};
 ghost use Rattle.heavy_ffi.specs.Outcomes.{AreAnswers, IsAnswer, IsMergeOf, IsOutcome};
 ghost use Rattle.heavy_ffi.specs.Outcomes.{TellsFault, TellsHead, bad_summary, both_of, first_of};
 
 pub use fault::Fault;
 use fault::tell;
+pub use growing::Growing;
 use hh_commands::{Method, describe_file, merge_bytes};
 use hh_counters::laws::summaries_follow_items;
 use hh_countmin::laws::drawn_families_are_families;
 use hh_faults::{SavedFault, ToolError};
 use hh_library::{
-    add_items, add_text, ask_key, ask_keys, condense_bytes, condense_items, confirm_bytes,
-    confirm_items, confirm_share, empty_summary, empty_table, list_entries, list_keys,
-    summary_bytes, table_bytes,
+    add_text, ask_key, ask_keys, condense_bytes, confirm_bytes, confirm_share, empty_summary,
+    empty_table, list_entries, list_keys, summary_bytes, table_bytes,
 };
-use hh_pieces::whole_records;
 use hh_saved::laws::sizes_are_bounded;
 use hh_saved::{Place, read};
 use hh_stream::KeyHash;
 pub use info::Info;
-use items::{items_of, shape_fault};
 pub use layout::TextLayout;
 use parts::files_of;
+use records::heavy_whole_records_by;
 pub use room::Bounds;
 use room::{DONE, USAGE, all_bounds, answer};
 use std::alloc::Global;
@@ -129,65 +130,6 @@ pub extern "C" fn heavy_empty(
 {
     summaries_follow_items();
     let bytes = empty_summary(alloc, k);
-    answer(bytes, out, needed, fault)
-}
-
-/// A saved summary or table with items added, whose keys end there.
-fn sum_of(
-    alloc: Global,
-    file: &[u8],
-    keys: &[u8],
-    ends: &[u64],
-    weights: &[u64],
-) -> Result<Vec<u8>, ToolError>
-    ensures added { IfOk result (λ bytes.
-        AddsItems file.now (items_of keys.now ends.now weights.now) bytes.items) }
-    ensures refused { IfErr result
-        (Refuses (added file.now (items_of keys.now ends.now weights.now))) }
-    ensures early { StopsAtHead 1 file.now result }
-{
-    match items_of(alloc, keys, ends, weights) {
-        Ok(items) => add_items(alloc, file, &items),
-        Err(_) => Err(refusal_of(alloc, file)),
-    }
-}
-
-/// Gives the saved summary or table of a saved file with items added, in order. Their keys lie one
-/// behind the other, each from the end of the one before it to its own; their weights are these, or
-/// 1 each where there are none. The ends are tested first, then the number of the weights, then the
-/// file, then the items in order.
-#[unsafe(no_mangle)]
-pub extern "C" fn heavy_add(
-    alloc: Global,
-    file: &[u8],
-    keys: &[u8],
-    ends: &[u64],
-    weights: &[u64],
-    out: &mut [u8],
-    needed: &mut usize,
-    fault: &mut Fault,
-) -> u32
-    ensures outcome { shape_fault (length keys.now) ends.now weights.now ≡ None → IsOutcome
-        (AddsItems file.now (items_of keys.now ends.now weights.now))
-        (Refuses (added file.now (items_of keys.now ends.now weights.now)))
-        result out.old out.new needed.new fault.new }
-    ensures shape { IfSome (shape_fault (length keys.now) ends.now weights.now) (λ shape.
-        (result ≡ 2) × (fault.new ≡ shape) × (out.new ≡ out.old)) }
-    ensures early { shape_fault (length keys.now) ends.now weights.now ≡ None
-        → TellsHead file.now result fault.new }
-    ensures no_bytes { result ≢ 0 → result ≢ 5 → needed.new ≡ 0 }
-    ensures enough { (s : SummaryView) → HoldsSummary file.now s
-        → most_summary_bytes s.k max_key_len ≤ length out.old → result ≢ 5 }
-    ensures enough_table { (t : TableView) → HoldsTable file.now t
-        → table_bytes t.width (length t.family.rows) ≤ length out.old → result ≢ 5 }
-{
-    if let Some(shape) = shape_fault(keys.len(), ends, weights) {
-        *needed = 0;
-        *fault = shape;
-        return USAGE;
-    }
-    sizes_are_bounded();
-    let bytes = sum_of(alloc, file, keys, ends, weights);
     answer(bytes, out, needed, fault)
 }
 
@@ -423,150 +365,6 @@ pub extern "C" fn heavy_condense(
     answer(bytes, out, needed, fault)
 }
 
-/// The condensed rows of items, whose keys end there.
-fn condensed_of(
-    alloc: Global,
-    file: &[u8],
-    keys: &[u8],
-    ends: &[u64],
-    weights: &[u64],
-) -> Result<Vec<u8>, ToolError>
-    ensures rows { IfOk result (λ rows.
-        condensed_items file.now (items_of keys.now ends.now weights.now) ≡ Ok rows.items) }
-    ensures refused { IfErr result
-        (Refuses (condensed_items file.now (items_of keys.now ends.now weights.now))) }
-    ensures early { StopsAtHead 1 file.now result }
-{
-    match items_of(alloc, keys, ends, weights) {
-        Ok(items) => condense_items(alloc, file, &items, KeyHash::fixed()),
-        Err(_) => Err(refusal_of(alloc, file)),
-    }
-}
-
-/// Gives what `heavy_condense` gives, of items in memory in place of a text's records. The items
-/// lie as `heavy_add` takes them. The ends are tested first, then the number of the weights, then
-/// the file, then its kind, then the items in order, of any total.
-#[unsafe(no_mangle)]
-pub extern "C" fn heavy_condense_items(
-    alloc: Global,
-    file: &[u8],
-    keys: &[u8],
-    ends: &[u64],
-    weights: &[u64],
-    out: &mut [u8],
-    needed: &mut usize,
-    fault: &mut Fault,
-) -> u32
-    ensures outcome { shape_fault (length keys.now) ends.now weights.now ≡ None → IsOutcome
-        (λ rows. condensed_items file.now (items_of keys.now ends.now weights.now) ≡ Ok rows)
-        (Refuses (condensed_items file.now (items_of keys.now ends.now weights.now)))
-        result out.old out.new needed.new fault.new }
-    ensures shape { IfSome (shape_fault (length keys.now) ends.now weights.now) (λ shape.
-        (result ≡ 2) × (fault.new ≡ shape) × (out.new ≡ out.old)) }
-    ensures early { shape_fault (length keys.now) ends.now weights.now ≡ None
-        → TellsHead file.now result fault.new }
-    ensures no_bytes { result ≢ 0 → result ≢ 5 → needed.new ≡ 0 }
-{
-    if let Some(shape) = shape_fault(keys.len(), ends, weights) {
-        *needed = 0;
-        *fault = shape;
-        return USAGE;
-    }
-    let bytes = condensed_of(alloc, file, keys, ends, weights);
-    answer(bytes, out, needed, fault)
-}
-
-/// The rows of a summary's keys above a share of items, whose keys end there.
-fn confirmed_of(
-    alloc: Global,
-    file: &[u8],
-    share: Option<(u64, u64)>,
-    keys: &[u8],
-    ends: &[u64],
-    weights: &[u64],
-) -> Result<Vec<u8>, ToolError>
-    ensures rows { IfOk result (λ rows.
-        confirmed_items share file.now (items_of keys.now ends.now weights.now) ≡ Ok rows.items) }
-    ensures refused { IfErr result
-        (Refuses (confirmed_items share file.now (items_of keys.now ends.now weights.now))) }
-    ensures early { StopsAtHead 1 file.now result }
-{
-    match items_of(alloc, keys, ends, weights) {
-        Ok(items) => confirm_items(alloc, file, share, &items, KeyHash::fixed()),
-        Err(_) => Err(refusal_of(alloc, file)),
-    }
-}
-
-/// Gives what `heavy_confirm` gives, over items in memory in place of a text's records. The items
-/// lie as `heavy_add` takes them. The ends are tested first, then the number of the weights, then
-/// the file, then its kind, then the items in order, then the totals.
-#[unsafe(no_mangle)]
-pub extern "C" fn heavy_confirm_items(
-    alloc: Global,
-    file: &[u8],
-    keys: &[u8],
-    ends: &[u64],
-    weights: &[u64],
-    out: &mut [u8],
-    needed: &mut usize,
-    fault: &mut Fault,
-) -> u32
-    ensures outcome { shape_fault (length keys.now) ends.now weights.now ≡ None → IsOutcome
-        (λ rows. confirmed_items None file.now (items_of keys.now ends.now weights.now) ≡ Ok rows)
-        (Refuses (confirmed_items None file.now (items_of keys.now ends.now weights.now)))
-        result out.old out.new needed.new fault.new }
-    ensures shape { IfSome (shape_fault (length keys.now) ends.now weights.now) (λ shape.
-        (result ≡ 2) × (fault.new ≡ shape) × (out.new ≡ out.old)) }
-    ensures early { shape_fault (length keys.now) ends.now weights.now ≡ None
-        → TellsHead file.now result fault.new }
-    ensures no_bytes { result ≢ 0 → result ≢ 5 → needed.new ≡ 0 }
-{
-    if let Some(shape) = shape_fault(keys.len(), ends, weights) {
-        *needed = 0;
-        *fault = shape;
-        return USAGE;
-    }
-    let bytes = confirmed_of(alloc, file, None, keys, ends, weights);
-    answer(bytes, out, needed, fault)
-}
-
-/// Gives what `heavy_confirm_above` gives, over items in memory in place of a text's records. The
-/// items lie as `heavy_add` takes them. The ends are tested first, then the number of the weights,
-/// then the file, then its kind, then p/q, then the items in order, then the totals.
-#[unsafe(no_mangle)]
-pub extern "C" fn heavy_confirm_items_above(
-    alloc: Global,
-    file: &[u8],
-    keys: &[u8],
-    ends: &[u64],
-    weights: &[u64],
-    p: u64,
-    q: u64,
-    out: &mut [u8],
-    needed: &mut usize,
-    fault: &mut Fault,
-) -> u32
-    ensures outcome { shape_fault (length keys.now) ends.now weights.now ≡ None → IsOutcome
-        (λ rows. confirmed_items (Some (p, q)) file.now
-        (items_of keys.now ends.now weights.now) ≡ Ok rows)
-        (Refuses (confirmed_items (Some (p, q)) file.now
-        (items_of keys.now ends.now weights.now)))
-        result out.old out.new needed.new fault.new }
-    ensures shape { IfSome (shape_fault (length keys.now) ends.now weights.now) (λ shape.
-        (result ≡ 2) × (fault.new ≡ shape) × (out.new ≡ out.old)) }
-    ensures early { shape_fault (length keys.now) ends.now weights.now ≡ None
-        → TellsHead file.now result fault.new }
-    ensures no_bytes { result ≢ 0 → result ≢ 5 → needed.new ≡ 0 }
-{
-    if let Some(shape) = shape_fault(keys.len(), ends, weights) {
-        *needed = 0;
-        *fault = shape;
-        return USAGE;
-    }
-    let bytes = confirmed_of(alloc, file, Some((p, q)), keys, ends, weights);
-    answer(bytes, out, needed, fault)
-}
-
 /// The least and the most that each key's weight can be, where the keys have these lengths.
 fn bounds_of(
     alloc: Global,
@@ -675,10 +473,7 @@ pub extern "C" fn heavy_describe(
 pub extern "C" fn heavy_whole_records(text: &[u8]) -> usize
     ensures { AreWholeRecords text.now result }
 {
-    match whole_records(text, b',') {
-        Some(whole) => whole,
-        None => 0,
-    }
+    heavy_whole_records_by(text, b',')
 }
 
 /// The number of this interface, which a header or a binding has to have been written for.

@@ -1,12 +1,12 @@
 //! The calls over the records of a text of any layout. Each tests the layout first.
 
-ghost use Rattle.std.specs.Prelude.{◌≡◌, ◌≢◌, ◌≤◌, ◌⊎◌, None, Some, IfErr, IfOk, IfSome, length};
+ghost use Rattle.std.specs.Prelude.{◌≡◌, ◌≢◌, ◌≤◌, None, IfSome, length};
 ghost use Rattle.hh_stream.specs.Cuttings.{pieces_of};
 ghost use Rattle.hh_stream.specs.Weights.{max_key_len};
 ghost use Rattle.hh_summaries.specs.Counters.{sketch_of};
 ghost use Rattle.hh_countmin.specs.Family.{drawn_family};
 ghost use Rattle.hh_countmin.specs.Table.{table_of};
-ghost use Rattle.hh_saved.specs.Sizes.{most_summary_bytes, table_bytes};
+ghost use Rattle.hh_saved.specs.Sizes.{most_summary_bytes};
 ghost use Rattle.hh_saved.specs.declared.saved.Saved.TheVariants.{Cells, Counters};
 ghost use Rattle.hh_records.specs.Refusals.{RefusedAfter};
 ghost use Rattle.hh_commands.specs.Records.{SavesStream};
@@ -15,44 +15,45 @@ ghost use Rattle.hh_commands.specs.Table.{bad_table};
 ghost use Rattle.hh_library.specs.LaidOut.{AddRecordsRefused, AddsRecords, CondenseBoundedRefused};
 ghost use Rattle.hh_library.specs.LaidOut.{CondensesBounded, ConfirmBoundedRefused};
 ghost use Rattle.hh_library.specs.LaidOut.{ConfirmsBounded, ReportsRows, bad_report, text_laid};
-ghost use Rattle.heavy_ffi.specs.Layouts.{AreWholeRecordsBy, Laid, LaidRefused};
+ghost use Rattle.heavy_ffi.specs.Layouts.{AreWholeRecordsBy, Laid, LaidRefused, TellsEarly};
 ghost use Rattle.heavy_ffi.specs.Layouts.{layout_fault, share_given};
-ghost use Rattle.heavy_ffi.specs.Outcomes.{IsOutcome};
+ghost use Rattle.heavy_ffi.specs.Outcomes.{IsOutcome, head_refusal};
 
 use crate::fault::Fault;
-use crate::layout::{TextLayout, layout_fault, layout_of, share_given};
-use crate::room::{USAGE, answer};
+use crate::laid::{LaidCall, answer_laid};
+use crate::layout::{TextLayout, share_given};
 use hh_commands::{Method, summary_bytes_from, table_bytes_from};
-use hh_countmin::laws::drawn_families_are_families;
 use hh_faults::ToolError;
 use hh_library::{TextRecords, add_records, condense_bounded, confirm_bounded, report_bytes};
 use hh_pieces::whole_records;
+use hh_records::Layout;
 use hh_saved::laws::sizes_are_bounded;
 use std::alloc::Global;
 
-/// The saved summary of a text's records.
-fn summary_laid(
-    alloc: Global,
-    text: &[u8],
-    layout: &TextLayout,
-    columns: &[u8],
-    lengths: &[usize],
+/// A summary of k counters, of the records of a text.
+#[derive(Clone, Copy)]
+struct Summarise<'t> {
+    text: &'t [u8],
     k: u64,
-) -> Result<Vec<u8>, ToolError>
-    requires { layout_fault layout.now (length lengths.now) ≡ None }
-    ensures saved { IfOk result (λ bytes.
-        Laid layout.now (pieces_of lengths.now columns.now) (λ l.
-        SavesStream (λ xs. Counters (sketch_of k xs)) (text_laid l text.now) bytes.items)) }
-    ensures refused { IfErr result
-        (LaidRefused layout.now (pieces_of lengths.now columns.now) (λ l.
-        RefusedAfter (bad_k k) (text_laid l text.now))) }
-{
-    let layout = layout_of(alloc, layout, columns, lengths)?;
-    let records = TextRecords {
-        layout: &layout,
-        text,
-    };
-    summary_bytes_from(alloc, k, Method::MisraGries, records)
+}
+
+impl<'t> LaidCall for Summarise<'t> {
+    ghost gives = { λ call l. SavesStream (λ xs. Counters (sketch_of call.k xs))
+        (text_laid l call.text.now) };
+
+    ghost refuses = { λ call l. RefusedAfter (bad_k call.k) (text_laid l call.text.now) };
+
+    ghost wrong = { λ call. bad_k call.k };
+
+    fn bytes_by(self, alloc: Global, layout: &Layout) -> Result<Vec<u8>, ToolError> {
+        let text = self.text;
+        summary_bytes_from(
+            alloc,
+            self.k,
+            Method::MisraGries,
+            TextRecords { layout, text },
+        )
+    }
 }
 
 /// Gives what `heavy_summarise` gives, of records of a layout. Behind the layout k is tested, and
@@ -75,46 +76,48 @@ pub extern "C" fn heavy_summarise_records(
         (LaidRefused layout.now (pieces_of lengths.now columns.now) (λ l.
         RefusedAfter (bad_k k) (text_laid l text.now)))
         result out.old out.new needed.new fault.new }
+    ensures early { layout_fault layout.now (length lengths.now) ≡ None → IfSome (bad_k k)
+        (λ wrong. TellsEarly layout.now (pieces_of lengths.now columns.now) wrong
+        result fault.new) }
     ensures bad_layout { IfSome (layout_fault layout.now (length lengths.now)) (λ bad.
         (result ≡ 2) × (fault.new ≡ bad) × (out.new ≡ out.old)) }
     ensures no_bytes { result ≢ 0 → result ≢ 5 → needed.new ≡ 0 }
     ensures enough { most_summary_bytes k max_key_len ≤ length out.old → result ≢ 5 }
 {
-    if let Some(bad) = layout_fault(layout, lengths.len()) {
-        *needed = 0;
-        *fault = bad;
-        return USAGE;
-    }
     sizes_are_bounded();
-    let bytes = summary_laid(alloc, text, layout, columns, lengths, k);
-    answer(bytes, out, needed, fault)
+    let call = Summarise { text, k };
+    answer_laid(alloc, call, layout, columns, lengths, out, needed, fault)
 }
 
-/// The saved table of a text's records.
-fn table_laid(
-    alloc: Global,
-    text: &[u8],
-    layout: &TextLayout,
-    columns: &[u8],
-    lengths: &[usize],
-    size: (u64, u64),
+/// A table of the records of a text.
+#[derive(Clone, Copy)]
+struct Tabulate<'t> {
+    text: &'t [u8],
+    width: u64,
+    depth: u64,
     seed: u64,
-) -> Result<Vec<u8>, ToolError>
-    requires { layout_fault layout.now (length lengths.now) ≡ None }
-    ensures saved { IfOk result (λ bytes.
-        Laid layout.now (pieces_of lengths.now columns.now) (λ l.
-        SavesStream (λ xs. Cells (table_of (drawn_family seed size.1) size.0 xs))
-        (text_laid l text.now) bytes.items)) }
-    ensures refused { IfErr result
-        (LaidRefused layout.now (pieces_of lengths.now columns.now) (λ l.
-        RefusedAfter (bad_table size.1 size.0) (text_laid l text.now))) }
-{
-    let layout = layout_of(alloc, layout, columns, lengths)?;
-    let records = TextRecords {
-        layout: &layout,
-        text,
-    };
-    table_bytes_from(alloc, size.0, size.1, seed, records)
+}
+
+impl<'t> LaidCall for Tabulate<'t> {
+    ghost gives = { λ call l. SavesStream (λ xs.
+        Cells (table_of (drawn_family call.seed call.depth) call.width xs))
+        (text_laid l call.text.now) };
+
+    ghost refuses = { λ call l. RefusedAfter (bad_table call.depth call.width)
+        (text_laid l call.text.now) };
+
+    ghost wrong = { λ call. bad_table call.depth call.width };
+
+    fn bytes_by(self, alloc: Global, layout: &Layout) -> Result<Vec<u8>, ToolError> {
+        let text = self.text;
+        table_bytes_from(
+            alloc,
+            self.width,
+            self.depth,
+            self.seed,
+            TextRecords { layout, text },
+        )
+    }
 }
 
 /// Gives what `heavy_table` gives, of records of a layout. Behind the layout the depth is tested,
@@ -140,42 +143,40 @@ pub extern "C" fn heavy_table_records(
         (LaidRefused layout.now (pieces_of lengths.now columns.now) (λ l.
         RefusedAfter (bad_table depth width) (text_laid l text.now)))
         result out.old out.new needed.new fault.new }
+    ensures early { layout_fault layout.now (length lengths.now) ≡ None → IfSome (bad_table depth width)
+        (λ wrong. TellsEarly layout.now (pieces_of lengths.now columns.now) wrong
+        result fault.new) }
     ensures bad_layout { IfSome (layout_fault layout.now (length lengths.now)) (λ bad.
         (result ≡ 2) × (fault.new ≡ bad) × (out.new ≡ out.old)) }
     ensures no_bytes { result ≢ 0 → result ≢ 5 → needed.new ≡ 0 }
 {
-    if let Some(bad) = layout_fault(layout, lengths.len()) {
-        *needed = 0;
-        *fault = bad;
-        return USAGE;
-    }
-    let bytes = table_laid(alloc, text, layout, columns, lengths, (width, depth), seed);
-    answer(bytes, out, needed, fault)
+    let call = Tabulate {
+        text,
+        width,
+        depth,
+        seed,
+    };
+    answer_laid(alloc, call, layout, columns, lengths, out, needed, fault)
 }
 
-/// A saved summary or table with a text's records added.
-fn sum_laid(
-    alloc: Global,
-    file: &[u8],
-    text: &[u8],
-    layout: &TextLayout,
-    columns: &[u8],
-    lengths: &[usize],
-) -> Result<Vec<u8>, ToolError>
-    requires { layout_fault layout.now (length lengths.now) ≡ None }
-    ensures added { IfOk result (λ bytes.
-        Laid layout.now (pieces_of lengths.now columns.now) (λ l.
-        AddsRecords file.now (text_laid l text.now) bytes.items)) }
-    ensures refused { IfErr result
-        (LaidRefused layout.now (pieces_of lengths.now columns.now) (λ l.
-        AddRecordsRefused file.now (text_laid l text.now))) }
-{
-    let layout = layout_of(alloc, layout, columns, lengths)?;
-    let records = TextRecords {
-        layout: &layout,
-        text,
-    };
-    add_records(alloc, file, records)
+/// The records of a text, added to a saved summary or table.
+#[derive(Clone, Copy)]
+struct Add<'t> {
+    file: &'t [u8],
+    text: &'t [u8],
+}
+
+impl<'t> LaidCall for Add<'t> {
+    ghost gives = { λ call l. AddsRecords call.file.now (text_laid l call.text.now) };
+
+    ghost refuses = { λ call l. AddRecordsRefused call.file.now (text_laid l call.text.now) };
+
+    ghost wrong = { λ call. head_refusal call.file.now };
+
+    fn bytes_by(self, alloc: Global, layout: &Layout) -> Result<Vec<u8>, ToolError> {
+        let text = self.text;
+        add_records(alloc, self.file, TextRecords { layout, text })
+    }
 }
 
 /// Gives what `heavy_add_text` gives, with records of a layout. Behind the layout the file is
@@ -198,43 +199,44 @@ pub extern "C" fn heavy_add_records(
         (LaidRefused layout.now (pieces_of lengths.now columns.now) (λ l.
         AddRecordsRefused file.now (text_laid l text.now)))
         result out.old out.new needed.new fault.new }
+    ensures early { layout_fault layout.now (length lengths.now) ≡ None → IfSome (head_refusal file.now)
+        (λ wrong. TellsEarly layout.now (pieces_of lengths.now columns.now) wrong
+        result fault.new) }
     ensures bad_layout { IfSome (layout_fault layout.now (length lengths.now)) (λ bad.
         (result ≡ 2) × (fault.new ≡ bad) × (out.new ≡ out.old)) }
     ensures no_bytes { result ≢ 0 → result ≢ 5 → needed.new ≡ 0 }
 {
-    if let Some(bad) = layout_fault(layout, lengths.len()) {
-        *needed = 0;
-        *fault = bad;
-        return USAGE;
-    }
-    let bytes = sum_laid(alloc, file, text, layout, columns, lengths);
-    answer(bytes, out, needed, fault)
+    let call = Add { file, text };
+    answer_laid(alloc, call, layout, columns, lengths, out, needed, fault)
 }
 
-/// The rows of a saved summary's keys above a share of a text's records.
-fn confirmed_laid(
-    alloc: Global,
-    file: &[u8],
-    text: &[u8],
-    layout: &TextLayout,
-    columns: &[u8],
-    lengths: &[usize],
+/// The rows of a saved summary's keys above a share of the records of a text.
+#[derive(Clone, Copy)]
+struct Confirm<'t> {
+    file: &'t [u8],
+    text: &'t [u8],
     share: Option<(u64, u64)>,
-) -> Result<Vec<u8>, ToolError>
-    requires { layout_fault layout.now (length lengths.now) ≡ None }
-    ensures rows { IfOk result (λ rows.
-        Laid layout.now (pieces_of lengths.now columns.now) (λ l.
-        ConfirmsBounded share l.decimals file.now (text_laid l text.now) rows.items)) }
-    ensures refused { IfErr result
-        (LaidRefused layout.now (pieces_of lengths.now columns.now) (λ l.
-        ConfirmBoundedRefused share file.now (text_laid l text.now))) }
-{
-    let layout = layout_of(alloc, layout, columns, lengths)?;
-    let records = TextRecords {
-        layout: &layout,
-        text,
-    };
-    confirm_bounded(alloc, file, share, layout.decimals, records)
+}
+
+impl<'t> LaidCall for Confirm<'t> {
+    ghost gives = { λ call l. ConfirmsBounded call.share l.decimals call.file.now
+        (text_laid l call.text.now) };
+
+    ghost refuses = { λ call l. ConfirmBoundedRefused call.share call.file.now
+        (text_laid l call.text.now) };
+
+    ghost wrong = { λ call. head_refusal call.file.now };
+
+    fn bytes_by(self, alloc: Global, layout: &Layout) -> Result<Vec<u8>, ToolError> {
+        let text = self.text;
+        confirm_bounded(
+            alloc,
+            self.file,
+            self.share,
+            layout.decimals,
+            TextRecords { layout, text },
+        )
+    }
 }
 
 /// Gives the rows of a saved summary's keys that are above p/q of the total of a text's records,
@@ -261,43 +263,41 @@ pub extern "C" fn heavy_confirm_records(
         (LaidRefused layout.now (pieces_of lengths.now columns.now) (λ l.
         ConfirmBoundedRefused (share_given p q) file.now (text_laid l text.now)))
         result out.old out.new needed.new fault.new }
+    ensures early { layout_fault layout.now (length lengths.now) ≡ None → IfSome (head_refusal file.now)
+        (λ wrong. TellsEarly layout.now (pieces_of lengths.now columns.now) wrong
+        result fault.new) }
     ensures bad_layout { IfSome (layout_fault layout.now (length lengths.now)) (λ bad.
         (result ≡ 2) × (fault.new ≡ bad) × (out.new ≡ out.old)) }
     ensures no_bytes { result ≢ 0 → result ≢ 5 → needed.new ≡ 0 }
 {
-    if let Some(bad) = layout_fault(layout, lengths.len()) {
-        *needed = 0;
-        *fault = bad;
-        return USAGE;
-    }
     let share = share_given(p, q);
-    let bytes = confirmed_laid(alloc, file, text, layout, columns, lengths, share);
-    answer(bytes, out, needed, fault)
+    let call = Confirm { file, text, share };
+    answer_laid(alloc, call, layout, columns, lengths, out, needed, fault)
 }
 
-/// The condensed rows of a text's records.
-fn condensed_laid(
-    alloc: Global,
-    file: &[u8],
-    text: &[u8],
-    layout: &TextLayout,
-    columns: &[u8],
-    lengths: &[usize],
-) -> Result<Vec<u8>, ToolError>
-    requires { layout_fault layout.now (length lengths.now) ≡ None }
-    ensures rows { IfOk result (λ rows.
-        Laid layout.now (pieces_of lengths.now columns.now) (λ l.
-        CondensesBounded l.decimals file.now (text_laid l text.now) rows.items)) }
-    ensures refused { IfErr result
-        (LaidRefused layout.now (pieces_of lengths.now columns.now) (λ l.
-        CondenseBoundedRefused file.now (text_laid l text.now))) }
-{
-    let layout = layout_of(alloc, layout, columns, lengths)?;
-    let records = TextRecords {
-        layout: &layout,
-        text,
-    };
-    condense_bounded(alloc, file, layout.decimals, records)
+/// The condensed rows of the records of a text, by a saved summary.
+#[derive(Clone, Copy)]
+struct Condense<'t> {
+    file: &'t [u8],
+    text: &'t [u8],
+}
+
+impl<'t> LaidCall for Condense<'t> {
+    ghost gives = { λ call l. CondensesBounded l.decimals call.file.now (text_laid l call.text.now) };
+
+    ghost refuses = { λ call l. CondenseBoundedRefused call.file.now (text_laid l call.text.now) };
+
+    ghost wrong = { λ call. head_refusal call.file.now };
+
+    fn bytes_by(self, alloc: Global, layout: &Layout) -> Result<Vec<u8>, ToolError> {
+        let text = self.text;
+        condense_bounded(
+            alloc,
+            self.file,
+            layout.decimals,
+            TextRecords { layout, text },
+        )
+    }
 }
 
 /// Gives what `heavy_condense` gives, of records of a layout, which may be a part of those that
@@ -321,39 +321,36 @@ pub extern "C" fn heavy_condense_records(
         (LaidRefused layout.now (pieces_of lengths.now columns.now) (λ l.
         CondenseBoundedRefused file.now (text_laid l text.now)))
         result out.old out.new needed.new fault.new }
+    ensures early { layout_fault layout.now (length lengths.now) ≡ None → IfSome (head_refusal file.now)
+        (λ wrong. TellsEarly layout.now (pieces_of lengths.now columns.now) wrong
+        result fault.new) }
     ensures bad_layout { IfSome (layout_fault layout.now (length lengths.now)) (λ bad.
         (result ≡ 2) × (fault.new ≡ bad) × (out.new ≡ out.old)) }
     ensures no_bytes { result ≢ 0 → result ≢ 5 → needed.new ≡ 0 }
 {
-    if let Some(bad) = layout_fault(layout, lengths.len()) {
-        *needed = 0;
-        *fault = bad;
-        return USAGE;
-    }
-    let bytes = condensed_laid(alloc, file, text, layout, columns, lengths);
-    answer(bytes, out, needed, fault)
+    let call = Condense { file, text };
+    answer_laid(alloc, call, layout, columns, lengths, out, needed, fault)
 }
 
-/// The exact report of a text's records.
-fn report_laid(
-    alloc: Global,
-    text: &[u8],
-    layout: &TextLayout,
-    columns: &[u8],
-    lengths: &[usize],
+/// The exact report of the records of a text.
+#[derive(Clone, Copy)]
+struct Report<'t> {
+    text: &'t [u8],
     k: u64,
     share: Option<(u64, u64)>,
-) -> Result<Vec<u8>, ToolError>
-    requires { layout_fault layout.now (length lengths.now) ≡ None }
-    ensures rows { IfOk result (λ rows.
-        Laid layout.now (pieces_of lengths.now columns.now) (λ l.
-        ReportsRows k share l.decimals (text_laid l text.now) rows.items)) }
-    ensures refused { IfErr result
-        (LaidRefused layout.now (pieces_of lengths.now columns.now) (λ l.
-        RefusedAfter (bad_report k share) (text_laid l text.now))) }
-{
-    let layout = layout_of(alloc, layout, columns, lengths)?;
-    report_bytes(alloc, k, share, &layout, text)
+}
+
+impl<'t> LaidCall for Report<'t> {
+    ghost gives = { λ call l. ReportsRows call.k call.share l.decimals (text_laid l call.text.now) };
+
+    ghost refuses = { λ call l. RefusedAfter (bad_report call.k call.share)
+        (text_laid l call.text.now) };
+
+    ghost wrong = { λ call. bad_report call.k call.share };
+
+    fn bytes_by(self, alloc: Global, layout: &Layout) -> Result<Vec<u8>, ToolError> {
+        report_bytes(alloc, self.k, self.share, layout, self.text)
+    }
 }
 
 /// Gives the exact report of a text's records: all keys above p/q of their total or, where both are
@@ -378,18 +375,16 @@ pub extern "C" fn heavy_report(
         (LaidRefused layout.now (pieces_of lengths.now columns.now) (λ l.
         RefusedAfter (bad_report k (share_given p q)) (text_laid l text.now)))
         result out.old out.new needed.new fault.new }
+    ensures early { layout_fault layout.now (length lengths.now) ≡ None → IfSome (bad_report k (share_given p q))
+        (λ wrong. TellsEarly layout.now (pieces_of lengths.now columns.now) wrong
+        result fault.new) }
     ensures bad_layout { IfSome (layout_fault layout.now (length lengths.now)) (λ bad.
         (result ≡ 2) × (fault.new ≡ bad) × (out.new ≡ out.old)) }
     ensures no_bytes { result ≢ 0 → result ≢ 5 → needed.new ≡ 0 }
 {
-    if let Some(bad) = layout_fault(layout, lengths.len()) {
-        *needed = 0;
-        *fault = bad;
-        return USAGE;
-    }
     let share = share_given(p, q);
-    let bytes = report_laid(alloc, text, layout, columns, lengths, k, share);
-    answer(bytes, out, needed, fault)
+    let call = Report { text, k, share };
+    answer_laid(alloc, call, layout, columns, lengths, out, needed, fault)
 }
 
 /// Tells what `heavy_whole_records` tells, of a text with this byte between two fields.

@@ -1,12 +1,15 @@
 //! What is reported of an input while it is read: how far it is, how many records it has, whether
-//! it looks like another format, and whether a quote may have taken its end.
+//! it looks like another format, and whether a quote may have taken its end; and the first bytes
+//! of one that can't be read again.
 #![tactic(auto)]
 
+mod begin;
 mod last_record;
 mod other_format;
 mod progress;
 mod record_count;
 
+pub use begin::Begin;
 pub use last_record::{LastRecord, LastRecordGuesses, RecordSize};
 pub use other_format::{LongRecord, NOTHING, Seen, Watch};
 pub use progress::{Metered, SharedProgress};

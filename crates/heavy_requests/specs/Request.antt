@@ -179,6 +179,7 @@ pub record IsAskedBy (words : List (List ℕ)) (asked : Invocation) : Type 0 whe
   pub untold : one_text found (codes "progress") ≡ None → asked.tells_progress ≡ false
   pub explained : one_text found (codes "explain") ≡ Some (codes "true") → asked.explains ≡ true
   pub unexplained : one_text found (codes "explain") ≡ None → asked.explains ≡ false
+  pub memory : IsNumberOf found (codes "memory") 64 asked.memory
 
 -- these words may be refused so: the program's command line doesn't take their texts, or memory was refused
 abbrev pub MayRefuse : List (List ℕ) → UsageError → Type 0

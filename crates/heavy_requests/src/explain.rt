@@ -1,14 +1,14 @@
 //! More about a fault, in a second line: where standard error is a terminal, or where it is asked
 //! for. No contract says what these lines say, and each may change.
 
-use crate::record_place::{RecordPlace, delimiter_in, header_of, place_of};
-use crate::request::{Command, Invocation, RecordWords, Request};
+use crate::record_place::{RecordPlace, Text, Texts};
+use crate::request::{Command, Invocation, Request};
 use crate::told::Told;
 use crate::unread::Unread;
 use heavy_progress::Seen;
 use hh_commands::{Comparison, Outside};
 use hh_faults::{BadRecordCause, ToolError, Totals};
-use hh_records::{Column, column_of, pointed};
+use hh_records::{Column, LayoutWords, column_of, pointed};
 use hh_rows::{Share, threshold_of};
 use std::fmt;
 use std::fs::{self, File};
@@ -62,10 +62,18 @@ pub fn tells_more(rt: &HostRuntime, asked: &Invocation) -> bool {
     asked.explains || rt.stderr().is_terminal()
 }
 
-/// Says what a record has to be, by what is wrong with one, where a weight may have this number of
-/// `decimals`.
-fn wanted(cause: BadRecordCause, decimals: u8) -> &'static str {
+/// Whether `layout` names a column.
+fn names_columns(layout: &LayoutWords) -> bool {
+    !layout.key.is_empty() || layout.weight.is_some()
+}
+
+/// Says what a record of this `layout` has to be, by what is wrong with one.
+fn wanted(cause: BadRecordCause, layout: &LayoutWords) -> &'static str {
+    let decimals = layout.decimals;
     match cause {
+        BadRecordCause::FieldCount if names_columns(layout) => {
+            "a record has each column that --key and --weight name"
+        }
         BadRecordCause::FieldCount => {
             "a record is key,weight or a key alone; --key and --weight choose columns"
         }
@@ -225,6 +233,16 @@ fn tell_unread(rt: &HostRuntime, name: &[u8], unread: &Unread) {
     }
 }
 
+/// Prints why a pipe's bytes could not be kept.
+fn tell_unkept(rt: &HostRuntime, unread: &Unread) {
+    let Some(error) = unread.error() else {
+        return;
+    };
+    if let Ok(text) = format!(in rt.alloc(); "{error}") {
+        tell_reason(rt, b"the temporary folder", reason_in(&text));
+    }
+}
+
 /// Reads the first bytes of the file `name`, where it is one of the disk. No other file is opened
 /// again: a pipe would have other bytes now, or none for ever.
 fn begin_of(rt: &HostRuntime, name: &[u8]) -> Option<Vec<u8>> {
@@ -372,42 +390,58 @@ fn tell_threshold(rt: &HostRuntime, request: &Request) {
     }
 }
 
-/// What a bad record has to be, or what it is.
+/// A column that a record doesn't have: the option that names it, its number, and its name, where
+/// the option has that.
 #[derive(Clone, Copy)]
-enum Verdict {
-    Wanted(&'static str),
-    /// A record with `count` fields, where another column is named.
-    Fields { count: u64 },
+struct Missing<'a> {
+    option: &'static str,
+    number: u64,
+    name: Option<&'a [u8]>,
 }
 
-impl fmt::Display for Verdict {
+impl<'a> fmt::Display for Missing<'a> {
     fn fmt<W: fmt::Write>(&self, f: &mut fmt::Formatter<W>) -> fmt::Result {
-        match self {
-            Verdict::Wanted(text) => write!(f, "{text}"),
-            Verdict::Fields { count: 1 } => {
-                write!(f, "it has 1 field, and --key or --weight names another")
-            }
-            Verdict::Fields { count } => {
-                write!(
-                    f,
-                    "it has {count} fields, and --key or --weight names another"
-                )
-            }
+        write!(f, "{} names column {}", self.option, self.number)?;
+        match self.name {
+            Some(name) => write!(f, ", \"{}\"", Name(name)),
+            None => Ok(()),
         }
     }
 }
 
-/// Gives the place, from 0 on, of the column that `word` names in the file `name`.
-fn column_place(
-    rt: &HostRuntime,
-    records: &RecordWords,
-    name: &[u8],
-    word: &[u8],
-) -> Option<usize> {
-    match column_of(rt.alloc(), word, records.layout.has_header).ok()?? {
+/// What a bad record has to be, or what it is.
+#[derive(Clone, Copy)]
+enum Verdict<'a> {
+    Wanted(&'static str),
+    /// A record with `count` fields, where another column is named, which may be known.
+    Fields {
+        count: u64,
+        missing: Option<Missing<'a>>,
+    },
+}
+
+impl<'a> fmt::Display for Verdict<'a> {
+    fn fmt<W: fmt::Write>(&self, f: &mut fmt::Formatter<W>) -> fmt::Result {
+        let (count, missing) = match self {
+            Verdict::Wanted(text) => return write!(f, "{text}"),
+            Verdict::Fields { count, missing } => (*count, missing),
+        };
+        let plural = if count == 1 { "" } else { "s" };
+        write!(f, "it has {count} field{plural}, and ")?;
+        match missing {
+            Some(missing) => write!(f, "{missing}"),
+            None => write!(f, "--key or --weight names another"),
+        }
+    }
+}
+
+/// Gives the place, from 0 on, of the column that `word` names in `text`.
+fn column_place(texts: Texts<'_>, text: Text<'_>, word: &[u8]) -> Option<usize> {
+    let has_header = texts.asked.records.layout.has_header;
+    match column_of(texts.rt.alloc(), word, has_header).ok()?? {
         Column::Number(number) => number.checked_sub(1),
         Column::Name(column) => {
-            let header = header_of(rt, records, name)?;
+            let header = texts.header_of(text)?;
             header
                 .iter()
                 .position(|field| field.as_slice() == column.as_slice())
@@ -415,15 +449,43 @@ fn column_place(
     }
 }
 
-/// Whether the weight of a record in the file `name` is `-`.
-fn weight_is_none(
-    rt: &HostRuntime,
-    records: &RecordWords,
-    name: &[u8],
-    fields: &[Vec<u8>],
-) -> bool {
-    let place = match &records.layout.weight {
-        Some(word) => column_place(rt, records, name, word),
+/// Gives the column that `word` names for an `option`, where a record of `text` with `count` fields
+/// doesn't have it.
+fn missing_at<'a>(
+    texts: Texts<'_>,
+    text: Text<'_>,
+    count: u64,
+    option: &'static str,
+    word: &'a [u8],
+) -> Option<Missing<'a>> {
+    let place = column_place(texts, text, word)? as u64;
+    if place < count {
+        return None;
+    }
+    let is_number = word.iter().all(|byte| byte.is_ascii_digit());
+    Some(Missing {
+        option,
+        number: place.saturating_add(1),
+        name: (!is_number).then_some(word),
+    })
+}
+
+/// Finds the first column that a record of `text` with `count` fields doesn't have.
+fn missing_field<'a>(texts: Texts<'a>, text: Text<'_>, count: u64) -> Option<Missing<'a>> {
+    let layout = &texts.asked.records.layout;
+    for word in &layout.key {
+        if let Some(missing) = missing_at(texts, text, count, "--key", word.as_slice()) {
+            return Some(missing);
+        }
+    }
+    let word = layout.weight.as_ref()?;
+    missing_at(texts, text, count, "--weight", word.as_slice())
+}
+
+/// Whether the weight of a record of `text` is `-`.
+fn weight_is_none(texts: Texts<'_>, text: Text<'_>, fields: &[Vec<u8>]) -> bool {
+    let place = match &texts.asked.records.layout.weight {
+        Some(word) => column_place(texts, text, word),
         None => Some(1),
     };
     match place.and_then(|place| fields.get(place)) {
@@ -432,52 +494,56 @@ fn weight_is_none(
     }
 }
 
-/// Says what is wrong with a record at `place` in the file `name`.
-fn verdict_on(
-    rt: &HostRuntime,
-    records: &RecordWords,
-    name: &[u8],
-    place: &RecordPlace,
-    cause: BadRecordCause,
-) -> Verdict {
-    let layout = &records.layout;
-    let wanted = Verdict::Wanted(wanted(cause, layout.decimals));
+/// Says what is wrong with the record at `place`.
+fn verdict_on<'a>(texts: Texts<'a>, place: &RecordPlace<'_>, cause: BadRecordCause) -> Verdict<'a> {
+    let layout = &texts.asked.records.layout;
+    let wanted = Verdict::Wanted(wanted(cause, layout));
     if let [b'{' | b'[', ..] = place.begin() {
         return Verdict::Wanted("looks like JSON, and a record is CSV");
     }
-    let fields = match delimiter_in(records) {
-        Some(delimiter) => place.fields(rt.alloc(), delimiter),
+    let fields = match texts.delimiter() {
+        Some(delimiter) => place.fields(texts.rt.alloc(), delimiter),
         None => None,
     };
     let Some(fields) = fields else {
         return wanted;
     };
-    let has_columns = !layout.key.is_empty() || layout.weight.is_some();
+    let count = fields.len() as u64;
     match cause {
-        BadRecordCause::FieldCount if has_columns => Verdict::Fields {
-            count: fields.len() as u64,
+        BadRecordCause::FieldCount if names_columns(layout) => Verdict::Fields {
+            count,
+            missing: missing_field(texts, place.text, count),
         },
-        BadRecordCause::BadWeight if weight_is_none(rt, records, name, &fields) => {
+        BadRecordCause::BadWeight if weight_is_none(texts, place.text, &fields) => {
             Verdict::Wanted("--allow-zero takes a weight of -, as 0")
         }
         _ => wanted,
     }
 }
 
-/// Prints where a bad record stands and how it begins, where its file can be read again, and what
-/// is wrong with it. Of a file in another format it prints that.
-fn tell_record(rt: &HostRuntime, records: &RecordWords, number: u64, cause: BadRecordCause) {
-    let Some(place) = place_of(rt, records, number) else {
-        let _ = eprintln!(rt; "  {}", wanted(cause, records.layout.decimals));
+/// Names the format that `text` begins as, where it is one that no command reads and the text can
+/// be looked at again.
+fn format_of(texts: Texts<'_>, text: Text<'_>) -> Option<&'static str> {
+    if let Some(bytes) = texts.begin.bytes_of(text.number) {
+        return other_format(&bytes);
+    }
+    other_format(&begin_of(texts.rt, text.name)?)
+}
+
+/// Prints where a bad record stands and how it begins, where its text can be looked at again, and
+/// what is wrong with it. Of a text in another format it prints that.
+fn tell_record(texts: Texts<'_>, number: u64, cause: BadRecordCause) {
+    let rt = texts.rt;
+    let Some(place) = texts.place_of(number) else {
+        let _ = eprintln!(rt; "  {}", wanted(cause, &texts.asked.records.layout));
         return;
     };
-    let bytes = name_at(records.files.as_slice(), place.file);
-    let (name, line) = (Name(bytes), place.line);
-    if let Some(format) = begin_of(rt, bytes).and_then(|begin| other_format(&begin)) {
+    let (name, line) = (input_name(texts.asked, place.text.number), place.line);
+    if let Some(format) = format_of(texts, place.text) {
         let _ = eprintln!(rt; "  {name} {format}");
         return;
     }
-    let verdict = verdict_on(rt, records, bytes, &place, cause);
+    let verdict = verdict_on(texts, &place, cause);
     let more = if place.is_cut() { ".." } else { "" };
     let _ = eprintln!(rt;
         "  {name}, line {line}, \"{}\"{more}: {verdict}",
@@ -500,42 +566,46 @@ impl<'a> fmt::Display for Columns<'a> {
     }
 }
 
-/// Finds the first column that the file `name` doesn't have.
-fn missing_column<'a>(rt: &HostRuntime, records: &'a RecordWords, name: &[u8]) -> Option<&'a [u8]> {
-    for word in &records.layout.key {
-        if column_place(rt, records, name, word).is_none() {
+/// Finds the first column that `text` doesn't have.
+fn missing_column<'a>(texts: Texts<'a>, text: Text<'_>) -> Option<&'a [u8]> {
+    let layout = &texts.asked.records.layout;
+    for word in &layout.key {
+        if column_place(texts, text, word).is_none() {
             return Some(word.as_slice());
         }
     }
-    match &records.layout.weight {
-        Some(word) if column_place(rt, records, name, word).is_none() => Some(word.as_slice()),
+    match &layout.weight {
+        Some(word) if column_place(texts, text, word).is_none() => Some(word.as_slice()),
         _ => None,
     }
 }
 
-/// Prints which column is missing, in which file, and what columns its header has, where the file
-/// can be read again.
-fn tell_columns(rt: &HostRuntime, records: &RecordWords) {
-    for name in &records.files {
-        let header = header_of(rt, records, name);
-        if let (Some(header), Some(column)) = (header, missing_column(rt, records, name)) {
-            let (name, column) = (Name(name.as_slice()), Name(column));
+/// Prints which column is missing, in which text, and what columns its header has, where the text
+/// can be looked at again.
+fn tell_columns(texts: Texts<'_>) {
+    for place in 0..u64::MAX {
+        let Some(text) = texts.text(place) else {
+            return;
+        };
+        let header = texts.header_of(text);
+        if let (Some(header), Some(column)) = (header, missing_column(texts, text)) {
+            let (name, column) = (input_name(texts.asked, text.number), Name(column));
             let columns = Columns(&header);
-            let _ = eprintln!(rt; "  {name} has no column \"{column}\"; its header has {columns}");
+            let _ = eprintln!(texts.rt;
+                "  {name} has no column \"{column}\"; its header has {columns}"
+            );
             return;
         }
     }
 }
 
 /// Prints more about the `fault` of what was asked for, where there is more to say.
-pub fn tell_more(
-    rt: &HostRuntime,
-    fault: &ToolError,
-    asked: &Invocation,
-    compared: &Comparison,
-    unread: &Unread,
-) {
+pub fn tell_more(texts: Texts<'_>, fault: &ToolError, compared: &Comparison, unread: &Unread) {
+    let (rt, asked) = (texts.rt, texts.asked);
     match fault {
+        ToolError::ReadFault | ToolError::FileFault { .. } if unread.is_unkept() => {
+            tell_unkept(rt, unread);
+        }
         ToolError::FileFault { number } => {
             let Name(name) = input_name(asked, *number);
             tell_unread(rt, name, unread);
@@ -559,9 +629,9 @@ pub fn tell_more(
         }
         ToolError::BadThreshold => tell_threshold(rt, &asked.request),
         ToolError::BadRecord { number, cause } => {
-            tell_record(rt, &asked.records, *number, *cause);
+            tell_record(texts, *number, *cause);
         }
-        ToolError::NoColumn => tell_columns(rt, &asked.records),
+        ToolError::NoColumn => tell_columns(texts),
         _ => {}
     }
 }

@@ -1,24 +1,29 @@
 //! Where records come from: standard input, or files that the command line names.
 
-ghost use Rattle.std.specs.Prelude.{◌≡◌, None, ⊤};
-ghost use Rattle.heavy_requests.specs.Inputs.{names_standard};
+ghost use Rattle.std.specs.Prelude.{◌≡◌, ◌⊎◌, IfErr, None, ⊤};
+ghost use Rattle.heavy_requests.specs.Inputs.{FailsToOpen, names_standard};
 
 use crate::explain::tells_more;
+use crate::kept_pipe::{KeptPipe, keep_pipe};
 use crate::request::{Invocation, RecordWords};
 use crate::unread::Unread;
 use heavy_host::{FileError, FileSource};
 use heavy_progress::{
-    Form, LastRecord, LastRecordGuesses, Metered, RecordSize, Seen, SharedProgress, Watch,
+    Begin, Form, LastRecord, LastRecordGuesses, Metered, RecordSize, Seen, SharedProgress, Watch,
 };
 use hh_faults::ToolError;
 use hh_pieces::ReadAt;
 use hh_records::delimiter_of;
+use memchr::memrchr;
 use std::alloc::Global;
 use std::cell::Cell;
 use std::fs::{self, File, Metadata};
 use std::io::{self, Read, Stdin};
 use std::os::unix::fs::FileExt;
 use std::sync::atomic::{AtomicU64, Ordering};
+
+/// The bytes of a megabyte.
+const MEGABYTE: u64 = 1_000_000;
 
 /// What is read.
 #[derive(Drop)]
@@ -74,12 +79,15 @@ pub struct Input<'a> {
     /// Its place among the command line's files, from 1 on, and 0 where it has none.
     number: u64,
     unread: &'a Unread,
+    /// What keeps its first bytes, where it can't be read again.
+    begin: Option<&'a Begin>,
     /// What sees its bytes.
     watch: Watch<'a>,
 }
 
 impl<'a> Input<'a> {
-    /// Notes the `outcome` of a read into `buf`: its error, or the bytes for the watch.
+    /// Notes the `outcome` of a read into `buf`: its error, or the bytes for what keeps and what
+    /// sees them.
     fn leave(&mut self, outcome: &io::Result<usize>, buf: &[u8]) {
         let count = match outcome {
             Ok(count) => count,
@@ -89,6 +97,9 @@ impl<'a> Input<'a> {
             }
         };
         if let Some(bytes) = buf.get(..*count) {
+            if let Some(begin) = self.begin {
+                begin.add(self.number, bytes);
+            }
             self.watch.add(bytes);
         }
     }
@@ -127,10 +138,7 @@ impl<'a> DiskFile<'a> {
         if let Some(progress) = self.progress {
             progress.add(bytes.len() as u64);
         }
-        if !bytes.contains(&b'"') {
-            return;
-        }
-        if let Some(quote) = bytes.iter().rposition(|byte| *byte == b'"') {
+        if let Some(quote) = memrchr(b'"', bytes) {
             let end = at.saturating_add(quote as u64).saturating_add(1);
             self.quote_end.fetch_max(end, Ordering::SeqCst);
         }
@@ -177,7 +185,7 @@ impl<'a> DiskFile<'a> {
 
     /// Gives the size of the last record of a file that workers have read, where it began with a
     /// quote and is long. A file without a quote isn't read again, and one of which the bytes
-    /// around the last quote tell that it doesn't isn't read whole.
+    /// around the last quote show that it doesn't isn't read whole.
     fn last_record(&self, alloc: Global, delimiter: u8) -> Option<RecordSize> {
         let quote_end = self.quote_end.load(Ordering::SeqCst);
         if quote_end == 0 || !self.may_end_quoted(alloc, delimiter, quote_end)? {
@@ -210,30 +218,6 @@ impl<'a> ReadAt for DiskFile<'a> {
     }
 }
 
-/// What a pipe gave, which is kept because it is read twice.
-#[derive(Drop)]
-pub struct KeptPipe {
-    bytes: Vec<u8>,
-    /// Whether the pipe came to its end. Where it could not be read to there, its length is one
-    /// more than its bytes, so that a reader fails behind them.
-    is_whole: bool,
-}
-
-impl ReadAt for KeptPipe {
-    ghost use Rattle.heavy_requests.specs.Inputs.{kept_bytes};
-
-    ghost bytes = { kept_bytes };
-
-    fn len(&self) -> io::Result<u64> {
-        let len = ReadAt::len(&self.bytes)?;
-        Ok(len.saturating_add(u64::from(!self.is_whole)))
-    }
-
-    fn read_at(&self, buf: &mut [u8], at: u64) -> io::Result<usize> {
-        self.bytes.read_at(buf, at)
-    }
-}
-
 /// An input that is read at any place, any number of times.
 #[derive(Drop)]
 pub enum OpenFile<'a> {
@@ -251,7 +235,7 @@ impl<'a> OpenFile<'a> {
     {
         match self {
             OpenFile::Disk(_) => true,
-            OpenFile::Kept(pipe) => pipe.is_whole,
+            OpenFile::Kept(pipe) => pipe.is_whole(),
         }
     }
 }
@@ -278,19 +262,6 @@ impl<'a> ReadAt for OpenFile<'a> {
 
 /// A reader of records, which reports its progress where that is asked for.
 pub type Reader<'a> = Metered<'a, Input<'a>>;
-
-/// Reads `pipe` to its end, or as far as it can be read, and keeps what it gave.
-fn keep_pipe(alloc: Global, mut pipe: Reader<'_>) -> Result<KeptPipe, ToolError> {
-    let mut bytes = Vec::new(alloc);
-    let is_whole = match pipe.read_to_end(&mut bytes) {
-        Ok(_) => true,
-        Err(error) if matches!(error.kind(), io::ErrorKind::OutOfMemory) => {
-            return Err(ToolError::Memory);
-        }
-        Err(_) => false,
-    };
-    Ok(KeptPipe { bytes, is_whole })
-}
 
 /// An input of records that is open.
 #[derive(Drop)]
@@ -319,12 +290,18 @@ pub struct Inputs<'a> {
     pub unread: &'a Unread,
     /// What was seen in the inputs.
     pub seen: &'a Cell<Seen>,
+    /// The first bytes of an input that can't be read again.
+    pub begin: &'a Begin,
+    /// Whether these may be printed, and are kept.
+    keeps_begin: bool,
     /// How records are parted.
     form: Form,
     /// Whether notes on their format are printed.
     tells_more: bool,
     /// Whether no option says how they are parted.
     looks_for_format: bool,
+    /// How many bytes of a pipe are kept in memory, where it is read twice.
+    most_kept: u64,
 }
 
 impl<'a> Inputs<'a> {
@@ -335,6 +312,7 @@ impl<'a> Inputs<'a> {
         progress: Option<&'a SharedProgress<'a>>,
         unread: &'a Unread,
         seen: &'a Cell<Seen>,
+        begin: &'a Begin,
     ) -> Inputs<'a> {
         let layout = &asked.records.layout;
         let delimiter = layout.delimiter.as_ref();
@@ -343,6 +321,8 @@ impl<'a> Inputs<'a> {
             progress,
             unread,
             seen,
+            begin,
+            keeps_begin: tells_more(rt, asked) || !asked.records.are_plain(),
             form: Form {
                 delimiter: delimiter
                     .and_then(|word| delimiter_of(word))
@@ -353,15 +333,18 @@ impl<'a> Inputs<'a> {
             looks_for_format: delimiter.is_none()
                 && layout.key.is_empty()
                 && layout.weight.is_none(),
+            most_kept: asked.memory.saturating_mul(MEGABYTE),
         }
     }
 
-    /// Makes an input of `source` with its `number`.
-    fn input(self, source: Source, number: u64) -> Input<'a> {
+    /// Makes an input of `source` with its `number`. Its first bytes go to `begin`, if there is
+    /// one.
+    fn input(self, source: Source, number: u64, begin: Option<&'a Begin>) -> Input<'a> {
         Input {
             source,
             number,
             unread: self.unread,
+            begin,
             watch: Watch::new(
                 self.seen,
                 number,
@@ -372,7 +355,9 @@ impl<'a> Inputs<'a> {
     }
 
     /// Opens the input `name` with its `number`. Standard input is empty where it `is_taken`.
-    pub fn open(self, name: &[u8], number: u64, is_taken: bool) -> Result<OpenInput, ToolError> {
+    pub fn open(self, name: &[u8], number: u64, is_taken: bool) -> Result<OpenInput, ToolError>
+        ensures refused { IfErr result (FailsToOpen name.now number) }
+    {
         let (source, size) = match (is_standard(name), is_taken) {
             (true, true) => (Source::Nothing, None),
             (true, false) => (Source::Standard(self.rt.stdin()), None),
@@ -395,13 +380,21 @@ impl<'a> Inputs<'a> {
             Source::Standard(_) => self.size_at("/dev/stdin"),
             _ => input.size,
         };
-        let inner = self.input(input.source, input.number);
+        let begin = if self.keeps_begin && input.size.is_none() {
+            Some(self.begin)
+        } else {
+            None
+        };
+        let inner = self.input(input.source, input.number, begin);
         Metered::new(self.rt, inner, size, self.form, self.progress.is_some())
     }
 
     /// Makes of an open `input` what is read at any place: a file of the disk is read as it is, and
     /// all else is read to its end here, and kept.
-    pub fn source(self, input: OpenInput) -> Result<OpenFile<'a>, ToolError> {
+    pub fn source(self, input: OpenInput) -> Result<OpenFile<'a>, ToolError>
+        ensures refused { IfErr result (λ fault.
+            (fault ≡ ToolError.Memory) ⊎ (fault ≡ ToolError.ReadFault)) }
+    {
         let OpenInput {
             source,
             number,
@@ -417,7 +410,8 @@ impl<'a> Inputs<'a> {
                     number,
                     size: None,
                 });
-                Ok(OpenFile::Kept(keep_pipe(self.rt.alloc(), pipe)?))
+                let kept = keep_pipe(self.rt, pipe, self.most_kept, self.unread)?;
+                Ok(OpenFile::Kept(kept))
             }
         }
     }
@@ -432,7 +426,10 @@ impl<'a> Inputs<'a> {
     }
 
     /// Opens the file `name` with its `number`.
-    fn file(self, name: &[u8], number: u64) -> Result<File, ToolError> {
+    fn file(self, name: &[u8], number: u64) -> Result<File, ToolError>
+        ensures refused { IfErr result (λ fault.
+            (fault ≡ ToolError.Memory) ⊎ (fault ≡ ToolError.FileFault number)) }
+    {
         let Ok(path) = str::from_utf8(name) else {
             return Err(ToolError::FileFault { number });
         };
@@ -494,7 +491,8 @@ impl<'a> Inputs<'a> {
         let Ok(mut buffer) = vec![in self.rt.alloc(); 0u8; LOOK_LEN] else {
             return;
         };
-        read_all(&mut self.input(Source::File(file), number), &mut buffer);
+        let mut input = self.input(Source::File(file), number, None);
+        read_all(&mut input, &mut buffer);
     }
 
     /// Reads once more, in order, the files that workers have read, where notes on their format are

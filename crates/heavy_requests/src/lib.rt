@@ -5,6 +5,7 @@
 mod explain;
 mod fields;
 mod inputs;
+mod kept_pipe;
 mod record_place;
 mod request;
 mod status;
@@ -13,6 +14,7 @@ mod unread;
 
 pub use explain::tells_more;
 pub use inputs::{Inputs, OpenFile, OpenInput, Reader, is_standard, shared_progress};
+pub use kept_pipe::KeptPipe;
 pub use request::{Command, Invocation, RecordWords, Request, UsageError, read_request};
 pub use status::{status_after, status_of, status_told};
 pub use told::Told;

@@ -1,8 +1,8 @@
-//! Where a record stands in the files that it was read from.
+//! Where a record stands in the texts that it was read from.
 
 use crate::fields::split_fields;
-use crate::request::RecordWords;
-use heavy_progress::RecordCount;
+use crate::request::Invocation;
+use heavy_progress::{Begin, RecordCount};
 use hh_records::delimiter_of;
 use std::alloc::{AllocError, Global};
 use std::fs::{self, File};
@@ -20,17 +20,25 @@ const MOST_SHOWN: usize = 60;
 /// What may stand before a text, and is no part of it.
 const MARK: &[u8] = b"\xef\xbb\xbf";
 
+/// A text of records: the name and the number of its input.
+#[derive(Clone, Copy)]
+pub struct Text<'a> {
+    pub name: &'a [u8],
+    /// Its place among the command line's files, from 1 on, and 0 where none is named.
+    pub number: u64,
+}
+
 /// Where a record stands, and how it begins.
 #[derive(Drop)]
-pub struct RecordPlace {
-    /// The place of its file among all, from 0 on.
-    pub file: u64,
+pub struct RecordPlace<'a> {
+    /// The text that it stands in.
+    pub text: Text<'a>,
     /// The line in which it begins, from 1 on.
     pub line: u64,
     bytes: Vec<u8>,
 }
 
-impl RecordPlace {
+impl<'a> RecordPlace<'a> {
     /// Gives the first bytes of the record.
     pub fn begin(&self) -> &[u8] {
         match self.bytes.get(..MOST_SHOWN) {
@@ -121,52 +129,92 @@ impl Search {
         }
         None
     }
-}
 
-/// Looks in the file `name` for the record behind `before` others, where it can be read again.
-fn search_in(rt: &HostRuntime, name: &[u8], before: u64, delimiter: u8) -> Option<Search> {
-    let path = str::from_utf8(name).ok()?;
-    if name == b"-".as_slice() || !fs::metadata(rt, path).ok()?.is_file() {
-        return None;
-    }
-    let file = File::open(rt, path).ok()?;
-    Search::new(rt, before, delimiter).through(rt, file)
-}
-
-/// Gives the byte between two fields of the records that `words` name.
-pub fn delimiter_in(words: &RecordWords) -> Option<u8> {
-    match &words.layout.delimiter {
-        Some(word) => delimiter_of(word),
-        None => Some(b','),
+    /// Takes the first `bytes` of a text, up to those with the record. Where they aren't the
+    /// `whole` text and the record doesn't end in them, there is no search.
+    fn through_begin(mut self, bytes: &[u8], whole: bool) -> Option<Search> {
+        let text = bytes.strip_prefix(MARK).unwrap_or(bytes);
+        let has_come = self.take_all(text).ok()?;
+        (whole || has_come).then_some(self)
     }
 }
 
-/// Gives the names in the header of the file `name`, where it has one that can be read again.
-pub fn header_of(rt: &HostRuntime, words: &RecordWords, name: &[u8]) -> Option<Vec<Vec<u8>>> {
-    let delimiter = delimiter_in(words)?;
-    let search = search_in(rt, name, 0, delimiter)?;
-    if !words.layout.has_header || search.bytes.is_empty() {
-        return None;
-    }
-    split_fields(rt.alloc(), delimiter, &search.bytes).ok()
+/// What can be looked at again of the records that `asked` names: files of the disk, and the
+/// `begin` of another input.
+#[derive(Clone, Copy)]
+pub struct Texts<'a> {
+    pub rt: &'a HostRuntime,
+    pub asked: &'a Invocation,
+    pub begin: &'a Begin,
 }
 
-/// Gives the place of the record `number`, from 1 on, in the files of records, if each of them up
-/// to its own can be read again.
-pub fn place_of(rt: &HostRuntime, words: &RecordWords, number: u64) -> Option<RecordPlace> {
-    let delimiter = delimiter_in(words)?;
-    let header = u64::from(words.layout.has_header);
-    let mut before = number.checked_sub(1)?;
-    for (file, name) in words.files.iter().enumerate() {
-        let search = search_in(rt, name, before.saturating_add(header), delimiter)?;
-        if !search.bytes.is_empty() {
-            return Some(RecordPlace {
-                file: file as u64,
-                line: search.line,
-                bytes: search.bytes,
+impl<'a> Texts<'a> {
+    /// Gives the text at `place`, from 0 on. Where no file is named, standard input is the only
+    /// one.
+    pub fn text(self, place: u64) -> Option<Text<'a>> {
+        let files = &self.asked.records.files;
+        if files.is_empty() && place == 0 {
+            return Some(Text {
+                name: b"-",
+                number: 0,
             });
         }
-        before = before.saturating_sub(search.records.begun().saturating_sub(header));
+        let name = files.get(place as usize)?;
+        let before = self.asked.request.saved().saturating_add(place);
+        Some(Text {
+            name: name.as_slice(),
+            number: before.saturating_add(1),
+        })
     }
-    None
+
+    /// Gives the byte between two fields of the records.
+    pub fn delimiter(self) -> Option<u8> {
+        match &self.asked.records.layout.delimiter {
+            Some(word) => delimiter_of(word),
+            None => Some(b','),
+        }
+    }
+
+    /// Looks in `text` for the record behind `before` others, where the text can be looked at
+    /// again.
+    fn search_in(self, text: Text<'_>, before: u64) -> Option<Search> {
+        let search = Search::new(self.rt, before, self.delimiter()?);
+        if let Some(bytes) = self.begin.bytes_of(text.number) {
+            return search.through_begin(&bytes, self.begin.is_whole());
+        }
+        let path = str::from_utf8(text.name).ok()?;
+        if text.name == b"-".as_slice() || !fs::metadata(self.rt, path).ok()?.is_file() {
+            return None;
+        }
+        search.through(self.rt, File::open(self.rt, path).ok()?)
+    }
+
+    /// Gives the names in the header of `text`, where it has one that can be looked at again.
+    pub fn header_of(self, text: Text<'_>) -> Option<Vec<Vec<u8>>> {
+        let search = self.search_in(text, 0)?;
+        if !self.asked.records.layout.has_header || search.bytes.is_empty() {
+            return None;
+        }
+        split_fields(self.rt.alloc(), self.delimiter()?, &search.bytes).ok()
+    }
+
+    /// Gives the place of the record `number`, from 1 on, if each text up to its own can be looked
+    /// at again.
+    pub fn place_of(self, number: u64) -> Option<RecordPlace<'a>> {
+        let header = u64::from(self.asked.records.layout.has_header);
+        let mut before = number.checked_sub(1)?;
+        for place in 0..u64::MAX {
+            let text = self.text(place)?;
+            let search = self.search_in(text, before.saturating_add(header))?;
+            if !search.bytes.is_empty() {
+                return Some(RecordPlace {
+                    text,
+                    line: search.line,
+                    bytes: search.bytes,
+                });
+            }
+            before = before.saturating_sub(search.records.begun().saturating_sub(header));
+        }
+        None
+    }
 }

@@ -14,8 +14,8 @@ use crate::told::{Told, told_of};
 use clap::error::ErrorKind;
 use clap::{ArgMatches, Error};
 use heavy_arguments::{
-    ALLOW_ZERO, DECIMALS, DELIMITER, DEPTH, EXPLAIN, HEADER, K, KEY, PIECES, PROGRESS, RECORDS,
-    SEED, SHARE, SUMMARY_WORKERS, TOP, WEIGHT, WIDTH, WORKERS, command_line,
+    ALLOW_ZERO, DECIMALS, DELIMITER, DEPTH, EXPLAIN, HEADER, K, KEY, MEMORY, PIECES, PROGRESS,
+    RECORDS, SEED, SHARE, SUMMARY_WORKERS, TOP, WEIGHT, WIDTH, WORKERS, command_line,
 };
 use heavy_host::{WordSource, behind_first, bytes_of, read_words, texts_of};
 use hh_records::LayoutWords;
@@ -31,6 +31,8 @@ pub struct Invocation {
     pub tells_progress: bool,
     /// Whether a fault has a second line.
     pub explains: bool,
+    /// How many megabytes of a pipe are kept in memory, where it is read twice.
+    pub memory: u64,
 }
 
 /// The words that say which records are read.
@@ -460,6 +462,7 @@ fn request_in(alloc: Global, words: &[Vec<u8>]) -> Result<Invocation, UsageError
         records: records_of(alloc, found)?,
         tells_progress: found.get_flag(PROGRESS),
         explains: found.get_flag(EXPLAIN),
+        memory: MEMORY.of(found),
     })
 }
 

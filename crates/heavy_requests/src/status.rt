@@ -5,6 +5,7 @@ use crate::explain::{
     tells_more,
 };
 use crate::inputs::Inputs;
+use crate::record_place::Texts;
 use crate::request::Invocation;
 use crate::told::Told;
 use hh_commands::Comparison;
@@ -39,7 +40,12 @@ fn status_explained(
     let rt = inputs.rt;
     let status = status_after(rt, fault);
     if tells_more(rt, asked) || names_records(&fault, asked) {
-        tell_more(rt, &fault, asked, compared, inputs.unread);
+        let texts = Texts {
+            rt,
+            asked,
+            begin: inputs.begin,
+        };
+        tell_more(texts, &fault, compared, inputs.unread);
     }
     status
 }

@@ -1,7 +1,7 @@
 //! The input that can't be read, and why.
 
 use std::io::Error;
-use std::sync::atomic::{AtomicI32, AtomicU64, Ordering};
+use std::sync::atomic::{AtomicBool, AtomicI32, AtomicU64, Ordering};
 
 /// The number of an input that can't be read, and the reason, which any thread may note.
 #[derive(Drop)]
@@ -10,6 +10,8 @@ pub struct Unread {
     number: AtomicU64,
     /// The system's number of the error, and 0 where the system gave none.
     code: AtomicI32,
+    /// Whether the error is of the file that was to keep a pipe's bytes.
+    is_unkept: AtomicBool,
 }
 
 impl Unread {
@@ -18,6 +20,7 @@ impl Unread {
         Unread {
             number: AtomicU64::new(0),
             code: AtomicI32::new(0),
+            is_unkept: AtomicBool::new(false),
         }
     }
 
@@ -32,6 +35,17 @@ impl Unread {
     pub fn leave_changed(&self, number: u64) {
         self.number.store(number, Ordering::SeqCst);
         self.code.store(0, Ordering::SeqCst);
+    }
+
+    /// Notes the `error` of the file that was to keep a pipe's bytes.
+    pub fn leave_unkept(&self, error: &Error) {
+        self.leave(0, error);
+        self.is_unkept.store(true, Ordering::SeqCst);
+    }
+
+    /// Whether the error that was noted is of the file that was to keep a pipe's bytes.
+    pub fn is_unkept(&self) -> bool {
+        self.is_unkept.load(Ordering::SeqCst)
     }
 
     /// Gives the number that was noted.

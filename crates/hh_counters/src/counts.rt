@@ -1,6 +1,6 @@
 //! The keys of a summary, counted as items come.
 
-ghost use Rattle.std.specs.Prelude.{◌≡◌, ◌+◌, ◌<◌, ◌≤◌, ◌∷◌, [], true, IfOk, OnOk, filter, length, slice_index, zip};
+ghost use Rattle.std.specs.Prelude.{◌≡◌, ◌+◌, ◌<◌, ◌≤◌, ◌∷◌, [], true, IsOk, IfOk, OnOk, filter, length, slice_index, zip};
 ghost use Rattle.std.specs.Map.{keys_of};
 ghost use Rattle.hh_stream.specs.Weights.{max_total, total_of};
 ghost use Rattle.hh_summaries.specs.Counters.{max_k, IsCounters, exceeds};
@@ -112,8 +112,12 @@ impl Counts {
     /// The keys above the total divided by k + 1, by falling weight and then by rising key.
     pub fn select(&self, k: u64) -> Result<Vec<Heavy>, AllocError>
         requires { in_range k max_k ≡ true }
-        ensures { IfOk result (λ rows. rows.items
+        ensures rows { IfOk result (λ rows. rows.items
             ≡ rows_above 1 (k + 1) self.now.total (zip self.now.keys self.now.weights)) }
+
+        // a report without rows takes no memory
+        ensures none { rows_above 1 (k + 1) self.now.total (zip self.now.keys self.now.weights)
+            ≡ [] → IsOk result }
     {
         self.select_above(1, k + 1)
     }
@@ -122,8 +126,12 @@ impl Counts {
     /// and q at most [`MAX_Q`](crate::MAX_Q).
     pub fn select_above(&self, p: u64, q: u64) -> Result<Vec<Heavy>, AllocError>
         requires { IsShare p q }
-        ensures { IfOk result (λ rows. rows.items
+        ensures rows { IfOk result (λ rows. rows.items
             ≡ rows_above p q self.now.total (zip self.now.keys self.now.weights)) }
+
+        // a report without rows takes no memory
+        ensures none { rows_above p q self.now.total (zip self.now.keys self.now.weights) ≡ []
+            → IsOk result }
     {
         self.candidates.select(&self.weights, self.total, p, q)
     }

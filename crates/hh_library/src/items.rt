@@ -16,7 +16,7 @@ use hh_stream::{KeyHash, MAX_KEY_LEN, MAX_TOTAL};
 use std::alloc::Global;
 
 /// What is wrong with the item with this number, behind items of this total.
-pub(crate) fn item_fault(number: u64, total: u64, key: &[u8], weight: u64) -> Option<ToolError>
+pub fn item_fault(number: u64, total: u64, key: &[u8], weight: u64) -> Option<ToolError>
     requires { total ≤ max_total }
     ensures fault { result ≡ item_fault number total (key.now, weight) }
     ensures weighs { result ≡ None → 0 < weight }

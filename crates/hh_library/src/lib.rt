@@ -22,3 +22,4 @@ pub use commands::plain::{
     ask_bytes, condense_bytes, confirm_above, confirm_bytes, list_keys, summary_bytes, table_bytes,
 };
 pub use hashing::hash_of;
+pub use items::item_fault;

@@ -1,18 +1,19 @@
 -- Lines and fields by the places of the bytes that end them.
-use Rattle.std.proofs.Common.{◌≡◌, ◌≤◌, ◌<◌, ◌+◌, ◌-◌, ◌∷◌, ◌++◌, ◌∙◌, ℕ, suc, zero, List, [], length, map, take, drop, Bool, true, false, Some, None, Ok, refl, sym, ap, arith, append-nil, append_assoc, length-append, length-drop}
+use Rattle.std.proofs.Common.{◌≡◌, ◌==◌, ◌≤◌, ◌<◌, ◌+◌, ◌-◌, ◌∷◌, ◌++◌, ◌∙◌, ℕ, suc, zero, List, [], length, map, take, drop, Bool, true, false, Some, None, Ok, refl, sym, ap, arith, append-nil, append_assoc, length-append, length-drop}
 use Rattle.std.specs.Prelude.{if◌then◌else◌, slice_range}
 use Rattle.std.specs.List.{onto_first, position_or_len, slice_split}
 use Rattle.std.proofs.lemmas.List.{drop-drop, drop_all, length-map, length-take-le, map-append}
 use Rattle.std.proofs.lemmas.List.Splits.{slice_split_first}
 use Rattle.std.proofs.Math.Seq.{take-length}
 use native.Mathlib.Decide.{dec_lt}
+use Rattle.csv.specs.Machine.{line_feed}
 use Rattle.memchr.specs.Find.{NoneBefore, Nowhere, Passes, is_byte}
 use Rattle.hh_stream.specs.Weights.{Entry, total_of}
 use Rattle.hh_records.specs.declared.layout.Layout.{Layout}
 use Rattle.hh_records.specs.declared.records.RecordFault.{RecordFault}
 use Rattle.hh_records.specs.declared.records.RecordFault.TheVariants as fault
 use Rattle.hh_records.specs.Layouts.{PartsRefused, RowsRefused, adds, items_after}
-use Rattle.hh_pieces.specs.Lines.{is_line_end, line_end, line_fields, line_rows, split_rows}
+use Rattle.hh_pieces.specs.Lines.{HasNoReturn, is_line_end, line_end, line_fields, line_rows, split_rows}
 use Rattle.hh_records.specs.Streams.{Fields, Parts, numbered_fault, parts_of}
 use Rattle.hh_pieces.proofs.QuoteFacts.{rest-all}
 use Rattle.hh_records.proofs.ReadFacts.{items-more}
@@ -64,6 +65,24 @@ module _ (test : ℕ → Bool) where
       by true parts = ([], parts, refl)
       by false [] = (c ∷ [], [], refl)
       by false (g ∷ more) = (c ∷ g, more, refl)
+
+-- ---- texts without CR
+-- what follows in such a text has none either
+pub no-return-behind : (n : ℕ) (text : List ℕ) → HasNoReturn text → HasNoReturn (drop n text)
+no-return-behind zero text none = none
+no-return-behind (suc n) [] none = tt
+no-return-behind (suc n) (c ∷ rest) none = no-return-behind n rest none.1
+
+-- and its lines end at LF alone
+pub ends-at-feeds : (text : List ℕ) → HasNoReturn text
+    → position_or_len is_line_end text ≡ position_or_len (is_byte line_feed) text
+ends-at-feeds [] none = refl
+ends-at-feeds (c ∷ rest) none = by (c == line_feed) refl (ends-at-feeds rest none.1)
+  where
+    by : (b : Bool) → (c == line_feed) ≡ b → position_or_len is_line_end rest ≡ position_or_len (is_byte line_feed) rest
+        → position_or_len is_line_end (c ∷ rest) ≡ position_or_len (is_byte line_feed) (c ∷ rest)
+    by true e more = rw (none.0, e) refl
+    by false e more = rw (none.0, e) (omega (arith, more))
 
 -- ---- the key and the weight's field of a line
 module _ (d : ℕ) (line : List ℕ) where

@@ -32,6 +32,10 @@ split_rows d text = line_rows d (slice_split is_line_end text)
 abbrev pub IsUnquoted : List ℕ → Type 0
 IsUnquoted text = AllByRecursion (λ c. (c == 34) ≡ false) text
 
+-- no byte is CR
+abbrev pub HasNoReturn : List ℕ → Type 0
+HasNoReturn text = AllByRecursion (λ c. (c == carriage_return) ≡ false) text
+
 -- the place of the first byte from this one on that ends a line, or the length of the text
 abbrev pub line_end : List ℕ → ℕ → ℕ
 line_end text from = from + position_or_len is_line_end (drop from text)

@@ -7,7 +7,7 @@ ghost use Rattle.hh_stream.specs.Weights.{max_total};
 ghost use Rattle.hh_stream.specs.Taking.{Takes};
 ghost use Rattle.hh_records.specs.Layouts.{PartsRefused, RowsRefused, adds, items_after};
 ghost use Rattle.hh_pieces.specs.Lines as spec;
-ghost use Rattle.hh_pieces.specs.Lines.{IsUnquoted, line_fields, split_rows};
+ghost use Rattle.hh_pieces.specs.Lines.{HasNoReturn, IsUnquoted, line_fields, split_rows};
 ghost use Rattle.hh_records.specs.Streams.{parts_of};
 
 use hh_faults::{BadRecordCause, ReadError};
@@ -30,8 +30,15 @@ pub(crate) fn is_unquoted(text: &[u8]) -> bool
     memchr(b'"', text).is_none()
 }
 
-/// Where the line ends that begins at this place.
-fn line_end(text: &[u8], from: usize) -> usize
+/// Whether a text has no CR.
+fn has_no_return(text: &[u8]) -> bool
+    ensures { OnTrue result (HasNoReturn text.now) }
+{
+    memchr(b'\r', text).is_none()
+}
+
+/// Where the line ends that begins at `from`.
+fn any_line_end(text: &[u8], from: usize) -> usize
     requires within { from ≤ length text.now }
     ensures end { result ≡ spec.line_end text.now from }
     ensures behind { from ≤ result }
@@ -40,6 +47,35 @@ fn line_end(text: &[u8], from: usize) -> usize
     match memchr2(b'\r', b'\n', &text[from..]) {
         Some(run) => from + run,
         None => text.len(),
+    }
+}
+
+/// Where the line ends that begins at `from`, in a text without CR.
+fn feed_line_end(text: &[u8], from: usize) -> usize
+    requires within { from ≤ length text.now }
+    requires no_return { HasNoReturn text.now }
+    ensures end { result ≡ spec.line_end text.now from }
+    ensures behind { from ≤ result }
+    ensures within { result ≤ length text.now }
+{
+    match memchr(b'\n', &text[from..]) {
+        Some(run) => from + run,
+        None => text.len(),
+    }
+}
+
+/// Where the line ends that begins at `from`. One byte is looked for where the text `has_no_return`.
+fn line_end(text: &[u8], from: usize, has_no_return: bool) -> usize
+    requires within { from ≤ length text.now }
+    requires no_return { OnTrue has_no_return (HasNoReturn text.now) }
+    ensures end { result ≡ spec.line_end text.now from }
+    ensures behind { from ≤ result }
+    ensures within { result ≤ length text.now }
+{
+    if has_no_return {
+        feed_line_end(text, from)
+    } else {
+        any_line_end(text, from)
     }
 }
 
@@ -98,10 +134,11 @@ pub(crate) fn read_lines<T: TakeItems>(
         RowsRefused layout.now 0 (T.weight_taken taker.old)
         (Some (map parts_of (split_rows layout.now.delimiter text.now))) error) }
 {
+    let has_no_return = has_no_return(text);
     let mut from = 0;
     let mut number = 0;
     while from < text.len() {
-        let end = line_end(text, from);
+        let end = line_end(text, from, has_no_return);
         if from < end {
             number += 1;
             match take_line(alloc, taker, &text[from..end], layout) {

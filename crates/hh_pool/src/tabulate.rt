@@ -16,7 +16,7 @@ use hh_countmin::laws::tables_follow_items;
 use hh_countmin::{Family, MergeFault, Table};
 use hh_shared::{SharedSums, SumSeat};
 use hh_stream::PieceFault;
-use hh_workers::{Gate, Pass, Pieces, Work, run_alone, share_work};
+use hh_workers::{Gate, Pass, Pieces, Work, found_or_made, share_work};
 use std::alloc::AllocError;
 use std::sync::Wait;
 use std::thread::Threads;
@@ -139,8 +139,6 @@ pub(crate) fn tabulate<R: Threads + Wait + Sync, P: Pieces + Sync, G: Gate + Syn
         family,
         width,
     };
-    match share_work(rt, work.alloc, &pass, 0, workers)? {
-        Some((_, table)) => Ok(table),
-        None => run_alone(&pass, workers),
-    }
+    let found = share_work(rt, work.alloc, &pass, 0, workers)?;
+    found_or_made(&pass, found, workers)
 }

@@ -24,7 +24,7 @@ use hh_shared::{SharedSums, SumSeat};
 use hh_stream::{Key, KeyHash, PieceFault, TakeItems};
 use hh_tally::laws::tallies_bound_weights;
 use hh_tally::{Room, Tally};
-use hh_workers::{Gate, OpenGate, Pass, Pieces, Work, run_alone, share_work};
+use hh_workers::{Gate, OpenGate, Pass, Pieces, Work, found_or_made, share_work};
 use std::alloc::{AllocError, Global};
 use std::sync::Wait;
 use std::thread::Threads;
@@ -138,10 +138,8 @@ fn tally<R: Threads + Wait + Sync, P: Pieces + Sync, G: Gate + Sync>(
 {
     tallies_bound_weights();
     let pass = TallyPass { work, room, hash };
-    match share_work(rt, work.alloc, &pass, 0, workers)? {
-        Some((_, tally)) => Ok(tally),
-        None => run_alone(&pass, workers),
-    }
+    let found = share_work(rt, work.alloc, &pass, 0, workers)?;
+    found_or_made(&pass, found, workers)
 }
 
 /// The counters of the contenders, in their order.
@@ -246,10 +244,10 @@ pub fn report_pieces<R: Threads + Wait + Sync, P: Pieces + Sync>(
 /// Summarises the items of all pieces with `k` counters, as well as one that is made item by item:
 /// each worker tallies the items of the pieces that it claims, the tallies add up, and the `k`
 /// greatest counters are kept, each less the next one (Agarwal et al. 2012). `hash` decides how
-/// fast keys are found. The counters may differ from run to run, by which worker claims which piece.
+/// fast keys are found. The counters may differ from run to run, by which worker takes which piece.
 ///
-/// Each piece is asked for once; where one was claimed by no worker, the calling thread asks for
-/// all of them again. It starts the workers, waits for them and answers Refused as
+/// Each piece is asked for once. Where no worker claimed a piece, the calling thread asks for all of
+/// them again; no run is known to leave one. It starts the workers, waits for them and answers Refused as
 /// [`report_pieces`] does. Where the items aren't known, the summary is one of some items.
 pub fn summarise_pieces<R: Threads + Wait + Sync, P: Pieces + Sync>(
     rt: &R,

@@ -29,7 +29,7 @@ abbrev pub units_of : ℕ → Option (List ℕ) → Option ℕ
 units_of d None = Some (10 ^ d)
 units_of d (Some f) = units_at d f (point_from 0 f)
 
--- the last digits of a number, so many
+-- the last digits of a number, this many
 unfoldable pub last_digits : ℕ → ℕ → List ℕ
 last_digits zero n = []
 last_digits (suc d) n = (48 + n / 10 ^ d % 10) ∷ last_digits d n

@@ -1,5 +1,5 @@
 -- Layouts of records that are said in words.
-use Rattle.std.specs.Prelude.{◌≡◌, ◌⊎◌, ℕ, Bool, List, [], ◌∷◌, map, Contains, Option, Some, None, option_map, ⊤}
+use Rattle.std.specs.Prelude.{◌≡◌, ◌⊎◌, ℕ, Bool, List, [], ◌∷◌, map, Contains, Option, Some, None, IsSome, option_map, ⊤}
 use Rattle.csv.specs.Writing.{comma}
 use Rattle.hh_records.specs.Layouts.{NamesColumn, delimiter_of}
 use Rattle.hh_records.specs.declared.layout.Column.{Column}
@@ -12,6 +12,10 @@ use Rattle.hh_records.specs.declared.layout_words.LayoutWords.{LayoutWords}
 abbrev pub delimiter_said : Option (List ℕ) → Option ℕ
 delimiter_said None = Some comma
 delimiter_said (Some word) = delimiter_of word
+
+-- the byte between fields that these words say
+abbrev pub byte_said : LayoutWords → Option ℕ
+byte_said words = delimiter_said (option_map (λ word. word.items) words.delimiter)
 
 -- a word names no column
 abbrev pub NamesNone : Bool → List ℕ → Type 0
@@ -46,18 +50,21 @@ weight_word words = option_map (λ word. word.items) words.weight
 
 -- the words say this layout
 pub record SaysLayout (words : LayoutWords) (layout : Layout) : Type 0 where
-  pub delimiter : delimiter_said (option_map (λ word. word.items) words.delimiter) ≡ Some layout.delimiter
+  pub delimiter : byte_said words ≡ Some layout.delimiter
   pub has_header : layout.has_header ≡ words.has_header
   pub key : NamesKey words.has_header (key_words words) layout.key.items
   pub weight : NamesWeight words.has_header (weight_word words) layout.weight
   pub allow_zero : layout.allow_zero ≡ words.allow_zero
   pub decimals : layout.decimals ≡ words.decimals
 
--- what a refusal of such words tells: of the delimiter, or of a column
+-- the weight's word names no column
+abbrev pub NamesNoWeight : LayoutWords → Type 0
+NamesNoWeight words = (word : List ℕ) × (weight_word words ≡ Some word) × NamesNone words.has_header word
+
+-- what a refusal of such words says: that the delimiter is bad or, where it is good, that a column is
 abbrev pub LayoutRefused : LayoutWords → ToolError → Type 0
-LayoutRefused words tool.BadDelimiter = delimiter_said (option_map (λ word. word.items) words.delimiter) ≡ None
+LayoutRefused words tool.BadDelimiter = byte_said words ≡ None
 LayoutRefused words tool.BadColumn =
-    NamesNot words.has_header (key_words words)
-    ⊎ ((word : List ℕ) × (weight_word words ≡ Some word) × NamesNone words.has_header word)
+    IsSome (byte_said words) × (NamesNot words.has_header (key_words words) ⊎ NamesNoWeight words)
 LayoutRefused words tool.Memory = ⊤
 LayoutRefused words _ = ⊥

@@ -1,5 +1,5 @@
 -- Records whose key and weight stand in columns of one's own.
-use Rattle.std.specs.Prelude.{◌≡◌, ◌==◌, ◌&&◌, ◌||◌, ◌+◌, ◌-◌, ◌<◌, ℕ, Bool, true, false, List, [], ◌∷◌, ◌++◌, length, map, not, Option, Some, None, IfSome, option_map, option_and_then, Result, Ok, Err, ⊤, if◌then◌else◌}
+use Rattle.std.specs.Prelude.{◌≡◌, ◌==◌, ◌&&◌, ◌||◌, ◌+◌, ◌-◌, ◌^◌, ◌<◌, ℕ, Bool, true, false, List, [], ◌∷◌, ◌++◌, length, map, min, not, Option, Some, None, IfSome, option_map, option_and_then, Result, Ok, Err, ⊤, if◌then◌else◌}
 use Rattle.std.specs.List.{position_from}
 use Rattle.std.specs.Option.{option_zip}
 use Rattle.std.specs.Str.{bytes_eq}
@@ -119,12 +119,17 @@ delimiter_of (b ∷ []) = if b == 34 || b == 13 || b == 10 then None else Some b
 delimiter_of (b ∷ c ∷ []) = if b == 92 && c == 116 then Some 9 else None
 delimiter_of (b ∷ c ∷ d ∷ rest) = None
 
--- a word names this column: digits its number, from 1 on, and another word its name, which only a
--- header has
+-- digits alone, as many as there are
+abbrev pub is_digits : List ℕ → Bool
+is_digits word = is_number (length word) word
+
+-- a word names this column: digits alone its number, from 1 on and at most the largest u64, which no
+-- record has; and another word its name, which only a header has
 abbrev pub NamesColumn : Bool → List ℕ → Column → Type 0
-NamesColumn has_header word (column.Number n) = (is_number 10 word ≡ true) × (n ≡ value_of word) × (0 < n)
+NamesColumn has_header word (column.Number n) =
+    (is_digits word ≡ true) × (n ≡ min (value_of word) (2 ^ 64 - 1)) × (0 < n)
 NamesColumn has_header word (column.Name name) =
-    (has_header ≡ true) × (is_number 10 word ≡ false) × (name.items ≡ word)
+    (has_header ≡ true) × (is_digits word ≡ false) × (name.items ≡ word)
 
 -- how csv reads fields with this byte between them
 abbrev pub delimited : ℕ → Config
@@ -178,7 +183,7 @@ pub record IsPlain (layout : Layout) : Type 0 where
   pub no_zero : layout.allow_zero ≡ false
   pub whole : layout.decimals ≡ 0
 
--- what a refusal to choose tells
+-- what a refusal to choose says
 abbrev pub ChoiceRefused : Layout → Fields → ChoiceFault → Type 0
 ChoiceRefused layout header choice.NoColumn =
     (names_columns layout ≡ true) × (places_in layout header ≡ None)
@@ -209,7 +214,7 @@ texts_parts layout texts = gathered (text_parts layout) texts
 abbrev pub stream_with : Layout → List (List ℕ) → Option Reading
 stream_with layout texts = option_map (items_after layout 1 0) (texts_parts layout texts)
 
--- what a refusal of a record tells
+-- what a refusal of a record says
 abbrev pub PartsRefused : Layout → ℕ → Parts → RecordFault → Type 0
 PartsRefused layout t p (fault.Bad c) = adds layout t p ≡ Err c
 PartsRefused layout t p fault.Memory = ⊤
@@ -243,15 +248,15 @@ parts_left remaining text =
     (records_from (reader_config text.rows) (length bytes + 1) (reader_state text.rows) bytes))
     (between (reader_state text.rows) (unread remaining text.rows))
 
--- what a refusal to read the records of a text tells, where they come after so many others and a
--- total of t
+-- what a refusal to read the records of a text says, where this number of others come before them
+-- and a total of t
 abbrev pub RowsRefused : Layout → ℕ → ℕ → Option (List Parts) → ReadError → Type 0
 RowsRefused layout before t left read.ReadFault = ⊤
 RowsRefused layout before t left (read.BadRecord n c) =
     IfSome left (λ ps. items_after layout (before + 1) t ps ≡ Err (n, c))
 RowsRefused layout before t left read.Memory = ⊤
 
--- the same of a text that has none where it was to have a header
+-- the records that a text has left, and none where it was to have a header and has no record
 abbrev pub text_left : {R : Type 0} → (R → Option (List ℕ)) → Option (Text R) → Option (List Parts)
 text_left remaining None = Some []
 text_left remaining (Some text) = parts_left remaining text
@@ -261,7 +266,7 @@ abbrev pub choice_fault : ChoiceFault → TextError
 choice_fault choice.NoColumn = text.NoColumn
 choice_fault choice.Memory = text.Memory
 
--- what a refusal to open texts tells of their records, where they are known
+-- what a refusal to open texts says of their records, where they are known
 abbrev pub OpenRefused : Bool → Option (Option (List Parts)) → TextError → Type 0
 OpenRefused names parts text.ReadFault = ⊤
 OpenRefused names parts text.NoColumn = (names ≡ true) × IfSome parts (λ ps. ps ≡ None)
@@ -300,7 +305,7 @@ texts_known bytes layout texts = record {
 abbrev pub records_known : {R : Type 0} → (R → Option (List ℕ)) → Records R → Known
 records_known remaining records = texts_known remaining records.layout (records.first ∷ records.others.items)
 
--- what a refusal to read records by a layout tells of them
+-- what a refusal to read records by a layout says of them
 abbrev pub TextsRefused : Known → TextError → Type 0
 TextsRefused known text.ReadFault = ⊤
 TextsRefused known text.NoColumn = (known.names_columns ≡ true) × IfSome known.reading (λ r. r ≡ None)

@@ -1,4 +1,4 @@
--- What a command tells of records that it didn't read.
+-- What a command says of records that it didn't read.
 use Rattle.std.specs.Prelude.{◌≡◌, Option, Some, None, Err, ⊤}
 use Rattle.hh_records.specs.Streams.{Known, ReadsAs}
 use Rattle.hh_records.specs.Layouts.{TextsRefused}
@@ -6,7 +6,7 @@ use Rattle.hh_faults.specs.declared.records.TextError.TheVariants as text
 use Rattle.hh_faults.specs.declared.error.ToolError.{ToolError}
 use Rattle.hh_faults.specs.declared.error.ToolError.TheVariants as tool
 
--- what a refusal to read records tells, where they were read: not before the tests that come first
+-- what a refusal to read records says, where they were read: not before the tests that come first
 abbrev pub RecordsRefused : Known → ToolError → Type 0
 RecordsRefused known tool.ReadFault = ⊤
 RecordsRefused known (tool.BadRecord n c) = ReadsAs known (Err (n, c))

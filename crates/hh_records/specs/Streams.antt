@@ -90,7 +90,7 @@ pub record Known : Type 0 where
   pub names_columns : Bool
   pub reading : Option (Option Reading)
 
--- the same of a text of keys and weights, of which a reader has these bytes left
+-- what is known of a text of keys and weights, of which a reader has these bytes left
 abbrev pub text_known : Option (List ℕ) → Known
 text_known left = record {
   names_columns = false;
@@ -101,7 +101,7 @@ text_known left = record {
 abbrev pub ReadsAs : Known → Reading → Type 0
 ReadsAs known reading = IfSome known.reading (λ r. r ≡ Some reading)
 
--- what a refusal tells of the records
+-- what a refusal says of the records
 abbrev pub ReadRefused : Known → ReadError → Type 0
 ReadRefused known read.ReadFault = ⊤
 ReadRefused known (read.BadRecord n c) = ReadsAs known (Err (n, c))
@@ -113,7 +113,7 @@ abbrev pub fault_of : ErrorKind → ReadError
 fault_of kind.OutOfMemory = read.Memory
 fault_of _ = read.ReadFault
 
--- the refusal that tells a record's number with its fault
+-- the refusal that has a record's number with its fault
 abbrev pub numbered_fault : ℕ → RecordFault → ReadError
 numbered_fault n (fault.Bad c) = read.BadRecord n c
 numbered_fault n fault.Memory = read.Memory

@@ -8,8 +8,7 @@ use crate::records::number_in;
 use itoa::Buffer;
 use std::alloc::{AllocError, Global};
 
-/// So many units of a number that stands so many places further to the left, at most the largest
-/// `u64`.
+/// Moves `number` by `decimals` places to the left, to at most the largest `u64`.
 pub(crate) fn scaled(number: u64, decimals: u8) -> u64
     ensures { result ≡ min (number * 10 ^ decimals) u64.MAX }
 {
@@ -20,7 +19,7 @@ pub(crate) fn scaled(number: u64, decimals: u8) -> u64
     units
 }
 
-/// The place of the first point.
+/// Finds the place of the first point in `field`.
 fn point_in(field: &[u8]) -> Option<usize>
     ensures place { result ≡ point_from 0 field.now }
     ensures within { IfSome result (λ place. place < length field.now) }
@@ -33,7 +32,8 @@ fn point_in(field: &[u8]) -> Option<usize>
     None
 }
 
-/// The number that the digits before a point write, at most the largest `u64`. None write 0.
+/// Reads the number that the `digits` before a point write, at most the largest `u64`. None write
+/// 0.
 fn whole_in(digits: &[u8]) -> Option<u64>
     ensures { MatchOption result
         (is_whole digits.now ≡ false)
@@ -46,8 +46,8 @@ fn whole_in(digits: &[u8]) -> Option<u64>
     number_in(digits, 20)
 }
 
-/// The number that a field writes, which may have digits behind a point, in units of the last of so
-/// many digits, at most the largest `u64`.
+/// Reads the number that `field` writes, which may have digits behind a point, in units of the last
+/// of `decimals` digits, at most the largest `u64`.
 fn pointed_in(field: &[u8], decimals: u8) -> Option<u64>
     ensures { result ≡ option_map (λ units. min units u64.MAX)
         (units_of decimals (Some field.now)) }
@@ -63,7 +63,8 @@ fn pointed_in(field: &[u8], decimals: u8) -> Option<u64>
     Some(scaled(whole, decimals).saturating_add(scaled(units, missing)))
 }
 
-/// The same. Where no digit may stand behind a point there is none.
+/// Reads the number that `field` writes as [`pointed_in`] does. Where no digit may stand behind a
+/// point there is none.
 pub(crate) fn units_in(field: &[u8], decimals: u8) -> Option<u64>
     ensures { result ≡ option_map (λ units. min units u64.MAX)
         (units_of decimals (Some field.now)) }
@@ -74,7 +75,7 @@ pub(crate) fn units_in(field: &[u8], decimals: u8) -> Option<u64>
     pointed_in(field, decimals)
 }
 
-/// A number without so many of its last digits.
+/// Gives `number` without its last digits, as many as `places` says.
 fn without(number: u128, places: u8) -> u128
     ensures { result ≡ number / 10 ^ places }
 {
@@ -85,7 +86,8 @@ fn without(number: u128, places: u8) -> u128
     left
 }
 
-/// A number in units of the last of so many digits behind a point. With none there is no point.
+/// Writes `number`, which counts in units of the last of `decimals` digits behind a point. With
+/// none there is no point.
 pub fn pointed(alloc: Global, number: u128, decimals: u8) -> Result<Vec<u8>, AllocError>
     ensures { IfOk result (λ text. text.items ≡ pointed decimals number) }
 {

@@ -33,8 +33,8 @@ pub struct Layout {
     pub weight: Option<Column>,
     /// A record of weight 0 adds nothing and is no fault, and `-` is such a weight.
     pub allow_zero: bool,
-    /// A weight may have a point and up to so many digits behind it. It counts in units of the last
-    /// of them: with 3 the weight `0.125` is 125, and 1 is 1,000.
+    /// The most digits that a weight has behind a point. It counts in units of the last of them:
+    /// with 3 the weight `0.125` is 125, and 1 is 1,000.
     pub decimals: u8,
     /// How the keys are hashed where they are looked up. No answer depends on it: it decides how
     /// fast keys are found that others chose.
@@ -67,7 +67,8 @@ impl Layout {
     }
 }
 
-/// The byte that a word names: itself, or a tab for `\t`. No field ends with a quote, CR or LF.
+/// Gives the byte that `word` names: itself, or a tab for `\t`. No field ends with a quote, CR or
+/// LF.
 pub fn delimiter_of(word: &[u8]) -> Option<u8>
     ensures { result ≡ delimiter_of word.now }
 {
@@ -79,14 +80,15 @@ pub fn delimiter_of(word: &[u8]) -> Option<u8>
     }
 }
 
-/// The column that a word names: digits are its number, from 1 on, and another word is a name,
-/// which only a header has.
+/// Finds the column that `word` names: digits alone are its number, from 1 on, and another word is
+/// a name, which only a header has. Zeros in front count for nothing, and a number beyond `u64` is
+/// the largest one, a column that no record has.
 pub fn column_of(alloc: Global, word: &[u8], has_header: bool) -> Result<Option<Column>, AllocError>
     ensures named { IfOk result (λ column. IfSome column (NamesColumn has_header word.now)) }
     ensures unnamed { result ≡ Ok None
         → (column : Column) → NamesColumn has_header word.now column → ⊥ }
 {
-    match number_in(word, 10) {
+    match number_in(word, word.len()) {
         Some(0) => Ok(None),
         Some(number) => Ok(Some(Column::Number(number as usize))),
         None if has_header => Ok(Some(Column::Name(Vec::from_slice(alloc, word)?))),
@@ -107,7 +109,7 @@ pub(crate) enum ChoiceFault {
     Memory,
 }
 
-/// The place of the first field like a name.
+/// Finds the place of the first field of `header` like `name`.
 fn named(header: &ByteRecord, name: &[u8]) -> Option<usize>
     ensures { result ≡ named_from name.now 0 (fields_of header.now) }
 {
@@ -124,7 +126,7 @@ fn named(header: &ByteRecord, name: &[u8]) -> Option<usize>
     None
 }
 
-/// The place of a column, from 0 on.
+/// Finds the place of `column`, from 0 on.
 fn place_of(header: &ByteRecord, column: &Column) -> Option<usize>
     ensures { result ≡ place_of (fields_of header.now) column.now }
 {
@@ -139,7 +141,7 @@ fn place_of(header: &ByteRecord, column: &Column) -> Option<usize>
     }
 }
 
-/// The places of some columns, where all are there.
+/// Finds the places of `columns`, where all are there.
 fn places_of(
     alloc: Global,
     header: &ByteRecord,
@@ -158,7 +160,7 @@ fn places_of(
     Ok(Some(places))
 }
 
-/// The places of the key's columns: of none, that of column 1.
+/// Finds the places of the key's `columns`: of none, that of column 1.
 fn key_places(
     alloc: Global,
     header: &ByteRecord,
@@ -175,7 +177,8 @@ fn key_places(
     places_of(alloc, header, columns)
 }
 
-/// The places of the columns that a layout names, by a header, or nothing where it names none.
+/// Finds the places of the columns that `layout` names, by `header`, or nothing where it names
+/// none.
 pub(crate) fn choose(
     alloc: Global,
     layout: &Layout,

@@ -8,7 +8,7 @@ use hh_faults::ToolError;
 use hh_stream::KeyHash;
 use std::alloc::{AllocError, Global};
 
-/// What is said of the columns of records, in words.
+/// Where the keys and the weights of records stand, in words.
 #[derive(Debug, Drop)]
 pub struct LayoutWords {
     /// The byte between two fields, or `\t` for a tab. None is a comma.
@@ -21,12 +21,11 @@ pub struct LayoutWords {
     pub weight: Option<Vec<u8>>,
     /// A record of weight 0 adds nothing and is no fault, nor is one of weight `-`.
     pub allow_zero: bool,
-    /// A weight may have a point and up to so many digits behind it, and counts in units of the
-    /// last.
+    /// The most digits that a weight has behind a point. It counts in units of the last of them.
     pub decimals: u8,
 }
 
-/// The columns that words name, where each names one.
+/// Gives the columns that `words` name, where each names one.
 fn key_of(
     alloc: Global,
     words: &[Vec<u8>],
@@ -48,9 +47,9 @@ fn key_of(
     Ok(Some(key))
 }
 
-/// The layout that words say. The delimiter is tested first, then the key's columns, then the
-/// weight's ([`ToolError::BadDelimiter`], [`ToolError::BadColumn`]). Keys are hashed by the words
-/// that all runs have.
+/// Gives the layout that `words` say. The delimiter is tested first, then the key's columns, then
+/// the weight's ([`ToolError::BadDelimiter`], [`ToolError::BadColumn`]). Keys are hashed by the
+/// words that all runs have.
 pub fn layout_of(alloc: Global, words: &LayoutWords) -> Result<Layout, ToolError>
     ensures layout { IfOk result (SaysLayout words.now) }
     ensures refused { IfErr result (LayoutRefused words.now) }

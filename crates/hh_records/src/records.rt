@@ -28,7 +28,7 @@ pub enum RecordFault {
     Memory,
 }
 
-/// The number that 1 to so many digits write, at most the largest `u64`.
+/// Reads the number that 1 to `most` digits write, at most the largest `u64`.
 pub fn number_in(field: &[u8], most: usize) -> Option<u64>
     ensures number { MatchOption result
         (is_number most field.now ≡ false)
@@ -229,7 +229,7 @@ fn take_record<T: TakeItems>(
     }
 }
 
-/// The error that tells a record's number with its fault.
+/// Gives the error that has the `number` of a record with its `fault`.
 pub fn numbered_fault(number: u64, fault: RecordFault) -> ReadError
     ensures { result ≡ numbered_fault number fault }
 {
@@ -255,8 +255,8 @@ pub(crate) fn fault_of(fault: &ErrorKind) -> ReadError
     }
 }
 
-/// Hands on what each record that a reader has left adds, by the places of its key and weight,
-/// where so many records came before, and counts them.
+/// Hands on what each record that `rows` has left adds, by the places of its key and weight, and
+/// counts all records, with the number of those `before`.
 fn take_rows<R: Read, T: TakeItems>(
     alloc: Global,
     rows: &mut Reader<Retrying<R>>,
@@ -294,7 +294,8 @@ fn take_rows<R: Read, T: TakeItems>(
     Err(ReadError::ReadFault)
 }
 
-/// Hands on what each record of a text adds, where so many records came before, and counts them.
+/// Hands on what each record of `text` adds, and counts all records, with the number of those
+/// `before`.
 pub fn read_rows<R: Read + Drop, T: TakeItems>(
     alloc: Global,
     text: Text<R>,
@@ -347,8 +348,8 @@ pub fn read_items<R: Read + Drop, T: TakeItems>(
 /// field has weight 1. Records are what `csv` reads: there is no header row, fields may be quoted,
 /// and a key may be any 1 to 4,096 bytes.
 ///
-/// The first record that fails a test ends the reading: its number, from 1 on, and the cause are
-/// told. A read that a signal interrupts is tried again.
+/// The first record that fails a test ends the reading: the error has its number, from 1 on, and
+/// the cause. A read that a signal interrupts is tried again.
 pub fn read_stream<R: Read + Drop>(alloc: Global, reader: R) -> Result<Stream, ReadError>
     ensures stream { IfOk result (λ stream.
         ReadsAs (text_known (R.remaining reader)) (Ok stream)) }

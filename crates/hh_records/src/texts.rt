@@ -271,7 +271,7 @@ const READ_LEN: usize = 65_536;
 
 const MOST_BUFFERED: usize = 1_048_576;
 
-/// How many bytes of each of so many texts are read at once.
+/// Gives the number of bytes that are read at once of each of this number of `texts`.
 fn read_len(texts: usize) -> usize
     ensures some { 0 < result }
     ensures whole { texts ≤ 16 → result ≡ 65536 }
@@ -280,7 +280,7 @@ fn read_len(texts: usize) -> usize
     (MOST_BUFFERED / texts.max(1)).min(READ_LEN).max(1)
 }
 
-/// What reads from a reader so many bytes at once.
+/// Makes of `reader` one that reads `len` bytes at once.
 fn through_buffer<R: Read + Drop>(
     alloc: Global,
     reader: R,
@@ -298,7 +298,7 @@ fn through_buffer<R: Read + Drop>(
     }
 }
 
-/// The same of each of some readers.
+/// Makes of each of `readers` one that reads `len` bytes at once.
 fn through_buffers<R: Read + Drop>(
     alloc: Global,
     readers: Vec<R>,
@@ -367,10 +367,10 @@ pub fn read_texts<R: Read + Drop, T: TakeItems>(
 /// Hands the item of each record to a taker of none, in order, and returns the taker. A layout says
 /// where the key and the weight stand.
 ///
-/// Each text is opened first and its header read, so that a column that a header hasn't is told
-/// before any record is. Then the first record that fails a test, or that the taker has no memory
-/// for, ends the reading, as does a reader that fails. Records are numbered from 1 over all texts,
-/// and a header is none of them.
+/// Each text is opened first and its header read, so that a column that a header hasn't is a fault
+/// before any record is one. Then the first record that fails a test, or that the taker has no
+/// memory for, ends the reading, as does a reader that fails. Records are numbered from 1 over all
+/// texts, and a header is none of them.
 pub fn read_records<R: Read + Drop, T: TakeItems>(
     alloc: Global,
     records: Records<R>,

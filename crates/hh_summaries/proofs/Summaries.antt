@@ -1,5 +1,5 @@
 -- The counters of a stream, and of two summaries joined, are honest.
-use Rattle.std.proofs.Common.{◌≡◌, ℕ, zero, suc, ◌+◌, ◌-◌, ◌*◌, ◌<◌, ◌≤◌, List, [], ◌∷◌, ◌++◌, ◌^◌, cond, length, take, get_or, refl, sym, ap, ◌∙◌, subst, append_assoc, append-nil, mul-add, mul_comm, mul-le-mul_left, mul-zero, add-one, arith, fold, nat_lt, replicate, IsPermutation}
+use Rattle.std.proofs.Common.{◌≡◌, ℕ, zero, suc, ◌+◌, ◌-◌, ◌*◌, ◌<◌, ◌≤◌, List, [], ◌∷◌, ◌++◌, ◌^◌, cond, length, take, get_or, refl, sym, ap, ◌∙◌, subst, append_assoc, append-nil, mul-add, mul_comm, mul-le-mul_left, mul-zero, add-one, arith, fold, min, nat_lt, replicate, IsPermutation}
 use Rattle.std.specs.List.{insert}
 use Rattle.std.proofs.lemmas.List.{take_more, length-replicate}
 use Rattle.std.proofs.lemmas.List.Sorted.{sum_by-IsPermutation}
@@ -261,3 +261,15 @@ join_full c i e k h l full is =
     ∙ ap (λ d. lower (level d k) d) (sym is)
     ∙ ap (λ t. lower t (insert c i e)) (one_level (insert c i e) k _ _ (is_level (insert c i e) k) same
     ∙ level_one_more (e ∷ c) k (omega arith))
+
+-- what is not above the least stays so beside a newcomer with that number
+pub least_beside : (x : Bytes) (n : ℕ) (c : Counters) → n ≤ least_counter c → n ≤ least_counter ((x, n) ∷ c)
+least_beside x n [] h = omega arith
+least_beside x n (e ∷ c) h = from e.1 c h
+  where
+    from : (m : ℕ) (c : Counters) → n ≤ fold (λ n (d : Entry). min n d.1) m c
+        → n ≤ fold (λ n (d : Entry). min n d.1) (min n m) c
+    from m [] h = omega (arith, h)
+    from m (e ∷ c) h =
+        let both : min n (min m e.1) ≡ min (min n m) e.1 = omega arith in
+        subst (λ l. n ≤ fold (λ n (d : Entry). min n d.1) l c) both (from (min m e.1) c h)

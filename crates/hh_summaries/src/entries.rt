@@ -129,7 +129,10 @@ pub fn level_of(numbers: &mut [u64], k: usize) -> u64
 /// Takes the level from each counter, so that at most `k` are left.
 pub fn cut(alloc: Global, entries: &mut Vec<(Key, u64)>, k: usize) -> Result<(), AllocError>
     requires { IsCounters entries.old.items }
-    ensures { OnOk result (entries.new.items ≡ cut_counters entries.old.items k) }
+    ensures lowered { OnOk result (entries.new.items ≡ cut_counters entries.old.items k) }
+
+    // where all may stay, nothing takes memory
+    ensures few { length entries.old.items ≤ k → IsOk result }
 {
     if entries.len() <= k {
         return Ok(());
@@ -194,7 +197,11 @@ pub fn add_item(
     ensures joined { OnOk result
         (entries.new.items ≡ join entries.old.items ((key.now, weight) ∷ []) k) }
     ensures unchanged { OnErr result (entries.new.items ≡ entries.old.items) }
+
+    // nothing grows where the key is there, or all are full and none is below the weight
     ensures known { 0 < weight_of key.now entries.old.items → IsOk result }
+    ensures least { length entries.old.items ≡ k
+        → weight ≤ least_counter_of entries.old.items → IsOk result }
 {
     let place = match place_of(entries, key) {
         Ok(place) => {
@@ -225,7 +232,10 @@ pub fn join(
     requires left { IsCounters left.now }
     requires right { IsCounters right.now }
     requires bounded { total_of left.now + total_of right.now < 2 ^ 63 }
-    ensures { IfOk result (λ all. all.items ≡ join left.now right.now k) }
+    ensures joined { IfOk result (λ all. all.items ≡ join left.now right.now k) }
+
+    // no counters take no memory
+    ensures none { left.now ≡ [] → right.now ≡ [] → IsOk result }
 {
     let mut all = Vec::with_capacity(alloc, left.len() + right.len())?;
     push_sums(&mut all, left, right)?;
@@ -243,7 +253,8 @@ fn push_sums(
     requires left { IsCounters left.now }
     requires right { IsCounters right.now }
     requires bounded { total_of left.now + total_of right.now < 2 ^ 63 }
-    ensures { OnOk result (all.new.items ≡ plus left.now right.now) }
+    ensures summed { OnOk result (all.new.items ≡ plus left.now right.now) }
+    ensures none { left.now ≡ [] → right.now ≡ [] → IsOk result }
 {
     let mut l = 0;
     let mut r = 0;
@@ -270,9 +281,11 @@ fn push_sums(
     push_copies(all, &right[r..])
 }
 
-/// Puts a copy of the key last, with the number.
+/// Puts a copy of the key last, with the number. After an `Err` the entries are as they were.
 pub fn push_copy(entries: &mut Vec<(Key, u64)>, key: &Key, number: u64) -> Result<(), AllocError>
-    ensures { OnOk result (entries.new.items ≡ entries.old.items ++ (key.now, number) ∷ []) }
+    ensures pushed { OnOk result
+        (entries.new.items ≡ entries.old.items ++ (key.now, number) ∷ []) }
+    ensures unchanged { OnErr result (entries.new.items ≡ entries.old.items) }
 {
     entries.push((key.copy()?, number))?;
     Ok(())
@@ -283,6 +296,9 @@ pub fn ranked(alloc: Global, entries: &[(Key, u64)]) -> Result<Vec<(Key, u64)>, 
     requires { IsStrictlySortedBy key_cmp (keys_of entries.now) }
     ensures ranked { IfOk result (λ ranked. ranked.items ≡ by_rank entries.now) }
     ensures sum { IfOk result (λ ranked. total_of ranked.items ≡ total_of entries.now) }
+
+    // no entries take no memory
+    ensures none { entries.now ≡ [] → IsOk result }
 {
     let mut ranked = Vec::new(alloc);
     push_copies(&mut ranked, entries)?;
@@ -292,7 +308,8 @@ pub fn ranked(alloc: Global, entries: &[(Key, u64)]) -> Result<Vec<(Key, u64)>, 
 
 // Puts copies of the entries last.
 fn push_copies(entries: &mut Vec<(Key, u64)>, others: &[(Key, u64)]) -> Result<(), AllocError>
-    ensures { OnOk result (entries.new.items ≡ entries.old.items ++ others.now) }
+    ensures pushed { OnOk result (entries.new.items ≡ entries.old.items ++ others.now) }
+    ensures none { others.now ≡ [] → IsOk result }
 {
     for other in others {
         push_copy(entries, &other.0, other.1)?;

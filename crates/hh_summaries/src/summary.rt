@@ -3,7 +3,7 @@
 ghost use Rattle.std.specs.Prelude.{◌≡◌, ◌+◌, ◌<◌, ◌≤◌, ◌^◌, ◌↔◌, [], ◌≢◌, ◌==◌, IsTrue, IsOk, IsErr, IsErrOf, IfOk, OnOk, OnErr, length, slice_index_or, false, true};
 ghost use Rattle.hh_stream.specs.Weights.{max_total, weight_of, total_of, max_key_len};
 ghost use Rattle.hh_stream.specs.Ranges.{in_range};
-ghost use Rattle.hh_summaries.specs.Counters.{max_k, Fits, IsCounters, SummaryView, sketch_with, merge_of, sketch_of, slack};
+ghost use Rattle.hh_summaries.specs.Counters.{max_k, Fits, IsCounters, SummaryView, least_counter, sketch_with, merge_of, sketch_of, slack};
 ghost use Rattle.hh_summaries.specs.Report.{by_rank};
 
 use crate::entries::{add_item, are_counters, counter_of, join, ranked, sum_of, sums_within};
@@ -217,6 +217,9 @@ impl Summary {
     pub fn ranked(&self) -> Result<Vec<(Key, u64)>, AllocError>
         ensures ranked { IfOk result (λ ranked. ranked.items ≡ by_rank self.now.counters) }
         ensures sum { IfOk result (λ ranked. total_of ranked.items ≡ total_of self.now.counters) }
+
+        // no counters take no memory
+        ensures none { self.now.counters ≡ [] → IsOk result }
     {
         ranked(*self.entries.allocator(), &self.entries)
     }
@@ -235,8 +238,11 @@ impl Summary {
         ensures too_large { IsErrOf result AddFault.TotalTooLarge
             ↔ (max_total < self.old.total + weight) }
 
-        // a key that has a counter takes no memory
+        // nothing grows where the key has a counter, or k do and none is below the weight
         ensures known { 0 < weight_of key.now self.old.counters
+            → self.old.total + weight ≤ max_total → IsOk result }
+        ensures least { length self.old.counters ≡ self.old.k
+            → weight ≤ least_counter self.old.counters
             → self.old.total + weight ≤ max_total → IsOk result }
     {
         self.add_bytes(key.bytes(), weight)
@@ -251,8 +257,11 @@ impl Summary {
         ensures too_large { IsErrOf result AddFault.TotalTooLarge
             ↔ (max_total < self.old.total + weight) }
 
-        // a key that has a counter takes no memory
+        // nothing grows where the key has a counter, or k do and none is below the weight
         ensures known { 0 < weight_of key.now self.old.counters
+            → self.old.total + weight ≤ max_total → IsOk result }
+        ensures least { length self.old.counters ≡ self.old.k
+            → weight ≤ least_counter self.old.counters
             → self.old.total + weight ≤ max_total → IsOk result }
     {
         if weight > MAX_TOTAL - self.total {
@@ -270,8 +279,10 @@ impl Summary {
         ensures added { OnOk result (self.new ≡ sketch_with self.old (key.now, weight)) }
         ensures unchanged { OnErr result (self.new ≡ self.old) }
 
-        // a key that has a counter takes no memory
+        // nothing grows where the key has a counter, or k do and none is below the weight
         ensures known { 0 < weight_of key.now self.old.counters → IsOk result }
+        ensures least { length self.old.counters ≡ self.old.k
+            → weight ≤ least_counter self.old.counters → IsOk result }
     {
         add_item(&mut self.entries, key, weight, self.k)?;
         self.total += weight;
@@ -287,6 +298,11 @@ impl Summary {
         ensures different_k { IsErrOf result MergeFault.DifferentK ↔ (self.old.k ≢ other.now.k) }
         ensures too_large { IsErrOf result MergeFault.TotalTooLarge
             ↔ ((self.old.k ≡ other.now.k) × (max_total < self.old.total + other.now.total)) }
+
+        // no counters take no memory
+        ensures none { self.old.counters ≡ [] → other.now.counters ≡ []
+            → self.old.k ≡ other.now.k → self.old.total + other.now.total ≤ max_total
+            → IsOk result }
     {
         if self.k != other.k {
             return Err(MergeFault::DifferentK);

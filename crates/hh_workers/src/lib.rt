@@ -14,4 +14,4 @@ pub use parsing::PlanFault;
 pub use pass::{Pass, Work, add_numbers, run_alone, run_worker};
 pub use pieces::{CutStream, Pieces, only_memory};
 pub use plan::{Plan, Tree};
-pub use workers::{MAX_WORKERS, share_work};
+pub use workers::{MAX_WORKERS, found_or_made, share_work};

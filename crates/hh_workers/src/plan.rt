@@ -1,6 +1,6 @@
 //! Plans: merge trees over numbered pieces.
 
-ghost use Rattle.std.specs.Prelude.{◌≡◌, ◌+◌, ◌-◌, ◌≤◌, length, IfOk, IfErr};
+ghost use Rattle.std.specs.Prelude.{◌≡◌, ◌+◌, ◌-◌, ◌≤◌, length, IsOk, IfOk, IfErr};
 ghost use Rattle.hh_stream.specs.Cuttings.{max_pieces};
 ghost use Rattle.hh_workers.specs.PlanTexts.{PlanRefused, SpellsTree};
 ghost use Rattle.hh_workers.specs.Plans.{shape};
@@ -51,7 +51,8 @@ pub fn node(alloc: Global, left: Tree, right: Tree) -> Result<Tree, AllocError>
 /// The chain of so many pieces.
 fn chain_tree(alloc: Global, pieces: usize) -> Result<Tree, AllocError>
     requires { 1 ≤ pieces }
-    ensures { IfOk result (λ tree. shape tree ≡ chain_of (pieces - 1)) }
+    ensures chain { IfOk result (λ tree. shape tree ≡ chain_of (pieces - 1)) }
+    ensures one { pieces ≡ 1 → IsOk result }
 {
     let mut tree = Tree::Leaf(0);
     for i in 1..pieces {
@@ -64,7 +65,8 @@ fn chain_tree(alloc: Global, pieces: usize) -> Result<Tree, AllocError>
 fn balanced_tree(alloc: Global, first: usize, pieces: usize) -> Result<Tree, AllocError>
     requires some { 1 ≤ pieces }
     requires fits { first + pieces ≤ max_pieces }
-    ensures { IfOk result (λ tree. IsBalanced (shape tree) first pieces) }
+    ensures balanced { IfOk result (λ tree. IsBalanced (shape tree) first pieces) }
+    ensures one { pieces ≡ 1 → IsOk result }
 {
     if pieces == 1 {
         return Ok(Tree::Leaf(first));
@@ -84,6 +86,9 @@ impl Plan {
         ensures chain { IfOk result (λ plan. plan ≡ chain_of (pieces - 1)) }
         ensures tree { IfOk result (λ plan. IsMergeTree plan pieces) }
         ensures pieces { IfOk result (λ plan. length (leaves plan) ≡ pieces) }
+
+        // the plan of one piece takes no memory
+        ensures one { pieces ≡ 1 → IsOk result }
     {
         Ok(Plan {
             tree: chain_tree(alloc, pieces)?,
@@ -99,6 +104,9 @@ impl Plan {
         ensures balanced { IfOk result (λ plan. IsBalanced plan 0 pieces) }
         ensures tree { IfOk result (λ plan. IsMergeTree plan pieces) }
         ensures pieces { IfOk result (λ plan. length (leaves plan) ≡ pieces) }
+
+        // the plan of one piece takes no memory
+        ensures one { pieces ≡ 1 → IsOk result }
     {
         Ok(Plan {
             tree: balanced_tree(alloc, 0, pieces)?,

@@ -1,12 +1,12 @@
 //! Workers by halves: half of them run in a thread of their own.
 
-ghost use Rattle.std.specs.Prelude.{◌≡◌, ◌+◌, ◌^◌, ◌<◌, ◌≤◌, true, IfOk, IfSome, IsErrOf};
+ghost use Rattle.std.specs.Prelude.{◌≡◌, ◌+◌, ◌^◌, ◌<◌, ◌≤◌, true, ℕ, List, IfOk, IfSome, IsErrOf};
 ghost use Rattle.hh_stream.specs.Ranges.{in_range};
-ghost use Rattle.hh_shared.specs.Seats.{fresh, max_cells, max_claims, seat_of_both};
-ghost use Rattle.hh_workers.specs.Workers.{AreDone, AreSumsFor, BringBack, CanRun};
+ghost use Rattle.hh_shared.specs.Seats.{Holding, fresh, max_cells, max_claims, seat_of_both};
+ghost use Rattle.hh_workers.specs.Workers.{AreDone, AreSumsFor, BringBack, CanRun, HasEach};
 ghost use Rattle.hh_workers.specs.Workers.{max_workers};
 
-use crate::pass::{Pass, run_worker};
+use crate::pass::{Pass, run_alone, run_worker};
 use hh_shared::{SharedSums, SumSeat};
 use hh_stream::PieceFault;
 use std::alloc::Global;
@@ -129,7 +129,7 @@ fn run_apart<R: Threads + Wait + Sync, P: Pass + Sync>(
 }
 
 /// Has so many workers go over the pieces, with sums of their own: each cell's sum, and what the
-/// workers kept. Nothing where a piece was claimed by no worker, as where a step failed by chance.
+/// workers kept. Nothing where no worker claimed a piece, and no run is known to leave one.
 pub fn share_work<R: Threads + Wait + Sync, P: Pass + Sync>(
     rt: &R,
     alloc: Global,
@@ -152,4 +152,26 @@ pub fn share_work<R: Threads + Wait + Sync, P: Pass + Sync>(
         return Ok(None);
     }
     Ok(Some((sums.close(seat)?, kept)))
+}
+
+/// What is made of all pieces, in a pass whose workers keep what they made: what [`share_work`]
+/// found, or where that is nothing what the calling thread makes alone. `workers` is what the gate
+/// hears then.
+pub fn found_or_made<T: Send + Drop + 'static, P: Pass<Made = T, Kept = T>>(
+    pass: &P,
+    found: Option<(Vec<u64>, T)>,
+    workers: u64,
+) -> Result<T, PieceFault>
+    requires found { IfSome found (λ r. AreDone (P.all_done pass.now) (P.pieces pass.now)
+        (P.cells pass.now) r.0.items r.1) }
+    requires kept { (seat : Holding) (made : T) → P.all_done pass.now seat made
+        → P.is_made pass.now seat.claims made }
+    ensures made { IfOk result (λ made. (numbers : List ℕ)
+        × HasEach (P.pieces pass.now) numbers × P.is_made pass.now numbers made) }
+    ensures refused { IsErrOf result PieceFault.Refused → P.may_refuse pass.now }
+{
+    match found {
+        Some((_, made)) => Ok(made),
+        None => run_alone(pass, workers),
+    }
 }

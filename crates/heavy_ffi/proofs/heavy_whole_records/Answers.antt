@@ -1,18 +1,6 @@
-use Rattle.std.proofs.Common.{arith}
 use Rattle.heavy_ffi.proofs.heavy_whole_records.Goals as goal
 
-pub returns-in-Some : goal.returns-in-Some
-returns-in-Some c =
-    let (last, cut) = c.in-Some.ensures in
-    record {
-      within = omega (arith, last.high);
-      cut = λ some. cut;
-      last = λ at behind below. last.after at (omega (arith, behind)) below;
-    }
-
-pub returns-in-None : goal.returns-in-None
-returns-in-None c = record {
-  within = omega arith;
-  cut = λ some. absurd (omega (arith, some));
-  last = λ at behind below. c.in-None.ensures at (omega arith) below;
-}
+pub returns : goal.returns
+returns c =
+    let whole = c.heavy_whole_records_by.ensures in
+    record { within = whole.within; cut = whole.cut; last = whole.last }

@@ -8,7 +8,7 @@ loop-input-init g c =
     let gives = c.into_iter-input-iterator.ensures.into_iter_gives in (
       tt,
       tt,
-      gives.1 ∙ c.args.inputs.ok.0 ∙ ap length (sym gives.0),
+      gives.1 ∙ c.args.opened.inputs.ok.0 ∙ ap length (sym gives.0),
       ap (λ readers. map g.H.Reader.Read.remaining readers ++ map g.H.Host.text (into_iter_items c.into_iter-input-iterator.result))
           c.new-readers.ensures.items ∙ ap (map g.H.Host.text) gives.0,
     )
@@ -23,7 +23,7 @@ loop-input-preserved g c =
       let was = inv.2 in let gone = steps.1 in omega (arith, was, gone, long),
       ap (λ readers. map g.H.Reader.Read.remaining readers ++ map g.H.Host.text (into_iter_items c.next.new.self))
           c.in_ok-push_behind.ensures.pushed
-          ∙ so_far_more g.H.Reader.Read.remaining g.H.Host.text (map g.H.Host.text c.args.inputs.items) c.loop-input.readers.items
+          ∙ so_far_more g.H.Reader.Read.remaining g.H.Host.text (map g.H.Host.text c.args.opened.inputs.items) c.loop-input.readers.items
           c.reader.result (into_iter_items c.next.new.self) c.in-Some.input (rw steps.0 at inv.3) c.reader.ensures.text,
     )
 
@@ -31,7 +31,7 @@ pub remove-first-requires : goal.remove-first-requires
 remove-first-requires g c =
     let inv = c.loop-input.invariant in
     let same = rw (← nothing_left _ (sym c.in-None.ensures.steps.0 ∙ inv.2)) at inv.3 in
-    let some = mapped_some g.H.Reader.Read.remaining g.H.Host.text c.loop-input.readers.items c.args.inputs.items same c.requires.some in
+    let some = mapped_some g.H.Reader.Read.remaining g.H.Host.text c.loop-input.readers.items c.args.opened.inputs.items same c.requires.some in
     let held = c.loop-input.readers.ok.0 in
     omega (arith, some, held)
 
@@ -40,7 +40,7 @@ returns-clause-texts g c =
     let inv = c.loop-input.invariant in
     let readers = c.loop-input.readers.items in
     let same = rw (← nothing_left _ (sym c.in-None.ensures.steps.0 ∙ inv.2)) at inv.3 in
-    let some = mapped_some g.H.Reader.Read.remaining g.H.Host.text readers c.args.inputs.items same c.requires.some in
+    let some = mapped_some g.H.Reader.Read.remaining g.H.Host.text readers c.args.opened.inputs.items same c.requires.some in
     let all = ap (λ rest. c.remove-first.result ∷ rest) c.remove-first.ensures.by_index.2 ∙ first_and_rest readers c.remove-first.result some c.remove-first.ensures.value in
-    agree_same g.H.Reader.Read.remaining g.H.Host.text (c.remove-first.result ∷ c.remove-first.new.self.items) c.args.inputs.items
+    agree_same g.H.Reader.Read.remaining g.H.Host.text (c.remove-first.result ∷ c.remove-first.new.self.items) c.args.opened.inputs.items
     (ap (map g.H.Reader.Read.remaining) all ∙ sym (append-nil (map g.H.Reader.Read.remaining readers)) ∙ same)

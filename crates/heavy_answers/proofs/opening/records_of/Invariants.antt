@@ -8,4 +8,4 @@ invariant-loop-input g l = (goal.iterator-loop-input g).can_next l.input-iterato
     × (goal.iterator-loop-input g).is_finite l.input-iterator
     × (into_iter_len l.input-iterator ≡ length (into_iter_items l.input-iterator))
     × (map g.H.Reader.Read.remaining l.readers.items ++ map g.H.Host.text (into_iter_items l.input-iterator)
-    ≡ map g.H.Host.text l.fn.inputs.items)
+    ≡ map g.H.Host.text l.fn.opened.inputs.items)

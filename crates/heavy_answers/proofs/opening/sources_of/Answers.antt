@@ -33,19 +33,16 @@ loop-input-preserved g c =
       ),
     )
 
-pub returns-then-not-is_whole : goal.returns-then-not-is_whole
-returns-then-not-is_whole g c = record {
-  texts = agree_none (every g.H.Host.text c.args.inputs.items) (every g.H.File.ReadAt.bytes c.push_behind.new.others.items)
-      (ap (every g.H.File.ReadAt.bytes) c.in_ok-push_behind.ensures.pushed
-      ∙ every_none g.H.File.ReadAt.bytes c.loop-input.files.items c.in_ok-file.file (c.if-not-is_whole.ensures.part refl));
-}
+pub returns-then-not-is_whole-clause-texts : goal.returns-then-not-is_whole-clause-texts
+returns-then-not-is_whole-clause-texts g c =
+    agree_none (every g.H.Host.text c.args.inputs.items) (every g.H.File.ReadAt.bytes c.push_behind.new.others.items)
+    (ap (every g.H.File.ReadAt.bytes) c.in_ok-push_behind.ensures.pushed
+    ∙ every_none g.H.File.ReadAt.bytes c.loop-input.files.items c.in_ok-file.file (c.if-not-is_whole.ensures.part refl))
 
-pub returns : goal.returns
-returns g c =
+pub returns-clause-texts : goal.returns-clause-texts
+returns-clause-texts g c =
     let inv = c.loop-input.invariant in
     let none = nothing_left _ (sym c.in-None.ensures.steps.0 ∙ inv.2) in
     let all = sym (append-nil inv.3.0) ∙ rw (← none) at inv.3.1 in
-    record {
-      texts = alike_agree g.H.Host.text g.H.File.ReadAt.bytes c.args.inputs.items c.loop-input.files.items
-          (subst (λ inputs. Alike (map g.H.Host.text inputs) (map g.H.File.ReadAt.bytes c.loop-input.files.items)) all inv.3.2);
-    }
+    alike_agree g.H.Host.text g.H.File.ReadAt.bytes c.args.inputs.items c.loop-input.files.items
+    (subst (λ inputs. Alike (map g.H.Host.text inputs) (map g.H.File.ReadAt.bytes c.loop-input.files.items)) all inv.3.2)

@@ -28,6 +28,7 @@ returns-clause-asked c = record {
   untold = c.get_flag.ensures.none;
   explained = c.get_flag-2.ensures.value;
   unexplained = c.get_flag-2.ensures.none;
+  memory = c.of.ensures;
 }
 
 pub returns-in-Err-clause-refused : goal.returns-in-Err-clause-refused

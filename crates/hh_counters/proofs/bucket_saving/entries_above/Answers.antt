@@ -21,7 +21,7 @@ loop-i-preserved c =
     elim c.match-get_index.branch [
       | in-Some+then-counter-least+in_ok-push_copy w ↦
           let e : Entry = (w.in-Some.key.now, w.in-Some.counter.now) in
-          ap (λ v. v.items) w.entries-is ∙ w.in_ok-push_copy.ensures
+          ap (λ v. v.items) w.entries-is ∙ w.in_ok-push_copy.ensures.pushed
           ∙ ap₂ (λ (d : Counters) (k : Bytes). d ++ (k, e.1 - t) ∷ []) c.loop-i.invariant w.key.ensures
           ∙ sym (lower_above t es i e l (at e w.in-Some.ensures.entry) w.if-counter-least.true)
       | in-Some+else-counter-least w ↦

@@ -7,17 +7,6 @@ use Rattle.hh_pool.proofs.TableFacts.{whole_table}
 use Rattle.hh_pool.proofs.Taken.{ok_tells}
 use Rattle.hh_pool.proofs.tabulate.tabulate.Goals as goal
 
-pub returns-in-Some-clause-table : goal.returns-in-Some-clause-table
-returns-in-Some-clause-table g c = λ known.
-    let pieces = g.P.Pieces.pieces c.args.work.now.pieces.now in
-    let shared = rw c.in-Some.is at c.in_ok-table.ensures.done in
-    (shared.done.1 known).table ∙ whole_table pieces c.args.family.now c.args.width shared.seat.claims shared.each
-
-pub returns-in-Some-clause-read : goal.returns-in-Some-clause-read
-returns-in-Some-clause-read g c = λ known i low.
-    let shared = rw c.in-Some.is at c.in_ok-table.ensures.done in
-    (shared.done.1 known).taken.read i (shared.each.all.has i low)
-
 pub returns-clause-table : goal.returns-clause-table
 returns-clause-table g c =
     let work = c.args.work.now.pieces.now in
@@ -27,7 +16,7 @@ returns-clause-table g c =
     IfOk-weaker _ _ (λ (table : TableView). g.P.Pieces.known work → table ≡ table_of family width (whole_of pieces))
     (λ table made known.
     let (numbers, each, is) = made in
-    (is.1 known).table ∙ whole_table pieces family width numbers each) c.run_alone.ensures.made
+    (is.1 known).table ∙ whole_table pieces family width numbers each) c.found_or_made.ensures.made
 
 pub returns-clause-read : goal.returns-clause-read
 returns-clause-read g c =
@@ -35,4 +24,4 @@ returns-clause-read g c =
     let pieces = g.P.Pieces.pieces work in
     ok_tells {Q = g.P.Pieces.known work → AreRead (g.P.Pieces.reads work) pieces} _ _ (λ table made known i low.
     let (numbers, each, is) = made in
-    (is.1 known).taken.read i (each.all.has i low)) c.run_alone.ensures.made
+    (is.1 known).taken.read i (each.all.has i low)) c.found_or_made.ensures.made

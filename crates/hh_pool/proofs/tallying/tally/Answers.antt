@@ -6,18 +6,6 @@ use Rattle.hh_pool.proofs.TallyFacts.{whole_bounds}
 use Rattle.hh_pool.proofs.Taken.{ok_tells}
 use Rattle.hh_pool.proofs.tallying.tally.Goals as goal
 
-pub returns-in-Some-clause-bounds : goal.returns-in-Some-clause-bounds
-returns-in-Some-clause-bounds g c = λ known.
-    let pieces = g.P.Pieces.pieces c.args.work.now.pieces.now in
-    let shared = rw c.in-Some.is at c.in_ok-tally.ensures.done in
-    whole_bounds c.tallies_bound_weights.ensures.order pieces shared.seat.claims c.in-Some.tally shared.each
-    (shared.done.2 known).bounds
-
-pub returns-in-Some-clause-read : goal.returns-in-Some-clause-read
-returns-in-Some-clause-read g c = λ known i low.
-    let shared = rw c.in-Some.is at c.in_ok-tally.ensures.done in
-    (shared.done.2 known).taken.read i (shared.each.all.has i low)
-
 pub returns-clause-bounds : goal.returns-clause-bounds
 returns-clause-bounds g c =
     let work = c.args.work.now.pieces.now in
@@ -26,7 +14,7 @@ returns-clause-bounds g c =
     (λ t made known.
     let (numbers, each, is) = made in
     whole_bounds c.tallies_bound_weights.ensures.order pieces numbers t each (is.2 known).bounds)
-    c.run_alone.ensures.made
+    c.found_or_made.ensures.made
 
 pub returns-clause-read : goal.returns-clause-read
 returns-clause-read g c =
@@ -34,4 +22,4 @@ returns-clause-read g c =
     let pieces = g.P.Pieces.pieces work in
     ok_tells {Q = g.P.Pieces.known work → AreRead (g.P.Pieces.reads work) pieces} _ _ (λ t made known i low.
     let (numbers, each, is) = made in
-    (is.2 known).taken.read i (each.all.has i low)) c.run_alone.ensures.made
+    (is.2 known).taken.read i (each.all.has i low)) c.found_or_made.ensures.made

@@ -5,7 +5,7 @@ use Rattle.std.proofs.lemmas.List.Edits.{length-insert}
 use Rattle.hh_stream.specs.Weights.{Entry}
 use Rattle.hh_summaries.specs.Counters.{Counters, lower, least_counter, add_at, join}
 use Rattle.hh_summaries.proofs.Places.{IsGap, insert_is_add_at, set_is_add_at, not_known}
-use Rattle.hh_summaries.proofs.Summaries.{join_full, join_room, lower-insert}
+use Rattle.hh_summaries.proofs.Summaries.{join_full, join_room, least_beside, lower-insert}
 use Rattle.hh_summaries.proofs.entries.add_item.Goals as goal
 use Rattle.hh_summaries.proofs.entries.add_item.Goals.{then-level-weight+in_ok-insert_entry, else-level-weight}
 
@@ -48,6 +48,16 @@ pub returns-in_err-insert_entry-clause-known : goal.returns-in_err-insert_entry-
 returns-in_err-insert_entry-clause-known c = λ known.
     absurd (not_known c.args.entries.now.items c.in-Err.place c.args.key.now
     (subst (IsGap c.args.key.now c.in-Err.place) c.deref.ensures.value c.in-Err.ensures.absent) known)
+
+pub returns-in_err-insert_entry-clause-least : goal.returns-in_err-insert_entry-clause-least
+returns-in_err-insert_entry-clause-least c = λ full least.
+    absurd (omega (
+      arith,
+      c.if-level-weight.true,
+      c.least_with-level.ensures c.args.key.now,
+      ap (λ (d : Counters). least_counter ((c.args.key.now, c.args.weight) ∷ d)) c.deref-2.ensures.value,
+      least_beside c.args.key.now c.args.weight c.args.entries.now.items least,
+    ))
 
 pub returns-clause-joined : goal.returns-clause-joined
 returns-clause-joined c =

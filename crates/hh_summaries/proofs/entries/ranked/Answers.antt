@@ -10,7 +10,7 @@ use Rattle.hh_summaries.proofs.entries.ranked.Goals as goal
 permuted : (c : goal.After-sort_unstable_by) → IsPermutation c.args.entries.now c.sort_unstable_by.new.self.items
 permuted c =
     let sorted = c.sort_unstable_by.new.self.items in
-    let copies = c.in_ok-push_copies.ensures
+    let copies = c.in_ok-push_copies.ensures.pushed
     ∙ ap (λ (es : List Entry). es ++ c.args.entries.now) c.new-ranked.ensures.items in
     subst (λ (es : List Entry). IsPermutation es sorted) copies c.sort_unstable_by.ensures.permutation
 

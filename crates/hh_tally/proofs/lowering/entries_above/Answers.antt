@@ -15,7 +15,7 @@ loop-i-preserved c =
       | in-Some+then-counter-t+in_ok-push_copy w ↦
           let e : Entry = (w.in-Some.key.now, w.in-Some.counter.now) in
           let test : nat_lt t e.1 ≡ true = grind (arith, nat_tests, w.if-counter-t.true) in
-          ap (λ v. v.items) w.entries-is ∙ w.in_ok-push_copy.ensures
+          ap (λ v. v.items) w.entries-is ∙ w.in_ok-push_copy.ensures.pushed
           ∙ ap (λ (ds : List Entry). ds ++ e ∷ []) c.loop-i.invariant
           ∙ sym (passes_more (exceeds t) es i e w.in-Some.ensures.entry
           ∙ ap (λ b. filter (exceeds t) (take i es) ++ cond b (e ∷ []) []) test)

@@ -8,7 +8,7 @@ invariant_of-self c =
     let inside = c.self.inside in
     let other = c.other.inside in
     let is =
-    c.in-Ok.ensures ∙ ap₂ (λ (d e : Counters). join d e inside.k) c.deref.ensures.value c.deref-2.ensures.value in
+    c.in-Ok.ensures.joined ∙ ap₂ (λ (d e : Counters). join d e inside.k) c.deref.ensures.value c.deref-2.ensures.value in
     subst (Fits inside.k (inside.total + other.total)) (sym is)
     (fits_join inside.entries.items other.entries.items inside.total other.total inside.k c.self.invariant
     c.other.invariant.within (omega arith))

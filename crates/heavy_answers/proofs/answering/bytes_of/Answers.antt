@@ -1,0 +1,56 @@
+use Rattle.std.proofs.Common.{inr}
+use Rattle.heavy_answers.proofs.AnswerLemmas.{if_err_more, if_ok_more}
+use Rattle.heavy_answers.proofs.answering.bytes_of.Goals as goal
+
+pub returns-in_ok-method-in-Summarise-clause-made : goal.returns-in_ok-method-in-Summarise-clause-made
+returns-in_ok-method-in-Summarise-clause-made g c = rw c.in-Summarise.is c.in_one_pass.ensures.made
+
+pub returns-in_ok-method-in-Summarise-clause-refused : goal.returns-in_ok-method-in-Summarise-clause-refused
+returns-in_ok-method-in-Summarise-clause-refused g c =
+    rw c.in-Summarise.is (if_err_more c.in_one_pass.result (λ fault fails. inr fails) c.in_one_pass.ensures.refused)
+
+pub returns-in-Table-clause-made : goal.returns-in-Table-clause-made
+returns-in-Table-clause-made g c = rw c.in-Table.is c.in_one_pass-in-Table.ensures.made
+
+pub returns-in-Table-clause-refused : goal.returns-in-Table-clause-refused
+returns-in-Table-clause-refused g c = rw c.in-Table.is c.in_one_pass-in-Table.ensures.refused
+
+pub returns-in_ok-saved_file-in-Ask-clause-refused : goal.returns-in_ok-saved_file-in-Ask-clause-refused
+returns-in_ok-saved_file-in-Ask-clause-refused g c =
+    rw c.in-Ask.is (if_err_more c.ask_rows.result (λ fault fails. inr (inr (
+      c.in_ok-saved_file-in-Ask.field-0.items,
+      rw c.deref-in-Ask.ensures.value at c.in_ok-saved_file-in-Ask.ensures.read,
+      rw (c.deref-in-Ask-2.ensures.value, c.deref-in-Ask-3.ensures.value) at fails,
+    ))) c.ask_rows.ensures.refused)
+
+pub returns-in_ok-file-in-Condense-clause-made : goal.returns-in_ok-file-in-Condense-clause-made
+returns-in_ok-file-in-Condense-clause-made g c =
+    rw c.in-Condense.is (if_ok_more c.in_one_pass-in-Condense.result (λ bytes made. (
+      c.in_ok-file-in-Condense.file.items,
+      rw c.deref-in-Condense.ensures.value at c.in_ok-file-in-Condense.ensures.read,
+      rw c.deref-in-Condense-2.ensures.value at made,
+    )) c.in_one_pass-in-Condense.ensures.made)
+
+pub returns-in_ok-file-in-Condense-clause-refused : goal.returns-in_ok-file-in-Condense-clause-refused
+returns-in_ok-file-in-Condense-clause-refused g c =
+    rw c.in-Condense.is (if_err_more c.in_one_pass-in-Condense.result (λ fault fails. inr (inr (
+      c.in_ok-file-in-Condense.file.items,
+      rw c.deref-in-Condense.ensures.value at c.in_ok-file-in-Condense.ensures.read,
+      rw c.deref-in-Condense-2.ensures.value at fails,
+    ))) c.in_one_pass-in-Condense.ensures.refused)
+
+pub returns-in_ok-file-in-Confirm-clause-made : goal.returns-in_ok-file-in-Confirm-clause-made
+returns-in_ok-file-in-Confirm-clause-made g c =
+    rw c.in-Confirm.is (if_ok_more c.in_one_pass-in-Confirm.result (λ bytes made. (
+      c.in_ok-file-in-Confirm.file.items,
+      rw c.deref-in-Confirm.ensures.value at c.in_ok-file-in-Confirm.ensures.read,
+      rw c.deref-in-Confirm-2.ensures.value at made,
+    )) c.in_one_pass-in-Confirm.ensures.made)
+
+pub returns-in_ok-file-in-Confirm-clause-refused : goal.returns-in_ok-file-in-Confirm-clause-refused
+returns-in_ok-file-in-Confirm-clause-refused g c =
+    rw c.in-Confirm.is (if_err_more c.in_one_pass-in-Confirm.result (λ fault fails. inr (inr (
+      c.in_ok-file-in-Confirm.file.items,
+      rw c.deref-in-Confirm.ensures.value at c.in_ok-file-in-Confirm.ensures.read,
+      rw c.deref-in-Confirm-2.ensures.value at fails,
+    ))) c.in_one_pass-in-Confirm.ensures.refused)

@@ -1,0 +1,49 @@
+use Rattle.std.proofs.Common.{inr}
+use Rattle.std.proofs.lemmas.Result.{err_from_is_err_and}
+use Rattle.hh_records.specs.Layouts.{records_known, texts_known}
+use Rattle.heavy_answers.proofs.AnswerLemmas.{if_err_more, if_ok_more}
+use Rattle.heavy_answers.proofs.single_pass.in_one_pass.Goals as goal
+
+pub returns-in_err-bytes-in-Files-clause-refused : goal.returns-in_err-bytes-in-Files-clause-refused
+returns-in_err-bytes-in-Files-clause-refused g c =
+    let p = err_from_is_err_and c.from_residual-in_err-bytes-in-Files.result c.from_residual-in_err-bytes-in-Files.ensures.1 in
+    let files = c.in-Files.files in
+    rw (p.1, p.2) (inr (record {
+      layout = files.layout;
+      known = texts_known g.H.File.ReadAt.bytes files.layout files.files.items;
+      records = rw c.in-Files.is at c.in_ok-files.ensures.records;
+      fails = rw (c.records-records.ensures.layout, c.records-records.ensures.sources) at c.in_err-bytes-in-Files.ensures.refused;
+    }))
+
+pub of_stream-requires : goal.of_stream-requires
+of_stream-requires g c = record { workers = (rw c.in-Stream.is at c.in_ok-files.ensures.records).1 }
+
+pub returns-in_ok-bytes-in-Files-clause-made : goal.returns-in_ok-bytes-in-Files-clause-made
+returns-in_ok-bytes-in-Files-clause-made g c =
+    let files = c.in-Files.files in
+    record {
+      layout = files.layout;
+      known = texts_known g.H.File.ReadAt.bytes files.layout files.files.items;
+      records = (rw c.in-Files.is at c.in_ok-files.ensures.records) c.in_ok-bytes-in-Files.ensures.workers;
+      made = rw (c.records-records.ensures.layout, c.records-records.ensures.sources) at c.in_ok-bytes-in-Files.ensures.made;
+    }
+
+pub returns-in-Stream-clause-made : goal.returns-in-Stream-clause-made
+returns-in-Stream-clause-made g c =
+    let records = c.in-Stream.records in
+    if_ok_more c.of_stream.result (λ bytes made. record {
+      layout = records.layout;
+      known = records_known g.H.Reader.Read.remaining records;
+      records = (rw c.in-Stream.is at c.in_ok-files.ensures.records).0;
+      made = made;
+    }) c.of_stream.ensures.made
+
+pub returns-in-Stream-clause-refused : goal.returns-in-Stream-clause-refused
+returns-in-Stream-clause-refused g c =
+    let records = c.in-Stream.records in
+    if_err_more c.of_stream.result (λ fault fails. inr (record {
+      layout = records.layout;
+      known = records_known g.H.Reader.Read.remaining records;
+      records = λ _. (rw c.in-Stream.is at c.in_ok-files.ensures.records).0;
+      fails = fails;
+    })) c.of_stream.ensures.refused

@@ -1,7 +1,0 @@
-use Rattle.heavy_ffi.proofs.OutcomeFacts.{outcome_of}
-use Rattle.heavy_ffi.proofs.records.heavy_add_records.Goals as goal
-
-pub returns-clause-outcome : goal.returns-clause-outcome
-returns-clause-outcome c = λ fits.
-    outcome_of _ _ c.sum_laid-bytes.result c.sum_laid-bytes.ensures.added c.sum_laid-bytes.ensures.refused
-    c.answer.ensures.outcome

@@ -1,0 +1,153 @@
+//! Keeps what a pipe gives, where its records are read more than once.
+
+ghost use Rattle.std.specs.Prelude.{◌≡◌, ◌⊎◌, IfErr};
+
+use crate::inputs::Reader;
+use crate::unread::Unread;
+use hh_faults::ToolError;
+use hh_pieces::ReadAt;
+use std::env;
+use std::fs::{self, File, OpenOptions};
+use std::io::{self, Read, Write};
+use std::os::unix::fs::{FileExt, OpenOptionsExt};
+use std::random::RandomSource;
+
+/// How many bytes go to a file at once.
+const COPY_LEN: usize = 65_536;
+
+/// The bytes that a pipe gave.
+#[derive(Drop)]
+pub(crate) enum KeptBytes {
+    Memory(Vec<u8>),
+    /// A file of the temporary folder, which has no name, with its length.
+    File(File, u64),
+}
+
+/// What a pipe gave, which is kept because it is read twice.
+#[derive(Drop)]
+pub struct KeptPipe {
+    bytes: KeptBytes,
+    /// Whether the pipe came to its end. Where it could not be read to there, its length is one
+    /// more than its bytes, so that a reader fails behind them.
+    is_whole: bool,
+}
+
+impl KeptPipe {
+    ghost use Rattle.std.specs.Prelude.{None, false};
+    ghost use Rattle.heavy_requests.specs.Inputs.{kept_bytes};
+
+    /// Whether the pipe came to its end.
+    pub fn is_whole(&self) -> bool
+        ensures part { result ≡ false → kept_bytes self.now ≡ None }
+    {
+        self.is_whole
+    }
+}
+
+impl ReadAt for KeptPipe {
+    ghost use Rattle.heavy_requests.specs.Inputs.{kept_bytes};
+
+    ghost bytes = { kept_bytes };
+
+    fn len(&self) -> io::Result<u64> {
+        let len = match &self.bytes {
+            KeptBytes::Memory(bytes) => ReadAt::len(bytes)?,
+            KeptBytes::File(_, len) => *len,
+        };
+        Ok(len.saturating_add(u64::from(!self.is_whole)))
+    }
+
+    fn read_at(&self, buf: &mut [u8], at: u64) -> io::Result<usize> {
+        match &self.bytes {
+            KeptBytes::Memory(bytes) => bytes.read_at(buf, at),
+            KeptBytes::File(file, _) => FileExt::read_at(file, buf, at),
+        }
+    }
+}
+
+/// Makes a file of the temporary folder, and removes its name at once.
+fn unnamed_file(rt: &HostRuntime) -> io::Result<File> {
+    let mut random = [0; 8];
+    rt.fill_bytes(&mut random)?;
+    let number = u64::from_le_bytes(random);
+    let path = match env::var(rt, "TMPDIR") {
+        Ok(folder) => format!(in rt.alloc(); "{folder}/heavy-{number:016x}")?,
+        Err(_) => format!(in rt.alloc(); "/tmp/heavy-{number:016x}")?,
+    };
+    let file = OpenOptions::new()
+        .read(true)
+        .write(true)
+        .create_new(true)
+        .mode(0o600)
+        .open(rt, path.as_str())?;
+    fs::remove_file(rt, path.as_str())?;
+    Ok(file)
+}
+
+/// Writes `first` and then what `pipe` has left to a file, as far as the pipe can be read.
+fn keep_in_file(rt: &HostRuntime, first: &[u8], mut pipe: Reader<'_>) -> io::Result<KeptPipe> {
+    let mut file = unnamed_file(rt)?;
+    file.write_all(first)?;
+    let mut buffer = vec![in rt.alloc(); 0u8; COPY_LEN]?;
+    let mut len = first.len() as u64;
+    for _ in 0..u64::MAX {
+        let count = match pipe.read(&mut buffer) {
+            Ok(count) => count,
+            Err(error) if matches!(error.kind(), io::ErrorKind::Interrupted) => continue,
+            Err(_) => {
+                return Ok(KeptPipe {
+                    bytes: KeptBytes::File(file, len),
+                    is_whole: false,
+                });
+            }
+        };
+        if count == 0 {
+            break;
+        }
+        file.write_all(buffer.get(..count).unwrap_or(&[]))?;
+        len = len.saturating_add(count as u64);
+    }
+    Ok(KeptPipe {
+        bytes: KeptBytes::File(file, len),
+        is_whole: true,
+    })
+}
+
+/// Reads `pipe` to its end, or as far as it can be read, and keeps what it gave: in memory where
+/// that is at most `most` bytes, and else in a file. Where there is no room for the file, the error
+/// is noted in `unread`.
+pub(crate) fn keep_pipe(
+    rt: &HostRuntime,
+    mut pipe: Reader<'_>,
+    most: u64,
+    unread: &Unread,
+) -> Result<KeptPipe, ToolError>
+    ensures refused { IfErr result (λ fault.
+        (fault ≡ ToolError.Memory) ⊎ (fault ≡ ToolError.ReadFault)) }
+{
+    let mut bytes = Vec::new(rt.alloc());
+    let is_whole = match (&mut pipe)
+        .take(most.saturating_add(1))
+        .read_to_end(&mut bytes)
+    {
+        Ok(_) => true,
+        Err(error) if matches!(error.kind(), io::ErrorKind::OutOfMemory) => {
+            return Err(ToolError::Memory);
+        }
+        Err(_) => false,
+    };
+    if !is_whole || bytes.len() as u64 <= most {
+        return Ok(KeptPipe {
+            bytes: KeptBytes::Memory(bytes),
+            is_whole,
+        });
+    }
+    match keep_in_file(rt, &bytes, pipe) {
+        Ok(kept) => Ok(kept),
+        Err(error) if matches!(error.kind(), io::ErrorKind::OutOfMemory) => Err(ToolError::Memory),
+        Err(error) => {
+            unread.leave_unkept(&error);
+            Err(ToolError::ReadFault)
+        }
+    }
+}
