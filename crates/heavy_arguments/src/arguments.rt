@@ -418,7 +418,7 @@ fn with<'a>(alloc: Global, mut command: Command<'a>, arguments: &[Argument]) -> 
     ensures globals { HasNoGlobals result }
 {
     for argument in arguments {
-        command = command.arg(argument.told(alloc))?;
+        command = command.arg(argument.to_arg(alloc))?;
     }
     Ok(command)
 }

@@ -97,7 +97,7 @@ fn flag<'a>(alloc: Global, name: &'a str, help: &'a str) -> Arg<'a>
 
 impl Kind {
     /// What `clap` is told of the argument with this name and help.
-    fn told<'a>(self, alloc: Global, name: &'a str, help: &'a str) -> Arg<'a>
+    fn to_arg<'a>(self, alloc: Global, name: &'a str, help: &'a str) -> Arg<'a>
         ensures rule { rule_of result ≡ rule_of_kind self name.now }
         ensures local { result.global ≡ false }
     {
@@ -121,15 +121,15 @@ impl Kind {
 
 impl Argument {
     /// What `clap` is told of it.
-    pub(crate) fn told<'a>(self, alloc: Global) -> Arg<'a>
+    pub(crate) fn to_arg<'a>(self, alloc: Global) -> Arg<'a>
         ensures rule { rule_of result ≡ rule_of_argument self }
         ensures local { result.global ≡ false }
     {
         match self {
-            Argument::Number(it) => Kind::Number.told(alloc, it.name, it.help),
-            Argument::Given(kind, name, help) => kind.told(alloc, name, help),
+            Argument::Number(it) => Kind::Number.to_arg(alloc, it.name, it.help),
+            Argument::Given(kind, name, help) => kind.to_arg(alloc, name, help),
             Argument::Short(letter, kind, name, help) => {
-                kind.told(alloc, name, help).short(letter)
+                kind.to_arg(alloc, name, help).short(letter)
             }
         }
     }

@@ -5,7 +5,8 @@ use heavy_answers::answer;
 use heavy_host::hold_closed;
 use heavy_progress::{Begin, NOTHING};
 use heavy_requests::{
-    Inputs, Unread, UsageError, read_request, shared_progress, status_after, status_of, status_told,
+    Inputs, Unread, UsageError, read_request, shared_progress, status_after, status_of,
+    status_of_usage,
 };
 use hh_commands::Comparison;
 use hh_faults::ToolError;
@@ -19,14 +20,14 @@ fn main(rt: HostRuntime) -> ExitCode {
     };
     let asked = match read_request(&rt, rt.alloc()) {
         Ok(asked) => asked,
-        Err(UsageError::Told(told)) => return status_told(&rt, &told),
+        Err(UsageError::Reported(report)) => return status_of_usage(&rt, &report),
         Err(UsageError::Memory) => return status_after(&rt, ToolError::Memory),
     };
     let mut compared = Comparison::new(!asked.records.are_plain());
-    let (unread, seen) = (Unread::new(), Cell::new(NOTHING));
+    let (unread, hints) = (Unread::new(), Cell::new(NOTHING));
     let begin = Begin::new(rt.alloc());
     let progress = shared_progress(&rt, &asked);
-    let inputs = Inputs::new(&rt, &asked, progress.as_ref(), &unread, &seen, &begin);
+    let inputs = Inputs::new(&rt, &asked, progress.as_ref(), &unread, &hints, &begin);
     let mut out = Out::new(rt.stdout());
     let outcome = answer(&rt, &inputs, &asked, &mut out, &mut compared);
     status_of(inputs, &asked, outcome, &compared)

@@ -1,6 +1,6 @@
 //! The last record of a text: whether it began with a quote, and how long it is.
 
-use crate::record_count::Place;
+use crate::record_count::RecordState;
 
 /// The most bytes of a record that begins with a quote and isn't reported.
 const MOST_BYTES: u64 = 65_536;
@@ -38,7 +38,7 @@ fn last_begin(bytes: &[u8]) -> Option<usize> {
 #[derive(Clone, Copy, PartialEq, Eq)]
 pub struct LastRecord {
     delimiter: u8,
-    place: Place,
+    place: RecordState,
     /// Whether the record's first byte is a quote.
     is_quoted: bool,
     size: RecordSize,
@@ -51,7 +51,7 @@ impl LastRecord {
     pub fn new(delimiter: u8) -> LastRecord {
         LastRecord {
             delimiter,
-            place: Place::Mark(0),
+            place: RecordState::Mark(0),
             is_quoted: false,
             size: RecordSize { bytes: 0, lines: 0 },
             previous: b'\n',
@@ -60,7 +60,7 @@ impl LastRecord {
 
     /// Begins within a text, where the byte before left `place`. The record there may have begun
     /// with a quote, and be long.
-    fn within(delimiter: u8, place: Place) -> LastRecord {
+    fn within(delimiter: u8, place: RecordState) -> LastRecord {
         LastRecord {
             delimiter,
             place,
@@ -121,7 +121,7 @@ impl LastRecord {
         }
         match last_begin(bytes) {
             Some(begin) => {
-                self.place = Place::Between;
+                self.place = RecordState::Between;
                 self.take_all(bytes.get(begin..).unwrap_or(bytes));
             }
             None => self.take_all(bytes),
@@ -131,7 +131,7 @@ impl LastRecord {
     /// Follows the last of `bytes` alone, where from any place they lead to one record that begins
     /// among them. They aren't to begin where a byte order mark may be.
     fn known_by_tail(&self, bytes: &[u8]) -> Option<LastRecord> {
-        if matches!(self.place, Place::Mark(_)) {
+        if matches!(self.place, RecordState::Mark(_)) {
             return None;
         }
         let tail = bytes.get(bytes.len().checked_sub(TAIL)?..)?;
@@ -142,7 +142,7 @@ impl LastRecord {
 
     /// Whether the next byte is part of a quoted field.
     pub fn is_open(&self) -> bool {
-        matches!(self.place, Place::Quoted)
+        matches!(self.place, RecordState::Quoted)
     }
 
     /// Gives the size of the last record, where it began with a quote and has more than 65,536
@@ -169,12 +169,12 @@ impl LastRecordGuesses {
     pub fn new(delimiter: u8) -> LastRecordGuesses {
         LastRecordGuesses {
             guesses: [
-                LastRecord::within(delimiter, Place::Mark(0)),
-                LastRecord::within(delimiter, Place::Between),
-                LastRecord::within(delimiter, Place::FieldEnd),
-                LastRecord::within(delimiter, Place::Plain),
-                LastRecord::within(delimiter, Place::Quoted),
-                LastRecord::within(delimiter, Place::Quote),
+                LastRecord::within(delimiter, RecordState::Mark(0)),
+                LastRecord::within(delimiter, RecordState::Between),
+                LastRecord::within(delimiter, RecordState::FieldEnd),
+                LastRecord::within(delimiter, RecordState::Plain),
+                LastRecord::within(delimiter, RecordState::Quoted),
+                LastRecord::within(delimiter, RecordState::Quote),
             ],
         }
     }

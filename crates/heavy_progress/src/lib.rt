@@ -11,6 +11,6 @@ mod record_count;
 
 pub use begin::Begin;
 pub use last_record::{LastRecord, LastRecordGuesses, RecordSize};
-pub use other_format::{LongRecord, NOTHING, Seen, Watch};
-pub use progress::{Metered, SharedProgress};
+pub use other_format::{FormatHints, LongRecord, NOTHING, Watch};
+pub use progress::{ProgressReader, SharedProgress};
 pub use record_count::{Form, RecordCount};

@@ -41,7 +41,7 @@ pub struct LongRecord {
 
 /// What was seen in texts. Lines are counted up to the first comma.
 #[derive(Clone, Copy)]
-pub struct Seen {
+pub struct FormatHints {
     has_comma: bool,
     lines: u64,
     tabs: u64,
@@ -53,7 +53,7 @@ pub struct Seen {
     pub long: Option<LongRecord>,
 }
 
-pub const NOTHING: Seen = Seen {
+pub const NOTHING: FormatHints = FormatHints {
     has_comma: false,
     lines: 0,
     tabs: 0,
@@ -63,12 +63,12 @@ pub const NOTHING: Seen = Seen {
     long: None,
 };
 
-impl Seen {
-    fn with_line(self, line: Line) -> Seen {
+impl FormatHints {
+    fn with_line(self, line: Line) -> FormatHints {
         if line.is_empty {
             return self;
         }
-        Seen {
+        FormatHints {
             lines: self.lines.saturating_add(1),
             tabs: self.tabs.saturating_add(u64::from(line.has_tab)),
             semicolons: self
@@ -80,9 +80,9 @@ impl Seen {
     }
 
     /// Adds the last record of the text `number`, if it has a size to report.
-    pub fn with_last(self, number: u64, size: Option<RecordSize>) -> Seen {
+    pub fn with_last(self, number: u64, size: Option<RecordSize>) -> FormatHints {
         match (self.long, size) {
-            (None, Some(size)) => Seen {
+            (None, Some(size)) => FormatHints {
                 long: Some(LongRecord { number, size }),
                 ..self
             },
@@ -114,7 +114,7 @@ impl Seen {
 /// A watch over the bytes of a text as they come.
 #[derive(Drop)]
 pub struct Watch<'a> {
-    seen: &'a Cell<Seen>,
+    hints: &'a Cell<FormatHints>,
     /// The number of the text.
     number: u64,
     form: Form,
@@ -126,9 +126,14 @@ pub struct Watch<'a> {
 
 impl<'a> Watch<'a> {
     /// Begins with nothing of the text `number`.
-    pub fn new(seen: &'a Cell<Seen>, number: u64, form: Form, looks_for_format: bool) -> Watch<'a> {
+    pub fn new(
+        hints: &'a Cell<FormatHints>,
+        number: u64,
+        form: Form,
+        looks_for_format: bool,
+    ) -> Watch<'a> {
         Watch {
-            seen,
+            hints,
             number,
             form,
             looks_for_format,
@@ -138,53 +143,53 @@ impl<'a> Watch<'a> {
     }
 
     /// Takes `byte` into its line.
-    fn with_byte(&mut self, seen: Seen, byte: u8) -> Seen {
+    fn with_byte(&mut self, hints: FormatHints, byte: u8) -> FormatHints {
         if !matches!(byte, b'\r' | b'\n') {
             self.line = self.line.with(byte);
-            return seen;
+            return hints;
         }
-        let seen = seen.with_line(self.line);
+        let hints = hints.with_line(self.line);
         self.line = EMPTY;
-        seen
+        hints
     }
 
     /// Takes `bytes` into their lines.
-    fn with_lines(&mut self, mut seen: Seen, bytes: &[u8]) -> Seen {
+    fn with_lines(&mut self, mut hints: FormatHints, bytes: &[u8]) -> FormatHints {
         for byte in bytes {
-            seen = self.with_byte(seen, *byte);
+            hints = self.with_byte(hints, *byte);
         }
-        seen
+        hints
     }
 
     /// Takes the end of the text.
-    fn end(&mut self, seen: Seen) -> Seen {
+    fn end(&mut self, hints: FormatHints) -> FormatHints {
         let open = if self.last.is_open() {
             Some(self.number)
         } else {
-            seen.open
+            hints.open
         };
-        let seen = Seen { open, ..seen }
+        let hints = FormatHints { open, ..hints }
             .with_line(self.line)
             .with_last(self.number, self.last.suspicious());
         self.line = EMPTY;
         self.last = LastRecord::new(self.form.delimiter);
-        seen
+        hints
     }
 
     /// Takes the next `bytes`. None are the end.
     pub fn add(&mut self, bytes: &[u8]) {
-        let mut seen = self.seen.get();
-        if self.looks_for_format && !seen.has_comma {
-            seen.has_comma = bytes.contains(&b',');
+        let mut hints = self.hints.get();
+        if self.looks_for_format && !hints.has_comma {
+            hints.has_comma = bytes.contains(&b',');
         }
-        if self.looks_for_format && !seen.has_comma {
-            seen = self.with_lines(seen, bytes);
+        if self.looks_for_format && !hints.has_comma {
+            hints = self.with_lines(hints, bytes);
         }
         if bytes.is_empty() {
-            seen = self.end(seen);
+            hints = self.end(hints);
         } else {
             self.last.add(bytes);
         }
-        self.seen.set(seen);
+        self.hints.set(hints);
     }
 }

@@ -31,7 +31,7 @@ struct Progress<'a> {
     records: RecordCount,
     has_header: bool,
     started: Instant,
-    told: Instant,
+    printed: Instant,
 }
 
 impl<'a> Progress<'a> {
@@ -45,7 +45,7 @@ impl<'a> Progress<'a> {
             records: RecordCount::new(form.delimiter),
             has_header: form.has_header,
             started: now,
-            told: now,
+            printed: now,
         })
     }
 
@@ -54,16 +54,16 @@ impl<'a> Progress<'a> {
         self.read = self.read.saturating_add(bytes.len() as u64);
         self.records.add(bytes);
         let now = Instant::now(self.rt)?;
-        if !bytes.is_empty() && now.duration_since(self.told).as_secs() < PAUSE {
+        if !bytes.is_empty() && now.duration_since(self.printed).as_secs() < PAUSE {
             return Ok(());
         }
-        self.told = now;
-        self.tell(now.duration_since(self.started).as_millis().max(1))
+        self.printed = now;
+        self.print(now.duration_since(self.started).as_millis().max(1))
     }
 
     /// Reports what was read in `millis` milliseconds. Of a file that has more it adds the share
     /// that is read, and how long the rest takes at this rate.
-    fn tell(&self, millis: u128) -> io::Result<()>
+    fn print(&self, millis: u128) -> io::Result<()>
         requires { 1 ≤ millis }
     {
         let read = u128::from(self.read);
@@ -89,12 +89,12 @@ impl<'a> Progress<'a> {
 
 /// A reader that hands each read on, and reports how far it is.
 #[derive(Drop)]
-pub struct Metered<'a, R> {
+pub struct ProgressReader<'a, R> {
     inner: R,
     progress: Option<Progress<'a>>,
 }
 
-impl<'a, R: Read> Metered<'a, R> {
+impl<'a, R: Read> ProgressReader<'a, R> {
     /// Reads the bytes of `inner`, `size` where that is known, whose records have this form. With
     /// `tells`, and where there is a clock, it reports how far it is.
     pub fn new(
@@ -102,20 +102,20 @@ impl<'a, R: Read> Metered<'a, R> {
         inner: R,
         size: Option<u64>,
         form: Form,
-        tells: bool,
-    ) -> Metered<'a, R>
-        ensures { ⟦<Metered<'a, R> as Read>⟧.remaining result ≡ R.remaining inner }
+        shows: bool,
+    ) -> ProgressReader<'a, R>
+        ensures { ⟦<ProgressReader<'a, R> as Read>⟧.remaining result ≡ R.remaining inner }
     {
-        let progress = if tells {
+        let progress = if shows {
             Progress::start(rt, size, form).ok()
         } else {
             None
         };
-        Metered { inner, progress }
+        ProgressReader { inner, progress }
     }
 }
 
-impl<'a, R: Read> Read for Metered<'a, R> {
+impl<'a, R: Read> Read for ProgressReader<'a, R> {
     ghost remaining = { λ reader. R.remaining reader.inner };
 
     fn read(&mut self, buf: &mut [u8]) -> io::Result<usize> {
@@ -138,7 +138,7 @@ pub struct SharedProgress<'a> {
     read: AtomicU64,
     started: Instant,
     /// The time of the last report, in milliseconds from the start.
-    told: AtomicU64,
+    printed: AtomicU64,
 }
 
 impl<'a> SharedProgress<'a> {
@@ -162,7 +162,7 @@ impl<'a> SharedProgress<'a> {
             size: size.saturating_mul(passes),
             read: AtomicU64::new(0),
             started: Instant::now(rt)?,
-            told: AtomicU64::new(0),
+            printed: AtomicU64::new(0),
         })
     }
 
@@ -176,21 +176,21 @@ impl<'a> SharedProgress<'a> {
             return;
         };
         let millis = now.duration_since(self.started).as_millis().max(1);
-        let told = self.told.load(Ordering::SeqCst);
-        if millis.saturating_sub(u128::from(told)) < u128::from(PAUSE) * 1000 {
+        let printed = self.printed.load(Ordering::SeqCst);
+        if millis.saturating_sub(u128::from(printed)) < u128::from(PAUSE) * 1000 {
             return;
         }
         let next = millis.min(u128::from(u64::MAX)) as u64;
         let swapped = self
-            .told
-            .compare_exchange(told, next, Ordering::SeqCst, Ordering::SeqCst);
+            .printed
+            .compare_exchange(printed, next, Ordering::SeqCst, Ordering::SeqCst);
         if swapped.is_ok() {
-            let _ = self.tell(u128::from(read), millis);
+            let _ = self.print(u128::from(read), millis);
         }
     }
 
     /// Reports the share of all passes that is read, and how long the rest takes at this rate.
-    fn tell(&self, read: u128, millis: u128) -> io::Result<()>
+    fn print(&self, read: u128, millis: u128) -> io::Result<()>
         requires { 1 ≤ millis }
     {
         let rate = Megabytes(read.saturating_mul(1000) / millis);

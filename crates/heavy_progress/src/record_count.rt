@@ -9,7 +9,7 @@ pub struct Form {
 
 /// What the byte before the next one was part of.
 #[derive(Clone, Copy, PartialEq, Eq)]
-pub(crate) enum Place {
+pub(crate) enum RecordState {
     /// In a byte order mark, with the number of its bytes that came. The text begins after it.
     Mark(u8),
     /// The end of a record, or nothing yet.
@@ -24,45 +24,48 @@ pub(crate) enum Place {
     Quote,
 }
 
-impl Place {
+impl RecordState {
     /// Gives the place after `byte`.
-    pub(crate) fn after(self, byte: u8, delimiter: u8) -> Place {
+    pub(crate) fn after(self, byte: u8, delimiter: u8) -> RecordState {
         match (self, byte) {
-            (Place::Mark(0), b'\xef') => Place::Mark(1),
-            (Place::Mark(1), b'\xbb') => Place::Mark(2),
-            (Place::Mark(2), b'\xbf') => Place::Between,
-            (Place::Mark(0), _) => Place::Between.in_text(byte, delimiter),
-            (Place::Mark(_), _) => Place::Plain.in_text(byte, delimiter),
+            (RecordState::Mark(0), b'\xef') => RecordState::Mark(1),
+            (RecordState::Mark(1), b'\xbb') => RecordState::Mark(2),
+            (RecordState::Mark(2), b'\xbf') => RecordState::Between,
+            (RecordState::Mark(0), _) => RecordState::Between.in_text(byte, delimiter),
+            (RecordState::Mark(_), _) => RecordState::Plain.in_text(byte, delimiter),
             (place, _) => place.in_text(byte, delimiter),
         }
     }
 
     /// Gives the place after `byte` where no byte order mark can be.
-    fn in_text(self, byte: u8, delimiter: u8) -> Place {
-        if matches!(self, Place::Quoted) {
+    fn in_text(self, byte: u8, delimiter: u8) -> RecordState {
+        if matches!(self, RecordState::Quoted) {
             return if byte == b'"' {
-                Place::Quote
+                RecordState::Quote
             } else {
-                Place::Quoted
+                RecordState::Quoted
             };
         }
         match byte {
-            b'\r' | b'\n' => Place::Between,
-            _ if byte == delimiter => Place::FieldEnd,
-            b'"' if !matches!(self, Place::Plain) => Place::Quoted,
-            _ => Place::Plain,
+            b'\r' | b'\n' => RecordState::Between,
+            _ if byte == delimiter => RecordState::FieldEnd,
+            b'"' if !matches!(self, RecordState::Plain) => RecordState::Quoted,
+            _ => RecordState::Plain,
         }
     }
 
     /// Whether a record has begun and not ended.
     pub(crate) fn is_in_record(self) -> bool {
-        !matches!(self, Place::Mark(0) | Place::Between)
+        !matches!(self, RecordState::Mark(0) | RecordState::Between)
     }
 
     /// Whether the next bytes need to be taken one by one: they are part of a quoted field, or
     /// stand where a byte order mark may be.
     pub(crate) fn is_open(self) -> bool {
-        matches!(self, Place::Quoted | Place::Quote | Place::Mark(_))
+        matches!(
+            self,
+            RecordState::Quoted | RecordState::Quote | RecordState::Mark(_)
+        )
     }
 }
 
@@ -72,7 +75,7 @@ impl Place {
 pub struct RecordCount {
     delimiter: u8,
     ended: u64,
-    place: Place,
+    place: RecordState,
 }
 
 impl RecordCount {
@@ -81,7 +84,7 @@ impl RecordCount {
         RecordCount {
             delimiter,
             ended: 0,
-            place: Place::Mark(0),
+            place: RecordState::Mark(0),
         }
     }
 
@@ -90,7 +93,7 @@ impl RecordCount {
         RecordCount {
             delimiter,
             ended: 0,
-            place: Place::Between,
+            place: RecordState::Between,
         }
     }
 
@@ -99,7 +102,7 @@ impl RecordCount {
         for byte in bytes {
             let next = self.place.after(*byte, self.delimiter);
             if matches!(byte, b'\r' | b'\n')
-                && matches!(next, Place::Between)
+                && matches!(next, RecordState::Between)
                 && self.place.is_in_record()
             {
                 self.ended = self.ended.saturating_add(1);

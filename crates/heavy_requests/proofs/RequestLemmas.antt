@@ -47,5 +47,5 @@ not_true false isnt = refl
 pub may_refuse : (words : List (List ℕ)) (texts : List Text) (fault : UsageError) → map word_of texts ≡ words
     → (takes program_app texts ≡ true → fault ≡ usage.Memory) → MayRefuse words fault
 may_refuse words texts usage.Memory spelled only = tt
-may_refuse words texts (usage.Told told) spelled only =
+may_refuse words texts (usage.Reported report) spelled only =
     (texts, spelled, not_true (takes program_app texts) (λ yes. let same = only yes in cc))

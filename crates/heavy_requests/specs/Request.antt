@@ -184,14 +184,14 @@ pub record IsAskedBy (words : List (List ℕ)) (asked : Invocation) : Type 0 whe
 -- these words may be refused so: the program's command line doesn't take their texts, or memory was refused
 abbrev pub MayRefuse : List (List ℕ) → UsageError → Type 0
 MayRefuse words usage.Memory = ⊤
-MayRefuse words (usage.Told told) =
+MayRefuse words (usage.Reported report) =
     (texts : List Text) × (map word_of texts ≡ words) × (takes program_app texts ≡ false)
 
 -- all words of a source may be refused so
 abbrev pub MayRefuseFrom : (ℕ → Option (List ℕ) → Type 0) → UsageError → Type 0
 MayRefuseFrom gives usage.Memory = ⊤
-MayRefuseFrom gives (usage.Told told) =
-    (words : List (List ℕ)) × AreAllWords gives words × MayRefuse words (usage.Told told)
+MayRefuseFrom gives (usage.Reported report) =
+    (words : List (List ℕ)) × AreAllWords gives words × MayRefuse words (usage.Reported report)
 
 -- all words of a source ask for it
 abbrev pub IsAskedFrom : (ℕ → Option (List ℕ) → Type 0) → Invocation → Type 0

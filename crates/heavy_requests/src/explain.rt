@@ -3,9 +3,9 @@
 
 use crate::record_place::{RecordPlace, Text, Texts};
 use crate::request::{Command, Invocation, Request};
-use crate::told::Told;
 use crate::unread::Unread;
-use heavy_progress::Seen;
+use crate::usage_report::UsageReport;
+use heavy_progress::FormatHints;
 use hh_commands::{Comparison, Outside};
 use hh_faults::{BadRecordCause, ToolError, Totals};
 use hh_records::{Column, LayoutWords, column_of, pointed};
@@ -637,8 +637,8 @@ pub fn tell_more(texts: Texts<'_>, fault: &ToolError, compared: &Comparison, unr
 }
 
 /// Prints that a summary has a k of its own, where one was given and a fault has a second line.
-pub fn tell_own_k(rt: &HostRuntime, told: &Told) {
-    if told.gives_k && (told.explains || rt.stderr().is_terminal()) {
+pub fn print_own_k(rt: &HostRuntime, report: &UsageReport) {
+    if report.gives_k && (report.explains || rt.stderr().is_terminal()) {
         let _ = eprintln!(rt; "  the summary has a k of its own, which `heavy describe` tells");
     }
 }
@@ -652,22 +652,22 @@ fn input_name(asked: &Invocation, number: u64) -> Name<'_> {
 }
 
 /// Prints where records that were read look like another format.
-pub fn tell_format(rt: &HostRuntime, seen: Seen, asked: &Invocation) {
-    if let Some((name, word)) = seen.delimiter() {
+pub fn print_format_hint(rt: &HostRuntime, hints: FormatHints, asked: &Invocation) {
+    if let Some((name, word)) = hints.delimiter() {
         let _ = eprintln!(rt;
             "heavy: note: no record has a second field, and most lines have a {name}: \
             --delimiter '{word}'"
         );
     }
-    if let Some(number) = seen.open {
+    if let Some(number) = hints.open {
         let name = input_name(asked, number);
         let _ = eprintln!(rt; "heavy: note: a quote is open at the end of {name}");
     }
 }
 
 /// Prints that the last record of an input began with a quote and is long, where one is so.
-pub fn tell_last(rt: &HostRuntime, seen: Seen, asked: &Invocation) {
-    if let Some(long) = seen.long {
+pub fn print_last_record(rt: &HostRuntime, hints: FormatHints, asked: &Invocation) {
+    if let Some(long) = hints.long {
         let name = input_name(asked, long.number);
         let (lines, bytes) = (long.size.lines, long.size.bytes);
         let _ = eprintln!(rt;

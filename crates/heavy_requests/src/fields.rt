@@ -7,7 +7,7 @@ use std::alloc::{AllocError, Global};
 
 /// What the next byte of a record is part of.
 #[derive(Clone, Copy)]
-pub(crate) enum Place {
+pub(crate) enum FieldState {
     /// The begin of a field.
     Begin,
     /// A field without quotes, or what follows a closing quote.
@@ -19,30 +19,30 @@ pub(crate) enum Place {
     Quote,
 }
 
-impl Place {
+impl FieldState {
     /// Whether `byte` ends a field here.
     fn ends_field(self, byte: u8, delimiter: u8) -> bool
         ensures { result ≡ ends_field delimiter self byte }
     {
-        byte == delimiter && !matches!(self, Place::Quoted)
+        byte == delimiter && !matches!(self, FieldState::Quoted)
     }
 
     /// Whether `byte` is a quote that opens or closes here, and no part of a field.
     fn is_mark(self, byte: u8) -> bool
         ensures { result ≡ is_mark self byte }
     {
-        byte == b'"' && matches!(self, Place::Begin | Place::Quoted)
+        byte == b'"' && matches!(self, FieldState::Begin | FieldState::Quoted)
     }
 
     /// Gives the place behind `byte`, which ends no field here.
-    fn after(self, byte: u8) -> Place
+    fn after(self, byte: u8) -> FieldState
         ensures { result ≡ place_after self byte }
     {
         match self {
-            Place::Quoted if byte == b'"' => Place::Quote,
-            Place::Begin | Place::Quote if byte == b'"' => Place::Quoted,
-            Place::Quoted => Place::Quoted,
-            _ => Place::Plain,
+            FieldState::Quoted if byte == b'"' => FieldState::Quote,
+            FieldState::Begin | FieldState::Quote if byte == b'"' => FieldState::Quoted,
+            FieldState::Quoted => FieldState::Quoted,
+            _ => FieldState::Plain,
         }
     }
 }
@@ -55,12 +55,12 @@ pub fn split_fields(alloc: Global, delimiter: u8, bytes: &[u8]) -> Result<Vec<Ve
 {
     let mut fields = Vec::new(alloc);
     let mut field = Vec::new(alloc);
-    let mut place = Place::Begin;
+    let mut place = FieldState::Begin;
     for byte in bytes {
         if place.ends_field(*byte, delimiter) {
             fields.push(field)?;
             field = Vec::new(alloc);
-            place = Place::Begin;
+            place = FieldState::Begin;
         } else {
             if !place.is_mark(*byte) {
                 field.push(*byte)?;

@@ -9,7 +9,8 @@ use crate::request::{Invocation, RecordWords};
 use crate::unread::Unread;
 use heavy_host::{FileError, FileSource};
 use heavy_progress::{
-    Begin, Form, LastRecord, LastRecordGuesses, Metered, RecordSize, Seen, SharedProgress, Watch,
+    Begin, Form, FormatHints, LastRecord, LastRecordGuesses, ProgressReader, RecordSize,
+    SharedProgress, Watch,
 };
 use hh_faults::ToolError;
 use hh_pieces::ReadAt;
@@ -27,7 +28,7 @@ const MEGABYTE: u64 = 1_000_000;
 
 /// What is read.
 #[derive(Drop)]
-enum Source {
+enum InputSource {
     Standard(Stdin),
     File(File),
     /// Standard input once more, of which the first one takes all.
@@ -75,7 +76,7 @@ fn size_of(file: &File) -> Option<u64> {
 /// Standard input or a file, which notes its number and the error where it can't be read.
 #[derive(Drop)]
 pub struct Input<'a> {
-    source: Source,
+    source: InputSource,
     /// Its place among the command line's files, from 1 on, and 0 where it has none.
     number: u64,
     unread: &'a Unread,
@@ -110,9 +111,9 @@ impl<'a> Read for Input<'a> {
 
     fn read(&mut self, buf: &mut [u8]) -> io::Result<usize> {
         let outcome = match &mut self.source {
-            Source::Standard(input) => input.read(buf),
-            Source::File(file) => file.read(buf),
-            Source::Nothing => Ok(0),
+            InputSource::Standard(input) => input.read(buf),
+            InputSource::File(file) => file.read(buf),
+            InputSource::Nothing => Ok(0),
         };
         self.leave(&outcome, buf);
         outcome
@@ -261,12 +262,12 @@ impl<'a> ReadAt for OpenFile<'a> {
 }
 
 /// A reader of records, which reports its progress where that is asked for.
-pub type Reader<'a> = Metered<'a, Input<'a>>;
+pub type Reader<'a> = ProgressReader<'a, Input<'a>>;
 
 /// An input of records that is open.
 #[derive(Drop)]
 pub struct OpenInput {
-    source: Source,
+    source: InputSource,
     /// Its place among the command line's files, from 1 on, and 0 where it has none.
     number: u64,
     /// How many bytes it has, where it is a file of the disk that isn't empty.
@@ -289,7 +290,7 @@ pub struct Inputs<'a> {
     /// The input that can't be read, and why.
     pub unread: &'a Unread,
     /// What was seen in the inputs.
-    pub seen: &'a Cell<Seen>,
+    pub hints: &'a Cell<FormatHints>,
     /// The first bytes of an input that can't be read again.
     pub begin: &'a Begin,
     /// Whether these may be printed, and are kept.
@@ -311,7 +312,7 @@ impl<'a> Inputs<'a> {
         asked: &Invocation,
         progress: Option<&'a SharedProgress<'a>>,
         unread: &'a Unread,
-        seen: &'a Cell<Seen>,
+        hints: &'a Cell<FormatHints>,
         begin: &'a Begin,
     ) -> Inputs<'a> {
         let layout = &asked.records.layout;
@@ -320,7 +321,7 @@ impl<'a> Inputs<'a> {
             rt,
             progress,
             unread,
-            seen,
+            hints,
             begin,
             keeps_begin: tells_more(rt, asked) || !asked.records.are_plain(),
             form: Form {
@@ -339,14 +340,14 @@ impl<'a> Inputs<'a> {
 
     /// Makes an input of `source` with its `number`. Its first bytes go to `begin`, if there is
     /// one.
-    fn input(self, source: Source, number: u64, begin: Option<&'a Begin>) -> Input<'a> {
+    fn input(self, source: InputSource, number: u64, begin: Option<&'a Begin>) -> Input<'a> {
         Input {
             source,
             number,
             unread: self.unread,
             begin,
             watch: Watch::new(
-                self.seen,
+                self.hints,
                 number,
                 self.form,
                 self.tells_more && self.looks_for_format,
@@ -359,12 +360,12 @@ impl<'a> Inputs<'a> {
         ensures refused { IfErr result (FailsToOpen name.now number) }
     {
         let (source, size) = match (is_standard(name), is_taken) {
-            (true, true) => (Source::Nothing, None),
-            (true, false) => (Source::Standard(self.rt.stdin()), None),
+            (true, true) => (InputSource::Nothing, None),
+            (true, false) => (InputSource::Standard(self.rt.stdin()), None),
             (false, _) => {
                 let file = self.file(name, number)?;
                 let size = size_of(&file);
-                (Source::File(file), size)
+                (InputSource::File(file), size)
             }
         };
         Ok(OpenInput {
@@ -377,7 +378,7 @@ impl<'a> Inputs<'a> {
     /// Makes a reader of an open `input`.
     pub fn reader(self, input: OpenInput) -> Reader<'a> {
         let size = match &input.source {
-            Source::Standard(_) => self.size_at("/dev/stdin"),
+            InputSource::Standard(_) => self.size_at("/dev/stdin"),
             _ => input.size,
         };
         let begin = if self.keeps_begin && input.size.is_none() {
@@ -386,7 +387,7 @@ impl<'a> Inputs<'a> {
             None
         };
         let inner = self.input(input.source, input.number, begin);
-        Metered::new(self.rt, inner, size, self.form, self.progress.is_some())
+        ProgressReader::new(self.rt, inner, size, self.form, self.progress.is_some())
     }
 
     /// Makes of an open `input` what is read at any place: a file of the disk is read as it is, and
@@ -401,7 +402,7 @@ impl<'a> Inputs<'a> {
             size,
         } = input;
         match (source, size) {
-            (Source::File(file), Some(size)) => {
+            (InputSource::File(file), Some(size)) => {
                 Ok(OpenFile::Disk(self.disk_file(file, size, number)))
             }
             (source, _) => {
@@ -421,7 +422,8 @@ impl<'a> Inputs<'a> {
     pub fn note_last(self, file: &OpenFile<'_>) {
         if let OpenFile::Disk(disk) = file {
             let size = disk.last_record(self.rt.alloc(), self.form.delimiter);
-            self.seen.set(self.seen.get().with_last(disk.number, size));
+            self.hints
+                .set(self.hints.get().with_last(disk.number, size));
         }
     }
 
@@ -491,7 +493,7 @@ impl<'a> Inputs<'a> {
         let Ok(mut buffer) = vec![in self.rt.alloc(); 0u8; LOOK_LEN] else {
             return;
         };
-        let mut input = self.input(Source::File(file), number, None);
+        let mut input = self.input(InputSource::File(file), number, None);
         read_all(&mut input, &mut buffer);
     }
 

@@ -9,13 +9,13 @@ mod kept_pipe;
 mod record_place;
 mod request;
 mod status;
-mod told;
 mod unread;
+mod usage_report;
 
 pub use explain::tells_more;
 pub use inputs::{Inputs, OpenFile, OpenInput, Reader, is_standard, shared_progress};
 pub use kept_pipe::KeptPipe;
 pub use request::{Command, Invocation, RecordWords, Request, UsageError, read_request};
-pub use status::{status_after, status_of, status_told};
-pub use told::Told;
+pub use status::{status_after, status_of, status_of_usage};
 pub use unread::Unread;
+pub use usage_report::UsageReport;

@@ -10,7 +10,7 @@ ghost use Rattle.heavy_requests.specs.Request.{MayRefuse, MayRefuseFrom, all_col
 ghost use Rattle.heavy_requests.specs.Request.{columns_in, first_word};
 
 use crate::fields::split_fields;
-use crate::told::{Told, told_of};
+use crate::usage_report::{UsageReport, usage_report_of};
 use clap::error::ErrorKind;
 use clap::{ArgMatches, Error};
 use heavy_arguments::{
@@ -146,7 +146,7 @@ pub enum Command {
 #[derive(Drop)]
 pub enum UsageError {
     /// It asks for help, or has a fault: what is said of it.
-    Told(Told),
+    Reported(UsageReport),
     /// The allocator had no memory.
     Memory,
 }
@@ -438,8 +438,8 @@ fn usage_error(alloc: Global, words: &[Vec<u8>], error: Error) -> UsageError
     if matches!(error.kind(), ErrorKind::OutOfMemory) {
         return UsageError::Memory;
     }
-    match told_of(alloc, words, error) {
-        Ok(told) => UsageError::Told(told),
+    match usage_report_of(alloc, words, error) {
+        Ok(report) => UsageError::Reported(report),
         Err(_) => UsageError::Memory,
     }
 }

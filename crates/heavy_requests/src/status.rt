@@ -1,13 +1,13 @@
 //! How a run of the program ends: what it prints on standard error, and its exit status.
 
 use crate::explain::{
-    Lines, names_records, tell_contradicted, tell_format, tell_last, tell_more, tell_own_k,
-    tells_more,
+    Lines, names_records, print_format_hint, print_last_record, print_own_k, tell_contradicted,
+    tell_more, tells_more,
 };
 use crate::inputs::Inputs;
 use crate::record_place::Texts;
 use crate::request::Invocation;
-use crate::told::Told;
+use crate::usage_report::UsageReport;
 use hh_commands::Comparison;
 use hh_faults::ToolError;
 use std::process::ExitCode;
@@ -53,18 +53,18 @@ fn status_explained(
 /// Prints help or a fault of the command line as `clap` words it. In a fault, which may have words
 /// of the command line, control characters are escaped. Help that could not be printed is a
 /// device's fault.
-pub fn status_told(rt: &HostRuntime, told: &Told) -> ExitCode {
-    if told.error.exit_code() == 0 {
-        return match told.error.print(rt) {
+pub fn status_of_usage(rt: &HostRuntime, report: &UsageReport) -> ExitCode {
+    if report.error.exit_code() == 0 {
+        return match report.error.print(rt) {
             Ok(()) => ExitCode::SUCCESS,
             Err(_) => status_after(rt, ToolError::WriteFault { written: 0 }),
         };
     }
-    match format!(in rt.alloc(); "{}", told.error) {
+    match format!(in rt.alloc(); "{}", report.error) {
         Ok(text) => {
-            let (begin, end) = told.without_tip(&text);
+            let (begin, end) = report.without_tip(&text);
             let _ = eprint!(rt; "{}{}", Lines(begin), Lines(end));
-            tell_own_k(rt, told);
+            print_own_k(rt, report);
             ExitCode::from(USAGE)
         }
         Err(_) => status_after(rt, ToolError::Memory),
@@ -83,11 +83,11 @@ pub fn status_of(
     match outcome {
         Ok(()) => {
             inputs.look(asked);
-            let seen = inputs.seen.get();
+            let hints = inputs.hints.get();
             if tells_more(rt, asked) {
-                tell_format(rt, seen, asked);
+                print_format_hint(rt, hints, asked);
             }
-            tell_last(rt, seen, asked);
+            print_last_record(rt, hints, asked);
             if let Some(outside) = &compared.outside {
                 tell_contradicted(rt, asked, outside);
             }

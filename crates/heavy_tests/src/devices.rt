@@ -6,15 +6,15 @@ use std::io::{Error, ErrorKind, Read, Write};
 /// A reader of bytes that gives at most four at a time, counts its reads, and fails at the one with
 /// a number, from 1 on.
 #[derive(Drop)]
-pub(crate) struct Source<'a> {
+pub(crate) struct FailingReader<'a> {
     bytes: &'a [u8],
     reads: &'a mut u64,
     fails_at: u64,
 }
 
-impl<'a> Source<'a> {
-    pub(crate) fn new(bytes: &'a [u8], reads: &'a mut u64, fails_at: u64) -> Source<'a> {
-        Source {
+impl<'a> FailingReader<'a> {
+    pub(crate) fn new(bytes: &'a [u8], reads: &'a mut u64, fails_at: u64) -> FailingReader<'a> {
+        FailingReader {
             bytes,
             reads,
             fails_at,
@@ -22,7 +22,7 @@ impl<'a> Source<'a> {
     }
 }
 
-impl Read for Source<'_> {
+impl Read for FailingReader<'_> {
     fn read(&mut self, buf: &mut [u8]) -> io::Result<usize> {
         *self.reads = self.reads.saturating_add(1);
         if *self.reads == self.fails_at {
@@ -106,15 +106,15 @@ impl Manner {
 
 /// A writer.
 #[derive(Drop)]
-pub(crate) struct Target<'a> {
+pub(crate) struct FaultyWriter<'a> {
     manner: Manner,
     interrupts: bool,
     taken: &'a mut Vec<u8>,
 }
 
-impl<'a> Target<'a> {
-    pub(crate) fn new(manner: Manner, taken: &'a mut Vec<u8>) -> Target<'a> {
-        Target {
+impl<'a> FaultyWriter<'a> {
+    pub(crate) fn new(manner: Manner, taken: &'a mut Vec<u8>) -> FaultyWriter<'a> {
+        FaultyWriter {
             manner,
             interrupts: false,
             taken,
@@ -122,7 +122,7 @@ impl<'a> Target<'a> {
     }
 }
 
-impl Target<'_> {
+impl FaultyWriter<'_> {
     /// Fails where this call is interrupted.
     fn interrupt(&mut self) -> io::Result<()> {
         self.interrupts = self.manner.is_interrupted && !self.interrupts;
@@ -133,7 +133,7 @@ impl Target<'_> {
     }
 }
 
-impl Write for Target<'_> {
+impl Write for FaultyWriter<'_> {
     fn write(&mut self, buf: &[u8]) -> io::Result<usize> {
         self.interrupt()?;
         let count = buf.len().min(self.manner.left).min(self.manner.at_once);

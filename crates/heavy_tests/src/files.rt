@@ -3,7 +3,7 @@
 
 ghost use Rattle.std.specs.Prelude.{None};
 
-use crate::devices::{Manner, Target};
+use crate::devices::{FaultyWriter, Manner};
 use crate::fixtures::assert_same;
 use heavy::{
     Comparison, Layout, Method, Out, ReadAt, ReportOptions, RowOptions, Share, SourceRecords,
@@ -130,7 +130,7 @@ fn report_of(
         sources: &sources,
     };
     let mut taken = Vec::new(alloc);
-    let mut out = Out::new(Target::new(Manner::taking(99), &mut taken));
+    let mut out = Out::new(FaultyWriter::new(Manner::taking(99), &mut taken));
     let rows = RowOptions::plain();
     let fault = report_files(rt, alloc, &options(), &rows, records, &mut out).err();
     drop(out);

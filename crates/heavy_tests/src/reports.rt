@@ -1,6 +1,6 @@
 //! Reports over readers and writers that fail in mid-stream.
 
-use crate::devices::{Manner, Source, Target};
+use crate::devices::{FailingReader, FaultyWriter, Manner};
 use crate::fixtures::assert_same;
 use heavy::{Out, ReportOptions, Share, ToolError, Tree, run_report};
 use std::io::Read;
@@ -31,7 +31,7 @@ fn report_of<R: Read + Drop>(
     manner: Manner,
 ) -> (Vec<u8>, Option<ToolError>) {
     let mut taken = Vec::new(rt.alloc());
-    let mut out = Out::new(Target::new(manner, &mut taken));
+    let mut out = Out::new(FaultyWriter::new(manner, &mut taken));
     let fault = run_report(rt, rt.alloc(), &options(), reader, &mut out).err();
     drop(out);
     (taken, fault)
@@ -43,7 +43,7 @@ fn report_from(
     fails_at: u64,
 ) -> (Vec<u8>, Option<ToolError>, u64) {
     let mut reads = 0;
-    let source = Source::new(RECORDS, &mut reads, fails_at);
+    let source = FailingReader::new(RECORDS, &mut reads, fails_at);
     let (taken, refusal) = report_of(rt, source, Manner::taking(99));
     (taken, refusal, reads)
 }

@@ -1,6 +1,6 @@
 //! What is put to sinks over writers that fail, bytes and the rows of a report.
 
-use crate::devices::{Manner, Target};
+use crate::devices::{FaultyWriter, Manner};
 use crate::fixtures::assert_same;
 use heavy::{Heavy, Out, ReportFault, Sink, WriteFault, put, write_report};
 use hh_stream::Key;
@@ -12,7 +12,7 @@ fn put_five(
     manner: Manner,
 ) -> (Vec<u8>, Option<WriteFault>, bool) {
     let mut taken = Vec::new(rt.alloc());
-    let mut out = Out::new(Target::new(manner, &mut taken));
+    let mut out = Out::new(FaultyWriter::new(manner, &mut taken));
     let fault = put(&mut out, b"12345").err();
     let failed = out.failed();
     drop(out);
@@ -53,7 +53,7 @@ fn put_to_writers_that_take_all(rt: HostRuntime) {
 /// The fault of putting no bytes.
 fn put_none(rt: &impl AllocGlobal, manner: Manner) -> Option<WriteFault> {
     let mut taken = Vec::new(rt.alloc());
-    let mut out = Out::new(Target::new(manner, &mut taken));
+    let mut out = Out::new(FaultyWriter::new(manner, &mut taken));
     put(&mut out, b"").err()
 }
 
@@ -74,7 +74,7 @@ fn row(rt: &(impl Abort + AllocGlobal), letter: u8, weight: u64) -> Heavy {
 fn report_to(rt: &(impl Abort + AllocGlobal), manner: Manner) -> (Vec<u8>, Option<ReportFault>) {
     let rows = [row(rt, b'a', 6), row(rt, b'b', 3)];
     let mut taken = Vec::new(rt.alloc());
-    let mut out = Out::new(Target::new(manner, &mut taken));
+    let mut out = Out::new(FaultyWriter::new(manner, &mut taken));
     let fault = write_report(rt.alloc(), &mut out, &rows).err();
     drop(out);
     (taken, fault)

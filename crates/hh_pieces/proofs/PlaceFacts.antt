@@ -12,14 +12,14 @@ use Rattle.csv.specs.declared.parser.State.TheVariants as st
 use Rattle.csv.specs.declared.parser.Action.{Action}
 use Rattle.csv.specs.declared.parser.Action.TheVariants as act
 use Rattle.csv.specs.declared.parser.Terminator.TheVariants as term
-use Rattle.hh_pieces.specs.declared.cuts.Place.{Place}
-use Rattle.hh_pieces.specs.declared.cuts.Place.TheVariants as place
+use Rattle.hh_pieces.specs.declared.cuts.QuoteState.{QuoteState}
+use Rattle.hh_pieces.specs.declared.cuts.QuoteState.TheVariants as place
 use Rattle.hh_records.specs.Layouts.{delimited}
 use Rattle.hh_pieces.specs.Pieces.{IsCutAt, begins_with_feed, ends_outside, is_outside, state_behind}
 use Rattle.hh_pieces.specs.Quotes.{IsFeedAt, is_open, mark_len, place_behind, place_next, plain_after}
 use Rattle.hh_pieces.proofs.QuoteFacts.{rest-all}
 
-abbrev place_of : State → Place
+abbrev place_of : State → QuoteState
 place_of st.StartRecord = place.Start
 place_of st.StartField = place.Start
 place_of st.InField = place.Field
@@ -41,15 +41,15 @@ is_usual st.InComment = false
 is_usual st.AfterCr = true
 
 -- the state is a usual one, of this place
-At : Place → State × Action → Type 0
+At : QuoteState → State × Action → Type 0
 At p q = (place_of q.0 ≡ p) × (is_usual q.0 ≡ true)
 
-at-if : (b : Bool) (p1 p2 : Place) (q1 q2 : State × Action) → At p1 q1 → At p2 q2
+at-if : (b : Bool) (p1 p2 : QuoteState) (q1 q2 : State × Action) → At p1 q1 → At p2 q2
     → At (if b then p1 else p2) (if b then q1 else q2)
 at-if true p1 p2 q1 q2 h k = h
 at-if false p1 p2 q1 q2 h k = k
 
-at-place : (p r : Place) (q : State × Action) → p ≡ r → At r q → At p q
+at-place : (p r : QuoteState) (q : State × Action) → p ≡ r → At r q → At p q
 at-place p r q e h = subst (λ x. At x q) (sym e) h
 
 at-end : (c : ℕ) → At place.Start (after_end term.CRLF c, act.EndRecord)
@@ -129,7 +129,7 @@ module _ (d : ℕ) where
       by true e = (sym (end-start c (rw e (either (c == 13)))), refl)
       by false e = at-start-record c
 
-  at-run : (xs : List ℕ) (s : State) (p : Place) → place_of s ≡ p → is_usual s ≡ true
+  at-run : (xs : List ℕ) (s : State) (p : QuoteState) → place_of s ≡ p → is_usual s ≡ true
       → (place_of (state_behind (delimited d) s xs) ≡ fold (place_next d) p xs) × (is_usual (state_behind (delimited d) s xs) ≡ true)
   unfolding At
   at-run [] s p e u = (e, u)
@@ -285,7 +285,7 @@ module _ (d : ℕ) (other : (d == 10) ≡ false) (text : List ℕ) (mark : ℕ) 
       )
 
   -- whether the text ends outside quotes, by the place behind it
-  pub ends-open : (p : Place) → p ≡ place_behind d (slice_range text mark (length text)) → is_open p ≡ ends_outside d text
+  pub ends-open : (p : QuoteState) → p ≡ place_behind d (slice_range text mark (length text)) → is_open p ≡ ends_outside d text
   ends-open p h =
       ap is_open (h ∙ ap (place_behind d) (rest-all text mark ∙ ap (λ m. drop m text) is ∙ sym (strip-drop text)))
       ∙ sym (cut-place d (strip_bom text))

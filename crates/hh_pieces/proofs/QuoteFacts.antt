@@ -7,8 +7,8 @@ use Rattle.std.proofs.lemmas.List.Sums.{fold_more}
 use Rattle.std.proofs.Math.Seq.{take-length}
 use native.Mathlib.Decide.{dec_lt}
 use Rattle.memchr.specs.Find.{IsLast, NoneAfter, NoneBefore, Nowhere, Passes, is_byte}
-use Rattle.hh_pieces.specs.declared.cuts.Place.{Place}
-use Rattle.hh_pieces.specs.declared.cuts.Place.TheVariants as place
+use Rattle.hh_pieces.specs.declared.cuts.QuoteState.{QuoteState}
+use Rattle.hh_pieces.specs.declared.cuts.QuoteState.TheVariants as place
 use Rattle.hh_pieces.specs.Quotes.{IsFeedAt, NoQuote, is_open, place_behind, place_next, plain_after}
 
 -- ---- the last place
@@ -62,7 +62,7 @@ module _ (d : ℕ) where
       → place_behind d (take (i + 1) text) ≡ place_next d (place_behind d (take i text)) (get_or text i 0)
   place-more text i l = fold_more (place_next d) place.Start text i 0 l
 
-  next-plain : (p : Place) (c : ℕ) → is_open p ≡ true → (c ≡ 34 → ⊥) → place_next d p c ≡ plain_after d c
+  next-plain : (p : QuoteState) (c : ℕ) → is_open p ≡ true → (c ≡ 34 → ⊥) → place_next d p c ≡ plain_after d c
   next-plain place.Start c o n = rw (ne_eqb c 34 n) refl
   next-plain place.Field c o n = refl
   next-plain place.Quoted c o n = absurd (false≢true o)
@@ -107,14 +107,14 @@ module _ (d : ℕ) where
       ∙ ap (λ p. place_next d p (get_or text j 0)) before
       ∙ next-quoted (get_or text j 0) (n j (omega arith) (omega (arith, e)))
 
-  not-outside : (p : Place) → is_open p ≡ false → p ≡ place.Quoted
+  not-outside : (p : QuoteState) → is_open p ≡ false → p ≡ place.Quoted
   not-outside place.Start o = absurd (false≢true (sym o))
   not-outside place.Field o = absurd (false≢true (sym o))
   not-outside place.Quoted o = refl
   not-outside place.Left o = absurd (false≢true (sym o))
 
   -- a run outside quotes, of a byte at least, comes to the place behind its last byte
-  pub run-outside : (text : List ℕ) (from to : ℕ) (p : Place) → from < to → to ≤ length text
+  pub run-outside : (text : List ℕ) (from to : ℕ) (p : QuoteState) → from < to → to ≤ length text
       → p ≡ place_behind d (take from text) → NoQuote text from to → is_open p ≡ true
       → plain_after d (get_or text (to - 1) 0) ≡ place_behind d (take to text)
   run-outside text from to p some l at n o =
@@ -126,21 +126,21 @@ module _ (d : ℕ) where
       ∙ place-more text j (omega (arith, l, some))
       ∙ next-plain (place_behind d (take j text)) (get_or text j 0) before (n j (omega (arith, some)) (omega (arith, some))))
 
-  pub run-quoted : (text : List ℕ) (from to : ℕ) (p : Place) → from ≤ to → to ≤ length text
+  pub run-quoted : (text : List ℕ) (from to : ℕ) (p : QuoteState) → from ≤ to → to ≤ length text
       → p ≡ place_behind d (take from text) → NoQuote text from to → is_open p ≡ false
       → p ≡ place_behind d (take to text)
   run-quoted text from to p order l at n o =
       let is = not-outside p o in
       is ∙ sym (quoted-run text from to (to - from) (omega (arith, order)) l n (sym at ∙ is))
 
-  pub run-empty : (text : List ℕ) (from to : ℕ) (p : Place) → from ≤ to → to ≤ from
+  pub run-empty : (text : List ℕ) (from to : ℕ) (p : QuoteState) → from ≤ to → to ≤ from
       → p ≡ place_behind d (take from text) → p ≡ place_behind d (take to text)
   run-empty text from to p a b at =
       let same : from ≡ to = omega (arith, a, b) in
       at ∙ ap (λ m. place_behind d (take m text)) same
 
   -- in quotes there is no place
-  pub line-quoted : (text : List ℕ) (from to : ℕ) (p : Place) (last : Option ℕ) → from ≤ to → to ≤ length text
+  pub line-quoted : (text : List ℕ) (from to : ℕ) (p : QuoteState) (last : Option ℕ) → from ≤ to → to ≤ length text
       → p ≡ place_behind d (take from text) → NoQuote text from to → is_open p ≡ false
       → IsLast (IsFeedAt d text) 0 from last → IsLast (IsFeedAt d text) 0 to last
   line-quoted text from to p last order l at n o h =
@@ -161,7 +161,7 @@ module _ (d : ℕ) where
       none (k - from) (omega arith) (omega (arith, size, a, b)) (eq-eqb _ 10 is))
 
   -- outside quotes, at the last line feed of a run
-  pub line-some : (text : List ℕ) (from to at : ℕ) (p : Place) → from ≤ to → to ≤ length text
+  pub line-some : (text : List ℕ) (from to at : ℕ) (p : QuoteState) → from ≤ to → to ≤ length text
       → p ≡ place_behind d (take from text) → NoQuote text from to → is_open p ≡ true
       → NoneAfter (Passes (is_byte 10) (slice_range text from to)) 0 (length (slice_range text from to)) at
       → Passes (is_byte 10) (slice_range text from to) at

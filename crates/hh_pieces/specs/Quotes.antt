@@ -1,30 +1,30 @@
 -- Places in a text of records, as far as they tell where a quote opens or closes.
 use Rattle.std.specs.Prelude.{◌≡◌, ◌==◌, ◌||◌, ◌≤◌, ◌<◌, ℕ, Bool, true, false, List, [], ◌∷◌, fold, take, slice_index, if◌then◌else◌}
 use Rattle.csv.specs.Reading.{is_bom}
-use Rattle.hh_pieces.specs.declared.cuts.Place.{Place}
-use Rattle.hh_pieces.specs.declared.cuts.Place.TheVariants as place
+use Rattle.hh_pieces.specs.declared.cuts.QuoteState.{QuoteState}
+use Rattle.hh_pieces.specs.declared.cuts.QuoteState.TheVariants as place
 
 -- the place behind a byte that is no quote, outside quotes, with this byte between fields
-abbrev pub plain_after : ℕ → ℕ → Place
+abbrev pub plain_after : ℕ → ℕ → QuoteState
 plain_after d c = if c == d then place.Start else if (c == 13) || (c == 10) then place.Start else place.Field
 
 -- the place behind one more byte
-abbrev pub place_next : ℕ → Place → ℕ → Place
+abbrev pub place_next : ℕ → QuoteState → ℕ → QuoteState
 place_next d place.Start c = if c == 34 then place.Quoted else plain_after d c
 place_next d place.Field c = plain_after d c
 place_next d place.Quoted c = if c == 34 then place.Left else place.Quoted
 place_next d place.Left c = if c == 34 then place.Quoted else plain_after d c
 
 -- the place behind these bytes, where they stand behind a place
-abbrev pub place_from : ℕ → Place → List ℕ → Place
+abbrev pub place_from : ℕ → QuoteState → List ℕ → QuoteState
 place_from d p bytes = fold (place_next d) p bytes
 
 -- the place behind these bytes
-abbrev pub place_behind : ℕ → List ℕ → Place
+abbrev pub place_behind : ℕ → List ℕ → QuoteState
 place_behind d bytes = place_from d place.Start bytes
 
 -- whether a line feed ends a record here
-abbrev pub is_open : Place → Bool
+abbrev pub is_open : QuoteState → Bool
 is_open place.Start = true
 is_open place.Field = true
 is_open place.Quoted = false

@@ -10,7 +10,7 @@ use memchr::{memchr, memrchr};
 
 /// A place in a text, as far as it tells what a quote does there.
 #[derive(Clone, Copy)]
-enum Place {
+enum QuoteState {
     /// At the start of a field: a quote opens it.
     Start,
     /// In a field with no quotes around it: a quote is a byte of the field.
@@ -22,40 +22,40 @@ enum Place {
 }
 
 /// Whether a line feed ends a record here.
-fn is_open(place: Place) -> bool
+fn is_open(place: QuoteState) -> bool
     ensures { result ≡ spec.is_open place }
 {
     match place {
-        Place::Start | Place::Field | Place::Left => true,
-        Place::Quoted => false,
+        QuoteState::Start | QuoteState::Field | QuoteState::Left => true,
+        QuoteState::Quoted => false,
     }
 }
 
 /// The place behind a byte that is no quote, outside quotes.
-fn plain_after(byte: u8, delimiter: u8) -> Place
+fn plain_after(byte: u8, delimiter: u8) -> QuoteState
     ensures { result ≡ spec.plain_after delimiter byte }
 {
     if byte == delimiter || byte == b'\r' || byte == b'\n' {
-        Place::Start
+        QuoteState::Start
     } else {
-        Place::Field
+        QuoteState::Field
     }
 }
 
 /// The place behind a quote.
-fn quote_after(place: Place, delimiter: u8) -> Place
+fn quote_after(place: QuoteState, delimiter: u8) -> QuoteState
     ensures { result ≡ spec.place_next delimiter place 34 }
 {
     match place {
-        Place::Start => Place::Quoted,
-        Place::Field => plain_after(b'"', delimiter),
-        Place::Quoted => Place::Left,
-        Place::Left => Place::Quoted,
+        QuoteState::Start => QuoteState::Quoted,
+        QuoteState::Field => plain_after(b'"', delimiter),
+        QuoteState::Quoted => QuoteState::Left,
+        QuoteState::Left => QuoteState::Quoted,
     }
 }
 
 /// The place behind a run with no quote.
-fn run_after(text: &[u8], from: usize, to: usize, place: Place, delimiter: u8) -> Place
+fn run_after(text: &[u8], from: usize, to: usize, place: QuoteState, delimiter: u8) -> QuoteState
     requires order { from ≤ to }
     requires within { to ≤ length text.now }
     requires place { place ≡ place_behind delimiter (take from text.now) }
@@ -74,7 +74,7 @@ fn feed_after(
     text: &[u8],
     from: usize,
     to: usize,
-    place: Place,
+    place: QuoteState,
     last: Option<usize>,
     delimiter: u8,
 ) -> Option<usize>
@@ -95,11 +95,11 @@ fn feed_after(
 }
 
 /// The place behind a text, and the last line feed in it that is outside quotes.
-fn scan(text: &[u8], delimiter: u8) -> (Place, Option<usize>)
+fn scan(text: &[u8], delimiter: u8) -> (QuoteState, Option<usize>)
     ensures place { result.0 ≡ place_behind delimiter text.now }
     ensures last { IsLast (IsFeedAt delimiter text.now) 0 (length text.now) result.1 }
 {
-    let mut place = Place::Start;
+    let mut place = QuoteState::Start;
     let mut from = 0;
     let mut last = None;
     while let Some(run) = memchr(b'"', &text[from..]) {

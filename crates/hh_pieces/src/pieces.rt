@@ -17,7 +17,7 @@ use crate::lines::{is_separator, is_unquoted, read_lines};
 use csv::ReaderBuilder;
 use hh_faults::TextError;
 use hh_records::retrying::Retrying;
-use hh_records::{Chosen, Layout, Text, open, read_rows};
+use hh_records::{ColumnIndices, Layout, Text, open, read_rows};
 use hh_stream::TakeItems;
 use std::alloc::{AllocError, Global};
 use std::io::Read;
@@ -26,7 +26,7 @@ use std::marker::Model;
 /// The columns that a layout chooses in a text, by its header where it has one.
 #[derive(Drop)]
 pub struct Columns {
-    chosen: Option<Chosen>,
+    chosen: Option<ColumnIndices>,
 }
 
 impl Model for Columns {
@@ -85,12 +85,15 @@ impl Columns {
 }
 
 /// The columns once more.
-fn copy_of(alloc: Global, chosen: &Option<Chosen>) -> Result<Option<Chosen>, AllocError>
+fn copy_of(
+    alloc: Global,
+    chosen: &Option<ColumnIndices>,
+) -> Result<Option<ColumnIndices>, AllocError>
     ensures { IfOk result (λ copy. chosen_places copy ≡ chosen_places chosen.now) }
 {
     match chosen {
         None => Ok(None),
-        Some(chosen) => Ok(Some(Chosen {
+        Some(chosen) => Ok(Some(ColumnIndices {
             key: Vec::from_slice(alloc, chosen.key.as_slice())?,
             weight: chosen.weight,
         })),

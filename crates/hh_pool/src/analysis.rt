@@ -24,7 +24,7 @@ use hh_countmin::Table;
 use hh_countmin::laws::{cells_are_cell_sums, estimate_is_never_below, tables_fit};
 use hh_stream::laws::pieces_make_the_whole;
 use hh_stream::{Cutting, KeyHash, PieceFault, Stream};
-use hh_workers::{CutStream, Gate, Pieces, Plan, Work, only_memory, share_work};
+use hh_workers::{CutStream, Gate, PassContext, Pieces, Plan, only_memory, share_work};
 use std::alloc::{AllocError, Global};
 use std::sync::Wait;
 use std::thread::Threads;
@@ -32,26 +32,26 @@ use std::thread::Threads;
 /// The first pass: the summaries of the pieces, in order, and the table of all items.
 fn summarise<R: Threads + Wait + Sync, P: Pieces + Sync, G: Gate + Sync>(
     rt: &R,
-    work: &Work<P, G>,
+    context: &PassContext<P, G>,
     options: &Options,
 ) -> Result<(Vec<Summary>, Table), PieceFault>
-    requires some { 0 < length (P.pieces work.now.pieces.now) }
-    requires few { length (P.pieces work.now.pieces.now) ≤ max_pieces }
+    requires some { 0 < length (P.pieces context.now.pieces.now) }
+    requires few { length (P.pieces context.now.pieces.now) ≤ max_pieces }
     ensures count { IfOk result (λ r.
-        length r.0.items ≡ length (P.pieces work.now.pieces.now)) }
-    ensures summaries { let pieces = work.now.pieces.now in IfOk result (λ r. P.known pieces
+        length r.0.items ≡ length (P.pieces context.now.pieces.now)) }
+    ensures summaries { let pieces = context.now.pieces.now in IfOk result (λ r. P.known pieces
         → r.0.items ≡ map (sketch_of options.now.k) (P.pieces pieces)) }
-    ensures table { let options = options.now in let pieces = work.now.pieces.now in
+    ensures table { let options = options.now in let pieces = context.now.pieces.now in
         IfOk result (λ r. P.known pieces
         → r.1 ≡ table_of options.family options.width (whole_of (P.pieces pieces))) }
-    ensures refused { let pieces = work.now.pieces.now in
+    ensures refused { let pieces = context.now.pieces.now in
         IsErrOf result PieceFault.Refused → P.known pieces
         → MayRefuse (P.refuses pieces) (P.pieces pieces) }
 {
     cells_are_cell_sums();
-    let pass = FirstPass { work, options };
+    let pass = FirstPass { context, options };
     let cells = (options.family().depth() * options.width()) as usize;
-    match share_work(rt, work.alloc, &pass, cells, options.workers())? {
+    match share_work(rt, context.alloc, &pass, cells, options.workers())? {
         Some((cells, found)) => {
             let summaries = pass.in_order(found.summaries)?;
             Ok((summaries, table_of_cells(options, found.total, cells)?))
@@ -85,26 +85,29 @@ fn table_of_cells(options: &Options, total: u64, cells: Vec<u64>) -> Result<Tabl
 /// there are candidates.
 pub(crate) fn weigh<R: Threads + Wait + Sync, P: Pieces + Sync, G: Gate + Sync>(
     rt: &R,
-    work: &Work<P, G>,
+    context: &PassContext<P, G>,
     candidates: &Candidates,
     workers: u64,
 ) -> Result<(Vec<u64>, u64), PieceFault>
-    requires some { 0 < length (P.pieces work.now.pieces.now) }
-    requires few { length (P.pieces work.now.pieces.now) ≤ max_pieces }
+    requires some { 0 < length (P.pieces context.now.pieces.now) }
+    requires few { length (P.pieces context.now.pieces.now) ≤ max_pieces }
     requires workers { in_range workers max_workers ≡ true }
     requires few_keys { length candidates.now ≤ max_k }
     ensures count { IfOk result (λ r. length r.0.items ≡ length candidates.now) }
-    ensures weights { let pieces = work.now.pieces.now in IfOk result (λ r. P.known pieces
+    ensures weights { let pieces = context.now.pieces.now in IfOk result (λ r. P.known pieces
         → r.0.items ≡ weights_at candidates.now (whole_of (P.pieces pieces))) }
-    ensures total { let pieces = work.now.pieces.now in IfOk result (λ r. P.known pieces
+    ensures total { let pieces = context.now.pieces.now in IfOk result (λ r. P.known pieces
         → 0 < length candidates.now → r.1 ≡ total_of (whole_of (P.pieces pieces))) }
     ensures bounded { IfOk result (λ r. r.1 ≤ max_total) }
-    ensures refused { let pieces = work.now.pieces.now in
+    ensures refused { let pieces = context.now.pieces.now in
         IsErrOf result PieceFault.Refused → P.known pieces
         → MayRefuse (P.refuses pieces) (P.pieces pieces) }
 {
-    let pass = SecondPass { work, candidates };
-    match share_work(rt, work.alloc, &pass, candidates.len(), workers)? {
+    let pass = SecondPass {
+        context,
+        candidates,
+    };
+    match share_work(rt, context.alloc, &pass, candidates.len(), workers)? {
         Some(weighed) => Ok(weighed),
         None => pass.alone(workers),
     }
@@ -153,28 +156,28 @@ fn candidates(
 /// The summaries of the pieces, merged as the plan says, and the table of all items.
 fn merge_pieces<R: Threads + Wait + Sync, P: Pieces + Sync, G: Gate + Sync>(
     rt: &R,
-    work: &Work<P, G>,
+    context: &PassContext<P, G>,
     plan: &Plan,
     options: &Options,
 ) -> Result<(Summary, Table), PieceFault>
-    requires plan { IsMergeTree plan.now (length (P.pieces work.now.pieces.now)) }
-    requires some { 0 < length (P.pieces work.now.pieces.now) }
-    requires few { length (P.pieces work.now.pieces.now) ≤ max_pieces }
-    ensures summary { let pieces = work.now.pieces.now in let lists = P.pieces pieces in
+    requires plan { IsMergeTree plan.now (length (P.pieces context.now.pieces.now)) }
+    requires some { 0 < length (P.pieces context.now.pieces.now) }
+    requires few { length (P.pieces context.now.pieces.now) ≤ max_pieces }
+    ensures summary { let pieces = context.now.pieces.now in let lists = P.pieces pieces in
         IfOk result (λ merged. P.known pieces
         → IsMerged plan.now options.now.k lists (whole_of lists) merged.0) }
-    ensures table { let options = options.now in let pieces = work.now.pieces.now in
+    ensures table { let options = options.now in let pieces = context.now.pieces.now in
         IfOk result (λ merged. P.known pieces → merged.1
         ≡ table_of options.family options.width (whole_of (P.pieces pieces))) }
-    ensures refused { let pieces = work.now.pieces.now in
+    ensures refused { let pieces = context.now.pieces.now in
         IsErrOf result PieceFault.Refused → P.known pieces
         → MayRefuse (P.refuses pieces) (P.pieces pieces) }
 {
     misra_gries_is_honest();
-    let (summaries, table) = summarise(rt, work, options)?;
+    let (summaries, table) = summarise(rt, context, options)?;
     // It bounds the sum of the summaries' totals.
     let _total = table.total();
-    match merge_by(work.alloc, plan, summaries) {
+    match merge_by(context.alloc, plan, summaries) {
         Ok(summary) => Ok((summary, table)),
         Err(MergeFault::Memory) => Err(PieceFault::Memory),
         // Only pieces that changed while they were read come to this.
@@ -204,27 +207,27 @@ pub(crate) fn check_totals(
 /// that of the first.
 fn heavy_among<R: Threads + Wait + Sync, P: Pieces + Sync, G: Gate + Sync>(
     rt: &R,
-    work: &Work<P, G>,
+    context: &PassContext<P, G>,
     candidates: &Candidates,
     total: u64,
     options: &Options,
 ) -> Result<Vec<Heavy>, PieceFault>
-    requires some { 0 < length (P.pieces work.now.pieces.now) }
-    requires few { length (P.pieces work.now.pieces.now) ≤ max_pieces }
+    requires some { 0 < length (P.pieces context.now.pieces.now) }
+    requires few { length (P.pieces context.now.pieces.now) ≤ max_pieces }
     requires few_keys { length candidates.now ≤ max_k }
-    requires total { let pieces = work.now.pieces.now in
+    requires total { let pieces = context.now.pieces.now in
         P.known pieces → total ≡ total_of (whole_of (P.pieces pieces)) }
-    requires enough { let pieces = work.now.pieces.now in P.known pieces
+    requires enough { let pieces = context.now.pieces.now in P.known pieces
         → AreEnough candidates.now (whole_of (P.pieces pieces)) options.now.p options.now.q }
-    ensures heavy { let pieces = work.now.pieces.now in let xs = whole_of (P.pieces pieces) in
+    ensures heavy { let pieces = context.now.pieces.now in let xs = whole_of (P.pieces pieces) in
         IfOk result (λ rows. P.known pieces
         → rows.items ≡ heavy xs options.now.p options.now.q) }
-    ensures refused { let pieces = work.now.pieces.now in
+    ensures refused { let pieces = context.now.pieces.now in
         IsErrOf result PieceFault.Refused → P.known pieces
         → MayRefuse (P.refuses pieces) (P.pieces pieces) }
 {
     let (p, q) = options.threshold();
-    let (weights, counted) = weigh(rt, work, candidates, options.workers())?;
+    let (weights, counted) = weigh(rt, context, candidates, options.workers())?;
     check_totals(candidates, counted, total)?;
     Ok(candidates.select(&weights, total, p, q)?)
 }
@@ -232,60 +235,60 @@ fn heavy_among<R: Threads + Wait + Sync, P: Pieces + Sync, G: Gate + Sync>(
 /// The keys above the options' threshold, by a second pass over those that can be.
 fn heavy_keys<R: Threads + Wait + Sync, P: Pieces + Sync, G: Gate + Sync>(
     rt: &R,
-    work: &Work<P, G>,
+    context: &PassContext<P, G>,
     summary: &Summary,
     table: &Table,
     options: &Options,
 ) -> Result<Vec<Heavy>, PieceFault>
-    requires some { 0 < length (P.pieces work.now.pieces.now) }
-    requires few { length (P.pieces work.now.pieces.now) ≤ max_pieces }
-    requires same_k { P.known work.now.pieces.now → summary.now.k ≡ options.now.k }
-    requires total { let pieces = work.now.pieces.now in
+    requires some { 0 < length (P.pieces context.now.pieces.now) }
+    requires few { length (P.pieces context.now.pieces.now) ≤ max_pieces }
+    requires same_k { P.known context.now.pieces.now → summary.now.k ≡ options.now.k }
+    requires total { let pieces = context.now.pieces.now in
         P.known pieces → summary.now.total ≡ total_of (whole_of (P.pieces pieces)) }
-    requires honest { let s = summary.now in let pieces = work.now.pieces.now in
+    requires honest { let s = summary.now in let pieces = context.now.pieces.now in
         P.known pieces → IsHonest s.counters s.total (whole_of (P.pieces pieces)) s.k }
-    requires table { let options = options.now in let pieces = work.now.pieces.now in
+    requires table { let options = options.now in let pieces = context.now.pieces.now in
         P.known pieces → table.now
         ≡ table_of options.family options.width (whole_of (P.pieces pieces)) }
     requires few_keys { length summary.now.counters ≤ max_k }
     requires rows { 1 ≤ length table.now.family.rows }
-    ensures heavy { let pieces = work.now.pieces.now in let xs = whole_of (P.pieces pieces) in
+    ensures heavy { let pieces = context.now.pieces.now in let xs = whole_of (P.pieces pieces) in
         IfOk result (λ rows. P.known pieces
         → rows.items ≡ heavy xs options.now.p options.now.q) }
-    ensures refused { let pieces = work.now.pieces.now in
+    ensures refused { let pieces = context.now.pieces.now in
         IsErrOf result PieceFault.Refused → P.known pieces
         → MayRefuse (P.refuses pieces) (P.pieces pieces) }
 {
     let (p, q) = options.threshold();
-    let candidates = candidates(work.alloc, summary, table, p, q, options.hash())?;
-    heavy_among(rt, work, &candidates, summary.total(), options)
+    let candidates = candidates(context.alloc, summary, table, p, q, options.hash())?;
+    heavy_among(rt, context, &candidates, summary.total(), options)
 }
 
 /// The outcome, where the plan has as many pieces as there are.
 fn run_passes<R: Threads + Wait + Sync, P: Pieces + Sync, G: Gate + Sync>(
     rt: &R,
-    work: &Work<P, G>,
+    context: &PassContext<P, G>,
     plan: &Plan,
     options: &Options,
 ) -> Result<Outcome, PieceFault>
-    requires plan { IsMergeTree plan.now (length (P.pieces work.now.pieces.now)) }
-    requires some { 0 < length (P.pieces work.now.pieces.now) }
-    requires few { length (P.pieces work.now.pieces.now) ≤ max_pieces }
-    ensures summary { let pieces = work.now.pieces.now in let lists = P.pieces pieces in
+    requires plan { IsMergeTree plan.now (length (P.pieces context.now.pieces.now)) }
+    requires some { 0 < length (P.pieces context.now.pieces.now) }
+    requires few { length (P.pieces context.now.pieces.now) ≤ max_pieces }
+    ensures summary { let pieces = context.now.pieces.now in let lists = P.pieces pieces in
         IfOk result (λ outcome. P.known pieces
         → IsMerged plan.now options.now.k lists (whole_of lists) outcome.summary) }
-    ensures table { let options = options.now in let pieces = work.now.pieces.now in
+    ensures table { let options = options.now in let pieces = context.now.pieces.now in
         IfOk result (λ outcome. P.known pieces → outcome.table
         ≡ table_of options.family options.width (whole_of (P.pieces pieces))) }
-    ensures heavy { let pieces = work.now.pieces.now in let xs = whole_of (P.pieces pieces) in
+    ensures heavy { let pieces = context.now.pieces.now in let xs = whole_of (P.pieces pieces) in
         IfOk result (λ outcome. P.known pieces
         → outcome.heavy.items ≡ heavy xs options.now.p options.now.q) }
-    ensures refused { let pieces = work.now.pieces.now in
+    ensures refused { let pieces = context.now.pieces.now in
         IsErrOf result PieceFault.Refused → P.known pieces
         → MayRefuse (P.refuses pieces) (P.pieces pieces) }
 {
-    let (summary, table) = merge_pieces(rt, work, plan, options)?;
-    let heavy = heavy_keys(rt, work, &summary, &table, options)?;
+    let (summary, table) = merge_pieces(rt, context, plan, options)?;
+    let heavy = heavy_keys(rt, context, &summary, &table, options)?;
     Ok(Outcome {
         summary,
         table,
@@ -341,12 +344,12 @@ pub fn analyse<R: Threads + Wait + Sync, G: Gate + Sync>(
     let _total = stream.total();
     let pieces = CutStream::new(stream, cutting);
     check_counts(plan, pieces.count())?;
-    let work = Work {
+    let context = PassContext {
         alloc,
         pieces: &pieces,
         gate,
     };
-    match only_memory(run_passes(rt, &work, plan, options)) {
+    match only_memory(run_passes(rt, &context, plan, options)) {
         Ok(outcome) => Ok(outcome),
         Err(_) => Err(RunError::Memory),
     }

@@ -23,14 +23,15 @@ use hh_shared::{SharedSums, SumSeat};
 use hh_stream::laws::pieces_make_the_whole;
 use hh_stream::{Cutting, KeyHash, MAX_TOTAL, PieceFault, Stream, TakeItems};
 use hh_workers::{
-    CutStream, Gate, Pass, Pieces, Work, add_numbers, only_memory, run_alone, run_worker,
+    CutStream, Gate, Pass, PassContext, Pieces, add_numbers, only_memory, run_sequentially,
+    run_worker,
 };
 use std::alloc::{AllocError, Global};
 
 /// What each worker of the first pass works on.
 #[derive(Drop)]
 pub(crate) struct FirstPass<'a, P, G> {
-    pub(crate) work: &'a Work<'a, P, G>,
+    pub(crate) context: &'a PassContext<'a, P, G>,
     pub(crate) options: &'a Options,
 }
 
@@ -60,13 +61,13 @@ pub fn first_pass<G: Gate>(
     pieces_make_the_whole();
     // It bounds the weights of the pieces.
     let _total = stream.total();
-    let work = Work {
+    let context = PassContext {
         alloc,
         pieces: &CutStream::new(stream, cutting),
         gate,
     };
     let pass = FirstPass {
-        work: &work,
+        context: &context,
         options,
     };
     let (seat, summarised) = only_memory(run_worker(&pass, sums, seat, worker))?;
@@ -133,7 +134,7 @@ impl TakeItems for Sketches {
 
 /// The summaries and the table that a worker has made so far.
 #[derive(Drop)]
-pub(crate) struct Made {
+pub(crate) struct LocalSketches {
     summaries: Vec<(usize, Summary)>,
     table: Table,
 }
@@ -161,23 +162,23 @@ pub(crate) struct Summarised {
 impl<'a, P: Pieces, G: Gate> FirstPass<'a, P, G> {
     // The summary of a piece, by Space-Saving in buckets, and the table with the piece's items.
     fn summarise(&self, table: Table, piece: usize) -> Result<(Summary, Table), PieceFault>
-        requires { piece < length (P.pieces self.now.work.now.pieces.now) }
-        ensures summarised { let pieces = self.now.work.now.pieces.now in IfOk result (λ r.
+        requires { piece < length (P.pieces self.now.context.now.pieces.now) }
+        ensures summarised { let pieces = self.now.context.now.pieces.now in IfOk result (λ r.
             IsSummarised (λ xs. P.known pieces → xs ≡ piece_of (P.pieces pieces) piece)
             self.now.options.now.k r.0 table r.1) }
-        ensures reads { let pieces = self.now.work.now.pieces.now in
+        ensures reads { let pieces = self.now.context.now.pieces.now in
             OnOk result (P.known pieces → P.reads pieces piece) }
-        ensures refused { let pieces = self.now.work.now.pieces.now in
+        ensures refused { let pieces = self.now.context.now.pieces.now in
             IsErrOf result PieceFault.Refused → P.known pieces → P.refuses pieces piece
             ⊎ (max_total < table.total + total_of (piece_of (P.pieces pieces) piece)) }
     {
         summaries_follow_items();
         tables_follow_items();
         let hash = self.options.hash();
-        let mut sketches = Sketches::beside(table, self.work.alloc, self.options.k(), hash)?;
-        self.work
+        let mut sketches = Sketches::beside(table, self.context.alloc, self.options.k(), hash)?;
+        self.context
             .pieces
-            .feed(self.work.alloc, piece, &mut sketches)?;
+            .feed(self.context.alloc, piece, &mut sketches)?;
         sketches.into_parts()
     }
 
@@ -186,15 +187,15 @@ impl<'a, P: Pieces, G: Gate> FirstPass<'a, P, G> {
         &self,
         mut found: Vec<(usize, Summary)>,
     ) -> Result<Vec<Summary>, AllocError>
-        requires { let pieces = self.now.work.now.pieces.now in P.known pieces
+        requires { let pieces = self.now.context.now.pieces.now in P.known pieces
             → AreSummaries self.now.options.now.k (P.pieces pieces) found.items }
         ensures count { IfOk result (λ summaries. length summaries.items ≡ length found.items) }
-        ensures summaries { let pieces = self.now.work.now.pieces.now in
+        ensures summaries { let pieces = self.now.context.now.pieces.now in
             IfOk result (λ summaries. P.known pieces
             → summaries.items ≡ map (sketch_of self.now.options.now.k) (P.pieces pieces)) }
     {
         found.sort_unstable_by(|a, b| a.0.cmp(&b.0));
-        let mut summaries = Vec::new(self.work.alloc);
+        let mut summaries = Vec::new(self.context.alloc);
         for (_, summary) in found {
             summaries.push(summary)?;
         }
@@ -204,62 +205,67 @@ impl<'a, P: Pieces, G: Gate> FirstPass<'a, P, G> {
     /// What the calling thread makes without sums: the summaries of the pieces, in order, and the
     /// table of all items.
     pub(crate) fn alone(&self) -> Result<(Vec<Summary>, Table), PieceFault>
-        ensures count { let pieces = self.now.work.now.pieces.now in
+        ensures count { let pieces = self.now.context.now.pieces.now in
             IfOk result (λ r. length r.0.items ≡ length (P.pieces pieces)) }
-        ensures summaries { let pieces = self.now.work.now.pieces.now in
+        ensures summaries { let pieces = self.now.context.now.pieces.now in
             IfOk result (λ r. P.known pieces
             → r.0.items ≡ map (sketch_of self.now.options.now.k) (P.pieces pieces)) }
         ensures table { let options = self.now.options.now in
-            let pieces = self.now.work.now.pieces.now in IfOk result (λ r. P.known pieces
+            let pieces = self.now.context.now.pieces.now in IfOk result (λ r. P.known pieces
             → r.1 ≡ table_of options.family options.width (whole_of (P.pieces pieces))) }
-        ensures refused { let pieces = self.now.work.now.pieces.now in
+        ensures refused { let pieces = self.now.context.now.pieces.now in
             IsErrOf result PieceFault.Refused → P.known pieces
             → MayRefuse (P.refuses pieces) (P.pieces pieces) }
     {
-        let Made { summaries, table } = run_alone(self, self.options.workers())?;
+        let LocalSketches { summaries, table } = run_sequentially(self, self.options.workers())?;
         Ok((self.in_order(summaries)?, table))
     }
 }
 
 impl<'a, P: Pieces, G: Gate> Pass for FirstPass<'a, P, G> {
-    type Made = Made;
+    type Local = LocalSketches;
 
-    type Kept = Summarised;
+    type Partial = Summarised;
 
     ghost use Rattle.std.specs.Prelude.{◌*◌, length};
     ghost use Rattle.hh_pool.specs.Passes.{AreFirstPasses, HaveTaken, MayRefuse};
     ghost use Rattle.hh_pool.specs.Progress.{HoldsItems, IsFirstMade};
 
-    ghost pieces = { λ p. length (P.pieces p.work.now.pieces.now) };
+    ghost pieces = { λ p. length (P.pieces p.context.now.pieces.now) };
 
     ghost cells = { λ p. length p.options.now.family.rows * p.options.now.width };
 
-    ghost is_made = { λ p numbers made. let pieces = p.work.now.pieces.now in
+    ghost is_made = { λ p numbers made. let pieces = p.context.now.pieces.now in
         HoldsItems p.options.now numbers made.summaries.items made.table × (P.known pieces
         → IsFirstMade (P.reads pieces) (P.pieces pieces) p.options.now numbers
         made.summaries.items made.table) };
 
-    ghost all_done = { λ p seat kept. let pieces = p.work.now.pieces.now in
+    ghost all_done = { λ p seat kept. let pieces = p.context.now.pieces.now in
         (length kept.summaries.items ≡ length seat.claims) × (P.known pieces
         → AreFirstPasses (P.pieces pieces) p.options.now seat kept.summaries.items
         × HaveTaken (P.reads pieces) (P.pieces pieces) seat.claims kept.total) };
 
-    ghost may_refuse = { λ p. let pieces = p.work.now.pieces.now in P.known pieces
+    ghost may_refuse = { λ p. let pieces = p.context.now.pieces.now in P.known pieces
         → MayRefuse (P.refuses pieces) (P.pieces pieces) };
 
     fn count(&self) -> usize {
-        self.work.pieces.count()
+        self.context.pieces.count()
     }
 
-    fn begin(&self) -> Result<Made, AllocError> {
-        let table = empty_table(self.work.alloc, self.options)?;
-        let summaries = Vec::new(self.work.alloc);
-        Ok(Made { summaries, table })
+    fn begin(&self) -> Result<LocalSketches, AllocError> {
+        let table = empty_table(self.context.alloc, self.options)?;
+        let summaries = Vec::new(self.context.alloc);
+        Ok(LocalSketches { summaries, table })
     }
 
-    fn take(&self, made: Made, worker: u64, piece: usize) -> Result<Made, PieceFault> {
-        self.work.gate.before(1, worker, piece as u64);
-        let Made {
+    fn take(
+        &self,
+        made: LocalSketches,
+        worker: u64,
+        piece: usize,
+    ) -> Result<LocalSketches, PieceFault> {
+        self.context.gate.before(1, worker, piece as u64);
+        let LocalSketches {
             mut summaries,
             table,
         } = made;
@@ -267,22 +273,18 @@ impl<'a, P: Pieces, G: Gate> Pass for FirstPass<'a, P, G> {
         let Ok(()) = summaries.push((piece, summary)) else {
             return Err(PieceFault::Memory);
         };
-        Ok(Made { summaries, table })
+        Ok(LocalSketches { summaries, table })
     }
 
-    fn hand_over(&self, sums: &SharedSums, seat: &mut SumSeat, made: Made) -> Summarised {
+    fn finish(&self, sums: &SharedSums, seat: &mut SumSeat, made: LocalSketches) -> Summarised {
         cells_are_cell_sums();
-        let Made { summaries, table } = made;
+        let LocalSketches { summaries, table } = made;
         add_numbers(sums, seat, table.cells());
         let total = table.total();
         Summarised { summaries, total }
     }
 
-    fn together(
-        &self,
-        mut one: Summarised,
-        mut other: Summarised,
-    ) -> Result<Summarised, PieceFault> {
+    fn merge(&self, mut one: Summarised, mut other: Summarised) -> Result<Summarised, PieceFault> {
         one.total = sum_of_totals(one.total, other.total)?;
         one.summaries.append(&mut other.summaries)?;
         Ok(one)

@@ -16,7 +16,7 @@ use hh_countmin::laws::tables_follow_items;
 use hh_countmin::{Family, MergeFault, Table};
 use hh_shared::{SharedSums, SumSeat};
 use hh_stream::PieceFault;
-use hh_workers::{Gate, Pass, Pieces, Work, found_or_made, share_work};
+use hh_workers::{Gate, Pass, PassContext, Pieces, found_or_made, share_work};
 use std::alloc::AllocError;
 use std::sync::Wait;
 use std::thread::Threads;
@@ -24,7 +24,7 @@ use std::thread::Threads;
 /// What each worker works on.
 #[derive(Drop)]
 struct TablePass<'a, P, G> {
-    work: &'a Work<'a, P, G>,
+    context: &'a PassContext<'a, P, G>,
     family: &'a Family,
     width: u64,
     ghost width_in_range: { in_range width max_width ≡ true },
@@ -33,70 +33,70 @@ struct TablePass<'a, P, G> {
 impl<'a, P: Pieces, G: Gate> TablePass<'a, P, G> {
     // Adds the items of a piece.
     fn add_piece(&self, table: &mut Table, piece: usize) -> Result<(), PieceFault>
-        requires { piece < length (P.pieces self.now.work.now.pieces.now) }
-        ensures added { let pieces = self.now.work.now.pieces.now in OnOk result
+        requires { piece < length (P.pieces self.now.context.now.pieces.now) }
+        ensures added { let pieces = self.now.context.now.pieces.now in OnOk result
             (IsAdded (λ xs. P.known pieces → xs ≡ piece_of (P.pieces pieces) piece)
             self.now.family.now self.now.width table.old table.new) }
-        ensures reads { let pieces = self.now.work.now.pieces.now in
+        ensures reads { let pieces = self.now.context.now.pieces.now in
             OnOk result (P.known pieces → P.reads pieces piece) }
-        ensures refused { let pieces = self.now.work.now.pieces.now in
+        ensures refused { let pieces = self.now.context.now.pieces.now in
             IsErrOf result PieceFault.Refused → P.known pieces → P.refuses pieces piece
             ⊎ (max_total < table.old.total + total_of (piece_of (P.pieces pieces) piece)) }
     {
         tables_follow_items();
-        self.work.pieces.feed(self.work.alloc, piece, table)
+        self.context.pieces.feed(self.context.alloc, piece, table)
     }
 }
 
 impl<'a, P: Pieces, G: Gate> Pass for TablePass<'a, P, G> {
-    type Made = Table;
+    type Local = Table;
 
-    type Kept = Table;
+    type Partial = Table;
 
     ghost use Rattle.std.specs.Prelude.{length};
     ghost use Rattle.hh_pool.specs.Passes.{MayRefuse};
     ghost use Rattle.hh_pool.specs.Tabulated.{HasTabulated, IsTable};
 
-    ghost pieces = { λ p. length (P.pieces p.work.now.pieces.now) };
+    ghost pieces = { λ p. length (P.pieces p.context.now.pieces.now) };
 
     ghost cells = { λ _. 0 };
 
-    ghost is_made = { λ p numbers table. let pieces = p.work.now.pieces.now in
+    ghost is_made = { λ p numbers table. let pieces = p.context.now.pieces.now in
         IsTable p.family.now p.width table × (P.known pieces
         → HasTabulated (P.reads pieces) (P.pieces pieces)
         p.family.now p.width numbers table) };
 
-    ghost all_done = { λ p seat table. let pieces = p.work.now.pieces.now in
+    ghost all_done = { λ p seat table. let pieces = p.context.now.pieces.now in
         IsTable p.family.now p.width table × (P.known pieces
         → HasTabulated (P.reads pieces) (P.pieces pieces)
         p.family.now p.width seat.claims table) };
 
-    ghost may_refuse = { λ p. let pieces = p.work.now.pieces.now in P.known pieces
+    ghost may_refuse = { λ p. let pieces = p.context.now.pieces.now in P.known pieces
         → MayRefuse (P.refuses pieces) (P.pieces pieces) };
 
     fn count(&self) -> usize {
-        self.work.pieces.count()
+        self.context.pieces.count()
     }
 
     fn begin(&self) -> Result<Table, AllocError> {
         tables_follow_items();
         let family = self.family.copy()?;
-        Table::empty(self.work.alloc, family, self.width)
+        Table::empty(self.context.alloc, family, self.width)
     }
 
     fn take(&self, mut made: Table, worker: u64, piece: usize) -> Result<Table, PieceFault> {
-        self.work.gate.before(1, worker, piece as u64);
+        self.context.gate.before(1, worker, piece as u64);
         self.add_piece(&mut made, piece)?;
         // It bounds the total.
         let _total = made.total();
         Ok(made)
     }
 
-    fn hand_over(&self, _sums: &SharedSums, _seat: &mut SumSeat, made: Table) -> Table {
+    fn finish(&self, _sums: &SharedSums, _seat: &mut SumSeat, made: Table) -> Table {
         made
     }
 
-    fn together(&self, mut one: Table, other: Table) -> Result<Table, PieceFault> {
+    fn merge(&self, mut one: Table, other: Table) -> Result<Table, PieceFault> {
         tables_follow_items();
         match one.merge(&other) {
             Ok(()) => {
@@ -116,29 +116,29 @@ impl<'a, P: Pieces, G: Gate> Pass for TablePass<'a, P, G> {
 /// The table of the items of all pieces.
 pub(crate) fn tabulate<R: Threads + Wait + Sync, P: Pieces + Sync, G: Gate + Sync>(
     rt: &R,
-    work: &Work<P, G>,
+    context: &PassContext<P, G>,
     family: &Family,
     width: u64,
     workers: u64,
 ) -> Result<Table, PieceFault>
-    requires some { 0 < length (P.pieces work.now.pieces.now) }
-    requires few { length (P.pieces work.now.pieces.now) ≤ max_pieces }
+    requires some { 0 < length (P.pieces context.now.pieces.now) }
+    requires few { length (P.pieces context.now.pieces.now) ≤ max_pieces }
     requires width { in_range width max_width ≡ true }
     requires workers { in_range workers max_workers ≡ true }
     ensures some { IfOk result (IsTable family.now width) }
-    ensures table { let pieces = work.now.pieces.now in IfOk result (λ table. P.known pieces
+    ensures table { let pieces = context.now.pieces.now in IfOk result (λ table. P.known pieces
         → table ≡ table_of family.now width (whole_of (P.pieces pieces))) }
-    ensures read { let pieces = work.now.pieces.now in
+    ensures read { let pieces = context.now.pieces.now in
         OnOk result (P.known pieces → AreRead (P.reads pieces) (P.pieces pieces)) }
-    ensures refused { let pieces = work.now.pieces.now in
+    ensures refused { let pieces = context.now.pieces.now in
         IsErrOf result PieceFault.Refused → P.known pieces
         → MayRefuse (P.refuses pieces) (P.pieces pieces) }
 {
     let pass = TablePass {
-        work,
+        context,
         family,
         width,
     };
-    let found = share_work(rt, work.alloc, &pass, 0, workers)?;
+    let found = share_work(rt, context.alloc, &pass, 0, workers)?;
     found_or_made(&pass, found, workers)
 }

@@ -24,7 +24,7 @@ use hh_shared::{SharedSums, SumSeat};
 use hh_stream::{Key, KeyHash, PieceFault, TakeItems};
 use hh_tally::laws::tallies_bound_weights;
 use hh_tally::{Room, Tally};
-use hh_workers::{Gate, OpenGate, Pass, Pieces, Work, found_or_made, share_work};
+use hh_workers::{Gate, OpenGate, Pass, PassContext, Pieces, found_or_made, share_work};
 use std::alloc::{AllocError, Global};
 use std::sync::Wait;
 use std::thread::Threads;
@@ -32,7 +32,7 @@ use std::thread::Threads;
 /// What each worker works on.
 #[derive(Drop)]
 struct TallyPass<'a, P, G> {
-    work: &'a Work<'a, P, G>,
+    context: &'a PassContext<'a, P, G>,
     room: Room,
     hash: KeyHash,
     ghost room_fits: { IsRoom room },
@@ -41,75 +41,75 @@ struct TallyPass<'a, P, G> {
 impl<'a, P: Pieces, G: Gate> TallyPass<'a, P, G> {
     // Takes the items of a piece.
     fn take_piece(&self, tally: &mut Tally, piece: usize) -> Result<(), PieceFault>
-        requires { piece < length (P.pieces self.now.work.now.pieces.now) }
-        ensures taken { let pieces = self.now.work.now.pieces.now in OnOk result
+        requires { piece < length (P.pieces self.now.context.now.pieces.now) }
+        ensures taken { let pieces = self.now.context.now.pieces.now in OnOk result
             (IsTallied (λ xs. P.known pieces → xs ≡ piece_of (P.pieces pieces) piece)
             tally.old tally.new) }
-        ensures reads { let pieces = self.now.work.now.pieces.now in
+        ensures reads { let pieces = self.now.context.now.pieces.now in
             OnOk result (P.known pieces → P.reads pieces piece) }
-        ensures refused { let pieces = self.now.work.now.pieces.now in
+        ensures refused { let pieces = self.now.context.now.pieces.now in
             IsErrOf result PieceFault.Refused → P.known pieces → P.refuses pieces piece
             ⊎ (max_total < tally.old.total + total_of (piece_of (P.pieces pieces) piece)) }
     {
         tallies_bound_weights();
-        self.work.pieces.feed(self.work.alloc, piece, tally)
+        self.context.pieces.feed(self.context.alloc, piece, tally)
     }
 }
 
 impl<'a, P: Pieces, G: Gate> Pass for TallyPass<'a, P, G> {
-    type Made = Tally;
+    type Local = Tally;
 
-    type Kept = Tally;
+    type Partial = Tally;
 
     ghost use Rattle.std.specs.Prelude.{length};
     ghost use Rattle.hh_pool.specs.Passes.{MayRefuse};
     ghost use Rattle.hh_pool.specs.Tallied.{BoundsSome, HasTallied};
 
-    ghost pieces = { λ p. length (P.pieces p.work.now.pieces.now) };
+    ghost pieces = { λ p. length (P.pieces p.context.now.pieces.now) };
 
     ghost cells = { λ _. 0 };
 
-    ghost is_made = { λ p numbers tally. let pieces = p.work.now.pieces.now in
+    ghost is_made = { λ p numbers tally. let pieces = p.context.now.pieces.now in
         (tally.room ≡ p.room) × BoundsSome tally × (P.known pieces
         → HasTallied (P.reads pieces) (P.pieces pieces) numbers tally) };
 
-    ghost all_done = { λ p seat tally. let pieces = p.work.now.pieces.now in
+    ghost all_done = { λ p seat tally. let pieces = p.context.now.pieces.now in
         (tally.room ≡ p.room) × BoundsSome tally × (P.known pieces
         → HasTallied (P.reads pieces) (P.pieces pieces) seat.claims tally) };
 
-    ghost may_refuse = { λ p. let pieces = p.work.now.pieces.now in P.known pieces
+    ghost may_refuse = { λ p. let pieces = p.context.now.pieces.now in P.known pieces
         → MayRefuse (P.refuses pieces) (P.pieces pieces) };
 
     fn count(&self) -> usize {
-        self.work.pieces.count()
+        self.context.pieces.count()
     }
 
     fn begin(&self) -> Result<Tally, AllocError> {
         tallies_bound_weights();
-        let tally = Tally::new(self.work.alloc, self.room, self.hash)?;
+        let tally = Tally::new(self.context.alloc, self.room, self.hash)?;
         Ok(tally)
     }
 
     fn take(&self, mut made: Tally, worker: u64, piece: usize) -> Result<Tally, PieceFault> {
-        self.work.gate.before(1, worker, piece as u64);
+        self.context.gate.before(1, worker, piece as u64);
         self.take_piece(&mut made, piece)?;
         // It bounds the total.
         let _total = made.total();
         Ok(made)
     }
 
-    fn hand_over(&self, _sums: &SharedSums, _seat: &mut SumSeat, made: Tally) -> Tally {
+    fn finish(&self, _sums: &SharedSums, _seat: &mut SumSeat, made: Tally) -> Tally {
         made
     }
 
-    fn together(&self, one: Tally, other: Tally) -> Result<Tally, PieceFault> {
+    fn merge(&self, one: Tally, other: Tally) -> Result<Tally, PieceFault> {
         tallies_bound_weights();
         // All tallies have one room.
         if !one.has_room_of(&other) {
             return Err(PieceFault::Refused);
         }
         sum_of_totals(one.total(), other.total())?;
-        let both = one.merge(self.work.alloc, &other)?;
+        let both = one.merge(self.context.alloc, &other)?;
         Ok(both)
     }
 }
@@ -117,28 +117,32 @@ impl<'a, P: Pieces, G: Gate> Pass for TallyPass<'a, P, G> {
 /// The tally of the items of all pieces.
 fn tally<R: Threads + Wait + Sync, P: Pieces + Sync, G: Gate + Sync>(
     rt: &R,
-    work: &Work<P, G>,
+    context: &PassContext<P, G>,
     room: Room,
     hash: KeyHash,
     workers: u64,
 ) -> Result<Tally, PieceFault>
-    requires some { 0 < length (P.pieces work.now.pieces.now) }
-    requires few { length (P.pieces work.now.pieces.now) ≤ max_pieces }
+    requires some { 0 < length (P.pieces context.now.pieces.now) }
+    requires few { length (P.pieces context.now.pieces.now) ≤ max_pieces }
     requires room { IsRoom room }
     requires workers { in_range workers max_workers ≡ true }
     ensures room { IfOk result (λ tally. tally.room ≡ room) }
     ensures some { IfOk result BoundsSome }
-    ensures bounds { let pieces = work.now.pieces.now in
+    ensures bounds { let pieces = context.now.pieces.now in
         IfOk result (λ tally. P.known pieces → AreBounds tally (whole_of (P.pieces pieces))) }
-    ensures read { let pieces = work.now.pieces.now in
+    ensures read { let pieces = context.now.pieces.now in
         OnOk result (P.known pieces → AreRead (P.reads pieces) (P.pieces pieces)) }
-    ensures refused { let pieces = work.now.pieces.now in
+    ensures refused { let pieces = context.now.pieces.now in
         IsErrOf result PieceFault.Refused → P.known pieces
         → MayRefuse (P.refuses pieces) (P.pieces pieces) }
 {
     tallies_bound_weights();
-    let pass = TallyPass { work, room, hash };
-    let found = share_work(rt, work.alloc, &pass, 0, workers)?;
+    let pass = TallyPass {
+        context,
+        room,
+        hash,
+    };
+    let found = share_work(rt, context.alloc, &pass, 0, workers)?;
     found_or_made(&pass, found, workers)
 }
 
@@ -153,34 +157,34 @@ fn counters_of(alloc: Global, contenders: &[(Key, u64)]) -> Result<Vec<u64>, All
 /// nothing, and else what a second pass counts.
 fn weights_of<R: Threads + Wait + Sync, P: Pieces + Sync, G: Gate + Sync>(
     rt: &R,
-    work: &Work<P, G>,
+    context: &PassContext<P, G>,
     tally: &Tally,
     contenders: &[(Key, u64)],
     candidates: &Candidates,
     workers: u64,
 ) -> Result<Vec<u64>, PieceFault>
-    requires some { 0 < length (P.pieces work.now.pieces.now) }
-    requires few { length (P.pieces work.now.pieces.now) ≤ max_pieces }
+    requires some { 0 < length (P.pieces context.now.pieces.now) }
+    requires few { length (P.pieces context.now.pieces.now) ≤ max_pieces }
     requires workers { in_range workers max_workers ≡ true }
     requires keys { candidates.now ≡ keys_of contenders.now }
     requires few_keys { length candidates.now ≤ max_k }
-    requires total { let pieces = work.now.pieces.now in
+    requires total { let pieces = context.now.pieces.now in
         P.known pieces → tally.now.total ≡ total_of (whole_of (P.pieces pieces)) }
-    requires exact { let pieces = work.now.pieces.now in P.known pieces → tally.now.lost ≡ 0
+    requires exact { let pieces = context.now.pieces.now in P.known pieces → tally.now.lost ≡ 0
         → values_of contenders.now
         ≡ weights_at (keys_of contenders.now) (whole_of (P.pieces pieces)) }
     ensures count { IfOk result (λ weights. length weights.items ≡ length candidates.now) }
-    ensures weights { let pieces = work.now.pieces.now in IfOk result (λ weights.
+    ensures weights { let pieces = context.now.pieces.now in IfOk result (λ weights.
         P.known pieces
         → weights.items ≡ weights_at candidates.now (whole_of (P.pieces pieces))) }
-    ensures refused { let pieces = work.now.pieces.now in
+    ensures refused { let pieces = context.now.pieces.now in
         IsErrOf result PieceFault.Refused → P.known pieces
         → MayRefuse (P.refuses pieces) (P.pieces pieces) }
 {
     if tally.is_exact() {
-        return Ok(counters_of(work.alloc, contenders)?);
+        return Ok(counters_of(context.alloc, contenders)?);
     }
-    let (weights, counted) = weigh(rt, work, candidates, workers)?;
+    let (weights, counted) = weigh(rt, context, candidates, workers)?;
     check_totals(candidates, counted, tally.total())?;
     Ok(weights)
 }
@@ -219,18 +223,18 @@ pub fn report_pieces<R: Threads + Wait + Sync, P: Pieces + Sync>(
         → MayRefuse (P.refuses pieces.now) (P.pieces pieces.now) }
 {
     let (p, q) = options.threshold();
-    let work = Work {
+    let context = PassContext {
         alloc,
         pieces,
         gate: &OpenGate,
     };
     let room = Room::for_counters(options.k());
-    let tally = tally(rt, &work, room, hash, options.workers())?;
+    let tally = tally(rt, &context, room, hash, options.workers())?;
     let contenders = tally.contenders(alloc, p, q)?;
     let candidates = Candidates::of_entries(alloc, &contenders, hash)?;
     let weights = weights_of(
         rt,
-        &work,
+        &context,
         &tally,
         &contenders,
         &candidates,
@@ -272,13 +276,13 @@ pub fn summarise_pieces<R: Threads + Wait + Sync, P: Pieces + Sync>(
     ensures refused { IsErrOf result PieceFault.Refused → P.known pieces.now
         → MayRefuse (P.refuses pieces.now) (P.pieces pieces.now) }
 {
-    let work = Work {
+    let context = PassContext {
         alloc,
         pieces,
         gate: &OpenGate,
     };
     let room = Room::for_counters(k);
-    let tally = tally(rt, &work, room, hash, workers)?;
+    let tally = tally(rt, &context, room, hash, workers)?;
     // It bounds the total.
     let _total = tally.total();
     let summary = tally.into_summary(alloc, k)?;

@@ -4,7 +4,7 @@
 use crate::fixtures::assert_same;
 use hh_shared::{SharedSums, SumSeat};
 use hh_stream::PieceFault;
-use hh_workers::{Pass, found_or_made, run_alone};
+use hh_workers::{Pass, found_or_made, run_sequentially};
 use std::alloc::{AllocError, Global};
 
 // A pass that lists 10 times the worker's number plus the piece's, and refuses piece 3.
@@ -15,9 +15,9 @@ struct Listing {
 }
 
 impl Pass for Listing {
-    type Made = Vec<u64>;
+    type Local = Vec<u64>;
 
-    type Kept = Vec<u64>;
+    type Partial = Vec<u64>;
 
     ghost pieces = { λ p. p.count };
 
@@ -47,11 +47,11 @@ impl Pass for Listing {
         }
     }
 
-    fn hand_over(&self, _sums: &SharedSums, _seat: &mut SumSeat, made: Vec<u64>) -> Vec<u64> {
+    fn finish(&self, _sums: &SharedSums, _seat: &mut SumSeat, made: Vec<u64>) -> Vec<u64> {
         made
     }
 
-    fn together(&self, one: Vec<u64>, _other: Vec<u64>) -> Result<Vec<u64>, PieceFault> {
+    fn merge(&self, one: Vec<u64>, _other: Vec<u64>) -> Result<Vec<u64>, PieceFault> {
         Ok(one)
     }
 }
@@ -62,7 +62,7 @@ fn pieces_that_no_worker_claimed_are_made_alone(rt: HostRuntime) {
         alloc: rt.alloc(),
         count: 3,
     };
-    let alone = run_alone(&pass, 2).expect(&rt, "a pass");
+    let alone = run_sequentially(&pass, 2).expect(&rt, "a pass");
     assert_same(&rt, alone.as_slice(), [20, 21, 22].as_slice());
     let made = found_or_made(&pass, None, 5).expect(&rt, "a pass");
     assert_same(&rt, made.as_slice(), [50, 51, 52].as_slice());

@@ -8,7 +8,7 @@ use Rattle.csv.specs.declared.parser.State.TheVariants as st
 use Rattle.csv.specs.declared.reader.Reader.{Reader}
 use Rattle.hh_records.specs.declared.layout.ChoiceFault.{ChoiceFault}
 use Rattle.hh_records.specs.declared.layout.ChoiceFault.TheVariants as choice
-use Rattle.hh_records.specs.declared.layout.Chosen.{Chosen}
+use Rattle.hh_records.specs.declared.layout.ColumnIndices.{ColumnIndices}
 use Rattle.hh_records.specs.declared.layout.Layout.{Layout}
 use Rattle.hh_records.specs.declared.retrying.Retrying.{Retrying}
 use Rattle.hh_records.specs.Layouts.{ChoiceRefused, FindsColumns, IsStart, OpenRefused, Opens, Places, between, choice_fault, chosen_places, delimited, names_columns, parts_at, places_in, rows_in, text_parts, unread}
@@ -49,7 +49,7 @@ left-at-start parts layout cfg s o y start config known = rw (start, config, kno
 module _ {R : Type 0} (remaining : R → Option (List ℕ)) (layout : Layout) (plain : layout.has_header ≡ false)
     (f : Fields) (empty : f ≡ []) where
   -- a reader at the start of such a text has all its records left, by the places that the layout names
-  pub opened-plain : (a : Reader (Retrying R)) (start : IsStart layout a) (chosen : Option Chosen) (o : Option (List ℕ))
+  pub opened-plain : (a : Reader (Retrying R)) (start : IsStart layout a) (chosen : Option ColumnIndices) (o : Option (List ℕ))
       → unread remaining a ≡ option_map strip_bom o → places_in layout f ≡ Some (chosen_places chosen)
       → Opens remaining (option_map (text_parts layout) o) (Some (record { rows = a; chosen = chosen }))
   opened-plain a start chosen None source places = tt

@@ -25,7 +25,7 @@ use Rattle.hh_records.specs.declared.records.RecordFault.TheVariants as fault
 use Rattle.hh_records.specs.Layouts.{ChoiceRefused, IsPlain, IsStart, OpenRefused, Opens, PartsRefused, RowsRefused, added, adding_next, adds, between, choice_fault, chosen_places, delimited, gathered, headed_parts, items_after, joined, names_columns, parts_at, places_in, texts_parts}
 use Rattle.hh_records.specs.declared.layout.ChoiceFault.{ChoiceFault}
 use Rattle.hh_records.specs.declared.layout.ChoiceFault.TheVariants as choice
-use Rattle.hh_records.specs.declared.layout.Chosen.{Chosen}
+use Rattle.hh_records.specs.declared.layout.ColumnIndices.{ColumnIndices}
 use Rattle.hh_records.specs.declared.layout.Layout.{Layout}
 use Rattle.hh_records.specs.declared.retrying.Retrying.{Retrying}
 use Rattle.hh_records.specs.Laws.{PlainLayoutsReadStreams}
@@ -370,7 +370,7 @@ module _ {R : Type 0} (remaining : R → Option (List ℕ)) (layout : Layout) (a
       ([], refl, rw (header-missed rem a b f (delimited layout.delimiter) y start.config start.start e r) refl)
 
   -- behind its header
-  pub opened-some : (chosen : Option Chosen) (o : Option (List ℕ)) → source_of rem a ≡ o → ReadRecord rem a b true f
+  pub opened-some : (chosen : Option ColumnIndices) (o : Option (List ℕ)) → source_of rem a ≡ o → ReadRecord rem a b true f
       → places_in layout f ≡ Some (chosen_places chosen)
       → Opens remaining (option_map parts o) (Some (record { rows = b; chosen = chosen }))
   opened-some chosen None e r places = tt

@@ -18,7 +18,7 @@ use Rattle.hh_records.specs.Decimals.{units_of}
 use Rattle.hh_records.specs.Streams.{Fields, Known, Parts, Reading, ReadsAs, item_of_key, parts_of}
 use Rattle.hh_records.specs.declared.layout.ChoiceFault.{ChoiceFault}
 use Rattle.hh_records.specs.declared.layout.ChoiceFault.TheVariants as choice
-use Rattle.hh_records.specs.declared.layout.Chosen.{Chosen}
+use Rattle.hh_records.specs.declared.layout.ColumnIndices.{ColumnIndices}
 use Rattle.hh_records.specs.declared.layout.Column.{Column}
 use Rattle.hh_records.specs.declared.layout.Column.TheVariants as column
 use Rattle.hh_records.specs.declared.layout.Layout.{Layout}
@@ -39,7 +39,7 @@ use Rattle.hh_faults.specs.declared.records.TextError.TheVariants as text
 abbrev pub Places : Type 0
 Places = Option (List ℕ × Option ℕ)
 
-abbrev pub chosen_places : Option Chosen → Places
+abbrev pub chosen_places : Option ColumnIndices → Places
 chosen_places chosen = option_map (λ c. (c.key.items, c.weight)) chosen
 
 -- what f gives of each, where it gives something of all

@@ -98,7 +98,7 @@ pub fn column_of(alloc: Global, word: &[u8], has_header: bool) -> Result<Option<
 
 /// The places of the columns that a layout chooses, from 0 on.
 #[derive(Drop)]
-pub struct Chosen {
+pub struct ColumnIndices {
     pub key: Vec<usize>,
     pub weight: Option<usize>,
 }
@@ -183,7 +183,7 @@ pub(crate) fn choose(
     alloc: Global,
     layout: &Layout,
     header: &ByteRecord,
-) -> Result<Option<Chosen>, ChoiceFault>
+) -> Result<Option<ColumnIndices>, ChoiceFault>
     ensures chosen { IfOk result (λ chosen.
         places_in layout.now (fields_of header.now) ≡ Some (chosen_places chosen)) }
     ensures refused { IfErr result (λ fault.
@@ -200,7 +200,7 @@ pub(crate) fn choose(
         },
     };
     match key_places(alloc, header, layout.key.as_slice()) {
-        Ok(Some(key)) => Ok(Some(Chosen { key, weight })),
+        Ok(Some(key)) => Ok(Some(ColumnIndices { key, weight })),
         Ok(None) => Err(ChoiceFault::NoColumn),
         Err(AllocError) => Err(ChoiceFault::Memory),
     }

@@ -12,7 +12,7 @@ ghost use Rattle.hh_records.specs.Streams.{fault_of, numbered_fault, parts_of, R
 ghost use Rattle.hh_records.specs.Taking.{TakesItems};
 
 use crate::decimals::{scaled, units_in};
-use crate::layout::{Chosen, Layout};
+use crate::layout::{ColumnIndices, Layout};
 use crate::retrying::Retrying;
 use crate::texts::{Records, Text, read_records};
 use csv::{ByteRecord, ErrorKind, Reader, WriterBuilder};
@@ -173,7 +173,7 @@ fn take_chosen<T: TakeItems>(
     alloc: Global,
     taker: &mut T,
     row: &ByteRecord,
-    chosen: &Chosen,
+    chosen: &ColumnIndices,
     layout: &Layout,
 ) -> Result<(), RecordFault>
     requires bounded { T.weight_taken taker.old ≤ max_total }
@@ -207,7 +207,7 @@ fn take_record<T: TakeItems>(
     alloc: Global,
     taker: &mut T,
     row: &ByteRecord,
-    chosen: &Option<Chosen>,
+    chosen: &Option<ColumnIndices>,
     layout: &Layout,
 ) -> Result<(), RecordFault>
     requires bounded { T.weight_taken taker.old ≤ max_total }
@@ -260,7 +260,7 @@ pub(crate) fn fault_of(fault: &ErrorKind) -> ReadError
 fn take_rows<R: Read, T: TakeItems>(
     alloc: Global,
     rows: &mut Reader<Retrying<R>>,
-    chosen: &Option<Chosen>,
+    chosen: &Option<ColumnIndices>,
     before: u64,
     taker: &mut T,
     layout: &Layout,

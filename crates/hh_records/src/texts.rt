@@ -16,7 +16,7 @@ ghost use Rattle.hh_records.specs.Streams.{Known, text_known};
 ghost use Rattle.hh_records.specs.Taking.{TakesItems};
 
 use crate::laws::plain_layouts_read_streams;
-use crate::layout::{ChoiceFault, Chosen, Layout, choose};
+use crate::layout::{ChoiceFault, ColumnIndices, Layout, choose};
 use crate::records::{fault_of, read_rows};
 use crate::retrying::Retrying;
 use csv::{ByteRecord, Reader, ReaderBuilder};
@@ -40,7 +40,7 @@ impl From<ChoiceFault> for TextError {
 #[derive(Drop)]
 pub struct Text<R> {
     pub rows: Reader<Retrying<R>>,
-    pub chosen: Option<Chosen>,
+    pub chosen: Option<ColumnIndices>,
 }
 
 /// A reader of the records of a text, at its start.
@@ -61,7 +61,7 @@ fn behind_header<R: Read>(
     alloc: Global,
     rows: &mut Reader<Retrying<R>>,
     layout: &Layout,
-) -> Result<Option<Option<Chosen>>, TextError>
+) -> Result<Option<Option<ColumnIndices>>, TextError>
     requires start { IsStart layout.now rows.old }
     requires headed { layout.now.has_header ≡ true }
     ensures text { IfOk result (λ found. IfSome found (λ chosen.

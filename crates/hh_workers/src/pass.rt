@@ -14,7 +14,7 @@ use std::alloc::{AllocError, Global};
 
 /// What every pass works on: pieces, and the gate that hears of each.
 #[derive(Drop)]
-pub struct Work<'a, P, G> {
+pub struct PassContext<'a, P, G> {
     pub alloc: Global,
     pub pieces: &'a P,
     pub gate: &'a G,
@@ -23,18 +23,18 @@ pub struct Work<'a, P, G> {
 /// A pass over pieces, of which each worker makes something of its own.
 pub trait Pass {
     /// What is made of pieces.
-    type Made: Send + Drop;
+    type Local: Send + Drop;
     /// What a worker hands over beside its seat.
-    type Kept: Send + Drop + 'static;
+    type Partial: Send + Drop + 'static;
 
     /// How many pieces there are.
     ghost pieces: { Self → ℕ };
     /// How many cells the sums have.
     ghost cells: { Self → ℕ };
     /// What was made of the pieces with these numbers, one after the other.
-    ghost is_made: { Self → List ℕ → Self.Made → Type 0 };
+    ghost is_made: { Self → List ℕ → Self.Local → Type 0 };
     /// What the joined seat of workers and what they kept say of the pieces that they claimed.
-    ghost all_done: { Self → Holding → Self.Kept → Type 0 };
+    ghost all_done: { Self → Holding → Self.Partial → Type 0 };
     /// What is known where a piece was refused, or the weights of all are too large.
     ghost may_refuse: { Self → Type 0 };
 
@@ -43,11 +43,11 @@ pub trait Pass {
         ensures { result ≡ pieces self.now };
 
     /// What is made of no piece.
-    fn begin(&self) -> Result<Self::Made, AllocError>
+    fn begin(&self) -> Result<Self::Local, AllocError>
         ensures { IfOk result (is_made self.now []) };
 
     /// Takes one more piece, of which the gate hears first.
-    fn take(&self, made: Self::Made, worker: u64, piece: usize) -> Result<Self::Made, PieceFault>
+    fn take(&self, made: Self::Local, worker: u64, piece: usize) -> Result<Self::Local, PieceFault>
         requires { piece < pieces self.now }
         ensures more { IfOk result (λ more. (numbers : List ℕ)
             → IsDistinctBelow (pieces self.now) (numbers ++ piece ∷ [])
@@ -57,7 +57,7 @@ pub trait Pass {
             → is_made self.now numbers made → may_refuse self.now };
 
     /// Adds what a worker made of its pieces to the sums, and gives what it keeps.
-    fn hand_over(&self, sums: &SharedSums, seat: &mut SumSeat, made: Self::Made) -> Self::Kept
+    fn finish(&self, sums: &SharedSums, seat: &mut SumSeat, made: Self::Local) -> Self::Partial
         requires seat { seat.old.sums ≡ sums.now }
         requires fits { AreSumsFor (pieces self.now) (cells self.now) sums.now }
         requires tried { HasTriedUpTo (pieces self.now) (pieces self.now) seat.old }
@@ -66,7 +66,7 @@ pub trait Pass {
         ensures done { all_done self.now seat.new result };
 
     /// What two workers kept, for their joined seats, which had no claim in common.
-    fn together(&self, one: Self::Kept, other: Self::Kept) -> Result<Self::Kept, PieceFault>
+    fn merge(&self, one: Self::Partial, other: Self::Partial) -> Result<Self::Partial, PieceFault>
         ensures both { IfOk result (λ both. (a b : Holding) → AreDisjoint a.claims b.claims
             → all_done self.now a one → all_done self.now b other
             → all_done self.now (seat_of_both a b) both) }
@@ -82,7 +82,7 @@ pub fn run_worker<P: Pass>(
     sums: &SharedSums,
     mut seat: SumSeat,
     worker: u64,
-) -> Result<(SumSeat, P::Kept), PieceFault>
+) -> Result<(SumSeat, P::Partial), PieceFault>
     requires fits { AreSumsFor (P.pieces pass.now) (P.cells pass.now) sums.now }
     requires seat { seat ≡ fresh sums.now }
     ensures sums { IfOk result (λ r. r.0.sums ≡ sums.now) }
@@ -97,13 +97,13 @@ pub fn run_worker<P: Pass>(
         }
         made = pass.take(made, worker, piece)?;
     }
-    let kept = pass.hand_over(sums, &mut seat, made);
+    let kept = pass.finish(sums, &mut seat, made);
     Ok((seat, kept))
 }
 
 /// What is made of all pieces by the calling thread, without sums. `workers` is what the gate
 /// hears.
-pub fn run_alone<P: Pass>(pass: &P, workers: u64) -> Result<P::Made, PieceFault>
+pub fn run_sequentially<P: Pass>(pass: &P, workers: u64) -> Result<P::Local, PieceFault>
     ensures made { IfOk result (λ made. (numbers : List ℕ)
         × HasEach (P.pieces pass.now) numbers × P.is_made pass.now numbers made) }
     ensures refused { IsErrOf result PieceFault.Refused → P.may_refuse pass.now }

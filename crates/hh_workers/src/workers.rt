@@ -6,7 +6,7 @@ ghost use Rattle.hh_shared.specs.Seats.{Holding, fresh, max_cells, max_claims, s
 ghost use Rattle.hh_workers.specs.Workers.{AreDone, AreSumsFor, BringBack, CanRun, HasEach};
 ghost use Rattle.hh_workers.specs.Workers.{max_workers};
 
-use crate::pass::{Pass, run_alone, run_worker};
+use crate::pass::{Pass, run_sequentially, run_worker};
 use hh_shared::{SharedSums, SumSeat};
 use hh_stream::PieceFault;
 use std::alloc::Global;
@@ -25,7 +25,7 @@ pub struct Promised<P: Pass> {
     pass: Snapshot<P>,
 }
 
-impl<P: Pass> Promise<Result<(SumSeat, P::Kept), PieceFault>> for Promised<P> {
+impl<P: Pass> Promise<Result<(SumSeat, P::Partial), PieceFault>> for Promised<P> {
     ghost kept_by = { λ p r. BringBack (P.all_done p.pass.value) (P.may_refuse p.pass.value)
         p.sums.value r };
 }
@@ -35,9 +35,9 @@ impl<P: Pass> Promise<Result<(SumSeat, P::Kept), PieceFault>> for Promised<P> {
 fn join_halves<P: Pass>(
     sums: &SharedSums,
     pass: &P,
-    one: Result<(SumSeat, P::Kept), PieceFault>,
-    other: Result<(SumSeat, P::Kept), PieceFault>,
-) -> Result<(SumSeat, P::Kept), PieceFault>
+    one: Result<(SumSeat, P::Partial), PieceFault>,
+    other: Result<(SumSeat, P::Partial), PieceFault>,
+) -> Result<(SumSeat, P::Partial), PieceFault>
     requires one { BringBack (P.all_done pass.now) (P.may_refuse pass.now) sums.now one }
     requires other { BringBack (P.all_done pass.now) (P.may_refuse pass.now) sums.now other }
     ensures joined { IfOk one (λ a. IfOk other (λ b.
@@ -47,7 +47,7 @@ fn join_halves<P: Pass>(
     let (mut seat, kept) = one?;
     let (half, rest) = other?;
     sums.join(&mut seat, half);
-    let both = pass.together(kept, rest)?;
+    let both = pass.merge(kept, rest)?;
     Ok((seat, both))
 }
 
@@ -61,7 +61,7 @@ fn run_workers<R: Threads + Wait + Sync, P: Pass + Sync>(
     pass: &P,
     first: u64,
     count: u64,
-) -> Result<(SumSeat, P::Kept), PieceFault>
+) -> Result<(SumSeat, P::Partial), PieceFault>
     requires count { 0 < count }
     requires numbers { first + count < 2 ^ 64 }
     requires fits { AreSumsFor (P.pieces pass.now) (P.cells pass.now) sums.now }
@@ -86,7 +86,7 @@ fn run_apart<R: Threads + Wait + Sync, P: Pass + Sync>(
     first: u64,
     there: u64,
     here: u64,
-) -> Result<(SumSeat, P::Kept), PieceFault>
+) -> Result<(SumSeat, P::Partial), PieceFault>
     requires some { 0 < there }
     requires numbers { first + there + here < 2 ^ 64 }
     requires fits { AreSumsFor (P.pieces pass.now) (P.cells pass.now) sums.now }
@@ -98,9 +98,9 @@ fn run_apart<R: Threads + Wait + Sync, P: Pass + Sync>(
     thread::scope(
         thread::scope_env(),
         rt,
-        move |scope| -> Result<(SumSeat, P::Kept), PieceFault>
+        move |scope| -> Result<(SumSeat, P::Partial), PieceFault>
             requires { let fits = AreSumsFor (P.pieces pass.now) (P.cells pass.now) sums.now in
-                let can = CanRun R.row P.row P.Kept.row fits sums.now in
+                let can = CanRun R.row P.row P.Partial.row fits sums.now in
                 can seat first there × (0 < here → can half next here) }
             ensures { BringBack (P.all_done pass.entry.now) (P.may_refuse pass.entry.now)
                 sums.entry.now result }
@@ -109,8 +109,8 @@ fn run_apart<R: Threads + Wait + Sync, P: Pass + Sync>(
                 sums: Snapshot::of(sums),
                 pass: Snapshot::of(pass),
             };
-            let front = move || -> Result<(SumSeat, P::Kept), PieceFault>
-                requires { CanRun R.row P.row P.Kept.row
+            let front = move || -> Result<(SumSeat, P::Partial), PieceFault>
+                requires { CanRun R.row P.row P.Partial.row
                     (AreSumsFor (P.pieces pass.now) (P.cells pass.now) sums.now)
                     sums.now seat first there }
                 ensures { BringBack (P.all_done pass.entry.now) (P.may_refuse pass.entry.now)
@@ -136,7 +136,7 @@ pub fn share_work<R: Threads + Wait + Sync, P: Pass + Sync>(
     pass: &P,
     cells: usize,
     workers: u64,
-) -> Result<Option<(Vec<u64>, P::Kept)>, PieceFault>
+) -> Result<Option<(Vec<u64>, P::Partial)>, PieceFault>
     requires some { 0 < P.pieces pass.now }
     requires few { P.pieces pass.now ≤ max_claims }
     requires cells { cells ≡ P.cells pass.now }
@@ -157,7 +157,7 @@ pub fn share_work<R: Threads + Wait + Sync, P: Pass + Sync>(
 /// What is made of all pieces, in a pass whose workers keep what they made: what [`share_work`]
 /// found, or where that is nothing what the calling thread makes alone. `workers` is what the gate
 /// hears then.
-pub fn found_or_made<T: Send + Drop + 'static, P: Pass<Made = T, Kept = T>>(
+pub fn found_or_made<T: Send + Drop + 'static, P: Pass<Local = T, Partial = T>>(
     pass: &P,
     found: Option<(Vec<u64>, T)>,
     workers: u64,
@@ -172,6 +172,6 @@ pub fn found_or_made<T: Send + Drop + 'static, P: Pass<Made = T, Kept = T>>(
 {
     match found {
         Some((_, made)) => Ok(made),
-        None => run_alone(pass, workers),
+        None => run_sequentially(pass, workers),
     }
 }

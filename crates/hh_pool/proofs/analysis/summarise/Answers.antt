@@ -9,7 +9,7 @@ use Rattle.hh_pool.proofs.analysis.summarise.Goals as goal
 
 pub in_order-requires : goal.in_order-requires
 in_order-requires g c known =
-    let pieces = g.P.Pieces.pieces c.args.work.now.pieces.now in
+    let pieces = g.P.Pieces.pieces c.args.context.now.pieces.now in
     let shared = rw c.in-Some.is at c.in_ok-cells.ensures.done in
     each_summary c.args.options.now.k pieces shared.seat.claims _ (shared.done.1 known).0.summaries shared.each
 
@@ -21,7 +21,7 @@ cells-of settings e d f w = e ∙ (λ i. (d ∙ ap (λ (f : Coefficients). lengt
 
 pub returns-in_err-table_of_cells-in-Some-clause-refused : goal.returns-in_err-table_of_cells-in-Some-clause-refused
 returns-in_err-table_of_cells-in-Some-clause-refused g c is known =
-    let pieces = g.P.Pieces.pieces c.args.work.now.pieces.now in
+    let pieces = g.P.Pieces.pieces c.args.context.now.pieces.now in
     let options = c.args.options.now in
     let shared = rw c.in-Some.is at c.in_ok-cells.ensures.done in
     let done = shared.done.1 known in
@@ -33,7 +33,7 @@ returns-in_err-table_of_cells-in-Some-clause-refused g c is known =
 
 pub returns-in_ok-table_of_cells-in-Some-clause-table : goal.returns-in_ok-table_of_cells-in-Some-clause-table
 returns-in_ok-table_of_cells-in-Some-clause-table g c = λ known.
-    let pieces = g.P.Pieces.pieces c.args.work.now.pieces.now in
+    let pieces = g.P.Pieces.pieces c.args.context.now.pieces.now in
     let options = c.args.options.now in
     let shared = rw c.in-Some.is at c.in_ok-cells.ensures.done in
     let size = cells-of options shared.len c.depth.ensures.depth c.family.ensures.family c.width.ensures.width in
@@ -48,7 +48,7 @@ returns-in_ok-table_of_cells-in-Some-clause-table g c = λ known.
 
 pub returns-in_ok-table_of_cells-in-Some-clause-count : goal.returns-in_ok-table_of_cells-in-Some-clause-count
 returns-in_ok-table_of_cells-in-Some-clause-count g c =
-    let pieces = g.P.Pieces.pieces c.args.work.now.pieces.now in
+    let pieces = g.P.Pieces.pieces c.args.context.now.pieces.now in
     let shared = rw c.in-Some.is at c.in_ok-cells.ensures.done in
     let all = all-length (length pieces) shared.seat.claims shared.each.distinct shared.each.all in
     omega (arith, all, c.in_ok-summaries-in-Some.ensures.count, shared.done.0)

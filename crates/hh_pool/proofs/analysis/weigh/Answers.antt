@@ -7,7 +7,7 @@ use Rattle.hh_pool.proofs.analysis.weigh.Goals as goal
 
 pub returns-in-Some-clause-weights : goal.returns-in-Some-clause-weights
 returns-in-Some-clause-weights g c = λ known.
-    let pieces = g.P.Pieces.pieces c.args.work.now.pieces.now in
+    let pieces = g.P.Pieces.pieces c.args.context.now.pieces.now in
     let done = rw c.in-Some.is at c.in_ok-weighed.ensures.done in
     let each = done.each in
     let fits : 0 < length c.args.candidates.now → total_of (whole_of pieces) ≤ max_total = λ some. omega
@@ -18,7 +18,7 @@ returns-in-Some-clause-weights g c = λ known.
 
 pub returns-in-Some-clause-total : goal.returns-in-Some-clause-total
 returns-in-Some-clause-total g c = λ known some.
-    let pieces = g.P.Pieces.pieces c.args.work.now.pieces.now in
+    let pieces = g.P.Pieces.pieces c.args.context.now.pieces.now in
     let done = rw c.in-Some.is at c.in_ok-weighed.ensures.done in
     (done.done.1 known).1.whole some
     ∙ sum_by-all_items (λ (e : Entry). e.1) pieces done.seat.claims done.each.distinct done.each.all

@@ -8,9 +8,9 @@ use Rattle.hh_pool.proofs.tallying.tally.Goals as goal
 
 pub returns-clause-bounds : goal.returns-clause-bounds
 returns-clause-bounds g c =
-    let work = c.args.work.now.pieces.now in
-    let pieces = g.P.Pieces.pieces work in
-    IfOk-weaker _ _ (λ (t : TallyView). g.P.Pieces.known work → AreBounds t (whole_of pieces))
+    let context = c.args.context.now.pieces.now in
+    let pieces = g.P.Pieces.pieces context in
+    IfOk-weaker _ _ (λ (t : TallyView). g.P.Pieces.known context → AreBounds t (whole_of pieces))
     (λ t made known.
     let (numbers, each, is) = made in
     whole_bounds c.tallies_bound_weights.ensures.order pieces numbers t each (is.2 known).bounds)
@@ -18,8 +18,8 @@ returns-clause-bounds g c =
 
 pub returns-clause-read : goal.returns-clause-read
 returns-clause-read g c =
-    let work = c.args.work.now.pieces.now in
-    let pieces = g.P.Pieces.pieces work in
-    ok_tells {Q = g.P.Pieces.known work → AreRead (g.P.Pieces.reads work) pieces} _ _ (λ t made known i low.
+    let context = c.args.context.now.pieces.now in
+    let pieces = g.P.Pieces.pieces context in
+    ok_tells {Q = g.P.Pieces.known context → AreRead (g.P.Pieces.reads context) pieces} _ _ (λ t made known i low.
     let (numbers, each, is) = made in
     (is.2 known).taken.read i (each.all.has i low)) c.found_or_made.ensures.made

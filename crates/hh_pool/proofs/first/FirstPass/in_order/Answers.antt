@@ -30,7 +30,7 @@ loop-summary-preserved g c =
 pub returns-clause-summaries : goal.returns-clause-summaries
 returns-clause-summaries g c = λ known.
     let k = c.args.self.now.options.now.k in
-    let pieces = g.P.Pieces.pieces c.args.self.now.work.now.pieces.now in
+    let pieces = g.P.Pieces.pieces c.args.self.now.context.now.pieces.now in
     let ours = c.requires known in
     let none = nil_from_length c.loop-summary.summary-iterator.rest.items
     (omega (arith, c.in-None.ensures.steps.0, c.loop-summary.summary-iterator.rest.ok)) in

@@ -10,11 +10,11 @@ use Rattle.hh_pool.proofs.first.FirstPassPass.take.Goals as goal
 
 pub returns-in_err-summary-clause-refused : goal.returns-in_err-summary-clause-refused
 returns-in_err-summary-clause-refused g c is numbers distinct made known =
-    let work = c.args.self.now.work.now.pieces.now in
-    let pieces = g.P.Pieces.pieces work in
+    let context = c.args.self.now.context.now.pieces.now in
+    let pieces = g.P.Pieces.pieces context in
     let total = ap (λ (t : TableView). t.total) (made.1 known).table in
     let refused : IsErrOf c.summarise.result fault.Refused = search rules in
-    next_refused (g.P.Pieces.refuses work) pieces c.args.piece (total_of (items_at pieces numbers)) c.args.made.table.total
+    next_refused (g.P.Pieces.refuses context) pieces c.args.piece (total_of (items_at pieces numbers)) c.args.made.table.total
     c.requires (more_total pieces numbers c.args.piece distinct) (omega (arith, total))
     (c.summarise.ensures.refused refused known)
 
@@ -23,8 +23,8 @@ returns-clause-more g c numbers distinct made =
     let summarised = c.in_ok-summary.ensures.summarised in (
       holds_more _ _ _ _ _ _ _ _ _ c.in-Ok.ensures.items made.0 summarised,
       λ known.
-          let work = c.args.self.now.work.now.pieces.now in
-          let pieces = g.P.Pieces.pieces work in
+          let context = c.args.self.now.context.now.pieces.now in
+          let pieces = g.P.Pieces.pieces context in
           let options = c.args.self.now.options.now in
           let before = items_at pieces numbers in
           let kept = c.in-Ok.ensures.items
@@ -32,7 +32,7 @@ returns-clause-more g c numbers distinct made =
           (summarised.summary ∙ ap (sketch_of options.k) (summarised.given known)) in
           let table = summarised.table options.family options.width before (made.1 known).table
           ∙ ap (λ xs. table_of options.family options.width (before ++ xs)) (summarised.given known) in
-          first_more (g.P.Pieces.reads work) pieces options numbers c.args.piece _ _ _ _ (c.in_ok-summary.ensures.reads known)
+          first_more (g.P.Pieces.reads context) pieces options numbers c.args.piece _ _ _ _ (c.in_ok-summary.ensures.reads known)
           kept table (made.1 known),
     )
 

@@ -7,7 +7,7 @@ use Rattle.hh_pool.proofs.second.SecondPass.count_piece.Goals as goal
 
 pub returns-then-is_empty-clause-counted : goal.returns-then-is_empty-clause-counted
 returns-then-is_empty-clause-counted g c =
-    let pieces = g.P.Pieces.pieces c.args.self.now.work.now.pieces.now in
+    let pieces = g.P.Pieces.pieces c.args.self.now.context.now.pieces.now in
     let keys = c.args.self.now.candidates.now in
     let none : length keys ≡ 0 = grind (arith, nat_tests) in
     record {

@@ -1,6 +1,6 @@
 use Rattle.std.proofs.Common.{rules, IsErr}
 use Rattle.hh_pool.proofs.Tried.{counted_joined, counted_too_much, second_joined}
-use Rattle.hh_pool.proofs.second.SecondPassPass.together.Goals as goal
+use Rattle.hh_pool.proofs.second.SecondPassPass.merge.Goals as goal
 
 pub returns-clause-both : goal.returns-clause-both
 returns-clause-both g c a b apart p q = (

@@ -2,7 +2,7 @@ use Rattle.std.proofs.Common.{◌≡◌, ◌∙◌, ap, arith, rules, IsErr}
 use Rattle.hh_tally.specs.Tallies.{TallyView, merged_tally}
 use Rattle.hh_pool.proofs.TallyFacts.{some_joined, tally_joined}
 use Rattle.hh_pool.proofs.Tried.{taken_too_much}
-use Rattle.hh_pool.proofs.tallying.TallyPassPass.together.Goals as goal
+use Rattle.hh_pool.proofs.tallying.TallyPassPass.merge.Goals as goal
 
 pub returns-in_err-sum_of_totals-clause-refused : goal.returns-in_err-sum_of_totals-clause-refused
 returns-in_err-sum_of_totals-clause-refused g c is a b apart p q known =
@@ -16,8 +16,8 @@ returns-clause-both g c a b apart p q =
       ap (λ (t : TallyView). t.room) is ∙ p.0,
       some_joined c.tallies_bound_weights.ensures.merge c.args.one c.args.other c.in_ok-both.both is p.1 q.1,
       λ known.
-          let work = c.args.self.now.work.now.pieces.now in
-          tally_joined (g.P.Pieces.reads work) (g.P.Pieces.pieces work) c.tallies_bound_weights.ensures.merge
+          let context = c.args.self.now.context.now.pieces.now in
+          tally_joined (g.P.Pieces.reads context) (g.P.Pieces.pieces context) c.tallies_bound_weights.ensures.merge
           a.claims b.claims c.args.one c.args.other c.in_ok-both.both is
           (omega (
             arith,

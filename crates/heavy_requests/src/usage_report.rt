@@ -8,7 +8,7 @@ use std::alloc::{AllocError, Global};
 
 /// The error of `clap`, and what is known of the words.
 #[derive(Drop)]
-pub struct Told {
+pub struct UsageReport {
     pub error: Error,
     /// Whether a fault has a second line.
     pub explains: bool,
@@ -18,7 +18,7 @@ pub struct Told {
     takes_keys: bool,
 }
 
-impl Told {
+impl UsageReport {
     /// Splits the text of the error around the tip that an unknown letter be given as a value,
     /// which serves a command with keys alone. Where there is none, all of it comes first.
     pub fn without_tip<'a>(&self, text: &'a str) -> (&'a str, &'a str) {
@@ -94,7 +94,11 @@ fn error_of(alloc: Global, words: &[Vec<u8>], error: Error) -> Result<Error, All
 
 /// Collects what is printed of `words`, the first of which is the program's name, where `clap` gave
 /// this `error`.
-pub fn told_of(alloc: Global, words: &[Vec<u8>], error: Error) -> Result<Told, AllocError> {
+pub fn usage_report_of(
+    alloc: Global,
+    words: &[Vec<u8>],
+    error: Error,
+) -> Result<UsageReport, AllocError> {
     let words = words.get(1..).unwrap_or(words);
     let name = match words.first() {
         Some(name) => name.as_slice(),
@@ -102,7 +106,7 @@ pub fn told_of(alloc: Global, words: &[Vec<u8>], error: Error) -> Result<Told, A
     };
     let passes = name == b"condense".as_slice() || name == b"confirm".as_slice();
     let is_unknown = matches!(error.kind(), ErrorKind::UnknownArgument);
-    Ok(Told {
+    Ok(UsageReport {
         error: error_of(alloc, words, error)?,
         explains: has_option(words, b"--explain"),
         gives_k: passes && is_unknown && (has_option(words, b"--k") || has_letter(words, b"-k")),

@@ -1,7 +1,7 @@
 use Rattle.std.proofs.Common.{◌++◌, ◌∷◌, [], arith, rules, IsErrOf}
 use Rattle.hh_stream.specs.declared.taking.PieceFault.TheVariants as fault
 use Rattle.hh_workers.proofs.ClaimFacts.{distinct_below, each_more}
-use Rattle.hh_workers.proofs.pass.run_alone.Goals as goal
+use Rattle.hh_workers.proofs.pass.run_sequentially.Goals as goal
 
 pub returns-in_err-made-2-clause-refused : goal.returns-in_err-made-2-clause-refused
 returns-in_err-made-2-clause-refused g c is =

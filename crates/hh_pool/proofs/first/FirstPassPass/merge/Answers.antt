@@ -1,6 +1,6 @@
 use Rattle.std.proofs.Common.{ap, arith, length, length-append, rules, IsErr}
 use Rattle.hh_pool.proofs.Tried.{first_joined, taken_joined, taken_too_much}
-use Rattle.hh_pool.proofs.first.FirstPassPass.together.Goals as goal
+use Rattle.hh_pool.proofs.first.FirstPassPass.merge.Goals as goal
 
 pub returns-in_err-one-clause-refused : goal.returns-in_err-one-clause-refused
 returns-in_err-one-clause-refused g c is a b apart p q known =

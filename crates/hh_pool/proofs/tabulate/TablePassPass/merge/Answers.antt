@@ -2,7 +2,7 @@ use Rattle.std.proofs.Common.{arith, rules, IsErrOf}
 use Rattle.hh_countmin.specs.declared.table.MergeFault.TheVariants as fault
 use Rattle.hh_pool.proofs.TableFacts.{both_tables, tabulated_joined}
 use Rattle.hh_pool.proofs.Tried.{taken_too_much}
-use Rattle.hh_pool.proofs.tabulate.TablePassPass.together.Goals as goal
+use Rattle.hh_pool.proofs.tabulate.TablePassPass.merge.Goals as goal
 
 pub returns-in-Ok-clause-both : goal.returns-in-Ok-clause-both
 returns-in-Ok-clause-both g c a b apart p q =

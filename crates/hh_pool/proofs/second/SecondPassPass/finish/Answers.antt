@@ -2,7 +2,7 @@ use Rattle.std.proofs.Common.{◌+◌, ◌∙◌, get_or, ap, arith}
 use Rattle.hh_shared.specs.Tally.{cell_total}
 use Rattle.hh_pool.proofs.Tried.{second_counted, second_ends}
 use Rattle.hh_pool.proofs.Held.{claim-behind_number}
-use Rattle.hh_pool.proofs.second.SecondPassPass.hand_over.Goals as goal
+use Rattle.hh_pool.proofs.second.SecondPassPass.finish.Goals as goal
 
 pub add_numbers-requires-clause-holds_a_claim : goal.add_numbers-requires-clause-holds_a_claim
 add_numbers-requires-clause-holds_a_claim g c cell some =
@@ -11,7 +11,7 @@ add_numbers-requires-clause-holds_a_claim g c cell some =
 
 pub returns-clause-done : goal.returns-clause-done
 returns-clause-done g c =
-    let pieces = g.P.Pieces.pieces c.args.self.now.work.now.pieces.now in
+    let pieces = g.P.Pieces.pieces c.args.self.now.context.now.pieces.now in
     let keys = c.args.self.now.candidates.now in
     let seat = c.args.seat.now in
     let unchanged = c.add_numbers.ensures.unchanged in (
