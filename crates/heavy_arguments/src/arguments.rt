@@ -19,10 +19,10 @@ use std::alloc::{AllocError, Global};
 /// The program's version.
 const VERSION: &str = "1.0.0";
 
-/// The option that tells how far the input is read.
+/// The option that shows how far the input is read.
 pub const PROGRESS: &str = "progress";
 
-/// The option that tells more about a fault.
+/// The option that explains a fault.
 pub const EXPLAIN: &str = "explain";
 
 /// The option that says how many rows are printed.
@@ -127,7 +127,7 @@ pub(crate) struct Group {
     arguments: &'static [Argument],
 }
 
-/// What `clap` is told of a command.
+/// What `clap` knows of a command.
 pub(crate) struct CommandWords {
     name: &'static str,
     help: &'static Help,
@@ -135,14 +135,14 @@ pub(crate) struct CommandWords {
     groups: &'static [Group],
 }
 
-/// The option that tells more about a fault.
+/// The option that explains a fault.
 const EXPLAIN_FLAG: Argument = Argument::Given(
     Kind::LastFlag,
     EXPLAIN,
     "Say more about a fault, in a second line, as is done on a terminal",
 );
 
-/// The option that tells how far the input is read.
+/// The option that shows how far the input is read.
 const PROGRESS_FLAG: Argument = Argument::Given(
     Kind::LastFlag,
     PROGRESS,
@@ -450,7 +450,7 @@ fn program<'a>(alloc: Global) -> Built<'a>
         .bin_name("heavy")
 }
 
-/// The same command, with these commands of its own more.
+/// Adds commands of its own to a command.
 fn with_commands<'a>(alloc: Global, mut all: Command<'a>, commands: &[CommandWords]) -> Built<'a>
     requires { (fields_of all).has_globals ≡ false }
     ensures app { IsApp (fold with_subcommand (app_of all.entry)

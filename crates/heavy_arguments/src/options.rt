@@ -35,7 +35,7 @@ pub(crate) enum Kind {
     Share,
     /// An option that is given or not.
     Flag,
-    /// The same, below the command's own in help.
+    /// A flag that help lists after the command's own options.
     LastFlag,
     /// A word that has to be given.
     Word,
@@ -65,7 +65,7 @@ fn word<'a>(alloc: Global, name: &'a str, value: &'a str, help: &'a str) -> Arg<
     Arg::new(alloc, name).value_name(value).help(help)
 }
 
-/// The same, once or more.
+/// Takes a word once or more.
 fn several<'a>(word: Arg<'a>) -> Arg<'a>
     ensures rule { rule_of result ≡ record (rule_of word.entry) {
       action = Some Append;
@@ -96,7 +96,7 @@ fn flag<'a>(alloc: Global, name: &'a str, help: &'a str) -> Arg<'a>
 }
 
 impl Kind {
-    /// What `clap` is told of the argument with this name and help.
+    /// Makes the argument with this name and help for `clap`.
     fn to_arg<'a>(self, alloc: Global, name: &'a str, help: &'a str) -> Arg<'a>
         ensures rule { rule_of result ≡ rule_of_kind self name.now }
         ensures local { result.global ≡ false }
@@ -120,7 +120,7 @@ impl Kind {
 }
 
 impl Argument {
-    /// What `clap` is told of it.
+    /// Makes the argument for `clap`.
     pub(crate) fn to_arg<'a>(self, alloc: Global) -> Arg<'a>
         ensures rule { rule_of result ≡ rule_of_argument self }
         ensures local { result.global ≡ false }

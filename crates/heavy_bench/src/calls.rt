@@ -69,7 +69,7 @@ fn now(rt: &HostRuntime) -> Result<Instant, BenchFault> {
     }
 }
 
-/// The nanoseconds since the start, for each of so many steps.
+/// Divides the nanoseconds since `start` by `steps`.
 fn for_each(rt: &HostRuntime, start: Instant, steps: usize) -> Result<u128, BenchFault> {
     match start.elapsed(rt) {
         Ok(elapsed) => Ok(elapsed.as_nanos() / (steps.max(1) as u128)),

@@ -45,7 +45,7 @@ use std::io::Read;
 use std::sync::Wait;
 use std::thread::Threads;
 
-/// The exit status that a program tells a fault of records by.
+/// The exit status of a program after a fault of records.
 pub fn status_of_records(fault: TextError) -> u8
     ensures { result ≡ status_of (text_fault fault) }
 {

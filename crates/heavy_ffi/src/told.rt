@@ -1,4 +1,4 @@
-//! The text of a fault that was told in numbers.
+//! The text of a fault that is given in numbers.
 
 ghost use Rattle.std.specs.Prelude.{◌≡◌, ◌≢◌, ◌<◌, ◌≤◌, ◌⊎◌, IfSome, length};
 ghost use Rattle.heavy_ffi.specs.Faults.{cause_of, file_cause, key_cause, kind_of};
@@ -122,7 +122,7 @@ fn plain_of(kind: u32) -> Option<ToolError>
     }
 }
 
-/// The refusal of the program that a fault is, if it is one of those that calls tell.
+/// The program's refusal for a fault, if a call can give that fault.
 fn refusal_of(fault: &Fault) -> Option<ToolError>
     ensures { IfSome result (λ refusal. (kind_of refusal ≡ fault.now.kind)
         × (cause_of refusal ≡ fault.now.cause) × (number_of refusal ≡ fault.now.number)) }

@@ -98,7 +98,7 @@ impl<'a> Lab<'a> {
         self.say("memory", Said::Memory)
     }
 
-    /// The same, after so many calls of a gate.
+    /// Says that memory was refused after `calls` calls of a gate.
     pub fn refused_after(&self, calls: u64) -> Result<Said, Fail> {
         self.say(format_args!("memory after {calls}"), Said::Memory)
     }

@@ -1,4 +1,4 @@
-//! What is printed of a command line that asks for nothing.
+//! What is printed for a command line that asks for help, or is wrong.
 
 use clap::Error;
 use clap::error::ErrorKind;

@@ -35,7 +35,7 @@ impl Read for FailingReader<'_> {
     }
 }
 
-/// What a writer does: it takes at most so many bytes in all, and at most so many at a time, and
+/// What a writer does: it takes at most `left` bytes in all, and at most `at_once` at a time, and
 /// then fails or takes none. An interrupted one fails each other call.
 #[derive(Clone, Copy)]
 pub(crate) struct Manner {
@@ -47,7 +47,7 @@ pub(crate) struct Manner {
 }
 
 impl Manner {
-    /// A writer that takes so many bytes, and then fails.
+    /// A writer that takes `left` bytes, and then fails.
     pub(crate) fn taking(left: usize) -> Manner {
         Manner {
             left,
@@ -58,7 +58,7 @@ impl Manner {
         }
     }
 
-    /// A writer that takes so many bytes, and then none.
+    /// A writer that takes `left` bytes, and then none.
     pub(crate) fn taking_no_more_than(left: usize) -> Manner {
         let mut manner = Manner::taking(left);
         manner.fails = false;
@@ -79,7 +79,7 @@ impl Manner {
         manner
     }
 
-    /// The same writer, interrupted.
+    /// Makes the writer an interrupted one.
     pub(crate) fn interrupted(self) -> Manner {
         let mut manner = self;
         manner.is_interrupted = true;

@@ -137,7 +137,7 @@ fn report_of(
     (taken, fault, calls.load(Ordering::SeqCst))
 }
 
-/// The same, where it has to be refused with nothing written.
+/// Asserts that the report is refused, with nothing written.
 fn assert_refused(rt: &(impl Abort + AllocGlobal + Threads + Wait + Sync), course: Course) {
     let (taken, refusal, _) = report_of(rt, course);
     assert_same(rt, refusal, Some(ToolError::ReadFault));

@@ -37,7 +37,7 @@ fn report_of<R: Read + Drop>(
     (taken, fault)
 }
 
-/// The same of the records, where the read with a number fails; and how many reads there were.
+/// Reports the records, where the read with a number fails; and counts the reads.
 fn report_from(
     rt: &(impl Abort + AllocGlobal + Threads + Wait + Sync),
     fails_at: u64,

@@ -19,7 +19,7 @@ fn put_five(
     (taken, fault, failed)
 }
 
-/// Compares what a writer takes of five bytes with the first so many, and whether the sink fails.
+/// Compares what a writer takes of five bytes with the first `written`, and whether the sink fails.
 fn puts(rt: &(impl Abort + AllocGlobal), manner: Manner, written: u64, fails: bool) {
     let (taken, fault, failed) = put_five(rt, manner);
     assert!(rt; b"12345".starts_with(taken.as_slice()));

@@ -43,7 +43,7 @@ impl SharedKey {
         })
     }
 
-    /// The same key for one place more, with no copy of its bytes.
+    /// Shares the key with one more place, without a copy of its bytes.
     pub fn share(&self) -> Result<SharedKey, AllocError>
         ensures { IfOk result (λ shared. shared ≡ self.now) }
     {

@@ -22,7 +22,7 @@ use std::thread::Threads;
 /// [`condense_bytes_from`](hh_commands::condense_bytes_from) of files of any size, or other bytes
 /// that are read at any place. Workers read them in pieces, through a buffer each, and once.
 /// Nothing of a file is kept. Where a piece can't be read by itself, or a file's length changes
-/// meanwhile, one thread reads all files from their starts, so that the first refusal is told with
+/// meanwhile, one thread reads all files from their starts, so that the first refusal comes with
 /// its number.
 ///
 /// The saved file is tested first ([`ToolError::BadFile`], as file 1, and

@@ -23,7 +23,7 @@ use std::thread::Threads;
 /// [`confirm_rows`](hh_commands::confirm_rows) by files of any size, or other bytes that are read
 /// at any place. Workers read them in pieces, through a buffer each, and once. Nothing of a file is
 /// kept. Where a piece can't be read by itself, or a file's length changes meanwhile, one thread
-/// reads all files from their starts, so that the first refusal is told with its number.
+/// reads all files from their starts, so that the first refusal has its number.
 ///
 /// The saved file is tested first ([`ToolError::BadFile`], as file 1, and
 /// [`ToolError::NotCounters`]), then the share ([`ToolError::BadThreshold`]), then the workers, of

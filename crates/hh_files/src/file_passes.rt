@@ -125,7 +125,7 @@ fn counts_in_pieces<T: Threads + Wait + Sync, S: ReadAt + Sync>(
     counts_of_weights(alloc, summary, candidates, &weights, total, hash)
 }
 
-/// The same of any summary. Without keys there is no count, since then no piece is read.
+/// Counts the keys of any summary. Without keys there is no count, since then no piece is read.
 fn counts_side_by_side<T: Threads + Wait + Sync, S: ReadAt + Sync>(
     rt: &T,
     alloc: Global,

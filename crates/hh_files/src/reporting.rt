@@ -71,7 +71,7 @@ fn keys_side_by_side<T: Threads + Wait + Sync, S: ReadAt + Sync>(
     keys_of_pieces(rt, alloc, files, settings, records.layout.hash)
 }
 
-/// The same by one thread, which reads the files from their starts, twice.
+/// Makes the report by one thread, which reads the files from their starts, twice.
 fn keys_in_turn<R: ReadRecords + Copy>(
     alloc: Global,
     records: R,

@@ -87,7 +87,7 @@ fn table_of_sources<T: Threads + Wait + Sync, S: ReadAt + Sync>(
 /// are read at any place. Workers read them in pieces, through a buffer each, and once; each fills
 /// a table of its own, and these are merged. Nothing of a file is kept. Where a piece can't be read
 /// by itself, or a file's length changes meanwhile, one thread reads all files from their starts,
-/// so that the first refusal is told with its number.
+/// so that the first refusal has its number.
 ///
 /// The depth is tested first ([`ToolError::BadDepth`]), then the width ([`ToolError::BadWidth`]),
 /// then the workers, of whom there are 1 to 64 ([`ToolError::BadWorkers`]), and then come the

@@ -35,7 +35,7 @@ fn piece_fault(error: TextError) -> PieceFault
     }
 }
 
-/// The same columns, if any.
+/// Copies the columns, if any.
 fn copy_columns(alloc: Global, columns: Option<&Columns>) -> Result<Option<Columns>, AllocError>
     ensures { IfOk result (λ copy. copy ≡ option_map (λ c. c.now) columns.entry) }
 {
@@ -145,9 +145,8 @@ fn feed_window<R: Read, T: TakeItems>(
     Err(PieceFault::Refused)
 }
 
-/// Hands on the items of a piece that a reader has left, which has about so many bytes. Each of
-/// them is read once, into a buffer that gets longer only where a record is longer than it, up to
-/// [`MOST_HELD`] bytes.
+/// Hands on the items of a piece that a reader has left. Each of its bytes is read once, into a
+/// buffer that gets longer only where a record is longer than it, up to [`MOST_HELD`] bytes.
 pub(crate) fn feed_left<R: Read, T: TakeItems>(
     alloc: Global,
     layout: &Layout,

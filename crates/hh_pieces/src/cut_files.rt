@@ -94,7 +94,7 @@ fn find_feed<S: ReadAt>(source: &S, buffer: &mut [u8], from: u64) -> Option<u64>
     None
 }
 
-/// Cuts a source of so many bytes into spans of about this size.
+/// Cuts a source of `len` bytes into spans of about `size`.
 fn spans_of<S: ReadAt>(
     alloc: Global,
     source: &S,
@@ -186,7 +186,7 @@ fn add_source<S: ReadAt>(
     Ok(true)
 }
 
-/// The size of a piece where sources are cut into so many pieces, if their lengths are told.
+/// The size of a piece where sources of known lengths are cut into `count` pieces.
 fn piece_size<S: ReadAt>(sources: &[S], count: usize) -> Option<u64>
     ensures { IfSome result (λ size. 0 < size) }
 {
@@ -201,7 +201,7 @@ fn piece_size<S: ReadAt>(sources: &[S], count: usize) -> Option<u64>
     Some((all / spare).saturating_add(1).max(LEAST_LEN))
 }
 
-/// The pieces of sources with this layout, at most so many.
+/// The pieces of sources with this layout, at most `count`.
 fn pieces_of<S: ReadAt>(
     alloc: Global,
     layout: &Layout,
@@ -231,7 +231,7 @@ fn pieces_of<S: ReadAt>(
 }
 
 impl<'t, S: ReadAt> CutFiles<'t, S> {
-    /// Cuts files of records with this layout into so many pieces, the last of which may be empty.
+    /// Cuts files of records with this layout into `count` pieces, the last of which may be empty.
     /// Each gets pieces by its share of all bytes, and at least one; a cut stands before a line
     /// feed. There is no cut where the files are more than the pieces, where a file's columns
     /// aren't found in its first piece, or where it can't be read.

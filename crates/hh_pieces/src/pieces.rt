@@ -38,7 +38,7 @@ impl Model for Columns {
 }
 
 impl Columns {
-    // The same columns.
+    // Copies the columns.
     pub(crate) fn copy(&self, alloc: Global) -> Result<Columns, AllocError>
         ensures { IfOk result (λ copy. copy ≡ self.now) }
     {
@@ -62,7 +62,7 @@ impl Columns {
         Columns::of_reader(alloc, layout, first)
     }
 
-    // The same of what a reader has left.
+    // The columns of a text that begins with what a reader has left.
     pub(crate) fn of_reader<R: Read + Drop>(
         alloc: Global,
         layout: &Layout,
@@ -84,7 +84,7 @@ impl Columns {
     }
 }
 
-/// The columns once more.
+/// Copies the indices of columns, if any.
 fn copy_of(
     alloc: Global,
     chosen: &Option<ColumnIndices>,
@@ -206,7 +206,7 @@ pub fn read_piece<T: TakeItems>(
     read_left(alloc, layout, columns, piece, taker)
 }
 
-/// The same of what a reader has left.
+/// Hands on the items of what a reader has left.
 pub(crate) fn read_left<R: Read + Drop, T: TakeItems>(
     alloc: Global,
     layout: &Layout,

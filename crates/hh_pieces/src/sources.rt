@@ -32,7 +32,7 @@ fn reader_of<'s, S: ReadAt>(source: &'s S) -> Result<Take<FromPlace<'s, S>>, Tex
     }
 }
 
-/// The same of each of some sources.
+/// A reader of all bytes of each source, from its start.
 fn readers_of<'s, S: ReadAt>(
     alloc: Global,
     sources: &'s [S],

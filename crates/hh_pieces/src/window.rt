@@ -25,7 +25,7 @@ pub(crate) struct Window {
 impl Window {
     ghost use Rattle.hh_pieces.specs.Windows.{held_in};
 
-    // A window with room for so many bytes, which holds none.
+    // A window that holds no bytes and has room for `room`.
     pub(crate) fn new(alloc: Global, room: usize) -> Result<Window, AllocError>
         ensures { IfOk result (λ window. held_in window ≡ []) }
     {
@@ -78,7 +78,7 @@ impl Window {
         Ok(count)
     }
 
-    // Lets go of so many bytes at the front.
+    // Removes `count` bytes at the front.
     pub(crate) fn remove(&mut self, count: usize)
         requires { count ≤ length (held_in self.old) }
         ensures { held_in self.new ≡ drop count (held_in self.old) }

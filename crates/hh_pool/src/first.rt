@@ -28,18 +28,18 @@ use hh_workers::{
 };
 use std::alloc::{AllocError, Global};
 
-/// What each worker of the first pass works on.
+/// What each worker of the first pass goes over, and by which options.
 #[derive(Drop)]
 pub(crate) struct FirstPass<'a, P, G> {
     pub(crate) context: &'a PassContext<'a, P, G>,
     pub(crate) options: &'a Options,
 }
 
-/// What a worker of the first pass runs: it claims pieces from the lowest on, and of each that it
-/// gets it calls the gate and makes the summary. What the items of its pieces add to the cells it
-/// gathers in a table of its own, whose cells it adds to the shared ones at the end: row r, cell c
-/// is number r * width + c there. It waits for nobody, unless the gate does. Memory gives the seat
-/// up.
+/// Runs one worker of the first pass: it claims pieces from the lowest on, and of each that it gets
+/// it calls the gate and makes the summary. It gathers what the items of its pieces add to the
+/// cells in a table of its own, and adds that to the shared cells at the end: row r, cell c is
+/// number r * width + c there. It waits for nobody, unless the gate does. Where memory is refused,
+/// the seat is lost.
 pub fn first_pass<G: Gate>(
     alloc: Global,
     sums: &SharedSums,
@@ -102,8 +102,7 @@ impl Sketches {
         Ok(Sketches { monitor, table })
     }
 
-    // What the monitor tells once it is translated, which is the summary of Misra-Gries, and the
-    // table.
+    // The summary of Misra-Gries, to which the monitor is translated, and the table.
     fn into_parts(self) -> Result<(Summary, Table), PieceFault>
         ensures parts { IfOk result
             (λ r. (r.0 ≡ translation_of self.monitor) × (r.1 ≡ self.table)) }
@@ -151,8 +150,8 @@ pub(crate) fn sum_of_totals(one: u64, other: u64) -> Result<u64, PieceFault>
     }
 }
 
-/// What workers hand over: the summaries of their pieces, each with its piece's number, and the
-/// total of all items that they took.
+/// What workers give: the summaries of their pieces, each with its piece's number, and the total of
+/// all items that they took.
 #[derive(Drop)]
 pub(crate) struct Summarised {
     pub(crate) summaries: Vec<(usize, Summary)>,
@@ -202,8 +201,8 @@ impl<'a, P: Pieces, G: Gate> FirstPass<'a, P, G> {
         Ok(summaries)
     }
 
-    /// What the calling thread makes without sums: the summaries of the pieces, in order, and the
-    /// table of all items.
+    /// Makes the summaries of the pieces, in order, and the table of all items in the calling
+    /// thread, without sums.
     pub(crate) fn alone(&self) -> Result<(Vec<Summary>, Table), PieceFault>
         ensures count { let pieces = self.now.context.now.pieces.now in
             IfOk result (λ r. length r.0.items ≡ length (P.pieces pieces)) }

@@ -9,7 +9,7 @@ use std::process::Abort;
 use std::sync::Wait;
 use std::thread::Threads;
 
-// Whether the outcome is as ever by both plans of so many pieces.
+// Whether the outcome is the one that it always is, by both plans of `pieces` pieces.
 fn each_plan_is_as_ever<R: AllocGlobal + Threads + Wait + Abort + Sync>(
     rt: &R,
     pieces: usize,

@@ -97,7 +97,7 @@ pub(crate) fn is_of_four_items(rt: &(impl Abort + AllocGlobal), outcome: &Outcom
     has_counters(rt, &outcome.summary) && has_cells(&outcome.table) && lists_a(&outcome.heavy)
 }
 
-// Whether the outcome of the four items is as ever with so many workers, this plan and this gate.
+// Whether the four items have the outcome that they always have by these workers, plan and gate.
 pub(crate) fn is_as_ever<R: AllocGlobal + Threads + Wait + Abort + Sync, G: Gate + Sync>(
     rt: &R,
     plan: &Plan,

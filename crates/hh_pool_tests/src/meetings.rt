@@ -17,7 +17,7 @@ pub(crate) struct Calls {
 }
 
 // Holds the pieces below `held` in each pass until all `wanted` calls of that pass have come, for
-// so many turns at most.
+// `limit` turns at most.
 #[derive(Drop)]
 pub(crate) struct Meeting {
     pub(crate) first: Calls,
@@ -30,7 +30,7 @@ pub(crate) struct Meeting {
     workers: u64,
 }
 
-// One call for each of so many pieces.
+// One call for each of two, four, seven and eight pieces: a byte of the number is a piece's calls.
 const TWO: u64 = 0x0101;
 
 const FOUR: u64 = 0x0101_0101;
@@ -122,8 +122,8 @@ impl Gate for Meeting {
     }
 }
 
-// The four items in so many even pieces, for k = 2, with a gate. Whether the outcome is as ever,
-// with one call of the gate for each piece and pass.
+// Whether the four items in even pieces, for k = 2, have the outcome that they always have, with
+// one call of the gate for each piece and pass.
 fn meets<R: AllocGlobal + Threads + Wait + Abort + Sync>(
     rt: &R,
     pieces: usize,

@@ -26,7 +26,7 @@ fn merge_all(
     merge_by(rt.alloc(), plan, summaries)
 }
 
-// The summaries of a 2, b 1, c 1, d 1 for k = 1, so many of them.
+// The first `count` of the summaries of a 2, b 1, c 1, d 1 for k = 1.
 fn pieces(rt: &(impl Abort + AllocGlobal), count: usize) -> Vec<Summary> {
     let mut summaries = Vec::new(rt.alloc());
     for (i, word) in [b"a", b"b", b"c", b"d"].iter().enumerate() {

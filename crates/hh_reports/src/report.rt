@@ -68,7 +68,7 @@ enum NoPlan {
     Memory,
 }
 
-/// The plan of a tree over so many pieces.
+/// The plan of a tree over `pieces` pieces.
 fn plan_of(alloc: Global, tree: &Tree, pieces: usize) -> Result<Plan, NoPlan>
     requires { in_range pieces max_pieces ≡ true }
     ensures pieces { IfOk result (λ plan. length (leaves plan) ≡ pieces) }
@@ -154,8 +154,8 @@ fn keys_of_stream<T: Threads + Wait + Sync, R: Read + Drop>(
     Ok((stream.total(), keys))
 }
 
-/// How many pieces so many texts are read in by so many workers: four for each worker, and one for
-/// each text.
+/// The number of pieces in which `workers` workers read `texts` texts: four for each worker, and
+/// one for each text.
 pub fn piece_count(workers: u64, texts: usize) -> usize
     requires { in_range workers max_workers ≡ true }
     ensures some { 0 < result }

@@ -18,7 +18,7 @@ use std::alloc::{AllocError, Global};
 /// Which rows of a report are printed, and how.
 #[derive(Clone, Copy, Debug)]
 pub struct RowOptions {
-    /// At most so many of the first rows.
+    /// The most rows to print, the first ones; without it all.
     pub top: Option<u64>,
     /// A row has a third column: its weight's share of the total in percent, rounded down, with
     /// four digits behind the point.
@@ -41,7 +41,7 @@ impl RowOptions {
     }
 }
 
-/// At most so many of the first rows.
+/// The first rows, at most `top`; without it all.
 fn topmost<'a>(top: Option<u64>, rows: &'a [Heavy]) -> &'a [Heavy]
     ensures { result.now ≡ topmost top rows.now }
 {

@@ -46,7 +46,7 @@ pub(crate) fn text_of(writer: Writer<Vec<u8>>) -> Result<Vec<u8>, AllocError>
     }
 }
 
-/// Writes a row after the others, so many last digits of its weight behind a point.
+/// Writes a row after the others, its weight with `decimals` digits after the point.
 pub(crate) fn write_row(
     alloc: Global,
     writer: &mut Writer<Vec<u8>>,
@@ -132,7 +132,7 @@ pub fn condensed_text(alloc: Global, rows: &[Heavy]) -> Result<Vec<u8>, AllocErr
     condensed_rows_text(alloc, rows, 0)
 }
 
-/// [`condensed_text`] with so many last digits of each weight behind a point.
+/// [`condensed_text`], each weight with `decimals` digits after the point.
 pub fn condensed_rows_text(
     alloc: Global,
     rows: &[Heavy],

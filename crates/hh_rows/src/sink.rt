@@ -25,7 +25,7 @@ pub trait Sink {
     // Whether all that the sink has taken is flushed.
     ghost is_flushed: { Self → Bool };
 
-    /// Takes the first so many bytes. A call that answers a fault has taken none.
+    /// Takes bytes from the front on, and gives their number. A call that fails has taken none.
     fn take(&mut self, bytes: &[u8]) -> Result<usize, SinkFault>
         ensures count { IfOk result (λ count. count ≤ length bytes.now) }
         ensures takes { WriteAppends (taken self.old) (taken self.new) result bytes.now }

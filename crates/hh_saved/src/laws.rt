@@ -21,8 +21,8 @@ pub fn files_read_alike_hold_one_value()
     ensures { FilesReadAlikeHoldOneValue }
 {}
 
-/// How many bytes saved values have: a summary at most so many, by k and its longest key or by k
-/// alone, and a table exactly so many, by its rows and their width.
+/// Bounds the length of saved values: of a summary by k and its longest key, or by k alone, and of
+/// a table exactly, by its rows and their width.
 #[tactic(auto, using(crate::proofs::Sizes::bounded, crate::proofs::Sizes::bounded_by_k))]
 pub fn sizes_are_bounded()
     ensures summaries { SummariesAreBounded }

@@ -324,7 +324,7 @@ fn pair_in(block: &[u8]) -> (u64, u64)
     (number_of(first), number_of(second))
 }
 
-// The coefficients of so many rows.
+// The coefficients of `depth` rows.
 fn pairs_of(alloc: Global, depth: usize, bytes: &[u8]) -> Result<Vec<(u64, u64)>, AllocError>
     requires { length bytes.now ≡ 16 * depth }
     ensures { IfOk result (λ rows. rows.items ≡ blocks_in pair_of 16 depth bytes.now) }

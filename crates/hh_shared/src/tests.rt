@@ -79,7 +79,7 @@ fn tally(sums: &SharedSums, mut seat: SumSeat) -> SumSeat
     seat
 }
 
-// The same by two threads.
+// Tallies by two threads.
 fn tally_by_two<R: Threads + Sync>(rt: &R, sums: &SharedSums, mut seat: SumSeat) -> SumSeat
     requires seat { seat.sums ≡ sums.now }
     requires counts { (sums.now.claims ≡ 100) × (sums.now.cells ≡ 3) }
@@ -101,7 +101,7 @@ fn tally_by_two<R: Threads + Sync>(rt: &R, sums: &SharedSums, mut seat: SumSeat)
     one
 }
 
-// The same by four threads.
+// Tallies by four threads.
 fn tally_by_four<R: Threads + Sync>(rt: &R, sums: &SharedSums, mut seat: SumSeat) -> SumSeat
     requires seat { seat.sums ≡ sums.now }
     requires counts { (sums.now.claims ≡ 100) × (sums.now.cells ≡ 3) }

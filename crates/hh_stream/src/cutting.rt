@@ -59,7 +59,7 @@ impl From<AllocError> for CuttingFault {
     }
 }
 
-/// Whether so many pieces are not too few or too many.
+/// Refuses a number of pieces that is 0 or too large.
 fn check_count(pieces: usize) -> Result<(), CuttingFault>
     ensures no_pieces { IsErrOf result CuttingFault.NoPieces ↔ (pieces ≡ 0) }
     ensures too_many { IsErrOf result CuttingFault.TooManyPieces ↔ (max_pieces < pieces) }
@@ -90,7 +90,7 @@ fn adds_up(lengths: &[usize], len: usize) -> bool
     left == 0
 }
 
-/// The lengths of so many even pieces of `len` items.
+/// The lengths of `pieces` even pieces of `len` items.
 fn even_lengths(alloc: Global, len: usize, pieces: usize) -> Result<Vec<usize>, AllocError>
     requires { 0 < pieces }
     ensures { IfOk result (λ lengths. lengths.items ≡ even_lengths len pieces) }
@@ -111,8 +111,8 @@ fn sum_of(lengths: &[usize]) -> usize
 }
 
 impl Cutting {
-    /// `len` items in so many pieces: each has `len / pieces` items, and one more where its number
-    /// is below `len % pieces`.
+    /// Cuts `len` items into `pieces` pieces: each has `len / pieces` items, and one more where its
+    /// number is below `len % pieces`.
     pub fn even(alloc: Global, len: usize, pieces: usize) -> Result<Cutting, CuttingFault>
         ensures even { IfOk result (λ cutting. cutting ≡ even_lengths len pieces) }
         ensures adds_up { IfOk result (λ cutting. sum cutting ≡ len) }

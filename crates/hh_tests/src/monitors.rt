@@ -54,7 +54,7 @@ fn run<M: Monitor>(
     text
 }
 
-// The same run by each form, which both say the same.
+// Runs both forms, which have to say the same.
 fn each_form(rt: &(impl Abort + AllocGlobal), k: u64, items: &[(&str, u64)]) -> String {
     let text = run(rt, plain(rt, k), items);
     let other = run(rt, buckets(rt, k), items);

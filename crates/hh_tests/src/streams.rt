@@ -11,7 +11,7 @@ fn bytes_of(rt: &(impl Abort + AllocGlobal), len: usize) -> Vec<u8> {
     bytes.expect(rt, "bytes")
 }
 
-// Whether the key of so many bytes has a copy with these.
+// Whether a key of `len` bytes has a copy with the same bytes.
 fn has_copy(rt: &(impl Abort + AllocGlobal), len: usize) -> bool {
     let bytes = bytes_of(rt, len);
     let key = key_of(rt, &bytes);
@@ -68,7 +68,7 @@ fn refused_push_hands_the_key_back(rt: HostRuntime) {
     assert!(rt; stream.is_empty());
 }
 
-// The stream of so many items, which weigh 1, 2, 3 and so on.
+// The stream of `len` items, which weigh 1, 2, 3 and so on.
 fn rising_stream(rt: &(impl Abort + AllocGlobal), len: usize) -> Stream {
     let mut stream = Stream::new(rt.alloc());
     for i in 0..len {

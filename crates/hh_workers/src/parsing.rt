@@ -14,7 +14,7 @@ use std::alloc::{AllocError, Global};
 use std::collections::VecDeque;
 use thiserror::Error;
 
-/// Why a text is no plan of so many pieces.
+/// Why a text is no plan of a number of pieces.
 #[derive(Clone, Copy, Debug, PartialEq, Eq, Error)]
 pub enum PlanFault {
     /// The text up to this byte can be continued to a tree, and with the byte it can't; where the
@@ -179,7 +179,7 @@ fn add_numbers(tree: &Tree, numbers: &mut Vec<usize>) -> Result<(), AllocError>
     }
 }
 
-/// Which of so many pieces the numbers have, if they are different ones.
+/// Marks which of `pieces` pieces the numbers name, if they are different ones.
 fn marks_of(alloc: Global, numbers: &[usize], pieces: usize) -> Result<Vec<bool>, PlanFault>
     ensures marks { IfOk result (λ marks. AreMarked marks.items pieces numbers.now) }
     ensures own { OnOk result (IsDistinctBelow pieces numbers.now) }
@@ -209,7 +209,7 @@ fn least_unmarked(marks: &[bool]) -> Option<usize>
     marks.iter().position(|marked| !*marked)
 }
 
-/// Whether a tree's numbers are those of so many pieces, each once.
+/// Refuses a tree that doesn't have each of `pieces` numbers once.
 fn check_numbers(alloc: Global, tree: &Tree, pieces: usize) -> Result<(), PlanFault>
     ensures merges { OnOk result (IsMergeTree (shape tree.now) pieces) }
     ensures refused { IfErr result
@@ -224,7 +224,7 @@ fn check_numbers(alloc: Global, tree: &Tree, pieces: usize) -> Result<(), PlanFa
     }
 }
 
-/// The merge tree of so many pieces that a text spells.
+/// Reads a merge tree of `pieces` pieces.
 pub(crate) fn read_merge_tree(alloc: Global, text: &[u8], pieces: usize) -> Result<Tree, PlanFault>
     ensures tree { IfOk result (λ tree. SpellsTree text.now (shape tree)) }
     ensures merges { IfOk result (λ tree. IsMergeTree (shape tree) pieces) }

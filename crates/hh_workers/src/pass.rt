@@ -12,7 +12,7 @@ use hh_shared::{SharedSums, SumSeat};
 use hh_stream::PieceFault;
 use std::alloc::{AllocError, Global};
 
-/// What every pass works on: pieces, and the gate that hears of each.
+/// What every pass goes over: pieces, and the gate that hears of each.
 #[derive(Drop)]
 pub struct PassContext<'a, P, G> {
     pub alloc: Global,
@@ -20,20 +20,20 @@ pub struct PassContext<'a, P, G> {
     pub gate: &'a G,
 }
 
-/// A pass over pieces, of which each worker makes something of its own.
+/// A pass over pieces, of which each worker makes something by itself.
 pub trait Pass {
-    /// What is made of pieces.
+    /// What a worker has made of its pieces so far.
     type Local: Send + Drop;
-    /// What a worker hands over beside its seat.
+    /// The part of the result that a worker gives beside its seat.
     type Partial: Send + Drop + 'static;
 
     /// How many pieces there are.
     ghost pieces: { Self → ℕ };
     /// How many cells the sums have.
     ghost cells: { Self → ℕ };
-    /// What was made of the pieces with these numbers, one after the other.
+    /// Whether this was made of the pieces with these numbers, one after the other.
     ghost is_made: { Self → List ℕ → Self.Local → Type 0 };
-    /// What the joined seat of workers and what they kept say of the pieces that they claimed.
+    /// What the joined seat of workers and their merged part say of the pieces that they claimed.
     ghost all_done: { Self → Holding → Self.Partial → Type 0 };
     /// What is known where a piece was refused, or the weights of all are too large.
     ghost may_refuse: { Self → Type 0 };
@@ -42,11 +42,11 @@ pub trait Pass {
     fn count(&self) -> usize
         ensures { result ≡ pieces self.now };
 
-    /// What is made of no piece.
+    /// Makes the start, of no piece.
     fn begin(&self) -> Result<Self::Local, AllocError>
         ensures { IfOk result (is_made self.now []) };
 
-    /// Takes one more piece, of which the gate hears first.
+    /// Adds one more piece, of which the gate hears first.
     fn take(&self, made: Self::Local, worker: u64, piece: usize) -> Result<Self::Local, PieceFault>
         requires { piece < pieces self.now }
         ensures more { IfOk result (λ more. (numbers : List ℕ)
@@ -56,7 +56,7 @@ pub trait Pass {
             → IsDistinctBelow (pieces self.now) (numbers ++ piece ∷ [])
             → is_made self.now numbers made → may_refuse self.now };
 
-    /// Adds what a worker made of its pieces to the sums, and gives what it keeps.
+    /// Adds what a worker made of its pieces to the sums, and gives its part of the result.
     fn finish(&self, sums: &SharedSums, seat: &mut SumSeat, made: Self::Local) -> Self::Partial
         requires seat { seat.old.sums ≡ sums.now }
         requires fits { AreSumsFor (pieces self.now) (cells self.now) sums.now }
@@ -65,7 +65,7 @@ pub trait Pass {
         ensures unchanged { seat.new ≡ record seat.old { adds = seat.new.adds } }
         ensures done { all_done self.now seat.new result };
 
-    /// What two workers kept, for their joined seats, which had no claim in common.
+    /// Merges the parts of two workers, whose seats have no claim in common.
     fn merge(&self, one: Self::Partial, other: Self::Partial) -> Result<Self::Partial, PieceFault>
         ensures both { IfOk result (λ both. (a b : Holding) → AreDisjoint a.claims b.claims
             → all_done self.now a one → all_done self.now b other
@@ -75,8 +75,8 @@ pub trait Pass {
             → all_done self.now a one → all_done self.now b other → may_refuse self.now };
 }
 
-/// What the worker of this number runs: it claims pieces from the lowest on, takes those that no
-/// other worker has claimed, and hands over what it made.
+/// Runs the worker with this number: it claims pieces from the lowest on, takes those that no other
+/// worker has claimed, and gives its part of the result.
 pub fn run_worker<P: Pass>(
     pass: &P,
     sums: &SharedSums,
@@ -101,8 +101,8 @@ pub fn run_worker<P: Pass>(
     Ok((seat, kept))
 }
 
-/// What is made of all pieces by the calling thread, without sums. `workers` is what the gate
-/// hears.
+/// Makes the result of all pieces in the calling thread, without sums. `workers` is the worker's
+/// number that the gate hears.
 pub fn run_sequentially<P: Pass>(pass: &P, workers: u64) -> Result<P::Local, PieceFault>
     ensures made { IfOk result (λ made. (numbers : List ℕ)
         × HasEach (P.pieces pass.now) numbers × P.is_made pass.now numbers made) }

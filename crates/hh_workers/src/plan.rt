@@ -48,7 +48,7 @@ pub fn node(alloc: Global, left: Tree, right: Tree) -> Result<Tree, AllocError>
     Ok(Tree::Node(Box::new(alloc, left)?, Box::new(alloc, right)?))
 }
 
-/// The chain of so many pieces.
+/// The chain of `pieces` pieces.
 fn chain_tree(alloc: Global, pieces: usize) -> Result<Tree, AllocError>
     requires { 1 ≤ pieces }
     ensures chain { IfOk result (λ tree. shape tree ≡ chain_of (pieces - 1)) }
@@ -61,7 +61,7 @@ fn chain_tree(alloc: Global, pieces: usize) -> Result<Tree, AllocError>
     Ok(tree)
 }
 
-/// The balanced tree of so many pieces, numbered from `first` on.
+/// The balanced tree of `pieces` pieces, numbered from `first` on.
 fn balanced_tree(alloc: Global, first: usize, pieces: usize) -> Result<Tree, AllocError>
     requires some { 1 ≤ pieces }
     requires fits { first + pieces ≤ max_pieces }
@@ -114,12 +114,12 @@ impl Plan {
         })
     }
 
-    /// The plan of so many pieces that a text spells: a tree is a piece's number, without leading
-    /// zeros, or two trees in parentheses with a space between them, as `((0 1) 2)`.
+    /// Reads a plan of `pieces` pieces: a tree is a piece's number, without leading zeros, or two
+    /// trees in parentheses with a space between them, as `((0 1) 2)`.
     ///
     /// The syntax is judged over the whole text first. Then the numbers are taken from left to
-    /// right: the first one that is unknown or came before is told, and then the least one that is
-    /// missing.
+    /// right: the error names the first one that is unknown or came before, and then the least one
+    /// that is missing.
     #[tactic(auto, using(crate::proofs::LeafFacts::length_leaves))]
     pub fn parse(alloc: Global, text: &[u8], pieces: usize) -> Result<Plan, PlanFault>
         requires some { 1 ≤ pieces }

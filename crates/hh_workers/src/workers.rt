@@ -30,8 +30,8 @@ impl<P: Pass> Promise<Result<(SumSeat, P::Partial), PieceFault>> for Promised<P>
         p.sums.value r };
 }
 
-/// What two halves of the workers bring back, as one: their joined seats, and what both kept. Where
-/// one brings nothing back, it is told why.
+/// Merges what two halves of the workers bring back: their seats and their parts. Where one failed,
+/// its fault is the result.
 fn join_halves<P: Pass>(
     sums: &SharedSums,
     pass: &P,
@@ -51,7 +51,7 @@ fn join_halves<P: Pass>(
     Ok((seat, both))
 }
 
-/// Runs so many workers with one seat, numbered from `first` on: where they are more than one, half
+/// Runs `count` workers with one seat, numbered from `first` on: where they are more than one, half
 /// of them in a thread of their own.
 #[cycle(workers)]
 fn run_workers<R: Threads + Wait + Sync, P: Pass + Sync>(
@@ -75,7 +75,7 @@ fn run_workers<R: Threads + Wait + Sync, P: Pass + Sync>(
     run_apart(rt, sums, seat, pass, first, there, count - there)
 }
 
-/// Runs so many workers in a thread of their own, numbered from `first` on, and so many more, if
+/// Runs `there` workers in a thread of their own, numbered from `first` on, and `here` more, if
 /// any, in this one. Memory also where the system refuses a thread; all threads are joined.
 #[cycle(workers)]
 fn run_apart<R: Threads + Wait + Sync, P: Pass + Sync>(
@@ -128,8 +128,8 @@ fn run_apart<R: Threads + Wait + Sync, P: Pass + Sync>(
     )
 }
 
-/// Has so many workers go over the pieces, with sums of their own: each cell's sum, and what the
-/// workers kept. Nothing where no worker claimed a piece, and no run is known to leave one.
+/// Has `workers` workers go over the pieces, with sums of their own: each cell's sum, and the
+/// merged parts. Nothing where no worker claimed a piece, and no run is known to leave one.
 pub fn share_work<R: Threads + Wait + Sync, P: Pass + Sync>(
     rt: &R,
     alloc: Global,
@@ -154,9 +154,9 @@ pub fn share_work<R: Threads + Wait + Sync, P: Pass + Sync>(
     Ok(Some((sums.close(seat)?, kept)))
 }
 
-/// What is made of all pieces, in a pass whose workers keep what they made: what [`share_work`]
-/// found, or where that is nothing what the calling thread makes alone. `workers` is what the gate
-/// hears then.
+/// Takes what [`share_work`] found or, where that is nothing, makes it in the calling thread, in a
+/// pass whose workers keep what they made. `workers` is the worker's number that the gate hears
+/// then.
 pub fn found_or_made<T: Send + Drop + 'static, P: Pass<Local = T, Partial = T>>(
     pass: &P,
     found: Option<(Vec<u64>, T)>,

@@ -74,8 +74,8 @@ pub fn answer_of(saved: &Saved, slack: u64, key: &Key) -> (u64, u64)
     }
 }
 
-/// Writes the row of a key and its two numbers after the others, so many of their last digits
-/// behind a point.
+/// Writes the row of a key and its two numbers after the others, with `decimals` digits after the
+/// point.
 pub(crate) fn write_bounds(
     alloc: Global,
     writer: &mut Writer<Vec<u8>>,

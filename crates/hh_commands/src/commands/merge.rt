@@ -94,7 +94,7 @@ fn merge_files(alloc: Global, files: &[Vec<u8>]) -> Result<Saved, ToolError>
 /// the spelling in version 2 of a summary or a table, as the files are, which may be of either
 /// version.
 ///
-/// Files are numbered from 1. The first file that is refused is told, and why: first
+/// Files are numbered from 1. The first refusal is the error, with its file's number: first
 /// [`ToolError::BadFile`], its bytes are no spelling; then [`ToolError::MixedKinds`], it is a table
 /// where the first file is a summary, or the other way round; then [`ToolError::CannotMerge`], it
 /// is of another k, hash family or width than the first, or the total of the files up to it is too
