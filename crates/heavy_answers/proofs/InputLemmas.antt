@@ -20,7 +20,7 @@ takes-push : (taken : Bool) (names : List (List ℕ)) (name : List ℕ)
 takes-push taken [] name = refl
 takes-push taken (n ∷ names) name = takes-push (taken || names_standard n) names name
 
--- one input more behind those that are open
+-- one input more after those that are open
 AreInputs-push : (opens : Bool → List ℕ → Option (List ℕ) → Type 0) (taken : Bool) (names : List (List ℕ)) (texts : List (Option (List ℕ)))
     (name : List ℕ) (text : Option (List ℕ)) → AreInputs opens taken names texts → opens (takes taken names) name text
     → AreInputs opens taken (names ++ name ∷ []) (texts ++ text ∷ [])
@@ -69,7 +69,7 @@ pub agree_same : {A B : Type 0} (f : A → Option (List ℕ)) (g : B → Option 
 agree_same f g xs ys same =
     subst (Agree (every g ys)) (sym (sym (every-map f xs) ∙ ap (every (λ x. x)) same ∙ every-map g ys)) (agree-itself (every g ys))
 
--- nothing behind what is known or not is nothing
+-- nothing after what is known or not is nothing
 nothing-behind : {B : Type 0} (y : Option B) → option_and_then (λ z. option_map (λ ys. z ∷ ys) None) y ≡ None
 nothing-behind None = refl
 nothing-behind (Some y) = refl
@@ -118,7 +118,7 @@ alike_agree f g (x ∷ xs) [] alike = absurd alike
 alike_agree f g (x ∷ xs) (y ∷ ys) alike =
     agree-more (f x) (g y) (every f xs) (every g ys) alike.0 (alike_agree f g xs ys alike.1)
 
--- one more behind those
+-- one more after those
 alike-push : (texts others : List (Option (List ℕ))) (text other : Option (List ℕ)) → Alike texts others
     → IfSome text (λ bytes. IfSome other (λ known. known ≡ bytes)) → Alike (texts ++ text ∷ []) (others ++ other ∷ [])
 alike-push [] [] text other alike more = (more, tt)
@@ -126,7 +126,7 @@ alike-push [] (o ∷ others) text other alike more = absurd alike
 alike-push (t ∷ texts) [] text other alike more = absurd alike
 alike-push (t ∷ texts) (o ∷ others) text other alike more = (alike.0, alike-push texts others text other alike.1 more)
 
--- one more behind those that are alike
+-- one more after those that are alike
 pub alike_more : {A B : Type 0} (f : A → Option (List ℕ)) (g : B → Option (List ℕ)) (xs : List A) (x : A) (ys : List B) (y : B)
     → Alike (map f xs) (map g ys) → IfSome (f x) (λ bytes. IfSome (g y) (λ known. known ≡ bytes))
     → Alike (map f (xs ++ x ∷ [])) (map g (ys ++ y ∷ []))

@@ -39,7 +39,7 @@ use Rattle.heavy_answers.specs.Inputs.{AreRecords, standard_name}
 use Rattle.heavy_answers.specs.declared.single_pass.SinglePass.{SinglePass}
 use Rattle.heavy_answers.specs.declared.single_pass.SinglePass.TheVariants as one
 
--- the number of the input in this place behind some saved files
+-- the number of the input in this place after some saved files
 abbrev pub input_number : ℕ → ℕ → ℕ
 input_number saved place = min (saved + (place + 1)) (2 ^ 64 - 1)
 

@@ -18,7 +18,7 @@ use hh_records::{Layout, Records, layout_of};
 use hh_stream::in_range;
 use hh_workers::MAX_WORKERS;
 
-/// Pushes `one` behind `others`.
+/// Pushes `one` after `others`.
 fn push_behind<T: Drop>(others: &mut Vec<T>, one: T) -> Result<(), ToolError>
     ensures pushed { OnOk result (others.new.items ≡ others.old.items ++ one ∷ []) }
     ensures refused { IsErr result → result ≡ Err ToolError.Memory }
@@ -36,7 +36,7 @@ fn is_taken_by(is_taken: bool, name: &[u8]) -> bool
     is_taken || is_standard(name)
 }
 
-/// Opens the inputs with `names`, which stand behind `saved` saved files. Standard input is read
+/// Opens the inputs with `names`, which stand after `saved` saved files. Standard input is read
 /// where it is named first.
 fn open_named<H: Host>(host: &H, names: &[Vec<u8>], saved: u64) -> Result<Vec<H::Input>, ToolError>
     ensures opened { IfOk result (λ inputs. AreInputs (H.opens host.now) false
@@ -54,7 +54,7 @@ fn open_named<H: Host>(host: &H, names: &[Vec<u8>], saved: u64) -> Result<Vec<H:
     Ok(inputs)
 }
 
-/// Opens the files of records that stand behind `saved` saved files, or else standard input.
+/// Opens the files of records that stand after `saved` saved files, or else standard input.
 fn open_inputs<H: Host>(
     host: &H,
     words: &RecordWords,
@@ -83,7 +83,7 @@ fn layout_on<H: Host>(host: &H, words: &RecordWords) -> Result<Layout, ToolError
     Ok(layout)
 }
 
-/// Sources of the bytes of open inputs, which can be read several times. What stands behind an
+/// Sources of the bytes of open inputs, which can be read several times. What stands after an
 /// input that can't be read is left out, since that one is refused before.
 fn sources_of<H: Host>(host: &H, inputs: Vec<H::Input>) -> Result<Vec<H::File>, ToolError>
     ensures texts { IfOk result (λ files.
@@ -136,7 +136,7 @@ pub(crate) struct Opened<I> {
     inputs: Vec<I>,
 }
 
-/// Opens the inputs of the records that the words name behind `saved` saved files.
+/// Opens the inputs of the records that the words name after `saved` saved files.
 pub(crate) fn open<H: Host>(
     host: &H,
     words: &RecordWords,
@@ -212,7 +212,7 @@ pub(crate) enum OnePass<R, F> {
     Stream(Records<R>),
 }
 
-/// Opens the records that the words name behind `saved` saved files, for one reading by `workers`.
+/// Opens the records that the words name after `saved` saved files, for one reading by `workers`.
 /// They read files of the disk that have a size; all else is read by one thread, and so are these
 /// where it `is_alone`. A number of workers that is refused comes with no files then, so that
 /// nothing is read.

@@ -118,7 +118,7 @@ fn of_stream<R: Read + Drop>(
     }
 }
 
-/// What `command` makes of the records that the words name behind `saved` saved files.
+/// What `command` makes of the records that the words name after `saved` saved files.
 pub(crate) fn in_one_pass<T: Threads + Wait + Sync, H: Host>(
     threads: &T,
     host: &H,

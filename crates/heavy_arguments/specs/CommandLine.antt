@@ -64,7 +64,7 @@ rule_of_kind kind.Word name = word name
 rule_of_kind kind.Words name = some_words name
 rule_of_kind kind.Files name = words name
 
--- an option that this letter behind one hyphen gives too
+-- an option that this letter after one hyphen gives too
 abbrev pub with_letter : ℕ → Rule → Rule
 with_letter letter rule = record rule { short = Some letter }
 

@@ -1,4 +1,4 @@
--- Commands as `clap` is told them.
+-- Commands as `clap` knows them.
 use Rattle.std.specs.Prelude.{◌≡◌, false, Result, IfOk}
 use Rattle.clap.specs.declared.builder.command.Command.{Command}
 use Rattle.clap.specs.Simple.{App, app_of}

@@ -45,7 +45,7 @@ pub const WEIGHT: &str = "weight";
 
 pub const ALLOW_ZERO: &str = "allow-zero";
 
-/// The option that says how many digits a weight may have behind a point.
+/// The option that says how many digits a weight may have after a point.
 pub const DECIMALS: &str = "decimals";
 
 /// The heading in help of the options that say how records are read.

@@ -52,7 +52,7 @@ pub(crate) enum Argument {
     Number(Number),
     /// Another, by how it is given, its name and its help.
     Given(Kind, &'static str, &'static str),
-    /// An option that a letter behind one hyphen gives too: the letter, how it is given, its name
+    /// An option that a letter after one hyphen gives too: the letter, how it is given, its name
     /// and its help.
     Short(char, Kind, &'static str, &'static str),
 }

@@ -124,7 +124,7 @@ pub fn text_of_rows(alloc: Global, rows: &[Heavy]) -> Result<Vec<u8>, AllocError
     report_text(alloc, rows)
 }
 
-/// Whether a line feed behind a text of records ends a record.
+/// Whether a line feed after a text of records ends a record.
 pub fn ends_a_record(text: &[u8]) -> bool
     ensures { result ≡ ends_outside comma text.now }
 {

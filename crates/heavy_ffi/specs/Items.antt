@@ -1,4 +1,4 @@
--- Items whose keys lie in one slice, one behind the other.
+-- Items whose keys lie in one slice, one after the other.
 use Rattle.std.specs.Prelude.{◌+◌, ◌-◌, ◌==◌, ◌&&◌, ◌||◌, nat_le, ℕ, List, [], ◌∷◌, length, take, drop, slice_index_or, Option, Some, None, Result, if◌then◌else◌}
 use Rattle.std.proofs.Common.{ap}
 use Rattle.hh_stream.specs.Weights.{Entry}
@@ -10,7 +10,7 @@ use Rattle.hh_library.specs.Add.{GoesOn, IsAdded, TableGoesOn}
 use Rattle.heavy_ffi.specs.declared.fault.Fault.{Fault}
 
 -- the items of keys that are the front of these bytes and end there, where the one before them ends
--- at `from`; each has its weight, and those behind the last weight have 1
+-- at `from`; each has its weight, and those after the last weight have 1
 abbrev pub items_from : ℕ → List ℕ → List ℕ → List ℕ → List Entry
 items_from from [] weights bytes = []
 items_from from (end ∷ ends) weights bytes =
@@ -21,7 +21,7 @@ items_from from (end ∷ ends) weights bytes =
 abbrev pub items_of : List ℕ → List ℕ → List ℕ → List Entry
 items_of bytes ends weights = items_from 0 ends weights bytes
 
--- the first of the ends from number n on that is before the end before it, or behind so many bytes
+-- the first of the ends from number n on that is before the end before it, or after so many bytes
 abbrev pub bad_end : ℕ → ℕ → ℕ → List ℕ → Option ℕ
 bad_end n from len [] = None
 bad_end n from len (end ∷ ends) =

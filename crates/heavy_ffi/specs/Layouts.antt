@@ -56,7 +56,7 @@ TellsEarly o columns wrong = IsRefused (LaidRefused o columns (λ layout e. e �
 abbrev pub share_given : ℕ → ℕ → Option (ℕ × ℕ)
 share_given p q = if p == 0 && q == 0 then None else Some (p, q)
 
--- n bytes of a part of a text, with the byte d between its fields, are whole records: the text may be cut behind them and
+-- n bytes of a part of a text, with the byte d between its fields, are whole records: the text may be cut after them and
 -- nowhere further on, or there are none
 pub record AreWholeRecordsBy (d : ℕ) (bytes : List ℕ) (n : ℕ) : Type 0 where
   pub within : n ≤ length bytes

@@ -23,7 +23,7 @@ abbrev pub IsTooSmall : {X : Type 0} → (List X → Type 0) → List X → ℕ 
 IsTooSmall {X = X} P room needed =
     (answer : List X) × P answer × (needed ≡ length answer) × (length room < needed)
 
--- a refusal of which Q holds is told, by the status and in numbers
+-- a refusal of which Q holds is given, by the status and in numbers
 abbrev pub IsRefused : (ToolError → Type 0) → ℕ → Fault → Type 0
 IsRefused Q status fault = (refusal : ToolError) × Q refusal × IsTold status fault refusal
 

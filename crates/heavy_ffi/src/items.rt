@@ -1,4 +1,4 @@
-//! Items whose keys lie in one slice, one behind the other.
+//! Items whose keys lie in one slice, one after the other.
 
 ghost use Rattle.std.specs.Prelude.{◌≡◌, ◌≢◌, ℕ, List, map, length, None, IfErr, IfOk, IfSome};
 ghost use Rattle.hh_stream.specs.Weights.{Entry};
@@ -14,7 +14,7 @@ use hh_faults::ToolError;
 use std::alloc::{AllocError, Global};
 
 /// The items of keys that end there, each from the end of the one before it to its own, with these
-/// weights. Those behind the last weight weigh 1.
+/// weights. Those after the last weight weigh 1.
 fn items_of<'a>(
     alloc: Global,
     keys: &'a [u8],
@@ -38,7 +38,7 @@ fn items_of<'a>(
     Ok(items)
 }
 
-/// The number of the first end that is before the end before it, or behind `len` bytes.
+/// The number of the first end that is before the end before it, or after `len` bytes.
 fn bad_end(len: usize, ends: &[u64]) -> Option<u64>
     ensures { result ≡ bad_end 1 0 len ends.now }
 {

@@ -20,7 +20,7 @@ pub(crate) trait LaidCall: Drop {
     // what it gives by a layout
     ghost gives: { Self → Layout → List ℕ → Type 0 };
 
-    // what a refusal tells behind the layout
+    // what a refusal tells after the layout
     ghost refuses: { Self → Layout → ToolError → Type 0 };
 
     // the refusal of an argument that is tested before the records

@@ -26,7 +26,7 @@ pub struct TextLayout {
 /// The kind of the fault of a layout's numbers.
 const BAD_LAYOUT: u32 = 26;
 
-/// The most digits that a weight may have behind its point.
+/// The most digits that a weight may have after its point.
 const MAX_DECIMALS: u8 = 9;
 
 /// The fault of a layout that has other numbers than it may have beside `count` columns.

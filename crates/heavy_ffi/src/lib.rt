@@ -467,7 +467,7 @@ pub extern "C" fn heavy_describe(
 }
 
 /// Tells how many bytes of a part of a text are whole records: those before the last line feed that
-/// is not in quotes, or 0 where there is none behind the first byte. The part begins as the text
+/// is not in quotes, or 0 where there is none after the first byte. The part begins as the text
 /// does, or where an earlier part was cut so.
 #[unsafe(no_mangle)]
 pub extern "C" fn heavy_whole_records(text: &[u8]) -> usize

@@ -41,7 +41,7 @@ impl ItemsCall for Add {
 }
 
 /// Gives the saved summary or table of a saved file with items added, in order. Their keys lie one
-/// behind the other, each from the end of the one before it to its own; their weights are these, or
+/// after the other, each from the end of the one before it to its own; their weights are these, or
 /// 1 each where there are none. The ends are tested first, then the number of the weights, then the
 /// file, then the items in order.
 #[unsafe(no_mangle)]

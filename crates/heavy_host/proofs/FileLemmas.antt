@@ -5,7 +5,7 @@ use Rattle.heavy_host.specs.declared.files.FileFault.{FileFault}
 use Rattle.heavy_host.specs.declared.files.FileFault.TheVariants.{Unreadable, Memory}
 use Rattle.heavy_host.specs.Files.{AreRead, TellsFile}
 
--- a file more behind those that are read
+-- a file more after those that are read
 AreRead-push : (gives : List ℕ → Option (List ℕ) → Type 0) (names files : List (List ℕ)) (name file : List ℕ)
     → AreRead gives names files → gives name (Some file) → AreRead gives (names ++ name ∷ []) (files ++ file ∷ [])
 AreRead-push gives [] [] name file read more = (more, tt)

@@ -10,7 +10,7 @@ AreRead gives [] (file ∷ files) = ⊥
 AreRead gives (name ∷ names) [] = ⊥
 AreRead gives (name ∷ names) (file ∷ files) = gives name (Some file) × AreRead gives names files
 
--- the fault is of the file in this place, which can't be read, and is told by its number from 1 on
+-- the fault is of the file in this place, which can't be read, and has its number from 1 on
 pub record IsOfPlace (gives : List ℕ → Option (List ℕ) → Type 0) (names : List (List ℕ)) (fault : FileFault) (place : ℕ) : Type 0 where
   pub within : place < length names
   pub unread : gives (slice_index_or names place []) None

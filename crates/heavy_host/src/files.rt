@@ -51,7 +51,7 @@ pub fn read_file<F: FileSource>(source: &F, number: u64, name: &[u8]) -> Result<
     }
 }
 
-/// Puts a file behind others, if it was read.
+/// Puts a file after others, if it was read.
 fn push_file(files: &mut Vec<Vec<u8>>, file: Result<Vec<u8>, FileFault>) -> Result<(), FileFault>
     ensures pushed { OnOk result ((bytes : _) × (file ≡ Ok bytes)
         × (files.new.items ≡ files.old.items ++ bytes ∷ [])) }

@@ -78,7 +78,7 @@ pub fn texts_of(alloc: Global, words: &[Vec<u8>]) -> Result<Vec<String>, AllocEr
     Ok(texts)
 }
 
-/// Puts the bytes that a character stands for behind these.
+/// Puts the bytes that a character stands for after these.
 fn push_bytes(bytes: &mut Vec<u8>, character: char) -> Result<(), AllocError>
     ensures { OnOk result (bytes.new.items ≡ bytes.old.items ++ spelled_bytes character) }
 {
@@ -101,7 +101,7 @@ pub fn bytes_of(alloc: Global, text: &str) -> Result<Vec<u8>, AllocError>
     Ok(bytes)
 }
 
-/// The words behind the first one.
+/// The words after the first one.
 pub fn behind_first(mut words: Vec<Vec<u8>>) -> Vec<Vec<u8>>
     ensures { map (λ w. w.items) result.items ≡ drop 1 (map (λ w. w.items) words.items) }
 {

@@ -113,14 +113,14 @@ impl<'a> Lab<'a> {
         Ok(Key::new(self.alloc, self.bytes(letter)?.as_slice())?)
     }
 
-    // A key with a number behind its letters.
+    // A key with a number after its letters.
     fn numbered(&self, letter: u8, number: &[u8]) -> Result<Key, Fail> {
         let mut bytes = self.bytes(letter)?;
         bytes.extend_from_slice(number)?;
         Ok(Key::new(self.alloc, bytes.as_slice())?)
     }
 
-    /// Adds a key with a number behind its letters, of weight 1.
+    /// Adds a key with a number after its letters, of weight 1.
     pub fn push_one(&self, stream: &mut Stream, letter: u8, number: &[u8]) -> Result<(), Fail> {
         Ok(stream.push(self.numbered(letter, number)?, 1)?)
     }

@@ -157,7 +157,7 @@ impl LastRecord {
     }
 }
 
-/// Follows the last record of a text from its begin or from somewhere behind its byte order mark:
+/// Follows the last record of a text from its begin or from somewhere after its byte order mark:
 /// from each place that the byte before may have left, in a record that may be long.
 #[derive(Drop)]
 pub struct LastRecordGuesses {

@@ -69,7 +69,7 @@ impl RecordState {
     }
 }
 
-/// The number of records in the bytes that came, behind a byte order mark. A line feed in quotes
+/// The number of records in the bytes that came, after a byte order mark. A line feed in quotes
 /// ends none, and an empty line is none.
 #[derive(Drop)]
 pub struct RecordCount {

@@ -5,7 +5,7 @@ use Rattle.heavy_requests.specs.Fields.{ends_field, fields_from, is_mark, place_
 use Rattle.heavy_requests.specs.declared.fields.FieldState.{FieldState}
 use Rattle.heavy_requests.specs.declared.fields.FieldState.TheVariants.{Begin}
 
--- what one byte makes of a field and of the fields behind it
+-- what one byte makes of a field and of the fields after it
 stepped : (by : ℕ) (at : FieldState) (field bytes : List ℕ) (i d : ℕ) → i < length bytes
     → fields_from by at field (drop i bytes)
     ≡ if ends_field by at (get_or bytes i d) then field ∷ fields_from by Begin [] (drop (i + 1) bytes)

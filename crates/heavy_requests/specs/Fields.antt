@@ -21,7 +21,7 @@ is_mark Plain byte = false
 is_mark Quoted byte = byte == 34
 is_mark Quote byte = false
 
--- the place behind a byte that ends no field
+-- the place after a byte that ends no field
 abbrev pub place_after : FieldState → ℕ → FieldState
 place_after Begin byte = if byte == 34 then Quoted else Plain
 place_after Plain byte = Plain

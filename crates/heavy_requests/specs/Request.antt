@@ -67,7 +67,7 @@ pub record AreOptions (found : Found) (options : ReportOptions) : Type 0 where
   pub depth : IsNumberOf found (codes "depth") 4 options.depth
   pub seed : IsNumberOf found (codes "seed") 0 options.seed
 
--- how many digits a weight may have behind a point: those that were given, or else none
+-- how many digits a weight may have after a point: those that were given, or else none
 pub record AreDecimals (found : Found) (decimals : ℕ) : Type 0 where
   pub absent : one_text found (codes "decimals") ≡ None → decimals ≡ 0
   pub given : (text : Text) → one_text found (codes "decimals") ≡ Some text → IsNumeral 10 (without_leading_plus text)

@@ -144,7 +144,7 @@ fn name_behind<'a>(first: &'a [u8], others: &'a [Vec<u8>], number: u64) -> &'a [
     }
 }
 
-/// Gives the name of the file `number` that `asked` names. Files of records stand behind a saved
+/// Gives the name of the file `number` that `asked` names. Files of records stand after a saved
 /// one.
 fn name_of(asked: &Invocation, number: u64) -> &[u8] {
     let records = asked.records.files.as_slice();
@@ -263,7 +263,7 @@ fn tell_looks(rt: &HostRuntime, name: &[u8]) {
     }
 }
 
-/// Prints two totals that differ, with `decimals` digits behind the point.
+/// Prints two totals that differ, with `decimals` digits after the point.
 fn tell_totals(rt: &HostRuntime, name: &[u8], totals: Option<Totals>, decimals: u8) {
     let Some(Totals { summary, records }) = totals else {
         return;

@@ -34,7 +34,7 @@ impl FieldState {
         byte == b'"' && matches!(self, FieldState::Begin | FieldState::Quoted)
     }
 
-    /// Gives the place behind `byte`, which ends no field here.
+    /// Gives the place after `byte`, which ends no field here.
     fn after(self, byte: u8) -> FieldState
         ensures { result ≡ place_after self byte }
     {

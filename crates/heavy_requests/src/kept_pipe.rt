@@ -28,7 +28,7 @@ pub(crate) enum KeptBytes {
 pub struct KeptPipe {
     bytes: KeptBytes,
     /// Whether the pipe came to its end. Where it could not be read to there, its length is one
-    /// more than its bytes, so that a reader fails behind them.
+    /// more than its bytes, so that a reader fails after them.
     is_whole: bool,
 }
 

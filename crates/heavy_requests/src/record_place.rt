@@ -175,7 +175,7 @@ impl<'a> Texts<'a> {
         }
     }
 
-    /// Looks in `text` for the record behind `before` others, where the text can be looked at
+    /// Looks in `text` for the record after `before` others, where the text can be looked at
     /// again.
     fn search_in(self, text: Text<'_>, before: u64) -> Option<Search> {
         let search = Search::new(self.rt, before, self.delimiter()?);

@@ -198,7 +198,7 @@ fn parts_of<'a>(alloc: Global, text: &'a str) -> Result<Vec<&'a str>, AllocError
     text.split(',').collect(alloc)
 }
 
-/// Pushes the bytes of `texts` behind `words`.
+/// Pushes the bytes of `texts` after `words`.
 fn push_words(alloc: Global, words: &mut Vec<Vec<u8>>, texts: &[&str]) -> Result<(), AllocError>
     ensures { OnOk result (map (λ w. w.items) words.new.items
         ≡ map (λ w. w.items) words.old.items ++ map word_of (map (λ t. t.now) texts.now)) }
@@ -209,7 +209,7 @@ fn push_words(alloc: Global, words: &mut Vec<Vec<u8>>, texts: &[&str]) -> Result
     Ok(())
 }
 
-/// Pushes the columns that `text` names behind `words`. Commas part them; in a text with quotes one
+/// Pushes the columns that `text` names after `words`. Commas part them; in a text with quotes one
 /// between two quotes is part of a name.
 fn push_columns(alloc: Global, words: &mut Vec<Vec<u8>>, text: &str) -> Result<(), AllocError>
     ensures { OnOk result (map (λ w. w.items) words.new.items
@@ -248,7 +248,7 @@ fn word_given(alloc: Global, found: &ArgMatches, name: &str) -> Result<Option<Ve
     }
 }
 
-/// Gives the number of digits that a weight may have behind a point.
+/// Gives the number of digits that a weight may have after a point.
 fn decimals_of(found: &ArgMatches) -> u8
     ensures { AreDecimals (found_of found.now) result }
 {

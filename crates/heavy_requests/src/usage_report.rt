@@ -39,7 +39,7 @@ impl UsageReport {
     }
 }
 
-/// Whether one of the `words` before `--` is `option`, alone or with its value behind `=`.
+/// Whether one of the `words` before `--` is `option`, alone or with its value after `=`.
 fn has_option(words: &[Vec<u8>], option: &[u8]) -> bool {
     for word in words {
         if word.as_slice() == b"--".as_slice() {
@@ -52,7 +52,7 @@ fn has_option(words: &[Vec<u8>], option: &[u8]) -> bool {
     false
 }
 
-/// Whether one of the `words` before `--` begins with `letter`, which may have its value behind it.
+/// Whether one of the `words` before `--` begins with `letter`, which may have its value after it.
 fn has_letter(words: &[Vec<u8>], letter: &[u8]) -> bool {
     for word in words {
         if word.as_slice() == b"--".as_slice() {

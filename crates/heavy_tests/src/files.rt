@@ -27,7 +27,7 @@ enum Course {
     Changes,
 }
 
-/// A file of the record `a,5000` or `a,6000` and, behind it, of many keys.
+/// A file of the record `a,5000` or `a,6000` and, after it, of many keys.
 #[derive(Drop)]
 struct ManyRecords<'a> {
     course: Course,
@@ -100,7 +100,7 @@ fn options() -> ReportOptions {
     }
 }
 
-/// This record, and behind it those of more keys than one pass keeps, each of weight 1.
+/// This record, and after it those of more keys than one pass keeps, each of weight 1.
 fn with_many_keys(rt: &(impl Abort + AllocGlobal), record: &str) -> String {
     let mut text = String::new(rt.alloc());
     write!(text, "{record}\n").expect(rt, "room");

@@ -34,7 +34,7 @@ pub record IsOutside (b : Bounds) (s : SummaryView) (xs : List Entry) (o : Outsi
   pub bounds : (o.low, o.high) ≡ bounds_of s o.key
   pub beyond : IsBeyond b (o.low, o.high) o.weight
 
--- no key is outside its bounds in the items, or where that refuses nothing, such a key is told, if there is one
+-- no key is outside its bounds in the items, or where that refuses nothing, such a key is named, if there is one
 abbrev pub TellsOutside : Bool → Bounds → SummaryView → List Entry → Option Outside → Type 0
 TellsOutside refuses b s xs told =
     MatchOption told (AreWithin b s xs) (λ o. (IsTrue refuses → ⊥) × IsOutside b s xs o)

@@ -27,7 +27,7 @@ abbrev pub kind_name : Saved → List ℕ
 kind_name (Counters s) = codes "summary"
 kind_name (Cells t) = codes "table"
 
--- what is told of a value: of a summary k, how many keys it has, the total, the sum of the counters,
+-- what describes a value: of a summary k, how many keys it has, the total, the sum of the counters,
 -- and how far one may be below its key's weight; of a table its shape and the total
 abbrev pub facts_of : Saved → List Fact
 facts_of (Counters s) =

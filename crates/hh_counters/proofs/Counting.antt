@@ -216,7 +216,7 @@ absent_before c i e rising l at = list_any_none (same_key e.0) (keys_of (take i 
         ap (same_key e.0) there ∙ ap is_eq (flipped (get_or c j e).0 e.0 Less
         (ap (λ (f : Entry). key_cmp (get_or c j e).0 f.0) (sym at) ∙ less))
 
--- a key of rising counters that passes a test comes behind those before it that pass
+-- a key of rising counters that passes a test comes after those before it that pass
 pub insert_passing : (may : Entry → Bool) (c : Counters) (i : ℕ) (e : Entry) → IsStrictlySortedBy key_cmp (keys_of c)
     → i < length c → get_or c i e ≡ e → may e ≡ true
     → insert_key same_key (keys_of (filter may (take i c))) e.0 ≡ keys_of (filter may (take (i + 1) c))

@@ -300,7 +300,7 @@ some_bucket f (e ∷ es) b old some =
     not_empty [] h = absurd (true≢false (sym h))
     not_empty (k ∷ ks) h = omega arith
 
--- what is put in behind the first pair leaves it the first one to be taken out
+-- what is put in after the first pair leaves it the first one to be taken out
 pub first_popped : (ks ms ds : List (ℕ × Bytes)) (p k : ℕ × Bytes) (o : Option (ℕ × Bytes)) → slice_get ks 0 ≡ Some p
     → p.0 < k.0 → ms ≡ insert_key by_counter ks k → (0 < length ms → IsSome o) → IfSome o (λ r. ms ≡ r ∷ ds)
     → o ≡ Some p

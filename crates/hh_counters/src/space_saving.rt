@@ -15,8 +15,8 @@ use std::marker::Model;
 /// Space-Saving in its plain form: the counters by rising key, searched for the least.
 ///
 /// An item whose key is monitored costs a search by halves, and takes no memory. A newcomer's key
-/// is copied and put into its place, so that the counters behind it move; where none is free, a
-/// pass over all counters finds the least one before, and those behind that one move back. A
+/// is copied and put into its place, so that the counters after it move; where none is free, a
+/// pass over all counters finds the least one before, and those after that one move back. A
 /// contract sees k, the total and the counters by rising key.
 #[derive(Debug, Drop)]
 pub struct SpaceSaving {

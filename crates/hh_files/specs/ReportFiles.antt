@@ -16,7 +16,7 @@ items_or_too_many None = ([], max_total + 1) ∷ []
 items_or_too_many (Some xs) = xs
 
 -- the items of the pieces of files, so that each can be read by itself where they are not too many; where
--- the bytes aren't known, so many empty lists
+-- the bytes aren't known, `count` empty lists
 abbrev pub lists_of : ℕ → Option (List (Option (List Entry))) → List (List Entry)
 lists_of count None = replicate count []
 lists_of count (Some pieces) = map items_or_too_many pieces

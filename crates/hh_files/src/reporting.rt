@@ -162,8 +162,8 @@ fn reported_of_files<T: Threads + Wait + Sync, S: ReadAt + Sync>(
 ///
 /// Where the bytes of all files are known, the report is that of their records, one file after the
 /// other. A file of the system may change between two readings. Where the total weight differs, one
-/// thread reads the files anew; where it differs then too, or a length does, a file is told as one
-/// that can't be read. Where neither differs, a change can't be seen.
+/// thread reads the files anew; where it differs then too, or a length does, the error is that a
+/// file can't be read. Where neither differs, a change can't be seen.
 pub fn report_files<T: Threads + Wait + Sync, F: ReadAt + Sync, S: Sink>(
     rt: &T,
     alloc: Global,

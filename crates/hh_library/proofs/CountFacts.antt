@@ -13,7 +13,7 @@ use Rattle.hh_library.proofs.AddFacts.{items_go_on}
 -- the i-th item, which has number i + 1, passed
 module _ {X : Type 0} (f : X → Entry) (xs : List X) (ks : List Bytes) (i : ℕ) (d : X) (e : Entry)
     (is : e ≡ f (get_or xs i d)) (lt : i < length xs) where
-  -- it is counted with those before it, and those behind it have the first fault of all
+  -- it is counted with those before it, and those after it have the first fault of all
   pub count_goes_on : CountsFollowItems → (c : Count) (whole : Option ToolError) → 0 < e.1
       → item_fault (i + 1) c.total e ≡ None
       → (bad_item (i + 1) c.total (drop i (map f xs)) ≡ whole) × IsCountOf ks (map f (take i xs)) c

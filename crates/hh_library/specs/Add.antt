@@ -16,7 +16,7 @@ use Rattle.hh_commands.specs.Table.{bad_table}
 use Rattle.hh_faults.specs.declared.error.ToolError.{ToolError}
 use Rattle.hh_faults.specs.declared.error.ToolError.TheVariants as tool
 
--- what is wrong with item n, behind a total of t: the first of its key's length, its weight, and the total
+-- what is wrong with item n, after a total of t: the first of its key's length, its weight, and the total
 abbrev pub item_fault : ℕ → ℕ → Entry → Option ToolError
 item_fault n t e =
     if length e.0 == 0 then Some (tool.BadRecord n cause.EmptyKey)
@@ -25,7 +25,7 @@ item_fault n t e =
     else if nat_le (t + e.1) max_total then None
     else Some (tool.BadRecord n cause.TotalTooLarge)
 
--- the first fault of items that have the numbers from n on, behind a total of t
+-- the first fault of items that have the numbers from n on, after a total of t
 unfoldable pub bad_item : ℕ → ℕ → List Entry → Option ToolError
 bad_item n t [] = None
 bad_item n t (e ∷ es) = or_else (item_fault n t e) (bad_item (n + 1) (t + e.1) es)

@@ -15,7 +15,7 @@ use hh_faults::{BadRecordCause, ToolError};
 use hh_stream::{KeyHash, MAX_KEY_LEN, MAX_TOTAL};
 use std::alloc::Global;
 
-/// What is wrong with the item with this number, behind items of this total.
+/// What is wrong with the item with this number, after items of this total.
 pub fn item_fault(number: u64, total: u64, key: &[u8], weight: u64) -> Option<ToolError>
     requires { total ≤ max_total }
     ensures fault { result ≡ item_fault number total (key.now, weight) }

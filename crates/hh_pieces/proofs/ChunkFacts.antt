@@ -24,7 +24,7 @@ use Rattle.hh_pieces.proofs.PieceFacts.{items-move, parts-more}
 use Rattle.hh_records.proofs.ReadFacts.{items-more}
 
 -- ---- the front of a buffer
--- what is held grows by what was read into the room behind it
+-- what is held grows by what was read into the room after it
 pub held-grown : (xs buffer tail : List ℕ) (held count : ℕ) → held ≤ length xs → count ≤ length buffer
     → take (held + count) (take held xs ++ (buffer ++ tail)) ≡ take held xs ++ take count buffer
 held-grown xs buffer tail held count within fits =
@@ -84,7 +84,7 @@ abbrev weight_in : Entry → ℕ
 weight_in e = e.1
 
 module _ (layout : Layout) where
-  -- what a text reads as that is cut behind a part that reads as some items
+  -- what a text reads as that is cut after a part that reads as some items
   reading-more : (columns : Option Places) (at : Places) (a b : List ℕ) (xs ys : List Entry) → IsCut layout.delimiter a b
       → Follows layout columns at a → piece_reading layout columns a ≡ Some (Ok xs)
       → piece_reading layout (Some at) b ≡ Some (Ok ys) → total_of (xs ++ ys) ≤ max_total
@@ -104,7 +104,7 @@ module _ (layout : Layout) where
           ap (option_map (items_after layout 1 0)) (parts-more layout columns at a b ps cut follows is)
           ∙ ap Some (items-more layout 1 0 xs ps qs alone ∙ ap (joined xs) behind)
 
-  -- a piece leads by a chunk of it to what stands behind the chunk
+  -- a piece leads by a chunk of it to what stands after the chunk
   chunk-leads : (columns : Option Places) (at : Places) (held : List ℕ) (count : ℕ) (xs : List Entry)
       → IsCutAt layout.delimiter held count → Follows layout columns at (take count held)
       → piece_reading layout columns (take count held) ≡ Some (Ok xs)

@@ -28,7 +28,7 @@ unfolding records_from next_record
 at_end cfg zero = refl
 at_end cfg (suc n) = refl
 
--- as many records as there are bytes behind the first one are all
+-- as many records as there are bytes after the first one are all
 runs-next : (cfg : Config) (s : State) (f : Fields) (p xs : List ℕ) (n : ℕ) → length xs ≤ n
     → records_next (records_from cfg n) (next_record cfg s f p xs) ≡ runs cfg s f p xs
 unfolding next_record records_from runs

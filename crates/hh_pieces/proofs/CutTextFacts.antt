@@ -23,7 +23,7 @@ abbrev pub tail_of : {A : Type 0} → List A → List A
 tail_of [] = []
 tail_of (x ∷ xs) = xs
 
--- what is there in two lists, one behind the other, is there in each
+-- what is there in two lists, one after the other, is there in each
 pub somes-split : {A : Type 0} (xs ys : List (Option A)) (parts : List A) → xs ++ ys ≡ map Some parts
     → (ps : List A) × (qs : List A) × (parts ≡ ps ++ qs) × (xs ≡ map Some ps) × (ys ≡ map Some qs)
 somes-split [] ys parts e = ([], parts, refl, refl, e)
@@ -132,7 +132,7 @@ module _ (layout : Layout) where
       let (all, outside) = pieces-read (all_pieces ts) parts (rw is at e) in
       rw (← are) (reads layout ts parts (texts-cut law ts begin outside) all few)
 
-  -- and by these with pieces of no items behind them
+  -- and by these with pieces of no items after them
   pub read-padded : (bytes : List (List ℕ)) (pieces : List (Option (List Entry))) (count : ℕ)
       → AreReadByPieces layout bytes pieces → AreReadByPieces layout bytes (padded count pieces)
   read-padded bytes pieces count h parts e few =

@@ -95,7 +95,7 @@ module _ (layout : Layout) where
           (rw (take_all number texts (omega (arith, l, long))) at h) parts
           (map-map (piece_items layout) (file_piece texts) pieces ∙ is) few
 
-  -- and by these with pieces of no items behind them
+  -- and by these with pieces of no items after them
   pub files-padded : (o : Option (List (List ℕ))) (count : ℕ) (pieces : List FilePiece)
       → IfSome o (λ texts. AreReadByPieces layout texts (map (λ piece. piece_items layout (file_piece texts piece)) pieces))
       → IfSome o (λ texts. (all : List (Option (List Entry)))

@@ -30,7 +30,7 @@ module _ (d : ℕ) where
       by false [] = refl
       by false (x ∷ xs) = refl
 
-  -- the record of the first of some lines, behind the fields f and the bytes p of the next, and those
+  -- the record of the first of some lines, after the fields f and the bytes p of the next, and those
   -- of the other lines
   rows_behind : Fields → List ℕ → List (List ℕ) → List Fields
   rows_behind f p [] = (f ++ (p ∷ [])) ∷ []
@@ -78,7 +78,7 @@ module _ (d : ℕ) where
   unfolding runs
   runs-same s t f p c rest e = rw e refl
 
-  -- behind a byte that ends a record
+  -- after a byte that ends a record
   after-end-rows : (c : ℕ) (rest : List ℕ) → Between rest
       → runs cfg (after_end cfg.terminator c) [] [] rest ≡ line_rows d (lines_in rest)
   after-end-rows c rest between = by (c == 13)

@@ -212,7 +212,7 @@ module _ (layout : Layout) where
       if layout.has_header then headed_parts layout rows
       else option_map (λ at. map (parts_at at) rows) (places_in layout [])
 
-  -- records behind those that have the header are read by its columns
+  -- records after those that have the header are read by its columns
   rows-more : (rows : List Fields) (at : Places) → columns_of layout rows ≡ Some at
       → (ps : List Parts) × (parts_in rows ≡ Some ps)
       × ((more : List Fields) → parts_in (rows ++ more) ≡ Some (ps ++ map (parts_at at) more))

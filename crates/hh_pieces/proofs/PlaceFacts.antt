@@ -137,7 +137,7 @@ module _ (d : ℕ) where
       let h = at-step s c u in
       at-run xs (step (delimited d) s c).0 (place_next d p c) (h.0 ∙ ap (λ p. place_next d p c) e) h.1
 
-  -- a text may be cut where the place behind it is outside quotes
+  -- a text may be cut where the place after it is outside quotes
   pub cut-place : (xs : List ℕ) → is_outside (state_behind (delimited d) st.StartRecord xs) ≡ is_open (place_behind d xs)
   cut-place xs =
       can-outside (state_behind (delimited d) st.StartRecord xs) ∙ ap is_open (at-run xs st.StartRecord place.Start refl refl).0
@@ -218,7 +218,7 @@ pub line-drop : (text : List ℕ) (n : ℕ) → n < length text
     → begins_with_feed (drop n text) ≡ (get_or text n 0 == 10)
 line-drop text n l = ap begins_with_feed (drop_more text n 0 l)
 
--- the cuts of a text are the line feeds outside quotes of what stands behind the mark
+-- the cuts of a text are the line feeds outside quotes of what stands after the mark
 module _ (d : ℕ) (other : (d == 10) ≡ false) (text : List ℕ) (mark : ℕ) (is : mark ≡ mark_len text) where
   body-at : (at : ℕ) → get_or (drop mark text) at 0 ≡ get_or text (mark + at) 0
   body-at at = get_or-drop mark text at 0
@@ -243,7 +243,7 @@ module _ (d : ℕ) (other : (d == 10) ≡ false) (text : List ℕ) (mark : ℕ) 
     outside = sym (cut-state at) ∙ (rw other at h.outside);
   }
 
-  -- a cut stands behind the mark
+  -- a cut stands after the mark
   cut-behind : (k : ℕ) → k < length text → IsCutAt d text k → mark ≤ k
   cut-behind k l h =
       let feed = eqb-true (get_or text k 0) 10 (sym (line-drop text k l) ∙ h.feed) in
@@ -284,7 +284,7 @@ module _ (d : ℕ) (other : (d == 10) ≡ false) (text : List ℕ) (mark : ℕ) 
         cut-from-line at within (rw (rest-all text mark) at line),
       )
 
-  -- whether the text ends outside quotes, by the place behind it
+  -- whether the text ends outside quotes, by the place after it
   pub ends-open : (p : QuoteState) → p ≡ place_behind d (slice_range text mark (length text)) → is_open p ≡ ends_outside d text
   ends-open p h =
       ap is_open (h ∙ ap (place_behind d) (rest-all text mark ∙ ap (λ m. drop m text) is ∙ sym (strip-drop text)))

@@ -113,7 +113,7 @@ module _ (d : ℕ) where
   not-outside place.Quoted o = refl
   not-outside place.Left o = absurd (false≢true (sym o))
 
-  -- a run outside quotes, of a byte at least, comes to the place behind its last byte
+  -- a run outside quotes, of a byte at least, comes to the place after its last byte
   pub run-outside : (text : List ℕ) (from to : ℕ) (p : QuoteState) → from < to → to ≤ length text
       → p ≡ place_behind d (take from text) → NoQuote text from to → is_open p ≡ true
       → plain_after d (get_or text (to - 1) 0) ≡ place_behind d (take to text)

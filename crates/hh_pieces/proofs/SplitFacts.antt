@@ -133,7 +133,7 @@ module _ (d : ℕ) where
     abbrev rest : List ℕ
     rest = drop from text
 
-    -- what is left is the line and what stands behind it
+    -- what is left is the line and what stands after it
     line-first : split_rows d rest ≡ line_rows d (take (end - from) rest ∷ []) ++ split_rows d (drop (end - from + 1) rest)
     line-first = elim (dec_lt (end - from) (length rest)) [ yes some ↦ by_end some | no none ↦ by_text none ]
       where

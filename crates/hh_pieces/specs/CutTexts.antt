@@ -34,7 +34,7 @@ abbrev pub piece_items : Layout → Piece → Option (List Entry)
 piece_items layout piece =
     if ends_outside layout.delimiter piece.1 then items_of (piece_reading layout piece.0 piece.1) else None
 
--- these and, behind them, pieces of no items, so many in all
+-- these and, after them, pieces of no items, `count` in all
 abbrev pub padded : ℕ → List (Option (List Entry)) → List (Option (List Entry))
 padded count pieces = pieces ++ replicate (count - length pieces) (Some [])
 

@@ -1,7 +1,7 @@
 -- Texts of records in files that are read at any place.
 use Rattle.std.specs.Prelude.{◌≡◌, ◌+◌, ◌-◌, ◌<◌, ◌++◌, ℕ, List, [], take, drop, length, Option, option_map}
 
--- so many bytes from a place on are these of a buffer, and they are none only at the end or with no room
+-- `count` bytes from a place on are these of a buffer, and they are none only at the end or with no room
 pub record GivesFrom (bytes : List ℕ) (at count : ℕ) (buffer : List ℕ) : Type 0 where
   pub gives : drop at bytes ≡ take count buffer ++ drop (at + count) bytes
   pub none : count ≡ 0 → 0 < length buffer → drop at bytes ≡ []

@@ -15,7 +15,7 @@ use Rattle.hh_faults.specs.declared.records.TextError.{TextError}
 use Rattle.hh_faults.specs.declared.records.TextError.TheVariants as text
 
 -- ---- where a text may be cut
--- the state of csv's machine behind these bytes
+-- the state of csv's machine after these bytes
 abbrev pub state_behind : Config → State → List ℕ → State
 state_behind config s bytes = fold (λ s c. (step config s c).0) s bytes
 
@@ -30,7 +30,7 @@ is_outside st.InQuoted = false
 is_outside st.InEscape = false
 is_outside st.InComment = false
 
--- whether a text with this byte between its fields ends outside quotes, so that a line feed behind it
+-- whether a text with this byte between its fields ends outside quotes, so that a line feed after it
 -- ends a record or is skipped; where the byte is a line feed itself, it ends a field alone
 abbrev pub ends_outside : ℕ → List ℕ → Bool
 ends_outside d bytes =
@@ -49,8 +49,8 @@ pub record IsCut (d : ℕ) (a b : List ℕ) : Type 0 where
 abbrev pub IsCutAt : ℕ → List ℕ → ℕ → Type 0
 IsCutAt d bytes at = IsCut d (take at bytes) (drop at bytes)
 
--- so many bytes of a part of a text, with commas between its fields, are whole records: the text may be
--- cut behind them and nowhere further on, or they are none
+-- n bytes of a part of a text, with commas between its fields, are whole records: the text may be
+-- cut after them and nowhere further on, or they are none
 pub record AreWholeRecords (bytes : List ℕ) (n : ℕ) : Type 0 where
   pub within : n ≤ length bytes
   pub cut : 0 < n → IsCutAt comma bytes n

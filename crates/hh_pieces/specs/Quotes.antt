@@ -4,22 +4,22 @@ use Rattle.csv.specs.Reading.{is_bom}
 use Rattle.hh_pieces.specs.declared.cuts.QuoteState.{QuoteState}
 use Rattle.hh_pieces.specs.declared.cuts.QuoteState.TheVariants as place
 
--- the place behind a byte that is no quote, outside quotes, with this byte between fields
+-- the place after a byte that is no quote, outside quotes, with this byte between fields
 abbrev pub plain_after : ℕ → ℕ → QuoteState
 plain_after d c = if c == d then place.Start else if (c == 13) || (c == 10) then place.Start else place.Field
 
--- the place behind one more byte
+-- the place after one more byte
 abbrev pub place_next : ℕ → QuoteState → ℕ → QuoteState
 place_next d place.Start c = if c == 34 then place.Quoted else plain_after d c
 place_next d place.Field c = plain_after d c
 place_next d place.Quoted c = if c == 34 then place.Left else place.Quoted
 place_next d place.Left c = if c == 34 then place.Quoted else plain_after d c
 
--- the place behind these bytes, where they stand behind a place
+-- the place after these bytes, where they stand after a place
 abbrev pub place_from : ℕ → QuoteState → List ℕ → QuoteState
 place_from d p bytes = fold (place_next d) p bytes
 
--- the place behind these bytes
+-- the place after these bytes
 abbrev pub place_behind : ℕ → List ℕ → QuoteState
 place_behind d bytes = place_from d place.Start bytes
 

@@ -69,7 +69,7 @@ const LEAST_LEN: u64 = 65_536;
 // How many bytes are read at once where a line feed is looked for.
 const READ_LEN: usize = 65_536;
 
-// How often a line feed is looked for behind a place. A piece that has none for so long is refused.
+// How often a line feed is looked for after a place. A piece that has none for so long is refused.
 const MOST_READS: usize = MOST_HELD / READ_LEN;
 
 /// Finds a line feed at `from` or not far after it. Where a read fails, it finds none.

@@ -17,7 +17,7 @@ enum QuoteState {
     Field,
     /// In quotes: a quote closes them.
     Quoted,
-    /// Right behind a quote that closed a field: one more quote opens it again.
+    /// Right after a quote that closed a field: one more quote opens it again.
     Left,
 }
 
@@ -31,7 +31,7 @@ fn is_open(place: QuoteState) -> bool
     }
 }
 
-/// The place behind a byte that is no quote, outside quotes.
+/// The place after a byte that is no quote, outside quotes.
 fn plain_after(byte: u8, delimiter: u8) -> QuoteState
     ensures { result ≡ spec.plain_after delimiter byte }
 {
@@ -42,7 +42,7 @@ fn plain_after(byte: u8, delimiter: u8) -> QuoteState
     }
 }
 
-/// The place behind a quote.
+/// The place after a quote.
 fn quote_after(place: QuoteState, delimiter: u8) -> QuoteState
     ensures { result ≡ spec.place_next delimiter place 34 }
 {
@@ -54,7 +54,7 @@ fn quote_after(place: QuoteState, delimiter: u8) -> QuoteState
     }
 }
 
-/// The place behind a run with no quote.
+/// The place after a run with no quote.
 fn run_after(text: &[u8], from: usize, to: usize, place: QuoteState, delimiter: u8) -> QuoteState
     requires order { from ≤ to }
     requires within { to ≤ length text.now }
@@ -94,7 +94,7 @@ fn feed_after(
     }
 }
 
-/// The place behind a text, and the last line feed in it that is outside quotes.
+/// The place after a text, and the last line feed in it that is outside quotes.
 fn scan(text: &[u8], delimiter: u8) -> (QuoteState, Option<usize>)
     ensures place { result.0 ≡ place_behind delimiter text.now }
     ensures last { IsLast (IsFeedAt delimiter text.now) 0 (length text.now) result.1 }

@@ -159,7 +159,7 @@ fn has_plain_records(layout: &Layout, columns: Option<&Columns>) -> bool
     plain && is_separator(layout.delimiter)
 }
 
-/// What stands behind a byte order mark, where a piece of a text can be read line by line.
+/// What stands after a byte order mark, where a piece of a text can be read line by line.
 fn plain_text<'t>(layout: &Layout, columns: Option<&Columns>, piece: &'t [u8]) -> Option<&'t [u8]>
     ensures { IfSome result (λ text.
         piece_parts layout.now (option_map (λ c. c.now) columns.entry) piece.now

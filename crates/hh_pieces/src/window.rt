@@ -7,7 +7,7 @@ use hh_records::retrying::read;
 use std::alloc::{AllocError, Global};
 use std::io::{self, Read};
 
-/// So many zeros.
+/// Makes `len` zeros.
 pub(crate) fn zeros(alloc: Global, len: usize) -> Result<Vec<u8>, AllocError>
     ensures { IfOk result (λ zeros. length zeros.items ≡ len) }
 {
@@ -64,7 +64,7 @@ impl Window {
             .resize(len.saturating_mul(2).min(most).max(least), 0u8)
     }
 
-    // Reads once, into the room behind the bytes that it holds.
+    // Reads once, into the room after the bytes that it holds.
     pub(crate) fn read_more<R: Read>(&mut self, reader: &mut R) -> io::Result<usize>
         requires room { self.old.held < length self.old.bytes.items }
         ensures more { IfOk result (λ count. (more : List ℕ) × (length more ≡ count)

@@ -38,7 +38,7 @@ field_stays act.EndField c p byte field = All-nil IsByte
 field_stays act.EndRecord c p byte field = All-nil IsByte
 field_stays act.Skip c p byte field = field
 
--- what a record and the text behind it are made of
+-- what a record and the text after it are made of
 abbrev HasBytes : Read → Type 0
 HasBytes q = HaveBytes q.0 × AreBytes q.2
 

@@ -1,4 +1,4 @@
--- Digits behind a point, written and read.
+-- Digits after a point, written and read.
 use Rattle.std.proofs.Common.{◌≡◌, ◌<◌, ◌≤◌, ◌+◌, ◌-◌, ◌*◌, ◌^◌, ◌∷◌, ◌++◌, ◌∙◌, ℕ, zero, suc, Bool, true, false, List, [], length, take, drop, Option, Some, None, inl, inr, refl, sym, ap, arith}
 use Rattle.std.specs.Prelude.{◌==◌, ◌&&◌, ◌/◌, ◌%◌, fold, min, nat_le, not, option_map, MatchOption, if◌then◌else◌}
 use Rattle.std.specs.Fmt.{decimal}
@@ -54,7 +54,7 @@ number-none (b ∷ f) =
     let long : nat_le (length (b ∷ f)) 0 ≡ false = grind (arith, nat_tests) in
     rw (long, and_right (not (length (b ∷ f) == 0)) false refl) refl
 
--- with no digits behind a point a weight is a whole number
+-- with no digits after a point a weight is a whole number
 pub units-whole : (f : List ℕ) → units_of 0 (Some f) ≡ weight_of (Some f)
 units-whole f = by (point_from 0 f) refl
   where
@@ -130,7 +130,7 @@ pub units-none : (limit : ℕ) (f : List ℕ) (r : Option ℕ)
 units-none limit f None h = rw (units-whole f, h) refl
 units-none limit f (Some n) h = rw (units-whole f, h.0, h.1) refl
 
--- digits before a point and behind it
+-- digits before a point and after it
 pub units-pointed : (d limit i whole behind : ℕ) (f : List ℕ) → point_from 0 f ≡ Some i
     → is_whole (take i f) ≡ true → whole ≡ min (value_of (take i f)) limit
     → is_number d (drop (i + 1) f) ≡ true → behind ≡ min (value_of (drop (i + 1) f)) limit

@@ -56,7 +56,7 @@ fields-push (g ∷ fs) f =
     ap (λ (u : List ℕ). 44 ∷ u) (append_assoc (field_text default_writer g) (fields_text default_writer fs) _
     ∙ ap (λ (u : List ℕ). field_text default_writer g ++ u) (fields-push fs f))
 
--- one more field behind those that are written
+-- one more field after those that are written
 pub body-push : (fs : Fields) (f : List ℕ)
     → row_body default_writer fs ++ (next_sep default_writer (length fs) ++ field_text default_writer f)
     ≡ row_body default_writer (fs ++ f ∷ [])
@@ -124,7 +124,7 @@ field-there [] i l e = absurd (omega (arith, l))
 field-there (g ∷ r) zero l e = cc e
 field-there (g ∷ r) (suc i) l e = field-there r i (omega (arith, l)) e
 
--- the first of these fields is like the name, or one behind it
+-- the first of these fields is like the name, or one after it
 pub named-here : (name : List ℕ) (i : ℕ) (r : Fields) (f : List ℕ) → Some f ≡ field_at r i → bytes_eq f name ≡ true
     → named_from name i (drop i r) ≡ Some i
 named-here name i r f e same = rw (field-drop r i f e, same) refl

@@ -196,7 +196,7 @@ module _ {R : Type 0} (remaining : R → Option (List ℕ)) (layout : Layout) wh
           )
 
 -- ---- texts that are read
--- a record that fails ends the reading, whatever comes behind it
+-- a record that fails ends the reading, whatever comes after it
 items-refused : (layout : Layout) (n t : ℕ) (ps qs : List Parts) (x : ℕ × BadRecordCause) → items_after layout n t ps ≡ Err x
     → items_after layout n t (ps ++ qs) ≡ Err x
 unfolding items_after

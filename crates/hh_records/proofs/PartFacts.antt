@@ -3,7 +3,7 @@ use Rattle.std.proofs.Common.{◌≡◌, ◌≤◌, ◌∷◌, ℕ, List, [], le
 use Rattle.csv.specs.Records.{field_at}
 use Rattle.hh_records.specs.Streams.{Fields, parts_of}
 
--- the key of one or two fields, and the field behind it
+-- the key of one or two fields, and the field after it
 pub parts-some : (r : Fields) (k : List ℕ) (f : Option (List ℕ)) → (length r ≡ 0 → ⊥) → length r ≤ 2
     → Some k ≡ field_at r 0 → f ≡ field_at r 1 → Some (k, f) ≡ parts_of r
 unfolding field_at

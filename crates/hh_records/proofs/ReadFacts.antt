@@ -317,7 +317,7 @@ module _ (cfg : Config) (f : Fields → Parts) (layout : Layout) (s0 : State) (b
           number,
         ) refl
 
--- a header was read: the records behind it are those that are left
+-- a header was read: the records after it are those that are left
 pub header-taken : {R : Type 0} (rem : R → Option (List ℕ)) (a b : Reader R) (f : Fields) (cfg : Config) (y : List ℕ)
     → a.config ≡ cfg → a.state ≡ st.StartRecord → source_of rem a ≡ Some y → ReadRecord rem a b true f
     → (z : List ℕ) × (source_of rem b ≡ Some z) × (ends_at_end b.state ≡ false)
@@ -369,7 +369,7 @@ module _ {R : Type 0} (remaining : R → Option (List ℕ)) (layout : Layout) (a
   opened-none (Some y) e r =
       ([], refl, rw (header-missed rem a b f (delimited layout.delimiter) y start.config start.start e r) refl)
 
-  -- behind its header
+  -- after its header
   pub opened-some : (chosen : Option ColumnIndices) (o : Option (List ℕ)) → source_of rem a ≡ o → ReadRecord rem a b true f
       → places_in layout f ≡ Some (chosen_places chosen)
       → Opens remaining (option_map parts o) (Some (record { rows = b; chosen = chosen }))

@@ -1,4 +1,4 @@
--- Numbers with digits behind a point.
+-- Numbers with digits after a point.
 use Rattle.std.specs.Prelude.{◌+◌, ◌-◌, ◌*◌, ◌/◌, ◌%◌, ◌^◌, ◌==◌, ◌&&◌, ◌||◌, ℕ, zero, suc, Bool, List, [], ◌∷◌, ◌++◌, length, take, drop, Option, Some, None, if◌then◌else◌}
 use Rattle.std.specs.Fmt.{decimal}
 use Rattle.std.specs.List.{position_from}
@@ -17,7 +17,7 @@ abbrev pub behind_point : ℕ → List ℕ → ℕ
 behind_point d text = value_of text * 10 ^ (d - length text)
 
 -- the units of 10^-d that a text writes whose first point, where it has one, stands at this place: it
--- is 1 to 20 digits or, with 1 to d digits behind the point, at most 20
+-- is 1 to 20 digits or, with 1 to d digits after the point, at most 20
 abbrev pub units_at : ℕ → List ℕ → Option ℕ → Option ℕ
 units_at d text None = if is_number 20 text then Some (value_of text * 10 ^ d) else None
 units_at d text (Some i) =
@@ -34,7 +34,7 @@ unfoldable pub last_digits : ℕ → ℕ → List ℕ
 last_digits zero n = []
 last_digits (suc d) n = (48 + n / 10 ^ d % 10) ∷ last_digits d n
 
--- a number of units of 10^-d, with d digits behind a point; where d is 0 there is no point
+-- a number of units of 10^-d, with d digits after a point; where d is 0 there is no point
 abbrev pub pointed : ℕ → ℕ → List ℕ
 pointed zero n = decimal n
 pointed (suc d) n = decimal (n / 10 ^ suc d) ++ 46 ∷ last_digits (suc d) n

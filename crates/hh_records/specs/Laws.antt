@@ -17,7 +17,7 @@ abbrev pub PlainLayoutsReadStreams : Type 0
 PlainLayoutsReadStreams =
     (layout : Layout) (text : List ℕ) → IsPlain layout → stream_with layout (text ∷ []) ≡ Some (stream_of text)
 
--- a number that is printed with digits behind a point is read as itself, in units of as many digits
+-- a number that is printed with digits after a point is read as itself, in units of as many digits
 abbrev pub PrintedNumbersAreRead : Type 0
 PrintedNumbersAreRead = (d n : ℕ) → n ≤ max_total → units_of d (Some (pointed d n)) ≡ Some n
 

@@ -35,7 +35,7 @@ use Rattle.hh_faults.specs.declared.records.TextError.{TextError}
 use Rattle.hh_faults.specs.declared.records.TextError.TheVariants as text
 
 -- where the fields of the key and that of the weight stand, from 0 on; nothing says that a record is
--- a key and, behind it, its weight
+-- a key and, after it, its weight
 abbrev pub Places : Type 0
 Places = Option (List ℕ × Option ℕ)
 

@@ -1,4 +1,4 @@
-//! Numbers with digits behind a point.
+//! Numbers with digits after a point.
 
 ghost use Rattle.std.specs.Prelude.{◌≡◌, ◌*◌, ◌/◌, ◌<◌, ◌^◌, false, length, min, true, IfOk, IfSome, MatchOption, Some, option_map};
 ghost use Rattle.hh_stream.specs.Digits.{value_of};
@@ -46,7 +46,7 @@ fn whole_in(digits: &[u8]) -> Option<u64>
     number_in(digits, 20)
 }
 
-/// Reads the number that `field` writes, which may have digits behind a point, in units of the last
+/// Reads the number that `field` writes, which may have digits after a point, in units of the last
 /// of `decimals` digits, at most the largest `u64`.
 fn pointed_in(field: &[u8], decimals: u8) -> Option<u64>
     ensures { result ≡ option_map (λ units. min units u64.MAX)
@@ -63,7 +63,7 @@ fn pointed_in(field: &[u8], decimals: u8) -> Option<u64>
     Some(scaled(whole, decimals).saturating_add(scaled(units, missing)))
 }
 
-/// Reads the number that `field` writes as [`pointed_in`] does. Where no digit may stand behind a
+/// Reads the number that `field` writes as [`pointed_in`] does. Where no digit may stand after a
 /// point there is none.
 pub(crate) fn units_in(field: &[u8], decimals: u8) -> Option<u64>
     ensures { result ≡ option_map (λ units. min units u64.MAX)
@@ -86,7 +86,7 @@ fn without(number: u128, places: u8) -> u128
     left
 }
 
-/// Writes `number`, which counts in units of the last of `decimals` digits behind a point. With
+/// Writes `number`, which counts in units of the last of `decimals` digits after a point. With
 /// none there is no point.
 pub fn pointed(alloc: Global, number: u128, decimals: u8) -> Result<Vec<u8>, AllocError>
     ensures { IfOk result (λ text. text.items ≡ pointed decimals number) }

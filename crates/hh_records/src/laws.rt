@@ -14,7 +14,7 @@ pub fn plain_layouts_read_streams()
     ensures { PlainLayoutsReadStreams }
 {}
 
-/// A number that is printed with digits behind a point is read as the number.
+/// A number that is printed with digits after a point is read as the number.
 pub fn printed_numbers_are_read()
     ensures { PrintedNumbersAreRead }
 {}

@@ -33,7 +33,7 @@ pub struct Layout {
     pub weight: Option<Column>,
     /// A record of weight 0 adds nothing and is no fault, and `-` is such a weight.
     pub allow_zero: bool,
-    /// The most digits that a weight has behind a point. It counts in units of the last of them:
+    /// The most digits that a weight has after a point. It counts in units of the last of them:
     /// with 3 the weight `0.125` is 125, and 1 is 1,000.
     pub decimals: u8,
     /// How the keys are hashed where they are looked up. No answer depends on it: it decides how

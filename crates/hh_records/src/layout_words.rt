@@ -21,7 +21,7 @@ pub struct LayoutWords {
     pub weight: Option<Vec<u8>>,
     /// A record of weight 0 adds nothing and is no fault, nor is one of weight `-`.
     pub allow_zero: bool,
-    /// The most digits that a weight has behind a point. It counts in units of the last of them.
+    /// The most digits that a weight has after a point. It counts in units of the last of them.
     pub decimals: u8,
 }
 

@@ -91,7 +91,7 @@ fn behind_header<R: Read>(
     }
 }
 
-/// A text whose records are to be read by a layout, behind its header where it is to have one.
+/// A text whose records are to be read by a layout, after its header where it is to have one.
 pub fn open<R: Read + Drop>(
     alloc: Global,
     reader: R,
@@ -120,7 +120,7 @@ pub fn open<R: Read + Drop>(
     }
 }
 
-/// Opens a text behind those that are open. One with no records is passed over.
+/// Opens a text after those that are open. One with no records is passed over.
 fn open_next<R: Read + Drop>(
     alloc: Global,
     texts: &mut Vec<Text<R>>,

@@ -67,13 +67,13 @@ settings_of o p q = record {
   family = drawn_family o.seed o.depth;
 }
 
--- the merge tree that a tree names over so many pieces
+-- the merge tree that a tree names over `pieces` pieces
 abbrev pub Names : Tree → ℕ → MergeTree → Type 0
 Names tree.Chain pieces plan = plan ≡ chain_of (pieces - 1)
 Names tree.Balanced pieces plan = IsBalanced plan 0 pieces
 Names (tree.Text t) pieces plan = SpellsTree t.items plan × IsMergeTree plan pieces
 
--- the tree is one of so many pieces
+-- the tree is one of `pieces` pieces
 abbrev pub IsTree : Tree → ℕ → Type 0
 IsTree t pieces = (plan : MergeTree) × Names t pieces plan
 
@@ -148,7 +148,7 @@ abbrev pub OptionsRefused : ReportOptions → ToolError → Type 0
 OptionsRefused o (tool.BadTree f) = (bad_option o ≡ None) × TreeRefused o.tree o.pieces f
 OptionsRefused o e = IsOptionFault e × (bad_option o ≡ Some e)
 
--- what a refusal before anything is written tells: of the options, or of the records behind them
+-- what a refusal before anything is written tells: of the options, or of the records after them
 abbrev pub StartRefused : ReportOptions → Known → ToolError → Type 0
 StartRefused o known tool.ReadFault = AreOptions o × RecordsRefused known tool.ReadFault
 StartRefused o known (tool.BadRecord n c) = AreOptions o × RecordsRefused known (tool.BadRecord n c)

@@ -28,7 +28,7 @@ use Rattle.hh_records.specs.Streams.{Fields, items_from, item_of_fields, reading
 abbrev fields_of : Entry → Fields
 fields_of e = e.0 ∷ decimal e.1 ∷ []
 
--- from the start of a record on, the text is these entries' records, and what stands behind it is read as ever
+-- from the start of a record on, the text is these entries' records, and what stands after it is read as ever
 record Reads (es : List Entry) (t : List ℕ) : Type 0 where
   pub long : length es ≤ length t
   pub gives : (m n : ℕ) → m ≡ length es + n → (tail : List ℕ)
@@ -64,7 +64,7 @@ reads_both es fs t u h g = record {
       (sym (map-append fields_of es fs));
 }
 
--- what stands behind the key of a row
+-- what stands after the key of a row
 row_rest : Entry → List ℕ → List ℕ
 row_rest e tail = field_text default_writer (decimal e.1) ++ (10 ∷ tail)
 

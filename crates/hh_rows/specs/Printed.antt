@@ -14,7 +14,7 @@ use Rattle.hh_rows.specs.declared.rows.ReportFault.TheVariants as fault
 abbrev pub millionths : ℕ → ℕ → ℕ
 millionths total weight = if total == 0 then 0 else (weight * 1000000) / total
 
--- so many millionths in percent, with four digits behind the point
+-- n millionths in percent, with four digits after the point
 abbrev pub percent : ℕ → List ℕ
 percent n = pointed 4 n
 
@@ -28,7 +28,7 @@ abbrev pub printed_row : ℕ → RowOptions → Entry → List ℕ
 printed_row total options e =
     row_text default_writer (e.0 ∷ pointed options.decimals e.1 ∷ share_fields total options.share e.1)
 
--- at most so many of the first rows
+-- the first n rows, or all of them
 abbrev pub topmost : Option ℕ → List Entry → List Entry
 topmost None es = es
 topmost (Some n) es = take n es

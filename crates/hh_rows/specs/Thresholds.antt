@@ -18,12 +18,12 @@ both None q = None
 both (Some p) None = None
 both (Some p) (Some q) = Some (p, q)
 
--- the numbers before and behind the byte at this place
+-- the numbers before and after the byte at this place
 abbrev pub numbers_at : List ℕ → Option ℕ → Option (ℕ × ℕ)
 numbers_at text None = None
 numbers_at text (Some at) = both (number_of (take at text)) (number_of (drop (at + 1) text))
 
--- the two numbers of a text `P/Q`: those before and behind its first slash
+-- the two numbers of a text `P/Q`: those before and after its first slash
 abbrev pub numbers_of : List ℕ → Option (ℕ × ℕ)
 numbers_of text = numbers_at text (position_from is_slash 0 text)
 

@@ -21,10 +21,10 @@ pub struct RowOptions {
     /// The most rows to print, the first ones; without it all.
     pub top: Option<u64>,
     /// A row has a third column: its weight's share of the total in percent, rounded down, with
-    /// four digits behind the point.
+    /// four digits after the point.
     pub share: bool,
-    /// So many last digits of a weight stand behind a point. These are the weights of records that
-    /// were read by a [`Layout`](crate::Layout) of as many decimals.
+    /// The digits of a weight after the point: those of the [`Layout`](crate::Layout) by which the
+    /// records were read.
     pub decimals: u8,
 }
 

@@ -64,7 +64,7 @@ pub(crate) fn write_row(
     put_fields(writer, &[row.key.bytes(), weight.as_slice()])
 }
 
-/// A text with rows behind it.
+/// A text with rows after it.
 fn with_rows(
     alloc: Global,
     text: Vec<u8>,

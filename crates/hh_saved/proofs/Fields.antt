@@ -15,7 +15,7 @@ use Rattle.hh_saved.specs.Reading.{◌>>=◌, number_at, number_where, bytes_at}
 abbrev pub IsBytes : List ℕ → Type 0
 IsBytes bytes = (i : ℕ) → get_or bytes i 0 < 256
 
--- so are those behind the first ones
+-- so are those after the first ones
 pub IsBytes-drop : (n : ℕ) (bytes : List ℕ) → IsBytes bytes → IsBytes (drop n bytes)
 IsBytes-drop n bytes h i = rw get_or-drop (h (n + i))
 

@@ -123,7 +123,7 @@ rows_len (suc n) width total cells are =
     omega
     (arith, are.0, length-take width cells, length-drop width cells, rows_len n width total (drop width cells) are.2)
 
--- the next row's cells lie behind the first row's
+-- the next row's cells lie after the first row's
 row_cells-suc : (width r : ℕ) (cells : List ℕ) → row_cells width cells (suc r) ≡ row_cells width (drop width cells) r
 row_cells-suc width r cells =
     let place : suc r * width ≡ width + r * width = omega arith in

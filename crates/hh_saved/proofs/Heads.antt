@@ -91,7 +91,7 @@ begun_ends r version zero total bytes i front left rest le b = none_stops r vers
 begun_ends r version (suc n) total bytes i front left rest le b =
     stops_by r (entries_head_at version (suc n) total bytes) (λ fault h. absurd (b.later (omega arith) fault h))
 
--- an entry that was read, and memory that ran out behind it
+-- an entry that was read, and memory that ran out after it
 pub begun_stops : {Y : Type 0} (r : Result Y SavedFault) (version : Version) (count total : ℕ) (bytes : List ℕ) (i : ℕ)
     (front : List Entry) (left : ℕ) (rest : List ℕ) (x : Entry × List ℕ) → i < count
     → entry_at version (last_key_of front) left rest ≡ Ok x → IsBegun version count total bytes i front left rest

@@ -62,7 +62,7 @@ entries_end version front count i left bytes all le so_far =
 
 -- ---- rows
 
--- a row that is read, and the rows behind it
+-- a row that is read, and the rows after it
 rows_step : (front : List ℕ) (n width total : ℕ) (bytes : List ℕ) (read : Result (List ℕ × List ℕ) SavedFault)
     (cells after : List ℕ)
     → with_front front read ≡ Ok (cells, after)
@@ -87,7 +87,7 @@ rows_go_on front cells depth i width total bytes after all lt read so_far =
     sym (rows_step front (depth - (i + 1)) width total bytes (row_at width total bytes) cells after read)
     ∙ rw k at so_far
 
--- a row that fails, whatever is behind it
+-- a row that fails, whatever is after it
 rows_stop : (front : List ℕ) (n width total : ℕ) (read : Result (List ℕ × List ℕ) SavedFault) (fault : SavedFault)
     → with_front front read ≡ Err fault
     → with_front front

@@ -54,7 +54,7 @@ number_where w test fault bytes = do
   n ← number_at w bytes
   if test n.0 then Ok n else Err fault
 
--- so many bytes, and the bytes after them
+-- the first `len` bytes, and the bytes after them
 abbrev pub bytes_at : ℕ → List ℕ → Result (List ℕ × List ℕ) SavedFault
 bytes_at len bytes = if nat_lt (length bytes) len then Err faults.Truncated else Ok (take len bytes, drop len bytes)
 
@@ -92,7 +92,7 @@ entry_at version before left bytes = do
   counter ← number_where w64 (λ n. nat_lt 0 n) faults.BadCounter key.1
   if nat_le counter.0 left then Ok ((key.0, counter.0), counter.1) else Err faults.SumTooLarge
 
--- so many entries, each with a key above the one before it and within what is left of the total
+-- n entries, each with a key above the one before it and within what is left of the total
 unfoldable pub entries_at : Version → ℕ → Bytes → ℕ → List ℕ → Result (List Entry × List ℕ) SavedFault
 entries_at version zero before left bytes = Ok ([], bytes)
 entries_at version (suc n) before left bytes = do
@@ -119,7 +119,7 @@ sketch_at version bytes = do
 
 -- ---- a Count-Min table
 
--- so many blocks of so many bytes
+-- n blocks of `size` bytes
 abbrev pub blocks_in : {X : Type 0} → (List ℕ → X) → ℕ → ℕ → List ℕ → List X
 blocks_in decode size zero bytes = []
 blocks_in decode size (suc n) bytes = decode (take size bytes) ∷ blocks_in decode size n (drop size bytes)
@@ -158,7 +158,7 @@ row_at width total bytes = do
   field ← bytes_at (8 * width) bytes
   if sum (cells_in width field.0) == total then Ok (cells_in width field.0, field.1) else Err faults.RowSum
 
--- so many rows, one after the other
+-- n rows, one after the other
 unfoldable pub rows_at : ℕ → ℕ → ℕ → List ℕ → Result (List ℕ × List ℕ) SavedFault
 rows_at zero width total bytes = Ok ([], bytes)
 rows_at (suc n) width total bytes = do

@@ -66,7 +66,7 @@ holding_of table seat = record {
   adds = seat.adds;
 }
 
--- a seat that holds no slot and has so many claims, all distinct
+-- a seat that holds no slot and has `count` claims, all distinct
 pub record IsCounted (me : Me ℕ Lists) (count : ℕ) : Type 0 where
   pub no_slot : me.1 ≡ []
   pub counted : count ≡ length me.0.claims

@@ -6,7 +6,7 @@ use Rattle.std.specs.List.{list_all}
 abbrev pub is_digit : ℕ → Bool
 is_digit b = nat_le 48 b && nat_le b 57
 
--- a text of 1 to so many digits
+-- a text of 1 to `most` digits
 abbrev pub is_number : ℕ → List ℕ → Bool
 is_number most text = not (length text == 0) && nat_le (length text) most && list_all is_digit text
 

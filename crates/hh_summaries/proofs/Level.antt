@@ -226,7 +226,7 @@ all_exceed t (n ∷ ns) h =
     let rest = all_exceed t ns (λ k d l. h (suc k) d (omega arith)) in
     grind (arith, nat_tests, sum_by-cons (λ n. cond (nat_lt t n) 1 0) n ns, h 0 0 (omega arith), rest)
 
--- the number with k numbers behind it, none of them less, and none before it greater
+-- the number with k numbers after it, none of them less, and none before it greater
 pub level_from_split : (c : Counters) (k x : ℕ) (front back : List ℕ) → IsPermutation (values_of c) (front ++ x ∷ back)
     → length back ≡ k → IsSplitAround nat_cmp front x back → x ≡ level c k
 level_from_split c k x front back p len split = one_level c k x _ (record {

@@ -4,7 +4,7 @@ use Rattle.hh_stream.specs.Weights.{Bytes, Entry, total_of, weight_of}
 use Rattle.hh_tally.specs.Tallies.{TallyView, AreBounds, empty_tally, merged_tally, tally_with}
 use Rattle.hh_tally.specs.declared.room.Room.{Room}
 
--- the tally of no items tells of none, and one that tells of some items tells of those that it takes behind them too
+-- the tally of no items tells of none, and one that tells of some items tells of those that it takes after them too
 abbrev pub BoundsFollow : Type 0
 BoundsFollow =
     ((room : Room) → AreBounds (empty_tally room) [])

@@ -108,6 +108,6 @@ can_exceed p q t e = nat_lt (p * t.total) (q * (e.1 + t.lost))
 abbrev pub contenders_of : ℕ → ℕ → TallyView → Counters
 contenders_of p q t = filter (can_exceed p q t) (tally t.counters)
 
--- the summary with the k greatest counters, each less the one behind them
+-- the summary with the k greatest counters, each less the one after them
 abbrev pub pruned : ℕ → TallyView → SummaryView
 pruned k t = record { k = k; total = t.total; counters = cut (tally t.counters) k }

@@ -5,7 +5,7 @@ use hh_stream::{Cutting, CuttingFault, Item, Key, KeyFault, PushFault, Stream};
 use std::hash::{BuildHasher, BuildHasherDefault, FoldHasher};
 use std::process::Abort;
 
-// So many bytes.
+// Makes `len` bytes.
 fn bytes_of(rt: &(impl Abort + AllocGlobal), len: usize) -> Vec<u8> {
     let bytes = vec![in rt.alloc(); b'x'; len];
     bytes.expect(rt, "bytes")

@@ -12,7 +12,7 @@ use Rattle.hh_stream.specs.declared.taking.PieceFault.TheVariants as fault
 abbrev pub max_workers : ℕ
 max_workers = 64
 
--- sums with a claim for each of so many pieces, and so many cells
+-- sums with a claim for each of `pieces` pieces, and `width` cells
 pub record AreSumsFor (pieces width : ℕ) (sums : Sums) : Type 0 where
   pub claims : sums.claims ≡ pieces
   pub cells : sums.cells ≡ width
@@ -26,7 +26,7 @@ pub record HasEach (n : ℕ) (numbers : List ℕ) : Type 0 where
 abbrev pub HasTried : ℕ → Holding → Type 0
 HasTried n seat = (i : ℕ) → i < n → 0 < times i seat.claims + times i seat.met
 
--- a worker has tried the first n of so many pieces from the lowest on, each once, and has added nothing
+-- a worker has tried the first n of `pieces` pieces from the lowest on, each once, and has added nothing
 pub record HasTriedUpTo (pieces n : ℕ) (seat : Holding) : Type 0 where
   pub tried : HasTried n seat
   pub distinct : IsDistinctBelow pieces seat.claims
@@ -44,7 +44,7 @@ pub record AreDone {K : Type 0} (all_done : Holding → K → Type 0) (pieces ce
   pub len : length values ≡ cells
   pub sums : (cell : ℕ) → cell < cells → slice_index values cell ≡ sum_at seat.adds cell
 
--- What is asked where a thread of so many workers, numbered from `first` on, is started: the runtime and the pass may be
+-- What is asked where a thread of `count` workers, numbered from `first` on, is started: the runtime and the pass may be
 -- shared with it, what the workers keep may be sent, and the pass fits the sums, of which they have a fresh seat
 pub record CanRun (runtime pass kept : RattleType) (fits : Type 0) (sums : Sums) (seat : Holding) (first count : ℕ)
     : Type 0 where

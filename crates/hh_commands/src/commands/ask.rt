@@ -121,8 +121,8 @@ fn answers_text(
 /// What a saved file tells of keys: for each, in order, a row `key,low,high` as `csv` writes it,
 /// ended by a line feed. The key's weight in the stream is at least `low` and at most `high`. Of a
 /// counter summary these are the key's counter, and that and the summary's slack; of a table 0 and
-/// the key's estimate. So many last digits of each number are behind a point: these are the
-/// decimals that the file's records were read with, which it doesn't tell.
+/// the key's estimate. Each number has `decimals` digits after the point: those that the
+/// file's records were read with, which it doesn't keep.
 ///
 /// The file is tested first ([`ToolError::BadFile`], as file 1), and then the keys in order
 /// ([`ToolError::BadKey`], numbered from 1), before any row is made.

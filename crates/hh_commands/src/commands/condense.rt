@@ -175,7 +175,7 @@ fn condensed_records<R: ReadRecords>(
 /// ([`ToolError::WeightOutside`]) where `compared` says that it refuses.
 ///
 /// The condensed records are a key and a weight each, whatever columns these had, with as many
-/// digits behind the point as these may have.
+/// digits after the point as these may have.
 pub fn condense_bytes_from<R: Read + Drop>(
     alloc: Global,
     file: &[u8],

@@ -49,7 +49,7 @@ fn head_text(alloc: Global, version: u64, kind: &[u8]) -> Result<Vec<u8>, AllocE
     writer.into_inner().map_err(|_| AllocError)
 }
 
-/// A text with the rows of names and numbers behind it.
+/// A text with the rows of names and numbers after it.
 fn with_facts(text: Vec<u8>, facts: &[(&[u8], u64)]) -> Result<Vec<u8>, AllocError>
     ensures { IfOk result (λ whole. whole.items
         ≡ text.items ++ flat_map (λ f. fact_row (f.0.now, f.1)) facts.now) }

@@ -74,7 +74,7 @@ pub fn add_records<R: ReadRecords>(
     add_items(alloc, file, &items)
 }
 
-/// All rows with this many digits of a weight behind its point, and no shares.
+/// All rows with this many digits of a weight after its point, and no shares.
 fn rows_in_units(decimals: u8) -> RowOptions
     ensures { result ≡ rows_in_units decimals }
 {
@@ -86,7 +86,7 @@ fn rows_in_units(decimals: u8) -> RowOptions
 }
 
 /// The rows of a saved summary's keys above a share of the total of some records, which are those
-/// that were summarised, with `decimals` digits of a weight behind its point. Without a share it
+/// that were summarised, with `decimals` digits of a weight after its point. Without a share it
 /// is 1/(k + 1), the least for the summary's k.
 ///
 /// The file is tested first ([`ToolError::BadFile`], as file 1), then its kind
@@ -117,7 +117,7 @@ pub fn confirm_bounded<R: ReadRecords>(
 
 /// The condensed rows of some records by a saved summary, as
 /// [`condense_bytes_from`](hh_commands::condense_bytes_from) gives them, with `decimals` digits of
-/// a weight behind its point.
+/// a weight after its point.
 ///
 /// The file is tested first ([`ToolError::BadFile`], as file 1), then its kind
 /// ([`ToolError::NotCounters`]), then the records, of any total, and then that no key of the
@@ -165,7 +165,7 @@ fn heavy_keys(
 }
 
 /// The exact report of a text's records: the rows of all keys above a share of the total, by
-/// falling weight and then by rising key, with as many digits of a weight behind its point as the
+/// falling weight and then by rising key, with as many digits of a weight after its point as the
 /// layout has. Without a share it is 1/(k + 1). The text is read twice, and k counters are kept.
 ///
 /// k is tested first ([`ToolError::BadK`]), then the share ([`ToolError::BadThreshold`]), and then
