@@ -28,10 +28,10 @@ pub(crate) struct SecondPass<'a, 'c, P, G> {
     pub(crate) candidates: &'c Candidates,
 }
 
-/// What a worker of the second pass runs: it claims pieces from the lowest on, and of each that it
+/// Runs one worker of the second pass: it claims pieces from the lowest on, and of each that it
 /// gets it calls the gate and counts the candidates. It gathers their weights in numbers of its
 /// own, which it adds to the shared cells, one for each candidate, at the end. It waits for nobody,
-/// unless the gate does. Memory gives the seat up.
+/// unless the gate does. Where memory is refused, the seat is lost.
 pub fn second_pass<G: Gate>(
     alloc: Global,
     sums: &SharedSums,

@@ -127,7 +127,7 @@ impl Tally {
         self.room == other.room
     }
 
-    /// The tally of the items of both, which have one room. Memory gives both up.
+    /// Merges two tallies of one room. Where memory is refused, both are lost.
     pub fn merge(self, alloc: Global, other: &Tally) -> Result<Tally, AllocError>
         requires room { self.room ≡ other.now.room }
         requires fits { self.total + other.now.total ≤ max_total }
