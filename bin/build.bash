@@ -78,6 +78,13 @@ is_proved() {
   for name in "${crates[@]}"; do [ ! "$(mark_of "$name")" -nt "$(mark_of "$1")" ] || return 1; done
 }
 
+# Gives all libraries dates that rise from the lowest crate on, as each is built after those below it: a gate that takes them
+# from an earlier run over the same files leaves them in any order.
+date_libraries() {
+  local name
+  while IFS=' :' read -r name _; do touch -c "$(mark_of "$name")"; done < "$top/crates.txt"
+}
+
 # The version, which stands in the program's sources alone.
 version_of_program() {
   local version

@@ -492,7 +492,7 @@ class Release(programs.Checks):
     def test_real(self) -> None:
         """A release by the real tools, of the built program and library in a clone that is tagged for it: lintian finds
         nothing, and the program runs."""
-        wants = programs.run(script("has_object && is_library_built"), env=dict(os.environ)).status != 0
+        wants = programs.run(script("keep_object && is_library_built"), env=dict(os.environ)).status != 0
         tools = [name for name in ("git", "dpkg-deb", "lintian", "cc", "ar", "strip") if not shutil.which(name)]
         papers = [file for file in PAPERS if not Path(file).exists()]
         modules = subprocess.run(["/usr/bin/python3", "-c", "import setuptools, wheel"], capture_output=True).returncode
@@ -519,7 +519,7 @@ class Release(programs.Checks):
         """The static program, from the object that the build made, in the checks of the program."""
         built = programs.built("heavy_cli")
         for wanted, what in [
-            ("has_object", "the object that the built program was linked of"),
+            ("keep_object", "the object that the built program was linked of"),
             ("links_static", "a compiler that links statically"),
         ]:
             if programs.run(script(wanted), env=dict(os.environ)).status != 0:
