@@ -68,7 +68,7 @@ answers_in d file keys = do
   v ← asked_value file keys
   Ok (answer_rows d v keys)
 
--- the same of whole numbers
+-- the rows of all keys, in whole numbers, or the first refusal
 abbrev pub answers : List ℕ → List Bytes → Result (List ℕ) ToolError
 answers file keys = answers_in 0 file keys
 

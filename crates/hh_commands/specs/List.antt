@@ -18,6 +18,6 @@ abbrev pub ListsRows : ℕ → List ℕ → List ℕ → Type 0
 ListsRows d file rows =
     (s : SummaryView) × HoldsSummary file s × (rows ≡ flat_map (entry_row d s) (by_rank s.counters))
 
--- the same of whole numbers
+-- the file holds a summary, and these are the rows of its keys, in whole numbers
 abbrev pub ListsKeys : List ℕ → List ℕ → Type 0
 ListsKeys file rows = ListsRows 0 file rows

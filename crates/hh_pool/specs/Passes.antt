@@ -75,7 +75,7 @@ pub record IsFirstPass (pieces : List (List Entry)) (settings : Settings) (seat 
   pub rising : IsStrictlyIncreasing seat.claims
   pub work : AreFirstPasses pieces settings seat kept
 
--- the same of the second pass
+-- one worker of the second pass takes the lowest piece that it finds unclaimed
 pub record IsSecondPass (pieces : List (List Entry)) (keys : List Bytes) (seat : Holding) : Type 0 where
   pub rising : IsStrictlyIncreasing seat.claims
   pub work : AreSecondPasses pieces keys seat

@@ -163,12 +163,13 @@ WriteRefused o known holds old new (tool.WriteFault n) =
     AreOptions o × (rows : List ℕ) × holds rows × TakesFirst old new rows n
 WriteRefused o known holds old new e = StartRefused o known e × Keeps old new
 
--- what each refusal of a report tells, and what it leaves in the sink
+-- what each refusal of a report says, and what it leaves in the sink
 abbrev pub ReportRefused : ReportOptions
     → Known → Option (List ℕ) → Option (List ℕ) → ToolError → Type 0
 ReportRefused o known old new e = WriteRefused o known (ReportsRows o known) old new e
 
--- the same of a report whose rows are as the options of rows want them
+-- what each refusal of a report says, where the options of rows say what is printed, and what it leaves
+-- in the sink
 abbrev pub PrintRefused : RowOptions → ReportOptions
     → Known → Option (List ℕ) → Option (List ℕ) → ToolError → Type 0
 PrintRefused r o known old new e = WriteRefused o known (PrintsRows r o known) old new e

@@ -21,7 +21,7 @@ row_by d e = row_text default_writer (e.0 ∷ pointed d e.1 ∷ [])
 abbrev pub rows_by : ℕ → List Entry → List ℕ
 rows_by d es = flat_map (row_by d) es
 
--- the same of weights that are whole numbers
+-- the text of one row, or of several, whose weights are whole numbers
 abbrev pub row_of : Entry → List ℕ
 row_of e = row_by 0 e
 
@@ -48,7 +48,7 @@ abbrev pub condensed_by : ℕ → List Entry → List ℕ
 condensed_by d [] = []
 condensed_by d (e ∷ es) = first_row_by d e ++ rows_by d es
 
--- the same of weights that are whole numbers
+-- the text of rows that may stand first, whose weights are whole numbers
 abbrev pub condensed_text : List Entry → List ℕ
 condensed_text es = condensed_by 0 es
 

@@ -16,7 +16,7 @@ use hh_stream::KeyHash;
 use std::alloc::Global;
 
 /// [`condense_bytes`](crate::condense_bytes) of items in memory, each a key and its weight: records
-/// that say the same of the summary's keys. So a second pass may go over a stream in parts, and
+/// with what the summary's keys weigh. So a second pass may go over a stream in parts, and
 /// the condensed records of the parts, joined in any order, are confirmed as the stream is. Keys
 /// are hashed by `hash`.
 ///
