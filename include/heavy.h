@@ -146,6 +146,12 @@ struct heavy_layout {
     uint64_t hash[2];    /* the words by which keys are hashed, drawn at random where others choose the keys; or both 0 */
 };
 
+/* The words by which keys are hashed, drawn at random where others choose the keys, so that nobody can choose keys that
+   collide; or both 0. They decide how fast an answer comes, and no answer. */
+struct heavy_hash {
+    uint64_t words[2];
+};
+
 /* What is in a saved file. What the other kind of file has is 0. */
 struct heavy_info {
     uint32_t kind;     /* HEAVY_SUMMARY or HEAVY_TABLE */
@@ -301,6 +307,19 @@ uint32_t heavy_confirm_items_above(const uint8_t *file, size_t file_len, const u
                                    uint64_t p, uint64_t q, uint8_t *out, size_t out_len, size_t *needed,
                                    struct heavy_fault *fault);
 
+/* Gives what heavy_condense_items gives, with keys hashed by these words. */
+uint32_t heavy_condense_items_by(const uint8_t *file, size_t file_len, const uint8_t *keys, size_t keys_len,
+                                 const uint64_t *ends, size_t count, const uint64_t *weights, size_t weights_len,
+                                 const struct heavy_hash *hash, uint8_t *out, size_t out_len, size_t *needed,
+                                 struct heavy_fault *fault);
+
+/* Gives what heavy_confirm_items_above gives or, where p and q are both 0, what heavy_confirm_items gives, with keys hashed
+   by these words. */
+uint32_t heavy_confirm_items_by(const uint8_t *file, size_t file_len, const uint8_t *keys, size_t keys_len,
+                                const uint64_t *ends, size_t count, const uint64_t *weights, size_t weights_len, uint64_t p,
+                                uint64_t q, const struct heavy_hash *hash, uint8_t *out, size_t out_len, size_t *needed,
+                                struct heavy_fault *fault);
+
 /* Gives the text that the program has for a fault, without a 0 at its end: "record 3: zero weight". Of no fault, all zeros,
    it is "no fault", and of numbers that no call tells "unknown fault". It answers HEAVY_DONE, HEAVY_TOO_SMALL or
    HEAVY_MEMORY, and never that last one for HEAVY_NO_MEMORY. No text has more than 128 bytes. */
@@ -363,11 +382,21 @@ uint32_t heavy_report(const uint8_t *text, size_t text_len, const struct heavy_l
    growing had is given back. At another status than HEAVY_DONE growing is as it was. */
 uint32_t heavy_open(const uint8_t *file, size_t file_len, struct heavy_growing *growing, struct heavy_fault *fault);
 
-/* Adds one item to the value that growing has, as heavy_add adds it to a saved file, with no copy of the file. An item is
-   refused as heavy_add refuses item 1, and at another status than HEAVY_DONE the value is as it was. Where growing has no
-   value, the call answers HEAVY_USAGE, and fault has zeros. */
+/* Does what heavy_open does, and keys are hashed by these words from then on. */
+uint32_t heavy_open_by(const uint8_t *file, size_t file_len, const struct heavy_hash *hash, struct heavy_growing *growing,
+                       struct heavy_fault *fault);
+
+/* Adds one item to the value that growing has, as heavy_add adds it to a saved file, with no copy of the file. What a new key
+   of a full summary costs grows as the logarithm of k; the first item behind heavy_open, heavy_save or heavy_absorb costs a
+   step for each counter. An item is refused as heavy_add refuses item 1, and at another status than HEAVY_DONE the value is
+   as it was. Where growing has no value, the call answers HEAVY_USAGE, and fault has zeros. */
 uint32_t heavy_update(struct heavy_growing *growing, const uint8_t *key, size_t key_len, uint64_t weight,
                       struct heavy_fault *fault);
+
+/* Merges the value of a saved file into that which growing has, as heavy_merge merges the second of two files. So files that
+   lie apart are merged one by one. The file is refused as heavy_merge refuses file 2, and at another status than HEAVY_DONE
+   the value is as it was. Where growing has no value, the call answers HEAVY_USAGE, and fault has zeros. */
+uint32_t heavy_absorb(const uint8_t *file, size_t file_len, struct heavy_growing *growing, struct heavy_fault *fault);
 
 /* Gives the saved file of the value that growing has, which stays there. Where it has none, the call answers HEAVY_USAGE, and
    fault has zeros. */
@@ -391,6 +420,7 @@ _Static_assert(offsetof(struct heavy_entry, len) == 8, "the length follows the s
 _Static_assert(offsetof(struct heavy_entry, counter) == 16, "the counter comes last");
 _Static_assert(sizeof(struct heavy_layout) == 24, "a layout has 24 bytes");
 _Static_assert(offsetof(struct heavy_layout, hash) == 8, "the hash's words come last");
+_Static_assert(sizeof(struct heavy_hash) == 16, "the words of a hash have 16 bytes");
 _Static_assert(sizeof(struct heavy_growing) == 16, "what grows has 16 bytes");
 _Static_assert(sizeof(struct heavy_info) == 64, "an info has 64 bytes");
 _Static_assert(offsetof(struct heavy_info, total) == 8, "the total follows kind and version");

@@ -22,6 +22,7 @@ STRUCTURES = {
     "heavy_bounds": (FFI / "src" / "room.rt", "Bounds"),
     "heavy_entry": (CRATES / "hh_saved" / "src" / "layout.rt", "Place"),
     "heavy_layout": (FFI / "src" / "layout.rt", "TextLayout"),
+    "heavy_hash": (FFI / "src" / "hash_words.rt", "HashWords"),
     "heavy_info": (FFI / "src" / "info.rt", "Info"),
 }
 TYPES = {"u8": "uint8_t", "u32": "uint32_t", "u64": "uint64_t", "usize": "size_t"}

@@ -50,6 +50,7 @@ DRIFTS = [
     ("    uint8_t header;", "    uint16_t header;"),
     ("    uint64_t hash[2];", "    uint64_t hash[3];"),
     ("    uint64_t slack; ", "    uint32_t slack; "),
+    ("    uint64_t words[2];", "    uint64_t words[1];"),
 ]
 
 

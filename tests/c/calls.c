@@ -131,6 +131,29 @@ static struct answer add(const void *file, size_t size, const char *keys, const 
 /* Which call takes the items, and its share where it has one. */
 enum items_call { CONDENSE, CONFIRM, CONFIRM_ABOVE };
 
+static int is_same(const struct answer *a, const struct answer *b, size_t room) {
+    return a->status == b->status && a->needed == b->needed && memcmp(&a->told, &b->told, sizeof a->told) == 0
+        && memcmp(a->room, b->room, room) == 0;
+}
+
+/* Whether the call that takes words of a hash gives the same answer by these. */
+static int is_same_by(uint64_t first, uint64_t second, const struct answer *a, enum items_call call, const uint8_t *file,
+                      size_t size, const uint8_t *keys, size_t keys_len, const uint64_t *ends, size_t count,
+                      const uint64_t *weights, size_t weighed, const uint64_t *share, size_t room) {
+    const struct heavy_hash hash = {{first, second}};
+    const uint64_t p = call == CONFIRM_ABOVE ? share[0] : 0, q = call == CONFIRM_ABOVE ? share[1] : 0;
+    struct answer b = room_of(room);
+    if (call == CONDENSE)
+        b.status = heavy_condense_items_by(file, size, keys, keys_len, ends, count, weights, weighed, &hash, b.room, room,
+                                           &b.needed, &b.told);
+    else
+        b.status = heavy_confirm_items_by(file, size, keys, keys_len, ends, count, weights, weighed, p, q, &hash, b.room, room,
+                                          &b.needed, &b.told);
+    int same = is_same(a, &b, room);
+    free(b.room);
+    return same;
+}
+
 /* The weights may be none. */
 static struct answer of_items(enum items_call call, const void *file, size_t size, const char *keys, const uint64_t *ends,
                               size_t count, const uint64_t *weights, size_t weighed, const uint64_t *share, size_t room) {
@@ -147,6 +170,9 @@ static struct answer of_items(enum items_call call, const void *file, size_t siz
     else
         a.status = heavy_confirm_items_above(held, size, lent, strlen(keys), places, count, numbers, weighed, share[0],
                                              share[1], a.room, room, &a.needed, &a.told);
+    check("the same by words of a hash",
+          is_same_by(0, 0, &a, call, held, size, lent, strlen(keys), places, count, numbers, weighed, share, room)
+          && is_same_by(5, 9, &a, call, held, size, lent, strlen(keys), places, count, numbers, weighed, share, room));
     free(held);
     free(lent);
     free(places);
@@ -168,11 +194,6 @@ static int small(const struct answer *a, size_t size) {
     return a->status == HEAVY_TOO_SMALL && a->needed == size && a->room[0] == 0xAA && a->told.kind == 0
         && a->told.cause == 0 && a->told.number == 0;
 }
-
-/* k 2, a total of 6: c 4 and a 2. */
-static const char TWO[] = "HHS2\1\0\2\0\0\0\0\0\0\0\6\0\2\0\1a\0\0\0\0\0\0\0\2\0\1c\0\0\0\0\0\0\0\4";
-/* a 7, b 3 and c 4 are three keys; 3 is taken from each: a 4, c 1. */
-static const char BOTH[] = "HHS2\1\0\2\0\0\0\0\0\0\0\16\0\2\0\1a\0\0\0\0\0\0\0\4\0\1c\0\0\0\0\0\0\0\1";
 
 static void try_summaries(void) {
     for (uint32_t method = HEAVY_MISRA_GRIES; method <= HEAVY_SPACE_SAVING; method++) {

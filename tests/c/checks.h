@@ -31,3 +31,9 @@ static uint8_t *block(const void *bytes, size_t size) {
 /* The saved summary of a 5 and b 3 with k 2: a total of 8 and two counters, each key with a length of two bytes; so each weight
    is known exactly. */
 static const char ONE[] = "HHS2\1\0\2\0\0\0\0\0\0\0\10\0\2\0\1a\0\0\0\0\0\0\0\5\0\1b\0\0\0\0\0\0\0\3";
+
+/* k 2, a total of 6: c 4 and a 2. */
+#define TWO "HHS2\1\0\2\0\0\0\0\0\0\0\6\0\2\0\1a\0\0\0\0\0\0\0\2\0\1c\0\0\0\0\0\0\0\4"
+
+/* Both merged: a 7, b 3 and c 4 are three keys; 3 is taken from each: a 4, c 1. */
+#define BOTH "HHS2\1\0\2\0\0\0\0\0\0\0\16\0\2\0\1a\0\0\0\0\0\0\0\4\0\1c\0\0\0\0\0\0\0\1"

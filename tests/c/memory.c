@@ -42,17 +42,43 @@ enum { CALLS = 28 };
 
 static struct heavy_info info;
 
-/* The saved summary with an item more, by way of what grows. */
-static uint32_t grown(void) {
+static uint8_t grown[256];
+static size_t grown_len;
+
+/* What grows by an item of a key that is there, by a file of such keys, by an item of a new key, and is saved; each step that
+   meets a refusal is made again. How many did, or -1 where one was refused for another reason. */
+static int grow(uint8_t *out, size_t size, size_t *len) {
     struct heavy_growing growing = {0};
-    needed = 0;
-    uint32_t status = heavy_open(summary, summary_len / 2, &growing, &told);
-    if (status == HEAVY_DONE)
-        status = heavy_update(&growing, (const uint8_t *)"new", 3, 9, &told);
-    if (status == HEAVY_DONE)
-        status = heavy_save(&growing, room, sizeof room, &needed, &told);
+    struct heavy_fault fault;
+    int refused = 0, step = 0;
+    while (step < 5) {
+        uint32_t status = step == 0 ? heavy_open(summary, summary_len / 2, &growing, &fault)
+                        : step == 1 ? heavy_update(&growing, (const uint8_t *)"a", 1, 9, &fault)
+                        : step == 2 ? heavy_absorb(summary, summary_len / 2, &growing, &fault)
+                        : step == 3 ? heavy_update(&growing, (const uint8_t *)"new", 3, 9, &fault)
+                                    : heavy_save(&growing, out, size, len, &fault);
+        if (status == HEAVY_DONE) {
+            step++;
+        } else if (status == HEAVY_MEMORY) {
+            refused++;
+            told = fault;
+        } else {
+            step = 6;
+        }
+    }
     heavy_free(&growing);
-    return status;
+    return step == 5 ? refused : -1;
+}
+
+/* The status of a growth that comes to the same, whatever was refused on the way. */
+static uint32_t grows(void) {
+    uint8_t made[sizeof grown];
+    size_t len = 0;
+    int refused = grow(made, sizeof made, &len);
+    needed = 0;
+    if (refused < 0 || len != grown_len || memcmp(made, grown, len) != 0)
+        return HEAVY_REFUSED;
+    return refused ? HEAVY_MEMORY : HEAVY_DONE;
 }
 
 static uint32_t call(int which) {
@@ -102,7 +128,7 @@ static uint32_t call(int which) {
     case 24:
         return heavy_condense_records(summary, summary_len / 2, TEXT, 16, &LAYOUT, COLUMNS, 2, COLUMN_LENGTHS, 2, room, sizeof room,
                                       &needed, &told);
-    case 26: return grown();
+    case 26: return grows();
     case 25: return heavy_report(TEXT, 16, &LAYOUT, COLUMNS, 2, COLUMN_LENGTHS, 2, 2, 0, 0, room, sizeof room, &needed, &told);
     default: return heavy_add(cells, sizeof cells, KEYS, 32, ENDS, 3, WEIGHTS, 3, room, sizeof room, &needed, &told);
     }
@@ -181,6 +207,7 @@ int main(void) {
     summary_len *= 2;
     wrong += heavy_empty(2, empty, sizeof empty, &needed, &told) != HEAVY_DONE;
     wrong += heavy_empty_table(4, 2, 0, cells, sizeof cells, &needed, &told) != HEAVY_DONE;
+    wrong += grow(grown, sizeof grown, &grown_len) != 0;
     for (int which = 0; which < CALLS; which++) {
         int met = refusals_of(which);
         wrong += met <= 0;

@@ -1,4 +1,5 @@
 pub mod GrowingFacts
+pub mod GrownFacts
 pub mod HeldValues
 pub mod LayoutFacts
 pub mod OutcomeFacts

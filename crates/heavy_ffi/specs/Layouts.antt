@@ -1,5 +1,6 @@
 -- The layout of a text's records, as C says it.
-use Rattle.std.specs.Prelude.{◌≡◌, ◌<◌, ◌≤◌, ◌⊎◌, ◌==◌, ◌&&◌, nat_le, ℕ, List, [], ◌∷◌, ◌++◌, length, is_some, Option, option_to_list, Some, None, option_map, ⊤, if◌then◌else◌}
+use Rattle.std.specs.Prelude.{◌≡◌, ◌≢◌, ◌<◌, ◌≤◌, ◌⊎◌, ◌==◌, ◌&&◌, nat_le, ℕ, List, [], ◌∷◌, ◌++◌, length, is_some, Option, option_to_list, Some, None, IfSome, option_map, ⊤, if◌then◌else◌}
+use Rattle.hh_stream.specs.Cuttings.{pieces_of}
 use Rattle.hh_pieces.specs.Pieces.{IsCutAt}
 use Rattle.hh_records.specs.LayoutWords.{SaysLayout, key_words, weight_word}
 use Rattle.hh_records.specs.LayoutWords as said
@@ -7,7 +8,7 @@ use Rattle.hh_records.specs.declared.layout.Layout.{Layout}
 use Rattle.hh_records.specs.declared.layout_words.LayoutWords.{LayoutWords}
 use Rattle.hh_faults.specs.declared.error.ToolError.{ToolError}
 use Rattle.hh_faults.specs.declared.error.ToolError.TheVariants as tool
-use Rattle.heavy_ffi.specs.Outcomes.{IsRefused}
+use Rattle.heavy_ffi.specs.Outcomes.{IsOutcome, IsRefused}
 use Rattle.heavy_ffi.specs.declared.fault.Fault.{Fault}
 use Rattle.heavy_ffi.specs.declared.layout.TextLayout.{TextLayout}
 
@@ -48,9 +49,18 @@ Laid o columns Holds = (layout : Layout) × IsLayout o columns layout × Holds l
 abbrev pub LaidRefused : TextLayout → List (List ℕ) → (Layout → ToolError → Type 0) → ToolError → Type 0
 LaidRefused o columns Follows e = LayoutRefused o columns e ⊎ Laid o columns (λ layout. Follows layout e)
 
--- an argument is wrong, and the call tells that, or what is wrong with the layout, which is tested before it
-abbrev pub TellsEarly : TextLayout → List (List ℕ) → ToolError → ℕ → Fault → Type 0
-TellsEarly o columns wrong = IsRefused (LaidRefused o columns (λ layout e. e ≡ wrong))
+-- what a call over records of a layout leaves: the layout is tested first, then an argument that is wrong, and then it gives or
+-- refuses by the layout that its numbers and columns say
+pub record AnswersLaid (o : TextLayout) (lengths columns : List ℕ) (Gives : Layout → List ℕ → Type 0)
+    (Refused : Layout → ToolError → Type 0) (wrong : Option ToolError)
+    (status : ℕ) (old new : List ℕ) (needed : ℕ) (fault : Fault) : Type 0 where
+  pub outcome : layout_fault o (length lengths) ≡ None
+      → IsOutcome (λ bytes. Laid o (pieces_of lengths columns) (λ l. Gives l bytes))
+      (LaidRefused o (pieces_of lengths columns) Refused) status old new needed fault
+  pub early : layout_fault o (length lengths) ≡ None
+      → IfSome wrong (λ w. IsRefused (LaidRefused o (pieces_of lengths columns) (λ l e. e ≡ w)) status fault)
+  pub bad_layout : IfSome (layout_fault o (length lengths)) (λ bad. (status ≡ 2) × (fault ≡ bad) × (new ≡ old))
+  pub no_bytes : status ≢ 0 → status ≢ 5 → needed ≡ 0
 
 -- a share of two numbers, and none where both are 0
 abbrev pub share_given : ℕ → ℕ → Option (ℕ × ℕ)

@@ -1,5 +1,6 @@
 pub mod Faults
 pub mod Growing
+pub mod Grown
 pub mod Held
 pub mod Infos
 pub mod Items

@@ -1,6 +1,6 @@
 //! A saved file's value in memory that grows item by item, which C holds from call to call.
 
-ghost use Rattle.std.specs.Prelude.{◌≡◌, ◌≢◌, ◌∷◌, [], IfErr, IfOk, IfSome, IsSome, Ok, OnErr, OnOk};
+ghost use Rattle.std.specs.Prelude.{◌≡◌, ◌≢◌, ◌∷◌, [], IfErr, IfOk, IfSome, IsSome, Ok};
 ghost use Rattle.std.specs.Prelude.{None, Some, option_map};
 ghost use mathlib.Core.Logic.{◌↔◌};
 ghost use Rattle.hh_saved.specs.Spelling.{Spells};
@@ -8,18 +8,19 @@ ghost use Rattle.hh_saved.specs.declared.format.Version.TheVariants as version;
 ghost use Rattle.hh_saved.specs.declared.saved.Saved.{Saved};
 ghost use Rattle.hh_faults.specs.declared.error.ToolError.TheVariants as tool;
 ghost use Rattle.hh_commands.specs.Files.{Refuses, StopsAtHead, file_of};
+ghost use Rattle.hh_commands.specs.Merge.{merged_from};
 ghost use Rattle.hh_library.specs.Add.{added_to};
 ghost use Rattle.heavy_ffi.specs.Faults.{no_fault};
-ghost use Rattle.heavy_ffi.specs.Growing.{GrowsTo, Opens};
+ghost use Rattle.heavy_ffi.specs.Growing.{Absorbs, GrowsTo, Opens};
 ghost use Rattle.heavy_ffi.specs.Outcomes.{IsOutcome, TellsHead};
 
 use crate::fault::{Fault, tell};
+use crate::grown::Grown;
+use crate::hash_words::HashWords;
 use crate::held::{Held, Place};
 use crate::room::{DONE, USAGE, answer};
 use hh_commands::file_of;
 use hh_faults::ToolError;
-use hh_library::item_fault;
-use hh_saved::{Saved, write};
 use std::alloc::Global;
 use std::mem;
 
@@ -33,6 +34,7 @@ pub struct Growing {
 }
 
 impl Growing {
+    /// Makes a handle with no value.
     fn none(alloc: Global) -> Growing
         ensures { result.place.value ≡ None }
     {
@@ -42,7 +44,8 @@ impl Growing {
         }
     }
 
-    fn of(value: Box<Saved>) -> Growing
+    /// Makes a handle of `value`.
+    fn of(value: Box<Grown>) -> Growing
         ensures { result.place.value ≡ Some value.value }
     {
         Growing {
@@ -52,7 +55,7 @@ impl Growing {
     }
 
     /// Takes the value out, where there is one.
-    fn take(&mut self, alloc: Global) -> Option<Box<Saved>>
+    fn take(&mut self, alloc: Global) -> Option<Box<Grown>>
         ensures left { self.new.place.value ≡ None }
         ensures taken { self.old.place.value ≡ option_map (λ b. b.value) result }
     {
@@ -65,20 +68,20 @@ impl Growing {
     }
 }
 
-/// The value of a saved file.
-fn opened(alloc: Global, file: &[u8]) -> Result<Box<Saved>, ToolError>
+/// Reads the value of a saved `file`, whose keys are hashed by `hash` from now on.
+fn opened(alloc: Global, file: &[u8], hash: &HashWords) -> Result<Box<Grown>, ToolError>
     ensures opened { IfOk result (λ value. file_of 1 file.now ≡ Ok value.value) }
     ensures refused { IfErr result (Refuses (file_of 1 file.now)) }
     ensures early { StopsAtHead 1 file.now result }
 {
     let saved = file_of(alloc, 1, file)?;
-    match Box::new(alloc, saved) {
+    match Box::new(alloc, Grown::of(saved, hash.key_hash())) {
         Ok(value) => Ok(value),
         Err(_) => Err(ToolError::Memory),
     }
 }
 
-/// Puts the value of a saved file in place of what `growing` has.
+/// Puts the value of a saved file in place of what `growing` has. Keys are hashed by fixed words.
 #[unsafe(no_mangle)]
 pub extern "C" fn heavy_open(
     alloc: Global,
@@ -91,7 +94,25 @@ pub extern "C" fn heavy_open(
     ensures early { TellsHead file.now result fault.new }
     ensures no_room { result ≢ 5 }
 {
-    match opened(alloc, file) {
+    heavy_open_by(alloc, file, &HashWords::fixed(), growing, fault)
+}
+
+/// Puts the value of a saved file in place of what `growing` has. Keys are hashed by these words,
+/// which decide how fast they are found, and nothing else.
+#[unsafe(no_mangle)]
+pub extern "C" fn heavy_open_by(
+    alloc: Global,
+    file: &[u8],
+    hash: &HashWords,
+    growing: &mut Growing,
+    fault: &mut Fault,
+) -> u32
+    ensures outcome { IsOutcome (Opens file.now) (Refuses (file_of 1 file.now)) result
+        (growing.old.place.value ∷ []) (growing.new.place.value ∷ []) 1 fault.new }
+    ensures early { TellsHead file.now result fault.new }
+    ensures no_room { result ≢ 5 }
+{
+    match opened(alloc, file, hash) {
         Ok(value) => {
             growing.take(alloc);
             *growing = Growing::of(value);
@@ -99,29 +120,6 @@ pub extern "C" fn heavy_open(
             DONE
         }
         Err(refusal) => tell(&refusal, fault),
-    }
-}
-
-/// Adds an item to a saved file's value. After a refusal the value is as it was.
-fn add_to(saved: &mut Saved, key: &[u8], weight: u64) -> Result<(), ToolError>
-    ensures added { OnOk result (added_to saved.old ((key.now, weight) ∷ []) ≡ Ok saved.new) }
-    ensures refused { IfErr result (Refuses (added_to saved.old ((key.now, weight) ∷ []))) }
-    ensures unchanged { OnErr result (saved.new ≡ saved.old) }
-{
-    match saved {
-        Saved::Counters(summary) => {
-            if let Some(fault) = item_fault(1, summary.total(), key, weight) {
-                return Err(fault);
-            }
-            Ok(summary.add_within(key, weight)?)
-        }
-        Saved::Cells(table) => {
-            if let Some(fault) = item_fault(1, table.total(), key, weight) {
-                return Err(fault);
-            }
-            table.add_within(key, weight);
-            Ok(())
-        }
     }
 }
 
@@ -146,7 +144,7 @@ pub extern "C" fn heavy_update(
         *fault = Fault::none();
         return USAGE;
     };
-    let added = add_to(&mut value, key, weight);
+    let added = value.add(alloc, key, weight);
     *growing = Growing::of(value);
     match added {
         Ok(()) => {
@@ -157,12 +155,36 @@ pub extern "C" fn heavy_update(
     }
 }
 
-/// The saved file of a value.
-fn bytes_of(alloc: Global, saved: &Saved) -> Result<Vec<u8>, ToolError>
-    ensures saved { IfOk result (λ bytes. Spells version.Two bytes.items saved.now) }
-    ensures refused { IfErr result (λ refusal. refusal ≡ tool.Memory) }
+/// Merges the value of a saved file into that which `growing` has, as `heavy_merge` merges the
+/// second of two files. Where `growing` has no value, the call is refused with status 2 and a
+/// `fault` of zeros. A file that is refused is told as file 2, and the value stays as it was.
+#[unsafe(no_mangle)]
+pub extern "C" fn heavy_absorb(
+    alloc: Global,
+    file: &[u8],
+    growing: &mut Growing,
+    fault: &mut Fault,
+) -> u32
+    ensures outcome { IfSome growing.old.place.value (λ value. IsOutcome
+        (Absorbs value file.now) (Refuses (merged_from 2 value (file.now ∷ [])))
+        result (growing.old.place.value ∷ []) (growing.new.place.value ∷ []) 1 fault.new) }
+    ensures nothing { growing.old.place.value ≡ None
+        → (result ≡ 2) × (fault.new ≡ no_fault) × (growing.new.place.value ≡ None) }
+    ensures no_room { result ≢ 5 }
 {
-    Ok(write(alloc, saved)?)
+    let Some(mut value) = growing.take(alloc) else {
+        *fault = Fault::none();
+        return USAGE;
+    };
+    let merged = value.absorb(alloc, file);
+    *growing = Growing::of(value);
+    match merged {
+        Ok(()) => {
+            *fault = Fault::none();
+            DONE
+        }
+        Err(refusal) => tell(&refusal, fault),
+    }
 }
 
 /// Gives the saved file of the value that `growing` has and keeps. Where it has none, the call is
@@ -183,12 +205,12 @@ pub extern "C" fn heavy_save(
     ensures kept { growing.new.place.value ≡ growing.old.place.value }
     ensures no_bytes { result ≢ 0 → result ≢ 5 → needed.new ≡ 0 }
 {
-    let Some(value) = growing.take(alloc) else {
+    let Some(mut value) = growing.take(alloc) else {
         *needed = 0;
         *fault = Fault::none();
         return USAGE;
     };
-    let bytes = bytes_of(alloc, &value);
+    let bytes = value.save(alloc);
     *growing = Growing::of(value);
     answer(bytes, out, needed, fault)
 }

@@ -4,7 +4,7 @@ ghost use Rattle.std.specs.Prelude.{◌≡◌, Option, None, Some, IsSome};
 ghost use Rattle.hh_saved.specs.declared.saved.Saved.{Saved};
 ghost use Rattle.heavy_ffi.specs.Held.{held_owns, place_owns, value_coded};
 
-use hh_saved::Saved;
+use crate::grown::Grown;
 use std::alloc::{Allocator, Global};
 use std::marker::Model;
 use std::ptr::null_mut;
@@ -60,7 +60,7 @@ impl Model for Place {
 }
 
 impl Place {
-    pub fn of(held: Held<Saved, Global>) -> Place
+    pub fn of(held: Held<Grown, Global>) -> Place
         ensures { result.value ≡ held.value }
     {
         let Held { at, alloc } = held;
@@ -70,12 +70,12 @@ impl Place {
         }
     }
 
-    pub fn into_held(self) -> Held<Saved, Global>
+    pub fn into_held(self) -> Held<Grown, Global>
         ensures { result.value ≡ self.value }
     {
         let Place { at, alloc } = self;
         Held {
-            at: at as *mut Saved,
+            at: at as *mut Grown,
             alloc,
         }
     }

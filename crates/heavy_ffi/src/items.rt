@@ -4,8 +4,7 @@ ghost use Rattle.std.specs.Prelude.{◌≡◌, ◌≢◌, ℕ, List, map, length
 ghost use Rattle.hh_stream.specs.Weights.{Entry};
 ghost use Rattle.hh_commands.specs.Files.{Refuses, StopsAtHead, file_of};
 ghost use Rattle.hh_faults.specs.declared.error.ToolError.{ToolError};
-ghost use Rattle.heavy_ffi.specs.Items.{bad_end, items_of, shape_fault};
-ghost use Rattle.heavy_ffi.specs.Outcomes.{IsOutcome, TellsHead};
+ghost use Rattle.heavy_ffi.specs.Items.{AnswersItems, bad_end, items_of, shape_fault};
 
 use crate::fault::Fault;
 use crate::refusal_of;
@@ -138,15 +137,9 @@ pub(crate) fn answer_with<C: ItemsCall>(
     needed: &mut usize,
     fault: &mut Fault,
 ) -> u32
-    ensures outcome { shape_fault (length keys.now) ends.now weights.now ≡ None → IsOutcome
-        (C.gives call file.now (items_of keys.now ends.now weights.now))
-        (C.refuses call file.now (items_of keys.now ends.now weights.now))
+    ensures { AnswersItems keys.now ends.now weights.now file.now
+        (C.gives call file.now) (C.refuses call file.now)
         result out.old out.new needed.new fault.new }
-    ensures shape { IfSome (shape_fault (length keys.now) ends.now weights.now) (λ shape.
-        (result ≡ 2) × (fault.new ≡ shape) × (out.new ≡ out.old)) }
-    ensures early { shape_fault (length keys.now) ends.now weights.now ≡ None
-        → TellsHead file.now result fault.new }
-    ensures no_bytes { result ≢ 0 → result ≢ 5 → needed.new ≡ 0 }
 {
     if let Some(shape) = shape_fault(keys.len(), ends, weights) {
         *needed = 0;

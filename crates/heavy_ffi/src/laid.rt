@@ -5,8 +5,7 @@ ghost use Rattle.std.specs.Prelude.{IfErr, IfOk, IfSome, IsErrAnd};
 ghost use Rattle.hh_stream.specs.Cuttings.{pieces_of};
 ghost use Rattle.hh_faults.specs.declared.error.ToolError.{ToolError};
 ghost use Rattle.hh_records.specs.declared.layout.Layout.{Layout};
-ghost use Rattle.heavy_ffi.specs.Layouts.{Laid, LaidRefused, TellsEarly, layout_fault};
-ghost use Rattle.heavy_ffi.specs.Outcomes.{IsOutcome};
+ghost use Rattle.heavy_ffi.specs.Layouts.{AnswersLaid, Laid, LaidRefused, layout_fault};
 
 use crate::fault::Fault;
 use crate::layout::{TextLayout, layout_fault, layout_of};
@@ -64,16 +63,8 @@ pub(crate) fn answer_laid<C: LaidCall>(
     needed: &mut usize,
     fault: &mut Fault,
 ) -> u32
-    ensures outcome { layout_fault layout.now (length lengths.now) ≡ None → IsOutcome
-        (λ bytes. Laid layout.now (pieces_of lengths.now columns.now) (λ l. C.gives call l bytes))
-        (LaidRefused layout.now (pieces_of lengths.now columns.now) (C.refuses call))
-        result out.old out.new needed.new fault.new }
-    ensures early { layout_fault layout.now (length lengths.now) ≡ None → IfSome (C.wrong call)
-        (λ wrong. TellsEarly layout.now (pieces_of lengths.now columns.now) wrong
-        result fault.new) }
-    ensures bad_layout { IfSome (layout_fault layout.now (length lengths.now)) (λ bad.
-        (result ≡ 2) × (fault.new ≡ bad) × (out.new ≡ out.old)) }
-    ensures no_bytes { result ≢ 0 → result ≢ 5 → needed.new ≡ 0 }
+    ensures { AnswersLaid layout.now lengths.now columns.now (C.gives call) (C.refuses call)
+        (C.wrong call) result out.old out.new needed.new fault.new }
 {
     if let Some(bad) = layout_fault(layout, lengths.len()) {
         *needed = 0;

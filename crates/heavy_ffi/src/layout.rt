@@ -2,7 +2,8 @@
 
 ghost use Rattle.std.specs.Prelude.{◌≡◌, None, IfErr, IfOk, length};
 ghost use Rattle.hh_stream.specs.Cuttings.{pieces_of};
-ghost use Rattle.heavy_ffi.specs.Layouts.{AreLayoutWords, IsLayout, LayoutRefused, layout_fault, share_given};
+ghost use Rattle.heavy_ffi.specs.Layouts.{AreLayoutWords, IsLayout, LayoutRefused};
+ghost use Rattle.heavy_ffi.specs.Layouts.{layout_fault, share_given};
 
 use crate::fault::Fault;
 use crate::parts::files_of;

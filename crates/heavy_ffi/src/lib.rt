@@ -6,6 +6,8 @@
 
 mod fault;
 mod growing;
+mod grown;
+mod hash_words;
 mod held;
 mod info;
 mod items;
@@ -50,6 +52,7 @@ ghost use Rattle.heavy_ffi.specs.Outcomes.{TellsFault, TellsHead, bad_summary, b
 pub use fault::Fault;
 use fault::tell;
 pub use growing::Growing;
+pub use hash_words::HashWords;
 use hh_commands::{Method, describe_file, merge_bytes};
 use hh_counters::laws::summaries_follow_items;
 use hh_countmin::laws::drawn_families_are_families;

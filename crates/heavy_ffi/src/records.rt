@@ -1,7 +1,6 @@
 //! The calls over the records of a text of any layout. Each tests the layout first.
 
-ghost use Rattle.std.specs.Prelude.{◌≡◌, ◌≢◌, ◌≤◌, None, IfSome, length};
-ghost use Rattle.hh_stream.specs.Cuttings.{pieces_of};
+ghost use Rattle.std.specs.Prelude.{◌≢◌, ◌≤◌, length};
 ghost use Rattle.hh_stream.specs.Weights.{max_key_len};
 ghost use Rattle.hh_summaries.specs.Counters.{sketch_of};
 ghost use Rattle.hh_countmin.specs.Family.{drawn_family};
@@ -15,9 +14,8 @@ ghost use Rattle.hh_commands.specs.Table.{bad_table};
 ghost use Rattle.hh_library.specs.LaidOut.{AddRecordsRefused, AddsRecords, CondenseBoundedRefused};
 ghost use Rattle.hh_library.specs.LaidOut.{CondensesBounded, ConfirmBoundedRefused};
 ghost use Rattle.hh_library.specs.LaidOut.{ConfirmsBounded, ReportsRows, bad_report, text_laid};
-ghost use Rattle.heavy_ffi.specs.Layouts.{AreWholeRecordsBy, Laid, LaidRefused, TellsEarly};
-ghost use Rattle.heavy_ffi.specs.Layouts.{layout_fault, share_given};
-ghost use Rattle.heavy_ffi.specs.Outcomes.{IsOutcome, head_refusal};
+ghost use Rattle.heavy_ffi.specs.Layouts.{AnswersLaid, AreWholeRecordsBy, share_given};
+ghost use Rattle.heavy_ffi.specs.Outcomes.{head_refusal};
 
 use crate::fault::Fault;
 use crate::laid::{LaidCall, answer_laid};
@@ -70,18 +68,10 @@ pub extern "C" fn heavy_summarise_records(
     needed: &mut usize,
     fault: &mut Fault,
 ) -> u32
-    ensures outcome { layout_fault layout.now (length lengths.now) ≡ None → IsOutcome
-        (λ bytes. Laid layout.now (pieces_of lengths.now columns.now) (λ l.
-        SavesStream (λ xs. Counters (sketch_of k xs)) (text_laid l text.now) bytes))
-        (LaidRefused layout.now (pieces_of lengths.now columns.now) (λ l.
-        RefusedAfter (bad_k k) (text_laid l text.now)))
-        result out.old out.new needed.new fault.new }
-    ensures early { layout_fault layout.now (length lengths.now) ≡ None → IfSome (bad_k k)
-        (λ wrong. TellsEarly layout.now (pieces_of lengths.now columns.now) wrong
-        result fault.new) }
-    ensures bad_layout { IfSome (layout_fault layout.now (length lengths.now)) (λ bad.
-        (result ≡ 2) × (fault.new ≡ bad) × (out.new ≡ out.old)) }
-    ensures no_bytes { result ≢ 0 → result ≢ 5 → needed.new ≡ 0 }
+    ensures answers { AnswersLaid layout.now lengths.now columns.now
+        (λ l. SavesStream (λ xs. Counters (sketch_of k xs)) (text_laid l text.now))
+        (λ l. RefusedAfter (bad_k k) (text_laid l text.now))
+        (bad_k k) result out.old out.new needed.new fault.new }
     ensures enough { most_summary_bytes k max_key_len ≤ length out.old → result ≢ 5 }
 {
     sizes_are_bounded();
@@ -136,19 +126,11 @@ pub extern "C" fn heavy_table_records(
     needed: &mut usize,
     fault: &mut Fault,
 ) -> u32
-    ensures outcome { layout_fault layout.now (length lengths.now) ≡ None → IsOutcome
-        (λ bytes. Laid layout.now (pieces_of lengths.now columns.now) (λ l.
-        SavesStream (λ xs. Cells (table_of (drawn_family seed depth) width xs))
-        (text_laid l text.now) bytes))
-        (LaidRefused layout.now (pieces_of lengths.now columns.now) (λ l.
-        RefusedAfter (bad_table depth width) (text_laid l text.now)))
-        result out.old out.new needed.new fault.new }
-    ensures early { layout_fault layout.now (length lengths.now) ≡ None → IfSome (bad_table depth width)
-        (λ wrong. TellsEarly layout.now (pieces_of lengths.now columns.now) wrong
-        result fault.new) }
-    ensures bad_layout { IfSome (layout_fault layout.now (length lengths.now)) (λ bad.
-        (result ≡ 2) × (fault.new ≡ bad) × (out.new ≡ out.old)) }
-    ensures no_bytes { result ≢ 0 → result ≢ 5 → needed.new ≡ 0 }
+    ensures { AnswersLaid layout.now lengths.now columns.now
+        (λ l. SavesStream (λ xs. Cells (table_of (drawn_family seed depth) width xs))
+        (text_laid l text.now))
+        (λ l. RefusedAfter (bad_table depth width) (text_laid l text.now))
+        (bad_table depth width) result out.old out.new needed.new fault.new }
 {
     let call = Tabulate {
         text,
@@ -193,18 +175,10 @@ pub extern "C" fn heavy_add_records(
     needed: &mut usize,
     fault: &mut Fault,
 ) -> u32
-    ensures outcome { layout_fault layout.now (length lengths.now) ≡ None → IsOutcome
-        (λ bytes. Laid layout.now (pieces_of lengths.now columns.now) (λ l.
-        AddsRecords file.now (text_laid l text.now) bytes))
-        (LaidRefused layout.now (pieces_of lengths.now columns.now) (λ l.
-        AddRecordsRefused file.now (text_laid l text.now)))
-        result out.old out.new needed.new fault.new }
-    ensures early { layout_fault layout.now (length lengths.now) ≡ None → IfSome (head_refusal file.now)
-        (λ wrong. TellsEarly layout.now (pieces_of lengths.now columns.now) wrong
-        result fault.new) }
-    ensures bad_layout { IfSome (layout_fault layout.now (length lengths.now)) (λ bad.
-        (result ≡ 2) × (fault.new ≡ bad) × (out.new ≡ out.old)) }
-    ensures no_bytes { result ≢ 0 → result ≢ 5 → needed.new ≡ 0 }
+    ensures { AnswersLaid layout.now lengths.now columns.now
+        (λ l. AddsRecords file.now (text_laid l text.now))
+        (λ l. AddRecordsRefused file.now (text_laid l text.now))
+        (head_refusal file.now) result out.old out.new needed.new fault.new }
 {
     let call = Add { file, text };
     answer_laid(alloc, call, layout, columns, lengths, out, needed, fault)
@@ -257,18 +231,10 @@ pub extern "C" fn heavy_confirm_records(
     needed: &mut usize,
     fault: &mut Fault,
 ) -> u32
-    ensures outcome { layout_fault layout.now (length lengths.now) ≡ None → IsOutcome
-        (λ rows. Laid layout.now (pieces_of lengths.now columns.now) (λ l.
-        ConfirmsBounded (share_given p q) l.decimals file.now (text_laid l text.now) rows))
-        (LaidRefused layout.now (pieces_of lengths.now columns.now) (λ l.
-        ConfirmBoundedRefused (share_given p q) file.now (text_laid l text.now)))
-        result out.old out.new needed.new fault.new }
-    ensures early { layout_fault layout.now (length lengths.now) ≡ None → IfSome (head_refusal file.now)
-        (λ wrong. TellsEarly layout.now (pieces_of lengths.now columns.now) wrong
-        result fault.new) }
-    ensures bad_layout { IfSome (layout_fault layout.now (length lengths.now)) (λ bad.
-        (result ≡ 2) × (fault.new ≡ bad) × (out.new ≡ out.old)) }
-    ensures no_bytes { result ≢ 0 → result ≢ 5 → needed.new ≡ 0 }
+    ensures { AnswersLaid layout.now lengths.now columns.now
+        (λ l. ConfirmsBounded (share_given p q) l.decimals file.now (text_laid l text.now))
+        (λ l. ConfirmBoundedRefused (share_given p q) file.now (text_laid l text.now))
+        (head_refusal file.now) result out.old out.new needed.new fault.new }
 {
     let share = share_given(p, q);
     let call = Confirm { file, text, share };
@@ -283,7 +249,8 @@ struct Condense<'t> {
 }
 
 impl<'t> LaidCall for Condense<'t> {
-    ghost gives = { λ call l. CondensesBounded l.decimals call.file.now (text_laid l call.text.now) };
+    ghost gives = { λ call l. CondensesBounded l.decimals call.file.now
+        (text_laid l call.text.now) };
 
     ghost refuses = { λ call l. CondenseBoundedRefused call.file.now (text_laid l call.text.now) };
 
@@ -315,18 +282,10 @@ pub extern "C" fn heavy_condense_records(
     needed: &mut usize,
     fault: &mut Fault,
 ) -> u32
-    ensures outcome { layout_fault layout.now (length lengths.now) ≡ None → IsOutcome
-        (λ rows. Laid layout.now (pieces_of lengths.now columns.now) (λ l.
-        CondensesBounded l.decimals file.now (text_laid l text.now) rows))
-        (LaidRefused layout.now (pieces_of lengths.now columns.now) (λ l.
-        CondenseBoundedRefused file.now (text_laid l text.now)))
-        result out.old out.new needed.new fault.new }
-    ensures early { layout_fault layout.now (length lengths.now) ≡ None → IfSome (head_refusal file.now)
-        (λ wrong. TellsEarly layout.now (pieces_of lengths.now columns.now) wrong
-        result fault.new) }
-    ensures bad_layout { IfSome (layout_fault layout.now (length lengths.now)) (λ bad.
-        (result ≡ 2) × (fault.new ≡ bad) × (out.new ≡ out.old)) }
-    ensures no_bytes { result ≢ 0 → result ≢ 5 → needed.new ≡ 0 }
+    ensures { AnswersLaid layout.now lengths.now columns.now
+        (λ l. CondensesBounded l.decimals file.now (text_laid l text.now))
+        (λ l. CondenseBoundedRefused file.now (text_laid l text.now))
+        (head_refusal file.now) result out.old out.new needed.new fault.new }
 {
     let call = Condense { file, text };
     answer_laid(alloc, call, layout, columns, lengths, out, needed, fault)
@@ -341,7 +300,8 @@ struct Report<'t> {
 }
 
 impl<'t> LaidCall for Report<'t> {
-    ghost gives = { λ call l. ReportsRows call.k call.share l.decimals (text_laid l call.text.now) };
+    ghost gives = { λ call l. ReportsRows call.k call.share l.decimals
+        (text_laid l call.text.now) };
 
     ghost refuses = { λ call l. RefusedAfter (bad_report call.k call.share)
         (text_laid l call.text.now) };
@@ -369,18 +329,10 @@ pub extern "C" fn heavy_report(
     needed: &mut usize,
     fault: &mut Fault,
 ) -> u32
-    ensures outcome { layout_fault layout.now (length lengths.now) ≡ None → IsOutcome
-        (λ rows. Laid layout.now (pieces_of lengths.now columns.now) (λ l.
-        ReportsRows k (share_given p q) l.decimals (text_laid l text.now) rows))
-        (LaidRefused layout.now (pieces_of lengths.now columns.now) (λ l.
-        RefusedAfter (bad_report k (share_given p q)) (text_laid l text.now)))
-        result out.old out.new needed.new fault.new }
-    ensures early { layout_fault layout.now (length lengths.now) ≡ None → IfSome (bad_report k (share_given p q))
-        (λ wrong. TellsEarly layout.now (pieces_of lengths.now columns.now) wrong
-        result fault.new) }
-    ensures bad_layout { IfSome (layout_fault layout.now (length lengths.now)) (λ bad.
-        (result ≡ 2) × (fault.new ≡ bad) × (out.new ≡ out.old)) }
-    ensures no_bytes { result ≢ 0 → result ≢ 5 → needed.new ≡ 0 }
+    ensures { AnswersLaid layout.now lengths.now columns.now
+        (λ l. ReportsRows k (share_given p q) l.decimals (text_laid l text.now))
+        (λ l. RefusedAfter (bad_report k (share_given p q)) (text_laid l text.now))
+        (bad_report k (share_given p q)) result out.old out.new needed.new fault.new }
 {
     let share = share_given(p, q);
     let call = Report { text, k, share };

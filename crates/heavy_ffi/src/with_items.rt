@@ -1,6 +1,6 @@
 //! The calls over a saved file and items in memory. Each tests the ends and the weights first.
 
-ghost use Rattle.std.specs.Prelude.{◌≡◌, ◌≢◌, ◌≤◌, length, Ok, Some, None, IfSome};
+ghost use Rattle.std.specs.Prelude.{◌≡◌, ◌≢◌, ◌≤◌, length, Ok, Some, None};
 ghost use Rattle.hh_stream.specs.Weights.{max_key_len};
 ghost use Rattle.hh_summaries.specs.Counters.{SummaryView};
 ghost use Rattle.hh_countmin.specs.Table.{TableView};
@@ -8,11 +8,13 @@ ghost use Rattle.hh_saved.specs.Sizes.{most_summary_bytes, table_bytes};
 ghost use Rattle.hh_library.specs.Add.{added};
 ghost use Rattle.hh_library.specs.CountItems.{condensed_items, confirmed_items};
 ghost use Rattle.hh_commands.specs.Files.{HoldsSummary, HoldsTable, Refuses};
-ghost use Rattle.heavy_ffi.specs.Items.{AddsItems, items_of, refused_first, shape_fault};
-ghost use Rattle.heavy_ffi.specs.Outcomes.{IsOutcome, TellsHead};
+ghost use Rattle.heavy_ffi.specs.Items.{AddsItems, AnswersItems, refused_first};
+ghost use Rattle.heavy_ffi.specs.Layouts.{share_given};
 
 use crate::fault::Fault;
+use crate::hash_words::HashWords;
 use crate::items::{ItemsCall, answer_with};
+use crate::layout::share_given;
 use hh_faults::ToolError;
 use hh_library::{add_items, condense_items, confirm_items};
 use hh_saved::laws::sizes_are_bounded;
@@ -55,15 +57,10 @@ pub extern "C" fn heavy_add(
     needed: &mut usize,
     fault: &mut Fault,
 ) -> u32
-    ensures outcome { shape_fault (length keys.now) ends.now weights.now ≡ None → IsOutcome
-        (AddsItems file.now (items_of keys.now ends.now weights.now))
-        (Refuses (added file.now (items_of keys.now ends.now weights.now)))
+    ensures answers { AnswersItems keys.now ends.now weights.now file.now
+        (AddsItems file.now)
+        (λ xs. Refuses (added file.now xs))
         result out.old out.new needed.new fault.new }
-    ensures shape { IfSome (shape_fault (length keys.now) ends.now weights.now) (λ shape.
-        (result ≡ 2) × (fault.new ≡ shape) × (out.new ≡ out.old)) }
-    ensures early { shape_fault (length keys.now) ends.now weights.now ≡ None
-        → TellsHead file.now result fault.new }
-    ensures no_bytes { result ≢ 0 → result ≢ 5 → needed.new ≡ 0 }
     ensures enough { (s : SummaryView) → HoldsSummary file.now s
         → most_summary_bytes s.k max_key_len ≤ length out.old → result ≢ 5 }
     ensures enough_table { (t : TableView) → HoldsTable file.now t
@@ -75,7 +72,9 @@ pub extern "C" fn heavy_add(
 
 /// The condensed rows of items, by a saved summary.
 #[derive(Clone, Copy)]
-struct Condense;
+struct Condense {
+    hash: KeyHash,
+}
 
 impl ItemsCall for Condense {
     ghost gives = { λ call file xs rows. condensed_items file xs ≡ Ok rows };
@@ -88,7 +87,7 @@ impl ItemsCall for Condense {
         file: &[u8],
         items: &[(&[u8], u64)],
     ) -> Result<Vec<u8>, ToolError> {
-        condense_items(alloc, file, items, KeyHash::fixed())
+        condense_items(alloc, file, items, self.hash)
     }
 
     ghost file_first = { λ call file xs fault. refused_first file _ fault };
@@ -108,25 +107,45 @@ pub extern "C" fn heavy_condense_items(
     needed: &mut usize,
     fault: &mut Fault,
 ) -> u32
-    ensures outcome { shape_fault (length keys.now) ends.now weights.now ≡ None → IsOutcome
-        (λ rows. condensed_items file.now (items_of keys.now ends.now weights.now) ≡ Ok rows)
-        (Refuses (condensed_items file.now (items_of keys.now ends.now weights.now)))
+    ensures { AnswersItems keys.now ends.now weights.now file.now
+        (λ xs rows. condensed_items file.now xs ≡ Ok rows)
+        (λ xs. Refuses (condensed_items file.now xs))
         result out.old out.new needed.new fault.new }
-    ensures shape { IfSome (shape_fault (length keys.now) ends.now weights.now) (λ shape.
-        (result ≡ 2) × (fault.new ≡ shape) × (out.new ≡ out.old)) }
-    ensures early { shape_fault (length keys.now) ends.now weights.now ≡ None
-        → TellsHead file.now result fault.new }
-    ensures no_bytes { result ≢ 0 → result ≢ 5 → needed.new ≡ 0 }
 {
-    answer_with(
-        alloc, Condense, file, keys, ends, weights, out, needed, fault,
-    )
+    let hash = HashWords::fixed();
+    heavy_condense_items_by(alloc, file, keys, ends, weights, &hash, out, needed, fault)
+}
+
+/// Gives what `heavy_condense_items` gives. Keys are hashed by these words, which decide how fast
+/// they are found, and nothing else.
+#[unsafe(no_mangle)]
+pub extern "C" fn heavy_condense_items_by(
+    alloc: Global,
+    file: &[u8],
+    keys: &[u8],
+    ends: &[u64],
+    weights: &[u64],
+    hash: &HashWords,
+    out: &mut [u8],
+    needed: &mut usize,
+    fault: &mut Fault,
+) -> u32
+    ensures { AnswersItems keys.now ends.now weights.now file.now
+        (λ xs rows. condensed_items file.now xs ≡ Ok rows)
+        (λ xs. Refuses (condensed_items file.now xs))
+        result out.old out.new needed.new fault.new }
+{
+    let call = Condense {
+        hash: hash.key_hash(),
+    };
+    answer_with(alloc, call, file, keys, ends, weights, out, needed, fault)
 }
 
 /// The rows of a saved summary's keys above a share of items.
 #[derive(Clone, Copy)]
 struct Confirm {
     share: Option<(u64, u64)>,
+    hash: KeyHash,
 }
 
 impl ItemsCall for Confirm {
@@ -140,7 +159,7 @@ impl ItemsCall for Confirm {
         file: &[u8],
         items: &[(&[u8], u64)],
     ) -> Result<Vec<u8>, ToolError> {
-        confirm_items(alloc, file, self.share, items, KeyHash::fixed())
+        confirm_items(alloc, file, self.share, items, self.hash)
     }
 
     ghost file_first = { λ call file xs fault. refused_first file _ fault };
@@ -160,17 +179,15 @@ pub extern "C" fn heavy_confirm_items(
     needed: &mut usize,
     fault: &mut Fault,
 ) -> u32
-    ensures outcome { shape_fault (length keys.now) ends.now weights.now ≡ None → IsOutcome
-        (λ rows. confirmed_items None file.now (items_of keys.now ends.now weights.now) ≡ Ok rows)
-        (Refuses (confirmed_items None file.now (items_of keys.now ends.now weights.now)))
+    ensures { AnswersItems keys.now ends.now weights.now file.now
+        (λ xs rows. confirmed_items None file.now xs ≡ Ok rows)
+        (λ xs. Refuses (confirmed_items None file.now xs))
         result out.old out.new needed.new fault.new }
-    ensures shape { IfSome (shape_fault (length keys.now) ends.now weights.now) (λ shape.
-        (result ≡ 2) × (fault.new ≡ shape) × (out.new ≡ out.old)) }
-    ensures early { shape_fault (length keys.now) ends.now weights.now ≡ None
-        → TellsHead file.now result fault.new }
-    ensures no_bytes { result ≢ 0 → result ≢ 5 → needed.new ≡ 0 }
 {
-    let call = Confirm { share: None };
+    let call = Confirm {
+        share: None,
+        hash: KeyHash::fixed(),
+    };
     answer_with(alloc, call, file, keys, ends, weights, out, needed, fault)
 }
 
@@ -190,20 +207,43 @@ pub extern "C" fn heavy_confirm_items_above(
     needed: &mut usize,
     fault: &mut Fault,
 ) -> u32
-    ensures outcome { shape_fault (length keys.now) ends.now weights.now ≡ None → IsOutcome
-        (λ rows. confirmed_items (Some (p, q)) file.now
-        (items_of keys.now ends.now weights.now) ≡ Ok rows)
-        (Refuses (confirmed_items (Some (p, q)) file.now
-        (items_of keys.now ends.now weights.now)))
+    ensures { AnswersItems keys.now ends.now weights.now file.now
+        (λ xs rows. confirmed_items (Some (p, q)) file.now xs ≡ Ok rows)
+        (λ xs. Refuses (confirmed_items (Some (p, q)) file.now xs))
         result out.old out.new needed.new fault.new }
-    ensures shape { IfSome (shape_fault (length keys.now) ends.now weights.now) (λ shape.
-        (result ≡ 2) × (fault.new ≡ shape) × (out.new ≡ out.old)) }
-    ensures early { shape_fault (length keys.now) ends.now weights.now ≡ None
-        → TellsHead file.now result fault.new }
-    ensures no_bytes { result ≢ 0 → result ≢ 5 → needed.new ≡ 0 }
 {
     let call = Confirm {
         share: Some((p, q)),
+        hash: KeyHash::fixed(),
+    };
+    answer_with(alloc, call, file, keys, ends, weights, out, needed, fault)
+}
+
+/// Gives what `heavy_confirm_items_above` gives or, where both p and q are 0, what
+/// `heavy_confirm_items` gives. Keys are hashed by these words, which decide how fast they are
+/// found, and nothing else.
+#[unsafe(no_mangle)]
+pub extern "C" fn heavy_confirm_items_by(
+    alloc: Global,
+    file: &[u8],
+    keys: &[u8],
+    ends: &[u64],
+    weights: &[u64],
+    p: u64,
+    q: u64,
+    hash: &HashWords,
+    out: &mut [u8],
+    needed: &mut usize,
+    fault: &mut Fault,
+) -> u32
+    ensures { AnswersItems keys.now ends.now weights.now file.now
+        (λ xs rows. confirmed_items (share_given p q) file.now xs ≡ Ok rows)
+        (λ xs. Refuses (confirmed_items (share_given p q) file.now xs))
+        result out.old out.new needed.new fault.new }
+{
+    let call = Confirm {
+        share: share_given(p, q),
+        hash: hash.key_hash(),
     };
     answer_with(alloc, call, file, keys, ends, weights, out, needed, fault)
 }

@@ -1,6 +1,6 @@
 //! Saved files, merged.
 
-ghost use Rattle.std.specs.Prelude.{◌≡◌, ◌<◌, Ok, Err, IfOk, IfErr, OnOk, MatchResult, [], map, length, slice_index_or, vec_items};
+ghost use Rattle.std.specs.Prelude.{◌≡◌, ◌<◌, Ok, Err, IfOk, IfErr, OnErr, OnOk, MatchResult, [], map, length, slice_index_or, vec_items};
 ghost use Rattle.hh_saved.specs.Spelling.{Spells};
 ghost use Rattle.hh_saved.specs.declared.format.Version.TheVariants as version;
 ghost use Rattle.hh_saved.specs.declared.saved.Saved.{Saved};
@@ -27,6 +27,7 @@ fn merge_counters(summary: &mut Summary, number: u64, other: &Summary) -> Result
     ensures told { (fault : ToolError)
         → merge_saved number (Counters summary.old) (Counters other.now) ≡ Err fault
         → result ≡ Err fault }
+    ensures unchanged { OnErr result (summary.new ≡ summary.old) }
 {
     let cause = match summary.merge(other) {
         Ok(()) => return Ok(()),
@@ -39,9 +40,10 @@ fn merge_counters(summary: &mut Summary, number: u64, other: &Summary) -> Result
 
 /// Merges the table of the file with this number.
 fn merge_cells(table: &mut Table, number: u64, other: &Table) -> Result<(), ToolError>
-    ensures { MatchResult result
+    ensures merged { MatchResult result
         (λ _. merge_saved number (Cells table.old) (Cells other.now) ≡ Ok (Cells table.new))
         (λ fault. merge_saved number (Cells table.old) (Cells other.now) ≡ Err fault) }
+    ensures unchanged { OnErr result (table.new ≡ table.old) }
 {
     equal_families_are_one();
     let cause = match table.merge(other) {
@@ -53,13 +55,14 @@ fn merge_cells(table: &mut Table, number: u64, other: &Table) -> Result<(), Tool
     Err(ToolError::CannotMerge { number, cause })
 }
 
-/// Merges the value of the file with this number.
-fn merge_saved(merged: &mut Saved, number: u64, next: &Saved) -> Result<(), ToolError>
+/// Merges the value of the file with this number. After a refusal `merged` is as it was.
+pub fn merge_saved(merged: &mut Saved, number: u64, next: &Saved) -> Result<(), ToolError>
     ensures merged { OnOk result (merge_saved number merged.old next.now ≡ Ok merged.new) }
     ensures refused { IfErr result (λ fault.
         Refuses (merge_saved number merged.old next.now) fault) }
     ensures told { (fault : ToolError)
         → merge_saved number merged.old next.now ≡ Err fault → result ≡ Err fault }
+    ensures unchanged { OnErr result (merged.new ≡ merged.old) }
 {
     match merged {
         Saved::Counters(summary) => match next {

@@ -1,6 +1,6 @@
 use Rattle.heavy_ffi.proofs.records.heavy_report.Goals as goal
 
-pub returns-clause-outcome : goal.returns-clause-outcome
-returns-clause-outcome c =
+pub returns : goal.returns
+returns c =
     let share = c.share_given-share.ensures in
-    rw share at c.answer_laid.ensures.outcome
+    rw share at c.answer_laid.ensures
