@@ -129,10 +129,10 @@ struct heavy_entry {
     uint64_t counter;
 };
 
-/* How the records of a text are laid out, beside the columns, which a call takes behind it: the next lengths[i] of the
+/* How the records of a text are laid out, beside the columns, which a call takes after it: the next lengths[i] of the
    columns_len bytes are column i, of count. Each is a column's number in digits, from 1 on, or with a header its name. A key
    of several columns is the CSV text of their fields, as the program's --key makes it. Where there are no columns, a record
-   is a key and, behind the delimiter, its weight, or 1. Where there are only those of the key, each record weighs 1; where
+   is a key and, after the delimiter, its weight, or 1. Where there are only those of the key, each record weighs 1; where
    there is only that of the weight, the key is column 1.
    A call tests the layout first, before all that it tests else: its numbers (HEAVY_BAD_LAYOUT), then the delimiter
    (HEAVY_BAD_DELIMITER), then the columns (HEAVY_BAD_COLUMN), all with HEAVY_USAGE. A column that the text's header has
@@ -141,7 +141,7 @@ struct heavy_layout {
     uint8_t delimiter;   /* the byte between two fields, but for a quote, CR or LF */
     uint8_t header;      /* 1: the first record names the columns, and is no record; else 0 */
     uint8_t allow_zero;  /* 1: a record of weight 0 or - adds nothing, and is no fault; else 0 */
-    uint8_t decimals;    /* the most digits of a weight behind its point, 0 to 9; it counts in units of the last */
+    uint8_t decimals;    /* the most digits of a weight after its point, 0 to 9; it counts in units of the last */
     uint32_t has_weight; /* 1: the last of the columns is the weight's; 0: all are the key's */
     uint64_t hash[2];    /* the words by which keys are hashed, drawn at random where others choose the keys; or both 0 */
 };
@@ -177,9 +177,9 @@ struct heavy_growing {
 #define HEAVY_MAX_KEY 4096u
 #define HEAVY_MAX_K 65535u
 
-/* How much room is enough. A saved summary with k counters, merged or not, whose keys have at most longest bytes has at
-   most so many bytes; HEAVY_MAX_KEY is a longest that always holds. A saved table has exactly so many. A summary has at
-   most k entries. */
+/* How much room is enough. HEAVY_SUMMARY_ROOM(k, longest) is the most bytes of a saved summary with k counters, merged or
+   not, whose keys have at most longest bytes, HEAVY_MAX_KEY at the most. A saved table has exactly
+   HEAVY_TABLE_ROOM(width, depth) bytes. A summary has at most k entries. */
 #define HEAVY_SUMMARY_ROOM(k, longest) ((size_t)17 + (size_t)(k) * ((size_t)(longest) + 10))
 #define HEAVY_TABLE_ROOM(width, depth) ((size_t)26 + (size_t)16 * (depth) + (size_t)8 * (depth) * (width))
 
@@ -218,8 +218,8 @@ uint32_t heavy_add_text(const uint8_t *file, size_t file_len, const uint8_t *tex
                         size_t out_len, size_t *needed, struct heavy_fault *fault);
 
 /* Tells how many bytes of a part of a text are whole records: those before the last line feed that is not in quotes, or 0
-   where there is none behind the first byte. The next part begins with the bytes that are left. Where it is 0, read more
-   behind the part; at the text's end take the whole part. It can't fail. */
+   where there is none after the first byte. The next part begins with the bytes that are left. Where it is 0, read more
+   after the part; at the text's end take the whole part. It can't fail. */
 size_t heavy_whole_records(const uint8_t *text, size_t text_len);
 
 /* Gives the saved Count-Min table of no items, with the hash family that is drawn from the seed: width from 1 to 65536,
@@ -286,7 +286,7 @@ uint32_t heavy_condense(const uint8_t *file, size_t file_len, const uint8_t *tex
 
 /* Gives what heavy_condense gives, of items in place of a text's records. The items lie as heavy_add takes them, and ends
    and weights are tested as there. So a second pass may go over a stream in parts, each part's items condensed by the
-   summary of the whole; the rows of all parts, one behind the other, are a text for heavy_confirm. Then the file is
+   summary of the whole; the rows of all parts, one after the other, are a text for heavy_confirm. Then the file is
    tested, then its kind, and then the items in order, which are refused as heavy_add refuses them: their total is at most
    2^63 - 1, and need not be the summary's. */
 uint32_t heavy_condense_items(const uint8_t *file, size_t file_len, const uint8_t *keys, size_t keys_len,
@@ -301,7 +301,7 @@ uint32_t heavy_confirm_items(const uint8_t *file, size_t file_len, const uint8_t
                              uint8_t *out, size_t out_len, size_t *needed, struct heavy_fault *fault);
 
 /* Gives the rows of heavy_confirm_items above the share p/q of the total, as heavy_confirm_above takes it: it is tested
-   behind the file's kind, and before the items. */
+   after the file's kind, and before the items. */
 uint32_t heavy_confirm_items_above(const uint8_t *file, size_t file_len, const uint8_t *keys, size_t keys_len,
                                    const uint64_t *ends, size_t count, const uint64_t *weights, size_t weights_len,
                                    uint64_t p, uint64_t q, uint8_t *out, size_t out_len, size_t *needed,
@@ -353,7 +353,7 @@ uint32_t heavy_add_records(const uint8_t *file, size_t file_len, const uint8_t *
 
 /* Gives the rows `key,weight` of a saved summary's keys above the share p/q in records of a layout, which have to be those
    that were summarised; p and q are as heavy_confirm_above takes them, or both 0 for 1/(k + 1). Weights have as many digits
-   behind the point as the layout's. As in the program, records that contradict the summary are refused: where a key weighs
+   after the point as the layout's. As in the program, records that contradict the summary are refused: where a key weighs
    less than its counter, or more than its counter and the slack, the call answers HEAVY_REFUSED and HEAVY_WEIGHT_OUTSIDE.
    The layout is tested first, then the file, then its kind, then the share, then the records, then the totals, then that. */
 uint32_t heavy_confirm_records(const uint8_t *file, size_t file_len, const uint8_t *text, size_t text_len,
@@ -362,7 +362,7 @@ uint32_t heavy_confirm_records(const uint8_t *file, size_t file_len, const uint8
                                size_t *needed, struct heavy_fault *fault);
 
 /* Gives what heavy_condense gives, of records of a layout, which may be a part of those that were summarised: records of a
-   key, a comma and a weight, with as many digits behind the point as the layout's. Where a key weighs more than its counter
+   key, a comma and a weight, with as many digits after the point as the layout's. Where a key weighs more than its counter
    and the slack, the call answers HEAVY_REFUSED and HEAVY_WEIGHT_OUTSIDE. The layout is tested first, then the file, then
    its kind, then the records, then that. */
 uint32_t heavy_condense_records(const uint8_t *file, size_t file_len, const uint8_t *text, size_t text_len,
@@ -387,7 +387,7 @@ uint32_t heavy_open_by(const uint8_t *file, size_t file_len, const struct heavy_
                        struct heavy_fault *fault);
 
 /* Adds one item to the value that growing has, as heavy_add adds it to a saved file, with no copy of the file. What a new key
-   of a full summary costs grows as the logarithm of k; the first item behind heavy_open, heavy_save or heavy_absorb costs a
+   of a full summary costs grows as the logarithm of k; the first item after heavy_open, heavy_save or heavy_absorb costs a
    step for each counter. An item is refused as heavy_add refuses item 1, and at another status than HEAVY_DONE the value is
    as it was. Where growing has no value, the call answers HEAVY_USAGE, and fault has zeros. */
 uint32_t heavy_update(struct heavy_growing *growing, const uint8_t *key, size_t key_len, uint64_t weight,
