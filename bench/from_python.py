@@ -1,11 +1,12 @@
 #!/usr/bin/env python3
 """Times the calls of the Python module beside collections.Counter, pandas' groupby and DataSketches, where these are
-installed, and prints medians of interleaved runs in milliseconds of processor time, with the ratio to what stands beside.
+installed, over three streams of items: by Zipf's law over 100,000 keys, all different, and over 100 keys. Prints a table of
+medians: how often the processor time of what stands beside is that of ours, run by run, which are interleaved.
 
-usage: bench/from_python.py [RUNS [ROWS [KEYS]]]
+usage: bench/from_python.py [RUNS [ROWS]]
 
-600,000 items by Zipf's law over 100,000 keys, unless ROWS and KEYS say otherwise, with k = 1,000. The column of Arrow
-strings is one of pyarrow, or where that isn't installed the same buffers through Arrow's C interface.
+There are 5 runs over 600,000 items, if nothing else is said, and k is 1,000. The column of Arrow strings is one of pyarrow,
+or where that isn't installed the same buffers through Arrow's C interface.
 """
 import collections
 import csv
@@ -23,6 +24,7 @@ import programs
 
 K = 1_000
 PARTS = 1_000  # summaries that are merged
+STREAMS = ("Zipf", "all different", "few keys")
 Cell = Callable[[], Any]
 
 
@@ -97,6 +99,13 @@ def sketched(sketches: Any, texts: list[str]) -> Any:
     return sketch
 
 
+def united(sketches: Any, parts: list[Any]) -> Any:
+    sketch = sketches.frequent_strings_sketch(10)
+    for part in parts:
+        sketch.merge(part)
+    return sketch
+
+
 def rows(heavy: Any, texts: list[str], weights: list[int], path: Path) -> dict[str, dict[str, Cell]]:
     """What is timed: for each call ours first, and then what stands beside it."""
     pandas, sketches = module("pandas"), module("datasketches")
@@ -109,48 +118,67 @@ def rows(heavy: Any, texts: list[str], weights: list[int], path: Path) -> dict[s
         "update_many of a list": {"heavy": lambda: grown(heavy, texts), "Counter": lambda: collections.Counter(texts)},
         "update_many of a Counter": {"heavy": lambda: grown(heavy, counter), "Counter": lambda: counter + counter},
         "of_csv": {"heavy": lambda: heavy.Summary.of_csv(path, K), "csv, Counter": lambda: of_csv(path)},
-        "top": {"heavy": lambda: summary.copy().top(10), "Counter": lambda: counter.most_common(10)},
+        "top(10)": {"heavy": lambda: summary.copy().top(10), "Counter": lambda: counter.most_common(10)},
         f"merge of {PARTS:,}": {"heavy": lambda: heavy.merge(summaries), "Counter": lambda: added(counters)},
     }
     if sketches:
         made["update in a loop"]["DataSketches"] = lambda: sketched(sketches, texts)
+        frequent = [sketched(sketches, part) for part in parts]
+        made[f"merge of {PARTS:,}"]["DataSketches"] = lambda: united(sketches, frequent)
     if pandas:
         frame = pandas.DataFrame({"key": pandas.Series(texts, dtype=object), "weight": weights})
         group = {"groupby": lambda: frame.groupby("key")["weight"].sum()}
         strings = arrow(heavy, texts)
-        made["a column of objects"] = {"heavy": lambda: grown(heavy, frame["key"], frame["weight"]), **group}
-        made["a column of Arrow strings"] = {"heavy": lambda: grown(heavy, strings, frame["weight"]), **group}
+        made["update_many of objects"] = {"heavy": lambda: grown(heavy, frame["key"], frame["weight"]), **group}
+        made["update_many of Arrow strings"] = {"heavy": lambda: grown(heavy, strings, frame["weight"]), **group}
         made["heavy.pandas.report"] = {"heavy": lambda: heavy.pandas.report(frame, "key", "weight", K), **group}
-        made["of_csv"]["pandas"] = lambda: pandas.read_csv(path, names=["key", "weight"]).groupby("key")["weight"].sum()
+        made["of_csv"]["read_csv, groupby"] = lambda: pandas.read_csv(path, names=["key", "weight"]).groupby("key")["weight"].sum()
     return made
 
 
-def main() -> None:
-    runs, many, different = ([int(word) for word in sys.argv[1:]] + [5, 600_000, 100_000][len(sys.argv) - 1 :])[:3]
-    draw = random.Random(1)
+def stream(kind: str, many: int, draw: random.Random) -> list[str]:
+    """So many keys of a stream."""
+    different = {"Zipf": 100_000, "all different": many, "few keys": 100}[kind]
     keys = [f"10.{i >> 16}.{i >> 8 & 255}.{i & 255}" for i in range(different)]
-    texts = draw.choices(keys, [1 / (rank + 1) for rank in range(different)], k=many)
+    if different == many:
+        return draw.sample(keys, many)
+    return draw.choices(keys, [1 / (rank + 1) for rank in range(different)], k=many)
+
+
+def ratios(cells: dict[str, Cell], runs: int) -> dict[str, float]:
+    """For each that stands beside, the median of how often its time is in that of the first, run by run."""
+    times: dict[str, list[float]] = {name: [] for name in cells}
+    for _ in range(runs):
+        for name, cell in cells.items():
+            begin = time.process_time()
+            cell()
+            times[name].append(time.process_time() - begin)
+    ours, *others = times
+    return {name: statistics.median(one / two for one, two in zip(times[ours], times[name])) for name in others}
+
+
+def measured(heavy: Any, room: Path, kind: str, runs: int, many: int) -> dict[tuple[str, str], float]:
+    """The ratios of all calls over a stream."""
+    draw = random.Random(1)
+    texts, path = stream(kind, many, draw), room / "records.csv"
     weights = [draw.randrange(1, 1500) for _ in texts]
+    path.write_text("".join(f"{key},{weight}\n" for key, weight in zip(texts, weights)))
+    timed = {call: ratios(cells, runs) for call, cells in rows(heavy, texts, weights, path).items()}
+    return {(call, name): ratio for call, beside in timed.items() for name, ratio in beside.items()}
+
+
+def main() -> None:
+    runs, many = ([int(word) for word in sys.argv[1:]] + [5, 600_000][len(sys.argv) - 1 :])[:2]
     with tempfile.TemporaryDirectory() as folder:
         room = Path(folder)
         if not programs.library(room):
             sys.exit("bench/from_python.py wants a compiler of C")
         import heavy
 
-        path = room / "records.csv"
-        path.write_text("".join(f"{key},{weight}\n" for key, weight in zip(texts, weights)))
-        print(f"{'call':28} {'heavy':>9}   {'beside':>9}  {'ratio':>6}")
-        for call, cells in rows(heavy, texts, weights, path).items():
-            times: dict[str, list[float]] = {name: [] for name in cells}
-            for _ in range(runs):
-                for name, cell in cells.items():
-                    begin = time.process_time()
-                    cell()
-                    times[name].append(1000 * (time.process_time() - begin))
-            ours, *others = times.items()
-            for name, each in others:
-                ratio = statistics.median(one / two for one, two in zip(ours[1], each))
-                print(f"{call:28} {statistics.median(ours[1]):9.1f}   {statistics.median(each):9.1f}  {ratio:6.2f}  {name}", flush=True)
+        columns = [measured(heavy, room, kind, runs, many) for kind in STREAMS]
+    print(f"| call | beside | {' | '.join(STREAMS)} |\n|---|---|{'---|' * len(STREAMS)}")
+    for call, name in columns[0]:
+        print(f"| {call} | {name} | {' | '.join(f'{column[call, name]:.2f}' for column in columns)} |")
 
 
 if __name__ == "__main__":

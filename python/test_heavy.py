@@ -1,8 +1,10 @@
-"""The module against the program, whose path HEAVY has: the same bytes, and the same texts of refusals."""
+"""The module against the program, whose path HEAVY has: the same bytes, and the same texts of refusals. With the variable
+SEQUENCES, as SEQUENCES=20000, that many random sequences of calls are made in place of 300."""
 from __future__ import annotations
 
 import array
 import collections
+import contextlib
 import copy
 import ctypes
 import doctest
@@ -132,6 +134,18 @@ def in_parts(size: int) -> object:
     return mock.patch.multiple(heavy._records, _CHUNK=size, _FIRST=size)
 
 
+def updated(file: heavy.Summary | heavy.Table, *items: tuple[str, int]) -> heavy.Summary | heavy.Table:
+    """The file after an update by each of these items."""
+    for item in items:
+        file.update(*item)
+    return file
+
+
+def of_records() -> list[heavy.Summary]:
+    """The summary of RECORDS with k 2, as a saved file and as a value that grows."""
+    return [heavy.Summary.of_csv(RECORDS, 2), updated(heavy.Summary(k=2), ("a", 5), ("b", 3), ("c", 2), ("a", 1))]
+
+
 class Growing(unittest.TestCase):
     """Summaries that begin empty and grow by items."""
 
@@ -192,22 +206,22 @@ class Growing(unittest.TestCase):
             (["a", "b", "c"], [1, largest, 1], heavy.HeavyError, "^record 2: total too large$"),
             (["a", "b"], [largest - 11, 1], heavy.HeavyError, "^record 2: total too large$"),
         ):
-            for many in (1, 8192):  # what was gathered, and what the library has
-                with self.subTest(text), mock.patch.object(heavy._files, "_BATCH", many):
-                    summary = heavy.Summary.of_csv(RECORDS, 2)
+            for summary in of_records():
+                with self.subTest(text):
                     self.assertRaisesRegex(kind, text, summary.update_many, keys, weights)
                     self.assertEqual((summary, summary.total), (heavy.Summary.of_csv(RECORDS, 2), 11))
 
     def test_refused_item(self) -> None:
-        summary = heavy.Summary.of_csv(RECORDS, 2)
-        for key, weight, kind in (
-            (5, 1, TypeError), ("", 1, ValueError), (b"x" * 4097, 1, ValueError), ("a", True, TypeError), ("a", 1.0, TypeError),
-            ("a", 0, ValueError), ("a", 2**63, ValueError), ("a", 2**63 - 11, heavy.HeavyError),
-        ):
-            self.assertRaises(kind, summary.update, key, weight)
-        self.assertEqual((summary, summary.total), (heavy.Summary.of_csv(RECORDS, 2), 11))
-        summary.update(b"x" * 4096, 2**63 - 12)
-        self.assertEqual((summary.total, summary.slack), (2**63 - 1, 3))
+        for summary in of_records():
+            for key, weight, kind, text in (
+                (5, 1, TypeError, "'int'"), ("", 1, ValueError, "not 0$"), (b"x" * 4097, 1, ValueError, "not 4097$"),
+                ("a", True, TypeError, "'bool'"), ("a", 1.0, TypeError, "'float'"), ("a", 0, ValueError, "not 0$"),
+                ("a", 2**63, ValueError, "2\\^63 - 1"), ("a", 2**63 - 11, heavy.HeavyError, "^record 1: total too large$"),
+            ):
+                self.assertRaisesRegex(kind, text, summary.update, key, weight)
+            self.assertEqual((summary, summary.total), (heavy.Summary.of_csv(RECORDS, 2), 11))
+            summary.update(b"x" * 4096, 2**63 - 12)
+            self.assertEqual((summary.total, summary.slack), (2**63 - 1, 3))
 
     def test_other_files_are_refused(self) -> None:
         table = heavy.Summary(heavy.Table.of_csv(RECORDS).to_bytes())
@@ -254,18 +268,80 @@ class Growing(unittest.TestCase):
         self.assertRaises(TypeError, hash, summary)
 
     def test_no_memory(self) -> None:
-        """Where the library has no memory nothing of the call is added, and what was gathered is still there."""
-        refusal = heavy.HeavyError(4, 18, 0, 0)
+        """Where the library has no memory nothing of the call is added, and what was added before is still there."""
+        def refused(*words: object) -> int:
+            words[-1]._obj.kind = 18
+            return 4
+
         for make in (lambda: heavy.Summary(k=5), lambda: heavy.Table(width=8, depth=2)):
-            with mock.patch.object(heavy._files, "_BATCH", 3):
-                grown, before = make(), make()
-                for each in (grown, before):
-                    each.update_many(["a", "b"])
-                for call in (lambda: grown.update("c"), lambda: grown.update_many(["c"]), lambda: grown.update_many([*"cde"])):
-                    with mock.patch.object(heavy._files, "answer", side_effect=refusal):
-                        self.assertRaisesRegex(heavy.HeavyError, "^out of memory$", call)
-                    self.assertEqual((grown._keys, grown.total), ([b"a", b"b"], 2))
-                self.assertEqual(grown, before)
+            before = updated(make(), ("a", 1), ("b", 1))
+            for name, call in (
+                ("heavy_open", lambda it: it.copy().update("c")), ("heavy_update", lambda it: it.update("c")),
+                ("heavy_save", heavy.Summary.to_bytes), ("heavy_add", lambda it: it.update_many([*"cde"])),
+                ("heavy_merge", lambda it: it.__iadd__(before)),
+            ):
+                grown = updated(make(), ("a", 1), ("b", 1))
+                with self.subTest(name), mock.patch.object(heavy._library.calls, name, refused):
+                    self.assertRaisesRegex(heavy.HeavyError, "^out of memory$", call, grown)
+                self.assertEqual((grown, grown.total), (before, 2), name)
+
+    def test_updates_copy_no_file(self) -> None:
+        """An update makes a call of its own; the file is read before the first one, and written where its bytes are asked for."""
+        for file in (heavy.Summary(k=9), heavy.Table(width=8)):
+            counted: collections.Counter[str] = collections.Counter()
+            with contextlib.ExitStack() as stack:
+                for name in ("heavy_open", "heavy_update", "heavy_save", "heavy_add"):
+                    call = getattr(heavy._library.calls, name)
+
+                    def tallied(*words: object, name: str = name, call: object = call) -> int:
+                        counted[name] += 1
+                        return call(*words)
+
+                    stack.enter_context(mock.patch.object(heavy._library.calls, name, tallied))
+                updated(file, *[("a", 1), ("b", 2)] * 50)
+                self.assertEqual(counted, {"heavy_open": 1, "heavy_update": 100})
+                self.assertEqual((file.total, file.ask("b")[1], file.describe().total), (150, 100, 150))
+                updated(file, ("c", 5))
+                self.assertEqual((file.total, file.copy().total), (155, 155))
+                self.assertEqual(counted, {"heavy_open": 1, "heavy_update": 101, "heavy_save": 2})
+
+    def test_all_calls_see_updates(self) -> None:
+        """What was added item by item is seen by each call, as by a file of these bytes."""
+        for step in range(1, 5):
+            items = [("a", 5), ("b", 3), ("c", 2), ("a", 1)][:step]
+            records = "".join(f"{key},{weight}\n" for key, weight in items).encode()
+            keys, weights = zip(*items)
+            for ask in (
+                heavy.Summary.to_bytes, lambda it: it.copy(), copy.deepcopy, lambda it: pickle.loads(pickle.dumps(it)), repr, len, list,
+                lambda it: it.total, lambda it: (it.k, it.slack), heavy.Summary.describe, heavy.Summary.describe_csv,
+                heavy.Summary.list_csv, heavy.Summary.items, heavy.Summary.entries, lambda it: it.top(1), lambda it: it.ask("a"),
+                lambda it: it.ask_many(["a", "b"]), lambda it: it["a"], lambda it: it.confirm(records),
+                lambda it: it.confirm_items(keys, weights), lambda it: it.condense(records), lambda it: it.condense_items(keys, weights),
+                lambda it: it + it, lambda it: sum([it]), lambda it: heavy.merge(it), lambda it: it.__ior__(it.copy()),
+                lambda it: it.update_many(["z"]) or it, lambda it: it.update_csv(b"z\n") or it, lambda it: it.update("z") or it,
+            ):
+                one, whole = updated(heavy.Summary(k=2), *items), heavy.Summary.of_csv(records, 2)
+                self.assertEqual(one, whole)
+                self.assertEqual(ask(updated(heavy.Summary(k=2), *items)), ask(whole))
+
+    def test_memory_is_given_back(self) -> None:
+        """The library has a value until its summary goes, or has items that came otherwise; of a file that is refused it has none."""
+        for change, stays in (
+            (lambda it: it.update_many(["b"]), 0), (lambda it: it.update_csv(b"b\n"), 0), (lambda it: it.__iadd__(heavy.Summary(k=5)), 0),
+            (heavy.Summary.to_bytes, 1), (copy.copy, 1), (pickle.dumps, 1), (lambda it: it.update("b"), 1),
+            (lambda it: self.assertRaises(ValueError, it.update, "a", 2**63 - 1), 1),
+        ):
+            summary = updated(heavy.Summary(k=5), ("a", 1))
+            words = summary._value._words[0]._obj
+            self.assertEqual(words.full, 1)
+            change(summary)
+            self.assertEqual(words.full, stays)
+            del summary
+            self.assertEqual(words.full, 0)
+        words = heavy._library.GrowingWords()
+        with mock.patch.object(heavy._growing, "GrowingWords", lambda: words):
+            self.assertRaisesRegex(heavy.HeavyError, "truncated", heavy._growing.Growing, b"HHS")
+        self.assertEqual(words.full, 0)
 
     def test_many_items(self) -> None:
         keys = [b"%d" % (i * i % 997) for i in range(20_000)]
@@ -280,7 +356,7 @@ class Growing(unittest.TestCase):
         """300 random sequences of calls: each estimate is right for the exact weight, and the totals are the same."""
         for seed in range(300):
             drawn = random.Random(seed)
-            with self.subTest(seed), mock.patch.object(heavy._files, "_BATCH", drawn.choice([1, 2, 7, 8192])):
+            with self.subTest(seed):
                 summary, exact = heavy.Summary(k=drawn.choice([1, 2, 3, 10])), {}
                 for _ in range(drawn.randint(1, 30)):
                     summary = self.grown(summary, exact, drawn)
@@ -940,13 +1016,25 @@ class Threads(unittest.TestCase):
                 except BaseException as error:
                     failed.append((seed, repr(error)))
 
-        with mock.patch.object(heavy._files, "_BATCH", 50):
-            threads = [threading.Thread(target=work, args=(first,)) for first in range(4)]
-            for thread in threads:
-                thread.start()
-            for thread in threads:
-                thread.join()
+        threads = [threading.Thread(target=work, args=(first,)) for first in range(4)]
+        for thread in threads:
+            thread.start()
+        for thread in threads:
+            thread.join()
         self.assertEqual(failed, [])
+
+
+    def test_one_value(self) -> None:
+        """Updates of one summary by four threads at once are made one after the other, each whole."""
+        summary = updated(heavy.Summary(k=9), ("0", 1))
+        threads = [
+            threading.Thread(target=lambda: updated(summary, *[(str(number), 1) for number in range(9)] * 500)) for _ in range(4)
+        ]
+        for thread in threads:
+            thread.start()
+        for thread in threads:
+            thread.join()
+        self.assertEqual(sorted(summary.entries()), [(b"0", 2001), *[(b"%d" % number, 2000) for number in range(1, 9)]])
 
 
 class GrowingTables(unittest.TestCase):
@@ -965,21 +1053,20 @@ class GrowingTables(unittest.TestCase):
             self.assertRaises(TypeError, heavy.Table, *words, **named)
 
     def test_items(self) -> None:
-        for many in (1, 3, 8192):
-            with self.subTest(many), mock.patch.object(heavy._files, "_BATCH", many):
-                table = heavy.Table(width=8, depth=3)
-                table.update("a", 5)
-                table.update_many(["b", b"c"], [3, 2])
-                table.update("a")
-                self.assertEqual(table, heavy.Table.of_csv(RECORDS, 8, 3))
-                self.assertEqual((table.total, repr(table)), (11, "<heavy.Table width=8 depth=3 total=11>"))
-                for keys, weights, kind in ((["a", ""], None, ValueError), (["a"], [2**63 - 11], heavy.HeavyError)):
-                    self.assertRaises(kind, table.update_many, keys, weights)
-                self.assertEqual(table, heavy.Table.of_csv(RECORDS, 8, 3))
-                table += heavy.Table.of_csv(OTHERS, 8, 3)
-                self.assertEqual(table, heavy.Table.of_csv(RECORDS + OTHERS, 8, 3))
-                with self.assertRaises(TypeError):
-                    table += heavy.Summary()
+        table = heavy.Table(width=8, depth=3)
+        table.update("a", 5)
+        table.update_many(["b", b"c"], [3, 2])
+        table.update("a")
+        self.assertEqual(table, heavy.Table.of_csv(RECORDS, 8, 3))
+        self.assertEqual((table.total, repr(table)), (11, "<heavy.Table width=8 depth=3 total=11>"))
+        for keys, weights, kind in ((["a", ""], None, ValueError), (["a"], [2**63 - 11], heavy.HeavyError)):
+            self.assertRaises(kind, table.update_many, keys, weights)
+            self.assertRaises(kind, table.update, keys[-1], weights and weights[0] or 1)
+        self.assertEqual(table, heavy.Table.of_csv(RECORDS, 8, 3))
+        table += heavy.Table.of_csv(OTHERS, 8, 3)
+        self.assertEqual(table, heavy.Table.of_csv(RECORDS + OTHERS, 8, 3))
+        with self.assertRaises(TypeError):
+            table += heavy.Summary()
         self.assertNotEqual(heavy.Table(), heavy.Summary())
 
     def test_beside_a_dictionary(self) -> None:
@@ -1292,6 +1379,23 @@ class Arrays(unittest.TestCase):
             self.assertEqual(one.confirm_items(column, weights), other.confirm_items(texts, weights.tolist()))
             self.assertEqual(column.asked, asked)
         self.refused(ValueError, r"^keys\[1499\]: .* not 0$", Coded([*texts[1:], ""]))
+
+    def test_many_different_keys(self) -> None:
+        """Many different keys give the bytes of their items one by one, whatever is in them, and what was there before."""
+        draw = random.Random(41)
+        for change in ("", "\ufeff", ",", '"', "\n", "\r", "\0", " ", "é", "x" * 254, "x" * 4000, "0,"):
+            texts = [str(draw.randrange(10 ** draw.randrange(1, 9))) for _ in range(1500)]
+            texts[draw.choice([0, 700, 1499])] += change
+            texts[0] = change + texts[0]
+            for weights in (None, [draw.randint(1, 9) for _ in texts], [draw.randint(1, 2**51) for _ in texts]):
+                for before in ([], [("b", 3)]):
+                    one, many = updated(heavy.Summary(k=500), *before), updated(heavy.Summary(k=500), *before)
+                    updated(one, *zip(texts, weights or itertools.repeat(1)))
+                    many.update_many(texts, weights)
+                    self.assertEqual((many, many.total), (one, one.total), (change, before))
+        if has("numpy"):
+            with mock.patch.object(heavy._library.calls, "heavy_add", None):
+                heavy.Summary(k=500).update_many([str(number) for number in range(1500)])
 
     def test_texts_with_breaks(self) -> None:
         """Texts are told apart whatever stands in them."""

@@ -26,9 +26,9 @@ class Columns(NamedTuple):
     ends: Any
     text: bool
 
-    def words(self) -> list[bytes]:
-        """The keys, one by one."""
-        ends = self.ends.tolist()
+    def words(self, most: int | None = None) -> list[bytes]:
+        """The keys, or the first ones, one by one."""
+        ends = self.ends[:most].tolist()
         return [self.data[start:end] for start, end in zip([0, *ends], ends)]
 
 
@@ -429,6 +429,42 @@ def numbers_of(weights: Any, count: int, names: list[Any] | None = None) -> Any:
         told = "more" if len(checked) > count else "fewer"
         raise ValueError(f"there are {told} weights than keys, which are {count}")
     return checked
+
+
+def records_of(columns: Columns, weights: Any) -> bytes | None:
+    """Items as CSV records, with no step of Python for each: all of one length, as line feeds stand in front of shorter keys. None
+    where a key wants quotes, where there were mostly line feeds or very many records, or where numpy isn't here."""
+    numpy = _numpy()
+    if not numpy or any(byte in columns.data for byte in (b",", b'"', b"\r", b"\n")):
+        return None
+    ends = numpy.asarray(columns.ends, numpy.int64)
+    sizes = numpy.diff(ends, prepend=0)
+    count, longest, digits = len(ends), int(sizes.max()), _digits(weights)
+    width = longest + digits.shape[1] + 2
+    if longest > 255 or count * longest > 4 * len(columns.data) or count * width > 2**28:
+        return None
+    text = numpy.full(1 + count * width, ord("\n"), numpy.uint8)  # a byte order mark behind a line feed is kept
+    rows = text[1:].reshape(count, width)
+    data = numpy.frombuffer(bytes(longest) + columns.data, numpy.uint8)
+    keys = numpy.ndarray((len(columns.data) + 1,), f"V{longest}", data, strides=(1,))[ends]
+    is_key = numpy.arange(longest, 0, -1, dtype=numpy.uint8) <= sizes.astype(numpy.uint8)[:, None]
+    numpy.copyto(rows[:, :longest], keys.view(numpy.uint8).reshape(count, longest), where=is_key)
+    rows[:, longest], rows[:, longest + 1 : -1] = ord(","), digits
+    return bytes(text)
+
+
+def _digits(weights: Any) -> Any:
+    """The digits of weights, as many of each, a row for each; or one for all, where they are 1."""
+    numpy = _numpy()
+    left = numpy.ones(1, numpy.uint64) if weights is None else numpy.asarray(weights, numpy.uint64)
+    most = int(left.max())
+    left = left.astype(numpy.uint32 if most < 2**32 else numpy.uint64)
+    digits = numpy.empty((len(left), len(str(most))), numpy.uint8)
+    for place in range(digits.shape[1] - 1, -1, -1):
+        higher = left // left.dtype.type(10)
+        digits[:, place] = left - higher * left.dtype.type(10)
+        left = higher
+    return digits + numpy.uint8(ord("0"))
 
 
 class Items(NamedTuple):

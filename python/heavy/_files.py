@@ -14,15 +14,16 @@ from pathlib import Path
 from typing import Any, Callable, Dict, Iterable, Iterator, List, NamedTuple, Optional, Tuple, TypeVar, overload
 
 from ._columns import ANY, Columns, Items, Key, Keys, bytes_of_key, columns_of, integer_of_weight, items_of, lent_items
-from ._columns import sum_of, text_of_bytes
-from ._library import BAD_METHOD, BAD_RECORD, BAD_THRESHOLD, DONE, LARGE, MAX_KEY, MAX_TOTAL, MIXED_KINDS, NOT_COUNTERS, REFUSED
-from ._library import SMALL, TABLE, TOTAL_TOO_LARGE, USAGE, Entry, Fault, HeavyError, InfoWords, Pair, answer, calls, given
-from ._library import integer, joined, lent, word
+from ._columns import records_of, sum_of, text_of_bytes
+from ._growing import Growing
+from ._library import BAD_METHOD, BAD_RECORD, BAD_THRESHOLD, LARGE, MAX_KEY, MAX_TOTAL, MIXED_KINDS, NOT_COUNTERS, REFUSED
+from ._library import SMALL, TABLE, TOTAL_TOO_LARGE, USAGE, Entry, Fault, HeavyError, InfoWords, Pair, answer, calls, checked
+from ._library import given, integer, joined, lent, word
 from ._options import PLAIN, Layout, Threshold, share_of
 from ._records import Bounds, Given, Named, Records, Row, bytes_of, is_file, parts_of, records_in, rows_of, with_records
 
-_BATCH = 8192  # items that are gathered before the library adds them
 _COLUMN_BATCH = 1 << 20  # items of a column that the library adds at once
+_WALKED = 160  # counters that are walked over in the time that it takes to read a record
 _METHODS = ("mg", "ss")
 File = TypeVar("File", bound="_File")
 
@@ -44,9 +45,7 @@ class Info(NamedTuple):
 def _info(saved: bytes) -> Info:
     """What is in a saved file."""
     words, fault = InfoWords(), Fault()
-    status = calls.heavy_info(*lent(saved), ctypes.byref(words), ctypes.byref(fault))
-    if status != DONE:
-        raise HeavyError(status, fault.kind, fault.cause, fault.number)
+    checked(calls.heavy_info(*lent(saved), ctypes.byref(words), ctypes.byref(fault)), fault)
     if words.kind == TABLE:
         return Info(words.version, "table", words.total, depth=words.depth, width=words.width)
     return Info(words.version, "summary", words.total, words.k, words.keys, words.counters, words.slack)
@@ -82,20 +81,17 @@ def _empty_table(width: int, depth: int, seed: int) -> bytes:
 
 
 class _File:
-    """A saved file, which grows by items. They are gathered, and added some thousands at a time and before a question."""
+    """A saved file: its bytes, or from the first item on that comes by itself the value of it that grows."""
 
     _row = ""  # what only a file of this kind has in its description
     _other: Tuple[int, int] = (0, 0)  # the numbers of the refusal of another kind
 
     def __init__(self, saved: Given) -> None:
-        self._saved = bytes_of(saved)
-        self._keys: List[bytes] = []
-        self._weights: List[int] = []
-        self._total: int | None = None
+        self._value: bytes | Growing = bytes_of(saved)
         self._known: Tuple[Any, Any] = (None, None)  # the file's bytes, and what they say
 
     def __getstate__(self) -> Dict[str, Any]:
-        return {**self.__dict__, "_saved": self.to_bytes(), "_keys": [], "_weights": [], "_known": (None, None)}
+        return {**self.__dict__, "_value": self.to_bytes(), "_known": (None, None)}
 
     @classmethod
     def load(cls: type[File], path: Named) -> File:
@@ -134,12 +130,14 @@ class _File:
         >>> Summary(Summary.of_csv(b"a,5\\n").to_bytes()).ask("a")
         (5, 5)
         """
-        if self._keys:
-            ends = array.array("Q", itertools.accumulate(map(len, self._keys)))
-            columns = Columns(b"".join(self._keys), ends, False)
-            self._saved = _with_items(self._saved, columns, array.array("Q", self._weights))
-            self._keys, self._weights = [], []
-        return self._saved
+        value = self._value
+        return value if isinstance(value, bytes) else value.saved()
+
+    def _grown(self) -> Growing:
+        """The file's value, which has to be of this kind, as it grows from now on."""
+        self._told()
+        self._value = value = Growing(self.to_bytes())
+        return value
 
     def copy(self: File) -> File:
         """A copy, which grows by itself.
@@ -180,11 +178,8 @@ class _File:
         """
         low, high, fault = ctypes.c_uint64(), ctypes.c_uint64(), Fault()
         held = bytes_of_key(key)
-        status = calls.heavy_ask(
-            *lent(self.to_bytes()), *lent(held), ctypes.byref(low), ctypes.byref(high), ctypes.byref(fault)
-        )
-        if status != 0:
-            raise HeavyError(status, fault.kind, fault.cause, fault.number)
+        words = (*lent(self.to_bytes()), *lent(held), ctypes.byref(low), ctypes.byref(high))
+        checked(calls.heavy_ask(*words, ctypes.byref(fault)), fault)
         return low.value, high.value
 
     def ask_many(self, keys: Iterable[Key]) -> List[Tuple[int, int]]:
@@ -198,7 +193,7 @@ class _File:
         return [(low, high) for low, high in struct.iter_unpack("=QQ", memoryview(out).cast("B")[: 16 * count])]
 
     def update(self, key: Key, weight: int = 1) -> None:
-        """Adds one item: what `update_many` does with one key and one weight.
+        """Adds one item: what `update_many` does with one key and one weight, but with no copy of the file.
 
         >>> summary = Summary()
         >>> summary.update("a")
@@ -209,23 +204,14 @@ class _File:
         # bytes and int are most of what comes, and are tested here alone
         held = key if type(key) is bytes and 1 <= len(key) <= MAX_KEY else bytes_of_key(key)
         number = weight if type(weight) is int and 1 <= weight <= MAX_TOTAL else integer_of_weight(weight)
-        total = (self.total if self._total is None else self._total) + number
-        if total > MAX_TOTAL:
-            raise HeavyError(REFUSED, BAD_RECORD, TOTAL_TOO_LARGE, 1)
-        self._keys.append(held)
-        self._weights.append(number)
-        if len(self._keys) >= _BATCH:
-            try:
-                self.to_bytes()
-            except BaseException:
-                del self._keys[-1], self._weights[-1]
-                raise
-        self._total = total
+        value = self._value
+        (value if isinstance(value, Growing) else self._grown()).add(held, number)
 
     def update_many(self, keys: Keys, weights: Iterable[int] | None = None) -> None:
         """Adds an item for each of these keys, in order, with as many weights, or else of weight 1 each; or the keys and
         weights of a mapping, such as a Counter. A text is its bytes in UTF-8. Keys and weights may be arrays of numpy,
-        columns of pandas, or what Arrow's interface gives.
+        columns of pandas, or what Arrow's interface gives. Each call goes through the whole file: for a few items `update` is
+        faster.
 
         What is no key or no integer is a `TypeError`, and a key or a weight outside of the limits, or another number of
         weights, a `ValueError`, each with the index in keys or weights. A total above 2^63 - 1 is a `HeavyError` with the
@@ -250,14 +236,12 @@ class _File:
 
     def _add(self, items: Items) -> None:
         """Adds items that were checked."""
-        columns, numbers = items.columns, items.weights
-        total, count = self._total_with(items.many, items.given), len(columns.ends)
-        if len(self._keys) + count < _BATCH:
-            self._keys += columns.words()
-            self._weights += [1] * count if numbers is None else numbers.tolist()
-        else:
-            self._saved = _with_items(self.to_bytes(), columns, numbers)
-        self._total = total
+        self._check_total(items.many, items.given)
+        self._value = self._with(items)
+
+    def _with(self, items: Items) -> bytes:
+        """The file's bytes with items added."""
+        return _with_items(self.to_bytes(), items.columns, items.weights)
 
     def update_csv(self, records: Records, *, layout: Layout = PLAIN) -> None:
         """Adds CSV records `key,weight`, or those of another layout, in order. A file is read some megabytes at a time. After a
@@ -268,27 +252,25 @@ class _File:
         >>> summary.entries()
         [(b'a', 7), (b'b', 1)]
         """
-        self._saved, self._total = with_records(self.to_bytes(), records, layout, self._begun(layout)), None
+        self._value = with_records(self.to_bytes(), records, layout, self._begun(layout))
 
     def _begun(self, layout: Layout) -> Callable[[bytes], bytes] | None:
         """What makes a file of this kind of a text's records, where that is faster than to add them to one of no items."""
         return None
 
-    def _total_with(self, count: int, weights: Any) -> int:
-        """The total with `count` items more, or the refusal of the first that makes it too large."""
+    def _check_total(self, count: int, weights: Any) -> None:
+        """Refuses the first of `count` items more that makes the total too large."""
         before = self.total
-        total = before + (count if weights is None else sum_of(weights))
-        if total > MAX_TOTAL:
+        if before + (count if weights is None else sum_of(weights)) > MAX_TOTAL:
             added = itertools.repeat(1) if weights is None else weights.tolist()
             totals = itertools.accumulate(added, initial=before)
             number = next(i for i, reached in enumerate(totals) if reached > MAX_TOTAL)
             raise HeavyError(REFUSED, BAD_RECORD, TOTAL_TOO_LARGE, number)
-        return total
 
     def _like(self: File, saved: bytes) -> File:
         """Another file of this kind, whose keys come back as this one's do."""
         made = copy.copy(self)
-        made._saved, made._total = saved, None
+        made._value = saved
         return made
 
     def __add__(self: File, other: File) -> File:
@@ -321,7 +303,7 @@ class _File:
         """
         if type(other) is not type(self):
             return NotImplemented
-        self._saved, self._total = merge(self, other).to_bytes(), None
+        self._value = merge(self, other).to_bytes()
         return self
 
     __ior__ = __iadd__
@@ -340,9 +322,7 @@ class _File:
         >>> Summary.of_csv(b"a,5\\nb\\n").total
         6
         """
-        if self._total is None:
-            self._total = self._told().total
-        return self._total
+        return self._told().total
 
     def __eq__(self, other: object) -> bool:
         """Whether both are of one kind, and saved as the same bytes.
@@ -456,6 +436,16 @@ class Summary(_File):
             return None
         guess = min(17 + k * (MAX_KEY + 10), LARGE)
         return lambda text: answer(calls.heavy_summarise_records, *lent(text), *layout._words(), k, guess=guess)
+
+    def _with(self, items: Items) -> bytes:
+        begun = self._begun(PLAIN)
+        records = records_of(items.columns, items.weights) if begun and self._is_slow_for(items.columns) else None
+        return begun(records) if begun and records else super()._with(items)
+
+    def _is_slow_for(self, columns: Columns) -> bool:
+        """Whether the library takes longer for these keys than for records: each without a counter costs a walk over all."""
+        first = columns.words(10_000) if len(columns.ends) > 1000 else []
+        return len(set(first)) * self.k > _WALKED * len(first)
 
     def _number(self, name: str) -> int:
         return int(getattr(self._told(), name))

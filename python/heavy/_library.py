@@ -62,6 +62,12 @@ class LayoutWords(ctypes.Structure):
     ]
 
 
+class GrowingWords(ctypes.Structure):
+    """A saved file's value in the library's memory, or none."""
+
+    _fields_ = [("place", ctypes.c_void_p), ("full", ctypes.c_uint64)]
+
+
 class InfoWords(ctypes.Structure):
     """What is in a saved file."""
 
@@ -71,43 +77,64 @@ class InfoWords(ctypes.Structure):
     ]
 
 
+_READ, _SIZE, _NUMBER, _FAULT = ctypes.c_void_p, ctypes.c_size_t, ctypes.c_uint64, ctypes.POINTER(Fault)
+_OUT: list[Any] = [ctypes.c_void_p, _SIZE, ctypes.POINTER(_SIZE), _FAULT]
+
+
 def _loaded() -> ctypes.CDLL:
     """The library that LIBHEAVY names, or the one beside this file, or else the system's."""
     beside = Path(__file__).resolve().parent / "libheavy.so.1"
     named = os.environ.get("LIBHEAVY")
     library = ctypes.CDLL(named or (str(beside) if beside.exists() else "libheavy.so.1"))
-    read, size, number = ctypes.c_void_p, ctypes.c_size_t, ctypes.c_uint64
-    out = [ctypes.c_void_p, size, ctypes.POINTER(size), ctypes.POINTER(Fault)]
-    items = [read, size, ctypes.POINTER(number), size, ctypes.POINTER(number), size]
-    layout = [ctypes.POINTER(LayoutWords), read, size, ctypes.POINTER(size), size]
-    bounds = [ctypes.POINTER(number), ctypes.POINTER(number), ctypes.POINTER(Fault)]
     version = library.heavy_version
     version.argtypes, version.restype = [], ctypes.c_uint32
     if version() != _VERSION:
         raise ImportError(f"libheavy has interface {version()}, and this module is for {_VERSION}")
+    _type_calls(library)
+    _type_calls_on_growing(library)
+    library.heavy_whole_records_by.argtypes, library.heavy_whole_records_by.restype = [_READ, _SIZE, ctypes.c_uint8], _SIZE
+    return library
+
+
+def _type_calls(library: ctypes.CDLL) -> None:
+    """Gives the calls over bytes their types. Other threads run meanwhile."""
+    items = [_READ, _SIZE, ctypes.POINTER(_NUMBER), _SIZE, ctypes.POINTER(_NUMBER), _SIZE]
+    layout = [ctypes.POINTER(LayoutWords), _READ, _SIZE, ctypes.POINTER(_SIZE), _SIZE]
     for name, words in {
-        "heavy_strerror": [ctypes.POINTER(Fault), *out[:3]],
-        "heavy_info": [read, size, ctypes.POINTER(InfoWords), ctypes.POINTER(Fault)],
-        "heavy_summarise_records": [read, size, *layout, number, *out],
-        "heavy_empty": [number, *out],
-        "heavy_add": [read, size, *items, *out],
-        "heavy_add_records": [read, size, read, size, *layout, *out],
-        "heavy_empty_table": [number, number, number, *out],
-        "heavy_merge": [read, size, ctypes.POINTER(size), size, *out],
-        "heavy_ask": [read, size, read, size, *bounds],
-        "heavy_ask_keys": [read, size, read, size, ctypes.POINTER(size), size, *out],
-        "heavy_entries": [read, size, *out],
-        "heavy_confirm_records": [read, size, read, size, *layout, number, number, *out],
-        "heavy_condense_records": [read, size, read, size, *layout, *out],
-        "heavy_report": [read, size, *layout, number, number, number, *out],
-        "heavy_condense_items": [read, size, *items, *out],
-        "heavy_list": [read, size, *out],
-        "heavy_describe": [read, size, *out],
+        "heavy_strerror": [_FAULT, *_OUT[:3]],
+        "heavy_info": [_READ, _SIZE, ctypes.POINTER(InfoWords), _FAULT],
+        "heavy_summarise_records": [_READ, _SIZE, *layout, _NUMBER, *_OUT],
+        "heavy_empty": [_NUMBER, *_OUT],
+        "heavy_add": [_READ, _SIZE, *items, *_OUT],
+        "heavy_add_records": [_READ, _SIZE, _READ, _SIZE, *layout, *_OUT],
+        "heavy_empty_table": [_NUMBER, _NUMBER, _NUMBER, *_OUT],
+        "heavy_merge": [_READ, _SIZE, ctypes.POINTER(_SIZE), _SIZE, *_OUT],
+        "heavy_ask": [_READ, _SIZE, _READ, _SIZE, ctypes.POINTER(_NUMBER), ctypes.POINTER(_NUMBER), _FAULT],
+        "heavy_ask_keys": [_READ, _SIZE, _READ, _SIZE, ctypes.POINTER(_SIZE), _SIZE, *_OUT],
+        "heavy_entries": [_READ, _SIZE, *_OUT],
+        "heavy_confirm_records": [_READ, _SIZE, _READ, _SIZE, *layout, _NUMBER, _NUMBER, *_OUT],
+        "heavy_condense_records": [_READ, _SIZE, _READ, _SIZE, *layout, *_OUT],
+        "heavy_report": [_READ, _SIZE, *layout, _NUMBER, _NUMBER, _NUMBER, *_OUT],
+        "heavy_condense_items": [_READ, _SIZE, *items, *_OUT],
+        "heavy_list": [_READ, _SIZE, *_OUT],
+        "heavy_describe": [_READ, _SIZE, *_OUT],
     }.items():
         getattr(library, name).argtypes = words
         getattr(library, name).restype = ctypes.c_uint32
-    library.heavy_whole_records_by.argtypes, library.heavy_whole_records_by.restype = [read, size, ctypes.c_uint8], size
-    return library
+
+
+def _type_calls_on_growing(library: ctypes.CDLL) -> None:
+    """Gives the calls on a value that grows their types. They keep Python's lock: no two threads use one value at once, and a
+    thread that adds items doesn't wait for the others at each."""
+    growing = ctypes.POINTER(GrowingWords)
+    words: dict[str, list[Any]] = {
+        "heavy_open": [_READ, _SIZE, growing, _FAULT],
+        "heavy_update": [],  # Python would take longer to compare the arguments with their types than to add an item
+        "heavy_save": [growing, *_OUT],
+        "heavy_free": [growing],
+    }
+    for name, kinds in words.items():
+        setattr(library, name, ctypes.PYFUNCTYPE(ctypes.c_uint32, *kinds)((name, library)))
 
 
 calls = _loaded()
@@ -145,16 +172,21 @@ def joined(parts: list[bytes]) -> tuple[ctypes.c_void_p, int, ctypes.Array[ctype
     return *lent(b"".join(parts)), lengths, len(parts)
 
 
+def checked(status: int, fault: Fault) -> None:
+    """Raises what a call was refused for, where it was."""
+    if status != DONE:
+        raise HeavyError(status, fault.kind, fault.cause, fault.number)
+
+
 def given(call: Callable[..., int], *words: object, of: Any, guess: int) -> tuple[Any, int]:
     """An array, and how much of it a call fills: in a room for `guess` elements, or else for as many as the call says."""
     needed, fault, size = ctypes.c_size_t(), Fault(), max(guess, 1)
     while True:
         out = (of * size)()
         status = call(*words, out, size, ctypes.byref(needed), ctypes.byref(fault))
-        if status == DONE:
-            return out, needed.value
         if status != TOO_SMALL:
-            raise HeavyError(status, fault.kind, fault.cause, fault.number)
+            checked(status, fault)
+            return out, needed.value
         size = needed.value
 
 

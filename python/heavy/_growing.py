@@ -1,0 +1,38 @@
+"""A saved file's value in the library's memory, which grows by one item a call."""
+from __future__ import annotations
+
+import weakref
+from ctypes import byref, c_uint64
+
+from ._library import DONE, MAX_KEY, SMALL, Fault, GrowingWords, answer, calls, checked, lent
+
+_NUMBERS = [c_uint64(number) for number in range(MAX_KEY + 1)]  # made once: to make two takes as long as to add an item
+
+
+class Growing:
+    """The value of a saved file, whose memory is given back when this object goes. Its calls keep Python's lock, so that no
+    two of them are lent it at once."""
+
+    def __init__(self, saved: bytes) -> None:
+        self._fault = Fault()
+        self._words = byref(GrowingWords()), byref(self._fault)
+        self._saved: bytes | None = saved  # None where items came since
+        self._size = len(saved)
+        weakref.finalize(self, calls.heavy_free, self._words[0])
+        checked(calls.heavy_open(*lent(saved), *self._words), self._fault)
+
+    def add(self, key: bytes, weight: int) -> None:
+        """Adds an item. After a refusal the value is as it was."""
+        value, fault = self._words
+        self._saved = None
+        number = _NUMBERS[weight] if weight <= MAX_KEY else c_uint64(weight)
+        status = calls.heavy_update(value, key, _NUMBERS[len(key)], number, fault)
+        if status != DONE:
+            checked(status, self._fault)
+
+    def saved(self) -> bytes:
+        """The saved file of the value, which stays."""
+        if self._saved is None:
+            self._saved = answer(calls.heavy_save, self._words[0], guess=max(SMALL, 2 * self._size))
+            self._size = len(self._saved)
+        return self._saved
