@@ -276,7 +276,7 @@ class Growing(unittest.TestCase):
         for make in (lambda: heavy.Summary(k=5), lambda: heavy.Table(width=8, depth=2)):
             before = updated(make(), ("a", 1), ("b", 1))
             for name, call in (
-                ("heavy_open", lambda it: it.copy().update("c")), ("heavy_update", lambda it: it.update("c")),
+                ("heavy_open_by", lambda it: it.copy().update("c")), ("heavy_update", lambda it: it.update("c")),
                 ("heavy_save", heavy.Summary.to_bytes), ("heavy_add", lambda it: it.update_many([*"cde"])),
                 ("heavy_merge", lambda it: it.__iadd__(before)),
             ):
@@ -290,7 +290,7 @@ class Growing(unittest.TestCase):
         for file in (heavy.Summary(k=9), heavy.Table(width=8)):
             counted: collections.Counter[str] = collections.Counter()
             with contextlib.ExitStack() as stack:
-                for name in ("heavy_open", "heavy_update", "heavy_save", "heavy_add"):
+                for name in ("heavy_open_by", "heavy_update", "heavy_save", "heavy_add"):
                     call = getattr(heavy._library.calls, name)
 
                     def tallied(*words: object, name: str = name, call: object = call) -> int:
@@ -299,11 +299,11 @@ class Growing(unittest.TestCase):
 
                     stack.enter_context(mock.patch.object(heavy._library.calls, name, tallied))
                 updated(file, *[("a", 1), ("b", 2)] * 50)
-                self.assertEqual(counted, {"heavy_open": 1, "heavy_update": 100})
+                self.assertEqual(counted, {"heavy_open_by": 1, "heavy_update": 100})
                 self.assertEqual((file.total, file.ask("b")[1], file.describe().total), (150, 100, 150))
                 updated(file, ("c", 5))
                 self.assertEqual((file.total, file.copy().total), (155, 155))
-                self.assertEqual(counted, {"heavy_open": 1, "heavy_update": 101, "heavy_save": 2})
+                self.assertEqual(counted, {"heavy_open_by": 1, "heavy_update": 101, "heavy_save": 2})
 
     def test_all_calls_see_updates(self) -> None:
         """What was added item by item is seen by each call, as by a file of these bytes."""

@@ -17,8 +17,8 @@ from ._columns import ANY, Columns, Items, Key, Keys, bytes_of_key, columns_of, 
 from ._columns import records_of, sum_of, text_of_bytes
 from ._growing import Growing
 from ._library import BAD_METHOD, BAD_RECORD, BAD_THRESHOLD, LARGE, MAX_KEY, MAX_TOTAL, MIXED_KINDS, NOT_COUNTERS, REFUSED
-from ._library import SMALL, TABLE, TOTAL_TOO_LARGE, USAGE, Entry, Fault, HeavyError, InfoWords, Pair, answer, calls, checked
-from ._library import given, integer, joined, lent, word
+from ._library import SMALL, TABLE, TOTAL_TOO_LARGE, USAGE, Entry, Fault, HashWords, HeavyError, InfoWords, Pair, answer, calls
+from ._library import checked, given, integer, joined, lent, random_words, word
 from ._options import PLAIN, Layout, Threshold, share_of
 from ._records import Bounds, Given, Named, Records, Row, bytes_of, is_file, parts_of, records_in, rows_of, with_records
 
@@ -661,7 +661,7 @@ class Summary(_File):
     def _condensed(self, items: Items) -> bytes:
         """Records that confirm the same as items that were checked."""
         words = (*lent(self.to_bytes()), *lent_items(items.columns, items.weights))
-        return answer(calls.heavy_condense_items, *words, guess=SMALL)
+        return answer(calls.heavy_condense_items_by, *words, ctypes.byref(HashWords(random_words())), guess=SMALL)
 
     def condense_items(self, keys: Keys, weights: Iterable[int] | None = None) -> bytes:
         """What `condense` gives of items in memory, which are as `update_many` takes them: so a second pass goes over

@@ -4,7 +4,7 @@ from __future__ import annotations
 import weakref
 from ctypes import byref, c_uint64
 
-from ._library import DONE, MAX_KEY, SMALL, Fault, GrowingWords, answer, calls, checked, lent
+from ._library import DONE, MAX_KEY, SMALL, Fault, GrowingWords, HashWords, answer, calls, checked, lent, random_words
 
 _NUMBERS = [c_uint64(number) for number in range(MAX_KEY + 1)]  # made once: to make two takes as long as to add an item
 
@@ -19,7 +19,7 @@ class Growing:
         self._saved: bytes | None = saved  # None where items came since
         self._size = len(saved)
         weakref.finalize(self, calls.heavy_free, self._words[0])
-        checked(calls.heavy_open(*lent(saved), *self._words), self._fault)
+        checked(calls.heavy_open_by(*lent(saved), byref(HashWords(random_words())), *self._words), self._fault)
 
     def add(self, key: bytes, weight: int) -> None:
         """Adds an item. After a refusal the value is as it was."""

@@ -4,6 +4,7 @@ from __future__ import annotations
 import ctypes
 import operator
 import os
+import secrets
 from pathlib import Path
 from typing import Any, Callable
 
@@ -62,6 +63,12 @@ class LayoutWords(ctypes.Structure):
     ]
 
 
+class HashWords(ctypes.Structure):
+    """The words by which keys are hashed."""
+
+    _fields_ = [("words", ctypes.c_uint64 * 2)]
+
+
 class GrowingWords(ctypes.Structure):
     """A saved file's value in the library's memory, or none."""
 
@@ -115,7 +122,7 @@ def _type_calls(library: ctypes.CDLL) -> None:
         "heavy_confirm_records": [_READ, _SIZE, _READ, _SIZE, *layout, _NUMBER, _NUMBER, *_OUT],
         "heavy_condense_records": [_READ, _SIZE, _READ, _SIZE, *layout, *_OUT],
         "heavy_report": [_READ, _SIZE, *layout, _NUMBER, _NUMBER, _NUMBER, *_OUT],
-        "heavy_condense_items": [_READ, _SIZE, *items, *_OUT],
+        "heavy_condense_items_by": [_READ, _SIZE, *items, ctypes.POINTER(HashWords), *_OUT],
         "heavy_list": [_READ, _SIZE, *_OUT],
         "heavy_describe": [_READ, _SIZE, *_OUT],
     }.items():
@@ -128,7 +135,7 @@ def _type_calls_on_growing(library: ctypes.CDLL) -> None:
     thread that adds items doesn't wait for the others at each."""
     growing = ctypes.POINTER(GrowingWords)
     words: dict[str, list[Any]] = {
-        "heavy_open": [_READ, _SIZE, growing, _FAULT],
+        "heavy_open_by": [_READ, _SIZE, ctypes.POINTER(HashWords), growing, _FAULT],
         "heavy_update": [],  # Python would take longer to compare the arguments with their types than to add an item
         "heavy_save": [growing, *_OUT],
         "heavy_free": [growing],
@@ -159,6 +166,11 @@ def word(name: str, number: Any) -> int:
     """An integer as 64 bits hold it, or where they don't the largest, which each option refuses."""
     held = integer(name, number)
     return held if 0 <= held < 2**64 else 2**64 - 1
+
+
+def random_words() -> tuple[int, int]:
+    """Words by which a call hashes keys, so that nobody can choose keys that collide. No answer depends on them."""
+    return secrets.randbits(64) | 1, secrets.randbits(64)
 
 
 def lent(held: bytes) -> tuple[ctypes.c_void_p, int]:

@@ -4,13 +4,12 @@ from __future__ import annotations
 import ctypes
 import functools
 import re
-import secrets
 from dataclasses import dataclass, fields
 from decimal import Decimal
 from fractions import Fraction
 from typing import Any, Optional, Sequence, Tuple, Union
 
-from ._library import BAD_DELIMITER, BAD_THRESHOLD, USAGE, HeavyError, LayoutWords, integer, joined, word
+from ._library import BAD_DELIMITER, BAD_THRESHOLD, USAGE, HeavyError, LayoutWords, integer, joined, random_words, word
 
 Threshold = Union[None, str, Fraction, Decimal, float, Tuple[int, int]]
 Column = Union[int, str, bytes]
@@ -122,7 +121,7 @@ class Layout:
 
     @property
     def _columns(self) -> list[bytes]:
-        """The columns of the key, and behind them that of the weight."""
+        """The columns of the key, and after them that of the weight."""
         keys: Any = self.key
         listed = [] if keys is None else keys if isinstance(keys, tuple) else [keys]
         if not listed and keys is not None:
@@ -131,11 +130,10 @@ class Layout:
 
     def _words(self) -> tuple[Any, ...]:
         """The layout as a call takes it, with random words by which it hashes keys."""
-        told = LayoutWords(
-            self._separator[0], self.header, self.allow_zero, self.decimals,
-            self.weight is not None, (secrets.randbits(64) | 1, secrets.randbits(64)),
+        layout = LayoutWords(
+            self._separator[0], self.header, self.allow_zero, self.decimals, self.weight is not None, random_words()
         )
-        return ctypes.byref(told), *joined(self._columns)
+        return ctypes.byref(layout), *joined(self._columns)
 
     def _records_of(self, part: bytes) -> list[bytes]:
         """The records of a part of a text, each as its bytes."""
