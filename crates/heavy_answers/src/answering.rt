@@ -142,7 +142,7 @@ fn report<T: Threads + Wait + Sync, H: Host, S: Sink>(
     check_options(options)?;
     let files = keep(host, opened)?;
     report_files(threads, alloc, options, rows, files.records(), sink)?;
-    files.note_last(host);
+    files.note_last_record(host);
     Ok(())
 }
 

@@ -56,7 +56,7 @@ pub trait Host: FileSource {
         ensures part { result ≡ false → Self.File.bytes file.now ≡ None };
 
     /// Notes how a file ends that workers have read, for what is printed of it.
-    fn note_last(&self, file: &Self::File);
+    fn note_last_record(&self, file: &Self::File);
 
     /// How keys are hashed in this run.
     fn hash(&self) -> KeyHash;
@@ -99,8 +99,8 @@ impl<'a> Host for Inputs<'a> {
         file.is_whole()
     }
 
-    fn note_last(&self, file: &OpenFile<'a>) {
-        Inputs::note_last(*self, file);
+    fn note_last_record(&self, file: &OpenFile<'a>) {
+        Inputs::note_last_record(*self, file);
     }
 
     /// Words of this run, where the system has random numbers for them, and else those that all

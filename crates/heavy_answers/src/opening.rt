@@ -122,9 +122,9 @@ impl<F> Sources<F> {
     }
 
     /// Has the host note how each of them ends, once workers have read them.
-    pub(crate) fn note_last<H: Host<File = F>>(&self, host: &H) {
+    pub(crate) fn note_last_record<H: Host<File = F>>(&self, host: &H) {
         for file in &self.files {
-            host.note_last(file);
+            host.note_last_record(file);
         }
     }
 }

@@ -139,7 +139,7 @@ pub(crate) fn in_one_pass<T: Threads + Wait + Sync, H: Host>(
         OnePass::Files(files) => {
             let records = files.records();
             let bytes = of_files(threads, host.memory(), command, workers, records, compared)?;
-            files.note_last(host);
+            files.note_last_record(host);
             Ok(bytes)
         }
         OnePass::Stream(records) => of_stream(host.memory(), command, workers, records, compared),

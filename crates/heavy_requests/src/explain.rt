@@ -58,7 +58,7 @@ pub fn names_records(fault: &ToolError, asked: &Invocation) -> bool {
 }
 
 /// Whether a fault has a second line: where that is asked for, or standard error is a terminal.
-pub fn tells_more(rt: &HostRuntime, asked: &Invocation) -> bool {
+pub fn explains_faults(rt: &HostRuntime, asked: &Invocation) -> bool {
     asked.explains || rt.stderr().is_terminal()
 }
 
@@ -299,7 +299,7 @@ fn tell_outside(rt: &HostRuntime, words: &str, name: &[u8], outside: &Outside, d
 }
 
 /// Prints that records which a command took aren't those of its summary.
-pub fn tell_contradicted(rt: &HostRuntime, asked: &Invocation, outside: &Outside) {
+pub fn print_contradicted(rt: &HostRuntime, asked: &Invocation, outside: &Outside) {
     let words = "heavy: note: these aren't the records that were summarised: ";
     let decimals = asked.records.layout.decimals;
     tell_outside(rt, words, name_of(asked, 1), outside, decimals);
@@ -600,7 +600,7 @@ fn tell_columns(texts: Texts<'_>) {
 }
 
 /// Prints more about the `fault` of what was asked for, where there is more to say.
-pub fn tell_more(texts: Texts<'_>, fault: &ToolError, compared: &Comparison, unread: &Unread) {
+pub fn explain(texts: Texts<'_>, fault: &ToolError, compared: &Comparison, unread: &Unread) {
     let (rt, asked) = (texts.rt, texts.asked);
     match fault {
         ToolError::ReadFault | ToolError::FileFault { .. } if unread.is_unkept() => {

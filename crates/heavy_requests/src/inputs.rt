@@ -3,7 +3,7 @@
 ghost use Rattle.std.specs.Prelude.{◌≡◌, ◌⊎◌, IfErr, None, ⊤};
 ghost use Rattle.heavy_requests.specs.Inputs.{FailsToOpen, names_standard};
 
-use crate::explain::tells_more;
+use crate::explain::explains_faults;
 use crate::kept_pipe::{KeptPipe, keep_pipe};
 use crate::request::{Invocation, RecordWords};
 use crate::unread::Unread;
@@ -89,11 +89,11 @@ pub struct Input<'a> {
 impl<'a> Input<'a> {
     /// Notes the `outcome` of a read into `buf`: its error, or the bytes for what keeps and what
     /// sees them.
-    fn leave(&mut self, outcome: &io::Result<usize>, buf: &[u8]) {
+    fn note(&mut self, outcome: &io::Result<usize>, buf: &[u8]) {
         let count = match outcome {
             Ok(count) => count,
             Err(error) => {
-                self.unread.leave(self.number, error);
+                self.unread.note(self.number, error);
                 return;
             }
         };
@@ -115,7 +115,7 @@ impl<'a> Read for Input<'a> {
             InputSource::File(file) => file.read(buf),
             InputSource::Nothing => Ok(0),
         };
-        self.leave(&outcome, buf);
+        self.note(&outcome, buf);
         outcome
     }
 }
@@ -202,8 +202,8 @@ impl<'a> ReadAt for DiskFile<'a> {
     fn len(&self) -> io::Result<u64> {
         let outcome = ReadAt::len(&self.file);
         match &outcome {
-            Err(error) => self.unread.leave(self.number, error),
-            Ok(size) if *size != self.size => self.unread.leave_changed(self.number),
+            Err(error) => self.unread.note(self.number, error),
+            Ok(size) if *size != self.size => self.unread.note_changed(self.number),
             Ok(_) => {}
         }
         outcome
@@ -212,7 +212,7 @@ impl<'a> ReadAt for DiskFile<'a> {
     fn read_at(&self, buf: &mut [u8], at: u64) -> io::Result<usize> {
         let outcome = FileExt::read_at(&self.file, buf, at);
         match &outcome {
-            Err(error) => self.unread.leave(self.number, error),
+            Err(error) => self.unread.note(self.number, error),
             Ok(count) => self.see(buf.get(..*count).unwrap_or(&[]), at),
         }
         outcome
@@ -298,7 +298,7 @@ pub struct Inputs<'a> {
     /// How records are parted.
     form: Form,
     /// Whether notes on their format are printed.
-    tells_more: bool,
+    prints_hints: bool,
     /// Whether no option says how they are parted.
     looks_for_format: bool,
     /// How many bytes of a pipe are kept in memory, where it is read twice.
@@ -323,14 +323,14 @@ impl<'a> Inputs<'a> {
             unread,
             hints,
             begin,
-            keeps_begin: tells_more(rt, asked) || !asked.records.are_plain(),
+            keeps_begin: explains_faults(rt, asked) || !asked.records.are_plain(),
             form: Form {
                 delimiter: delimiter
                     .and_then(|word| delimiter_of(word))
                     .unwrap_or(b','),
                 has_header: layout.has_header,
             },
-            tells_more: tells_more(rt, asked),
+            prints_hints: explains_faults(rt, asked),
             looks_for_format: delimiter.is_none()
                 && layout.key.is_empty()
                 && layout.weight.is_none(),
@@ -350,7 +350,7 @@ impl<'a> Inputs<'a> {
                 self.hints,
                 number,
                 self.form,
-                self.tells_more && self.looks_for_format,
+                self.prints_hints && self.looks_for_format,
             ),
         }
     }
@@ -419,7 +419,7 @@ impl<'a> Inputs<'a> {
 
     /// Notes the last record of a file that workers have read, where it began with a quote and is
     /// long.
-    pub fn note_last(self, file: &OpenFile<'_>) {
+    pub fn note_last_record(self, file: &OpenFile<'_>) {
         if let OpenFile::Disk(disk) = file {
             let size = disk.last_record(self.rt.alloc(), self.form.delimiter);
             self.hints
@@ -441,7 +441,7 @@ impl<'a> Inputs<'a> {
                 Err(ToolError::Memory)
             }
             Err(error) => {
-                self.unread.leave(number, &error);
+                self.unread.note(number, &error);
                 Err(ToolError::FileFault { number })
             }
         }
@@ -506,7 +506,7 @@ impl<'a> Inputs<'a> {
             1 => self.have_size(words),
             _ => true,
         };
-        if !self.tells_more || !has_workers {
+        if !self.prints_hints || !has_workers {
             return;
         }
         for (place, name) in words.files.iter().enumerate() {
@@ -546,7 +546,7 @@ impl<'a> FileSource for Inputs<'a> {
                 Err(FileError::Memory)
             }
             Err(error) => {
-                self.unread.leave(0, &error);
+                self.unread.note(0, &error);
                 Err(FileError::Unreadable)
             }
         }

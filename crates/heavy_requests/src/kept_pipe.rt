@@ -146,7 +146,7 @@ pub(crate) fn keep_pipe(
         Ok(kept) => Ok(kept),
         Err(error) if matches!(error.kind(), io::ErrorKind::OutOfMemory) => Err(ToolError::Memory),
         Err(error) => {
-            unread.leave_unkept(&error);
+            unread.note_unkept(&error);
             Err(ToolError::ReadFault)
         }
     }

@@ -12,7 +12,7 @@ mod status;
 mod unread;
 mod usage_report;
 
-pub use explain::tells_more;
+pub use explain::explains_faults;
 pub use inputs::{Inputs, OpenFile, OpenInput, Reader, is_standard, shared_progress};
 pub use kept_pipe::KeptPipe;
 pub use request::{Command, Invocation, RecordWords, Request, UsageError, read_request};

@@ -1,8 +1,8 @@
 //! How a run of the program ends: what it prints on standard error, and its exit status.
 
 use crate::explain::{
-    Lines, names_records, print_format_hint, print_last_record, print_own_k, tell_contradicted,
-    tell_more, tells_more,
+    Lines, explain, explains_faults, names_records, print_contradicted, print_format_hint,
+    print_last_record, print_own_k,
 };
 use crate::inputs::Inputs;
 use crate::record_place::Texts;
@@ -39,13 +39,13 @@ fn status_explained(
 ) -> ExitCode {
     let rt = inputs.rt;
     let status = status_after(rt, fault);
-    if tells_more(rt, asked) || names_records(&fault, asked) {
+    if explains_faults(rt, asked) || names_records(&fault, asked) {
         let texts = Texts {
             rt,
             asked,
             begin: inputs.begin,
         };
-        tell_more(texts, &fault, compared, inputs.unread);
+        explain(texts, &fault, compared, inputs.unread);
     }
     status
 }
@@ -84,12 +84,12 @@ pub fn status_of(
         Ok(()) => {
             inputs.look(asked);
             let hints = inputs.hints.get();
-            if tells_more(rt, asked) {
+            if explains_faults(rt, asked) {
                 print_format_hint(rt, hints, asked);
             }
             print_last_record(rt, hints, asked);
             if let Some(outside) = &compared.outside {
-                tell_contradicted(rt, asked, outside);
+                print_contradicted(rt, asked, outside);
             }
             ExitCode::SUCCESS
         }

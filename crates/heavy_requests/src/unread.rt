@@ -25,21 +25,21 @@ impl Unread {
     }
 
     /// Notes an input's `number` and the `error` that it met.
-    pub fn leave(&self, number: u64, error: &Error) {
+    pub fn note(&self, number: u64, error: &Error) {
         self.number.store(number, Ordering::SeqCst);
         let code = error.raw_os_error().unwrap_or(0);
         self.code.store(code, Ordering::SeqCst);
     }
 
     /// Notes the `number` of an input whose length changed.
-    pub fn leave_changed(&self, number: u64) {
+    pub fn note_changed(&self, number: u64) {
         self.number.store(number, Ordering::SeqCst);
         self.code.store(0, Ordering::SeqCst);
     }
 
     /// Notes the `error` of the file that was to keep a pipe's bytes.
-    pub fn leave_unkept(&self, error: &Error) {
-        self.leave(0, error);
+    pub fn note_unkept(&self, error: &Error) {
+        self.note(0, error);
         self.is_unkept.store(true, Ordering::SeqCst);
     }
 

@@ -250,9 +250,10 @@ pub fn report_pieces<R: Threads + Wait + Sync, P: Pieces + Sync>(
 /// greatest counters are kept, each less the next one (Agarwal et al. 2012). `hash` decides how
 /// fast keys are found. The counters may differ from run to run, by which worker takes which piece.
 ///
-/// Each piece is asked for once. Where no worker claimed a piece, the calling thread asks for all of
-/// them again; no run is known to leave one. It starts the workers, waits for them and answers Refused as
-/// [`report_pieces`] does. Where the items aren't known, the summary is one of some items.
+/// Each piece is asked for once. Where no worker claimed a piece, the calling thread asks for all
+/// of them again; no run is known to leave one. It starts the workers, waits for them and answers
+/// Refused as [`report_pieces`] does. Where the items aren't known, the summary is one of some
+/// items.
 pub fn summarise_pieces<R: Threads + Wait + Sync, P: Pieces + Sync>(
     rt: &R,
     alloc: Global,
