@@ -271,6 +271,26 @@ class OnePassFiles(programs.Checks):
                     said = f"{words[0]} of {texts} by {workers}"
                     self.check(said, (ended.status, ended.out, ended.err) == (0, wanted, b""), ended)
 
+    def test_many_files(self) -> None:
+        """Each of six files counts, of records and of saved ones that are merged, by hand."""
+        texts = [b"%c,%d\n" % (97 + place, place + 1) for place in range(6)]
+        summaries = [self.saved(f"s{place}", ["summarise", "--k", "9"], text) for place, text in enumerate(texts)]
+        tables = [self.saved(f"t{place}", ["table"], text) for place, text in enumerate(texts)]
+        merged = self.saved("merged", ["merge", *summaries], b"")
+        rows, table = b"f,6\ne,5\nd,4\nc,3\n", programs.run([self.program, "table"], b"".join(texts)).out
+        other, files = self.saved("other", ["summarise", "--k", "8"], b""), self.files(*texts)
+        for words, status, out, err in [
+            (["list", merged], 0, b"f,6,6\ne,5,5\nd,4,4\nc,3,3\nb,2,2\na,1,1\n", b""), (["merge", *tables], 0, table, b""),
+            (["table", *files], 0, table, b""), (["summarise", "--k", "9", *files], 0, Path(merged).read_bytes(), b""),
+            (["report", "--k", "9", *files], 0, rows, b""), (["confirm", merged, *files], 0, rows, b""),
+            (["condense", merged, *files], 0, b"a,1\nb,2\nc,3\nd,4\ne,5\nf,6\n", b""),
+            (["merge", *summaries[:4], other, summaries[5]], 3, b"", b"heavy: file 5: another k\n"),
+            (["merge", *summaries[:3], f"{self.room}/none"], 1, b"", b"heavy: file 4: could not be read\n"),
+        ]:
+            ended = programs.run([self.program, *words])
+            holds = (ended.status, ended.out, programs.first_line(ended.err)) == (status, out, err)
+            self.check(f"{words[0]} of many files", holds, (words, ended))
+
     def test_refused(self) -> None:
         """A number of workers out of its range is refused, whoever reads; what is tested before it and behind it."""
         saved, table = self.saved("saved", ["summarise", "--k", "2"], RECORDS), self.saved("table", ["table"], RECORDS)

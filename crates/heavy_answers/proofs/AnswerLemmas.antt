@@ -1,6 +1,11 @@
 -- What holds of an outcome, and more.
-use Rattle.std.proofs.Common.{◌≡◌, ◌∙◌, Bool, true, false, IfOk, IfErr, Result, Ok, Err, sym, subst}
+use Rattle.std.proofs.Common.{◌≡◌, ◌∙◌, ◌⊎◌, ℕ, Bool, true, false, List, Option, IfOk, IfErr, Result, Ok, Err, inr, sym, subst}
 use Rattle.std.specs.Prelude.{⊤}
+use Rattle.hh_records.specs.Streams.{Known}
+use Rattle.hh_records.specs.declared.layout.Layout.{Layout}
+use Rattle.heavy_requests.specs.declared.request.RecordWords.{RecordWords}
+use Rattle.heavy_answers.specs.Answers.{ByPlan, OfRecords}
+use Rattle.heavy_answers.specs.Inputs.{AreRecords}
 
 -- what follows from what holds of a success
 pub if_ok_more : {A E : Type 0} {P Q : A → Type 0} (r : Result A E) → ((a : A) → P a → Q a) → IfOk r P → IfOk r Q
@@ -12,11 +17,34 @@ pub if_err_more : {A E : Type 0} {P Q : E → Type 0} (r : Result A E) → ((e :
 if_err_more (Ok a) more holds = tt
 if_err_more (Err e) more holds = more e holds
 
+-- what holds of a success by a file that is given holds by some file
+pub if_ok_by : {A E F : Type 0} (Given : F → Type 0) (P : F → A → Type 0) (r : Result A E) (file : F) → Given file → IfOk r (P file)
+    → IfOk r (λ a. (f : F) × Given f × P f a)
+if_ok_by Given P r file given = if_ok_more r (λ a holds. (file, given, holds))
+
+-- what holds of a refusal by a file that is given holds by some file, or something else does
+pub if_err_by : {A E F : Type 0} (M N : E → Type 0) (Given : F → Type 0) (P : F → E → Type 0) (r : Result A E) (file : F) → Given file
+    → IfErr r (P file) → IfErr r (λ e. M e ⊎ N e ⊎ ((f : F) × Given f × P f e))
+if_err_by M N Given P r file given = if_err_more r (λ e holds. inr (inr (file, given, holds)))
+
 -- what is true holds
 abbrev pub Holds : Bool → Type 0
 Holds true = ⊤
 Holds false = ⊥
 
 -- nothing is both
-pub not_both : (b : Bool) → b ≡ true → b ≡ false → ⊥
+not_both : (b : Bool) → b ≡ true → b ≡ false → ⊥
 not_both b holds fails = subst Holds (sym holds ∙ fails) tt
+
+-- what holds by the plan that was asked for
+pub planned : {P T : Type 0} (by_plan : Bool) → by_plan ≡ true → P → ByPlan by_plan P T
+planned by_plan asked holds = record { planned = λ _. holds; tallied = λ fails. absurd (not_both by_plan asked fails) }
+
+-- what holds by tallies
+pub tallied : {P T : Type 0} (by_plan : Bool) → by_plan ≡ false → T → ByPlan by_plan P T
+tallied by_plan asked holds = record { planned = λ plan. absurd (not_both by_plan plan asked); tallied = λ _. holds }
+
+-- what is made of records is of those that the words name
+pub of_records : (opens : Bool → List ℕ → Option (List ℕ) → Type 0) (words : RecordWords) (Makes : Layout → Known → Type 0) (layout : Layout)
+    (known : Known) → AreRecords opens words layout known → Makes layout known → OfRecords opens words Makes
+of_records opens words Makes layout known records made = record { layout = layout; known = known; records = records; made = made }

@@ -1,7 +1,7 @@
 -- Inputs that are opened in their order, and what is known of their bytes.
 use Rattle.std.proofs.Common.{◌≡◌, ◌∙◌, refl, ℕ, ◌+◌, ◌<◌, ◌||◌, Bool, false, List, [], ◌∷◌, ◌++◌, Option, Some, None, IfSome, map, option_map, option_and_then, take, drop, length, slice_index_or, sym, ap, subst, arith}
 use Rattle.std.specs.Prelude.{⊤}
-use Rattle.std.proofs.lemmas.List.{append_assoc, take_more, map-append}
+use Rattle.std.proofs.lemmas.List.{append_assoc, append-nil, take_more, map-append}
 use Rattle.hh_records.specs.Layouts.{every, stream_with, texts_known}
 use Rattle.hh_records.specs.LayoutWords.{SaysLayout}
 use Rattle.hh_records.specs.declared.layout.Layout.{Layout}
@@ -57,17 +57,6 @@ every-map : {A B : Type 0} (f : A → Option B) (xs : List A) → every (λ x. x
 unfolding every
 every-map f [] = refl
 every-map f (x ∷ xs) = ap (λ rest. option_and_then (λ y. option_map (λ ys. y ∷ ys) rest) (f x)) (every-map f xs)
-
--- what is known agrees with itself
-agree-itself : (texts : Option (List (List ℕ))) → Agree texts texts
-agree-itself None = tt
-agree-itself (Some all) = refl
-
--- lists of which the same is known agree
-pub agree_same : {A B : Type 0} (f : A → Option (List ℕ)) (g : B → Option (List ℕ)) (xs : List A) (ys : List B)
-    → map f xs ≡ map g ys → Agree (every g ys) (every f xs)
-agree_same f g xs ys same =
-    subst (Agree (every g ys)) (sym (sym (every-map f xs) ∙ ap (every (λ x. x)) same ∙ every-map g ys)) (agree-itself (every g ys))
 
 -- nothing after what is known or not is nothing
 nothing-behind : {B : Type 0} (y : Option B) → option_and_then (λ z. option_map (λ ys. z ∷ ys) None) y ≡ None
@@ -134,6 +123,43 @@ alike_more f g xs x ys y alike more =
     subst (λ texts. Alike texts (map g (ys ++ y ∷ []))) (sym (map-append f xs (x ∷ [])))
     (subst (Alike (map f xs ++ f x ∷ [])) (sym (map-append g ys (y ∷ []))) (alike-push (map f xs) (map g ys) (f x) (g y) alike more))
 
+-- what was made of the inputs before those that are left, of all
+abbrev pub MadeSoFar : {A B : Type 0} → (A → Option (List ℕ)) → (B → Option (List ℕ)) → List A → List A → List B → Type 0
+MadeSoFar f g all left made = (before : List _) × (before ++ left ≡ all) × Alike (map f before) (map g made)
+
+-- of none nothing is made
+pub made_start : {A B : Type 0} (f : A → Option (List ℕ)) (g : B → Option (List ℕ)) (all left : List A) (made : List B) → left ≡ all
+    → made ≡ [] → MadeSoFar f g all left made
+made_start f g all left made same none = ([], same, subst (λ ys. Alike [] (map g ys)) (sym none) tt)
+
+-- one more is made of the next one
+pub made_more : {A B : Type 0} (f : A → Option (List ℕ)) (g : B → Option (List ℕ)) (all : List A) (x : A) (left now : List A)
+    (made new : List B) (y : B) → now ≡ x ∷ left → new ≡ made ++ y ∷ []
+    → IfSome (f x) (λ bytes. IfSome (g y) (λ known. known ≡ bytes)) → MadeSoFar f g all now made → MadeSoFar f g all left new
+made_more f g all x left now made new y steps pushed alike (before, parts, so_far) = (
+  before ++ x ∷ [],
+  append_assoc before (x ∷ []) left ∙ (rw steps at parts),
+  subst (λ ys. Alike (map f (before ++ x ∷ [])) (map g ys)) (sym pushed) (alike_more f g before x made y so_far alike),
+)
+
+-- with none left all are made
+pub made_all : {A B : Type 0} (f : A → Option (List ℕ)) (g : B → Option (List ℕ)) (all left : List A) (made : List B) → left ≡ []
+    → MadeSoFar f g all left made → Alike (map f all) (map g made)
+made_all f g all left made none (before, parts, so_far) =
+    subst (λ xs. Alike (map f xs) (map g made)) (sym (append-nil before) ∙ rw none at parts) so_far
+
+-- what is known of the one is what is known of the other
+pub known_same : (text other : Option (List ℕ)) → other ≡ text → IfSome text (λ bytes. IfSome other (λ known. known ≡ bytes))
+known_same None other same = tt
+known_same (Some bytes) other same = subst (λ o. IfSome o (λ known. known ≡ bytes)) (sym same) refl
+
+-- what is alike with some is some
+pub alike_some : {A B : Type 0} (f : A → Option (List ℕ)) (g : B → Option (List ℕ)) (xs : List A) (ys : List B)
+    → Alike (map f xs) (map g ys) → 0 < length xs → 0 < length ys
+alike_some f g [] ys alike some = absurd (omega (arith, some))
+alike_some f g (x ∷ xs) [] alike some = absurd alike
+alike_some f g (x ∷ xs) (y ∷ ys) alike some = omega arith
+
 -- what agrees reads as the same records
 agree-reads : (layout : Layout) (texts others : Option (List (List ℕ))) → Agree texts others
     → IfSome texts (λ all. IfSome (option_map (stream_with layout) others) (λ reading. reading ≡ stream_with layout all))
@@ -142,25 +168,19 @@ agree-reads layout (Some all) None agree = tt
 agree-reads layout (Some all) (Some known) agree = ap (stream_with layout) agree
 
 -- records of inputs that were opened in their order are those that the words name
-pub records_are_of : {I R : Type 0} (opens : Bool → List ℕ → Option (List ℕ) → Type 0) (words : RecordWords) (layout : Layout)
-    (text : I → Option (List ℕ)) (known : R → Option (List ℕ)) (inputs : List I) (readers : List R)
-    → SaysLayout words.layout layout → AreInputs opens false (input_names words) (map text inputs)
+pub records_are_of : {I R : Type 0} (opens : Bool → List ℕ → Option (List ℕ) → Type 0) (words : RecordWords) (said layout : Layout)
+    (text : I → Option (List ℕ)) (known : R → Option (List ℕ)) (inputs : List I) (readers : List R) → layout ≡ said
+    → SaysLayout words.layout said → AreInputs opens false (input_names words) (map text inputs)
     → Agree (every text inputs) (every known readers) → AreRecords opens words layout (texts_known known layout readers)
-records_are_of opens words layout text known inputs readers said opened agree = record {
-  said = said;
-  texts = map text inputs;
-  opened = opened;
-  named = refl;
-  read = subst (λ all. IfSome all (λ ts. IfSome (option_map (stream_with layout) (every known readers)) (λ r. r ≡ stream_with layout ts)))
-      (sym (every-map text inputs)) (agree-reads layout (every text inputs) (every known readers) agree);
-}
-
--- what was made of some, and what is left of all
-pub so_far_more : {A B : Type 0} (f : A → Option (List ℕ)) (g : B → Option (List ℕ)) (all : List (Option (List ℕ))) (done : List A) (x : A)
-    (left : List B) (y : B) → map f done ++ map g (y ∷ left) ≡ all → f x ≡ g y → map f (done ++ x ∷ []) ++ map g left ≡ all
-so_far_more f g all done x left y was same =
-    ap (λ texts. texts ++ map g left) (map-append f done (x ∷ [])) ∙ append_assoc (map f done) (f x ∷ []) (map g left)
-    ∙ ap (λ text. map f done ++ text ∷ map g left) same ∙ was
+records_are_of opens words said layout text known inputs readers same says opened agree =
+    subst (λ l. AreRecords opens words l (texts_known known l readers)) (sym same) (record {
+      said = says;
+      texts = map text inputs;
+      opened = opened;
+      named = refl;
+      read = subst (λ all. IfSome all (λ ts. IfSome (option_map (stream_with said) (every known readers)) (λ r. r ≡ stream_with said ts)))
+          (sym (every-map text inputs)) (agree-reads said (every text inputs) (every known readers) agree);
+    })
 
 -- a list of no length is empty
 pub nothing_left : {A : Type 0} (xs : List A) → 0 ≡ length xs → [] ≡ xs
@@ -171,10 +191,3 @@ nothing_left (x ∷ xs) none = absurd (omega (arith, none))
 pub first_and_rest : {A : Type 0} (xs : List A) (x : A) → 0 < length xs → x ≡ slice_index_or xs 0 x → x ∷ (take 0 xs ++ drop 1 xs) ≡ xs
 first_and_rest [] x some first = absurd (omega (arith, some))
 first_and_rest (y ∷ ys) x some first = ap (λ one. one ∷ ys) first
-
--- what is made of some is some
-pub mapped_some : {A B C : Type 0} (f : A → C) (g : B → C) (xs : List A) (ys : List B) → map f xs ++ [] ≡ map g ys → 0 < length ys
-    → 0 < length xs
-mapped_some f g xs [] same some = absurd (omega (arith, some))
-mapped_some f g [] (y ∷ ys) same some = absurd (omega (arith, ap length same))
-mapped_some f g (x ∷ xs) (y ∷ ys) same some = omega arith

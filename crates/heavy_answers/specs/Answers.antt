@@ -79,10 +79,15 @@ MakesInOnePass (one.Condense file) refuses outside workers layout known bytes = 
 MakesInOnePass (one.Confirm file share rows) refuses outside workers layout known bytes =
     Confirms file.now share.now rows.now refuses outside known bytes
 
+-- where a plan was asked for the first holds, and else, by tallies, the second
+pub record ByPlan (by_plan : Bool) (Planned Tallied : Type 0) : Type 0 where
+  pub planned : by_plan ≡ true → Planned
+  pub tallied : by_plan ≡ false → Tallied
+
 -- the report of the records was written: by the plan that was asked for, or by tallies
-pub record PrintsReport (options : ReportOptions) (rows : RowOptions) (by_plan : Bool) (known : Known) (old new : Option (List ℕ)) : Type 0 where
-  pub planned : by_plan ≡ true → IsPrinted rows options known old new
-  pub tallied : by_plan ≡ false → IsPrintedOfFiles rows options known old new
+abbrev pub PrintsReport : ReportOptions → RowOptions → Bool → Known → Option (List ℕ) → Option (List ℕ) → Type 0
+PrintsReport options rows by_plan known old new =
+    ByPlan by_plan (IsPrinted rows options known old new) (IsPrintedOfFiles rows options known old new)
 
 -- this holds of the saved file with this name
 abbrev pub OfSaved : (List ℕ → Option (List ℕ) → Type 0) → List ℕ → (List ℕ → Type 0) → Type 0

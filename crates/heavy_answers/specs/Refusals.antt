@@ -34,7 +34,7 @@ use Rattle.heavy_requests.specs.declared.request.Invocation.{Invocation}
 use Rattle.heavy_requests.specs.declared.request.RecordWords.{RecordWords}
 use Rattle.heavy_requests.specs.declared.request.Request.{Request}
 use Rattle.heavy_requests.specs.declared.request.Request.TheVariants.{Report, Answer}
-use Rattle.heavy_answers.specs.Answers.{AnswersCommand, OfRecords}
+use Rattle.heavy_answers.specs.Answers.{AnswersCommand, ByPlan, OfRecords}
 use Rattle.heavy_answers.specs.Inputs.{AreRecords, standard_name}
 use Rattle.heavy_answers.specs.declared.single_pass.SinglePass.{SinglePass}
 use Rattle.heavy_answers.specs.declared.single_pass.SinglePass.TheVariants as one
@@ -88,7 +88,7 @@ ConfirmFails refuses share workers file known e =
     ConfirmFilesRefused refuses share workers file known e
     ⊎ ((in_range workers max_workers ≡ true) × ConfirmRowsRefused refuses share file known e)
 
--- a refusal to make something of the records in one pass says this, with so many workers
+-- what a refusal of a command says that reads its records once, by this number of workers
 abbrev pub FailsInOnePass : SinglePass → Bool → ℕ → Known → ToolError → Type 0
 FailsInOnePass (one.Summarise k method) refuses workers known e = RefusedAfter (bad_summary_of_files k workers) known e
 FailsInOnePass (one.Table width depth seed) refuses workers known e = RefusedAfter (bad_table_of_files depth width workers) known e
@@ -153,9 +153,9 @@ AnswerRefused gives opens unopened command words refuses outside old new e =
     × TakesFirst old new bytes n × (e ≡ tool.WriteFault n))
 
 -- the report of the records is refused as the library refuses it: by the plan that was asked for, or by tallies
-pub record RowsFail (options : ReportOptions) (rows : RowOptions) (by_plan : Bool) (known : Known) (old new : Option (List ℕ)) (e : ToolError) : Type 0 where
-  pub planned : by_plan ≡ true → PrintRefused rows options known old new e
-  pub tallied : by_plan ≡ false → FilesRefused rows options known old new e
+abbrev pub RowsFail : ReportOptions → RowOptions → Bool → Known → Option (List ℕ) → Option (List ℕ) → ToolError → Type 0
+RowsFail options rows by_plan known old new e =
+    ByPlan by_plan (PrintRefused rows options known old new e) (FilesRefused rows options known old new e)
 
 -- the report is refused with nothing written: the records can't be had, or an option is refused; or the library refuses it
 abbrev pub ReportFails : (Bool → List ℕ → Option (List ℕ) → Type 0) → (List ℕ → ℕ → ToolError → Type 0) → ReportOptions → RowOptions

@@ -136,7 +136,7 @@ module _ (s : SummaryView) (fits : Fits s.k s.total s.counters) where
   pub seen_entries : HasSeen (monitor_of s.k s.counters)
   seen_entries = (s.counters, All-from_recursion (λ (e : Entry). 0 < e.1) s.counters fits.entries.positive, refl)
 
-  -- their monitor is translated to it, where what the total has besides is put behind it
+  -- their monitor is translated to it, where what the total has besides is put after it
   pub entries_translated : (n : ℕ)
       → behind (n + (s.total - total_of s.counters)) (translation_of (monitor_of s.k s.counters)) ≡ behind n s
   entries_translated n =

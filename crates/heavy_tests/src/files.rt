@@ -1,5 +1,5 @@
 //! Reports of files that fail in mid-stream, or that aren't the same in two readings, and files
-//! that workers count.
+//! that workers count, also while these grow.
 
 ghost use Rattle.std.specs.Prelude.{None};
 
@@ -7,8 +7,8 @@ use crate::devices::{FaultyWriter, Manner};
 use crate::fixtures::assert_same;
 use heavy::{
     Comparison, Layout, Method, Out, ReadAt, ReportOptions, RowOptions, Share, SourceRecords,
-    ToolError, Tree, condense_files, confirm_files, report_files, summary_bytes, table_bytes,
-    table_files,
+    ToolError, Tree, condense_files, confirm_files, report_files, summarise_files, summary_bytes,
+    table_bytes, table_files,
 };
 use std::io::{self, Error, ErrorKind, Read};
 use std::process::Abort;
@@ -21,8 +21,6 @@ use std::thread::Threads;
 enum Course {
     /// It fails from the read with this number on; none is 0.
     Fails(u64),
-    /// It is a byte longer from the second time on that its length is asked for.
-    Grows,
     /// Each reading from its start gives another weight.
     Changes,
 }
@@ -43,27 +41,18 @@ impl ManyRecords<'_> {
     fn call(&self) -> u64 {
         self.calls.fetch_add(1, Ordering::SeqCst).saturating_add(1)
     }
-
-    /// How many bytes each of the texts has.
-    fn size(&self) -> u64 {
-        self.first.len() as u64
-    }
 }
 
 impl ReadAt for ManyRecords<'_> {
     ghost bytes = { λ _. None };
 
     fn len(&self) -> io::Result<u64> {
-        match self.course {
-            Course::Grows if self.call() > 1 => Ok(self.size().saturating_add(1)),
-            _ => Ok(self.size()),
-        }
+        Ok(self.first.len() as u64)
     }
 
     fn read_at(&self, buf: &mut [u8], at: u64) -> io::Result<usize> {
         let mut text = self.first.as_bytes();
         match self.course {
-            Course::Grows => {}
             Course::Changes => {
                 let reading = if at == 0 {
                     self.call()
@@ -155,8 +144,7 @@ fn each_read_of_a_file_fails(rt: HostRuntime) {
 }
 
 #[test]
-fn files_that_are_not_the_same_are_refused(rt: HostRuntime) {
-    assert_refused(&rt, Course::Grows);
+fn file_that_is_not_the_same_twice_is_refused(rt: HostRuntime) {
     assert_refused(&rt, Course::Changes);
 }
 
@@ -215,4 +203,92 @@ fn files_are_tabulated_by_workers(rt: HostRuntime) {
     let table = table_files(&rt, alloc, 4, 2, 3, 2, records).expect(&rt, "a table");
     let expected = table_bytes(alloc, 4, 2, 3, TEXT).expect(&rt, "a table");
     assert_same(&rt, table.as_slice(), expected.as_slice());
+}
+
+/// What a growing file has in the end. Its second record comes once its first was read.
+const GROWN: &[u8] = b"a,5\na,2\n";
+
+/// A file that grows.
+#[derive(Drop)]
+struct GrowingFile {
+    reads: AtomicU64,
+}
+
+impl ReadAt for GrowingFile {
+    ghost bytes = { λ _. None };
+
+    fn len(&self) -> io::Result<u64> {
+        if self.reads.load(Ordering::SeqCst) == 0 {
+            Ok(4)
+        } else {
+            Ok(8)
+        }
+    }
+
+    fn read_at(&self, buf: &mut [u8], at: u64) -> io::Result<usize> {
+        self.reads.store(1, Ordering::SeqCst);
+        let mut rest = &GROWN[at.min(8) as usize..];
+        rest.read(buf)
+    }
+}
+
+fn growing() -> [GrowingFile; 1] {
+    [GrowingFile {
+        reads: AtomicU64::new(0),
+    }]
+}
+
+/// The summary of what the growing file has in the end, with one counter.
+fn grown_summary(rt: &(impl Abort + AllocGlobal)) -> Vec<u8> {
+    summary_bytes(rt.alloc(), 1, Method::MisraGries, GROWN).expect(rt, "a summary")
+}
+
+#[test]
+fn report_of_a_growing_file_is_refused(rt: HostRuntime) {
+    let (sources, layout) = (growing(), Layout::plain(rt.alloc()));
+    let records = SourceRecords {
+        layout: &layout,
+        sources: &sources,
+    };
+    let mut taken = Vec::new(rt.alloc());
+    let mut out = Out::new(FaultyWriter::new(Manner::taking(99), &mut taken));
+    let rows = RowOptions::plain();
+    let reported = report_files(&rt, rt.alloc(), &options(), &rows, records, &mut out);
+    assert_same(&rt, reported.err(), Some(ToolError::ReadFault));
+}
+
+#[test]
+fn growing_file_is_summarised_whole(rt: HostRuntime) {
+    let (sources, layout) = (growing(), Layout::plain(rt.alloc()));
+    let records = SourceRecords {
+        layout: &layout,
+        sources: &sources,
+    };
+    let summary = summarise_files(&rt, rt.alloc(), 1, 2, records).expect(&rt, "a summary");
+    assert_same(&rt, summary.as_slice(), grown_summary(&rt).as_slice());
+}
+
+#[test]
+fn growing_file_is_tabulated_whole(rt: HostRuntime) {
+    let (sources, layout) = (growing(), Layout::plain(rt.alloc()));
+    let records = SourceRecords {
+        layout: &layout,
+        sources: &sources,
+    };
+    let table = table_files(&rt, rt.alloc(), 4, 2, 3, 2, records).expect(&rt, "a table");
+    let expected = table_bytes(rt.alloc(), 4, 2, 3, GROWN).expect(&rt, "a table");
+    assert_same(&rt, table.as_slice(), expected.as_slice());
+}
+
+#[test]
+fn growing_file_is_condensed_whole(rt: HostRuntime) {
+    let file = grown_summary(&rt);
+    let (sources, layout) = (growing(), Layout::plain(rt.alloc()));
+    let records = SourceRecords {
+        layout: &layout,
+        sources: &sources,
+    };
+    let compared = &mut Comparison::new(true);
+    let rows = condense_files(&rt, rt.alloc(), &file, 2, records, compared).expect(&rt, "rows");
+    assert_same(&rt, rows.as_slice(), b"a,7\n".as_slice());
 }

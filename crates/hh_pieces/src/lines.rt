@@ -64,7 +64,8 @@ fn feed_line_end(text: &[u8], from: usize) -> usize
     }
 }
 
-/// Where the line ends that begins at `from`. One byte is looked for where the text `has_no_return`.
+/// Finds where the line ends that begins at `from`, by line feeds alone where the text
+/// `has_no_return`.
 fn line_end(text: &[u8], from: usize, has_no_return: bool) -> usize
     requires within { from ≤ length text.now }
     requires no_return { OnTrue has_no_return (HasNoReturn text.now) }

@@ -80,6 +80,8 @@ pub fn are_as_long<S: ReadAt>(
 ) -> Result<bool, TextError>
     ensures still { IfOk result (λ same. same ≡ true
         → IsKnownStill (every (length_of S.bytes) sources.now) (Some before.now)) }
+    ensures unchanged { IfOk result (λ same.
+        every (length_of S.bytes) sources.now ≡ Some before.now → same ≡ true) }
     ensures refused { IfErr result NotRead }
 {
     let after = lengths(alloc, sources)?;

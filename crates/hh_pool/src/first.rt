@@ -74,6 +74,36 @@ pub fn first_pass<G: Gate>(
     Ok((seat, summarised.summaries))
 }
 
+/// Makes the first pass by the calling thread, as where no worker claimed a piece: the summaries of
+/// all pieces, in order, and the table of the stream. `gate` hears the options' number of workers.
+pub fn first_pass_alone<G: Gate>(
+    alloc: Global,
+    stream: &Stream,
+    cutting: &Cutting,
+    options: &Options,
+    gate: &G,
+) -> Result<(Vec<Summary>, Table), AllocError>
+    requires same_len { sum cutting.now ≡ length stream.now }
+    ensures summaries { IfOk result (λ r.
+        r.0.items ≡ map (sketch_of options.now.k) (pieces_of cutting.now stream.now)) }
+    ensures table { IfOk result (λ r.
+        r.1 ≡ table_of options.now.family options.now.width stream.now) }
+{
+    pieces_make_the_whole();
+    // It bounds the weights of the pieces.
+    let _total = stream.total();
+    let context = PassContext {
+        alloc,
+        pieces: &CutStream::new(stream, cutting),
+        gate,
+    };
+    let pass = FirstPass {
+        context: &context,
+        options,
+    };
+    only_memory(pass.alone())
+}
+
 /// The table of no items.
 pub(crate) fn empty_table(alloc: Global, options: &Options) -> Result<Table, AllocError>
     ensures { IfOk result (λ table. table ≡ table_of options.now.family options.now.width []) }

@@ -66,6 +66,37 @@ pub fn second_pass<G: Gate>(
     Ok(seat)
 }
 
+/// Makes the second pass by the calling thread, as where no worker claimed a piece: the weights of
+/// the candidates, and the total of the stream where there are candidates. `gate` hears of the
+/// number `workers`.
+pub fn second_pass_alone<G: Gate>(
+    alloc: Global,
+    stream: &Stream,
+    cutting: &Cutting,
+    candidates: &Candidates,
+    gate: &G,
+    workers: u64,
+) -> Result<(Vec<u64>, u64), AllocError>
+    requires same_len { sum cutting.now ≡ length stream.now }
+    ensures weights { IfOk result (λ r. r.0.items ≡ weights_at candidates.now stream.now) }
+    ensures total { IfOk result
+        (λ r. 0 < length candidates.now → r.1 ≡ total_of stream.now) }
+{
+    pieces_make_the_whole();
+    // It bounds the weights of the pieces.
+    let _total = stream.total();
+    let context = PassContext {
+        alloc,
+        pieces: &CutStream::new(stream, cutting),
+        gate,
+    };
+    let pass = SecondPass {
+        context: &context,
+        candidates,
+    };
+    only_memory(pass.alone(workers))
+}
+
 impl<'a, 'c, P: Pieces, G: Gate> SecondPass<'a, 'c, P, G> {
     // Counts the candidates of a piece, which isn't read where there are none.
     fn count_piece(&self, counts: &mut CandidateCounts, piece: usize) -> Result<(), PieceFault>

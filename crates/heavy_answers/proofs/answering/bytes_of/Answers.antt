@@ -1,5 +1,5 @@
 use Rattle.std.proofs.Common.{inr}
-use Rattle.heavy_answers.proofs.AnswerLemmas.{if_err_more, if_ok_more}
+use Rattle.heavy_answers.proofs.AnswerLemmas.{if_err_by, if_err_more, if_ok_by}
 use Rattle.heavy_answers.proofs.answering.bytes_of.Goals as goal
 
 pub returns-in_ok-method-in-Summarise-clause-made : goal.returns-in_ok-method-in-Summarise-clause-made
@@ -17,40 +17,30 @@ returns-in-Table-clause-refused g c = rw c.in-Table.is c.in_one_pass-in-Table.en
 
 pub returns-in_ok-saved_file-in-Ask-clause-refused : goal.returns-in_ok-saved_file-in-Ask-clause-refused
 returns-in_ok-saved_file-in-Ask-clause-refused g c =
-    rw c.in-Ask.is (if_err_more c.ask_rows.result (λ fault fails. inr (inr (
-      c.in_ok-saved_file-in-Ask.field-0.items,
-      rw c.deref-in-Ask.ensures.value at c.in_ok-saved_file-in-Ask.ensures.read,
-      rw (c.deref-in-Ask-2.ensures.value, c.deref-in-Ask-3.ensures.value) at fails,
-    ))) c.ask_rows.ensures.refused)
+    rw c.in-Ask.is (if_err_by _ _ _ _ c.ask_rows.result c.in_ok-saved_file-in-Ask.field-0.items
+    (rw c.deref-in-Ask.ensures.value at c.in_ok-saved_file-in-Ask.ensures.read)
+    (rw (c.deref-in-Ask-2.ensures.value, c.deref-in-Ask-3.ensures.value) at c.ask_rows.ensures.refused))
 
 pub returns-in_ok-file-in-Condense-clause-made : goal.returns-in_ok-file-in-Condense-clause-made
 returns-in_ok-file-in-Condense-clause-made g c =
-    rw c.in-Condense.is (if_ok_more c.in_one_pass-in-Condense.result (λ bytes made. (
-      c.in_ok-file-in-Condense.file.items,
-      rw c.deref-in-Condense.ensures.value at c.in_ok-file-in-Condense.ensures.read,
-      rw c.deref-in-Condense-2.ensures.value at made,
-    )) c.in_one_pass-in-Condense.ensures.made)
+    rw c.in-Condense.is (if_ok_by _ _ c.in_one_pass-in-Condense.result c.in_ok-file-in-Condense.file.items
+    (rw c.deref-in-Condense.ensures.value at c.in_ok-file-in-Condense.ensures.read)
+    (rw c.deref-in-Condense-2.ensures.value at c.in_one_pass-in-Condense.ensures.made))
 
 pub returns-in_ok-file-in-Condense-clause-refused : goal.returns-in_ok-file-in-Condense-clause-refused
 returns-in_ok-file-in-Condense-clause-refused g c =
-    rw c.in-Condense.is (if_err_more c.in_one_pass-in-Condense.result (λ fault fails. inr (inr (
-      c.in_ok-file-in-Condense.file.items,
-      rw c.deref-in-Condense.ensures.value at c.in_ok-file-in-Condense.ensures.read,
-      rw c.deref-in-Condense-2.ensures.value at fails,
-    ))) c.in_one_pass-in-Condense.ensures.refused)
+    rw c.in-Condense.is (if_err_by _ _ _ _ c.in_one_pass-in-Condense.result c.in_ok-file-in-Condense.file.items
+    (rw c.deref-in-Condense.ensures.value at c.in_ok-file-in-Condense.ensures.read)
+    (rw c.deref-in-Condense-2.ensures.value at c.in_one_pass-in-Condense.ensures.refused))
 
 pub returns-in_ok-file-in-Confirm-clause-made : goal.returns-in_ok-file-in-Confirm-clause-made
 returns-in_ok-file-in-Confirm-clause-made g c =
-    rw c.in-Confirm.is (if_ok_more c.in_one_pass-in-Confirm.result (λ bytes made. (
-      c.in_ok-file-in-Confirm.file.items,
-      rw c.deref-in-Confirm.ensures.value at c.in_ok-file-in-Confirm.ensures.read,
-      rw c.deref-in-Confirm-2.ensures.value at made,
-    )) c.in_one_pass-in-Confirm.ensures.made)
+    rw c.in-Confirm.is (if_ok_by _ _ c.in_one_pass-in-Confirm.result c.in_ok-file-in-Confirm.file.items
+    (rw c.deref-in-Confirm.ensures.value at c.in_ok-file-in-Confirm.ensures.read)
+    (rw c.deref-in-Confirm-2.ensures.value at c.in_one_pass-in-Confirm.ensures.made))
 
 pub returns-in_ok-file-in-Confirm-clause-refused : goal.returns-in_ok-file-in-Confirm-clause-refused
 returns-in_ok-file-in-Confirm-clause-refused g c =
-    rw c.in-Confirm.is (if_err_more c.in_one_pass-in-Confirm.result (λ fault fails. inr (inr (
-      c.in_ok-file-in-Confirm.file.items,
-      rw c.deref-in-Confirm.ensures.value at c.in_ok-file-in-Confirm.ensures.read,
-      rw c.deref-in-Confirm-2.ensures.value at fails,
-    ))) c.in_one_pass-in-Confirm.ensures.refused)
+    rw c.in-Confirm.is (if_err_by _ _ _ _ c.in_one_pass-in-Confirm.result c.in_ok-file-in-Confirm.file.items
+    (rw c.deref-in-Confirm.ensures.value at c.in_ok-file-in-Confirm.ensures.read)
+    (rw c.deref-in-Confirm-2.ensures.value at c.in_one_pass-in-Confirm.ensures.refused))

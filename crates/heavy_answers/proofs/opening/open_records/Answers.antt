@@ -1,16 +1,11 @@
-use Rattle.std.proofs.Common.{◌∷◌, sym, subst}
-use Rattle.hh_records.specs.Layouts.{texts_known}
-use Rattle.heavy_answers.specs.Inputs.{AreRecords}
+use Rattle.std.proofs.Common.{◌∷◌}
 use Rattle.heavy_answers.proofs.InputLemmas.{records_are_of}
 use Rattle.heavy_answers.proofs.opening.open_records.Goals as goal
 
 pub returns-clause-records : goal.returns-clause-records
 returns-clause-records g c =
-    let opens = g.H.Host.opens c.args.host.now in
     let opened = c.in_ok-opened.opened in
     let made = c.in_ok-records_of.field-0 in
-    let readers = made.first ∷ made.others.items in
-    subst (λ layout. AreRecords opens c.args.words.now layout (texts_known g.H.Reader.Read.remaining layout readers))
-    (sym c.in_ok-records_of.ensures.layout)
-    (records_are_of opens c.args.words.now opened.layout g.H.Host.text g.H.Reader.Read.remaining opened.inputs.items readers
-    c.in_ok-opened.ensures.layout c.in_ok-opened.ensures.opened c.in_ok-records_of.ensures.texts)
+    records_are_of (g.H.Host.opens c.args.host.now) c.args.words.now opened.layout made.layout g.H.Host.text g.H.Reader.Read.remaining
+    opened.inputs.items (made.first ∷ made.others.items) c.in_ok-records_of.ensures.layout c.in_ok-opened.ensures.layout
+    c.in_ok-opened.ensures.opened c.in_ok-records_of.ensures.texts
