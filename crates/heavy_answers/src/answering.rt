@@ -20,7 +20,7 @@ use hh_rows::{ReportOptions, RowOptions, Sink, put};
 use std::sync::Wait;
 use std::thread::Threads;
 
-/// The fault of a saved file, as the library has it.
+/// Converts the `fault` of reading a saved file into the error that the library gives for it.
 fn fault_of(fault: FileFault) -> ToolError
     ensures unread { (number : ℕ) → fault ≡ FileFault.Unreadable number
         → result ≡ ToolError.FileFault number }
@@ -32,7 +32,8 @@ fn fault_of(fault: FileFault) -> ToolError
     }
 }
 
-/// The bytes of the saved file with this name, which is the first of the command line.
+/// Reads the saved file `name`, which is the first file of the command line. If it can't be read,
+/// the error is [`ToolError::FileFault`] with number 1.
 fn saved_file<H: Host>(host: &H, name: &[u8]) -> Result<Vec<u8>, ToolError>
     ensures read { IfOk result (λ file. H.gives host.now name.now (Some file.items)) }
     ensures refused { IfErr result (λ fault. (fault ≡ ToolError.Memory)
@@ -41,7 +42,9 @@ fn saved_file<H: Host>(host: &H, name: &[u8]) -> Result<Vec<u8>, ToolError>
     read_file(host, 1, name).map_err(fault_of)
 }
 
-/// The saved files with these names, merged in their order.
+/// Reads the saved files `first` and `others`, merges them in this order and gives the bytes of the
+/// merged file. All files are read before any is tested, so a file that can't be read is refused
+/// before one whose bytes are wrong.
 fn merged<H: Host>(host: &H, first: &[u8], others: &[Vec<u8>]) -> Result<Vec<u8>, ToolError>
     ensures made { IfOk result (λ bytes. MakesMerge (H.gives host.now)
         (first.now ∷ map (λ w. w.items) others.now) bytes.items) }
@@ -52,8 +55,8 @@ fn merged<H: Host>(host: &H, first: &[u8], others: &[Vec<u8>]) -> Result<Vec<u8>
     merge_bytes(host.memory(), &files)
 }
 
-/// The bytes that a command is answered by. It leaves in `compared` where a summary and its records
-/// differ.
+/// Makes the whole output of `command`, over the records that `words` name if it reads any. It
+/// stores in `compared` where a saved summary and the records differ.
 fn bytes_of<T: Threads + Wait + Sync, H: Host>(
     threads: &T,
     host: &H,
@@ -115,8 +118,9 @@ fn bytes_of<T: Threads + Wait + Sync, H: Host>(
     }
 }
 
-/// Writes the report of the records that the words name. The options are tested before what can be
-/// read once is.
+/// Writes the report of the records that `words` name to `sink`. All inputs are opened first, then
+/// the options are tested, and only then is anything read: a pipe, which can be read only once, is
+/// untouched when an option is refused. With `by_plan`, one thread reads the inputs once.
 fn report<T: Threads + Wait + Sync, H: Host, S: Sink>(
     threads: &T,
     host: &H,
@@ -146,9 +150,10 @@ fn report<T: Threads + Wait + Sync, H: Host, S: Sink>(
     Ok(())
 }
 
-/// Answers what was asked for: makes the calls of the libraries that it stands for, of the bytes
-/// that the host gives of the files that are named, and writes what they give. It leaves in
-/// `compared` where a summary and its records differ.
+/// Answers the command line `asked`: reads the files that it names from `host`, calls the library
+/// and writes the output to `sink`. It stores in `compared` where a saved summary and the records
+/// differ. Nothing is written before the whole answer is known, so that only a failed write leaves
+/// a part of the output in `sink`.
 pub fn answer<T: Threads + Wait + Sync, H: Host, S: Sink>(
     threads: &T,
     host: &H,

@@ -44,18 +44,21 @@ pub trait Host: FileSource {
     fn reader(&self, input: Self::Input) -> Self::Reader
         ensures text { Self.Reader.remaining result ≡ text input };
 
-    /// What reads an open input at any place. Of one that can be read once the bytes are read and
-    /// kept here.
+    /// Makes what reads an open `input` at any place. If it can be read only once, it is read to
+    /// its end here, and kept. A read that fails on the way is no error of this call: then
+    /// [`is_whole`](Host::is_whole) is false. The error is that what was read can't be kept.
     fn source(&self, input: Self::Input) -> Result<Self::File, ToolError>
         ensures text { IfOk result (λ file. IfSome (text input) (λ bytes.
             IfSome (Self.File.bytes file) (λ known. known ≡ bytes))) }
         ensures refused { IfErr result IsUnkept };
 
-    /// Whether all of an input could be read so far.
+    /// Whether all bytes of `file` could be read when it was made. If not, reading it fails after
+    /// those that it has.
     fn is_whole(&self, file: &Self::File) -> bool
         ensures part { result ≡ false → Self.File.bytes file.now ≡ None };
 
-    /// Notes how a file ends that workers have read, for what is printed of it.
+    /// Notes the size of the last record of `file`, once workers have read it, if the record began
+    /// with a quote and is long, for the note on it that is printed at the end.
     fn note_last_record(&self, file: &Self::File);
 
     /// How keys are hashed in this run.

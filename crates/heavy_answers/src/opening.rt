@@ -29,15 +29,16 @@ fn push_behind<T: Drop>(others: &mut Vec<T>, one: T) -> Result<(), ToolError>
     }
 }
 
-/// Whether standard input is taken once the input with this name is open.
+/// Whether standard input is taken once `name` is open: it `is_taken` before, or `name` is `-`.
 fn is_taken_by(is_taken: bool, name: &[u8]) -> bool
     ensures taken { result ≡ (is_taken || names_standard name.now) }
 {
     is_taken || is_standard(name)
 }
 
-/// Opens the inputs with `names`, which stand after `saved` saved files. Standard input is read
-/// where it is named first.
+/// Opens the inputs `names`, in order. The first has the number `saved` + 1, since `saved` saved
+/// files are named before it; an error has the number of the input that can't be opened. Where
+/// `-` is named several times, the first gets standard input and the others are empty.
 fn open_named<H: Host>(host: &H, names: &[Vec<u8>], saved: u64) -> Result<Vec<H::Input>, ToolError>
     ensures opened { IfOk result (λ inputs. AreInputs (H.opens host.now) false
         (map (λ name. name.items) names.now) (map H.text inputs.items)) }
@@ -73,7 +74,8 @@ fn open_inputs<H: Host>(
     Ok(inputs)
 }
 
-/// The layout that the words say, by which keys are hashed as the host has it.
+/// Reads the layout that `words` describe. Keys are hashed in the way that `host` chooses for this
+/// run. The error is that an option is wrong, or that memory ran out.
 fn layout_on<H: Host>(host: &H, words: &RecordWords) -> Result<Layout, ToolError>
     ensures said { IfOk result (SaysLayout words.now.layout) }
     ensures refused { IfErr result (LayoutRefused words.now.layout) }
@@ -83,8 +85,9 @@ fn layout_on<H: Host>(host: &H, words: &RecordWords) -> Result<Layout, ToolError
     Ok(layout)
 }
 
-/// Sources of the bytes of open inputs, which can be read several times. What stands after an
-/// input that can't be read is left out, since that one is refused before.
+/// Turns open `inputs` into sources that can be read several times, in order. A pipe is read to its
+/// end and kept. If one of them fails on the way, it is the last source: reading refuses it before
+/// it would come to the inputs after it, which are dropped.
 fn sources_of<H: Host>(host: &H, inputs: Vec<H::Input>) -> Result<Vec<H::File>, ToolError>
     ensures texts { IfOk result (λ files.
         Agree (every H.text inputs.items) (every H.File.bytes files.items)) }
@@ -136,7 +139,8 @@ pub(crate) struct Opened<I> {
     inputs: Vec<I>,
 }
 
-/// Opens the inputs of the records that the words name after `saved` saved files.
+/// Reads the layout that `words` describe, and then opens the inputs of records that they name
+/// after `saved` saved files. If the layout is wrong, nothing is opened.
 pub(crate) fn open<H: Host>(
     host: &H,
     words: &RecordWords,
@@ -212,10 +216,10 @@ pub(crate) enum OnePass<R, F> {
     Stream(Records<R>),
 }
 
-/// Opens the records that the words name after `saved` saved files, for one reading by `workers`.
-/// They read files of the disk that have a size; all else is read by one thread, and so are these
-/// where it `is_alone`. A number of workers that is refused comes with no files then, so that
-/// nothing is read.
+/// Opens the records that `words` name after `saved` saved files, to be read once. If all inputs
+/// are files of the disk that aren't empty, `workers` workers read them, unless this thread
+/// `is_alone`; else one thread reads all inputs. If that thread would read but `workers` is out of
+/// range, it gives no files at all: nothing is read, and the call that gets them refuses `workers`.
 pub(crate) fn open_once<H: Host>(
     host: &H,
     words: &RecordWords,

@@ -26,7 +26,8 @@ use std::thread::Threads;
 /// A command that reads its records once: by workers, or by one thread.
 #[derive(Drop)]
 pub(crate) enum SinglePass<'a> {
-    /// The summary with `k` counters. One worker is this thread, whose bytes are the definition's.
+    /// The summary with `k` counters. If one worker is asked for, this thread reads the records in
+    /// order, so that the bytes are the same in each run; `method` doesn't change them.
     Summarise {
         k: u64,
         method: Method,
@@ -118,7 +119,8 @@ fn of_stream<R: Read + Drop>(
     }
 }
 
-/// What `command` makes of the records that the words name after `saved` saved files.
+/// Makes the whole output of `command` from the records that `words` name after `saved` saved
+/// files. `workers` workers read files of the disk; a pipe is read by this thread.
 pub(crate) fn in_one_pass<T: Threads + Wait + Sync, H: Host>(
     threads: &T,
     host: &H,

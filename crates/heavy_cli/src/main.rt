@@ -1,4 +1,5 @@
-//! The program `heavy`.
+//! The program `heavy`: it reads the command line, answers it on standard output, and writes errors
+//! and notes to standard error. Closed standard streams are held before any file is opened.
 #![tactic(auto)]
 
 use heavy_answers::answer;

@@ -86,7 +86,8 @@ pub(crate) trait ItemsCall: Drop {
     // what a refusal tells of both
     ghost refuses: { Self → List ℕ → List Entry → ToolError → Type 0 };
 
-    /// What the call gives by the file and the items.
+    /// Makes the bytes that the call gives, from the bytes of a saved `file` and from `items`,
+    /// each a key with its weight.
     fn bytes_by(
         self,
         alloc: Global,

@@ -110,8 +110,8 @@ impl<'t> LaidCall for Tabulate<'t> {
     }
 }
 
-/// Gives what `heavy_table` gives, of records of a layout. Behind the layout the depth is tested,
-/// then the width, and then the records.
+/// Gives what `heavy_table` gives, of the records that `layout` finds in `text`. The layout is
+/// tested first, then the depth, then the width, and then the records.
 #[unsafe(no_mangle)]
 pub extern "C" fn heavy_table_records(
     alloc: Global,

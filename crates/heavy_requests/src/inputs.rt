@@ -306,7 +306,8 @@ pub struct Inputs<'a> {
 }
 
 impl<'a> Inputs<'a> {
-    /// Opens the inputs that `asked` names, over what the run shares.
+    /// Gathers how the inputs that `asked` names are opened, over what the run shares. It opens
+    /// none of them: [`open`](Inputs::open) does, one at a time.
     pub fn new(
         rt: &'a HostRuntime,
         asked: &Invocation,

@@ -29,9 +29,10 @@ pub struct Invocation {
     pub records: RecordWords,
     /// Whether the progress of reading is reported.
     pub tells_progress: bool,
-    /// Whether a fault has a second line.
+    /// Whether an error message gets a second line, which explains it.
     pub explains: bool,
-    /// How many megabytes of a pipe are kept in memory, where it is read twice.
+    /// The most megabytes of a pipe that are kept in memory, where it is read twice. One that gives
+    /// more is kept in a temporary file.
     pub memory: u64,
 }
 
@@ -72,7 +73,8 @@ pub enum Request {
 }
 
 impl Request {
-    /// Counts the saved files that are named before those of records.
+    /// Gives how many saved files the command line names before its files of records. It is 0 for
+    /// a command that reads no records, however many saved files it names.
     pub fn saved(&self) -> u64 {
         match self {
             Request::Answer(Command::Condense { .. } | Command::Confirm { .. }) => 1,
@@ -80,7 +82,8 @@ impl Request {
         }
     }
 
-    /// Counts the passes in which workers read files of records: 0 where they read none.
+    /// Gives the most passes in which workers read the files of records, by the command alone: 0 if
+    /// they read none. A report may need fewer: one if its keys are few, and none with a plan.
     pub fn passes(&self) -> u64 {
         match self {
             Request::Report { .. } => 2,
@@ -92,7 +95,8 @@ impl Request {
     }
 }
 
-/// What bytes are asked for. Words are taken by their bytes.
+/// A command whose output is made whole before any of it is written. Words of the command line are
+/// kept as bytes, which need not be UTF-8.
 #[derive(Drop)]
 pub enum Command {
     /// The saved summary of records.
@@ -145,7 +149,7 @@ pub enum Command {
 /// Why a command line asks for nothing.
 #[derive(Drop)]
 pub enum UsageError {
-    /// It asks for help, or has a fault: what is said of it.
+    /// It asks for help or is wrong: the text to print.
     Reported(UsageReport),
     /// The allocator had no memory.
     Memory,

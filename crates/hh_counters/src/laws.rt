@@ -131,8 +131,9 @@ pub fn condensed_is_counted()
     ensures { CondensedIsCounted }
 {}
 
-/// Parts that are condensed one by one and joined in any order have the heavy keys with counters of
-/// the whole: of honest counters, its report.
+/// Parts that are condensed one by one and joined in any order have the total of the whole and,
+/// among the keys that have a counter, its heavy keys with their weights. If the counters are
+/// honest for the whole, these are its report.
 pub fn condensed_parts_suffice()
     ensures weights { FoundByWeights }
     ensures parts { CondensedPartsSuffice }

@@ -50,8 +50,9 @@ fn keys_of_pieces<T: Threads + Wait + Sync, S: ReadAt + Sync>(
     }
 }
 
-/// The total of some records and their heavy keys, by workers, where each piece of the files can be
-/// read by itself.
+/// Finds the total of `records` and their heavy keys with `workers` workers. It gives `None` if the
+/// files can't be cut into pieces, a piece is refused or the total is too large: then one thread
+/// has to read them, which finds the error.
 fn keys_side_by_side<T: Threads + Wait + Sync, S: ReadAt + Sync>(
     rt: &T,
     alloc: Global,
@@ -71,7 +72,9 @@ fn keys_side_by_side<T: Threads + Wait + Sync, S: ReadAt + Sync>(
     keys_of_pieces(rt, alloc, files, settings, records.layout.hash)
 }
 
-/// Makes the report by one thread, which reads the files from their starts, twice.
+/// Finds the total of `records` and the keys that weigh more than p/q of it, in one thread, which
+/// reads the records twice: for a summary with `k` counters, and to count its keys. If the two
+/// totals differ, the error is [`ToolError::ReadFault`].
 fn keys_in_turn<R: ReadRecords + Copy>(
     alloc: Global,
     records: R,
@@ -96,8 +99,9 @@ fn keys_in_turn<R: ReadRecords + Copy>(
     Ok((summary.total(), keys))
 }
 
-/// The total of some records and their heavy keys. Workers read the files in pieces; where a piece
-/// can't be read by itself, one thread reads them. A file whose length changes meanwhile fails.
+/// Finds the total of `records` and their heavy keys. Workers read the files in pieces; if a piece
+/// can't be read by itself, one thread reads all files instead. If the length of a file changes
+/// meanwhile, the error is [`ToolError::ReadFault`].
 fn keys_of_sources<T: Threads + Wait + Sync, S: ReadAt + Sync>(
     rt: &T,
     alloc: Global,
@@ -130,7 +134,7 @@ fn keys_of_sources<T: Threads + Wait + Sync, S: ReadAt + Sync>(
     Ok(keys)
 }
 
-/// The total of records in files, and the keys that a report of them has.
+/// Tests `options`, and then finds the total of `records` and the keys that their report has.
 fn reported_of_files<T: Threads + Wait + Sync, S: ReadAt + Sync>(
     rt: &T,
     alloc: Global,
@@ -154,11 +158,12 @@ fn reported_of_files<T: Threads + Wait + Sync, S: ReadAt + Sync>(
     }
 }
 
-/// [`report_rows`](hh_reports::report_rows) of files of any size, or other bytes that are read at
-/// any place, as those of a pipe are where they are kept. No item is kept: workers read the files
-/// in pieces, through a buffer each, and tally their items: once where the keys are few, and else
-/// once more for the weights of those that can be heavy. Where a piece can't be read by itself, one
-/// thread reads all files, twice, so that the first refusal has its number.
+/// Writes the report of files of any size, as [`report_rows`](hh_reports::report_rows) does, or of
+/// other bytes that can be read at any place, such as those of a pipe that were kept. No item is
+/// kept: workers read the files in pieces, through a buffer each, and tally their items. If the
+/// keys are few, one pass is enough; else a second one weighs the keys that can be heavy. If a
+/// piece can't be read by itself, one thread reads all files, twice, so that an error has the
+/// number of its record. Only [`ToolError::WriteFault`] leaves a part of the rows in `sink`.
 ///
 /// Where the bytes of all files are known, the report is that of their records, one file after the
 /// other. A file of the system may change between two readings. Where the total weight differs, one

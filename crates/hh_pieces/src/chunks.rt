@@ -19,11 +19,12 @@ use std::io::Read;
 // How many bytes of a piece are in memory at once, where no record is longer.
 const CHUNK_LEN: usize = 262_144;
 
-// From how many bytes on in which no record ends at a line feed a piece is refused: those who read
-// it in one go hold no more than a record.
+// If no record ends in this many bytes in a row of a piece, the piece is refused. Whoever then
+// reads the files from their starts holds no more than a record.
 pub(crate) const MOST_HELD: usize = 1_048_576;
 
-/// Why a piece was not read, by what refused it.
+/// Converts the `error` of reading a piece. Only that memory ran out is kept; for all else the
+/// piece is refused, without the cause.
 fn piece_fault(error: TextError) -> PieceFault
     ensures { result ≡ piece_fault error }
 {
@@ -45,10 +46,9 @@ fn copy_columns(alloc: Global, columns: Option<&Columns>) -> Result<Option<Colum
     }
 }
 
-/// Hands on the whole records at the front of what is left of a piece, of which these bytes are
-/// held, and tells how many bytes they are. The first chunk of a text chooses its columns: there
-/// are none, and no whole records, where the layout has a header and the chunk has no record for
-/// it.
+/// Hands the items of the whole records at the front of `held` to `taker`, and gives how many bytes
+/// these records are: 0 if no record is whole. If there are no `columns` yet, they are chosen from
+/// these records; if the layout has a header and there is no record for it, nothing is taken.
 fn take_chunk<T: TakeItems>(
     alloc: Global,
     layout: &Layout,
@@ -145,8 +145,10 @@ fn feed_window<R: Read, T: TakeItems>(
     Err(PieceFault::Refused)
 }
 
-/// Hands on the items of a piece that a reader has left. Each of its bytes is read once, into a
-/// buffer that gets longer only where a record is longer than it, up to [`MOST_HELD`] bytes.
+/// Hands the items of `piece`, which has about `len` bytes left, to `taker`. Without `columns` the
+/// first records choose them. Each byte is read once, into a buffer that grows only for a record
+/// that is longer than it. A record of [`MOST_HELD`] bytes is refused; after an error `taker` may
+/// hold any number of the items.
 pub(crate) fn feed_left<R: Read, T: TakeItems>(
     alloc: Global,
     layout: &Layout,
@@ -161,7 +163,7 @@ pub(crate) fn feed_left<R: Read, T: TakeItems>(
         (option_map (λ c. c.now) columns.entry, bytes) ≡ Some xs))) }
     ensures bounded { OnOk result (T.weight_taken taker.new ≤ max_total) }
 {
-    // What was taken before is in range, as this call's clause says.
+    // The contract of `total` says that what was taken before is in range.
     let _total = taker.total();
     let most = len.saturating_add(1);
     let mut columns = copy_columns(alloc, columns)?;

@@ -27,8 +27,8 @@ pub(crate) struct Span {
     pub(crate) to: u64,
 }
 
-/// A piece of the file with a number, and the columns that it is read by, which the first of a file
-/// chooses itself.
+/// A piece of the source with the index `source`: the bytes in `span`, whose records are read by
+/// `columns`. The first piece of a source has none, since it chooses them from its own records.
 #[derive(Drop)]
 pub(crate) struct FilePiece {
     pub(crate) source: usize,
@@ -69,10 +69,12 @@ const LEAST_LEN: u64 = 65_536;
 // How many bytes are read at once where a line feed is looked for.
 const READ_LEN: usize = 65_536;
 
-// How often a line feed is looked for after a place. A piece that has none for so long is refused.
+// How many reads look for a line feed after a place. If none finds one, the rest of the source is
+// one piece.
 const MOST_READS: usize = MOST_HELD / READ_LEN;
 
-/// Finds a line feed at `from` or not far after it. Where a read fails, it finds none.
+/// Finds the first line feed at or after `from`, in at most [`MOST_READS`] reads of `source` into
+/// `buffer`. It gives `None` if they show none, the source ends before one, or a read fails.
 fn find_feed<S: ReadAt>(source: &S, buffer: &mut [u8], from: u64) -> Option<u64>
     ensures behind { IfSome result (λ at. from ≤ at) }
     ensures feed { IfSome result (λ at. IfSome (S.bytes source.now) (λ bytes.
@@ -126,7 +128,8 @@ fn spans_of<S: ReadAt>(
     Ok(spans)
 }
 
-/// Adds the later pieces of a file with these columns.
+/// Adds a piece for each of the `later` spans of the source with this `number`, read by `columns`.
+/// After an error, which is that memory ran out, some may have been added.
 fn add_later(
     alloc: Global,
     pieces: &mut Vec<FilePiece>,
@@ -149,8 +152,9 @@ fn add_later(
     Ok(())
 }
 
-/// Adds the pieces of one source, of about this size, where its columns can be chosen from the
-/// first of them.
+/// Adds the pieces of the source with this `number`, each of about `size` bytes, and gives whether
+/// it did. It adds none if the length can't be read, or the columns can't be chosen from the first
+/// piece. After an error, which is that memory ran out, some may have been added.
 fn add_source<S: ReadAt>(
     alloc: Global,
     layout: &Layout,
@@ -231,10 +235,10 @@ fn pieces_of<S: ReadAt>(
 }
 
 impl<'t, S: ReadAt> CutFiles<'t, S> {
-    /// Cuts files of records with this layout into `count` pieces, the last of which may be empty.
-    /// Each gets pieces by its share of all bytes, and at least one; a cut stands before a line
-    /// feed. There is no cut where the files are more than the pieces, where a file's columns
-    /// aren't found in its first piece, or where it can't be read.
+    /// Cuts `sources`, whose records have this `layout`, into `count` pieces, the last of which may
+    /// be empty. A file gets pieces by its share of all bytes, and at least one; each cut is just
+    /// before a line feed. It gives `None` if there are more files than pieces, or a file's columns
+    /// aren't found in its first piece, or its length or that piece can't be read.
     pub fn new(
         alloc: Global,
         layout: &'t Layout,
@@ -265,9 +269,9 @@ impl<'t, S: ReadAt> CutFiles<'t, S> {
         self.count.max(self.pieces.len())
     }
 
-    /// Hands the items of a piece to a taker, in order. Each byte is read once, into a buffer that
-    /// gets longer only where a record is longer than it, and nothing is kept. A refusal tells
-    /// nothing of what was taken before it.
+    /// Hands the items of the piece with index `piece`, from 0 on, to `taker`, in order. Each byte
+    /// is read once, into a buffer that grows only for a record that is longer than it, and nothing
+    /// is kept. After an error `taker` may hold any number of the items.
     pub fn feed<T: TakeItems>(
         &self,
         alloc: Global,
@@ -281,7 +285,8 @@ impl<'t, S: ReadAt> CutFiles<'t, S> {
         ensures bounded { OnOk result (T.weight_taken taker.new ≤ max_total) }
     {
         let Some(part) = self.pieces.get(piece) else {
-            // It is in range.
+            // A piece after those that were cut is empty. `total` says that what was taken is in
+            // range.
             let _total = taker.total();
             return Ok(());
         };

@@ -29,7 +29,7 @@ use std::alloc::{AllocError, Global};
 use std::sync::Wait;
 use std::thread::Threads;
 
-/// What each worker works on.
+/// The pass in which each worker tallies the items of the pieces that it claims.
 #[derive(Drop)]
 struct TallyPass<'a, P, G> {
     context: &'a PassContext<'a, P, G>,
@@ -93,7 +93,7 @@ impl<'a, P: Pieces, G: Gate> Pass for TallyPass<'a, P, G> {
     fn take(&self, mut made: Tally, worker: u64, piece: usize) -> Result<Tally, PieceFault> {
         self.context.gate.before(1, worker, piece as u64);
         self.take_piece(&mut made, piece)?;
-        // It bounds the total.
+        // The contract of `total` bounds the tally's total.
         let _total = made.total();
         Ok(made)
     }
@@ -114,7 +114,8 @@ impl<'a, P: Pieces, G: Gate> Pass for TallyPass<'a, P, G> {
     }
 }
 
-/// The tally of the items of all pieces.
+/// Tallies the items of all pieces with `workers` workers. Each makes a tally with this `room`, and
+/// the tallies are merged.
 fn tally<R: Threads + Wait + Sync, P: Pieces + Sync, G: Gate + Sync>(
     rt: &R,
     context: &PassContext<P, G>,
@@ -153,8 +154,9 @@ fn counters_of(alloc: Global, contenders: &[(Key, u64)]) -> Result<Vec<u64>, All
     contenders.iter().map(|entry| entry.1).collect(alloc)
 }
 
-/// The weight of each contender in the items of all pieces: its counter where the tally lost
-/// nothing, and else what a second pass counts.
+/// Gives the weight of each of the `contenders`, which are the `candidates` with their counters, in
+/// the items of all pieces: the counter if `tally` lost nothing, else what a second pass counts. If
+/// that finds another total than the first pass, the error is [`PieceFault::Refused`].
 fn weights_of<R: Threads + Wait + Sync, P: Pieces + Sync, G: Gate + Sync>(
     rt: &R,
     context: &PassContext<P, G>,

@@ -41,7 +41,7 @@ impl RowOptions {
     }
 }
 
-/// The first rows, at most `top`; without it all.
+/// Gives the first `top` of `rows`, or all of them if there are fewer or `top` is `None`.
 fn topmost<'a>(top: Option<u64>, rows: &'a [Heavy]) -> &'a [Heavy]
     ensures { result.now ≡ topmost top rows.now }
 {

@@ -18,10 +18,10 @@ use hh_stream::{Key, MAX_TOTAL, in_range};
 use hh_summaries::Summary;
 use std::alloc::{AllocError, Global};
 
-/// The summary or table that the bytes spell in some version, all of the bytes. Where they spell
-/// none, the answer is the first fault from left to right: fields are read in order, a field that
-/// is short is [`SavedFault::Truncated`], and otherwise its own check decides before the next field
-/// is read.
+/// Reads the summary or table that all of `bytes` spell, in either version. If they spell none, the
+/// error is the first fault from left to right: fields are read in order, a field that is cut short
+/// is [`SavedFault::Truncated`], and otherwise its own check decides before the next field is read.
+/// Bytes after the last field are [`SavedFault::Trailing`].
 ///
 /// No memory is taken for a field before its bytes are known to be there.
 pub fn read(alloc: Global, bytes: &[u8]) -> Result<Saved, SavedFault>
@@ -63,7 +63,7 @@ fn value_of(alloc: Global, bytes: &[u8]) -> Result<(Saved, &[u8]), SavedFault>
     body_of(alloc, version, kind, rest)
 }
 
-// The version that the magic names.
+// Reads the magic, and gives the version that it names with the bytes after it.
 #[tactic(auto, unfolding(crate::specs::Reading::version_at))]
 pub(crate) fn version_of(bytes: &[u8]) -> Result<(Version, &[u8]), SavedFault>
     ensures { Reads (λ x. (x.0, x.1.now)) result (version_at bytes.now) }
@@ -99,7 +99,7 @@ fn body_of(
     Err(SavedFault::BadKind)
 }
 
-// ---- fields
+// ---- fields: each function reads one at the front of `bytes`, and gives it with those after it
 
 fn bytes_of(len: usize, bytes: &[u8]) -> Result<(&[u8], &[u8]), SavedFault>
     ensures { Reads (λ x. (x.0.now, x.1.now)) result (bytes_at len bytes.now) }
@@ -161,7 +161,7 @@ fn total_of(bytes: &[u8]) -> Result<(u64, &[u8]), SavedFault>
 
 // ---- a counter summary
 
-// The number that the length of a key's field is.
+// Reads the field that holds a key's length: one byte in version 1, two in version 2.
 fn len_field_of(version: Version, bytes: &[u8]) -> Result<(usize, &[u8]), SavedFault>
     ensures { Reads (λ x. (x.0, x.1.now)) result (number_at (len_width version) bytes.now) }
 {
@@ -177,7 +177,7 @@ fn len_field_of(version: Version, bytes: &[u8]) -> Result<(usize, &[u8]), SavedF
     }
 }
 
-// The length of a key.
+// Reads the length of a key, in bytes: 1 to the most that `version` allows.
 fn len_of(version: Version, bytes: &[u8]) -> Result<(usize, &[u8]), SavedFault>
     ensures len { Reads (λ x. (x.0, x.1.now)) result (len_at version bytes.now) }
     ensures key { IfOk result (λ x. (0 < x.0) × (x.0 ≤ max_key_len)) }
@@ -290,7 +290,7 @@ fn k_of(bytes: &[u8]) -> Result<(u16, &[u8]), SavedFault>
     Ok((k, rest))
 }
 
-// How many counters there are.
+// Reads how many counters there are, which is at most `k`.
 fn count_of(k: u16, bytes: &[u8]) -> Result<(u16, &[u8]), SavedFault>
     ensures { Reads (λ x. (x.0, x.1.now)) result (count_at k bytes.now) }
 {

@@ -17,7 +17,7 @@ pub trait TakeItems: Drop {
     // The sum of the weights of all items.
     ghost weight_taken: { Self → ℕ };
 
-    /// The sum of the weights of all items.
+    /// Gives the sum of the weights of all items that were taken.
     fn total(&self) -> u64
         ensures total { result ≡ weight_taken self.now }
         ensures bounded { result ≤ max_total };

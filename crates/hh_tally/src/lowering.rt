@@ -14,7 +14,8 @@ use hh_summaries::{level_of, push_copy};
 use indexmap::IndexMap;
 use std::alloc::{AllocError, Global};
 
-/// Adds `weight` to the key's counter, or puts a new key last. Whether the key is new.
+/// Adds `weight` to the counter of `key`, or puts the key last with this counter, and gives whether
+/// the key is new. The error is that memory ran out; then `index` is as it was.
 pub fn add_entry(
     alloc: Global,
     index: &mut IndexMap<Key, u64, KeyHash>,
@@ -69,8 +70,9 @@ pub fn add_all(
     Ok(())
 }
 
-/// Lowers the counters where there are more keys than `room` has, or too many bytes of them, which
-/// are `bytes`. What was taken from each counter, and the bytes of the keys that are left.
+/// Lowers all counters if there are more keys than `room` has, or too many bytes of keys, which
+/// together have `bytes`. It gives what was taken from each counter, 0 if there is room, and how
+/// many bytes the keys that are left have. After an error `index` is as it was.
 pub fn settle(
     alloc: Global,
     index: &mut IndexMap<Key, u64, KeyHash>,

@@ -8,7 +8,8 @@ ghost use Rattle.hh_tally.specs.Tallies.{IsRoom, room_for};
 /// The most keys for which there may be room.
 pub const MAX_KEYS: usize = 1_000_000;
 
-// The fewest keys for which `for_counters` makes room, and the bytes that they may have.
+// The fewest keys for which `for_counters` makes room; `MOST_BYTES` is the most bytes that the keys
+// may have together where they are more than `few`.
 const LEAST_KEYS: usize = 4096;
 
 const MOST_BYTES: usize = 4_194_304;

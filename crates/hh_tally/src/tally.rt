@@ -96,8 +96,9 @@ impl Tally {
         self.index.len()
     }
 
-    /// The keys that can weigh more than p/q of the total, with their counters, by rising key. p/q
-    /// is at most 1 and at least 1 of half of the room's `few`, and q at most 2^32.
+    /// Gives the keys that can weigh more than p/q of the total, with their counters, by rising
+    /// key. p/q is at most 1 and at least 1/h, where h is half of the room's `few`, rounded down,
+    /// and q is at most 2^32.
     ///
     /// Each key that weighs more is among them, so that counting these keys alone makes the report.
     /// Where nothing was lost the counters are the weights.
@@ -127,7 +128,8 @@ impl Tally {
         self.room == other.room
     }
 
-    /// Merges two tallies of one room. Where memory is refused, both are lost.
+    /// Merges `other`, which has the same room, into this tally. If memory is refused, this tally
+    /// is lost; `other` is as it was.
     pub fn merge(self, alloc: Global, other: &Tally) -> Result<Tally, AllocError>
         requires room { self.room ≡ other.now.room }
         requires fits { self.total + other.now.total ≤ max_total }

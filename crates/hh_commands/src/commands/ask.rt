@@ -17,7 +17,8 @@ use hh_saved::Saved;
 use hh_stream::{Key, MAX_KEY_LEN};
 use std::alloc::{AllocError, Global};
 
-/// Tests the word with this number: a key has 1 to 4,096 bytes.
+/// Tests whether `word` can be a key, which has 1 to 4,096 bytes. If not, the error is
+/// [`ToolError::BadKey`] with this `number`.
 pub fn check_key(number: u64, word: &[u8]) -> Result<(), ToolError>
     ensures { MatchResult result
         (λ _. key_fault number word.now ≡ None)
@@ -33,7 +34,8 @@ pub fn check_key(number: u64, word: &[u8]) -> Result<(), ToolError>
     Err(ToolError::BadKey { number, cause })
 }
 
-/// The value of a file, where the file and then the words, numbered from 1, pass their tests.
+/// Reads the summary or table in `file` and tests that each of `words` can be a key. The file is
+/// tested first, as file 1, and then the words in order, numbered from 1.
 pub fn asked(alloc: Global, file: &[u8], words: &[Vec<u8>]) -> Result<Saved, ToolError>
     ensures value { IfOk result (λ saved. file_of 1 file.now ≡ Ok saved) }
     ensures keys { OnOk result (bad_key 1 (map vec_items words.now) ≡ None) }
@@ -58,7 +60,8 @@ pub fn slack_of(saved: &Saved) -> u64
     }
 }
 
-/// The least and the most that a key's weight can be, by a saved value and its slack.
+/// Gives the least and the most that `key` can weigh, by what `saved` tells. `slack` is what
+/// [`slack_of`] gives for it. By a table the least is always 0.
 pub fn answer_of(saved: &Saved, slack: u64, key: &Key) -> (u64, u64)
     requires { slack ≡ slack_of saved.now }
     ensures { result ≡ answer_of saved.now key.now }
@@ -66,7 +69,7 @@ pub fn answer_of(saved: &Saved, slack: u64, key: &Key) -> (u64, u64)
     match saved {
         Saved::Counters(summary) => {
             let low = summary.get(key);
-            // It bounds the total, and the counters by it.
+            // The contract of `k` bounds the total and so the counters: the sum can't overflow.
             let _k = summary.k();
             (low, low + slack)
         }
@@ -97,7 +100,7 @@ pub(crate) fn write_bounds(
         .map_err(|_| AllocError)
 }
 
-/// The rows of words that passed their tests.
+/// Makes a row `key,low,high` for each of `words`, in order. All must have passed [`check_key`].
 fn answers_text(
     alloc: Global,
     saved: &Saved,

@@ -17,7 +17,8 @@ use hh_faults::{MergeCause, ToolError};
 use hh_saved::{Saved, write};
 use std::alloc::Global;
 
-/// Merges the summary of the file with this number.
+/// Merges `other`, the summary of the file with this `number`, into `summary`. After an error
+/// `summary` is as it was.
 fn merge_counters(summary: &mut Summary, number: u64, other: &Summary) -> Result<(), ToolError>
     ensures merged { OnOk result
         (merge_saved number (Counters summary.old) (Counters other.now)
@@ -38,7 +39,8 @@ fn merge_counters(summary: &mut Summary, number: u64, other: &Summary) -> Result
     Err(ToolError::CannotMerge { number, cause })
 }
 
-/// Merges the table of the file with this number.
+/// Merges `other`, the table of the file with this `number`, into `table`. After an error `table`
+/// is as it was.
 fn merge_cells(table: &mut Table, number: u64, other: &Table) -> Result<(), ToolError>
     ensures merged { MatchResult result
         (λ _. merge_saved number (Cells table.old) (Cells other.now) ≡ Ok (Cells table.new))
@@ -55,7 +57,8 @@ fn merge_cells(table: &mut Table, number: u64, other: &Table) -> Result<(), Tool
     Err(ToolError::CannotMerge { number, cause })
 }
 
-/// Merges the value of the file with this number. After a refusal `merged` is as it was.
+/// Merges `next`, the value of the file with this `number`, into `merged`. After an error `merged`
+/// is as it was. After a refusal `merged` is as it was.
 pub fn merge_saved(merged: &mut Saved, number: u64, next: &Saved) -> Result<(), ToolError>
     ensures merged { OnOk result (merge_saved number merged.old next.now ≡ Ok merged.new) }
     ensures refused { IfErr result (λ fault.
@@ -76,7 +79,9 @@ pub fn merge_saved(merged: &mut Saved, number: u64, next: &Saved) -> Result<(), 
     }
 }
 
-/// The first file with each next one.
+/// Reads the first of `files` and merges each next one into it, in order. The bytes of a file are
+/// tested only after those before it are merged, so that the first file that is refused decides
+/// the error.
 fn merge_files(alloc: Global, files: &[Vec<u8>]) -> Result<Saved, ToolError>
     requires { 0 < length files.now }
     ensures merged { IfOk result (λ saved. merged_files (map vec_items files.now) ≡ Ok saved) }
@@ -97,11 +102,11 @@ fn merge_files(alloc: Global, files: &[Vec<u8>]) -> Result<Saved, ToolError>
 /// the spelling in version 2 of a summary or a table, as the files are, which may be of either
 /// version.
 ///
-/// Files are numbered from 1. The first refusal is the error, with its file's number: first
-/// [`ToolError::BadFile`], its bytes are no spelling; then [`ToolError::MixedKinds`], it is a table
-/// where the first file is a summary, or the other way round; then [`ToolError::CannotMerge`], it
-/// is of another k, hash family or width than the first, or the total of the files up to it is too
-/// large.
+/// Files are numbered from 1, and the first one that is refused gives the error, with its number.
+/// It is [`ToolError::BadFile`] if its bytes are no saved file, else [`ToolError::MixedKinds`] if
+/// it is a table and the first file a summary, or the other way round, else
+/// [`ToolError::CannotMerge`] if its k, hash family or width isn't that of the first file, or the
+/// total of the files up to it is too large. [`ToolError::Memory`] can come at any of them.
 pub fn merge_bytes(alloc: Global, files: &[Vec<u8>]) -> Result<Vec<u8>, ToolError>
     requires { 0 < length files.now }
     ensures merged { IfOk result (λ bytes. (saved : Saved)
