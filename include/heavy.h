@@ -10,14 +10,14 @@
      another          fault says why, *needed is 0, and out is as it was
    No call answers HEAVY_DEVICE today; treat it as a fault.
 
-   Memory. The caller owns all that it lends, and the library keeps nothing after a call but what a struct heavy_growing
-   has. A call takes memory by malloc and realloc while it runs, gives all else back by free, and answers HEAVY_MEMORY
-   where it gets none. The three have to be of one allocator.
+   Memory. The caller owns all that it lends, and the library keeps nothing after a call but what a struct
+   heavy_growing has. A call takes memory by malloc and realloc while it runs, gives all else back by free, and
+   answers HEAVY_MEMORY where it gets none. The three functions have to be of one allocator.
 
    Pointers. No pointer may be null, also where a length is 0: lend the address of any byte. Lengths are counted in
-   elements, and no slice has 2^63 bytes or more. What is written (out, *needed, *low, *high, *fault) overlaps nothing
-   else that the same call is lent, and no other thread reads or writes it during the call. What is only read may be
-   lent to many calls at once.
+   elements, and no slice has 2^63 bytes or more. Memory that a call writes (out, *needed, *low, *high, *fault) overlaps
+   nothing else that the same call is lent, and no other thread reads or writes it during the call. Memory that is only
+   read may be lent to many calls at once.
 
    Threads. Calls share nothing: any number may run at once. None may be made from a signal handler, nor by the
    forked child of a process with threads. A call takes some 64 KB of stack.
@@ -34,7 +34,7 @@
 extern "C" {
 #endif
 
-/* The number of this interface, as heavy_version() tells it. It grows where a call changes. */
+/* The number of this interface, as heavy_version() gives it. It grows where a call changes. */
 #define HEAVY_VERSION 1u
 
 /* The version of the program that this header came with. */
@@ -134,9 +134,9 @@ struct heavy_entry {
    of several columns is the CSV text of their fields, as the program's --key makes it. Where there are no columns, a record
    is a key and, after the delimiter, its weight, or 1. Where there are only those of the key, each record weighs 1; where
    there is only that of the weight, the key is column 1.
-   A call tests the layout first, before all that it tests else: its numbers (HEAVY_BAD_LAYOUT), then the delimiter
-   (HEAVY_BAD_DELIMITER), then the columns (HEAVY_BAD_COLUMN), all with HEAVY_USAGE. A column that the text's header has
-   not is told where the text is read, before its records: HEAVY_REFUSED and HEAVY_NO_COLUMN. */
+   A call tests the layout first, before everything else: its numbers (HEAVY_BAD_LAYOUT), then the delimiter
+   (HEAVY_BAD_DELIMITER), then the columns (HEAVY_BAD_COLUMN), all with HEAVY_USAGE. A column that the text's header
+   doesn't have is refused where the text is read, before its records: HEAVY_REFUSED and HEAVY_NO_COLUMN. */
 struct heavy_layout {
     uint8_t delimiter;   /* the byte between two fields, but for a quote, CR or LF */
     uint8_t header;      /* 1: the first record names the columns, and is no record; else 0 */
@@ -152,7 +152,7 @@ struct heavy_hash {
     uint64_t words[2];
 };
 
-/* What is in a saved file. What the other kind of file has is 0. */
+/* What is in a saved file. The fields of the other kind of file are 0. */
 struct heavy_info {
     uint32_t kind;     /* HEAVY_SUMMARY or HEAVY_TABLE */
     uint32_t version;  /* the file's, 1 or 2 */
@@ -165,9 +165,9 @@ struct heavy_info {
     uint64_t depth;
 };
 
-/* The value of a saved file in the library's memory, where it grows item by item. It begins as {0}, which has no value; what
-   it has later is heavy_open's to make and heavy_free's to give back. No call may be lent a copy of it, and no two calls at
-   once the same one. */
+/* The value of a saved file in the library's memory, where it grows item by item. It begins as {0}, which has no
+   value. heavy_open makes one, and heavy_free gives it back. No call may be lent a copy of it, and no two calls
+   at once the same one. */
 struct heavy_growing {
     void *place;
     uint64_t full;
@@ -194,12 +194,12 @@ uint32_t heavy_summarise(const uint8_t *text, size_t text_len, uint64_t k, uint3
 /* Gives the saved summary of no items with k counters, k from 1 to 65535: 17 bytes, HEAVY_SUMMARY_ROOM(0, 0). */
 uint32_t heavy_empty(uint64_t k, uint8_t *out, size_t out_len, size_t *needed, struct heavy_fault *fault);
 
-/* Gives the saved summary or table of a saved file with count items added, in order. So what heavy_empty gives, or
-   heavy_summarise, becomes the summary of its stream followed by these items, and what heavy_empty_table gives, or
-   heavy_table, the table; no more is kept of the stream.
+/* Gives the saved summary or table of a saved file with count items added, in order. So the file becomes that of its
+   stream followed by these items: a summary, of heavy_empty or heavy_summarise, or a table, of heavy_empty_table or
+   heavy_table. No more is kept of the stream.
    Key i is the bytes of keys from ends[i - 1], or from 0, to ends[i]. Its weight is weights[i], or 1 where weights_len
-   is 0. First each end has to be at least the end before it and at most keys_len, else the call answers HEAVY_USAGE
-   and HEAVY_BAD_END with the number of the first other one. Then weights_len has to be 0 or count, else it answers
+   is 0. First each end has to be at least the end before it and at most keys_len. Else the call answers HEAVY_USAGE
+   and HEAVY_BAD_END with the number of the first end that isn't. Then weights_len has to be 0 or count, else it answers
    HEAVY_USAGE and HEAVY_BAD_WEIGHT_COUNT. Then the file is tested, and then the items in order, which are refused as
    records are: HEAVY_BAD_RECORD with the item's number, and the causes HEAVY_RECORD_EMPTY_KEY, _KEY_TOO_LONG,
    _ZERO_WEIGHT and _TOTAL_TOO_LARGE. A room of HEAVY_SUMMARY_ROOM(k, HEAVY_MAX_KEY) is enough for a summary's k, and one
@@ -208,18 +208,18 @@ uint32_t heavy_add(const uint8_t *file, size_t file_len, const uint8_t *keys, si
                    size_t count, const uint64_t *weights, size_t weights_len, uint8_t *out, size_t out_len,
                    size_t *needed, struct heavy_fault *fault);
 
-/* Gives the saved summary or table of a saved file with the records of a text added, in order: that of a stream becomes
-   that of the stream followed by these records. So a long text goes through a buffer in parts of whole records, which
-   heavy_whole_records tells. A byte order mark at the front of a text is left out; a part that is cut so begins with a
-   line feed, which is no record, and so keeps such bytes.
-   The file is tested first, then the records, by whose numbers in this text they are refused, and then the items of the
-   records in order, of which the first that makes the file's total too large is refused. */
+/* Gives the saved summary or table of a saved file with the records of a text added, in order. That of a stream
+   becomes that of the stream followed by these records. So a long text goes through a buffer in parts of whole
+   records, which heavy_whole_records counts. A byte order mark at the front of a text is left out. A part that is cut
+   so begins with a line feed, which is no record, and so keeps such bytes.
+   The file is tested first, then the records, which are refused by their numbers in this text. Then the items of the
+   records are tested in order, and the first that makes the file's total too large is refused. */
 uint32_t heavy_add_text(const uint8_t *file, size_t file_len, const uint8_t *text, size_t text_len, uint8_t *out,
                         size_t out_len, size_t *needed, struct heavy_fault *fault);
 
-/* Tells how many bytes of a part of a text are whole records: those before the last line feed that is not in quotes, or 0
-   where there is none after the first byte. The next part begins with the bytes that are left. Where it is 0, read more
-   after the part; at the text's end take the whole part. It can't fail. */
+/* Gives the number of bytes of a part of a text that are whole records: those before the last line feed that is not
+   in quotes. It is 0 where there is no such line feed after the first byte. The next part begins with the bytes that
+   are left. Where the number is 0, read more after the part; at the text's end take the whole part. It can't fail. */
 size_t heavy_whole_records(const uint8_t *text, size_t text_len);
 
 /* Gives the saved Count-Min table of no items, with the hash family that is drawn from the seed: width from 1 to 65536,
@@ -238,19 +238,19 @@ uint32_t heavy_table(const uint8_t *text, size_t text_len, uint64_t width, uint6
 uint32_t heavy_merge(const uint8_t *files, size_t files_len, const size_t *lengths, size_t count, uint8_t *out,
                      size_t out_len, size_t *needed, struct heavy_fault *fault);
 
-/* Tells between which weights a key's weight is, as a saved file knows it. The file is tested first, then the key, of
+/* Gives the two weights between which a key's weight is, by a saved file. The file is tested first, then the key, of
    1 to 4096 bytes. At another status than HEAVY_DONE *low and *high are as they were. */
 uint32_t heavy_ask(const uint8_t *file, size_t file_len, const uint8_t *key, size_t key_len, uint64_t *low,
                    uint64_t *high, struct heavy_fault *fault);
 
-/* Tells for each of count keys what heavy_ask tells of one, and reads the file once: out[i] is that of key i. Key i is
-   the next lengths[i] of the keys_len bytes. Where the bytes end before the lengths do, keys are cut short. The answer
-   has count elements. The file is tested first, then the keys in order. */
+/* Gives for each of count keys what heavy_ask gives for one, and reads the file once: out[i] is that of key i. Key i
+   is the next lengths[i] of the keys_len bytes. Where the bytes end before the lengths do, keys are cut short. The
+   answer has count elements. The file is tested first, then the keys in order. */
 uint32_t heavy_ask_keys(const uint8_t *file, size_t file_len, const uint8_t *keys, size_t keys_len,
                         const size_t *lengths, size_t count, struct heavy_bounds *out, size_t out_len,
                         size_t *needed, struct heavy_fault *fault);
 
-/* Tells the entries of a saved summary, by rising key: where each key lies in the file, and its counter. The file is
+/* Gives the entries of a saved summary, by rising key: where each key lies in the file, and its counter. The file is
    tested first, then its kind. */
 uint32_t heavy_entries(const uint8_t *file, size_t file_len, struct heavy_entry *out, size_t out_len, size_t *needed,
                        struct heavy_fault *fault);
@@ -277,18 +277,18 @@ uint32_t heavy_confirm_above(const uint8_t *file, size_t file_len, const uint8_t
                              uint64_t q, uint8_t *out, size_t out_len, size_t *needed, struct heavy_fault *fault);
 
 /* Gives records that say the same to heavy_confirm with the same file as those of a text, at most one more than the
-   summary has keys: the weight of each of its keys that comes there, by rising key, and then, where other keys come,
-   one record of what they weigh, named `others` or by the first of `others1`, `others2` and so on that is no key of
-   the summary. So parts of a text are condensed one by one, and confirmed together. The file is tested first, then its
-   kind, then the records, whose total need not be the summary's. */
+   summary has keys. They are the weight of each of its keys that comes there, by rising key. Where other keys come,
+   one record of their weight follows. It is named by the first of `others`, `others1`, `others2` and so on that is no
+   key of the summary. So parts of a text are condensed one by one, and confirmed together. The file is tested first,
+   then its kind, then the records, whose total need not be the summary's. */
 uint32_t heavy_condense(const uint8_t *file, size_t file_len, const uint8_t *text, size_t text_len, uint8_t *out,
                         size_t out_len, size_t *needed, struct heavy_fault *fault);
 
-/* Gives what heavy_condense gives, of items in place of a text's records. The items lie as heavy_add takes them, and ends
-   and weights are tested as there. So a second pass may go over a stream in parts, each part's items condensed by the
-   summary of the whole; the rows of all parts, one after the other, are a text for heavy_confirm. Then the file is
-   tested, then its kind, and then the items in order, which are refused as heavy_add refuses them: their total is at most
-   2^63 - 1, and need not be the summary's. */
+/* Gives what heavy_condense gives, of items in place of a text's records. The items lie as heavy_add takes them, and
+   ends and weights are tested as there. So a second pass may go over a stream in parts, each part's items condensed
+   by the summary of the whole. The rows of all parts, one after the other, are a text for heavy_confirm. Then the
+   file is tested, then its kind, and then the items in order, which are refused as heavy_add refuses them. Their
+   total is at most 2^63 - 1, and need not be the summary's. */
 uint32_t heavy_condense_items(const uint8_t *file, size_t file_len, const uint8_t *keys, size_t keys_len,
                               const uint64_t *ends, size_t count, const uint64_t *weights, size_t weights_len,
                               uint8_t *out, size_t out_len, size_t *needed, struct heavy_fault *fault);
@@ -320,15 +320,15 @@ uint32_t heavy_confirm_items_by(const uint8_t *file, size_t file_len, const uint
                                 uint64_t q, const struct heavy_hash *hash, uint8_t *out, size_t out_len, size_t *needed,
                                 struct heavy_fault *fault);
 
-/* Gives the text that the program has for a fault, without a 0 at its end: "record 3: zero weight". Of no fault, all zeros,
-   it is "no fault", and of numbers that no call tells "unknown fault". It answers HEAVY_DONE, HEAVY_TOO_SMALL or
-   HEAVY_MEMORY, and never that last one for HEAVY_NO_MEMORY. No text has more than 128 bytes. */
+/* Gives the text that the program has for a fault, without a 0 at its end: "record 3: zero weight". Of no fault, all
+   zeros, it is "no fault", and of numbers that no call gives "unknown fault". It answers HEAVY_DONE, HEAVY_TOO_SMALL
+   or HEAVY_MEMORY, and never that last one for HEAVY_NO_MEMORY. No text has more than 128 bytes. */
 uint32_t heavy_strerror(const struct heavy_fault *fault, uint8_t *out, size_t out_len, size_t *needed);
 
-/* Tells what is in a saved file. At another status than HEAVY_DONE *info is as it was. */
+/* Says what is in a saved file. At another status than HEAVY_DONE *info is as it was. */
 uint32_t heavy_info(const uint8_t *file, size_t file_len, struct heavy_info *info, struct heavy_fault *fault);
 
-/* Tells what heavy_whole_records tells, of a text with this byte between two fields. */
+/* Gives what heavy_whole_records gives, of a text with this byte between two fields. */
 size_t heavy_whole_records_by(const uint8_t *text, size_t text_len, uint8_t delimiter);
 
 /* Gives what heavy_summarise gives, of records of a layout. The layout is tested first, then k, then the records. */
@@ -351,45 +351,47 @@ uint32_t heavy_add_records(const uint8_t *file, size_t file_len, const uint8_t *
                            const size_t *lengths, size_t count, uint8_t *out, size_t out_len, size_t *needed,
                            struct heavy_fault *fault);
 
-/* Gives the rows `key,weight` of a saved summary's keys above the share p/q in records of a layout, which have to be those
-   that were summarised; p and q are as heavy_confirm_above takes them, or both 0 for 1/(k + 1). Weights have as many digits
-   after the point as the layout's. As in the program, records that contradict the summary are refused: where a key weighs
-   less than its counter, or more than its counter and the slack, the call answers HEAVY_REFUSED and HEAVY_WEIGHT_OUTSIDE.
-   The layout is tested first, then the file, then its kind, then the share, then the records, then the totals, then that. */
+/* Gives the rows `key,weight` of a saved summary's keys above the share p/q in records of a layout, which have to be
+   those that were summarised. p and q are as heavy_confirm_above takes them, or both 0 for 1/(k + 1). Weights have as
+   many digits after the point as the layout's. As in the program, records that contradict the summary are refused.
+   Where a key weighs less than its counter, or more than its counter and the slack, the call answers HEAVY_REFUSED
+   and HEAVY_WEIGHT_OUTSIDE. The layout is tested first, then the file, then its kind, then the share, then the
+   records, then the totals, then these weights. */
 uint32_t heavy_confirm_records(const uint8_t *file, size_t file_len, const uint8_t *text, size_t text_len,
                                const struct heavy_layout *layout, const uint8_t *columns, size_t columns_len,
                                const size_t *lengths, size_t count, uint64_t p, uint64_t q, uint8_t *out, size_t out_len,
                                size_t *needed, struct heavy_fault *fault);
 
-/* Gives what heavy_condense gives, of records of a layout, which may be a part of those that were summarised: records of a
-   key, a comma and a weight, with as many digits after the point as the layout's. Where a key weighs more than its counter
-   and the slack, the call answers HEAVY_REFUSED and HEAVY_WEIGHT_OUTSIDE. The layout is tested first, then the file, then
-   its kind, then the records, then that. */
+/* Gives what heavy_condense gives, of records of a layout, which may be a part of those that were summarised. Its
+   answer has records of a key, a comma and a weight, with as many digits after the point as the layout's. Where a key
+   weighs more than its counter and the slack, the call answers HEAVY_REFUSED and HEAVY_WEIGHT_OUTSIDE. The layout is
+   tested first, then the file, then its kind, then the records, then these weights. */
 uint32_t heavy_condense_records(const uint8_t *file, size_t file_len, const uint8_t *text, size_t text_len,
                                 const struct heavy_layout *layout, const uint8_t *columns, size_t columns_len,
                                 const size_t *lengths, size_t count, uint8_t *out, size_t out_len, size_t *needed,
                                 struct heavy_fault *fault);
 
-/* Gives the exact report of records of a layout: the rows `key,weight` of all keys above the share p/q of the total, by
-   falling weight and then by rising key, as the program's report has them. k is from 1 to 65535, and p and q are as
-   heavy_confirm_records takes them. The text is read twice, and k counters are kept. The layout is tested first, then k,
-   then the share, then the records. */
+/* Gives the exact report of records of a layout, as the program's report has it: the rows `key,weight` of all keys
+   above the share p/q of the total, by falling weight and then by rising key. k is from 1 to 65535, and p and q are
+   as heavy_confirm_records takes them. The text is read twice, and k counters are kept. The layout is tested first,
+   then k, then the share, then the records. */
 uint32_t heavy_report(const uint8_t *text, size_t text_len, const struct heavy_layout *layout, const uint8_t *columns,
                       size_t columns_len, const size_t *lengths, size_t count, uint64_t k, uint64_t p, uint64_t q,
                       uint8_t *out, size_t out_len, size_t *needed, struct heavy_fault *fault);
 
-/* Puts the value of a saved file, summary or table, into memory, as that of heavy_empty(k), which has no items. A value that
-   growing had is given back. At another status than HEAVY_DONE growing is as it was. */
+/* Puts the value of a saved file, summary or table, into memory: a file of heavy_empty, for one, whose value has no
+   items. A value that growing had is given back. At another status than HEAVY_DONE growing is as it was. */
 uint32_t heavy_open(const uint8_t *file, size_t file_len, struct heavy_growing *growing, struct heavy_fault *fault);
 
 /* Does what heavy_open does, and keys are hashed by these words from then on. */
 uint32_t heavy_open_by(const uint8_t *file, size_t file_len, const struct heavy_hash *hash, struct heavy_growing *growing,
                        struct heavy_fault *fault);
 
-/* Adds one item to the value that growing has, as heavy_add adds it to a saved file, with no copy of the file. What a new key
-   of a full summary costs grows as the logarithm of k; the first item after heavy_open, heavy_save or heavy_absorb costs a
-   step for each counter. An item is refused as heavy_add refuses item 1, and at another status than HEAVY_DONE the value is
-   as it was. Where growing has no value, the call answers HEAVY_USAGE, and fault has zeros. */
+/* Adds one item to the value that growing has, as heavy_add adds it to a saved file, with no copy of the file. The
+   cost of a new key of a full summary grows as the logarithm of k. The first item after heavy_open, heavy_save or
+   heavy_absorb costs a step for each counter. An item is refused as heavy_add refuses item 1, and at another status
+   than HEAVY_DONE the value is as it was. Where growing has no value, the call answers HEAVY_USAGE, and fault has
+   zeros. */
 uint32_t heavy_update(struct heavy_growing *growing, const uint8_t *key, size_t key_len, uint64_t weight,
                       struct heavy_fault *fault);
 
