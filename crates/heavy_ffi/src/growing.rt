@@ -157,7 +157,8 @@ pub extern "C" fn heavy_update(
 
 /// Merges the value of a saved file into that which `growing` has, as `heavy_merge` merges the
 /// second of two files. Where `growing` has no value, the call is refused with status 2 and a
-/// `fault` of zeros. A file that is refused is told as file 2, and the value stays as it was.
+/// `fault` of zeros. The fault of a file that is refused has the number 2, and the value stays as
+/// it was.
 #[unsafe(no_mangle)]
 pub extern "C" fn heavy_absorb(
     alloc: Global,

@@ -56,7 +56,7 @@ fn summarise<R: Threads + Wait + Sync, P: Pieces + Sync, G: Gate + Sync>(
             let summaries = pass.in_order(found.summaries)?;
             Ok((summaries, table_of_cells(options, found.total, cells)?))
         }
-        None => pass.alone(),
+        None => pass.sequential(),
     }
 }
 
@@ -109,7 +109,7 @@ pub(crate) fn weigh<R: Threads + Wait + Sync, P: Pieces + Sync, G: Gate + Sync>(
     };
     match share_work(rt, context.alloc, &pass, candidates.len(), workers)? {
         Some(weighed) => Ok(weighed),
-        None => pass.alone(workers),
+        None => pass.sequential(workers),
     }
 }
 

@@ -76,7 +76,7 @@ pub fn first_pass<G: Gate>(
 
 /// Makes the first pass by the calling thread, as where no worker claimed a piece: the summaries of
 /// all pieces, in order, and the table of the stream. `gate` hears the options' number of workers.
-pub fn first_pass_alone<G: Gate>(
+pub fn first_pass_sequentially<G: Gate>(
     alloc: Global,
     stream: &Stream,
     cutting: &Cutting,
@@ -101,7 +101,7 @@ pub fn first_pass_alone<G: Gate>(
         context: &context,
         options,
     };
-    only_memory(pass.alone())
+    only_memory(pass.sequential())
 }
 
 /// The table of no items.
@@ -233,7 +233,7 @@ impl<'a, P: Pieces, G: Gate> FirstPass<'a, P, G> {
 
     /// Makes the summaries of the pieces, in order, and the table of all items in the calling
     /// thread, without sums.
-    pub(crate) fn alone(&self) -> Result<(Vec<Summary>, Table), PieceFault>
+    pub(crate) fn sequential(&self) -> Result<(Vec<Summary>, Table), PieceFault>
         ensures count { let pieces = self.now.context.now.pieces.now in
             IfOk result (λ r. length r.0.items ≡ length (P.pieces pieces)) }
         ensures summaries { let pieces = self.now.context.now.pieces.now in

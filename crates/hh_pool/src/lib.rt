@@ -15,12 +15,12 @@ mod tabulate;
 mod tallying;
 
 pub use analysis::analyse;
-pub use first::{first_pass, first_pass_alone};
+pub use first::{first_pass, first_pass_sequentially};
 pub use hh_stream::PieceFault;
 pub use hh_workers::{CutStream, Gate, MAX_WORKERS, OpenGate, Pieces, Plan, PlanFault};
 pub use merging::merge_by;
 pub use one_pass::{count_pieces, tabulate_pieces};
 pub use options::{Options, OptionsFault};
 pub use outcome::{Outcome, RunError};
-pub use second::{second_pass, second_pass_alone};
+pub use second::{second_pass, second_pass_sequentially};
 pub use tallying::{report_pieces, summarise_pieces};

@@ -69,7 +69,7 @@ pub fn second_pass<G: Gate>(
 /// Makes the second pass by the calling thread, as where no worker claimed a piece: the weights of
 /// the candidates, and the total of the stream where there are candidates. `gate` hears of the
 /// number `workers`.
-pub fn second_pass_alone<G: Gate>(
+pub fn second_pass_sequentially<G: Gate>(
     alloc: Global,
     stream: &Stream,
     cutting: &Cutting,
@@ -94,7 +94,7 @@ pub fn second_pass_alone<G: Gate>(
         context: &context,
         candidates,
     };
-    only_memory(pass.alone(workers))
+    only_memory(pass.sequential(workers))
 }
 
 impl<'a, 'c, P: Pieces, G: Gate> SecondPass<'a, 'c, P, G> {
@@ -116,7 +116,7 @@ impl<'a, 'c, P: Pieces, G: Gate> SecondPass<'a, 'c, P, G> {
 
     /// What the calling thread counts without sums: the candidates' weights in all pieces, and the
     /// total of all items where there are candidates. `workers` is what the gate hears.
-    pub(crate) fn alone(&self, workers: u64) -> Result<(Vec<u64>, u64), PieceFault>
+    pub(crate) fn sequential(&self, workers: u64) -> Result<(Vec<u64>, u64), PieceFault>
         ensures count { IfOk result (λ r.
             length r.0.items ≡ length self.now.candidates.now) }
         ensures weights { let pieces = self.now.context.now.pieces.now in

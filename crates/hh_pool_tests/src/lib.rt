@@ -3,8 +3,6 @@
 #![tactic(auto)]
 
 #[cfg(test)]
-mod alone;
-#[cfg(test)]
 mod analyses;
 #[cfg(test)]
 mod fixtures;
@@ -18,3 +16,5 @@ mod passes;
 mod plans;
 #[cfg(test)]
 mod refusals;
+#[cfg(test)]
+mod sequential;

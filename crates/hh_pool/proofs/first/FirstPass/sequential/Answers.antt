@@ -2,7 +2,7 @@ use Rattle.std.proofs.Common.{◌∙◌, length, arith}
 use Rattle.hh_shared.proofs.Tallies.{all-length}
 use Rattle.hh_pool.proofs.Closed.{each_summary}
 use Rattle.hh_pool.proofs.TableFacts.{whole_table}
-use Rattle.hh_pool.proofs.first.FirstPass.alone.Goals as goal
+use Rattle.hh_pool.proofs.first.FirstPass.sequential.Goals as goal
 
 pub in_order-requires : goal.in_order-requires
 in_order-requires g c known =

@@ -4,7 +4,7 @@
 use crate::fixtures::{assert_same, candidates_of, counter_of, four_items, has_cells, options};
 use crate::meetings::Meeting;
 use hh_counters::Summary;
-use hh_pool::{first_pass_alone, second_pass_alone};
+use hh_pool::{first_pass_sequentially, second_pass_sequentially};
 use hh_shared::{SharedSums, SumSeat};
 use hh_stream::{Cutting, PieceFault};
 use hh_workers::{Pass, found_or_made, run_sequentially};
@@ -66,8 +66,8 @@ fn pieces_that_no_worker_claimed_are_made_alone(rt: HostRuntime) {
         alloc: rt.alloc(),
         count: 3,
     };
-    let alone = run_sequentially(&pass, 2).expect(&rt, "a pass");
-    assert_same(&rt, alone.as_slice(), [20, 21, 22].as_slice());
+    let found = run_sequentially(&pass, 2).expect(&rt, "a pass");
+    assert_same(&rt, found.as_slice(), [20, 21, 22].as_slice());
     let made = found_or_made(&pass, None, 5).expect(&rt, "a pass");
     assert_same(&rt, made.as_slice(), [50, 51, 52].as_slice());
 }
@@ -91,11 +91,11 @@ fn counters_of(rt: &(impl Abort + AllocGlobal), summary: &Summary) -> (u64, u64,
 
 // The four items are cut into a with 5 and b with 3, and c with 2 and a with 1.
 #[test]
-fn first_pass_is_made_alone(rt: HostRuntime) {
+fn first_pass_is_made_sequentially(rt: HostRuntime) {
     let stream = four_items(&rt);
     let cutting = Cutting::even(rt.alloc(), stream.len(), 2).expect(&rt, "pieces");
     let (options, gate) = (options(&rt, 2, 3), Meeting::new(4, 0, 0, 0));
-    let pass = first_pass_alone(rt.alloc(), &stream, &cutting, &options, &gate);
+    let pass = first_pass_sequentially(rt.alloc(), &stream, &cutting, &options, &gate);
     let (summaries, table) = pass.expect(&rt, "a pass");
     assert_same(&rt, gate.first.heard(), (2 << 24, 0x0101));
     let mut counters = Vec::new(rt.alloc());
@@ -107,11 +107,11 @@ fn first_pass_is_made_alone(rt: HostRuntime) {
 }
 
 #[test]
-fn second_pass_is_made_alone(rt: HostRuntime) {
+fn second_pass_is_made_sequentially(rt: HostRuntime) {
     let stream = four_items(&rt);
     let cutting = Cutting::even(rt.alloc(), stream.len(), 2).expect(&rt, "pieces");
     let (candidates, gate) = (candidates_of(&rt, &stream), Meeting::new(4, 0, 0, 0));
-    let pass = second_pass_alone(rt.alloc(), &stream, &cutting, &candidates, &gate, 3);
+    let pass = second_pass_sequentially(rt.alloc(), &stream, &cutting, &candidates, &gate, 3);
     let (weights, total) = pass.expect(&rt, "a pass");
     assert_same(&rt, gate.second.heard(), (2 << 24, 0x0101));
     assert_same(&rt, weights.as_slice(), [6, 3].as_slice());
