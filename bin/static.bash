@@ -1,5 +1,5 @@
 # What bin/release and tests/release.py share, over bin/build.bash and bin/library.bash: `link_static FILE` links the
-# program statically, from the very object that the build linked, which `keep_object` sees to. CC may name the compiler.
+# program statically, from the very object that the build linked. CC may name the compiler.
 # shellcheck shell=bash disable=SC2154
 object="$program/out/heavy_cli.o"
 
@@ -12,11 +12,6 @@ has_object() (
   "$kit/bin/rattle-link" --target x86_64-unknown-linux-gnu --toolchain "$kit/toolchain" -o "$scratch/heavy" "$object" \
     "$kit/c/libos_c.a" "$kit/c/liblibc_c.a" > /dev/null 2>&1 && cmp -s "$scratch/heavy" "$built"
 )
-
-# Builds the program anew where that object is gone, as where a gate took the program from an earlier run.
-keep_object() {
-  has_object || { rm -f "$built"; build_heavy; }
-}
 
 # Whether the compiler links statically.
 links_static() (

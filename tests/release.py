@@ -39,6 +39,8 @@ COMMIT, SECONDS = "0123456789abcdef0123456789abcdef01234567", 1_700_000_000
 TOOLCHAIN = "kit logic 0123"
 PATH = {"PATH": os.environ["PATH"]}
 BUILT = b"#!/bin/sh\necho built\n"
+# Sees to the object that the program was linked of, which is gone where a gate took the program from an earlier run.
+OBJECT = '{ has_object || { rm -f "$built"; build_heavy; }; }'
 # Each notes nothing and does the least that bin/release needs. What a compiler writes is a program that says so.
 STAND_INS = {
     "rt": f'#!/bin/sh\ncase $1 in doc) echo "$KIT/START-HERE.md" ;; version) echo "${{VERSION_LINE:-{TOOLCHAIN}}}" ;; esac\n',
@@ -492,7 +494,7 @@ class Release(programs.Checks):
     def test_real(self) -> None:
         """A release by the real tools, of the built program and library in a clone that is tagged for it: lintian finds
         nothing, and the program runs."""
-        wants = programs.run(script("keep_object && is_library_built"), env=dict(os.environ)).status != 0
+        wants = programs.run(script(f"{OBJECT} && is_library_built"), env=dict(os.environ)).status != 0
         tools = [name for name in ("git", "dpkg-deb", "lintian", "cc", "ar", "strip") if not shutil.which(name)]
         papers = [file for file in PAPERS if not Path(file).exists()]
         modules = subprocess.run(["/usr/bin/python3", "-c", "import setuptools, wheel"], capture_output=True).returncode
@@ -519,7 +521,7 @@ class Release(programs.Checks):
         """The static program, from the object that the build made, in the checks of the program."""
         built = programs.built("heavy_cli")
         for wanted, what in [
-            ("keep_object", "the object that the built program was linked of"),
+            (OBJECT, "the object that the built program was linked of"),
             ("links_static", "a compiler that links statically"),
         ]:
             if programs.run(script(wanted), env=dict(os.environ)).status != 0:
