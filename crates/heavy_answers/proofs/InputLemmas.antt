@@ -59,16 +59,16 @@ every-map f [] = refl
 every-map f (x ∷ xs) = ap (λ rest. option_and_then (λ y. option_map (λ ys. y ∷ ys) rest) (f x)) (every-map f xs)
 
 -- nothing after what is known or not is nothing
-nothing-behind : {B : Type 0} (y : Option B) → option_and_then (λ z. option_map (λ ys. z ∷ ys) None) y ≡ None
-nothing-behind None = refl
-nothing-behind (Some y) = refl
+nothing-after : {B : Type 0} (y : Option B) → option_and_then (λ z. option_map (λ ys. z ∷ ys) None) y ≡ None
+nothing-after None = refl
+nothing-after (Some y) = refl
 
 -- with one of which nothing is known nothing is known of all
 pub every_none : {A B : Type 0} (f : A → Option B) (xs : List A) (x : A) → f x ≡ None → every f (xs ++ x ∷ []) ≡ None
 unfolding every
 every_none f [] x none = ap (λ y. option_and_then (λ z. option_map (λ ys. z ∷ ys) (Some [])) y) none
 every_none f (y ∷ xs) x none =
-    ap (λ rest. option_and_then (λ z. option_map (λ ys. z ∷ ys) rest) (f y)) (every_none f xs x none) ∙ nothing-behind (f y)
+    ap (λ rest. option_and_then (λ z. option_map (λ ys. z ∷ ys) rest) (f y)) (every_none f xs x none) ∙ nothing-after (f y)
 
 -- nothing agrees with all
 agrees : (texts : Option (List (List ℕ))) → Agree texts None

@@ -10,7 +10,7 @@ ghost use Rattle.heavy_answers.specs.Refusals.{CommandFails, FilesFail, IsRefuse
 use crate::host::Host;
 use crate::opening::{keep, open, open_records};
 use crate::single_pass::{SinglePass, in_one_pass};
-use heavy_host::{FileFault, read_file, read_files};
+use heavy_host::{ReadFailure, read_file, read_files};
 use heavy_requests::{Command, Invocation, RecordWords, Request};
 use hh_commands::{Comparison, Method, ask_rows, describe_file, list_rows, merge_bytes};
 use hh_faults::ToolError;
@@ -21,14 +21,14 @@ use std::sync::Wait;
 use std::thread::Threads;
 
 /// Converts the `fault` of reading a saved file into the error that the library gives for it.
-fn fault_of(fault: FileFault) -> ToolError
-    ensures unread { (number : ℕ) → fault ≡ FileFault.Unreadable number
+fn fault_of(fault: ReadFailure) -> ToolError
+    ensures unread { (number : ℕ) → fault ≡ ReadFailure.Unreadable number
         → result ≡ ToolError.FileFault number }
-    ensures memory { fault ≡ FileFault.Memory → result ≡ ToolError.Memory }
+    ensures memory { fault ≡ ReadFailure.Memory → result ≡ ToolError.Memory }
 {
     match fault {
-        FileFault::Unreadable { number } => ToolError::FileFault { number },
-        FileFault::Memory => ToolError::Memory,
+        ReadFailure::Unreadable { number } => ToolError::FileFault { number },
+        ReadFailure::Memory => ToolError::Memory,
     }
 }
 
@@ -52,7 +52,7 @@ fn merged<H: Host>(host: &H, first: &[u8], others: &[Vec<u8>]) -> Result<Vec<u8>
         (first.now ∷ map (λ w. w.items) others.now) (λ files. Refuses (merged_files files))) }
 {
     let files = read_files(host, first, others).map_err(fault_of)?;
-    merge_bytes(host.memory(), &files)
+    merge_bytes(host.alloc(), &files)
 }
 
 /// Makes the whole output of `command`, over the records that `words` name if it reads any. It
@@ -69,7 +69,7 @@ fn bytes_of<T: Threads + Wait + Sync, H: Host>(
     ensures refused { IfErr result (CommandFails (H.gives host.now) (H.opens host.now)
         (H.unopened host.now) command.now words.now compared.old.refuses) }
 {
-    let alloc = host.memory();
+    let alloc = host.alloc();
     match command {
         Command::Summarise { k, method, workers } => {
             let method = Method::of(method)?;
@@ -137,14 +137,14 @@ fn report<T: Threads + Wait + Sync, H: Host, S: Sink>(
         options.now rows.now by_plan words.now (S.taken sink.old) (S.taken sink.new)) }
     ensures flushed { OnOk result (S.is_flushed sink.new ≡ true) }
 {
-    let alloc = host.memory();
+    let alloc = host.alloc();
     if by_plan {
         let records = open_records(host, words, 0)?;
         return Ok(report_rows(threads, alloc, options, rows, records, sink)?);
     }
     let opened = open(host, words, 0)?;
     check_options(options)?;
-    let files = keep(host, opened)?;
+    let files = into_kept(host, opened)?;
     report_files(threads, alloc, options, rows, files.records(), sink)?;
     files.note_last_record(host);
     Ok(())

@@ -38,7 +38,7 @@ pub trait Host: FileSource {
         ensures refused { IfErr result (unopened self.now name.now number) };
 
     /// Whether an open input can be read at any place as it is.
-    fn has_size(&self, input: &Self::Input) -> bool;
+    fn is_disk_file(&self, input: &Self::Input) -> bool;
 
     /// What reads an open input once.
     fn reader(&self, input: Self::Input) -> Self::Reader
@@ -86,8 +86,8 @@ impl<'a> Host for Inputs<'a> {
         Inputs::open(*self, name, number, is_taken)
     }
 
-    fn has_size(&self, input: &OpenInput) -> bool {
-        input.has_size()
+    fn is_disk_file(&self, input: &OpenInput) -> bool {
+        input.is_disk_file()
     }
 
     fn reader(&self, input: OpenInput) -> Reader<'a> {

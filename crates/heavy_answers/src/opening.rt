@@ -19,7 +19,7 @@ use hh_stream::in_range;
 use hh_workers::MAX_WORKERS;
 
 /// Pushes `one` after `others`.
-fn push_behind<T: Drop>(others: &mut Vec<T>, one: T) -> Result<(), ToolError>
+fn push_to<T: Drop>(others: &mut Vec<T>, one: T) -> Result<(), ToolError>
     ensures pushed { OnOk result (others.new.items ≡ others.old.items ++ one ∷ []) }
     ensures refused { IsErr result → result ≡ Err ToolError.Memory }
 {
@@ -45,11 +45,11 @@ fn open_named<H: Host>(host: &H, names: &[Vec<u8>], saved: u64) -> Result<Vec<H:
     ensures refused { IfErr result (λ fault. (fault ≡ ToolError.Memory) ⊎ ((place : ℕ)
         × IsUnopenedAt (H.unopened host.now) (map (λ w. w.items) names.now) saved fault place)) }
 {
-    let mut inputs = Vec::new(host.memory());
+    let mut inputs = Vec::new(host.alloc());
     let mut is_taken = false;
     for (place, name) in names.iter().enumerate() {
         let number = saved.saturating_add(place as u64 + 1);
-        push_behind(&mut inputs, host.open(name, number, is_taken)?)?;
+        push_to(&mut inputs, host.open(name, number, is_taken)?)?;
         is_taken = is_taken_by(is_taken, name);
     }
     Ok(inputs)
@@ -69,8 +69,8 @@ fn open_inputs<H: Host>(
     if !words.files.is_empty() {
         return open_named(host, &words.files, saved);
     }
-    let mut inputs = Vec::new(host.memory());
-    push_behind(&mut inputs, host.open(b"-", 0, false)?)?;
+    let mut inputs = Vec::new(host.alloc());
+    push_to(&mut inputs, host.open(b"-", 0, false)?)?;
     Ok(inputs)
 }
 
@@ -80,7 +80,7 @@ fn layout_on<H: Host>(host: &H, words: &RecordWords) -> Result<Layout, ToolError
     ensures said { IfOk result (SaysLayout words.now.layout) }
     ensures refused { IfErr result (LayoutRefused words.now.layout) }
 {
-    let mut layout = layout_of(host.memory(), &words.layout)?;
+    let mut layout = layout_of(host.alloc(), &words.layout)?;
     layout.hash = host.hash();
     Ok(layout)
 }
@@ -93,11 +93,11 @@ fn sources_of<H: Host>(host: &H, inputs: Vec<H::Input>) -> Result<Vec<H::File>, 
         Agree (every H.text inputs.items) (every H.File.bytes files.items)) }
     ensures refused { IfErr result IsUnkept }
 {
-    let mut files = Vec::new(host.memory());
+    let mut files = Vec::new(host.alloc());
     for input in inputs {
         let file = host.source(input)?;
         let is_whole = host.is_whole(&file);
-        push_behind(&mut files, file)?;
+        push_to(&mut files, file)?;
         if !is_whole {
             return Ok(files);
         }
@@ -107,12 +107,12 @@ fn sources_of<H: Host>(host: &H, inputs: Vec<H::Input>) -> Result<Vec<H::File>, 
 
 /// Files and kept bytes with the layout of their records.
 #[derive(Drop)]
-pub(crate) struct Sources<F> {
+pub(crate) struct KeptRecords<F> {
     layout: Layout,
     files: Vec<F>,
 }
 
-impl<F> Sources<F> {
+impl<F> KeptRecords<F> {
     /// Their records, which workers read.
     pub(crate) fn records(&self) -> SourceRecords<'_, F>
         ensures layout { result.layout.now ≡ self.now.layout }
@@ -158,7 +158,10 @@ pub(crate) fn open<H: Host>(
 }
 
 /// The records of inputs that are open, for one reading, one after the other.
-fn records_of<H: Host>(host: &H, opened: Opened<H::Input>) -> Result<Records<H::Reader>, ToolError>
+fn into_records<H: Host>(
+    host: &H,
+    opened: Opened<H::Input>,
+) -> Result<Records<H::Reader>, ToolError>
     requires some { 0 < length opened.inputs.items }
     ensures layout { IfOk result (λ records. records.layout ≡ opened.layout) }
     ensures texts { IfOk result (λ records. Agree (every H.text opened.inputs.items)
@@ -166,9 +169,9 @@ fn records_of<H: Host>(host: &H, opened: Opened<H::Input>) -> Result<Records<H::
     ensures refused { IsErr result → result ≡ Err ToolError.Memory }
 {
     let Opened { layout, inputs } = opened;
-    let mut readers = Vec::new(host.memory());
+    let mut readers = Vec::new(host.alloc());
     for input in inputs {
-        push_behind(&mut readers, host.reader(input))?;
+        push_to(&mut readers, host.reader(input))?;
     }
     let first = readers.remove(0);
     Ok(Records {
@@ -189,14 +192,14 @@ pub(crate) fn open_records<H: Host>(
     ensures refused { IfErr result (OpenRefused (H.unopened host.now) words.now saved) }
 {
     let opened = open(host, words, saved)?;
-    Ok(records_of(host, opened)?)
+    Ok(into_records(host, opened)?)
 }
 
 /// The records of inputs that are open, for several readings.
-pub(crate) fn keep<H: Host>(
+pub(crate) fn into_kept<H: Host>(
     host: &H,
     opened: Opened<H::Input>,
-) -> Result<Sources<H::File>, ToolError>
+) -> Result<KeptRecords<H::File>, ToolError>
     ensures layout { IfOk result (λ sources. sources.layout ≡ opened.layout) }
     ensures texts { IfOk result (λ sources.
         Agree (every H.text opened.inputs.items) (every H.File.bytes sources.files.items)) }
@@ -204,14 +207,14 @@ pub(crate) fn keep<H: Host>(
 {
     let Opened { layout, inputs } = opened;
     let files = sources_of(host, inputs)?;
-    Ok(Sources { layout, files })
+    Ok(KeptRecords { layout, files })
 }
 
 /// Records that are read once.
 #[derive(Drop)]
 pub(crate) enum OnePass<R, F> {
     /// By workers.
-    Files(Sources<F>),
+    Files(KeptRecords<F>),
     /// By one thread.
     Stream(Records<R>),
 }
@@ -233,14 +236,14 @@ pub(crate) fn open_once<H: Host>(
     ensures refused { IfErr result (OpenRefused (H.unopened host.now) words.now saved) }
 {
     let opened = open(host, words, saved)?;
-    if !is_alone && opened.inputs.iter().all(|input| host.has_size(input)) {
-        return Ok(OnePass::Files(keep(host, opened)?));
+    if !is_alone && opened.inputs.iter().all(|input| host.is_disk_file(input)) {
+        return Ok(OnePass::Files(into_kept(host, opened)?));
     }
     if in_range(workers, MAX_WORKERS) {
-        return Ok(OnePass::Stream(records_of(host, opened)?));
+        return Ok(OnePass::Stream(into_records(host, opened)?));
     }
-    Ok(OnePass::Files(Sources {
+    Ok(OnePass::Files(KeptRecords {
         layout: opened.layout,
-        files: Vec::new(host.memory()),
+        files: Vec::new(host.alloc()),
     }))
 }

@@ -63,7 +63,7 @@ impl<'a> SinglePass<'a> {
 }
 
 /// Answers `command` by workers, of records that can be read at any place.
-fn of_files<T: Threads + Wait + Sync, F: ReadAt + Sync>(
+fn answer_by_workers<T: Threads + Wait + Sync, F: ReadAt + Sync>(
     threads: &T,
     alloc: Global,
     command: &SinglePass<'_>,
@@ -93,7 +93,7 @@ fn of_files<T: Threads + Wait + Sync, F: ReadAt + Sync>(
 }
 
 /// Answers `command` by this thread.
-fn of_stream<R: Read + Drop>(
+fn answer_by_one_thread<R: Read + Drop>(
     alloc: Global,
     command: &SinglePass<'_>,
     workers: u64,
@@ -140,10 +140,23 @@ pub(crate) fn in_one_pass<T: Threads + Wait + Sync, H: Host>(
     match open_once(host, words, saved, workers, is_alone)? {
         OnePass::Files(files) => {
             let records = files.records();
-            let bytes = of_files(threads, host.memory(), command, workers, records, compared)?;
+            let bytes = answer_by_workers(
+                threads,
+                host.alloc(),
+                command,
+                workers,
+                records,
+                compared,
+            )?;
             files.note_last_record(host);
             Ok(bytes)
         }
-        OnePass::Stream(records) => of_stream(host.memory(), command, workers, records, compared),
+        OnePass::Stream(records) => answer_by_one_thread(
+            host.alloc(),
+            command,
+            workers,
+            records,
+            compared,
+        ),
     }
 }

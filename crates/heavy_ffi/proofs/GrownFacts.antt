@@ -159,7 +159,7 @@ module _ (s : SummaryView) (fits : Fits s.k s.total s.counters) where
   }
 
   -- merged with it, it has its counters, and both totals
-  pub merged_behind : (n : ℕ) → merge_of (record { k = s.k; total = n; counters = [] }) s ≡ behind n s
-  merged_behind n =
+  pub merged_after : (n : ℕ) → merge_of (record { k = s.k; total = n; counters = [] }) s ≡ behind n s
+  merged_after n =
       let same = joined_to_none s.counters s.k fits.entries fits.few in
       λ j. record { k = s.k; total = n + s.total; counters = same j }

@@ -142,7 +142,7 @@ fn number_of(fault: &ToolError) -> u64
 
 /// Tells a fault, and gives its status.
 pub(crate) fn tell(refusal: &ToolError, fault: &mut Fault) -> u32
-    ensures told { IsTold result fault.new refusal.now }
+    ensures reported { IsTold result fault.new refusal.now }
 {
     *fault = Fault {
         kind: kind_of(refusal),

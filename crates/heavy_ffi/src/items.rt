@@ -88,7 +88,7 @@ pub(crate) trait ItemsCall: Drop {
 
     /// Makes the bytes that the call gives, from the bytes of a saved `file` and from `items`,
     /// each a key with its weight.
-    fn bytes_by(
+    fn make_bytes(
         self,
         alloc: Global,
         file: &[u8],
@@ -121,7 +121,7 @@ fn bytes_with<C: ItemsCall>(
     ensures early { StopsAtHead 1 file.now result }
 {
     match items_of(alloc, keys, ends, weights) {
-        Ok(items) => call.bytes_by(alloc, file, &items),
+        Ok(items) => call.make_bytes(alloc, file, &items),
         Err(_) => Err(refusal_of(alloc, file)),
     }
 }

@@ -26,7 +26,7 @@ pub(crate) trait LaidCall: Drop {
     ghost wrong: { Self → Option ToolError };
 
     /// What the call gives by the layout.
-    fn bytes_by(self, alloc: Global, layout: &Layout) -> Result<Vec<u8>, ToolError>
+    fn make_bytes(self, alloc: Global, layout: &Layout) -> Result<Vec<u8>, ToolError>
         ensures given { IfOk result (λ bytes. gives self layout.now bytes.items) }
         ensures refused { IfErr result (refuses self layout.now) }
         ensures early { IfSome (wrong self) (λ wrong. result ≡ Err wrong) };
@@ -49,7 +49,7 @@ fn bytes_laid<C: LaidCall>(
         (LaidRefused layout.now (pieces_of lengths.now columns.now) (λ l e. e ≡ wrong))) }
 {
     let layout = layout_of(alloc, layout, columns, lengths)?;
-    call.bytes_by(alloc, &layout)
+    call.make_bytes(alloc, &layout)
 }
 
 /// The answer of a call over records in the room, or its refusal.

@@ -5,6 +5,7 @@
 #![tactic(auto)]
 
 mod fault;
+mod fault_text;
 mod growing;
 mod grown;
 mod hash_words;
@@ -16,7 +17,6 @@ mod layout;
 mod parts;
 mod records;
 mod room;
-mod told;
 mod with_items;
 
 ghost use Rattle.std.specs.Prelude.{◌≡◌, ◌≢◌, ◌<◌, ◌≤◌, ◌⊎◌, [], ◌∷◌, length, map, Ok, Some};

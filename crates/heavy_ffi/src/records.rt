@@ -43,7 +43,7 @@ impl<'t> LaidCall for Summarise<'t> {
 
     ghost wrong = { λ call. bad_k call.k };
 
-    fn bytes_by(self, alloc: Global, layout: &Layout) -> Result<Vec<u8>, ToolError> {
+    fn make_bytes(self, alloc: Global, layout: &Layout) -> Result<Vec<u8>, ToolError> {
         let text = self.text;
         summary_bytes_from(
             alloc,
@@ -98,7 +98,7 @@ impl<'t> LaidCall for Tabulate<'t> {
 
     ghost wrong = { λ call. bad_table call.depth call.width };
 
-    fn bytes_by(self, alloc: Global, layout: &Layout) -> Result<Vec<u8>, ToolError> {
+    fn make_bytes(self, alloc: Global, layout: &Layout) -> Result<Vec<u8>, ToolError> {
         let text = self.text;
         table_bytes_from(
             alloc,
@@ -155,7 +155,7 @@ impl<'t> LaidCall for Add<'t> {
 
     ghost wrong = { λ call. head_refusal call.file.now };
 
-    fn bytes_by(self, alloc: Global, layout: &Layout) -> Result<Vec<u8>, ToolError> {
+    fn make_bytes(self, alloc: Global, layout: &Layout) -> Result<Vec<u8>, ToolError> {
         let text = self.text;
         add_records(alloc, self.file, TextRecords { layout, text })
     }
@@ -201,7 +201,7 @@ impl<'t> LaidCall for Confirm<'t> {
 
     ghost wrong = { λ call. head_refusal call.file.now };
 
-    fn bytes_by(self, alloc: Global, layout: &Layout) -> Result<Vec<u8>, ToolError> {
+    fn make_bytes(self, alloc: Global, layout: &Layout) -> Result<Vec<u8>, ToolError> {
         let text = self.text;
         confirm_bounded(
             alloc,
@@ -256,7 +256,7 @@ impl<'t> LaidCall for Condense<'t> {
 
     ghost wrong = { λ call. head_refusal call.file.now };
 
-    fn bytes_by(self, alloc: Global, layout: &Layout) -> Result<Vec<u8>, ToolError> {
+    fn make_bytes(self, alloc: Global, layout: &Layout) -> Result<Vec<u8>, ToolError> {
         let text = self.text;
         condense_bounded(
             alloc,
@@ -308,7 +308,7 @@ impl<'t> LaidCall for Report<'t> {
 
     ghost wrong = { λ call. bad_report call.k call.share };
 
-    fn bytes_by(self, alloc: Global, layout: &Layout) -> Result<Vec<u8>, ToolError> {
+    fn make_bytes(self, alloc: Global, layout: &Layout) -> Result<Vec<u8>, ToolError> {
         report_bytes(alloc, self.k, self.share, layout, self.text)
     }
 }

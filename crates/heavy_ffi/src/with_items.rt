@@ -30,7 +30,7 @@ impl ItemsCall for Add {
 
     ghost refuses = { λ call file xs. Refuses (added file xs) };
 
-    fn bytes_by(
+    fn make_bytes(
         self,
         alloc: Global,
         file: &[u8],
@@ -81,7 +81,7 @@ impl ItemsCall for Condense {
 
     ghost refuses = { λ call file xs. Refuses (condensed_items file xs) };
 
-    fn bytes_by(
+    fn make_bytes(
         self,
         alloc: Global,
         file: &[u8],
@@ -153,7 +153,7 @@ impl ItemsCall for Confirm {
 
     ghost refuses = { λ call file xs. Refuses (confirmed_items call.share file xs) };
 
-    fn bytes_by(
+    fn make_bytes(
         self,
         alloc: Global,
         file: &[u8],

@@ -1,8 +1,8 @@
 -- Files that are read, and the fault of one that is not.
 use Rattle.std.proofs.Common.{◌≡◌, ◌∙◌, ℕ, suc, ◌+◌, ◌<◌, ◌⊎◌, inl, inr, List, [], ◌∷◌, ◌++◌, Option, Some, None, map, take, length, slice_index_or, sym, ap, subst, arith}
 use Rattle.std.proofs.lemmas.List.{take_more, map-append, length-map, get_or-map}
-use Rattle.heavy_host.specs.declared.files.FileFault.{FileFault}
-use Rattle.heavy_host.specs.declared.files.FileFault.TheVariants.{Unreadable, Memory}
+use Rattle.heavy_host.specs.declared.files.ReadFailure.{ReadFailure}
+use Rattle.heavy_host.specs.declared.files.ReadFailure.TheVariants.{Unreadable, Memory}
 use Rattle.heavy_host.specs.Files.{AreRead, TellsFile}
 
 -- a file more after those that are read
@@ -25,7 +25,7 @@ AreRead-next f gives first xs i d files file less read more =
 
 -- the fault of the next of the other files, by its number
 pub TellsFile-next : {X : Type 0} (f : X → List ℕ) (gives : List ℕ → Option (List ℕ) → Type 0) (first : List ℕ) (xs : List X) (i : ℕ) (d : X)
-    (fault : FileFault) → i < length xs
+    (fault : ReadFailure) → i < length xs
     → (fault ≡ Memory) ⊎ ((fault ≡ Unreadable (i + 2)) × gives (f (slice_index_or xs i d)) None)
     → TellsFile gives (first ∷ map f xs) fault
 TellsFile-next f gives first xs i d fault less (inl memory) = inl memory

@@ -17,7 +17,7 @@ pub enum FileError {
 
 /// Why there are no bytes of several files.
 #[derive(Clone, Copy)]
-pub enum FileFault {
+pub enum ReadFailure {
     /// The file in this place, from 1 on, can't be read.
     Unreadable { number: u64 },
     /// The allocator had no memory.
@@ -35,31 +35,38 @@ pub trait FileSource {
         ensures unread { result ≡ Err FileError.Unreadable → gives self.now name.now None };
 
     /// The memory that the bytes stand in.
-    fn memory(&self) -> Global;
+    fn alloc(&self) -> Global;
 }
 
 /// The bytes of a file with its number, from 1 on.
-pub fn read_file<F: FileSource>(source: &F, number: u64, name: &[u8]) -> Result<Vec<u8>, FileFault>
+pub fn read_file<F: FileSource>(
+    source: &F,
+    number: u64,
+    name: &[u8],
+) -> Result<Vec<u8>, ReadFailure>
     ensures read { IfOk result (λ bytes. F.gives source.now name.now (Some bytes.items)) }
-    ensures fault { IfErr result (λ fault. (fault ≡ FileFault.Memory)
-        ⊎ ((fault ≡ FileFault.Unreadable number) × F.gives source.now name.now None)) }
+    ensures fault { IfErr result (λ fault. (fault ≡ ReadFailure.Memory)
+        ⊎ ((fault ≡ ReadFailure.Unreadable number) × F.gives source.now name.now None)) }
 {
     match source.bytes(name) {
         Ok(bytes) => Ok(bytes),
-        Err(FileError::Unreadable) => Err(FileFault::Unreadable { number }),
-        Err(FileError::Memory) => Err(FileFault::Memory),
+        Err(FileError::Unreadable) => Err(ReadFailure::Unreadable { number }),
+        Err(FileError::Memory) => Err(ReadFailure::Memory),
     }
 }
 
 /// Puts a file after others, if it was read.
-fn push_file(files: &mut Vec<Vec<u8>>, file: Result<Vec<u8>, FileFault>) -> Result<(), FileFault>
+fn push_file(
+    files: &mut Vec<Vec<u8>>,
+    file: Result<Vec<u8>, ReadFailure>,
+) -> Result<(), ReadFailure>
     ensures pushed { OnOk result ((bytes : _) × (file ≡ Ok bytes)
         × (files.new.items ≡ files.old.items ++ bytes ∷ [])) }
-    ensures fault { IfErr result (λ fault. (fault ≡ FileFault.Memory) ⊎ (file ≡ Err fault)) }
+    ensures fault { IfErr result (λ fault. (fault ≡ ReadFailure.Memory) ⊎ (file ≡ Err fault)) }
 {
     match files.push(file?) {
         Ok(()) => Ok(()),
-        Err(_) => Err(FileFault::Memory),
+        Err(_) => Err(ReadFailure::Memory),
     }
 }
 
@@ -68,13 +75,13 @@ pub fn read_files<F: FileSource>(
     source: &F,
     first: &[u8],
     others: &[Vec<u8>],
-) -> Result<Vec<Vec<u8>>, FileFault>
+) -> Result<Vec<Vec<u8>>, ReadFailure>
     ensures read { IfOk result (λ files. AreRead (F.gives source.now)
         (first.now ∷ map (λ w. w.items) others.now) (map (λ f. f.items) files.items)) }
     ensures fault { IfErr result
         (TellsFile (F.gives source.now) (first.now ∷ map (λ w. w.items) others.now)) }
 {
-    let mut files = Vec::new(source.memory());
+    let mut files = Vec::new(source.alloc());
     push_file(&mut files, read_file(source, 1, first))?;
     for (i, name) in others.iter().enumerate() {
         push_file(&mut files, read_file(source, i as u64 + 2, name))?;

@@ -102,7 +102,7 @@ pub fn bytes_of(alloc: Global, text: &str) -> Result<Vec<u8>, AllocError>
 }
 
 /// The words after the first one.
-pub fn behind_first(mut words: Vec<Vec<u8>>) -> Vec<Vec<u8>>
+pub fn after_first(mut words: Vec<Vec<u8>>) -> Vec<Vec<u8>>
     ensures { map (λ w. w.items) result.items ≡ drop 1 (map (λ w. w.items) words.items) }
 {
     if !words.is_empty() {

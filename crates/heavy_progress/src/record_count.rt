@@ -89,7 +89,7 @@ impl RecordCount {
     }
 
     /// Counts the records of a text whose byte order mark was taken before.
-    pub fn behind_mark(delimiter: u8) -> RecordCount {
+    pub fn after_mark(delimiter: u8) -> RecordCount {
         RecordCount {
             delimiter,
             ended: 0,

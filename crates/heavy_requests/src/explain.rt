@@ -51,7 +51,7 @@ pub fn names_records(fault: &ToolError, asked: &Invocation) -> bool {
         return false;
     }
     match fault {
-        ToolError::FileFault { number } => *number > asked.request.saved(),
+        ToolError::FileFault { number } => *number > asked.request.saved_before_records(),
         ToolError::BadRecord { .. } | ToolError::NoColumn => true,
         _ => false,
     }
@@ -137,7 +137,7 @@ fn name_at(names: &[Vec<u8>], place: u64) -> &[u8] {
 }
 
 /// Gives the name of the file `number`, from 1 on: `first`, or else one of the `others`.
-fn name_behind<'a>(first: &'a [u8], others: &'a [Vec<u8>], number: u64) -> &'a [u8] {
+fn name_after<'a>(first: &'a [u8], others: &'a [Vec<u8>], number: u64) -> &'a [u8] {
     match number.checked_sub(2) {
         None => first,
         Some(place) => name_at(others, place),
@@ -155,12 +155,12 @@ fn name_of(asked: &Invocation, number: u64) -> &[u8] {
         Command::Summarise { .. } | Command::Table { .. } => {
             name_at(records, number.saturating_sub(1))
         }
-        Command::Merge { first, others } => name_behind(first, others, number),
+        Command::Merge { first, others } => name_after(first, others, number),
         Command::Ask { file, .. } => file.as_slice(),
         Command::List { file, .. } => file.as_slice(),
         Command::Describe { file } => file.as_slice(),
-        Command::Condense { file, .. } => name_behind(file, records, number),
-        Command::Confirm { file, .. } => name_behind(file, records, number),
+        Command::Condense { file, .. } => name_after(file, records, number),
+        Command::Confirm { file, .. } => name_after(file, records, number),
     }
 }
 

@@ -276,7 +276,7 @@ pub struct OpenInput {
 
 impl OpenInput {
     /// Whether it is a file of the disk that isn't empty, which can be read at any place.
-    pub fn has_size(&self) -> bool {
+    pub fn is_disk_file(&self) -> bool {
         self.size.is_some()
     }
 }
@@ -470,7 +470,7 @@ impl<'a> Inputs<'a> {
 
     /// Whether `name` is a file of the disk that isn't empty. A pipe isn't opened for it, since it
     /// can be opened once.
-    fn has_size(self, name: &[u8]) -> bool {
+    fn is_disk_file(self, name: &[u8]) -> bool {
         match str::from_utf8(name) {
             Ok(path) => !is_standard(name) && self.size_at(path).is_some(),
             Err(_) => false,
@@ -480,12 +480,12 @@ impl<'a> Inputs<'a> {
     /// Whether a command line names files of records, and all of them are files of the disk that
     /// have a size.
     fn have_size(self, words: &RecordWords) -> bool {
-        !words.files.is_empty() && words.files.iter().all(|name| self.has_size(name))
+        !words.files.is_empty() && words.files.iter().all(|name| self.is_disk_file(name))
     }
 
     /// Reads the file `name` of the disk, for a watch.
     fn look_at(self, name: &[u8], number: u64) {
-        if !self.has_size(name) {
+        if !self.is_disk_file(name) {
             return;
         }
         let Ok(file) = self.file(name, number) else {
@@ -501,7 +501,7 @@ impl<'a> Inputs<'a> {
     /// Reads once more, in order, the files that workers have read, where notes on their format are
     /// printed.
     pub fn look(self, asked: &Invocation) {
-        let (words, saved) = (&asked.records, asked.request.saved());
+        let (words, saved) = (&asked.records, asked.request.saved_before_records());
         let has_workers = match asked.request.passes() {
             0 => false,
             1 => self.have_size(words),
@@ -553,7 +553,7 @@ impl<'a> FileSource for Inputs<'a> {
         }
     }
 
-    fn memory(&self) -> Global {
+    fn alloc(&self) -> Global {
         self.rt.alloc()
     }
 }

@@ -69,7 +69,7 @@ struct Search {
     records: RecordCount,
     line: u64,
     /// Whether the last byte was CR, with which a LF is one end of a line.
-    behind_return: bool,
+    after_return: bool,
     /// What came of the record.
     bytes: Vec<u8>,
 }
@@ -78,9 +78,9 @@ impl Search {
     fn new(rt: &HostRuntime, before: u64, delimiter: u8) -> Search {
         Search {
             before,
-            records: RecordCount::behind_mark(delimiter),
+            records: RecordCount::after_mark(delimiter),
             line: 1,
-            behind_return: false,
+            after_return: false,
             bytes: Vec::new(rt.alloc()),
         }
     }
@@ -95,10 +95,10 @@ impl Search {
             self.bytes.push(byte)?;
             return Ok(self.bytes.len() > MOST_KEPT);
         }
-        if byte == b'\r' || (byte == b'\n' && !self.behind_return) {
+        if byte == b'\r' || (byte == b'\n' && !self.after_return) {
             self.line = self.line.saturating_add(1);
         }
-        self.behind_return = byte == b'\r';
+        self.after_return = byte == b'\r';
         Ok(false)
     }
 
@@ -160,7 +160,11 @@ impl<'a> Texts<'a> {
             });
         }
         let name = files.get(place as usize)?;
-        let before = self.asked.request.saved().saturating_add(place);
+        let before = self
+            .asked
+            .request
+            .saved_before_records()
+            .saturating_add(place);
         Some(Text {
             name: name.as_slice(),
             number: before.saturating_add(1),

@@ -17,7 +17,7 @@ use heavy_arguments::{
     ALLOW_ZERO, DECIMALS, DELIMITER, DEPTH, EXPLAIN, HEADER, K, KEY, MEMORY, PIECES, PROGRESS,
     RECORDS, SEED, SHARE, SUMMARY_WORKERS, TOP, WEIGHT, WIDTH, WORKERS, command_line,
 };
-use heavy_host::{WordSource, behind_first, bytes_of, read_words, texts_of};
+use heavy_host::{WordSource, after_first, bytes_of, read_words, texts_of};
 use hh_records::LayoutWords;
 use hh_rows::{ReportOptions, RowOptions, Share, Tree};
 use std::alloc::{AllocError, Global};
@@ -75,7 +75,7 @@ pub enum Request {
 impl Request {
     /// Gives how many saved files the command line names before its files of records. It is 0 for
     /// a command that reads no records, however many saved files it names.
-    pub fn saved(&self) -> u64 {
+    pub fn saved_before_records(&self) -> u64 {
         match self {
             Request::Answer(Command::Condense { .. } | Command::Confirm { .. }) => 1,
             _ => 0,
@@ -260,7 +260,7 @@ fn decimals_of(found: &ArgMatches) -> u8
 }
 
 /// Reads which records are asked for.
-fn records_of(alloc: Global, found: &ArgMatches) -> Result<RecordWords, AllocError>
+fn record_words(alloc: Global, found: &ArgMatches) -> Result<RecordWords, AllocError>
     ensures { IfOk result (AreRecordWords (found_of found.now)) }
 {
     let layout = LayoutWords {
@@ -380,7 +380,7 @@ fn merge(alloc: Global, found: &ArgMatches) -> Result<Request, AllocError>
     ensures { IfOk result (AsksFor (codes "merge") (found_of found.now)) }
 {
     let first = file_named(alloc, found)?;
-    let others = behind_first(words(alloc, found, "FILE")?);
+    let others = after_first(words(alloc, found, "FILE")?);
     Ok(Request::Answer(Command::Merge { first, others }))
 }
 
@@ -463,7 +463,7 @@ fn request_in(alloc: Global, words: &[Vec<u8>]) -> Result<Invocation, UsageError
     };
     Ok(Invocation {
         request: request_of(alloc, name, found)?,
-        records: records_of(alloc, found)?,
+        records: record_words(alloc, found)?,
         tells_progress: found.get_flag(PROGRESS),
         explains: found.get_flag(EXPLAIN),
         memory: MEMORY.of(found),

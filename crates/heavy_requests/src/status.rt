@@ -97,7 +97,7 @@ pub fn status_of(
             let least = if asked.records.files.is_empty() {
                 0
             } else {
-                asked.request.saved().saturating_add(1)
+                asked.request.saved_before_records().saturating_add(1)
             };
             let number = inputs.unread.number().max(least);
             status_explained(inputs, numbered(fault, number), asked, compared)

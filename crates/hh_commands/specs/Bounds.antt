@@ -36,17 +36,17 @@ pub record IsOutside (b : Bounds) (s : SummaryView) (xs : List Entry) (o : Outsi
 
 -- no key is outside its bounds in the items, or where that refuses nothing, such a key is named, if there is one
 abbrev pub TellsOutside : Bool → Bounds → SummaryView → List Entry → Option Outside → Type 0
-TellsOutside refuses b s xs told =
-    MatchOption told (AreWithin b s xs) (λ o. (IsTrue refuses → ⊥) × IsOutside b s xs o)
+TellsOutside refuses b s xs outside =
+    MatchOption outside (AreWithin b s xs) (λ o. (IsTrue refuses → ⊥) × IsOutside b s xs o)
 
 -- so it is with the summary of a file and the stream that the records are
 abbrev pub ComparesBounds : Bool → Bounds → List ℕ → Known → Option Outside → Type 0
-ComparesBounds refuses b file known told =
+ComparesBounds refuses b file known outside =
     (s : SummaryView) × (xs : List Entry) × HoldsSummary file s × ReadsAs known (Ok xs)
-    × TellsOutside refuses b s xs told
+    × TellsOutside refuses b s xs outside
 
 -- a refusal tells a key that is outside its bounds
 abbrev pub RefusesOutside : Bounds → List ℕ → Known → Option Outside → Type 0
-RefusesOutside b file known told =
+RefusesOutside b file known outside =
     (s : SummaryView) × (xs : List Entry) × (o : Outside) × HoldsSummary file s × ReadsAs known (Ok xs)
-    × (told ≡ Some o) × IsOutside b s xs o
+    × (outside ≡ Some o) × IsOutside b s xs o

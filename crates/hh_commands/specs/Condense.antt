@@ -27,10 +27,10 @@ CondenseRefused file known e = RefusedFrom file (λ s. RecordsRefused known) e
 
 -- what a refusal to condense counted items tells: that a key is above its bound, where that refuses, and it is left
 abbrev pub AboveRefused : Bool → SummaryView → List Entry → Comparison → ToolError → Type 0
-AboveRefused refuses s xs told tool.WeightOutside =
-    IsTrue refuses × (o : Outside) × (told.outside ≡ Some o) × IsOutside bounds.High s xs o
-AboveRefused refuses s xs told tool.Memory = ⊤
-AboveRefused refuses s xs told _ = ⊥
+AboveRefused refuses s xs compared tool.WeightOutside =
+    IsTrue refuses × (o : Outside) × (compared.outside ≡ Some o) × IsOutside bounds.High s xs o
+AboveRefused refuses s xs compared tool.Memory = ⊤
+AboveRefused refuses s xs compared _ = ⊥
 
 -- what a refusal of records tells whose keys are compared with their higher bounds: that one is above, where that
 -- refuses, or of the records
@@ -45,5 +45,5 @@ CondensePartRefused refuses file known e = RefusedFrom file (λ s. PartRefused r
 
 -- such a refusal leaves the key that is above its bound
 abbrev pub TellsAbove : List ℕ → Known → Comparison → ToolError → Type 0
-TellsAbove file known told tool.WeightOutside = RefusesOutside bounds.High file known told.outside
-TellsAbove file known told e = ⊤
+TellsAbove file known compared tool.WeightOutside = RefusesOutside bounds.High file known compared.outside
+TellsAbove file known compared e = ⊤

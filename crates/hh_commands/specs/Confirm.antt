@@ -59,12 +59,12 @@ ConfirmsPrinted r share file known rows =
 -- what a refusal to print a summary's keys tells, which were counted in these items: their total is another, and
 -- both are left; or a key is outside its bounds, and it is left
 abbrev pub TextRefused : Bool → SummaryView → List Entry → Comparison → ToolError → Type 0
-TextRefused refuses s xs told tool.TotalDiffers =
-    (s.total ≢ total_of xs) × (told.totals ≡ Some (record { summary = s.total; records = total_of xs }))
-TextRefused refuses s xs told tool.WeightOutside =
-    IsTrue refuses × (s.total ≡ total_of xs) × (o : Outside) × (told.outside ≡ Some o) × IsOutside bounds.Both s xs o
-TextRefused refuses s xs told tool.Memory = ⊤
-TextRefused refuses s xs told _ = ⊥
+TextRefused refuses s xs compared tool.TotalDiffers =
+    (s.total ≢ total_of xs) × (compared.totals ≡ Some (record { summary = s.total; records = total_of xs }))
+TextRefused refuses s xs compared tool.WeightOutside =
+    IsTrue refuses × (s.total ≡ total_of xs) × (o : Outside) × (compared.outside ≡ Some o) × IsOutside bounds.Both s xs o
+TextRefused refuses s xs compared tool.Memory = ⊤
+TextRefused refuses s xs compared _ = ⊥
 
 -- what a refusal to count a summary's keys and to compare them tells: where a key outside its bounds refuses, that
 -- there is one in records of the summary's total; or of the totals, or of the records
@@ -97,8 +97,8 @@ ConfirmAboveRefused share file known e =
 
 -- what a refusal tells of what was compared: both totals, where they differ, and else a key outside its bounds
 abbrev pub TellsCompared : List ℕ → Known → Comparison → ToolError → Type 0
-TellsCompared file known told tool.TotalDiffers =
+TellsCompared file known compared tool.TotalDiffers =
     (s : SummaryView) × (xs : List Entry) × HoldsSummary file s × ReadsAs known (Ok xs)
-    × (told.totals ≡ Some (record { summary = s.total; records = total_of xs }))
-TellsCompared file known told tool.WeightOutside = RefusesOutside bounds.Both file known told.outside
-TellsCompared file known told e = ⊤
+    × (compared.totals ≡ Some (record { summary = s.total; records = total_of xs }))
+TellsCompared file known compared tool.WeightOutside = RefusesOutside bounds.Both file known compared.outside
+TellsCompared file known compared e = ⊤

@@ -53,7 +53,7 @@ pub fn condense_files<T: Threads + Wait + Sync, S: ReadAt + Sync>(
     ensures refused { IfErr result (CondenseFilesRefused compared.old.refuses workers file.now
         (texts_known S.bytes records.entry.layout.now records.entry.sources.now)) }
     ensures workers { OnOk result (in_range workers max_workers ≡ true) }
-    ensures told { IfErr result (TellsAbove file.now
+    ensures explained { IfErr result (TellsAbove file.now
         (texts_known S.bytes records.entry.layout.now records.entry.sources.now) compared.new) }
     ensures early { StopsAtHead 1 file.now result }
 {

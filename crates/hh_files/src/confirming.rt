@@ -55,7 +55,7 @@ pub fn confirm_files<T: Threads + Wait + Sync, S: ReadAt + Sync>(
         (ConfirmFilesRefused compared.old.refuses share.now workers file.now
         (texts_known S.bytes records.entry.layout.now records.entry.sources.now)) }
     ensures workers { OnOk result (in_range workers max_workers ≡ true) }
-    ensures told { IfErr result (TellsCompared file.now
+    ensures explained { IfErr result (TellsCompared file.now
         (texts_known S.bytes records.entry.layout.now records.entry.sources.now) compared.new) }
     ensures early { StopsAtHead 1 file.now result }
 {

@@ -14,7 +14,7 @@ use Rattle.hh_records.specs.Streams.{Fields}
 use Rattle.hh_stream.specs.Cuttings.{whole_of}
 use Rattle.hh_records.specs.Layouts.{delimited}
 use Rattle.hh_pieces.specs.Laws.{FeedsOutsideQuotesAreCuts, PiecesHaveTheRecords}
-use Rattle.hh_pieces.specs.Pieces.{IsCut, begins_with_feed, ends_outside, is_outside, state_behind}
+use Rattle.hh_pieces.specs.Pieces.{IsCut, begins_with_feed, ends_outside, is_outside, state_after}
 
 -- ---- all records of a text, with no bound on their number
 unfoldable pub runs : Config → State → Fields → List ℕ → List ℕ → List Fields
@@ -157,7 +157,7 @@ module _ (d : ℕ) (other : (10 == d) ≡ false) where
   cut-here st.InEscape f p b fresh h = absurd (false≢true h)
   cut-here st.InComment f p b fresh h = absurd (false≢true h)
 
-  runs-cut : (s : State) (f : Fields) (p a b : List ℕ) → Fresh s f p → is_outside (state_behind cfg s a) ≡ true
+  runs-cut : (s : State) (f : Fields) (p a b : List ℕ) → Fresh s f p → is_outside (state_after cfg s a) ≡ true
       → runs cfg s f p (a ++ (10 ∷ b)) ≡ runs cfg s f p a ++ runs cfg st.StartRecord [] [] (10 ∷ b)
   unfolding runs Fresh
   runs-cut s f p [] b fresh h = cut-here s f p b fresh h
@@ -166,7 +166,7 @@ module _ (d : ℕ) (other : (10 == d) ≡ false) where
       one-end (is_end q.1) (fields_after q.1 f p) _ _ _ _ _ (runs-cut q.0 [] [] a b (λ t. (refl, refl)) h)
       (λ e. runs-cut q.0 _ _ a b (fresh-next s f p c q (stays-step cfg s c) e fresh) h)
 
-  records-cut : (a b : List ℕ) → is_outside (state_behind cfg st.StartRecord a) ≡ true
+  records-cut : (a b : List ℕ) → is_outside (state_after cfg st.StartRecord a) ≡ true
       → records cfg (a ++ (10 ∷ b)) ≡ records cfg a ++ records cfg (10 ∷ b)
   unfolding Fresh
   records-cut a b h =
@@ -217,12 +217,12 @@ feed-append (x ∷ b) c h = h
 
 -- a text that ends outside quotes has another byte than a line feed between its fields
 outside-both : (d : ℕ) (bytes : List ℕ) → ends_outside d bytes ≡ true
-    → ((10 == d) ≡ false) × (is_outside (state_behind (delimited d) st.StartRecord (strip_bom bytes)) ≡ true)
+    → ((10 == d) ≡ false) × (is_outside (state_after (delimited d) st.StartRecord (strip_bom bytes)) ≡ true)
 outside-both d bytes h = by (d == 10) refl h
   where
     by : (e : Bool) → (d == 10) ≡ e
-        → not e && is_outside (state_behind (delimited d) st.StartRecord (strip_bom bytes)) ≡ true
-        → ((10 == d) ≡ false) × (is_outside (state_behind (delimited d) st.StartRecord (strip_bom bytes)) ≡ true)
+        → not e && is_outside (state_after (delimited d) st.StartRecord (strip_bom bytes)) ≡ true
+        → ((10 == d) ≡ false) × (is_outside (state_after (delimited d) st.StartRecord (strip_bom bytes)) ≡ true)
     by true e h = absurd (false≢true h)
     by false e h = (ne_eqb 10 d (λ same. eqb-false d 10 e (sym same)), h)
 
@@ -256,15 +256,15 @@ pub outside-more : (d : ℕ) (a b : List ℕ) → IsCut d a b → ends_outside d
 outside-more d a b cut h =
     let (other, outside) = outside-both d a cut.outside in
     let (rest, is) = feed-rest b cut.feed in
-    let start = feed-starts d other (state_behind (delimited d) st.StartRecord (strip_bom a)) outside in
-    let behind : state_behind (delimited d) st.StartRecord (strip_bom (a ++ b)) ≡ state_behind (delimited d) st.StartRecord rest =
-    ap (λ (u : List ℕ). state_behind (delimited d) st.StartRecord (strip_bom (a ++ u))) is
-    ∙ ap (state_behind (delimited d) st.StartRecord) (strip-cut a rest)
+    let start = feed-starts d other (state_after (delimited d) st.StartRecord (strip_bom a)) outside in
+    let behind : state_after (delimited d) st.StartRecord (strip_bom (a ++ b)) ≡ state_after (delimited d) st.StartRecord rest =
+    ap (λ (u : List ℕ). state_after (delimited d) st.StartRecord (strip_bom (a ++ u))) is
+    ∙ ap (state_after (delimited d) st.StartRecord) (strip-cut a rest)
     ∙ fold-append (λ s c. (step (delimited d) s c).0) st.StartRecord (strip_bom a) (10 ∷ rest)
-    ∙ ap (λ s. state_behind (delimited d) s rest) start in
-    let alone : state_behind (delimited d) st.StartRecord (strip_bom b) ≡ state_behind (delimited d) st.StartRecord rest =
-    ap (λ (u : List ℕ). state_behind (delimited d) st.StartRecord (strip_bom u)) is
-    ∙ ap (state_behind (delimited d) st.StartRecord) (strip-line rest) in
+    ∙ ap (λ s. state_after (delimited d) s rest) start in
+    let alone : state_after (delimited d) st.StartRecord (strip_bom b) ≡ state_after (delimited d) st.StartRecord rest =
+    ap (λ (u : List ℕ). state_after (delimited d) st.StartRecord (strip_bom u)) is
+    ∙ ap (state_after (delimited d) st.StartRecord) (strip-line rest) in
     ap (λ s. not (d == 10) && is_outside s) (behind ∙ sym alone) ∙ h
 
 no-records : (d : ℕ) → records (delimited d) (strip_bom []) ≡ []

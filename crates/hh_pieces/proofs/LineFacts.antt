@@ -32,24 +32,24 @@ module _ (d : ℕ) where
 
   -- the record of the first of some lines, after the fields f and the bytes p of the next, and those
   -- of the other lines
-  rows_behind : Fields → List ℕ → List (List ℕ) → List Fields
-  rows_behind f p [] = (f ++ (p ∷ [])) ∷ []
-  rows_behind f p (line ∷ lines) = (f ++ before_first_field p (line_fields d line)) ∷ line_rows d lines
+  rows_after : Fields → List ℕ → List (List ℕ) → List Fields
+  rows_after f p [] = (f ++ (p ∷ [])) ∷ []
+  rows_after f p (line ∷ lines) = (f ++ before_first_field p (line_fields d line)) ∷ line_rows d lines
 
   -- a delimiter ends the field
-  behind-delimiter : (f : Fields) (p : List ℕ) (c : ℕ) (lines : List (List ℕ)) → (c == d) ≡ true
-      → rows_behind (f ++ (p ∷ [])) [] lines ≡ rows_behind f p (onto_first c lines)
-  unfolding rows_behind before_first_field
-  behind-delimiter f p c [] is = rw (is, append-nil p, append_assoc f (p ∷ []) ([] ∷ [])) refl
-  behind-delimiter f p c (line ∷ lines) is =
+  after-delimiter : (f : Fields) (p : List ℕ) (c : ℕ) (lines : List (List ℕ)) → (c == d) ≡ true
+      → rows_after (f ++ (p ∷ [])) [] lines ≡ rows_after f p (onto_first c lines)
+  unfolding rows_after before_first_field
+  after-delimiter f p c [] is = rw (is, append-nil p, append_assoc f (p ∷ []) ([] ∷ [])) refl
+  after-delimiter f p c (line ∷ lines) is =
       rw (is, append-nil p, no-bytes-before line, append_assoc f (p ∷ []) (line_fields d line)) refl
 
   -- any other byte joins it
-  behind-byte : (f : Fields) (p : List ℕ) (c : ℕ) (lines : List (List ℕ)) → (c == d) ≡ false
-      → rows_behind f (p ++ (c ∷ [])) lines ≡ rows_behind f p (onto_first c lines)
-  unfolding rows_behind before_first_field
-  behind-byte f p c [] joins = rw joins refl
-  behind-byte f p c (line ∷ lines) joins = rw joins (by (line_fields d line))
+  after-byte : (f : Fields) (p : List ℕ) (c : ℕ) (lines : List (List ℕ)) → (c == d) ≡ false
+      → rows_after f (p ++ (c ∷ [])) lines ≡ rows_after f p (onto_first c lines)
+  unfolding rows_after before_first_field
+  after-byte f p c [] joins = rw joins refl
+  after-byte f p c (line ∷ lines) joins = rw joins (by (line_fields d line))
     where
       by : (fields : Fields)
           → (f ++ before_first_field (p ++ (c ∷ [])) fields) ∷ line_rows d lines
@@ -65,8 +65,8 @@ module _ (d : ℕ) where
 
   -- in a record: what is read of these bytes, from each of the two states there
   record Inside (xs : List ℕ) : Type 0 where
-    in_field : (f : Fields) (p : List ℕ) → runs cfg st.InField f p xs ≡ rows_behind f p (lines_in xs)
-    start_field : (f : Fields) (p : List ℕ) → runs cfg st.StartField f p xs ≡ rows_behind f p (lines_in xs)
+    in_field : (f : Fields) (p : List ℕ) → runs cfg st.InField f p xs ≡ rows_after f p (lines_in xs)
+    start_field : (f : Fields) (p : List ℕ) → runs cfg st.StartField f p xs ≡ rows_after f p (lines_in xs)
 
   -- between two records
   record Between (xs : List ℕ) : Type 0 where
@@ -87,25 +87,25 @@ module _ (d : ℕ) where
       by true = between.after_cr
       by false = between.start
 
-  rows-begin : (c : ℕ) (lines : List (List ℕ)) → rows_behind [] [] (onto_first c lines) ≡ line_rows d (onto_first c lines)
-  unfolding rows_behind
+  rows-begin : (c : ℕ) (lines : List (List ℕ)) → rows_after [] [] (onto_first c lines) ≡ line_rows d (onto_first c lines)
+  unfolding rows_after
   rows-begin c [] = rw (no-bytes-before (c ∷ [])) refl
   rows-begin c (line ∷ lines) = rw (no-bytes-before (c ∷ line)) refl
 
   module _ (separator : is_line_end d ≡ false) (c : ℕ) (rest : List ℕ) (plain : (c == 34) ≡ false) where
     field-more : Inside rest → Between rest → (f : Fields) (p : List ℕ)
-        → runs cfg st.InField f p (c ∷ rest) ≡ rows_behind f p (lines_in (c ∷ rest))
-    unfolding runs rows_behind before_first_field
+        → runs cfg st.InField f p (c ∷ rest) ≡ rows_after f p (lines_in (c ∷ rest))
+    unfolding runs rows_after before_first_field
     field-more inside between f p = by (c == d) refl (is_line_end c) refl
       where
         by : (a : Bool) → (c == d) ≡ a → (b : Bool) → is_line_end c ≡ b
-            → runs cfg st.InField f p (c ∷ rest) ≡ rows_behind f p (lines_in (c ∷ rest))
+            → runs cfg st.InField f p (c ∷ rest) ≡ rows_after f p (lines_in (c ∷ rest))
         by true is b e =
             let inner : is_line_end c ≡ false = ap is_line_end (eqb-true c d is) ∙ separator in
-            let more = inside.start_field (f ++ (p ∷ [])) [] ∙ behind-delimiter f p c (lines_in rest) is in
+            let more = inside.start_field (f ++ (p ∷ [])) [] ∙ after-delimiter f p c (lines_in rest) is in
             rw (is, inner) more
         by false is true e = rw (is, e, append-nil p, after-end-rows c rest between) refl
-        by false is false e = rw (is, e) (inside.in_field f (p ++ (c ∷ [])) ∙ behind-byte f p c (lines_in rest) is)
+        by false is false e = rw (is, e) (inside.in_field f (p ++ (c ∷ [])) ∙ after-byte f p c (lines_in rest) is)
 
     inside-more : Inside rest → Between rest → Inside (c ∷ rest)
     inside-more inside between =
@@ -126,7 +126,7 @@ module _ (d : ℕ) where
             let first : lines_in (c ∷ rest) ≡ onto_first c (lines_in rest) = rw e refl in
             runs-same st.StartRecord st.InField [] [] c rest begun
             ∙ inside.in_field [] []
-            ∙ ap (rows_behind [] []) first
+            ∙ ap (rows_after [] []) first
             ∙ rows-begin c (lines_in rest)
             ∙ ap (line_rows d) (sym first)
 
@@ -142,7 +142,7 @@ module _ (d : ℕ) where
             runs-same st.AfterCr st.StartRecord [] [] c rest begun ∙ start-more inside between
 
   unquoted-rows : is_line_end d ≡ false → (xs : List ℕ) → IsUnquoted xs → Inside xs × Between xs
-  unfolding runs rows_behind before_first_field
+  unfolding runs rows_after before_first_field
   unquoted-rows separator [] plain = (
     record { in_field = λ f p. rw (append-nil p) refl; start_field = λ f p. rw (append-nil p) refl },
     record { start = refl; after_cr = refl },

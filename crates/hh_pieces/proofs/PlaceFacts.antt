@@ -15,8 +15,8 @@ use Rattle.csv.specs.declared.parser.Terminator.TheVariants as term
 use Rattle.hh_pieces.specs.declared.cuts.QuoteState.{QuoteState}
 use Rattle.hh_pieces.specs.declared.cuts.QuoteState.TheVariants as place
 use Rattle.hh_records.specs.Layouts.{delimited}
-use Rattle.hh_pieces.specs.Pieces.{IsCutAt, begins_with_feed, ends_outside, is_outside, state_behind}
-use Rattle.hh_pieces.specs.Quotes.{IsFeedAt, is_open, mark_len, place_behind, place_next, plain_after}
+use Rattle.hh_pieces.specs.Pieces.{IsCutAt, begins_with_feed, ends_outside, is_outside, state_after}
+use Rattle.hh_pieces.specs.Quotes.{IsFeedAt, is_open, mark_len, place_after, place_next, plain_after}
 use Rattle.hh_pieces.proofs.QuoteFacts.{rest-all}
 
 abbrev place_of : State → QuoteState
@@ -130,7 +130,7 @@ module _ (d : ℕ) where
       by false e = at-start-record c
 
   at-run : (xs : List ℕ) (s : State) (p : QuoteState) → place_of s ≡ p → is_usual s ≡ true
-      → (place_of (state_behind (delimited d) s xs) ≡ fold (place_next d) p xs) × (is_usual (state_behind (delimited d) s xs) ≡ true)
+      → (place_of (state_after (delimited d) s xs) ≡ fold (place_next d) p xs) × (is_usual (state_after (delimited d) s xs) ≡ true)
   unfolding At
   at-run [] s p e u = (e, u)
   at-run (c ∷ xs) s p e u =
@@ -138,9 +138,9 @@ module _ (d : ℕ) where
       at-run xs (step (delimited d) s c).0 (place_next d p c) (h.0 ∙ ap (λ p. place_next d p c) e) h.1
 
   -- a text may be cut where the place after it is outside quotes
-  pub cut-place : (xs : List ℕ) → is_outside (state_behind (delimited d) st.StartRecord xs) ≡ is_open (place_behind d xs)
+  pub cut-place : (xs : List ℕ) → is_outside (state_after (delimited d) st.StartRecord xs) ≡ is_open (place_after d xs)
   cut-place xs =
-      can-outside (state_behind (delimited d) st.StartRecord xs) ∙ ap is_open (at-run xs st.StartRecord place.Start refl refl).0
+      can-outside (state_after (delimited d) st.StartRecord xs) ∙ ap is_open (at-run xs st.StartRecord place.Start refl refl).0
 
 -- ---- the byte order mark
 marked-take : (a b c : ℕ) (rest : List ℕ) (n at : ℕ) → n ≡ 3 + at → is_bom a b c ≡ true
@@ -223,13 +223,13 @@ module _ (d : ℕ) (other : (d == 10) ≡ false) (text : List ℕ) (mark : ℕ) 
   body-at : (at : ℕ) → get_or (drop mark text) at 0 ≡ get_or text (mark + at) 0
   body-at at = get_or-drop mark text at 0
 
-  cut-state : (at : ℕ) → is_outside (state_behind (delimited d) st.StartRecord (strip_bom (take (mark + at) text)))
-      ≡ is_open (place_behind d (take at (drop mark text)))
+  cut-state : (at : ℕ) → is_outside (state_after (delimited d) st.StartRecord (strip_bom (take (mark + at) text)))
+      ≡ is_open (place_after d (take at (drop mark text)))
   cut-state at =
       let sum : mark + at ≡ mark_len text + at = ap (λ m. m + at) is in
-      ap (λ (xs : List ℕ). is_outside (state_behind (delimited d) st.StartRecord xs)) (strip-take text (mark + at) at sum)
+      ap (λ (xs : List ℕ). is_outside (state_after (delimited d) st.StartRecord xs)) (strip-take text (mark + at) at sum)
       ∙ cut-place d (take at (drop (mark_len text) text))
-      ∙ ap (λ m. is_open (place_behind d (take at (drop m text)))) (sym is)
+      ∙ ap (λ m. is_open (place_after d (take at (drop m text)))) (sym is)
 
   cut-from-line : (at : ℕ) → mark + at < length text → IsFeedAt d (drop mark text) at → IsCutAt d text (mark + at)
   cut-from-line at l h = record {
@@ -244,8 +244,8 @@ module _ (d : ℕ) (other : (d == 10) ≡ false) (text : List ℕ) (mark : ℕ) 
   }
 
   -- a cut stands after the mark
-  cut-behind : (k : ℕ) → k < length text → IsCutAt d text k → mark ≤ k
-  cut-behind k l h =
+  cut-after : (k : ℕ) → k < length text → IsCutAt d text k → mark ≤ k
+  cut-after k l h =
       let feed = eqb-true (get_or text k 0) 10 (sym (line-drop text k l) ∙ h.feed) in
       elim (dec_lt k mark) [
         | yes below ↦ absurd (mark-bytes text k (omega (arith, below, is)) feed)
@@ -255,7 +255,7 @@ module _ (d : ℕ) (other : (d == 10) ≡ false) (text : List ℕ) (mark : ℕ) 
   line-at-cut : (k : ℕ) → k < length text → IsCutAt d text k
       → (at : ℕ) × (k ≡ mark + at) × IsFeedAt d (drop mark text) at
   line-at-cut k l h =
-      let behind = cut-behind k l h in
+      let behind = cut-after k l h in
       let at : ℕ = k - mark in
       let same : k ≡ mark + at = omega (arith, behind) in
       (at, same, line-from-cut at (omega (arith, l, same)) (subst (IsCutAt d text) same h))
@@ -285,9 +285,9 @@ module _ (d : ℕ) (other : (d == 10) ≡ false) (text : List ℕ) (mark : ℕ) 
       )
 
   -- whether the text ends outside quotes, by the place after it
-  pub ends-open : (p : QuoteState) → p ≡ place_behind d (slice_range text mark (length text)) → is_open p ≡ ends_outside d text
+  pub ends-open : (p : QuoteState) → p ≡ place_after d (slice_range text mark (length text)) → is_open p ≡ ends_outside d text
   ends-open p h =
-      ap is_open (h ∙ ap (place_behind d) (rest-all text mark ∙ ap (λ m. drop m text) is ∙ sym (strip-drop text)))
+      ap is_open (h ∙ ap (place_after d) (rest-all text mark ∙ ap (λ m. drop m text) is ∙ sym (strip-drop text)))
       ∙ sym (cut-place d (strip_bom text))
       ∙ rw other refl
 

@@ -9,7 +9,7 @@ use native.Mathlib.Decide.{dec_lt}
 use Rattle.memchr.specs.Find.{IsLast, NoneAfter, NoneBefore, Nowhere, Passes, is_byte}
 use Rattle.hh_pieces.specs.declared.cuts.QuoteState.{QuoteState}
 use Rattle.hh_pieces.specs.declared.cuts.QuoteState.TheVariants as place
-use Rattle.hh_pieces.specs.Quotes.{IsFeedAt, NoQuote, is_open, place_behind, place_next, plain_after}
+use Rattle.hh_pieces.specs.Quotes.{IsFeedAt, NoQuote, is_open, place_after, place_next, plain_after}
 
 -- ---- the last place
 -- no place further on
@@ -59,7 +59,7 @@ no-quotes text from l h k a b q =
 -- ---- runs with no quote
 module _ (d : ℕ) where
   place-more : (text : List ℕ) (i : ℕ) → i < length text
-      → place_behind d (take (i + 1) text) ≡ place_next d (place_behind d (take i text)) (get_or text i 0)
+      → place_after d (take (i + 1) text) ≡ place_next d (place_after d (take i text)) (get_or text i 0)
   place-more text i l = fold_more (place_next d) place.Start text i 0 l
 
   next-plain : (p : QuoteState) (c : ℕ) → is_open p ≡ true → (c ≡ 34 → ⊥) → place_next d p c ≡ plain_after d c
@@ -80,29 +80,29 @@ module _ (d : ℕ) where
       by false false = refl
 
   outside-run : (text : List ℕ) (from i k : ℕ) → i ≡ from + k → i ≤ length text → NoQuote text from i
-      → is_open (place_behind d (take from text)) ≡ true → is_open (place_behind d (take i text)) ≡ true
+      → is_open (place_after d (take from text)) ≡ true → is_open (place_after d (take i text)) ≡ true
   outside-run text from i zero e l n o =
       let same : i ≡ from = omega (arith, e) in
-      ap (λ m. is_open (place_behind d (take m text))) same ∙ o
+      ap (λ m. is_open (place_after d (take m text))) same ∙ o
   outside-run text from i (suc k) e l n o =
       let j : ℕ = from + k in
       let same : i ≡ j + 1 = omega (arith, e) in
       let before = outside-run text from j k refl (omega (arith, l, e)) (λ q a b. n q a (omega (arith, b, e))) o in
-      ap (λ m. is_open (place_behind d (take m text))) same
+      ap (λ m. is_open (place_after d (take m text))) same
       ∙ ap is_open (place-more text j (omega (arith, l, e)))
-      ∙ ap is_open (next-plain (place_behind d (take j text)) (get_or text j 0) before (n j (omega arith) (omega (arith, e))))
+      ∙ ap is_open (next-plain (place_after d (take j text)) (get_or text j 0) before (n j (omega arith) (omega (arith, e))))
       ∙ plain-outside (get_or text j 0)
 
   quoted-run : (text : List ℕ) (from i k : ℕ) → i ≡ from + k → i ≤ length text → NoQuote text from i
-      → place_behind d (take from text) ≡ place.Quoted → place_behind d (take i text) ≡ place.Quoted
+      → place_after d (take from text) ≡ place.Quoted → place_after d (take i text) ≡ place.Quoted
   quoted-run text from i zero e l n q =
       let same : i ≡ from = omega (arith, e) in
-      ap (λ m. place_behind d (take m text)) same ∙ q
+      ap (λ m. place_after d (take m text)) same ∙ q
   quoted-run text from i (suc k) e l n q =
       let j : ℕ = from + k in
       let same : i ≡ j + 1 = omega (arith, e) in
       let before = quoted-run text from j k refl (omega (arith, l, e)) (λ r a b. n r a (omega (arith, b, e))) q in
-      ap (λ m. place_behind d (take m text)) same
+      ap (λ m. place_after d (take m text)) same
       ∙ place-more text j (omega (arith, l, e))
       ∙ ap (λ p. place_next d p (get_or text j 0)) before
       ∙ next-quoted (get_or text j 0) (n j (omega arith) (omega (arith, e)))
@@ -115,33 +115,33 @@ module _ (d : ℕ) where
 
   -- a run outside quotes, of a byte at least, comes to the place after its last byte
   pub run-outside : (text : List ℕ) (from to : ℕ) (p : QuoteState) → from < to → to ≤ length text
-      → p ≡ place_behind d (take from text) → NoQuote text from to → is_open p ≡ true
-      → plain_after d (get_or text (to - 1) 0) ≡ place_behind d (take to text)
+      → p ≡ place_after d (take from text) → NoQuote text from to → is_open p ≡ true
+      → plain_after d (get_or text (to - 1) 0) ≡ place_after d (take to text)
   run-outside text from to p some l at n o =
       let j : ℕ = to - 1 in
       let same : to ≡ j + 1 = omega (arith, some) in
       let before = outside-run text from j (j - from) (omega (arith, some)) (omega (arith, l)) (λ q a b. n q a (omega (arith, b)))
       (ap is_open (sym at) ∙ o) in
-      sym (ap (λ m. place_behind d (take m text)) same
+      sym (ap (λ m. place_after d (take m text)) same
       ∙ place-more text j (omega (arith, l, some))
-      ∙ next-plain (place_behind d (take j text)) (get_or text j 0) before (n j (omega (arith, some)) (omega (arith, some))))
+      ∙ next-plain (place_after d (take j text)) (get_or text j 0) before (n j (omega (arith, some)) (omega (arith, some))))
 
   pub run-quoted : (text : List ℕ) (from to : ℕ) (p : QuoteState) → from ≤ to → to ≤ length text
-      → p ≡ place_behind d (take from text) → NoQuote text from to → is_open p ≡ false
-      → p ≡ place_behind d (take to text)
+      → p ≡ place_after d (take from text) → NoQuote text from to → is_open p ≡ false
+      → p ≡ place_after d (take to text)
   run-quoted text from to p order l at n o =
       let is = not-outside p o in
       is ∙ sym (quoted-run text from to (to - from) (omega (arith, order)) l n (sym at ∙ is))
 
   pub run-empty : (text : List ℕ) (from to : ℕ) (p : QuoteState) → from ≤ to → to ≤ from
-      → p ≡ place_behind d (take from text) → p ≡ place_behind d (take to text)
+      → p ≡ place_after d (take from text) → p ≡ place_after d (take to text)
   run-empty text from to p a b at =
       let same : from ≡ to = omega (arith, a, b) in
-      at ∙ ap (λ m. place_behind d (take m text)) same
+      at ∙ ap (λ m. place_after d (take m text)) same
 
   -- in quotes there is no place
   pub line-quoted : (text : List ℕ) (from to : ℕ) (p : QuoteState) (last : Option ℕ) → from ≤ to → to ≤ length text
-      → p ≡ place_behind d (take from text) → NoQuote text from to → is_open p ≡ false
+      → p ≡ place_after d (take from text) → NoQuote text from to → is_open p ≡ false
       → IsLast (IsFeedAt d text) 0 from last → IsLast (IsFeedAt d text) 0 to last
   line-quoted text from to p last order l at n o h =
       last-none (IsFeedAt d text) from to last order h (λ k a b line.
@@ -162,7 +162,7 @@ module _ (d : ℕ) where
 
   -- outside quotes, at the last line feed of a run
   pub line-some : (text : List ℕ) (from to at : ℕ) (p : QuoteState) → from ≤ to → to ≤ length text
-      → p ≡ place_behind d (take from text) → NoQuote text from to → is_open p ≡ true
+      → p ≡ place_after d (take from text) → NoQuote text from to → is_open p ≡ true
       → NoneAfter (Passes (is_byte 10) (slice_range text from to)) 0 (length (slice_range text from to)) at
       → Passes (is_byte 10) (slice_range text from to) at
       → NoneAfter (IsFeedAt d text) 0 to (from + at) × IsFeedAt d text (from + at)

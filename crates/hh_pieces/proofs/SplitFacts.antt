@@ -68,10 +68,10 @@ module _ (test : ℕ → Bool) where
 
 -- ---- texts without CR
 -- what follows in such a text has none either
-pub no-return-behind : (n : ℕ) (text : List ℕ) → HasNoReturn text → HasNoReturn (drop n text)
-no-return-behind zero text none = none
-no-return-behind (suc n) [] none = tt
-no-return-behind (suc n) (c ∷ rest) none = no-return-behind n rest none.1
+pub no-return-after : (n : ℕ) (text : List ℕ) → HasNoReturn text → HasNoReturn (drop n text)
+no-return-after zero text none = none
+no-return-after (suc n) [] none = tt
+no-return-after (suc n) (c ∷ rest) none = no-return-after n rest none.1
 
 -- and its lines end at LF alone
 pub ends-at-feeds : (text : List ℕ) → HasNoReturn text
@@ -153,8 +153,8 @@ module _ (d : ℕ) where
             rw (split-none is_line_end rest run, all, take-length rest, drop_all (length rest + 1) rest (omega arith))
             (sym (append-nil (line_rows d (rest ∷ []))))
 
-    behind-line : drop (end - from + 1) rest ≡ drop (end + 1) text
-    behind-line =
+    after-line : drop (end - from + 1) rest ≡ drop (end + 1) text
+    after-line =
         let at : from + (end - from + 1) ≡ end + 1 = omega (arith, order) in
         drop-drop (end - from + 1) from text ∙ ap (λ n. drop n text) at
 
@@ -164,14 +164,14 @@ module _ (d : ℕ) where
         let none : end - from ≡ 0 = omega (arith, blank) in
         let rows : line_rows d (take (end - from) rest ∷ []) ≡ [] = rw none refl in
         line-first ∙ ap (λ (rs : List Fields). rs ++ split_rows d (drop (end - from + 1) rest)) rows
-        ∙ ap (split_rows d) behind-line
+        ∙ ap (split_rows d) after-line
 
     -- and any other
     pub line-some : from < end
         → split_rows d rest ≡ line_fields d (slice_range text from end) ∷ split_rows d (drop (end + 1) text)
     line-some some =
         line-first ∙ ap (λ (rs : List Fields). rs ++ split_rows d (drop (end - from + 1) rest)) (by (take (end - from) rest) size)
-        ∙ ap (λ (u : List ℕ). line_fields d (take (end - from) rest) ∷ split_rows d u) behind-line
+        ∙ ap (λ (u : List ℕ). line_fields d (take (end - from) rest) ∷ split_rows d u) after-line
       where
         size : 0 < length (take (end - from) rest)
         size = let l = length-take-le (end - from) rest (omega (arith, within, order, length-drop from text)) in omega (arith, l, some)

@@ -16,8 +16,8 @@ use Rattle.hh_faults.specs.declared.records.TextError.TheVariants as text
 
 -- ---- where a text may be cut
 -- the state of csv's machine after these bytes
-abbrev pub state_behind : Config → State → List ℕ → State
-state_behind config s bytes = fold (λ s c. (step config s c).0) s bytes
+abbrev pub state_after : Config → State → List ℕ → State
+state_after config s bytes = fold (λ s c. (step config s c).0) s bytes
 
 -- whether a line feed ends a record in this state, or is skipped between two
 abbrev pub is_outside : State → Bool
@@ -34,7 +34,7 @@ is_outside st.InComment = false
 -- ends a record or is skipped; where the byte is a line feed itself, it ends a field alone
 abbrev pub ends_outside : ℕ → List ℕ → Bool
 ends_outside d bytes =
-    not (d == line_feed) && is_outside (state_behind (delimited d) st.StartRecord (strip_bom bytes))
+    not (d == line_feed) && is_outside (state_after (delimited d) st.StartRecord (strip_bom bytes))
 
 abbrev pub begins_with_feed : List ℕ → Bool
 begins_with_feed [] = false

@@ -20,8 +20,8 @@ abbrev pub place_from : ℕ → QuoteState → List ℕ → QuoteState
 place_from d p bytes = fold (place_next d) p bytes
 
 -- the place after these bytes
-abbrev pub place_behind : ℕ → List ℕ → QuoteState
-place_behind d bytes = place_from d place.Start bytes
+abbrev pub place_after : ℕ → List ℕ → QuoteState
+place_after d bytes = place_from d place.Start bytes
 
 -- whether a line feed ends a record here
 abbrev pub is_open : QuoteState → Bool
@@ -33,7 +33,7 @@ is_open place.Left = true
 -- a line feed that is not in quotes stands here
 pub record IsFeedAt (d : ℕ) (bytes : List ℕ) (i : ℕ) : Type 0 where
   pub feed : slice_index bytes i ≡ 10
-  pub outside : is_open (place_behind d (take i bytes)) ≡ true
+  pub outside : is_open (place_after d (take i bytes)) ≡ true
 
 -- no quote stands from i up to j
 abbrev pub NoQuote : List ℕ → ℕ → ℕ → Type 0

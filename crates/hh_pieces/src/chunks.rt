@@ -60,8 +60,8 @@ fn take_chunk<T: TakeItems>(
     ensures within { IfOk result (λ count. count ≤ length held.now) }
     ensures taken { IfOk result (λ count.
         Takes T.with_item T.weight_taken taker.old taker.new (λ xs.
-        (behind : List ℕ) → LeadsTo layout.now (columns.old, held.now ++ behind) xs
-        (columns.new, drop count held.now ++ behind))) }
+        (rest : List ℕ) → LeadsTo layout.now (columns.old, held.now ++ rest) xs
+        (columns.new, drop count held.now ++ rest))) }
     ensures bounded { IfOk result (λ _. T.weight_taken taker.new ≤ max_total) }
 {
     let Some(count) = whole_records(held, layout.delimiter) else {

@@ -76,7 +76,7 @@ const MOST_READS: usize = MOST_HELD / READ_LEN;
 /// Finds the first line feed at or after `from`, in at most [`MOST_READS`] reads of `source` into
 /// `buffer`. It gives `None` if they show none, the source ends before one, or a read fails.
 fn find_feed<S: ReadAt>(source: &S, buffer: &mut [u8], from: u64) -> Option<u64>
-    ensures behind { IfSome result (λ at. from ≤ at) }
+    ensures after { IfSome result (λ at. from ≤ at) }
     ensures feed { IfSome result (λ at. IfSome (S.bytes source.now) (λ bytes.
         begins_with_feed (drop at bytes) ≡ true)) }
 {

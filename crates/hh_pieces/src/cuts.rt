@@ -4,7 +4,7 @@ ghost use Rattle.std.specs.Prelude.{◌≡◌, ◌≤◌, length, take};
 ghost use Rattle.memchr.specs.Find.{IsLast};
 ghost use Rattle.hh_pieces.specs.Pieces.{IsCutAt, ends_outside};
 ghost use Rattle.hh_pieces.specs.Quotes as spec;
-ghost use Rattle.hh_pieces.specs.Quotes.{IsFeedAt, NoQuote, place_behind};
+ghost use Rattle.hh_pieces.specs.Quotes.{IsFeedAt, NoQuote, place_after};
 
 use memchr::{memchr, memrchr};
 
@@ -58,9 +58,9 @@ fn quote_after(place: QuoteState, delimiter: u8) -> QuoteState
 fn run_after(text: &[u8], from: usize, to: usize, place: QuoteState, delimiter: u8) -> QuoteState
     requires order { from ≤ to }
     requires within { to ≤ length text.now }
-    requires place { place ≡ place_behind delimiter (take from text.now) }
+    requires place { place ≡ place_after delimiter (take from text.now) }
     requires plain { NoQuote text.now from to }
-    ensures { result ≡ place_behind delimiter (take to text.now) }
+    ensures { result ≡ place_after delimiter (take to text.now) }
 {
     if from < to && is_open(place) {
         plain_after(text[to - 1], delimiter)
@@ -80,7 +80,7 @@ fn feed_after(
 ) -> Option<usize>
     requires order { from ≤ to }
     requires within { to ≤ length text.now }
-    requires place { place ≡ place_behind delimiter (take from text.now) }
+    requires place { place ≡ place_after delimiter (take from text.now) }
     requires plain { NoQuote text.now from to }
     requires last { IsLast (IsFeedAt delimiter text.now) 0 from last }
     ensures { IsLast (IsFeedAt delimiter text.now) 0 to result }
@@ -96,7 +96,7 @@ fn feed_after(
 
 /// The place after a text, and the last line feed in it that is outside quotes.
 fn scan(text: &[u8], delimiter: u8) -> (QuoteState, Option<usize>)
-    ensures place { result.0 ≡ place_behind delimiter text.now }
+    ensures place { result.0 ≡ place_after delimiter text.now }
     ensures last { IsLast (IsFeedAt delimiter text.now) 0 (length text.now) result.1 }
 {
     let mut place = QuoteState::Start;

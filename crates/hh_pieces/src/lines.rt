@@ -41,7 +41,7 @@ fn has_no_return(text: &[u8]) -> bool
 fn any_line_end(text: &[u8], from: usize) -> usize
     requires within { from ≤ length text.now }
     ensures end { result ≡ spec.line_end text.now from }
-    ensures behind { from ≤ result }
+    ensures after { from ≤ result }
     ensures within { result ≤ length text.now }
 {
     match memchr2(b'\r', b'\n', &text[from..]) {
@@ -55,7 +55,7 @@ fn feed_line_end(text: &[u8], from: usize) -> usize
     requires within { from ≤ length text.now }
     requires no_return { HasNoReturn text.now }
     ensures end { result ≡ spec.line_end text.now from }
-    ensures behind { from ≤ result }
+    ensures after { from ≤ result }
     ensures within { result ≤ length text.now }
 {
     match memchr(b'\n', &text[from..]) {
@@ -70,7 +70,7 @@ fn line_end(text: &[u8], from: usize, has_no_return: bool) -> usize
     requires within { from ≤ length text.now }
     requires no_return { OnTrue has_no_return (HasNoReturn text.now) }
     ensures end { result ≡ spec.line_end text.now from }
-    ensures behind { from ≤ result }
+    ensures after { from ≤ result }
     ensures within { result ≤ length text.now }
 {
     if has_no_return {

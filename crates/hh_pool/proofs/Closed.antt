@@ -20,7 +20,7 @@ use Rattle.hh_pool.specs.Passes.{items_at, summaries_at, AreFirstPasses, AreSeco
 use Rattle.hh_workers.specs.Workers.{HasEach}
 use Rattle.hh_workers.specs.Pieces.{piece_of}
 use Rattle.hh_pool.proofs.PieceFacts.{sum_by-all_items, weight_of-le, cell_sum-le}
-use Rattle.hh_pool.proofs.Tried.{weight_behind_number}
+use Rattle.hh_pool.proofs.Tried.{weight_at_number}
 
 exact : (n sum : ℕ) → sum ≡ n → n ≤ max_total → sum % 2 ^ 64 ≡ n
 exact n sum e low = omega arith
@@ -77,7 +77,7 @@ closed_weights pieces xs keys seat values whole low p distinct all long each =
     let fits = low (omega (arith, within, long)) in
     each i (omega arith)
     ∙ (exact (weight_of key xs) (cell_total i seat.adds) all_items (omega (arith, fits, weight_of-le key xs))
-    ∙ sym (weight_behind_number keys xs i key at)))
+    ∙ sym (weight_at_number keys xs i key at)))
 
 -- the weights in each piece are those in all items
 pub whole_weights : (pieces : List (List Entry)) (keys : List Bytes) (numbers : List ℕ) → HasEach (length pieces) numbers

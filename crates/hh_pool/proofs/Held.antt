@@ -29,13 +29,13 @@ holds_more settings numbers n kept more was grid s gives f p q = record {
 }
 
 -- only who has claimed a piece has something to add
-pub claim-behind_cell : (settings : Settings) (claims : List ℕ) (kept : List (ℕ × SummaryView)) (grid : TableView)
+pub claim-at_cell : (settings : Settings) (claims : List ℕ) (kept : List (ℕ × SummaryView)) (grid : TableView)
     → HoldsItems settings claims kept grid → (cell : ℕ) → 0 < get_or grid.cells cell 0 → 0 < length claims
-claim-behind_cell settings [] kept grid p cell some =
+claim-at_cell settings [] kept grid p cell some =
     let zeros = all_zero (range_with_len 0 (length settings.family.rows * settings.width)) cell in
     let none = p.table ∙ ap (table_of settings.family settings.width) (p.none refl) in
     absurd (omega (arith, ap (λ g. get_or g.cells cell 0) none, zeros))
-claim-behind_cell settings (i ∷ is) kept grid p cell some = omega arith
+claim-at_cell settings (i ∷ is) kept grid p cell some = omega arith
 
 -- the second pass has counted nothing in no piece
 pub counted_begins : (keys : List Bytes) (counts : Count) → counts ≡ count_of keys [] → HasCounted keys [] counts
@@ -54,12 +54,12 @@ pub counted_known : (gives : List Entry → Type 0) (keys : List Bytes) (before 
     → AreCounted keys (ys ++ piece) more
 counted_known gives keys before more ys piece q e p = subst (λ xs. AreCounted keys (ys ++ xs) more) e (q.on ys p)
 
-pub claim-behind_number : (keys : List Bytes) (claims : List ℕ) (counts : Count) → HasCounted keys claims counts
+pub claim-at_number : (keys : List Bytes) (claims : List ℕ) (counts : Count) → HasCounted keys claims counts
     → (i : ℕ) → 0 < get_or counts.weights i 0 → 0 < length claims
-claim-behind_number keys [] counts p i some =
+claim-at_number keys [] counts p i some =
     let none = p.counted.weights ∙ ap (weights_at keys) (p.none refl) in
     absurd (omega (arith, ap (λ ns. get_or ns i 0) none, all_zero keys i))
-claim-behind_number keys (j ∷ js) counts p i some = omega arith
+claim-at_number keys (j ∷ js) counts p i some = omega arith
 
 -- no keys are counted in any items
 pub still_counted : (keys : List Bytes) (xs piece : List Entry) (counts : Count) → length keys ≡ 0

@@ -196,9 +196,9 @@ second_more pieces keys numbers n more =
     subst (λ xs. AreCounted keys xs more) (sym (items_at-push pieces numbers n))
 
 -- the number at a key's place is the key's weight
-pub weight_behind_number : (keys : List Bytes) (xs : List Entry) (i : ℕ) (key : Bytes) → slice_get keys i ≡ Some key
+pub weight_at_number : (keys : List Bytes) (xs : List Entry) (i : ℕ) (key : Bytes) → slice_get keys i ≡ Some key
     → get_or (weights_at keys xs) i 0 ≡ weight_of key xs
-weight_behind_number keys xs i key at =
+weight_at_number keys xs i key at =
     get_or_from_slice_get (weights_at keys xs) i (weight_of key xs) 0
     (slice_get-map (λ (x : Bytes). weight_of x xs) keys i ∙ ap (option_map (λ (x : Bytes). weight_of x xs)) at)
 
@@ -213,7 +213,7 @@ second_ends pieces keys seat after counts e adds tried p =
     record {
       tried = subst (HasTried (length pieces)) (sym e) tried.tried;
       adds = λ i key at.
-          let weight = weight_behind_number keys (items_at pieces seat.claims) i key at in
+          let weight = weight_at_number keys (items_at pieces seat.claims) i key at in
           let numbers = ap (λ ns. get_or ns i 0) p.weights in
           let items = ap (λ is. weight_of key (items_at pieces is)) claims in
           omega (arith, adds i, ap (cell_total i) tried.none_added, numbers, weight, items);

@@ -195,7 +195,7 @@ pub(crate) fn check_totals(
 ) -> Result<(), PieceFault>
     ensures same { OnOk result (0 < length candidates.now → counted ≡ total) }
     ensures differs { IsErr result → (0 < length candidates.now) × (counted ≢ total) }
-    ensures told { IsErr result → result ≡ Err PieceFault.Refused }
+    ensures refused { IsErr result → result ≡ Err PieceFault.Refused }
 {
     if !candidates.is_empty() && counted != total {
         return Err(PieceFault::Refused);
@@ -303,7 +303,7 @@ fn check_counts(plan: &Plan, count: usize) -> Result<(), RunError>
     ensures some { OnOk result (0 < count) }
     ensures few { OnOk result (count ≤ max_pieces) }
     ensures mismatch { OnErr result (length (leaves plan.now) ≢ count) }
-    ensures told { IsErr result → result ≡ Err RunError.PlanMismatch }
+    ensures refused { IsErr result → result ≡ Err RunError.PlanMismatch }
 {
     if plan.count() != count {
         return Err(RunError::PlanMismatch);

@@ -146,14 +146,14 @@ units-pointed d limit i whole behind f point before is digits is2 =
     rw (point, before, digits, is, is2, one, two) (ap Some (cut-sum (v * 10 ^ d) (w * 10 ^ less) limit))
 
 -- ---- a number, printed and read
-point-behind : (i : ℕ) (ds rest : List ℕ) → list_all is_digit ds ≡ true
+point-after : (i : ℕ) (ds rest : List ℕ) → list_all is_digit ds ≡ true
     → point_from i (ds ++ 46 ∷ rest) ≡ Some (i + length ds)
-point-behind i [] rest h = let same : i ≡ i + 0 = omega arith in ap Some same
-point-behind i (d ∷ ds) rest h = elim (eqb_tells d 46) [
+point-after i [] rest h = let same : i ≡ i + 0 = omega arith in ap Some same
+point-after i (d ∷ ds) rest h = elim (eqb_tells d 46) [
   | inl (e, is) ↦ absurd (cc (rw is at h))
   | inr (e, _) ↦
       let next : i + 1 + length ds ≡ i + length (d ∷ ds) = omega arith in
-      rw e (point-behind (i + 1) ds rest (second (is_digit d) (list_all is_digit ds) h) ∙ ap Some next)
+      rw e (point-after (i + 1) ds rest (second (is_digit d) (list_all is_digit ds) h) ∙ ap Some next)
 ]
 
 value-from : (a : ℕ) (ds : List ℕ) → fold (λ a d. a * 10 + (d - 48)) a ds ≡ a * 10 ^ length ds + value_of ds
@@ -229,7 +229,7 @@ printed_numbers_are_read (suc c) n fits =
     let ds = decimal w in
     let ls = last_digits d n in
     let point : point_from 0 (ds ++ 46 ∷ ls) ≡ Some (length ds) =
-    point-behind 0 ds ls (number-digits 20 ds number) ∙ ap Some (omega arith) in
+    point-after 0 ds ls (number-digits 20 ds number) ∙ ap Some (omega arith) in
     let before : take (length ds) (ds ++ 46 ∷ ls) ≡ ds = take-append_seam ds (46 ∷ ls) in
     let behind : drop (length ds + 1) (ds ++ 46 ∷ ls) ≡ ls = drop-append-add ds (46 ∷ ls) 1 in
     let size = last-long d n in

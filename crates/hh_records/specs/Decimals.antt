@@ -13,8 +13,8 @@ abbrev pub is_whole : List ℕ → Bool
 is_whole text = (length text == 0) || is_number 20 text
 
 -- a text of 1 to d digits, in units of 10^-d
-abbrev pub behind_point : ℕ → List ℕ → ℕ
-behind_point d text = value_of text * 10 ^ (d - length text)
+abbrev pub after_point : ℕ → List ℕ → ℕ
+after_point d text = value_of text * 10 ^ (d - length text)
 
 -- the units of 10^-d that a text writes whose first point, where it has one, stands at this place: it
 -- is 1 to 20 digits or, with 1 to d digits after the point, at most 20
@@ -22,7 +22,7 @@ abbrev pub units_at : ℕ → List ℕ → Option ℕ → Option ℕ
 units_at d text None = if is_number 20 text then Some (value_of text * 10 ^ d) else None
 units_at d text (Some i) =
     if is_whole (take i text) && is_number d (drop (i + 1) text)
-    then Some (value_of (take i text) * 10 ^ d + behind_point d (drop (i + 1) text)) else None
+    then Some (value_of (take i text) * 10 ^ d + after_point d (drop (i + 1) text)) else None
 
 -- the weight that a field writes in units of 10^-d, and that of 1 where there is none
 abbrev pub units_of : ℕ → Option (List ℕ) → Option ℕ

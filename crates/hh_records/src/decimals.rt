@@ -57,9 +57,9 @@ fn pointed_in(field: &[u8], decimals: u8) -> Option<u64>
     }
     let place = point_in(field)?;
     let whole = whole_in(&field[..place])?;
-    let behind = &field[place + 1..];
-    let units = number_in(behind, decimals as usize)?;
-    let missing = decimals - behind.len() as u8;
+    let fraction = &field[place + 1..];
+    let units = number_in(fraction, decimals as usize)?;
+    let missing = decimals - fraction.len() as u8;
     Some(scaled(whole, decimals).saturating_add(scaled(units, missing)))
 }
 

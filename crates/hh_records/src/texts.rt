@@ -57,7 +57,7 @@ fn rows_of<R: Read>(alloc: Global, reader: R, layout: &Layout) -> Reader<Retryin
 
 /// Reads the header of a text, by which the places of its columns are chosen. A text that has no
 /// record has no header either, and nothing is chosen for it.
-fn behind_header<R: Read>(
+fn after_header<R: Read>(
     alloc: Global,
     rows: &mut Reader<Retrying<R>>,
     layout: &Layout,
@@ -108,7 +108,7 @@ pub fn open<R: Read + Drop>(
 {
     let mut rows = rows_of(alloc, reader, layout);
     if layout.has_header {
-        return match behind_header(alloc, &mut rows, layout) {
+        return match after_header(alloc, &mut rows, layout) {
             Ok(Some(chosen)) => Ok(Some(Text { rows, chosen })),
             Ok(None) => Ok(None),
             Err(error) => Err(error),

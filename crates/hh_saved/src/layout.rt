@@ -8,7 +8,7 @@ ghost use Rattle.hh_saved.specs.Sizes.{LiesIn, entry_in};
 ghost use Rattle.hh_saved.specs.Spelling.{Spells, len_width};
 
 use crate::format::Version;
-use crate::reading::version_of;
+use crate::reading::take_version;
 use hh_summaries::Summary;
 use std::alloc::{AllocError, Global};
 
@@ -35,7 +35,7 @@ pub fn places(alloc: Global, bytes: &[u8], summary: &Summary) -> Result<Vec<Plac
         map (entry_in bytes.now) places.items ≡ summary.now.counters) }
     ensures within { IfOk result (λ places. All (LiesIn bytes.now) places.items) }
 {
-    let Ok((version, _)) = version_of(bytes) else {
+    let Ok((version, _)) = take_version(bytes) else {
         unreachable!()
     };
     places_in(alloc, version, bytes, summary)

@@ -38,15 +38,15 @@ pub fn read(alloc: Global, bytes: &[u8]) -> Result<Saved, SavedFault>
     // A fault before any memory is taken is found whatever the memory.
     ensures early { (fault : SavedFault) → head_at bytes.now ≡ Err fault → result ≡ Err fault }
 {
-    all_of(alloc, bytes)
+    read_all(alloc, bytes)
 }
 
 #[tactic(auto, unfolding(crate::specs::Reading::saved_of))]
-fn all_of(alloc: Global, bytes: &[u8]) -> Result<Saved, SavedFault>
+fn read_all(alloc: Global, bytes: &[u8]) -> Result<Saved, SavedFault>
     ensures all { Gives (λ v. v) result (saved_of bytes.now) }
     ensures early { StopsAt result (head_at bytes.now) }
 {
-    let (saved, rest) = value_of(alloc, bytes)?;
+    let (saved, rest) = take_value(alloc, bytes)?;
     if !rest.is_empty() {
         return Err(SavedFault::Trailing);
     }
@@ -54,21 +54,21 @@ fn all_of(alloc: Global, bytes: &[u8]) -> Result<Saved, SavedFault>
 }
 
 #[tactic(auto, unfolding(crate::specs::Reading::value_at, crate::specs::Reading::head_at))]
-fn value_of(alloc: Global, bytes: &[u8]) -> Result<(Saved, &[u8]), SavedFault>
+fn take_value(alloc: Global, bytes: &[u8]) -> Result<(Saved, &[u8]), SavedFault>
     ensures value { Gives (λ x. (x.0, x.1.now)) result (value_at bytes.now) }
     ensures early { StopsAt result (head_at bytes.now) }
 {
-    let (version, rest) = version_of(bytes)?;
-    let (kind, rest) = u8_of(rest)?;
-    body_of(alloc, version, kind, rest)
+    let (version, rest) = take_version(bytes)?;
+    let (kind, rest) = take_u8(rest)?;
+    take_body(alloc, version, kind, rest)
 }
 
 // Reads the magic, and gives the version that it names with the bytes after it.
 #[tactic(auto, unfolding(crate::specs::Reading::version_at))]
-pub(crate) fn version_of(bytes: &[u8]) -> Result<(Version, &[u8]), SavedFault>
+pub(crate) fn take_version(bytes: &[u8]) -> Result<(Version, &[u8]), SavedFault>
     ensures { Reads (λ x. (x.0, x.1.now)) result (version_at bytes.now) }
 {
-    let (magic, rest) = u32_of(bytes)?;
+    let (magic, rest) = take_u32(bytes)?;
     if magic == Version::One.magic() {
         return Ok((Version::One, rest));
     }
@@ -79,7 +79,7 @@ pub(crate) fn version_of(bytes: &[u8]) -> Result<(Version, &[u8]), SavedFault>
 }
 
 #[tactic(auto, unfolding(crate::specs::Reading::body_at, crate::specs::Reading::body_head_at))]
-fn body_of(
+fn take_body(
     alloc: Global,
     version: Version,
     kind: u8,
@@ -89,11 +89,11 @@ fn body_of(
     ensures early { StopsAt result (body_head_at version kind bytes.now) }
 {
     if kind == COUNTERS {
-        let (summary, rest) = summary_of(alloc, version, bytes)?;
+        let (summary, rest) = take_summary(alloc, version, bytes)?;
         return Ok((Saved::Counters(summary), rest));
     }
     if kind == CELLS {
-        let (table, rest) = table_of(alloc, bytes)?;
+        let (table, rest) = take_table(alloc, bytes)?;
         return Ok((Saved::Cells(table), rest));
     }
     Err(SavedFault::BadKind)
@@ -101,7 +101,7 @@ fn body_of(
 
 // ---- fields: each function reads one at the front of `bytes`, and gives it with those after it
 
-fn bytes_of(len: usize, bytes: &[u8]) -> Result<(&[u8], &[u8]), SavedFault>
+fn take_bytes(len: usize, bytes: &[u8]) -> Result<(&[u8], &[u8]), SavedFault>
     ensures { Reads (λ x. (x.0.now, x.1.now)) result (bytes_at len bytes.now) }
 {
     if bytes.len() < len {
@@ -110,37 +110,37 @@ fn bytes_of(len: usize, bytes: &[u8]) -> Result<(&[u8], &[u8]), SavedFault>
     Ok(bytes.split_at(len))
 }
 
-fn u8_of(bytes: &[u8]) -> Result<(u8, &[u8]), SavedFault>
+fn take_u8(bytes: &[u8]) -> Result<(u8, &[u8]), SavedFault>
     ensures { Reads (λ x. (x.0, x.1.now)) result (number_at w8 bytes.now) }
 {
-    let (front, rest) = bytes_of(1, bytes)?;
+    let (front, rest) = take_bytes(1, bytes)?;
     Ok((front[0], rest))
 }
 
-fn u16_of(bytes: &[u8]) -> Result<(u16, &[u8]), SavedFault>
+fn take_u16(bytes: &[u8]) -> Result<(u16, &[u8]), SavedFault>
     ensures { Reads (λ x. (x.0, x.1.now)) result (number_at w16 bytes.now) }
 {
-    let (front, rest) = bytes_of(2, bytes)?;
+    let (front, rest) = take_bytes(2, bytes)?;
     Ok((u16::from_be_bytes([front[0], front[1]]), rest))
 }
 
-fn u32_of(bytes: &[u8]) -> Result<(u32, &[u8]), SavedFault>
+fn take_u32(bytes: &[u8]) -> Result<(u32, &[u8]), SavedFault>
     ensures { Reads (λ x. (x.0, x.1.now)) result (number_at w32 bytes.now) }
 {
-    let (front, rest) = bytes_of(4, bytes)?;
+    let (front, rest) = take_bytes(4, bytes)?;
     let number = u32::from_be_bytes([front[0], front[1], front[2], front[3]]);
     Ok((number, rest))
 }
 
-fn u64_of(bytes: &[u8]) -> Result<(u64, &[u8]), SavedFault>
+fn take_u64(bytes: &[u8]) -> Result<(u64, &[u8]), SavedFault>
     ensures { Reads (λ x. (x.0, x.1.now)) result (number_at w64 bytes.now) }
 {
-    let (front, rest) = bytes_of(8, bytes)?;
-    Ok((number_of(front), rest))
+    let (front, rest) = take_bytes(8, bytes)?;
+    Ok((number_in(front), rest))
 }
 
 // The number that 8 bytes are.
-fn number_of(block: &[u8]) -> u64
+fn number_in(block: &[u8]) -> u64
     requires { length block.now ≡ 8 }
     ensures { result ≡ from_be_bytes w64 block.now }
 {
@@ -149,10 +149,10 @@ fn number_of(block: &[u8]) -> u64
     ])
 }
 
-fn total_of(bytes: &[u8]) -> Result<(u64, &[u8]), SavedFault>
+fn take_total(bytes: &[u8]) -> Result<(u64, &[u8]), SavedFault>
     ensures { Reads (λ x. (x.0, x.1.now)) result (total_at bytes.now) }
 {
-    let (total, rest) = u64_of(bytes)?;
+    let (total, rest) = take_u64(bytes)?;
     if total > MAX_TOTAL {
         return Err(SavedFault::TotalTooLarge);
     }
@@ -162,27 +162,27 @@ fn total_of(bytes: &[u8]) -> Result<(u64, &[u8]), SavedFault>
 // ---- a counter summary
 
 // Reads the field that holds a key's length: one byte in version 1, two in version 2.
-fn len_field_of(version: Version, bytes: &[u8]) -> Result<(usize, &[u8]), SavedFault>
+fn take_len_field(version: Version, bytes: &[u8]) -> Result<(usize, &[u8]), SavedFault>
     ensures { Reads (λ x. (x.0, x.1.now)) result (number_at (len_width version) bytes.now) }
 {
     match version {
         Version::One => {
-            let (len, rest) = u8_of(bytes)?;
+            let (len, rest) = take_u8(bytes)?;
             Ok((usize::from(len), rest))
         }
         Version::Two => {
-            let (len, rest) = u16_of(bytes)?;
+            let (len, rest) = take_u16(bytes)?;
             Ok((usize::from(len), rest))
         }
     }
 }
 
 // Reads the length of a key, in bytes: 1 to the most that `version` allows.
-fn len_of(version: Version, bytes: &[u8]) -> Result<(usize, &[u8]), SavedFault>
+fn take_len(version: Version, bytes: &[u8]) -> Result<(usize, &[u8]), SavedFault>
     ensures len { Reads (λ x. (x.0, x.1.now)) result (len_at version bytes.now) }
     ensures key { IfOk result (λ x. (0 < x.0) × (x.0 ≤ max_key_len)) }
 {
-    let (len, rest) = len_field_of(version, bytes)?;
+    let (len, rest) = take_len_field(version, bytes)?;
     if len == 0 || len > version.max_len() {
         return Err(SavedFault::BadKey);
     }
@@ -190,7 +190,7 @@ fn len_of(version: Version, bytes: &[u8]) -> Result<(usize, &[u8]), SavedFault>
 }
 
 #[tactic(auto, unfolding(crate::specs::Reading::key_at))]
-fn key_of<'a>(
+fn take_key<'a>(
     version: Version,
     before: &[u8],
     bytes: &'a [u8],
@@ -198,8 +198,8 @@ fn key_of<'a>(
     ensures key { Reads (λ x. (x.0.now, x.1.now)) result (key_at version before.now bytes.now) }
     ensures len { IfOk result (λ x. (0 < length x.0.now) × (length x.0.now ≤ max_key_len)) }
 {
-    let (len, rest) = len_of(version, bytes)?;
-    let (key, rest) = bytes_of(len, rest)?;
+    let (len, rest) = take_len(version, bytes)?;
+    let (key, rest) = take_bytes(len, rest)?;
     if !before.cmp(key).is_lt() {
         return Err(SavedFault::KeyOrder);
     }
@@ -208,7 +208,7 @@ fn key_of<'a>(
 
 // The fields of an entry, all of which are read before its key takes memory.
 #[tactic(auto, unfolding(crate::specs::Reading::entry_at))]
-fn fields_of<'a>(
+fn take_fields<'a>(
     version: Version,
     before: &[u8],
     left: u64,
@@ -219,8 +219,8 @@ fn fields_of<'a>(
     ensures left { IfOk result (λ x. x.0.1 ≤ left) }
     ensures len { IfOk result (λ x. (0 < length x.0.0.now) × (length x.0.0.now ≤ max_key_len)) }
 {
-    let (key, rest) = key_of(version, before, bytes)?;
-    let (counter, rest) = u64_of(rest)?;
+    let (key, rest) = take_key(version, before, bytes)?;
+    let (counter, rest) = take_u64(rest)?;
     if counter == 0 {
         return Err(SavedFault::BadCounter);
     }
@@ -230,7 +230,7 @@ fn fields_of<'a>(
     Ok(((key, counter), rest))
 }
 
-fn entry_of<'a>(
+fn take_entry<'a>(
     alloc: Global,
     version: Version,
     before: &[u8],
@@ -242,7 +242,7 @@ fn entry_of<'a>(
     ensures left { IfOk result (λ x. x.0.1 ≤ left) }
     ensures early { StopsAt result (entry_at version before.now left bytes.now) }
 {
-    let ((key, counter), rest) = fields_of(version, before, left, bytes)?;
+    let ((key, counter), rest) = take_fields(version, before, left, bytes)?;
     let key = Key::of_bytes(alloc, key)?;
     Ok(((key, counter), rest))
 }
@@ -257,7 +257,7 @@ fn last_key(entries: &[(Key, u64)]) -> &[u8]
     }
 }
 
-fn entries_of(
+fn take_entries(
     alloc: Global,
     version: Version,
     count: u64,
@@ -272,7 +272,7 @@ fn entries_of(
     let mut left = total;
     let mut rest = bytes;
     for _ in 0..count {
-        let (entry, after) = entry_of(alloc, version, last_key(&entries), left, rest)?;
+        let (entry, after) = take_entry(alloc, version, last_key(&entries), left, rest)?;
         left -= entry.1;
         entries.push(entry)?;
         rest = after;
@@ -280,10 +280,10 @@ fn entries_of(
     Ok((entries, rest))
 }
 
-fn k_of(bytes: &[u8]) -> Result<(u16, &[u8]), SavedFault>
+fn take_k(bytes: &[u8]) -> Result<(u16, &[u8]), SavedFault>
     ensures { Reads (λ x. (x.0, x.1.now)) result (k_at bytes.now) }
 {
-    let (k, rest) = u16_of(bytes)?;
+    let (k, rest) = take_u16(bytes)?;
     if k == 0 {
         return Err(SavedFault::BadK);
     }
@@ -291,10 +291,10 @@ fn k_of(bytes: &[u8]) -> Result<(u16, &[u8]), SavedFault>
 }
 
 // Reads how many counters there are, which is at most `k`.
-fn count_of(k: u16, bytes: &[u8]) -> Result<(u16, &[u8]), SavedFault>
+fn take_count(k: u16, bytes: &[u8]) -> Result<(u16, &[u8]), SavedFault>
     ensures { Reads (λ x. (x.0, x.1.now)) result (count_at k bytes.now) }
 {
-    let (count, rest) = u16_of(bytes)?;
+    let (count, rest) = take_u16(bytes)?;
     if count > k {
         return Err(SavedFault::BadCount);
     }
@@ -302,14 +302,18 @@ fn count_of(k: u16, bytes: &[u8]) -> Result<(u16, &[u8]), SavedFault>
 }
 
 #[tactic(auto, unfolding(crate::specs::Reading::sketch_at, crate::specs::Reading::sketch_head_at))]
-fn summary_of(alloc: Global, version: Version, bytes: &[u8]) -> Result<(Summary, &[u8]), SavedFault>
+fn take_summary(
+    alloc: Global,
+    version: Version,
+    bytes: &[u8],
+) -> Result<(Summary, &[u8]), SavedFault>
     ensures summary { Gives (λ x. (x.0, x.1.now)) result (sketch_at version bytes.now) }
     ensures early { StopsAt result (sketch_head_at version bytes.now) }
 {
-    let (k, rest) = k_of(bytes)?;
-    let (total, rest) = total_of(rest)?;
-    let (count, rest) = count_of(k, rest)?;
-    let (entries, rest) = entries_of(alloc, version, u64::from(count), total, rest)?;
+    let (k, rest) = take_k(bytes)?;
+    let (total, rest) = take_total(rest)?;
+    let (count, rest) = take_count(k, rest)?;
+    let (entries, rest) = take_entries(alloc, version, u64::from(count), total, rest)?;
     Ok((Summary::from_entries(u64::from(k), total, entries), rest))
 }
 
@@ -321,11 +325,11 @@ fn pair_in(block: &[u8]) -> (u64, u64)
     ensures { result ≡ pair_of block.now }
 {
     let (first, second) = block.split_at(8);
-    (number_of(first), number_of(second))
+    (number_in(first), number_in(second))
 }
 
 // The coefficients of `depth` rows.
-fn pairs_of(alloc: Global, depth: usize, bytes: &[u8]) -> Result<Vec<(u64, u64)>, AllocError>
+fn pairs_in(alloc: Global, depth: usize, bytes: &[u8]) -> Result<Vec<(u64, u64)>, AllocError>
     requires { length bytes.now ≡ 16 * depth }
     ensures { IfOk result (λ rows. rows.items ≡ blocks_in pair_of 16 depth bytes.now) }
 {
@@ -337,15 +341,15 @@ fn pairs_of(alloc: Global, depth: usize, bytes: &[u8]) -> Result<Vec<(u64, u64)>
 }
 
 #[tactic(auto, unfolding(crate::specs::Reading::family_at))]
-fn family_of(alloc: Global, depth: usize, bytes: &[u8]) -> Result<(Family, &[u8]), SavedFault>
+fn take_family(alloc: Global, depth: usize, bytes: &[u8]) -> Result<(Family, &[u8]), SavedFault>
     requires { in_range depth max_depth ≡ true }
     ensures family { Gives (λ x. (x.0, x.1.now)) result (family_at depth bytes.now) }
     ensures early { StopsAt result (bytes_at (8 + 16 * depth) bytes.now) }
 {
-    let (field, rest) = bytes_of(8 + 16 * depth, bytes)?;
+    let (field, rest) = take_bytes(8 + 16 * depth, bytes)?;
     let (first, others) = field.split_at(8);
-    let rows = pairs_of(alloc, depth, others)?;
-    let z = number_of(first);
+    let rows = pairs_in(alloc, depth, others)?;
+    let z = number_in(first);
     if !Family::are_coefficients(z, &rows) {
         return Err(SavedFault::BadCoefficient);
     }
@@ -359,13 +363,13 @@ fn push_cells(cells: &mut Vec<u64>, width: usize, bytes: &[u8]) -> Result<(), Al
 {
     cells.reserve(width)?;
     for i in 0..width {
-        cells.push(number_of(&bytes[8 * i..8 * i + 8]))?;
+        cells.push(number_in(&bytes[8 * i..8 * i + 8]))?;
     }
     Ok(())
 }
 
 #[tactic(auto, unfolding(crate::specs::Reading::row_at))]
-fn row_of<'a>(
+fn take_row<'a>(
     cells: &mut Vec<u64>,
     width: usize,
     total: u64,
@@ -375,7 +379,7 @@ fn row_of<'a>(
     ensures { Gives (λ rest. (cells.new.items, rest.now)) result
         (with_front cells.old.items (row_at width total bytes.now)) }
 {
-    let (field, rest) = bytes_of(8 * width, bytes)?;
+    let (field, rest) = take_bytes(8 * width, bytes)?;
     let start = cells.len();
     push_cells(cells, width, field)?;
     if !sums_to(&cells[start..], total) {
@@ -384,7 +388,7 @@ fn row_of<'a>(
     Ok(rest)
 }
 
-fn rows_of(
+fn take_rows(
     alloc: Global,
     depth: u64,
     width: usize,
@@ -397,28 +401,28 @@ fn rows_of(
     let mut cells = Vec::new(alloc);
     let mut rest = bytes;
     for _ in 0..depth {
-        rest = row_of(&mut cells, width, total, rest)?;
+        rest = take_row(&mut cells, width, total, rest)?;
     }
     Ok((cells, rest))
 }
 
 #[tactic(auto, unfolding(crate::specs::Reading::grid_at, crate::specs::Reading::grid_head_at))]
-fn table_of(alloc: Global, bytes: &[u8]) -> Result<(Table, &[u8]), SavedFault>
+fn take_table(alloc: Global, bytes: &[u8]) -> Result<(Table, &[u8]), SavedFault>
     ensures table { Gives (λ x. (x.0, x.1.now)) result (grid_at bytes.now) }
     ensures early { StopsAt result (grid_head_at bytes.now) }
 {
-    let (width, rest) = u32_of(bytes)?;
+    let (width, rest) = take_u32(bytes)?;
     let width = u64::from(width);
     if !in_range(width, MAX_WIDTH) {
         return Err(SavedFault::BadWidth);
     }
-    let (depth, rest) = u8_of(rest)?;
+    let (depth, rest) = take_u8(rest)?;
     let depth = u64::from(depth);
     if !in_range(depth, MAX_DEPTH) {
         return Err(SavedFault::BadDepth);
     }
-    let (family, rest) = family_of(alloc, depth as usize, rest)?;
-    let (total, rest) = total_of(rest)?;
-    let (cells, rest) = rows_of(alloc, depth, width as usize, total, rest)?;
+    let (family, rest) = take_family(alloc, depth as usize, rest)?;
+    let (total, rest) = take_total(rest)?;
+    let (cells, rest) = take_rows(alloc, depth, width as usize, total, rest)?;
     Ok((Table::from_cells(family, width, total, cells), rest))
 }

@@ -73,7 +73,7 @@ pub fn add_all(
 /// Lowers all counters if there are more keys than `room` has, or too many bytes of keys, which
 /// together have `bytes`. It gives what was taken from each counter, 0 if there is room, and how
 /// many bytes the keys that are left have. After an error `index` is as it was.
-pub fn settle(
+pub fn lower_if_over(
     alloc: Global,
     index: &mut IndexMap<Key, u64, KeyHash>,
     room: &Room,

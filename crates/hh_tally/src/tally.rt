@@ -10,7 +10,7 @@ ghost use Rattle.hh_summaries.specs.Counters.{IsHonest, Fits, exceeds, lower, ma
 ghost use Rattle.hh_summaries.specs.Report.{IsShare, heavy, rows_above, weights_at};
 ghost use Rattle.hh_tally.specs.Tallies.{AreBounds, IsLoss, IsRoom, contenders_of, empty_tally, merged_tally, pruned, tally_with};
 
-use crate::lowering::{add_all, add_entry, key_bytes, settle, sorted_above};
+use crate::lowering::{add_all, add_entry, key_bytes, lower_if_over, sorted_above};
 use crate::room::Room;
 use hh_stream::{Key, KeyHash, TakeItems};
 use hh_summaries::{Summary, cut};
@@ -144,7 +144,7 @@ impl Tally {
         } = self;
         add_all(alloc, &mut index, &other.index)?;
         let bytes = key_bytes(&index);
-        let (more, bytes) = settle(alloc, &mut index, &room, bytes)?;
+        let (more, bytes) = lower_if_over(alloc, &mut index, &room, bytes)?;
         Ok(Tally {
             room,
             total: total + other.total,
@@ -184,7 +184,7 @@ impl TakeItems for Tally {
             return Ok(());
         }
         let bytes = self.bytes + key.len();
-        match settle(alloc, &mut self.index, &self.room, bytes) {
+        match lower_if_over(alloc, &mut self.index, &self.room, bytes) {
             Ok((lost, bytes)) => {
                 self.total += weight;
                 self.lost += lost;

@@ -36,7 +36,7 @@ pub fn check_key(number: u64, word: &[u8]) -> Result<(), ToolError>
 
 /// Reads the summary or table in `file` and tests that each of `words` can be a key. The file is
 /// tested first, as file 1, and then the words in order, numbered from 1.
-pub fn asked(alloc: Global, file: &[u8], words: &[Vec<u8>]) -> Result<Saved, ToolError>
+pub fn read_for_keys(alloc: Global, file: &[u8], words: &[Vec<u8>]) -> Result<Saved, ToolError>
     ensures value { IfOk result (λ saved. file_of 1 file.now ≡ Ok saved) }
     ensures keys { OnOk result (bad_key 1 (map vec_items words.now) ≡ None) }
     ensures refused { IfErr result (Refuses (asked_value file.now (map vec_items words.now))) }
@@ -141,6 +141,6 @@ pub fn ask_rows(
         Refuses (answers_in decimals file.now (map vec_items keys.now)) fault) }
     ensures early { StopsAtHead 1 file.now result }
 {
-    let saved = asked(alloc, file, keys)?;
+    let saved = read_for_keys(alloc, file, keys)?;
     Ok(answers_text(alloc, &saved, keys, decimals)?)
 }

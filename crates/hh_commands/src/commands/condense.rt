@@ -148,7 +148,7 @@ fn condensed_records<R: ReadRecords>(
         (R.known records) compared.new.outside) }
     ensures refused { IfErr result (λ fault.
         CondensePartRefused compared.old.refuses file.now (R.known records) fault) }
-    ensures told { IfErr result (λ fault.
+    ensures explained { IfErr result (λ fault.
         TellsAbove file.now (R.known records) compared.new fault) }
     ensures early { StopsAtHead 1 file.now result }
 {
@@ -189,7 +189,7 @@ pub fn condense_bytes_from<R: Read + Drop>(
         (records_known R.remaining records) compared.new.outside) }
     ensures refused { IfErr result (λ fault. CondensePartRefused compared.old.refuses file.now
         (records_known R.remaining records) fault) }
-    ensures told { IfErr result (λ fault.
+    ensures explained { IfErr result (λ fault.
         TellsAbove file.now (records_known R.remaining records) compared.new fault) }
     ensures early { StopsAtHead 1 file.now result }
 {

@@ -106,7 +106,7 @@ pub fn confirm_rows<R: ReadRecords>(
         (R.known records) compared.new.outside) }
     ensures refused { IfErr result (λ fault. ConfirmRowsRefused compared.old.refuses share.now
         file.now (R.known records) fault) }
-    ensures told { IfErr result (λ fault.
+    ensures explained { IfErr result (λ fault.
         TellsCompared file.now (R.known records) compared.new fault) }
     ensures early { StopsAtHead 1 file.now result }
 {

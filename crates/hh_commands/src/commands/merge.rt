@@ -25,7 +25,7 @@ fn merge_counters(summary: &mut Summary, number: u64, other: &Summary) -> Result
         ≡ Ok (Counters summary.new)) }
     ensures refused { IfErr result (λ fault.
         Refuses (merge_saved number (Counters summary.old) (Counters other.now)) fault) }
-    ensures told { (fault : ToolError)
+    ensures every_fault { (fault : ToolError)
         → merge_saved number (Counters summary.old) (Counters other.now) ≡ Err fault
         → result ≡ Err fault }
     ensures unchanged { OnErr result (summary.new ≡ summary.old) }
@@ -63,7 +63,7 @@ pub fn merge_saved(merged: &mut Saved, number: u64, next: &Saved) -> Result<(), 
     ensures merged { OnOk result (merge_saved number merged.old next.now ≡ Ok merged.new) }
     ensures refused { IfErr result (λ fault.
         Refuses (merge_saved number merged.old next.now) fault) }
-    ensures told { (fault : ToolError)
+    ensures every_fault { (fault : ToolError)
         → merge_saved number merged.old next.now ≡ Err fault → result ≡ Err fault }
     ensures unchanged { OnErr result (merged.new ≡ merged.old) }
 {

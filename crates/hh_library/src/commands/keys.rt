@@ -39,7 +39,7 @@ pub fn ask_keys(alloc: Global, file: &[u8], keys: &[Vec<u8>]) -> Result<Vec<(u64
         Refuses (answers_of file.now (map vec_items keys.now)) fault) }
     ensures early { StopsAtHead 1 file.now result }
 {
-    let saved = asked(alloc, file, keys)?;
+    let saved = read_for_keys(alloc, file, keys)?;
     Ok(answers_of(alloc, &saved, keys)?)
 }
 

@@ -13,7 +13,7 @@ loop-place-preserved g c =
     let name : c.deref.result.now ≡ (slice_index_or names place next).items = c.deref.ensures.value ∙ ap (λ v. v.items) c.index-names-place.is in
     let inv = c.loop-place.invariant in (
       subst (λ inputs. AreInputs opens false (map (λ w. w.items) (take (place + 1) names)) (map g.H.Host.text inputs))
-          (sym c.in_ok-push_behind.ensures.pushed)
+          (sym c.in_ok-push_to.ensures.pushed)
           (inputs_next (λ w. w.items) g.H.Host.text opens names place next c.loop-place.inputs.items c.in_ok-open.field-0 c.loop-place-test.true inv.0
           (rw (inv.1, name) at c.in_ok-open.ensures.opened)),
       c.is_taken_by-is_taken.ensures.taken ∙ ap (λ taken. taken || names_standard c.deref-in-loop-place.result.now) inv.1

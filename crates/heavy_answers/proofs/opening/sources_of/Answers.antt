@@ -22,13 +22,13 @@ loop-input-preserved g c =
       tt,
       let was = inv.2 in let gone = steps.1 in omega (arith, was, gone, long),
       made_more g.H.Host.text g.H.File.ReadAt.bytes c.args.inputs.items c.in-Some.input (into_iter_items c.next.new.self) _ _ _
-          c.in_ok-file.file steps.0 c.in_ok-push_behind.ensures.pushed c.in_ok-file.ensures.text inv.3,
+          c.in_ok-file.file steps.0 c.in_ok-push_to.ensures.pushed c.in_ok-file.ensures.text inv.3,
     )
 
 pub returns-then-not-is_whole-clause-texts : goal.returns-then-not-is_whole-clause-texts
 returns-then-not-is_whole-clause-texts g c =
-    agree_none (every g.H.Host.text c.args.inputs.items) (every g.H.File.ReadAt.bytes c.push_behind.new.others.items)
-    (ap (every g.H.File.ReadAt.bytes) c.in_ok-push_behind.ensures.pushed
+    agree_none (every g.H.Host.text c.args.inputs.items) (every g.H.File.ReadAt.bytes c.push_to.new.others.items)
+    (ap (every g.H.File.ReadAt.bytes) c.in_ok-push_to.ensures.pushed
     ∙ every_none g.H.File.ReadAt.bytes c.loop-input.files.items c.in_ok-file.file (c.if-not-is_whole.ensures.part refl))
 
 pub returns-clause-texts : goal.returns-clause-texts

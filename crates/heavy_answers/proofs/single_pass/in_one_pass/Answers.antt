@@ -15,8 +15,8 @@ returns-in_err-bytes-in-Files-clause-refused g c =
       fails = rw (c.records-records.ensures.layout, c.records-records.ensures.sources) at c.in_err-bytes-in-Files.ensures.refused;
     }))
 
-pub of_stream-requires : goal.of_stream-requires
-of_stream-requires g c = record { workers = (rw c.in-Stream.is at c.in_ok-files.ensures.records).1 }
+pub answer_by_one_thread-requires : goal.answer_by_one_thread-requires
+answer_by_one_thread-requires g c = record { workers = (rw c.in-Stream.is at c.in_ok-files.ensures.records).1 }
 
 pub returns-in_ok-bytes-in-Files-clause-made : goal.returns-in_ok-bytes-in-Files-clause-made
 returns-in_ok-bytes-in-Files-clause-made g c =
@@ -31,19 +31,19 @@ returns-in_ok-bytes-in-Files-clause-made g c =
 pub returns-in-Stream-clause-made : goal.returns-in-Stream-clause-made
 returns-in-Stream-clause-made g c =
     let records = c.in-Stream.records in
-    if_ok_more c.of_stream.result (λ bytes made. record {
+    if_ok_more c.answer_by_one_thread.result (λ bytes made. record {
       layout = records.layout;
       known = records_known g.H.Reader.Read.remaining records;
       records = (rw c.in-Stream.is at c.in_ok-files.ensures.records).0;
       made = made;
-    }) c.of_stream.ensures.made
+    }) c.answer_by_one_thread.ensures.made
 
 pub returns-in-Stream-clause-refused : goal.returns-in-Stream-clause-refused
 returns-in-Stream-clause-refused g c =
     let records = c.in-Stream.records in
-    if_err_more c.of_stream.result (λ fault fails. inr (record {
+    if_err_more c.answer_by_one_thread.result (λ fault fails. inr (record {
       layout = records.layout;
       known = records_known g.H.Reader.Read.remaining records;
       records = λ _. (rw c.in-Stream.is at c.in_ok-files.ensures.records).0;
       fails = fails;
-    })) c.of_stream.ensures.refused
+    })) c.answer_by_one_thread.ensures.refused

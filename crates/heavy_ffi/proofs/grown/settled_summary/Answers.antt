@@ -1,7 +1,7 @@
 use Rattle.std.proofs.Common.{◌∙◌, ap, arith}
 use Rattle.hh_saved.specs.declared.saved.Saved.TheVariants.{Counters}
 use Rattle.hh_summaries.specs.Counters.{SummaryView, merge_of}
-use Rattle.heavy_ffi.proofs.GrownFacts.{merged_behind, nothing_fits}
+use Rattle.heavy_ffi.proofs.GrownFacts.{merged_after, nothing_fits}
 use Rattle.heavy_ffi.proofs.grown.settled_summary.Goals as goal
 
 pub from_entries-whole-requires : goal.from_entries-whole-requires
@@ -14,4 +14,4 @@ returns-in-Ok-clause-settled c =
     let nothing = c.from_entries-whole.ensures
     ∙ (λ j. record { k = c.k.ensures.k j; total = c.args.besides; counters = c.new.ensures.items j }) in
     ap Counters (c.in-Ok.ensures.merged ∙ ap (λ (s : SummaryView). merge_of s c.args.summary) nothing
-    ∙ merged_behind c.args.summary c.k.ensures.fits c.args.besides)
+    ∙ merged_after c.args.summary c.k.ensures.fits c.args.besides)

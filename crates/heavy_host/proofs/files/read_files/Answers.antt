@@ -1,6 +1,6 @@
 use Rattle.std.proofs.Common.{rules, ◌≡◌, ◌∙◌, ◌+◌, ◌⊎◌, inl, inr, ◌∷◌, ◌++◌, [], None, map, take, slice_index_or, sym, ap, subst}
 use Rattle.std.proofs.lemmas.List.{map-append}
-use Rattle.heavy_host.specs.declared.files.FileFault.TheVariants.{Unreadable, Memory}
+use Rattle.heavy_host.specs.declared.files.ReadFailure.TheVariants.{Unreadable, Memory}
 use Rattle.heavy_host.specs.Files.{AreRead, TellsFile}
 use Rattle.heavy_host.proofs.FileLemmas.{AreRead-next, TellsFile-next}
 use Rattle.heavy_host.proofs.files.read_files.Goals as goal

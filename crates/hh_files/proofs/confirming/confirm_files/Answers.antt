@@ -34,8 +34,8 @@ returns-clause-refused g c =
     (rw c.k.ensures.k at (sym c.in-Some.ensures)) (sym c.if-not-in_range.ensures) c.confirmed_text.result
     c.confirmed_text.ensures.refused
 
-pub returns-clause-told : goal.returns-clause-told
-returns-clause-told g c =
+pub returns-clause-explained : goal.returns-clause-explained
+returns-clause-explained g c =
     told_confirmed _ (texts_known g.S.ReadAt.bytes c.args.records.layout.now c.args.records.sources.now)
     c.in_ok-summary.summary c.in_ok-summary.ensures.summary c.in_ok-counts.counts c.in_ok-counts.ensures.counts
     c.args.compared.now.refuses c.confirmed_text.new.compared c.confirmed_text.result c.confirmed_text.ensures.refused

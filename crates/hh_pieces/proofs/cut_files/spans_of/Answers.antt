@@ -7,7 +7,7 @@ loop-preserved g c =
     rw c.in_ok-push.ensures.items
     (known-span-more (g.S.ReadAt.bytes c.args.source.now) c.loop.spans.items
     record { from = c.loop.from; to = c.in-Some-find_feed.to }
-    (omega (arith, c.requires.some, c.in-Some.ensures, c.in-Some-find_feed.ensures.behind))
+    (omega (arith, c.requires.some, c.in-Some.ensures, c.in-Some-find_feed.ensures.after))
     c.in-Some-find_feed.ensures.feed c.loop.invariant)
 
 pub returns : goal.returns

@@ -30,7 +30,7 @@ returns-in-Err-clause-refused g c =
     let line = c.line_end-end.ensures in
     rw c.numbered_fault.ensures
     (lines-refused c.args.layout.now c.args.layout.now.delimiter (g.T.TakeItems.weight_taken c.args.taker.now) c.args.text.now
-    c.loop-from.from c.line_end-end.result xs c.loop-from.number line.behind line.within line.end so_far c.if-from-end.true
+    c.loop-from.from c.line_end-end.result xs c.loop-from.number line.after line.within line.end so_far c.if-from-end.true
     c.in-Err.fault (rw (← total) c.in-Err.ensures.refused))
 
 pub loop-from-preserved : goal.loop-from-preserved
@@ -50,21 +50,21 @@ loop-from-preserved g c =
               t.taken ∙ ap (λ taker. fold g.T.TakeItems.with_item taker t.xs) made
                   ∙ sym (fold-append g.T.TakeItems.with_item c.args.taker.now xs t.xs),
               lines-more c.args.layout.now c.args.layout.now.delimiter (g.T.TakeItems.weight_taken c.args.taker.now) c.args.text.now
-                  c.loop-from.from c.line_end-end.result xs c.loop-from.number line.behind line.within line.end so_far w.if-from-end.true t.xs
+                  c.loop-from.from c.line_end-end.result xs c.loop-from.number line.after line.within line.end so_far w.if-from-end.true t.xs
                   (rw (← total) t.given),
             ),
           )
       | else-from-end w ↦
           rw (w.taker-is, w.number-is) (
             c.loop-from.invariant.0,
-            omega (arith, c.loop-from.invariant.1, line.behind),
+            omega (arith, c.loop-from.invariant.1, line.after),
             (
               xs,
               total,
               weigh,
               made,
               lines-blank c.args.layout.now c.args.layout.now.delimiter (g.T.TakeItems.weight_taken c.args.taker.now) c.args.text.now
-                  c.loop-from.from c.line_end-end.result xs c.loop-from.number line.behind line.within line.end so_far
+                  c.loop-from.from c.line_end-end.result xs c.loop-from.number line.after line.within line.end so_far
                   (omega (arith, w.if-from-end.false)),
             ),
           )

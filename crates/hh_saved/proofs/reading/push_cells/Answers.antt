@@ -13,6 +13,6 @@ loop-i-preserved c =
     let len : 8 * i + 8 - 8 * i ≡ 8 = omega arith in
     c.in_ok-push.ensures.items
     ∙ ap₂ (λ (xs : List ℕ) (x : ℕ). xs ++ x ∷ []) c.loop-i.invariant
-    (c.number_of.ensures ∙ ap (λ (n : ℕ). cell (take n (drop (8 * i) bytes))) len)
+    (c.number_in.ensures ∙ ap (λ (n : ℕ). cell (take n (drop (8 * i) bytes))) len)
     ∙ append_assoc front (cells_in i bytes) (cell (take 8 (drop (8 * i) bytes)) ∷ [])
     ∙ ap (λ (xs : List ℕ). front ++ xs) (sym (blocks_in-more cell 8 i (i + 1) bytes (omega arith)))

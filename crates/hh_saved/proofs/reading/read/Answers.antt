@@ -4,8 +4,8 @@ use Rattle.hh_saved.proofs.reading.read.Goals as goal
 
 pub returns-clause-found : goal.returns-clause-found
 returns-clause-found c =
-    is_found c.args.bytes.now c.all_of.result (λ i. omega (arith, c.type_inv.bytes i)) c.all_of.ensures.all
+    is_found c.args.bytes.now c.read_all.result (λ i. omega (arith, c.type_inv.bytes i)) c.read_all.ensures.all
 
 pub returns-clause-only : goal.returns-clause-only
 returns-clause-only c =
-    λ version v is. rw (saved_again version c.args.bytes.now v is) at c.all_of.ensures.all
+    λ version v is. rw (saved_again version c.args.bytes.now v is) at c.read_all.ensures.all

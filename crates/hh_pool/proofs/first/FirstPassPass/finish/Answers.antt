@@ -1,12 +1,12 @@
 use Rattle.std.proofs.Common.{◌+◌, ◌∙◌, length, get_or, ap, arith}
 use Rattle.hh_shared.specs.Tally.{cell_total}
 use Rattle.hh_pool.proofs.Tried.{first_ends, first_taken}
-use Rattle.hh_pool.proofs.Held.{claim-behind_cell}
+use Rattle.hh_pool.proofs.Held.{claim-at_cell}
 use Rattle.hh_pool.proofs.first.FirstPassPass.finish.Goals as goal
 
 pub add_numbers-requires-clause-holds_a_claim : goal.add_numbers-requires-clause-holds_a_claim
 add_numbers-requires-clause-holds_a_claim g c cell some =
-    claim-behind_cell _ _ _ _ c.requires.made.0 cell (omega (arith, some, ap (λ xs. get_or xs cell 0) c.cells.ensures))
+    claim-at_cell _ _ _ _ c.requires.made.0 cell (omega (arith, some, ap (λ xs. get_or xs cell 0) c.cells.ensures))
 
 pub returns-clause-done : goal.returns-clause-done
 returns-clause-done g c =

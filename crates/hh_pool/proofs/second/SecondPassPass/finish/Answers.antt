@@ -1,12 +1,12 @@
 use Rattle.std.proofs.Common.{◌+◌, ◌∙◌, get_or, ap, arith}
 use Rattle.hh_shared.specs.Tally.{cell_total}
 use Rattle.hh_pool.proofs.Tried.{second_counted, second_ends}
-use Rattle.hh_pool.proofs.Held.{claim-behind_number}
+use Rattle.hh_pool.proofs.Held.{claim-at_number}
 use Rattle.hh_pool.proofs.second.SecondPassPass.finish.Goals as goal
 
 pub add_numbers-requires-clause-holds_a_claim : goal.add_numbers-requires-clause-holds_a_claim
 add_numbers-requires-clause-holds_a_claim g c cell some =
-    claim-behind_number _ _ _ c.requires.made.0 cell
+    claim-at_number _ _ _ c.requires.made.0 cell
     (omega (arith, some, ap (λ xs. get_or xs cell 0) (c.deref.ensures.value ∙ c.into_weights.ensures)))
 
 pub returns-clause-done : goal.returns-clause-done

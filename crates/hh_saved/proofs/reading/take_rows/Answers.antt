@@ -1,6 +1,6 @@
 use Rattle.std.proofs.lemmas.Result.{err_from_is_err_and}
 use Rattle.hh_saved.proofs.Loops.{rows_go_on, rows_fail, rows_end}
-use Rattle.hh_saved.proofs.reading.rows_of.Goals as goal
+use Rattle.hh_saved.proofs.reading.take_rows.Goals as goal
 
 pub loop-preserved : goal.loop-preserved
 loop-preserved c =

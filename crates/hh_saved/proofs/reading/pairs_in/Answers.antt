@@ -1,7 +1,7 @@
 use Rattle.std.proofs.Common.{◌≡◌, ℕ, ◌+◌, ◌*◌, ◌-◌, List, [], ◌∷◌, ◌++◌, take, drop, sym, ap, ap₂, ◌∙◌, arith}
 use Rattle.hh_saved.specs.Reading.{pair_of}
 use Rattle.hh_saved.proofs.Blocks.{blocks_in-more}
-use Rattle.hh_saved.proofs.reading.pairs_of.Goals as goal
+use Rattle.hh_saved.proofs.reading.pairs_in.Goals as goal
 
 pub loop-r-preserved : goal.loop-r-preserved
 loop-r-preserved c =

@@ -4,7 +4,7 @@ use Rattle.hh_stream.specs.Weights.{Entry}
 use Rattle.hh_saved.specs.Reading.{last_key_of}
 use Rattle.hh_saved.proofs.Loops.{entries_go_on, entries_fail, entries_end}
 use Rattle.hh_saved.proofs.Heads.{failed, err_is, begun_more, begun_ends, begun_stops, entry_stops}
-use Rattle.hh_saved.proofs.reading.entries_of.Goals as goal
+use Rattle.hh_saved.proofs.reading.take_entries.Goals as goal
 
 pub loop-preserved : goal.loop-preserved
 loop-preserved c =

@@ -4,7 +4,7 @@ use Rattle.hh_saved.proofs.Fields.{IsBytes, wide8, wide32, number_takes}
 use Rattle.hh_saved.proofs.Entries.{total_takes}
 use Rattle.hh_saved.proofs.Families.{family_takes}
 use Rattle.hh_saved.proofs.Grids.{rows_take, cells_fit}
-use Rattle.hh_saved.proofs.reading.table_of.Goals as goal
+use Rattle.hh_saved.proofs.reading.take_table.Goals as goal
 
 pub from_cells-requires : goal.from_cells-requires
 from_cells-requires c =

@@ -3,7 +3,7 @@ use Rattle.std.specs.Vec.Iter.{into_iter_items}
 use Rattle.hh_records.specs.Layouts.{every}
 use Rattle.heavy_answers.specs.Inputs.{Agree}
 use Rattle.heavy_answers.proofs.InputLemmas.{alike_agree, alike_some, first_and_rest, known_same, made_all, made_more, made_start, nothing_left}
-use Rattle.heavy_answers.proofs.opening.records_of.Goals as goal
+use Rattle.heavy_answers.proofs.opening.into_records.Goals as goal
 
 pub loop-input-init : goal.loop-input-init
 loop-input-init g c =
@@ -23,7 +23,7 @@ loop-input-preserved g c =
       tt,
       let was = inv.2 in let gone = steps.1 in omega (arith, was, gone, long),
       made_more g.H.Host.text g.H.Reader.Read.remaining c.args.opened.inputs.items c.in-Some.input (into_iter_items c.next.new.self) _ _ _
-          c.reader.result steps.0 c.in_ok-push_behind.ensures.pushed (known_same _ _ c.reader.ensures.text) inv.3,
+          c.reader.result steps.0 c.in_ok-push_to.ensures.pushed (known_same _ _ c.reader.ensures.text) inv.3,
     )
 
 pub remove-first-requires : goal.remove-first-requires

@@ -3,7 +3,7 @@ use Rattle.std.proofs.lemmas.List.Sums.{count_by-le-length}
 use Rattle.hh_summaries.specs.Counters.{exceeds, level, lower}
 use Rattle.hh_summaries.proofs.Level.{length-lower}
 use Rattle.hh_tally.proofs.Bounds.{loss_is, loss_none, left_is, left_same}
-use Rattle.hh_tally.proofs.lowering.settle.Goals as goal
+use Rattle.hh_tally.proofs.lowering.lower_if_over.Goals as goal
 
 pub returns-then-not-is_over-clause-lost : goal.returns-then-not-is_over-clause-lost
 returns-then-not-is_over-clause-lost c =

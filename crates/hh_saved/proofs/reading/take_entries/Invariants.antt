@@ -1,7 +1,7 @@
 use Rattle.std.proofs.Common.{◌≡◌, ◌-◌, []}
 use Rattle.hh_saved.specs.Reading.{with_front, last_key_of, entries_at}
 use Rattle.hh_saved.proofs.Heads.{IsBegun}
-use Rattle.hh_saved.proofs.reading.entries_of.Given as goal
+use Rattle.hh_saved.proofs.reading.take_entries.Given as goal
 
 abbrev pub invariant-loop : goal.invariant-loop
 invariant-loop l = record {

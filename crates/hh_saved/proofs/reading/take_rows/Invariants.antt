@@ -1,6 +1,6 @@
 use Rattle.std.proofs.Common.{◌≡◌, ◌-◌}
 use Rattle.hh_saved.specs.Reading.{with_front, rows_at}
-use Rattle.hh_saved.proofs.reading.rows_of.Given as goal
+use Rattle.hh_saved.proofs.reading.take_rows.Given as goal
 
 abbrev pub invariant-loop : goal.invariant-loop
 invariant-loop l =

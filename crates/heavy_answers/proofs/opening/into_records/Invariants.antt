@@ -2,7 +2,7 @@
 use Rattle.std.proofs.Common.{◌≡◌, length}
 use Rattle.std.specs.Vec.Iter.{into_iter_items, into_iter_len}
 use Rattle.heavy_answers.proofs.InputLemmas.{MadeSoFar}
-use Rattle.heavy_answers.proofs.opening.records_of.Given as goal
+use Rattle.heavy_answers.proofs.opening.into_records.Given as goal
 
 abbrev pub invariant-loop-input : goal.invariant-loop-input
 invariant-loop-input g l = (goal.iterator-loop-input g).can_next l.input-iterator

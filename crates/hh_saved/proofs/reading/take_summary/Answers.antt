@@ -2,7 +2,7 @@ use Rattle.std.proofs.Common.{arith}
 use Rattle.std.proofs.lemmas.Bool.Decides.{nat_tests}
 use Rattle.hh_saved.proofs.Fields.{IsBytes, wide16, where_takes}
 use Rattle.hh_saved.proofs.Entries.{total_takes, entries_take, entries_fit}
-use Rattle.hh_saved.proofs.reading.summary_of.Goals as goal
+use Rattle.hh_saved.proofs.reading.take_summary.Goals as goal
 
 pub from_entries-requires : goal.from_entries-requires
 from_entries-requires c =

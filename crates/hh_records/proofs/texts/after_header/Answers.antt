@@ -2,7 +2,7 @@ use Rattle.std.proofs.Common.{◌∙◌, inl, refl}
 use Rattle.hh_records.specs.Layouts.{chosen_places}
 use Rattle.hh_records.proofs.HeaderFacts.{columns-none, columns-some}
 use Rattle.hh_records.proofs.ReadFacts.{opened-none, opened-some, opened-refused}
-use Rattle.hh_records.proofs.texts.behind_header.Goals as goal
+use Rattle.hh_records.proofs.texts.after_header.Goals as goal
 
 pub returns-in-Ok-false-clause-opened : goal.returns-in-Ok-false-clause-opened
 returns-in-Ok-false-clause-opened g c =
