@@ -31,7 +31,9 @@ CALLS = {
     "hh_countmin": ["Family::from_parts", "Family::draw", "Family::copy", "Table::new"],
     "hh_saved": ["read", "write"],
     "hh_shared": ["SharedSums::new", "SharedSums::close"],
-    "hh_pool": ["analyse", "first_pass", "second_pass"],
+    "hh_pool": [
+        "analyse", "first_pass", "first_pass_sequentially", "second_pass", "second_pass_sequentially",
+    ],
     "heavy": ["confirm"],
 }
 

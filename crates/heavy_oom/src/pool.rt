@@ -1,12 +1,15 @@
 //! The analyses of `hh_pool`.
 
-ghost use Rattle.std.specs.Prelude.{◌≡◌, length, sum};
+ghost use Rattle.std.specs.Prelude.{◌≡◌, IfOk, length, sum};
 
 use crate::lab::{Lab, Said, marked, no_such_call};
 use crate::show::{Cells, Counters, Numbers, Report};
 use hh_counters::Candidates;
 use hh_countmin::Family;
-use hh_pool::{Gate, OpenGate, Options, Outcome, Plan, RunError, analyse, first_pass, second_pass};
+use hh_pool::{
+    Gate, OpenGate, Options, Outcome, Plan, RunError, analyse, first_pass, first_pass_sequentially,
+    second_pass, second_pass_sequentially,
+};
 use hh_shared::SharedSums;
 use hh_stream::{Cutting, Key, Stream};
 use std::sync::Wait;
@@ -21,7 +24,9 @@ pub fn call<R: Threads + Wait + Sync>(rt: &R, lab: &Lab, name: &str) -> Result<S
         "analyse many keys" => analysed_many(rt, lab),
         "Plan, Options and OpenGate" => plain_calls(lab),
         "first_pass" => first_passed(lab),
+        "first_pass_sequentially" => first_passed_sequentially(lab),
         "second_pass" => second_passed(lab),
+        "second_pass_sequentially" => second_passed_sequentially(lab),
         _ => Err(no_such_call(name)),
     }
 }
@@ -54,18 +59,25 @@ fn outcome<R: Threads + Wait + Sync, G: Gate + Sync>(
     }
 }
 
-// What one worker finds in the first pass over the four items, in two pieces.
+// The four items, in two pieces.
+fn in_two_pieces(lab: &Lab) -> Result<(Stream, Cutting), Fail>
+    ensures { IfOk result (λ r. sum r.1 ≡ length r.0) }
+{
+    let stream = lab.stream()?;
+    let cutting = Cutting::even(lab.alloc, stream.len(), 2)?;
+    Ok((stream, cutting))
+}
+
+// What one worker finds in the first pass.
 fn first_passed(lab: &Lab) -> Result<Said, Fail> {
-    let (alloc, stream) = (lab.alloc, lab.stream()?);
-    let cutting = Cutting::even(alloc, stream.len(), 2)?;
-    let family = Family::from_parts(alloc, 256, &[(1, 0), (3, 1)])?;
-    let cells = (family.depth() * 4) as usize;
-    let options = Options::new(2, 1, 3, 1, 4, family)?;
-    let (sums, seat) = SharedSums::new(alloc, cutting.count(), cells)?;
+    let (stream, cutting) = in_two_pieces(lab)?;
+    let options = options(lab, 1)?;
+    let cells = (options.family().depth() * options.width()) as usize;
+    let (sums, seat) = SharedSums::new(lab.alloc, cutting.count(), cells)?;
     let pass = marked!(
         lab,
         first_pass(
-            alloc, &sums, seat, &stream, &cutting, &options, &OpenGate, 0
+            lab.alloc, &sums, seat, &stream, &cutting, &options, &OpenGate, 0
         )
     );
     match pass {
@@ -74,19 +86,38 @@ fn first_passed(lab: &Lab) -> Result<Said, Fail> {
     }
 }
 
-// Whether one worker has done the second pass over the four items, in two pieces.
-fn second_passed(lab: &Lab) -> Result<Said, Fail> {
-    let (alloc, stream) = (lab.alloc, lab.stream()?);
-    let cutting = Cutting::even(alloc, stream.len(), 2)?;
-    let candidates = Candidates::of(alloc, &lab.summary()?)?;
+// What the calling thread finds in the first pass.
+fn first_passed_sequentially(lab: &Lab) -> Result<Said, Fail> {
+    let (stream, cutting) = in_two_pieces(lab)?;
+    let options = options(lab, 1)?;
+    let pass = marked!(
+        lab,
+        first_pass_sequentially(lab.alloc, &stream, &cutting, &options, &OpenGate)
+    );
+    match pass {
+        Ok((found, table)) => lab.answer(format_args!("{} {}", found.len(), table.total())),
+        Err(_) => lab.refused(),
+    }
+}
+
+// The two keys whose weights the second pass counts.
+fn two_candidates(lab: &Lab) -> Result<Candidates, Fail> {
+    let candidates = Candidates::of(lab.alloc, &lab.summary()?)?;
     if candidates.len() != 2 {
         return Err(Fail::new("two keys have counters"));
     }
-    let (sums, seat) = SharedSums::new(alloc, cutting.count(), candidates.len())?;
+    Ok(candidates)
+}
+
+// Whether one worker has done the second pass.
+fn second_passed(lab: &Lab) -> Result<Said, Fail> {
+    let (stream, cutting) = in_two_pieces(lab)?;
+    let candidates = two_candidates(lab)?;
+    let (sums, seat) = SharedSums::new(lab.alloc, cutting.count(), candidates.len())?;
     let pass = marked!(
         lab,
         second_pass(
-            alloc,
+            lab.alloc,
             &sums,
             seat,
             &stream,
@@ -98,6 +129,20 @@ fn second_passed(lab: &Lab) -> Result<Said, Fail> {
     );
     match pass {
         Ok(seat) => lab.answer(sums.holds_all(&seat)),
+        Err(_) => lab.refused(),
+    }
+}
+
+// What the calling thread counts in the second pass.
+fn second_passed_sequentially(lab: &Lab) -> Result<Said, Fail> {
+    let (stream, cutting) = in_two_pieces(lab)?;
+    let candidates = two_candidates(lab)?;
+    let pass = marked!(
+        lab,
+        second_pass_sequentially(lab.alloc, &stream, &cutting, &candidates, &OpenGate, 1)
+    );
+    match pass {
+        Ok((weights, total)) => lab.answer(format_args!("{} {total}", weights.len())),
         Err(_) => lab.refused(),
     }
 }

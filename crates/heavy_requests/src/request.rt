@@ -82,10 +82,11 @@ impl Request {
         }
     }
 
-    /// Gives the most passes in which workers read the files of records, by the command alone: 0 if
-    /// they read none. A report may need fewer: one if its keys are few, and none with a plan.
+    /// Gives the most passes in which workers read the files of records, by the command line alone:
+    /// 0 if they read none. A report needs two, or one if its keys are few.
     pub fn passes(&self) -> u64 {
         match self {
+            Request::Report { by_plan: true, .. } => 0,
             Request::Report { .. } => 2,
             Request::Answer(Command::Summarise { workers, .. }) => u64::from(*workers != 1),
             Request::Answer(Command::Table { .. }) => 1,
