@@ -13,17 +13,19 @@ _heavy() {
     -k | --k | -t | --threshold | -n | --top | -d | --delimiter | --key | --weight | --decimals | --workers | --memory | --pieces | --width | --depth | --seed) return ;;
   esac
   case ${COMP_WORDS[1]} in
-    report) options='-k --k -t --threshold -n --top --share -d --delimiter -H --header --key --weight --allow-zero --decimals --workers --memory --pieces --tree --width --depth --seed --progress --explain' ;;
-    summarise) options='-k --k --method --workers -d --delimiter -H --header --key --weight --allow-zero --decimals --progress --explain' ;;
-    table) options='--width --depth --seed --workers -d --delimiter -H --header --key --weight --allow-zero --decimals --progress --explain' ;;
-    merge | describe) options='--explain' ;;
-    ask | list) options='--decimals --explain' ;;
-    condense) options='--workers -d --delimiter -H --header --key --weight --allow-zero --decimals --progress --explain' ;;
-    confirm) options='-t --threshold -n --top --share --workers -d --delimiter -H --header --key --weight --allow-zero --decimals --progress --explain' ;;
+    report) options='-k --k -t --threshold -n --top --share --explain --progress -h --help -d --delimiter -H --header --key --weight --allow-zero --decimals --workers --memory --pieces --tree --width --depth --seed' ;;
+    summarise) options='-k --k --method --workers --explain --progress -h --help -d --delimiter -H --header --key --weight --allow-zero --decimals' ;;
+    table) options='--width --depth --seed --workers --explain --progress -h --help -d --delimiter -H --header --key --weight --allow-zero --decimals' ;;
+    merge) options='--explain -h --help' ;;
+    ask) options='--decimals --explain -h --help' ;;
+    list) options='--decimals --explain -h --help' ;;
+    describe) options='--explain -h --help' ;;
+    condense) options='--workers --explain --progress -h --help -d --delimiter -H --header --key --weight --allow-zero --decimals' ;;
+    confirm) options='-t --threshold -n --top --share --workers --explain --progress -h --help -d --delimiter -H --header --key --weight --allow-zero --decimals' ;;
     help) mapfile -t COMPREPLY < <(compgen -W "$commands" -- "$cur"); return ;;
   esac
   case $cur in
-    -*) mapfile -t COMPREPLY < <(compgen -W "$options -h --help" -- "$cur") ;;
+    -*) mapfile -t COMPREPLY < <(compgen -W "$options" -- "$cur") ;;
     *)
       compopt -o filenames 2> /dev/null
       mapfile -t COMPREPLY < <(compgen -f -- "$cur")

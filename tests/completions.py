@@ -1,18 +1,21 @@
 #!/usr/bin/env python3
-"""Compares the man page and the completions of three shells with what the program's help names: the same commands, for
-each the same options in both spellings, the same ranges and defaults, the same version. The bash completion is driven
-by bash, and that of fish by fish where it is here; the others are read. On a terminal each shell that is here completes
-a command, an option and its value. Then drifts are planted, and each has to be found.
+"""Makes the completions of three shells and the man page's synopsis from the program's help, and compares them with the
+files; and the man page's commands, options, ranges, defaults and version with the help. The bash completion is driven
+by bash, and that of fish by fish where it is here. On a terminal each shell that is here completes a command, an option
+and its value. Then drifts are planted, and each has to be found.
 
-usage: tests/completions.py
+usage: tests/completions.py          compares
+       tests/completions.py --write  writes the files
 """
 import os
 import pty
 import re
 import select
+import shlex
 import shutil
 import signal
 import subprocess
+import sys
 import tempfile
 import time
 import unittest
@@ -24,8 +27,13 @@ import programs
 
 MAN, BASH, ZSH, FISH = "man/heavy.1", "completions/heavy.bash", "completions/_heavy", "completions/heavy.fish"
 LONG = re.compile(r"--[a-z-]+")
-OPTION = re.compile(r"^ +(?:(-\w), )?(--[a-z-]+)", re.MULTILINE)
+# of an option in help: its letter, its name, its value and what is said of it
+OPTION = re.compile(r"^ +(?:-(\w), )?--([a-z-]+)(?: <(\S+)>)?  +(.*)$", re.MULTILINE)
 NUMBERS = re.compile(r"from (\d+) to (\d+) \[default: (\d+)\]")
+# the values that an option's text names
+VALUES = {"method": "mg ss", "tree": "balanced chain"}
+# the options that may be given several times
+REPEATED = {"key"}
 # a shell, the words that start it on a terminal with no settings, and how it takes our completions there
 SHELLS = [
     ("bash", ["--norc", "-i"], "source {top}/completions/heavy.bash"),
@@ -46,66 +54,234 @@ DRIFTS = [
     (MAN, '"heavy ', '"heavy 0.'),
     (MAN, ".TP\n.B heavy ask\n", ".TP\n.B heavy tell\n"),
     (BASH, "--memory --pieces", "--pieces"),
-    (BASH, "merge ask list describe condense", "merge ask describe condense"),
-    (BASH, "-h --help -V --version", "-h --help"),
     (BASH, "-t --threshold -n --top", "-t --threshold --top"),
-    (BASH, "'balanced chain'", "'balanced'"),
-    (ZSH, "'merge:", "'join:"),
-    (ZSH, "'--depth=", "'--rows="),
-    (ZSH, "(-H --header)'{-H,--header}'", "--header"),
-    (ZSH, "$k $progress $records \\\n", "$k $records \\\n"),
-    (FISH, "-a confirm ", "-a recount "),
-    (FISH, "-l threshold", "-l bound"),
+    (ZSH, "--depth=", "--rows="),
     (FISH, "-s k -l k", "-l k"),
-    (FISH, "-s V -l version", "-l version"),
 ]
 
 
 @dataclass(frozen=True)
+class Option:
+    """An option as help has it; of a flag there is no value."""
+
+    letter: str
+    name: str
+    value: str
+    text: str
+
+    def spellings(self) -> list[str]:
+        return [f"-{self.letter}"] * bool(self.letter) + [f"--{self.name}"]
+
+    def about(self) -> str:
+        """What is said of it, without a default, and without what `--help` says besides."""
+        return re.sub(r" (\[default: .*\]|\(see more .*\))$", "", self.text)
+
+    def synopsis(self) -> str:
+        name = self.name.replace("-", "\\-")
+        if not self.value:
+            return f".RB [ \\-\\-{name} ]\n"
+        value = VALUES.get(self.name, self.value) if self.name == "method" else self.value
+        return f".RB [ \\-\\-{name}\n.IR {value.replace(' ', ' | ')} ]\n"
+
+
+@dataclass(frozen=True)
+class Shown:
+    """The help of a command: what it does, its words with what is said of them, and its options."""
+
+    about: str
+    words: list[tuple[str, str]]
+    options: list[Option]
+
+    def options_in_both_spellings(self) -> set[str]:
+        return {spelling for option in self.options for spelling in option.spellings()}
+
+
+@dataclass(frozen=True)
 class Told:
-    """What the program's help tells."""
+    """What the program's help tells: of each command, in its order, and of "", the program itself."""
 
     version: str
-    commands: set[str]
-    # of each command, and of "", the program itself
-    options: dict[str, set[str]]
+    shown: dict[str, Shown]
     numbers: dict[str, set[tuple[str, str, str]]]
 
+    def commands(self) -> set[str]:
+        return set(self.shown) - {""}
 
-def spelled(help: str) -> set[str]:
-    """The options of a help in both spellings."""
-    return {word for pair in OPTION.findall(help) for word in pair if word}
+    def options(self, name: str) -> set[str]:
+        return self.shown[name].options_in_both_spellings()
+
+    def own(self) -> dict[str, Shown]:
+        """The commands but `help`, whose words are commands."""
+        return {name: shown for name, shown in self.shown.items() if name not in ("", "help")}
 
 
 def told_by(program: str) -> Told:
     def said(*words: str) -> str:
         return programs.run([program, *words]).out.decode()
 
-    whole = said("--help")
+    whole = said("-h")
     block = re.search(r"^Commands:\n((?:  .*\n)+)", whole, re.MULTILINE)
-    commands = set(re.findall(r"^  ([a-z]+) ", block[1], re.MULTILINE)) if block else set()
-    helps = {name: said(name, "--help") for name in commands - {"help"}}
-    numbers = {}
-    for help in helps.values():
-        for option in re.split(r"\n +(?=-)", help):
-            if found := NUMBERS.search(option):
-                numbers.setdefault(LONG.search(option)[0], set()).add(found.groups())
-    options = {"": spelled(whole), "help": set(), **{name: spelled(help) for name, help in helps.items()}}
-    return Told(said("--version").split()[-1], commands, options, numbers)
+    shown, numbers = {"": Shown("", [], [Option(*found) for found in OPTION.findall(whole)])}, {}
+    for name, about in re.findall(r"^  ([a-z]+) +(.*)$", block[1] if block else "", re.MULTILINE):
+        help = said(name, "-h") if name != "help" else ""
+        words = re.search(r"^Arguments:\n((?:  .*\n)+)", help, re.MULTILINE)
+        named = re.findall(r"^  (\S+) +(.*)$", words[1] if words else "", re.MULTILINE)
+        shown[name] = Shown(about, named, [Option(*found) for found in OPTION.findall(help)])
+        for option in shown[name].options:
+            if found := NUMBERS.search(option.text):
+                numbers.setdefault(f"--{option.name}", set()).add(found.groups())
+    return Told(said("--version").split()[-1], shown, numbers)
+
+
+def made_bash(told: Told) -> str:
+    """The completion of bash."""
+    every = [option for shown in told.own().values() for option in shown.options]
+    valued = dict.fromkeys(word for it in every if it.value and it.name not in VALUES for word in it.spellings())
+    values = "".join(
+        f"    --{name}) mapfile -t COMPREPLY < <(compgen -W '{words}' -- \"$cur\"); return ;;\n" for name, words in VALUES.items()
+    )
+    branches = "".join(
+        f"    {name}) options='{' '.join(word for it in shown.options for word in it.spellings())}' ;;\n"
+        for name, shown in told.own().items()
+    )
+    first = " ".join(word for it in told.shown[""].options for word in it.spellings())
+    return f"""\
+# bash completion of heavy; installed as share/bash-completion/completions/heavy
+_heavy() {{
+  local cur=${{COMP_WORDS[COMP_CWORD]}} prev=${{COMP_WORDS[COMP_CWORD-1]}} options=
+  local commands='{" ".join(name for name in told.shown if name)}'
+  COMPREPLY=()
+  if ((COMP_CWORD == 1)); then
+    mapfile -t COMPREPLY < <(compgen -W "$commands {first}" -- "$cur")
+    return
+  fi
+  case $prev in
+{values}    {" | ".join(valued)}) return ;;
+  esac
+  case ${{COMP_WORDS[1]}} in
+{branches}    help) mapfile -t COMPREPLY < <(compgen -W "$commands" -- "$cur"); return ;;
+  esac
+  case $cur in
+    -*) mapfile -t COMPREPLY < <(compgen -W "$options" -- "$cur") ;;
+    *)
+      compopt -o filenames 2> /dev/null
+      mapfile -t COMPREPLY < <(compgen -f -- "$cur")
+      ;;
+  esac
+}}
+complete -F _heavy heavy
+"""
+
+
+def zsh_option(option: Option) -> list[str]:
+    """How zsh is told of an option: once for each spelling, of which one is enough."""
+    text = re.sub(r"([\[\]\\])", r"\\\1", option.about())
+    excluded = "*" if option.name in REPEATED else f"({' '.join(option.spellings())})" if option.letter else ""
+    value = f":{option.value}:" if option.value else ""
+    if option.name in VALUES:
+        value += f"({VALUES[option.name]})"
+    ends = {spelling: "=" if spelling.startswith("--") else "+" for spelling in option.spellings()} if option.value else {}
+    return [f"{excluded}{spelling}{ends.get(spelling, '')}[{text}]{value}" for spelling in option.spellings()]
+
+
+def zsh_word(place: int, word: str, is_last: bool) -> str:
+    where = "*" if is_last and word.endswith("...") else str(place)
+    name = re.sub(r"[\[\]<>.]", "", word)
+    return f"{where}:{name}:" + ("" if name == "KEY" else "_files")
+
+
+def zsh_branch(shown: Shown) -> str:
+    options = [spec for option in shown.options for spec in zsh_option(option)]
+    words = [zsh_word(i + 1, word, i + 1 == len(shown.words)) for i, (word, _) in enumerate(shown.words)]
+    return " \\\n        ".join(["_arguments", *map(shlex.quote, options + words)])
+
+
+def made_zsh(told: Told) -> str:
+    """The completion of zsh."""
+    commands = "".join(f"    {shlex.quote(f'{name}:{shown.about}')}\n" for name, shown in told.shown.items() if name)
+    branches = "".join(f"    {name})\n      {zsh_branch(shown)}\n      ;;\n" for name, shown in told.own().items())
+    first = zsh_branch(told.shown[""]).replace("\n        ", "\n      ")
+    return f"""\
+#compdef heavy
+# zsh completion of heavy; installed as share/zsh/vendor-completions/_heavy
+
+_heavy() {{
+  local -a commands
+  commands=(
+{commands}  )
+  if ((CURRENT == 2)); then
+    _describe command commands
+    {first}
+    return
+  fi
+  shift words
+  ((CURRENT--))
+  case $words[1] in
+{branches}    help) _describe command commands ;;
+  esac
+}}
+
+_heavy "$@"
+"""
+
+
+def made_fish(told: Told) -> str:
+    """The completion of fish: an option stands once for all commands that say one thing of it."""
+    lines = [
+        f"complete -c heavy -f -n __fish_use_subcommand -a {name} -d {shlex.quote(shown.about)}"
+        for name, shown in told.shown.items()
+        if name
+    ]
+    of: dict[tuple[str, str, str, str], list[str]] = {}
+    for name, shown in told.shown.items():
+        for it in shown.options:
+            of.setdefault((it.letter, it.name, it.value, it.about()), []).append(name)
+    for (letter, option, value, about), names in of.items():
+        named = [name for name in names if name]
+        where = f"-n '__fish_seen_subcommand_from {' '.join(named)}'" if named else "-n __fish_use_subcommand"
+        words = [f"-s {letter}"] * bool(letter) + [f"-l {option}"] + ["-x"] * bool(value)
+        words += [f"-a '{VALUES[option]}'"] if option in VALUES else []
+        lines.append(f"complete -c heavy {where} {' '.join(words)} -d {fish_quoted(about)}")
+    own = " ".join(told.own())
+    lines.append("complete -c heavy -n __fish_use_subcommand -s h -l help -d 'Print help'")
+    lines.append(f"complete -c heavy -n '__fish_seen_subcommand_from {own}' -F")
+    lines.append(f"complete -c heavy -f -n '__fish_seen_subcommand_from help' -a '{own}'")
+    head = "# fish completion of heavy; installed as share/fish/vendor_completions.d/heavy.fish\n"
+    return head + "".join(f"{line}\n" for line in lines)
+
+
+def fish_quoted(text: str) -> str:
+    escaped = re.sub(r"(['\\])", r"\\\1", text)
+    return f"'{escaped}'"
+
+
+def made_man(told: Told) -> str:
+    """The man page with the synopsis that help says."""
+    synopsis = []
+    for name, shown in told.own().items():
+        options = "".join(option.synopsis() for option in shown.options if option.name != "help")
+        words = ""
+        for word, _ in shown.words:
+            bare = re.sub(r"[\[\]<>.]", "", word)
+            more = " ..." if word.endswith("...") else ""
+            words += f".RI [ {bare}{more} ]\n".replace("... ]", "...]") if word.startswith("[") else f".I {bare}{more}\n"
+        synopsis.append(f".B heavy {name}\n{options}{words}")
+    whole = ".br\n".join([*synopsis, ".B heavy help\n.RI [ COMMAND ]\n"])
+    text = (programs.TOP / MAN).read_text()
+    begin, end = text.index(".SH SYNOPSIS\n") + len(".SH SYNOPSIS\n"), text.index(".SH DESCRIPTION\n")
+    return text[:begin] + whole + text[end:]
+
+
+MADE = {MAN: made_man, BASH: made_bash, ZSH: made_zsh, FISH: made_fish}
 
 
 def man_faults(text: str, told: Told) -> list[str]:
+    """Where the man page's commands, options, ranges, defaults and version are not those of help."""
     text = text.replace("\\-", "-")
     section = dict(re.findall(r"^\.SH (.*)\n((?:(?!\.SH ).*\n)*)", text, re.MULTILINE))
-    synopsis = dict(re.findall(r"^\.B heavy (\w+)\n((?:(?!\.B heavy |\.br).*\n?)*)", section["SYNOPSIS"], re.MULTILINE))
-    faults = differ("synopsis", set(synopsis), told.commands)
     listed = set(re.findall(r"^\.B heavy (\w+)$", section["COMMANDS"], re.MULTILINE))
-    faults += differ("COMMANDS", listed, told.commands)
-    for name, line in synopsis.items():
-        named = set(re.findall(r"--[a-z-]+", line))
-        wanted = {option for option in told.options.get(name, set()) if LONG.fullmatch(option)} - {"--help"}
-        faults += differ(f"synopsis of {name}", named, wanted)
-    every = set().union(*told.options.values())
+    faults = differ("COMMANDS", listed, told.commands())
+    every = set().union(*map(told.options, told.shown))
     heads = "".join(re.findall(r"^\.TP\n(.*\n)", section["OPTIONS"], re.MULTILINE))
     faults += differ("OPTIONS", set(re.findall(r"(?<![\w-])--?[A-Za-z-]+", heads)), every)
     for option, numbers in told.numbers.items():
@@ -125,57 +301,21 @@ def completed(file: Path, words: list[str]) -> set[str]:
 
 
 def bash_faults(text: str, told: Told) -> list[str]:
+    """Where bash offers by this text something else than help names."""
+    commands = told.commands()
     with tempfile.TemporaryDirectory() as room:
         file = Path(room, "heavy.bash")
         file.write_text(text)
-        faults = differ("first words", completed(file, ["heavy", ""]), told.commands | told.options[""])
-        for name in told.commands:
-            begun = {word for word in told.commands if word.startswith(name[:2])}
+        faults = differ("first words", completed(file, ["heavy", ""]), commands | told.options(""))
+        for name in commands:
+            begun = {word for word in commands if word.startswith(name[:2])}
             faults += differ(f"words like {name[:2]}", completed(file, ["heavy", name[:2]]), begun)
             if name != "help":
-                faults += differ(f"options of {name}", completed(file, ["heavy", name, "-"]), told.options[name])
+                faults += differ(f"options of {name}", completed(file, ["heavy", name, "-"]), told.options(name))
         faults += differ("methods", completed(file, ["heavy", "summarise", "--method", ""]), {"mg", "ss"})
         faults += differ("trees", completed(file, ["heavy", "report", "--tree", ""]), {"balanced", "chain"})
         faults += differ("numbers", completed(file, ["heavy", "report", "--k", ""]), set())
-        faults += differ("help", completed(file, ["heavy", "help", ""]), told.commands)
-    return faults
-
-
-def zsh_faults(text: str, told: Told) -> list[str]:
-    """By the text: the list of commands, and for each the options of its branch and of the lists that it names."""
-    body = re.search(r"commands=\(\n(.*?)\n  \)", text, re.DOTALL)
-    faults = differ("commands", set(re.findall(r"^ +'(\w+):", body[1], re.MULTILINE)) if body else set(), told.commands)
-    named = re.findall(r"^  (\w+)=\((.*?)\)$", text, re.DOTALL | re.MULTILINE)
-    lists = {name: options_in(inside) for name, inside in named}
-    first = re.search(r"CURRENT == 2.*?\n  fi", text, re.DOTALL)
-    branches = dict(re.findall(r"^    (\w+)\)(.*?);;", text, re.DOTALL | re.MULTILINE))
-    branches[""] = first[0] if first else ""
-    faults += differ("branches", set(branches), told.commands | {""})
-    for name, branch in branches.items():
-        named = options_in(branch).union(*(lists.get(word, set()) for word in re.findall(r"\$(\w+)", branch)))
-        faults += differ(f"options of {name}", named, told.options.get(name, set()))
-    return faults
-
-
-def options_in(text: str) -> set[str]:
-    return set(re.findall(r"(?<![\w-])--?[A-Za-z]+(?:-[a-z]+)*(?![\w-])", text))
-
-
-def fish_faults(text: str, told: Told) -> list[str]:
-    """By the lines: the commands, and the options under the condition that names a command."""
-    lines = [line for line in text.splitlines() if line.startswith("complete -c heavy ")]
-    commands, options = set(), {name: set() for name in told.commands | {""}}
-    for line in lines:
-        commands |= set(re.findall(r"__fish_use_subcommand -a (\w+)", line))
-        named = {f"-{letter}" for letter in re.findall(r" -s (\w)", line)}
-        named |= {f"--{word}" for word in re.findall(r" -l ([\w-]+)", line)}
-        seen = re.search(r"__fish_seen_subcommand_from ([\w ]+)'", line)
-        of = seen[1].split() if seen else [""] if "__fish_use_subcommand" in line else [*told.commands - {"help"}, ""]
-        for name in of:
-            options.setdefault(name, set()).update(named)
-    faults = differ("commands", commands, told.commands)
-    for name, named in options.items():
-        faults += differ(f"options of {name}", named, told.options.get(name))
+        faults += differ("help", completed(file, ["heavy", "help", ""]), commands)
     return faults
 
 
@@ -183,7 +323,14 @@ def differ(name: str, found: object, wanted: object) -> list[str]:
     return [] if found == wanted else [f"{name}: {found}, and help has {wanted}"]
 
 
-CHECKS = {MAN: man_faults, BASH: bash_faults, ZSH: zsh_faults, FISH: fish_faults}
+CHECKS = {MAN: man_faults, BASH: bash_faults}
+
+
+def faults_of(file: str, text: str, told: Told) -> list[str]:
+    """Where a file's text is not what is made of help, or says something else."""
+    is_made = text == MADE[file](told) if file != MAN else text.partition(".SH DESCRIPTION")[0] in MADE[file](told)
+    faults = [] if is_made else [f"{file} is not what tests/completions.py --write makes"]
+    return faults + (CHECKS[file](text, told) if file in CHECKS else [])
 
 
 class Terminal:
@@ -242,19 +389,20 @@ class Completions(programs.Checks):
     def test_help(self) -> None:
         """The help has what it is asked for below."""
         told = self.told
-        self.check("help has commands", len(told.commands) > 1, told)
-        self.check("help has options", all(told.options[name] for name in told.commands - {"help"}), told)
+        self.check("help has commands", len(told.commands()) > 1, told)
+        self.check("help has options", all(shown.options for shown in told.own().values()), told)
+        self.check("help has words", all(shown.words for shown in told.own().values()), told)
         self.check("help has ranges", len(told.numbers) > 1, told)
 
     def test_files(self) -> None:
-        """Each file has what the help has, and a drift in it is found."""
-        texts = {file: (programs.TOP / file).read_text() for file in CHECKS}
-        for file, faults in CHECKS.items():
-            found = faults(texts[file], self.told)
+        """Each file is made of the help, and a drift in it is found."""
+        texts = {file: (programs.TOP / file).read_text() for file in MADE}
+        for file, text in texts.items():
+            found = faults_of(file, text, self.told)
             self.check(file, not found, found)
         for file, old, new in DRIFTS:
             drifted = texts[file].replace(old, new, 1)
-            found = drifted != texts[file] and CHECKS[file](drifted, self.told)
+            found = drifted != texts[file] and faults_of(file, drifted, self.told)
             self.check(f"a drift in {file}: {old!r}", found, "not found")
 
     def test_terminal(self) -> None:
@@ -308,13 +456,23 @@ class Completions(programs.Checks):
             ended = subprocess.run(["fish", "--no-config", "-c", script, line], capture_output=True, text=True, check=True)
             return {row.split("\t")[0] for row in ended.stdout.splitlines()}
 
-        self.check("fish: commands", offered("heavy ") == self.told.commands, offered("heavy "))
-        for name in self.told.commands:
+        self.check("fish: commands", offered("heavy ") == self.told.commands(), offered("heavy "))
+        for name in self.told.commands():
             line = f"heavy {name} -".replace(" help ", " ")
-            wanted = self.told.options["" if name == "help" else name]
+            wanted = self.told.options("" if name == "help" else name)
             self.check(f"fish: {line}", offered(line) == wanted, offered(line))
         self.check("fish: methods", offered("heavy summarise --method ") == {"mg", "ss"})
 
 
+def write() -> None:
+    """Writes the files that are made of the help."""
+    told = told_by(programs.built("heavy_cli"))
+    for file, made in MADE.items():
+        (programs.TOP / file).write_text(made(told))
+
+
 if __name__ == "__main__":
-    programs.run_tests("completions")
+    if sys.argv[1:] == ["--write"]:
+        write()
+    else:
+        programs.run_tests("completions")
