@@ -20,7 +20,7 @@ pub use hh_library::{
     confirm_bytes, confirm_items, confirm_share, empty_summary, empty_table, hash_of, list_entries,
     list_keys, report_bytes, summary_bytes, table_bytes,
 };
-pub use hh_pieces::{ReadAt, SourceRecords};
+pub use hh_pieces::{GrowingFile, ReadAt, SourceRecords};
 pub use hh_pool::MAX_WORKERS;
 pub use hh_records::{Column, Layout, LayoutWords, Records, layout_of, read_stream};
 pub use hh_reports::{report_rows, run_report};

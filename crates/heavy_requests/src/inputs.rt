@@ -1,6 +1,7 @@
 //! Where records come from: standard input, or files that the command line names.
 
 ghost use Rattle.std.specs.Prelude.{◌≡◌, ◌⊎◌, IfErr, None, ⊤};
+ghost use Rattle.std.specs.Io.{ReadsAtMost};
 ghost use Rattle.heavy_requests.specs.Inputs.{FailsToOpen, names_standard};
 
 use crate::explain::explains_faults;
@@ -13,14 +14,13 @@ use heavy_progress::{
     SharedProgress, Watch,
 };
 use hh_faults::ToolError;
-use hh_pieces::ReadAt;
+use hh_pieces::{GrowingFile, ReadAt};
 use hh_records::delimiter_of;
 use memchr::memrchr;
 use std::alloc::Global;
 use std::cell::Cell;
 use std::fs::{self, File, Metadata};
 use std::io::{self, Read, Stdin};
-use std::os::unix::fs::FileExt;
 use std::sync::atomic::{AtomicU64, Ordering};
 
 /// The bytes of a megabyte.
@@ -30,6 +30,9 @@ const MEGABYTE: u64 = 1_000_000;
 #[derive(Drop)]
 enum InputSource {
     Standard(Stdin),
+    /// A file of the disk that isn't empty, and the place up to which it was read.
+    Disk(GrowingFile, u64),
+    /// Another file.
     File(File),
     /// Standard input once more, of which the first one takes all.
     Nothing,
@@ -65,12 +68,26 @@ fn size_in(metadata: &Metadata) -> Option<u64> {
     (metadata.is_file() && metadata.len() > 0).then_some(metadata.len())
 }
 
-/// How many bytes an open file has, where it is one of the disk that isn't empty.
-fn size_of(file: &File) -> Option<u64> {
+/// Makes an open `file` ready to be read from its start.
+fn source_of(file: File) -> InputSource {
     match file.metadata() {
-        Ok(metadata) => size_in(&metadata),
-        Err(_) => None,
+        Ok(metadata) if size_in(&metadata).is_some() => {
+            InputSource::Disk(GrowingFile::new(file, &metadata), 0)
+        }
+        _ => InputSource::File(file),
     }
+}
+
+/// Reads `file` on from the place `at`, and checks it where it ends.
+fn read_on(file: &GrowingFile, at: &mut u64, buf: &mut [u8]) -> io::Result<usize>
+    ensures bound { ReadsAtMost result buf.new }
+{
+    let count = file.read_at(buf, *at)?;
+    if count == 0 {
+        file.check()?;
+    }
+    *at = at.saturating_add(count as u64);
+    Ok(count)
 }
 
 /// Standard input or a file, which notes its number and the error where it can't be read.
@@ -112,6 +129,7 @@ impl<'a> Read for Input<'a> {
     fn read(&mut self, buf: &mut [u8]) -> io::Result<usize> {
         let outcome = match &mut self.source {
             InputSource::Standard(input) => input.read(buf),
+            InputSource::Disk(file, at) => read_on(file, at, buf),
             InputSource::File(file) => file.read(buf),
             InputSource::Nothing => Ok(0),
         };
@@ -121,11 +139,10 @@ impl<'a> Read for Input<'a> {
 }
 
 /// A file of the disk that is read at any place, by several workers at once. It notes its number
-/// where a read fails, or where its length isn't what it was when it was opened.
+/// where a read fails, or where the file was changed while it was read.
 #[derive(Drop)]
 pub struct DiskFile<'a> {
-    file: File,
-    size: u64,
+    file: GrowingFile,
     number: u64,
     unread: &'a Unread,
     progress: Option<&'a SharedProgress<'a>>,
@@ -155,7 +172,7 @@ impl<'a> DiskFile<'a> {
             at = 0;
         }
         for _ in 0..u64::MAX {
-            let count = FileExt::read_at(&self.file, &mut buffer, at).ok()?;
+            let count = self.file.read_at(&mut buffer, at).ok()?;
             if count == 0 {
                 return Some(guesses.may_be_suspicious());
             }
@@ -174,7 +191,7 @@ impl<'a> DiskFile<'a> {
         let mut last = LastRecord::new(delimiter);
         let mut at = 0u64;
         for _ in 0..u64::MAX {
-            let count = FileExt::read_at(&self.file, &mut buffer, at).ok()?;
+            let count = self.file.read_at(&mut buffer, at).ok()?;
             if count == 0 {
                 return last.suspicious();
             }
@@ -200,20 +217,22 @@ impl<'a> ReadAt for DiskFile<'a> {
     ghost bytes = { λ _. None };
 
     fn len(&self) -> io::Result<u64> {
-        let outcome = ReadAt::len(&self.file);
+        self.file.len()
+    }
+
+    fn read_at(&self, buf: &mut [u8], at: u64) -> io::Result<usize> {
+        let outcome = self.file.read_at(buf, at);
         match &outcome {
             Err(error) => self.unread.note(self.number, error),
-            Ok(size) if *size != self.size => self.unread.note_changed(self.number),
-            Ok(_) => {}
+            Ok(count) => self.see(buf.get(..*count).unwrap_or(&[]), at),
         }
         outcome
     }
 
-    fn read_at(&self, buf: &mut [u8], at: u64) -> io::Result<usize> {
-        let outcome = FileExt::read_at(&self.file, buf, at);
-        match &outcome {
-            Err(error) => self.unread.note(self.number, error),
-            Ok(count) => self.see(buf.get(..*count).unwrap_or(&[]), at),
+    fn check(&self) -> io::Result<()> {
+        let outcome = self.file.check();
+        if let Err(error) = &outcome {
+            self.unread.note(self.number, error);
         }
         outcome
     }
@@ -259,6 +278,13 @@ impl<'a> ReadAt for OpenFile<'a> {
             OpenFile::Kept(pipe) => pipe.read_at(buf, at),
         }
     }
+
+    fn check(&self) -> io::Result<()> {
+        match self {
+            OpenFile::Disk(file) => file.check(),
+            OpenFile::Kept(pipe) => pipe.check(),
+        }
+    }
 }
 
 /// A reader of records, which reports its progress where that is asked for.
@@ -270,14 +296,12 @@ pub struct OpenInput {
     source: InputSource,
     /// Its place among the command line's files, from 1 on, and 0 where it has none.
     number: u64,
-    /// How many bytes it has, where it is a file of the disk that isn't empty.
-    size: Option<u64>,
 }
 
 impl OpenInput {
     /// Whether it is a file of the disk that isn't empty, which can be read at any place.
     pub fn is_disk_file(&self) -> bool {
-        self.size.is_some()
+        matches!(self.source, InputSource::Disk(..))
     }
 }
 
@@ -360,29 +384,22 @@ impl<'a> Inputs<'a> {
     pub fn open(self, name: &[u8], number: u64, is_taken: bool) -> Result<OpenInput, ToolError>
         ensures refused { IfErr result (FailsToOpen name.now number) }
     {
-        let (source, size) = match (is_standard(name), is_taken) {
-            (true, true) => (InputSource::Nothing, None),
-            (true, false) => (InputSource::Standard(self.rt.stdin()), None),
-            (false, _) => {
-                let file = self.file(name, number)?;
-                let size = size_of(&file);
-                (InputSource::File(file), size)
-            }
+        let source = match (is_standard(name), is_taken) {
+            (true, true) => InputSource::Nothing,
+            (true, false) => InputSource::Standard(self.rt.stdin()),
+            (false, _) => source_of(self.file(name, number)?),
         };
-        Ok(OpenInput {
-            source,
-            number,
-            size,
-        })
+        Ok(OpenInput { source, number })
     }
 
     /// Makes a reader of an open `input`.
     pub fn reader(self, input: OpenInput) -> Reader<'a> {
         let size = match &input.source {
             InputSource::Standard(_) => self.size_at("/dev/stdin"),
-            _ => input.size,
+            InputSource::Disk(file, _) => Some(file.first_len()),
+            _ => None,
         };
-        let begin = if self.keeps_begin && input.size.is_none() {
+        let begin = if self.keeps_begin && !input.is_disk_file() {
             Some(self.begin)
         } else {
             None
@@ -397,21 +414,11 @@ impl<'a> Inputs<'a> {
         ensures refused { IfErr result (λ fault.
             (fault ≡ ToolError.Memory) ⊎ (fault ≡ ToolError.ReadFault)) }
     {
-        let OpenInput {
-            source,
-            number,
-            size,
-        } = input;
-        match (source, size) {
-            (InputSource::File(file), Some(size)) => {
-                Ok(OpenFile::Disk(self.disk_file(file, size, number)))
-            }
-            (source, _) => {
-                let pipe = self.reader(OpenInput {
-                    source,
-                    number,
-                    size: None,
-                });
+        let OpenInput { source, number } = input;
+        match source {
+            InputSource::Disk(file, _) => Ok(OpenFile::Disk(self.disk_file(file, number))),
+            source => {
+                let pipe = self.reader(OpenInput { source, number });
                 let kept = keep_pipe(self.rt, pipe, self.most_kept, self.unread)?;
                 Ok(OpenFile::Kept(kept))
             }
@@ -448,11 +455,10 @@ impl<'a> Inputs<'a> {
         }
     }
 
-    /// Makes a file of `size` bytes ready for workers.
-    fn disk_file(self, file: File, size: u64, number: u64) -> DiskFile<'a> {
+    /// Makes a `file` ready for workers.
+    fn disk_file(self, file: GrowingFile, number: u64) -> DiskFile<'a> {
         DiskFile {
             file,
-            size,
             number,
             unread: self.unread,
             progress: self.progress,
@@ -494,7 +500,7 @@ impl<'a> Inputs<'a> {
         let Ok(mut buffer) = vec![in self.rt.alloc(); 0u8; LOOK_LEN] else {
             return;
         };
-        let mut input = self.input(InputSource::File(file), number, None);
+        let mut input = self.input(source_of(file), number, None);
         read_all(&mut input, &mut buffer);
     }
 

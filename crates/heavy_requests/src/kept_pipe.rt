@@ -27,8 +27,8 @@ pub(crate) enum KeptBytes {
 #[derive(Drop)]
 pub struct KeptPipe {
     bytes: KeptBytes,
-    /// Whether the pipe came to its end. Where it could not be read to there, its length is one
-    /// more than its bytes, so that a reader fails after them.
+    /// Whether the pipe came to its end. Where it could not be read to there, a reader fails after
+    /// its bytes.
     is_whole: bool,
 }
 
@@ -50,18 +50,25 @@ impl ReadAt for KeptPipe {
     ghost bytes = { kept_bytes };
 
     fn len(&self) -> io::Result<u64> {
-        let len = match &self.bytes {
-            KeptBytes::Memory(bytes) => ReadAt::len(bytes)?,
-            KeptBytes::File(_, len) => *len,
-        };
-        Ok(len.saturating_add(u64::from(!self.is_whole)))
+        match &self.bytes {
+            KeptBytes::Memory(bytes) => ReadAt::len(bytes),
+            KeptBytes::File(_, len) => Ok(*len),
+        }
     }
 
     fn read_at(&self, buf: &mut [u8], at: u64) -> io::Result<usize> {
-        match &self.bytes {
-            KeptBytes::Memory(bytes) => bytes.read_at(buf, at),
-            KeptBytes::File(file, _) => FileExt::read_at(file, buf, at),
+        let count = match &self.bytes {
+            KeptBytes::Memory(bytes) => bytes.read_at(buf, at)?,
+            KeptBytes::File(file, _) => FileExt::read_at(file, buf, at)?,
+        };
+        if count == 0 && !self.is_whole {
+            return Err(io::Error::from(io::ErrorKind::UnexpectedEof));
         }
+        Ok(count)
+    }
+
+    fn check(&self) -> io::Result<()> {
+        Ok(())
     }
 }
 

@@ -31,12 +31,6 @@ impl Unread {
         self.code.store(code, Ordering::SeqCst);
     }
 
-    /// Notes the `number` of an input whose length changed.
-    pub fn note_changed(&self, number: u64) {
-        self.number.store(number, Ordering::SeqCst);
-        self.code.store(0, Ordering::SeqCst);
-    }
-
     /// Notes the `error` of the file that was to keep a pipe's bytes.
     pub fn note_unkept(&self, error: &Error) {
         self.note(0, error);

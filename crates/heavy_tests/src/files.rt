@@ -73,6 +73,10 @@ impl ReadAt for ManyRecords<'_> {
         let mut rest = &text[at..];
         rest.read(buf)
     }
+
+    fn check(&self) -> io::Result<()> {
+        Ok(())
+    }
 }
 
 /// The options of a report by one worker, of two pieces.
@@ -205,90 +209,112 @@ fn files_are_tabulated_by_workers(rt: HostRuntime) {
     assert_same(&rt, table.as_slice(), expected.as_slice());
 }
 
-/// What a growing file has in the end. Its second record comes once its first was read.
+/// What a growing file has in the end. Its second record comes once its pieces were cut.
 const GROWN: &[u8] = b"a,5\na,2\n";
 
-/// A file that grows.
+/// A file that grows, and may be changed otherwise, too.
 #[derive(Drop)]
-struct GrowingFile {
-    reads: AtomicU64,
+struct LiveFile {
+    is_changed: bool,
 }
 
-impl ReadAt for GrowingFile {
+impl ReadAt for LiveFile {
     ghost bytes = { λ _. None };
 
     fn len(&self) -> io::Result<u64> {
-        if self.reads.load(Ordering::SeqCst) == 0 {
-            Ok(4)
-        } else {
-            Ok(8)
-        }
+        Ok(4)
     }
 
     fn read_at(&self, buf: &mut [u8], at: u64) -> io::Result<usize> {
-        self.reads.store(1, Ordering::SeqCst);
         let mut rest = &GROWN[at.min(8) as usize..];
         rest.read(buf)
     }
+
+    fn check(&self) -> io::Result<()> {
+        if self.is_changed {
+            return Err(Error::from(ErrorKind::InvalidData));
+        }
+        Ok(())
+    }
 }
 
-fn growing() -> [GrowingFile; 1] {
-    [GrowingFile {
-        reads: AtomicU64::new(0),
-    }]
+/// What is made of files.
+#[derive(Clone, Copy)]
+enum Verb {
+    Report,
+    /// By this many workers.
+    Summarise(u64),
+    Table,
+    Condense,
+    Confirm,
 }
+
+const VERBS: [Verb; 6] = [
+    Verb::Report,
+    Verb::Summarise(1),
+    Verb::Summarise(2),
+    Verb::Table,
+    Verb::Condense,
+    Verb::Confirm,
+];
 
 /// The summary of what the growing file has in the end, with one counter.
 fn grown_summary(rt: &(impl Abort + AllocGlobal)) -> Vec<u8> {
     summary_bytes(rt.alloc(), 1, Method::MisraGries, GROWN).expect(rt, "a summary")
 }
 
-#[test]
-fn report_of_a_growing_file_is_refused(rt: HostRuntime) {
-    let (sources, layout) = (growing(), Layout::plain(rt.alloc()));
+/// What is made of such a file.
+fn made_of(
+    rt: &(impl Abort + AllocGlobal + Threads + Wait + Sync),
+    verb: Verb,
+    is_changed: bool,
+) -> Result<Vec<u8>, ToolError> {
+    let alloc = rt.alloc();
+    let (sources, layout) = ([LiveFile { is_changed }], Layout::plain(alloc));
     let records = SourceRecords {
         layout: &layout,
         sources: &sources,
     };
-    let mut taken = Vec::new(rt.alloc());
-    let mut out = Out::new(FaultyWriter::new(Manner::taking(99), &mut taken));
-    let rows = RowOptions::plain();
-    let reported = report_files(&rt, rt.alloc(), &options(), &rows, records, &mut out);
-    assert_same(&rt, reported.err(), Some(ToolError::ReadFault));
-}
-
-#[test]
-fn growing_file_is_summarised_whole(rt: HostRuntime) {
-    let (sources, layout) = (growing(), Layout::plain(rt.alloc()));
-    let records = SourceRecords {
-        layout: &layout,
-        sources: &sources,
-    };
-    let summary = summarise_files(&rt, rt.alloc(), 1, 2, records).expect(&rt, "a summary");
-    assert_same(&rt, summary.as_slice(), grown_summary(&rt).as_slice());
-}
-
-#[test]
-fn growing_file_is_tabulated_whole(rt: HostRuntime) {
-    let (sources, layout) = (growing(), Layout::plain(rt.alloc()));
-    let records = SourceRecords {
-        layout: &layout,
-        sources: &sources,
-    };
-    let table = table_files(&rt, rt.alloc(), 4, 2, 3, 2, records).expect(&rt, "a table");
-    let expected = table_bytes(rt.alloc(), 4, 2, 3, GROWN).expect(&rt, "a table");
-    assert_same(&rt, table.as_slice(), expected.as_slice());
-}
-
-#[test]
-fn growing_file_is_condensed_whole(rt: HostRuntime) {
-    let file = grown_summary(&rt);
-    let (sources, layout) = (growing(), Layout::plain(rt.alloc()));
-    let records = SourceRecords {
-        layout: &layout,
-        sources: &sources,
-    };
+    let (file, share, rows) = (grown_summary(rt), Share::OfCounters, RowOptions::plain());
     let compared = &mut Comparison::new(true);
-    let rows = condense_files(&rt, rt.alloc(), &file, 2, records, compared).expect(&rt, "rows");
-    assert_same(&rt, rows.as_slice(), b"a,7\n".as_slice());
+    match verb {
+        Verb::Report => {
+            let mut taken = Vec::new(alloc);
+            let mut out = Out::new(FaultyWriter::new(Manner::taking(99), &mut taken));
+            report_files(rt, alloc, &options(), &rows, records, &mut out)?;
+            drop(out);
+            Ok(taken)
+        }
+        Verb::Summarise(workers) => summarise_files(rt, alloc, 1, workers, records),
+        Verb::Table => table_files(rt, alloc, 4, 2, 3, 2, records),
+        Verb::Condense => condense_files(rt, alloc, &file, 2, records, compared),
+        Verb::Confirm => confirm_files(rt, alloc, &file, &share, &rows, 2, records, compared),
+    }
+}
+
+/// What is made of the bytes that the growing file has in the end.
+fn made_of_grown(rt: &(impl Abort + AllocGlobal), verb: Verb) -> Vec<u8> {
+    match verb {
+        Verb::Report | Verb::Condense | Verb::Confirm => {
+            Vec::from_slice(rt.alloc(), b"a,7\n").expect(rt, "rows")
+        }
+        Verb::Summarise(_) => grown_summary(rt),
+        Verb::Table => table_bytes(rt.alloc(), 4, 2, 3, GROWN).expect(rt, "a table"),
+    }
+}
+
+#[test]
+fn growing_files_are_read_on(rt: HostRuntime) {
+    for verb in &VERBS {
+        let made = made_of(&rt, *verb, false).expect(&rt, "bytes");
+        assert_same(&rt, made.as_slice(), made_of_grown(&rt, *verb).as_slice());
+    }
+}
+
+#[test]
+fn changed_files_are_refused(rt: HostRuntime) {
+    for verb in &VERBS {
+        let fault = made_of(&rt, *verb, true).err();
+        assert_same(&rt, fault, Some(ToolError::ReadFault));
+    }
 }

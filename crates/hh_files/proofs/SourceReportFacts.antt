@@ -9,16 +9,12 @@ use Rattle.hh_counters.specs.Laws.{CandidatesSuffice, MisraGriesIsHonest}
 use Rattle.hh_summaries.specs.Report.{heavy}
 use Rattle.hh_counters.specs.declared.report.Heavy.{Heavy}
 use Rattle.hh_rows.specs.Printed.{printed_rows}
-use Rattle.hh_pieces.specs.Sources.{NotRead}
 use Rattle.hh_records.specs.Streams.{Known, Reading, ReadsAs}
 use Rattle.hh_rows.specs.Thresholds.{threshold_of}
 use Rattle.hh_rows.specs.declared.printed.RowOptions.{RowOptions}
-use Rattle.hh_faults.specs.declared.records.TextError.{TextError}
-use Rattle.hh_faults.specs.declared.records.TextError.TheVariants as text
 use Rattle.hh_commands.specs.Confirm.{confirmed_above}
 use Rattle.hh_commands.specs.Records.{IsCountOf}
 use Rattle.hh_records.specs.Refusals.{RecordsRefused}
-use Rattle.hh_faults.specs.Faults.{text_fault}
 use Rattle.hh_reports.specs.Report.{AreOptions, ReportsKeys, StartRefused}
 use Rattle.hh_files.specs.ReportFiles.{FindsKeys, IfKnown, PrintsFileRows}
 use Rattle.hh_commands.specs.Summarise.{IsSummaryOf}
@@ -47,12 +43,6 @@ counted_twice honest suffice names (Some r) k p q s counts total rows enough (xs
       is ∙ ap (λ (t : SummaryView). t.total) made,
       found xs (counted ∙ ap (count_of (keys_of s.counters)) (sym same)) ∙ all,
     )
-
--- a source that can't be read refuses the records
-pub keep_refused : (known : Known) (e : TextError) → NotRead e → RecordsRefused known (text_fault e)
-keep_refused known text.ReadFault h = tt
-keep_refused known text.Memory h = tt
-keep_refused known e h = absurd h
 
 -- records that are refused refuse a report with lawful options
 start_refused : (o : ReportOptions) (known : Known) (e : ToolError) → AreOptions o → RecordsRefused known e

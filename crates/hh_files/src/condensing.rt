@@ -21,9 +21,8 @@ use std::thread::Threads;
 
 /// [`condense_bytes_from`](hh_commands::condense_bytes_from) of files of any size, or other bytes
 /// that are read at any place. Workers read them in pieces, through a buffer each, and once.
-/// Nothing of a file is kept. Where a piece can't be read by itself, or a file's length changes
-/// meanwhile, one thread reads all files from their starts, so that the first refusal comes with
-/// its number.
+/// Nothing of a file is kept. Where a piece can't be read by itself, one thread reads all files
+/// from their starts, so that the first refusal comes with its number.
 ///
 /// The saved file is tested first ([`ToolError::BadFile`], as file 1, and
 /// [`ToolError::NotCounters`]), then the workers, of whom there are 1 to 64
@@ -34,8 +33,8 @@ use std::thread::Threads;
 /// [`condense_bytes_from`](hh_commands::condense_bytes_from) does.
 ///
 /// Where the bytes of all files are known, the rows are those of their records, one file after the
-/// other. A file of the system may change while it is read, which can't be seen where its length
-/// stays the same.
+/// other. Where a file was changed while it was read, the error is [`ToolError::ReadFault`]; one
+/// that has only grown wasn't ([`GrowingFile`](hh_pieces::GrowingFile)).
 pub fn condense_files<T: Threads + Wait + Sync, S: ReadAt + Sync>(
     rt: &T,
     alloc: Global,

@@ -22,8 +22,8 @@ use std::thread::Threads;
 
 /// [`confirm_rows`](hh_commands::confirm_rows) by files of any size, or other bytes that are read
 /// at any place. Workers read them in pieces, through a buffer each, and once. Nothing of a file is
-/// kept. Where a piece can't be read by itself, or a file's length changes meanwhile, one thread
-/// reads all files from their starts, so that the first refusal has its number.
+/// kept. Where a piece can't be read by itself, one thread reads all files from their starts, so
+/// that the first refusal has its number.
 ///
 /// The saved file is tested first ([`ToolError::BadFile`], as file 1, and
 /// [`ToolError::NotCounters`]), then the share ([`ToolError::BadThreshold`]), then the workers, of
@@ -34,8 +34,8 @@ use std::thread::Threads;
 /// [`confirm_rows`](hh_commands::confirm_rows) does.
 ///
 /// Where the bytes of all files are known, the rows are those of their records, one file after the
-/// other. A file of the system may change while it is read, which can't be seen where its length
-/// stays the same.
+/// other. Where a file was changed while it was read, the error is [`ToolError::ReadFault`]; one
+/// that has only grown wasn't ([`GrowingFile`](hh_pieces::GrowingFile)).
 pub fn confirm_files<T: Threads + Wait + Sync, S: ReadAt + Sync>(
     rt: &T,
     alloc: Global,

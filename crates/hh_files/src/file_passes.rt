@@ -17,7 +17,7 @@ use hh_commands::{count_records, free_name};
 use hh_counters::laws::{condensed_is_counted, condensed_keeps_weights, counts_follow_items};
 use hh_counters::{Candidates, Counts, Summary};
 use hh_faults::ToolError;
-use hh_pieces::{CutFiles, ReadAt, SourceRecords, are_as_long, lengths};
+use hh_pieces::{CutFiles, ReadAt, SourceRecords};
 use hh_pool::{PieceFault, count_pieces};
 use hh_reports::piece_count;
 use hh_stream::KeyHash;
@@ -148,7 +148,8 @@ fn counts_side_by_side<T: Threads + Wait + Sync, S: ReadAt + Sync>(
 }
 
 /// The counts of a summary's keys in files. Workers read the files in pieces, once; where a piece
-/// can't be read by itself, or a length changes meanwhile, one thread reads them from their starts.
+/// can't be read by itself, one thread reads them from their starts. Where a file was changed
+/// meanwhile, the error is [`ToolError::ReadFault`].
 pub(crate) fn count_sources<T: Threads + Wait + Sync, S: ReadAt + Sync>(
     rt: &T,
     alloc: Global,
@@ -164,12 +165,10 @@ pub(crate) fn count_sources<T: Threads + Wait + Sync, S: ReadAt + Sync>(
     ensures refused { IfErr result (RecordsRefused
         (texts_known S.bytes records.entry.layout.now records.entry.sources.now)) }
 {
-    let before = lengths(alloc, records.sources)?;
-    let Some(counts) = counts_side_by_side(rt, alloc, summary, workers, records)? else {
-        return count_records(alloc, summary, records);
+    let counts = match counts_side_by_side(rt, alloc, summary, workers, records)? {
+        Some(counts) => counts,
+        None => count_records(alloc, summary, records)?,
     };
-    if !are_as_long(alloc, records.sources, &before)? {
-        return count_records(alloc, summary, records);
-    }
+    records.check()?;
     Ok(counts)
 }

@@ -18,7 +18,7 @@ use hh_commands::{count_records, rows_above, summary_by_monitoring};
 use hh_counters::Heavy;
 use hh_counters::laws::{candidates_suffice, misra_gries_is_honest};
 use hh_faults::ToolError;
-use hh_pieces::{CutFiles, ReadAt, SourceRecords, are_as_long, lengths};
+use hh_pieces::{CutFiles, ReadAt, SourceRecords};
 use hh_pool::{Options, PieceFault, report_pieces};
 use hh_records::ReadRecords;
 use hh_reports::{Prepared, piece_count, prepare, write_keys};
@@ -100,8 +100,8 @@ fn keys_in_turn<R: ReadRecords + Copy>(
 }
 
 /// Finds the total of `records` and their heavy keys. Workers read the files in pieces; if a piece
-/// can't be read by itself, one thread reads all files instead. If the length of a file changes
-/// meanwhile, the error is [`ToolError::ReadFault`].
+/// can't be read by itself, one thread reads all files instead. If a file was changed meanwhile,
+/// the error is [`ToolError::ReadFault`].
 fn keys_of_sources<T: Threads + Wait + Sync, S: ReadAt + Sync>(
     rt: &T,
     alloc: Global,
@@ -122,15 +122,12 @@ fn keys_of_sources<T: Threads + Wait + Sync, S: ReadAt + Sync>(
     ensures refused { IfErr result (RecordsRefused
         (texts_known S.bytes records.entry.layout.now records.entry.sources.now)) }
 {
-    let before = lengths(alloc, records.sources)?;
     let Prepared { settings, p, q, .. } = prepared;
     let keys = match keys_side_by_side(rt, alloc, records, workers, settings)? {
         Some(keys) => keys,
         None => keys_in_turn(alloc, records, k, *p, *q)?,
     };
-    if !are_as_long(alloc, records.sources, &before)? {
-        return Err(ToolError::ReadFault);
-    }
+    records.check()?;
     Ok(keys)
 }
 
@@ -166,9 +163,9 @@ fn reported_of_files<T: Threads + Wait + Sync, S: ReadAt + Sync>(
 /// number of its record. Only [`ToolError::WriteFault`] leaves a part of the rows in `sink`.
 ///
 /// Where the bytes of all files are known, the report is that of their records, one file after the
-/// other. A file of the system may change between two readings. Where the total weight differs, one
-/// thread reads the files anew; where it differs then too, or a length does, the error is that a
-/// file can't be read. Where neither differs, a change can't be seen.
+/// other. Where a file was changed while it was read, the error is [`ToolError::ReadFault`]; one
+/// that has only grown wasn't ([`GrowingFile`](hh_pieces::GrowingFile)). Where the total weights of
+/// two readings differ all the same, one thread reads the files anew, and they are compared again.
 pub fn report_files<T: Threads + Wait + Sync, F: ReadAt + Sync, S: Sink>(
     rt: &T,
     alloc: Global,

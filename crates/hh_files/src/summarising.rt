@@ -16,7 +16,7 @@ use hh_commands::{Method, summary_by_monitoring, summary_bytes_from};
 use hh_counters::laws::misra_gries_is_honest;
 use hh_counters::{MAX_K, Summary};
 use hh_faults::ToolError;
-use hh_pieces::{CutFiles, ReadAt, SourceRecords, are_as_long, lengths};
+use hh_pieces::{CutFiles, ReadAt, SourceRecords};
 use hh_pool::{MAX_WORKERS, PieceFault, summarise_pieces};
 use hh_records::ReadRecords;
 use hh_reports::piece_count;
@@ -63,7 +63,8 @@ fn summary_in_turn<R: ReadRecords>(alloc: Global, k: u64, records: R) -> Result<
 }
 
 /// The summary of records in files. Workers read the files in pieces, once; where a piece can't be
-/// read by itself, or a length changes meanwhile, one thread reads them from their starts.
+/// read by itself, one thread reads them from their starts. Where a file was changed meanwhile, the
+/// error is [`ToolError::ReadFault`].
 fn summary_of_sources<T: Threads + Wait + Sync, S: ReadAt + Sync>(
     rt: &T,
     alloc: Global,
@@ -78,13 +79,11 @@ fn summary_of_sources<T: Threads + Wait + Sync, S: ReadAt + Sync>(
     ensures refused { IfErr result (RecordsRefused
         (texts_known S.bytes records.entry.layout.now records.entry.sources.now)) }
 {
-    let before = lengths(alloc, records.sources)?;
-    let Some(summary) = summary_side_by_side(rt, alloc, k, workers, records)? else {
-        return summary_in_turn(alloc, k, records);
+    let summary = match summary_side_by_side(rt, alloc, k, workers, records)? {
+        Some(summary) => summary,
+        None => summary_in_turn(alloc, k, records)?,
     };
-    if !are_as_long(alloc, records.sources, &before)? {
-        return summary_in_turn(alloc, k, records);
-    }
+    records.check()?;
     Ok(summary)
 }
 
@@ -96,16 +95,16 @@ fn summary_of_sources<T: Threads + Wait + Sync, S: ReadAt + Sync>(
 /// buffer each, and once; each tallies the items of its pieces, and the `k` greatest counters of
 /// all are kept, each less the next one. Within what a summary promises they may differ from run
 /// to run, by which worker reads which piece. Nothing of a file is kept. Where a piece can't be
-/// read by itself, or a file's length changes meanwhile, one thread reads all files from their
-/// starts, so that the first refusal has its number.
+/// read by itself, one thread reads all files from their starts, so that the first refusal has its
+/// number.
 ///
 /// k is tested first ([`ToolError::BadK`]), then the workers, of whom there are 1 to 64
 /// ([`ToolError::BadWorkers`]), and then come the records ([`ToolError::ReadFault`],
 /// [`ToolError::NoColumn`], [`ToolError::BadRecord`]).
 ///
 /// Where the bytes of all files are known, the summary is one of their records, one file after the
-/// other. A file of the system may change while it is read, which can't be seen where its length
-/// stays the same.
+/// other. Where a file was changed while it was read, the error is [`ToolError::ReadFault`]; one
+/// that has only grown wasn't ([`GrowingFile`](hh_pieces::GrowingFile)).
 pub fn summarise_files<T: Threads + Wait + Sync, S: ReadAt + Sync>(
     rt: &T,
     alloc: Global,
@@ -131,7 +130,9 @@ pub fn summarise_files<T: Threads + Wait + Sync, S: ReadAt + Sync>(
         return Err(ToolError::BadWorkers);
     }
     if workers == 1 {
-        return summary_bytes_from(alloc, k, Method::MisraGries, records);
+        let bytes = summary_bytes_from(alloc, k, Method::MisraGries, records)?;
+        records.check()?;
+        return Ok(bytes);
     }
     let summary = summary_of_sources(rt, alloc, k, workers, records)?;
     Ok(write(alloc, &Saved::Counters(summary))?)

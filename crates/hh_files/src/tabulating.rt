@@ -16,7 +16,7 @@ use crate::file_pieces::FilePieces;
 use hh_commands::table_of_records;
 use hh_countmin::{Family, MAX_DEPTH, MAX_WIDTH, Table};
 use hh_faults::ToolError;
-use hh_pieces::{CutFiles, ReadAt, SourceRecords, are_as_long, lengths};
+use hh_pieces::{CutFiles, ReadAt, SourceRecords};
 use hh_pool::{MAX_WORKERS, PieceFault, tabulate_pieces};
 use hh_reports::piece_count;
 use hh_saved::{Saved, write};
@@ -53,7 +53,8 @@ fn table_side_by_side<T: Threads + Wait + Sync, S: ReadAt + Sync>(
 }
 
 /// The table of records in files. Workers read the files in pieces, once; where a piece can't be
-/// read by itself, or a length changes meanwhile, one thread reads them from their starts.
+/// read by itself, one thread reads them from their starts. Where a file was changed meanwhile, the
+/// error is [`ToolError::ReadFault`].
 fn table_of_sources<T: Threads + Wait + Sync, S: ReadAt + Sync>(
     rt: &T,
     alloc: Global,
@@ -72,30 +73,28 @@ fn table_of_sources<T: Threads + Wait + Sync, S: ReadAt + Sync>(
     ensures refused { IfErr result (RecordsRefused
         (texts_known S.bytes records.entry.layout.now records.entry.sources.now)) }
 {
-    let before = lengths(alloc, records.sources)?;
     let family = Family::of_seed(alloc, seed, depth)?;
-    let Some(table) = table_side_by_side(rt, alloc, &family, width, workers, records)? else {
-        return table_of_records(alloc, width, depth, seed, records);
+    let table = match table_side_by_side(rt, alloc, &family, width, workers, records)? {
+        Some(table) => table,
+        None => table_of_records(alloc, width, depth, seed, records)?,
     };
-    if !are_as_long(alloc, records.sources, &before)? {
-        return table_of_records(alloc, width, depth, seed, records);
-    }
+    records.check()?;
     Ok(table)
 }
 
 /// [`table_bytes_from`](hh_commands::table_bytes_from) of files of any size, or other bytes that
 /// are read at any place. Workers read them in pieces, through a buffer each, and once; each fills
 /// a table of its own, and these are merged. Nothing of a file is kept. Where a piece can't be read
-/// by itself, or a file's length changes meanwhile, one thread reads all files from their starts,
-/// so that the first refusal has its number.
+/// by itself, one thread reads all files from their starts, so that the first refusal has its
+/// number.
 ///
 /// The depth is tested first ([`ToolError::BadDepth`]), then the width ([`ToolError::BadWidth`]),
 /// then the workers, of whom there are 1 to 64 ([`ToolError::BadWorkers`]), and then come the
 /// records ([`ToolError::ReadFault`], [`ToolError::NoColumn`], [`ToolError::BadRecord`]).
 ///
 /// Where the bytes of all files are known, the table is that of their records, one file after the
-/// other. A file of the system may change while it is read, which can't be seen where its length
-/// stays the same.
+/// other. Where a file was changed while it was read, the error is [`ToolError::ReadFault`]; one
+/// that has only grown wasn't ([`GrowingFile`](hh_pieces::GrowingFile)).
 pub fn table_files<T: Threads + Wait + Sync, S: ReadAt + Sync>(
     rt: &T,
     alloc: Global,

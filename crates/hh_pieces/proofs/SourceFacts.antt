@@ -1,10 +1,9 @@
 -- Sources that are read from their starts.
-use Rattle.std.proofs.Common.{◌≡◌, ◌<◌, ◌+◌, ◌++◌, ℕ, suc, Bool, List, [], ◌∷◌, drop, length, get_or, Option, Some, None, Result, Ok, Err, refl, sym, ap, add-one, arith, drop-cons}
-use Rattle.std.specs.Prelude.{IfErr, IfOk, IfSome, option_map}
-use Rattle.std.specs.Io.Take.{take_remaining}
-use Rattle.std.specs.declared.io.traits.Take.{Take}
+use Rattle.std.proofs.Common.{◌≡◌, ◌<◌, ◌+◌, ◌++◌, ◌∙◌, ℕ, suc, Bool, true, List, [], ◌∷◌, drop, length, get_or, Option, Some, None, Result, Ok, Err, refl, sym, ap, add-one, arith, drop-cons}
+use Rattle.std.specs.Prelude.{IfErr, IfOk, IfSome, IsOk, option_map}
+use Rattle.std.specs.Result.{is_err}
+use Rattle.std.proofs.lemmas.Bool.{false≢true}
 use Rattle.hh_stream.specs.Weights.{Entry}
-use Rattle.hh_pieces.specs.Files.{length_of}
 use Rattle.hh_pieces.specs.Sources.{IsKnownStill}
 use Rattle.hh_records.specs.Layouts.{TextsRefused, every, gathered, items_after, stream_with}
 use Rattle.hh_records.specs.Streams.{Reading}
@@ -13,11 +12,12 @@ use Rattle.hh_records.specs.declared.layout.Layout.{Layout}
 use Rattle.hh_pieces.specs.declared.read_at.FromPlace.{FromPlace}
 use Rattle.hh_faults.specs.declared.records.TextError.{TextError}
 use Rattle.hh_faults.specs.declared.records.TextError.TheVariants as text
+use Rattle.hh_pieces.proofs.FileFacts.{every-at}
 use Rattle.hh_pieces.proofs.KnownFacts.{KnownSoFar, known-first, known-more}
 
--- the bytes that what reads a source up to a place has left
-abbrev pub reader_left : {S : Type 0} → (S → Option (List ℕ)) → Take (FromPlace S) → Option (List ℕ)
-reader_left bytes = take_remaining (λ r. option_map (drop r.at) (bytes r.source.now))
+-- the bytes that what reads a source has left
+abbrev pub reader_left : {S : Type 0} → (S → Option (List ℕ)) → FromPlace S → Option (List ℕ)
+reader_left bytes r = option_map (drop r.at) (bytes r.source.now)
 
 -- one element of a slice more is known
 pub known-next : {A B C : Type 0} (f : A → Option C) (g : B → Option C) (all : List A) (i : ℕ) (x : A) (ys : List B) (y : B)
@@ -27,20 +27,20 @@ known-next f g all i x ys y l e h k =
     let next : drop i all ≡ x ∷ drop (i + 1) all = rw (add-one, drop-cons all i x) (ap (λ z. z ∷ drop (suc i) all) (sym e)) in
     known-more f g all x (drop (i + 1) all) ys y (rw next at h) k
 
--- the length that a source tells is known still
-pub length-still : {S : Type 0} (bytes : S → Option (List ℕ)) (source : S) (n : ℕ)
-    → IfSome (bytes source) (λ b. n ≡ length b) → IsKnownStill (length_of bytes source) (Some n)
-length-still bytes source n h = by (bytes source) h
-  where
-    by : (b : Option (List ℕ)) → IfSome b (λ b. n ≡ length b) → IsKnownStill (option_map length b) (Some n)
-    by None h = tt
-    by (Some b) h = ap Some h
+-- of sources whose bytes are all known none is found to be changed
+is-no-error : {A E : Type 0} (r : Result A E) → IsOk r → is_err r ≡ true → ⊥
+is-no-error (Ok x) ok bad = false≢true bad
+is-no-error (Err e) ok bad = false≢true ok
 
--- numbers are what every one of them is
-pub every-some : (ns : List ℕ) → every Some ns ≡ Some ns
-unfolding every
-every-some [] = refl
-every-some (n ∷ ns) = rw (every-some ns) refl
+pub none-changed : {S A E : Type 0} (P : Type 0) (f : S → Option (List ℕ)) (all : List S) (i : ℕ) (x : S) (r : Result A E)
+    → i < length all → x ≡ get_or all i x → IfSome (f x) (λ _. IsOk r) → is_err r ≡ true → IfSome (every f all) (λ _. P)
+none-changed P f all i x r l is known bad = by (every f all) refl
+  where
+    by : (o : Option (List (List ℕ))) → every f all ≡ o → IfSome o (λ _. P)
+    by None e = tt
+    by (Some texts) e =
+        let told : f x ≡ Some (get_or texts i []) = ap f is ∙ every-at f all texts i x [] e l in
+        absurd (is-no-error r (rw told at known) bad)
 
 -- no texts are no records
 pub none-read : {S : Type 0} (f : S → Option (List ℕ)) (layout : Layout) (sources : List S) → length sources ≡ 0

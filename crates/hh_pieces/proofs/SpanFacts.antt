@@ -2,10 +2,9 @@
 use Rattle.std.proofs.Common.{◌≡◌, ◌≤◌, ◌<◌, ◌+◌, ◌-◌, ◌++◌, ◌∷◌, ◌∙◌, ℕ, suc, zero, List, [], length, map, take, drop, true, Option, Some, None, refl, ap, arith, append_assoc, append-nil, length-drop}
 use Rattle.std.specs.Prelude.{IfSome}
 use Rattle.std.specs.List.{AllByRecursion}
-use Rattle.std.proofs.Math.Seq.{take-length}
 use Rattle.std.proofs.lemmas.Bool.{false≢true}
 use Rattle.std.proofs.lemmas.Grind.{flat_map-append}
-use Rattle.std.proofs.lemmas.List.{drop-drop, map-append, take-append-drop}
+use Rattle.std.proofs.lemmas.List.{drop-drop, map-append, take-append-drop, take_all}
 use Rattle.hh_stream.specs.Cuttings.{whole_of}
 use Rattle.hh_pieces.specs.CutFiles.{CutsBytes, span_bytes}
 use Rattle.hh_pieces.specs.declared.cut_files.Span.{Span}
@@ -84,16 +83,16 @@ pub known-span-more : (bytes : Option (List ℕ)) (spans : List Span) (span : Sp
 known-span-more None spans span some feed h = tt
 known-span-more (Some bytes) spans span some feed h = one-span-more bytes spans span some feed h
 
--- and with the rest as the last span
-pub known-spans-end : (bytes : Option (List ℕ)) (spans : List Span) (from len : ℕ)
+-- and with the rest as the last span, which may end after the bytes
+pub known-spans-end : (bytes : Option (List ℕ)) (spans : List Span) (from len to : ℕ) → len ≤ to
     → IfSome bytes (λ bytes. len ≡ length bytes) → IfSome bytes (λ bytes. IsCutSoFar bytes from spans)
-    → IfSome bytes (λ bytes. CutsBytes bytes (spans ++ record { from = from; to = len } ∷ []))
-known-spans-end None spans from len size h = tt
-known-spans-end (Some bytes) spans from len size h =
+    → IfSome bytes (λ bytes. CutsBytes bytes (spans ++ record { from = from; to = to } ∷ []))
+known-spans-end None spans from len to enough size h = tt
+known-spans-end (Some bytes) spans from len to enough size h =
     let rest : List ℕ = drop from bytes in
-    let left : len - from ≡ length rest = omega (arith, size, length-drop from bytes) in
-    let last : take (len - from) rest ≡ rest = ap (λ n. take n rest) left ∙ take-length rest in
-    let span : Span = record { from = from; to = len } in
+    let last : take (to - from) rest ≡ rest =
+    take_all (to - from) rest (omega (arith, enough, size, length-drop from bytes)) in
+    let span : Span = record { from = from; to = to } in
     let more : map (span_bytes bytes) (spans ++ span ∷ []) ≡ map (span_bytes bytes) spans ++ rest ∷ [] =
     map-append (span_bytes bytes) spans (span ∷ [])
     ∙ ap (λ (p : List ℕ). map (span_bytes bytes) spans ++ p ∷ []) last in

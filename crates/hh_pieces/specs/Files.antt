@@ -1,5 +1,5 @@
 -- Texts of records in files that are read at any place.
-use Rattle.std.specs.Prelude.{◌≡◌, ◌+◌, ◌-◌, ◌<◌, ◌++◌, ℕ, List, [], take, drop, length, Option, option_map}
+use Rattle.std.specs.Prelude.{◌≡◌, ◌+◌, ◌-◌, ◌<◌, ◌++◌, ℕ, List, [], take, drop, length}
 
 -- `count` bytes from a place on are these of a buffer, and they are none only at the end or with no room
 pub record GivesFrom (bytes : List ℕ) (at count : ℕ) (buffer : List ℕ) : Type 0 where
@@ -9,7 +9,3 @@ pub record GivesFrom (bytes : List ℕ) (at count : ℕ) (buffer : List ℕ) : T
 -- the bytes from a place up to another
 abbrev pub bytes_between : ℕ → ℕ → List ℕ → List ℕ
 bytes_between from to bytes = take (to - from) (drop from bytes)
-
--- how many bytes what can be read at any place has, where they are known
-abbrev pub length_of : {S : Type 0} → (S → Option (List ℕ)) → S → Option ℕ
-length_of bytes source = option_map length (bytes source)

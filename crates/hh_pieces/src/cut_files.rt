@@ -66,6 +66,9 @@ impl<'t, S: ReadAt> Model for CutFiles<'t, S> {
 // The fewest bytes of a piece, but of a file's last.
 const LEAST_LEN: u64 = 65_536;
 
+// Where the last piece of a source ends: wherever its bytes do.
+const LAST: u64 = u64::MAX;
+
 // How many bytes are read at once where a line feed is looked for.
 const READ_LEN: usize = 65_536;
 
@@ -96,7 +99,8 @@ fn find_feed<S: ReadAt>(source: &S, buffer: &mut [u8], from: u64) -> Option<u64>
     None
 }
 
-/// Cuts a source of `len` bytes into spans of about `size`.
+/// Cuts a source of `len` bytes into spans of about `size`. The last has what the source has grown
+/// by meanwhile, too.
 fn spans_of<S: ReadAt>(
     alloc: Global,
     source: &S,
@@ -124,7 +128,7 @@ fn spans_of<S: ReadAt>(
         spans.push(Span { from, to })?;
         from = to;
     }
-    spans.push(Span { from, to: len })?;
+    spans.push(Span { from, to: LAST })?;
     Ok(spans)
 }
 
@@ -293,8 +297,11 @@ impl<'t, S: ReadAt> CutFiles<'t, S> {
         let Some(source) = self.sources.get(part.source) else {
             return Err(PieceFault::Refused);
         };
+        let Ok(len) = source.len() else {
+            return Err(PieceFault::Refused);
+        };
         let Span { from, to } = part.span;
-        let len = to.saturating_sub(from).min(usize::MAX as u64) as usize;
+        let len = len.min(to).saturating_sub(from).min(usize::MAX as u64) as usize;
         let mut bytes = read_between(source, from, to);
         let columns = part.columns.as_ref();
         feed_left(alloc, self.layout, columns, &mut bytes, len, taker)

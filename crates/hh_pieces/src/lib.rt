@@ -7,6 +7,7 @@
 mod chunks;
 mod cut_files;
 mod cuts;
+mod growing;
 pub mod laws;
 mod lines;
 mod pieces;
@@ -16,6 +17,7 @@ mod window;
 
 pub use cut_files::CutFiles;
 pub use cuts::{ends_outside_quotes, whole_records};
+pub use growing::GrowingFile;
 pub use pieces::{Columns, read_piece};
 pub use read_at::ReadAt;
-pub use sources::{SourceRecords, are_as_long, lengths};
+pub use sources::SourceRecords;

@@ -1,19 +1,19 @@
 //! Bytes that are read at any place.
 
-ghost use Rattle.std.specs.Prelude.{◌≡◌, List, ℕ, None, Option, Some, drop, length, option_map, IfOk, IfSome};
+ghost use Rattle.std.specs.Prelude.{◌≡◌, List, ℕ, Option, Some, drop, length, option_map, IfOk, IfSome, IsOk};
 ghost use Rattle.std.specs.Io.{ReadsAtMost};
 ghost use Rattle.hh_pieces.specs.Files.{GivesFrom, bytes_between};
+ghost use Rattle.hh_pieces.specs.Sources.{IsKnownStill};
 
-use std::fs::{File, OpenFile};
 use std::io::{self, Error, ErrorKind, Read, Take};
-use std::os::unix::fs::FileExt;
 
 /// Bytes that can be read at any place, also by several threads at once.
 pub trait ReadAt {
     // all the bytes, where they are known
     ghost bytes: { Self → Option (List ℕ) };
 
-    /// How many bytes there are.
+    /// How many bytes there are. Of a file that grows there may be more by the time that they are
+    /// read.
     fn len(&self) -> io::Result<u64>
         ensures { IfOk result (λ len. IfSome (bytes self.now) (λ bytes. len ≡ length bytes)) };
 
@@ -22,20 +22,11 @@ pub trait ReadAt {
         ensures bound { ReadsAtMost result buf.new }
         ensures bytes { IfOk result (λ count. IfSome (bytes self.now) (λ bytes.
             GivesFrom bytes at count buf.new)) };
-}
 
-// Nothing is known of a file's bytes: it may change between two reads.
-impl ReadAt for File {
-    ghost bytes = { λ _. None };
-
-    fn len(&self) -> io::Result<u64> {
-        let metadata = self.metadata()?;
-        Ok(metadata.len())
-    }
-
-    fn read_at(&self, buf: &mut [u8], at: u64) -> io::Result<usize> {
-        FileExt::read_at(self, buf, at)
-    }
+    /// Checks, once bytes were read, that these are there still. The error is that they were
+    /// changed meanwhile, or that this can't be found out.
+    fn check(&self) -> io::Result<()>
+        ensures known { IfSome (bytes self.now) (λ _. IsOk result) };
 }
 
 impl ReadAt for Vec<u8> {
@@ -50,9 +41,13 @@ impl ReadAt for Vec<u8> {
         let mut rest = &self.as_slice()[at..];
         rest.read(buf)
     }
+
+    fn check(&self) -> io::Result<()> {
+        Ok(())
+    }
 }
 
-/// What reads bytes from a place on, and fails where they end.
+/// What reads bytes from a place on.
 #[derive(Drop)]
 pub(crate) struct FromPlace<'s, S> {
     source: &'s S,
@@ -64,9 +59,6 @@ impl<'s, S: ReadAt> Read for FromPlace<'s, S> {
 
     fn read(&mut self, buf: &mut [u8]) -> io::Result<usize> {
         let count = self.source.read_at(buf, self.at)?;
-        if count == 0 && !buf.is_empty() {
-            return Err(Error::from(ErrorKind::UnexpectedEof));
-        }
         let Some(at) = self.at.checked_add(count as u64) else {
             return Err(Error::from(ErrorKind::InvalidInput));
         };
@@ -75,7 +67,15 @@ impl<'s, S: ReadAt> Read for FromPlace<'s, S> {
     }
 }
 
-/// What reads the bytes from a place up to another. It fails where they end before it.
+/// What reads all bytes of `source`.
+pub(crate) fn read_all<'s, S: ReadAt>(source: &'s S) -> FromPlace<'s, S>
+    ensures { IsKnownStill (S.bytes source.now)
+        (⟦<FromPlace<'s, S> as Read>⟧.remaining result) }
+{
+    FromPlace { source, at: 0 }
+}
+
+/// What reads the bytes of `source` from a place up to another, or as far as they go.
 pub(crate) fn read_between<'s, S: ReadAt>(
     source: &'s S,
     from: u64,

@@ -13,5 +13,5 @@ loop-preserved g c =
 pub returns : goal.returns
 returns g c =
     rw c.in_ok-push-2.ensures.items
-    (known-spans-end (g.S.ReadAt.bytes c.args.source.now) c.loop.spans.items c.loop.from c.args.len c.requires.len
-    c.loop.invariant)
+    (known-spans-end (g.S.ReadAt.bytes c.args.source.now) c.loop.spans.items c.loop.from c.args.len _ (omega arith)
+    c.requires.len c.loop.invariant)

@@ -10,12 +10,12 @@ loop-source-init g c =
 
 pub loop-source-preserved : goal.loop-source-preserved
 loop-source-preserved g c =
-    rw c.in-Ok.ensures.items
+    rw c.in_ok-push.ensures.items
     (known-next g.S.ReadAt.bytes (reader_left g.S.ReadAt.bytes) c.args.sources.now c.loop-source.source-index
-    c.source-item.result c.loop-source.readers.items c.in_ok-reader.reader c.loop-source-test.true c.source-item.is
-    c.loop-source.invariant c.in_ok-reader.ensures.reader)
+    c.source-item.result c.loop-source.readers.items c.read_all.result c.loop-source-test.true c.source-item.is
+    c.loop-source.invariant c.read_all.ensures)
 
-pub returns-clause-readers : goal.returns-clause-readers
-returns-clause-readers g c =
+pub returns : goal.returns
+returns g c =
     known-end g.S.ReadAt.bytes (reader_left g.S.ReadAt.bytes) c.args.sources.now _
     (rw (drop_all c.loop-source.source-index c.args.sources.now c.loop-source-test.false) at c.loop-source.invariant)

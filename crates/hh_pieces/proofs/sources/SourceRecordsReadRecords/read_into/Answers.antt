@@ -18,10 +18,10 @@ returns-clause-items g c =
     let f = g.S.ReadAt.bytes in
     let sources = c.args.self.sources.now in
     let layout = c.args.self.layout.now in
-    let first = c.in_ok-first.first in
-    let others = c.in_ok-others.others.items in
+    let first = c.read_all.result in
+    let others = c.in-Ok.others.items in
     let still = readers-still f (reader_left f) sources c.in-Some.first.now c.in-Some.others.now first others
-    c.in-Some.ensures.cases.0 c.in_ok-first.ensures.reader c.in_ok-others.ensures.readers in
+    c.in-Some.ensures.cases.0 c.read_all.ensures c.in-Ok.ensures in
     taken-still layout (every f sources) (every (reader_left f) (first ∷ others)) still g.T.TakeItems.with_item
     (names_columns layout) c.args.taker c.read_texts.result c.read_texts.ensures.items
 
@@ -30,9 +30,9 @@ returns-clause-refused g c =
     let f = g.S.ReadAt.bytes in
     let sources = c.args.self.sources.now in
     let layout = c.args.self.layout.now in
-    let first = c.in_ok-first.first in
-    let others = c.in_ok-others.others.items in
+    let first = c.read_all.result in
+    let others = c.in-Ok.others.items in
     let still = readers-still f (reader_left f) sources c.in-Some.first.now c.in-Some.others.now first others
-    c.in-Some.ensures.cases.0 c.in_ok-first.ensures.reader c.in_ok-others.ensures.readers in
+    c.in-Some.ensures.cases.0 c.read_all.ensures c.in-Ok.ensures in
     told-still layout (every f sources) (every (reader_left f) (first ∷ others)) still (names_columns layout)
     c.read_texts.result c.read_texts.ensures.refused

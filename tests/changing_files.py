@@ -1,0 +1,175 @@
+#!/usr/bin/env python3
+"""Runs each command over a file that is changed before any one of its reads: appended to, made shorter, replaced by name, or
+written to in place. A file that grows is read to a line's end; of one that was changed otherwise nothing is said.
+
+usage: tests/changing_files.py
+"""
+import os
+import subprocess
+import tempfile
+from collections.abc import Callable
+from dataclasses import dataclass
+from pathlib import Path
+
+import programs
+
+# Records that end in the midst of one, and what a writer then adds: the rest of it, and one more. The first have more keys
+# than a report keeps in one pass, so that it reads twice; the others are long enough for two pieces.
+KEYS = [b"k%04d" % number for number in range(4_200)]
+HEAVY = b"a,9000\nb,9000\n"
+MANY_KEYS = HEAVY + b"".join(b"%s,1\n" % key for key in KEYS) + b"c,900"
+TWO_PIECES = HEAVY + b"".join(b"%s,1,%s\n" % (key, b"x" * 60) for key in KEYS[:2_000]) + b"c,900"
+REST, LATER = b"0\n", b"d,99999\n"
+MOST_READS = 200
+
+
+@dataclass(frozen=True)
+class Change:
+    """What is done to a file."""
+
+    name: str
+    make: Callable[[Path], None]
+    # whether the file grows, and whether its bytes are those that it had
+    grows: bool = False
+    keeps: bool = False
+
+
+def append(path: Path) -> None:
+    with open(path, "ab") as file:
+        file.write(REST + LATER)
+
+
+def shorten(path: Path) -> None:
+    os.truncate(path, path.stat().st_size - 1)
+
+
+def empty(path: Path) -> None:
+    os.truncate(path, 0)
+
+
+def replace(path: Path) -> None:
+    other = path.with_name("other")
+    other.write_bytes(b"z,1\n")
+    os.replace(other, path)
+
+
+def put(path: Path, at: int, data: bytes) -> None:
+    with open(path, "r+b") as file:
+        file.seek(at)
+        file.write(data)
+
+
+CHANGES = [
+    Change("appended to", append, grows=True),
+    Change("made shorter", shorten),
+    Change("emptied", empty),
+    Change("replaced by name", replace, keeps=True),
+    Change("written to in place", lambda path: put(path, len(b"a,"), b"8")),
+    Change("with two keys of one weight exchanged", lambda path: put(path, 0, b"b,9000\na,9000\n")),
+]
+
+
+@dataclass(frozen=True)
+class Command:
+    """A command over the file, with the number that a fault of it tells."""
+
+    name: str
+    words: list[str]
+    number: int = 1
+
+
+class Changing(programs.Checks):
+    """Files that are changed while they are read."""
+
+    def setUp(self) -> None:
+        super().setUp()
+        self.program = programs.built("heavy_cli")
+        self.library = programs.preloaded("pause.c", self.room)
+        self.saved = f"{self.room}/saved"
+        self.path = Path(self.room, "records.csv")
+
+    def run_on(self, words: list[str], at: int, change: Change | None) -> tuple[bool, tuple[int, bytes, bytes]]:
+        """Whether the run was stopped at the read with this number, where the file is changed, and what it said."""
+        env = {"LD_PRELOAD": self.library, "PAUSE_AT": str(at)}
+        with tempfile.TemporaryFile() as out, tempfile.TemporaryFile() as err:
+            process = subprocess.Popen([self.program, *words], env=env, stdin=subprocess.DEVNULL, stdout=out, stderr=err)
+            _, status = os.waitpid(process.pid, os.WUNTRACED)
+            stopped = os.WIFSTOPPED(status)
+            if stopped:
+                if change:
+                    change.make(self.path)
+                os.kill(process.pid, 18)
+                _, status = os.waitpid(process.pid, 0)
+            process.returncode = os.waitstatus_to_exitcode(status)
+            out.seek(0)
+            err.seek(0)
+            return stopped, (process.returncode, out.read(), programs.first_line(err.read()))
+
+    def plain(self, words: list[str], text: bytes) -> tuple[int, bytes, bytes]:
+        """What the program says of a file that stays as it is."""
+        self.write(text)
+        return self.run_on(words, 0, None)[1]
+
+    def write(self, text: bytes) -> None:
+        # it is an old file, so that its time changes wherever it is written to
+        self.path.unlink(missing_ok=True)
+        self.path.write_bytes(text)
+        os.utime(self.path, (1_000_000_000, 1_000_000_000))
+
+    def check_change(self, command: Command, text: bytes, change: Change) -> None:
+        """The change before each read in turn: what is said then, for as many reads as there are."""
+        name = f"{command.name} of a file that is {change.name}"
+        short, grown = self.plain(command.words, text), self.plain(command.words, text + REST)
+        refused = (1, b"", b"heavy: file %d: could not be read\n" % command.number)
+        self.check(f"{command.name} of both", grown[0] == 0 and short != grown, (short, grown))
+        found = []
+        for at in range(1, MOST_READS):
+            self.write(text)
+            stopped, said = self.run_on(command.words, at, change)
+            if not stopped:
+                break
+            found.append(said)
+        self.check(f"{name}: it is read, and comes to an end", 1 < len(found) < MOST_READS - 1, len(found))
+        if change.grows:
+            self.check(f"{name}: its last line is read whole where that came before it", found[0] == grown, found[0])
+            others = [(at, said) for at, said in enumerate(found, 1) if said not in (short, grown)]
+            self.check(f"{name}: and else as it was", not others, others[:2])
+        else:
+            wanted = short if change.keeps else refused
+            others = [(at, said) for at, said in enumerate(found, 1) if said != wanted]
+            self.check(name, not others, others[:2])
+
+    def check_changes(self, commands: list[Command], text: bytes) -> None:
+        for command in commands:
+            for change in CHANGES:
+                self.check_change(command, text, change)
+
+    def commands(self, layout: list[str], text: bytes) -> list[Command]:
+        """Each command that reads records, by workers and by one thread. The saved summary is of the records with the whole
+        line."""
+        self.write(text + REST)
+        path = str(self.path)
+        made = self.run_on(["summarise", "--k", "5", *layout, path], 0, None)[1]
+        Path(self.saved).write_bytes(made[1])
+        return [
+            Command("report", ["report", "--k", "5", *layout, path]),
+            Command("report by a plan", ["report", "--k", "5", "--pieces", "2", *layout, path]),
+            Command("summarise", ["summarise", "--k", "5", *layout, path]),
+            Command("summarise by workers", ["summarise", "--k", "5", "--workers", "2", *layout, path]),
+            Command("table", ["table", *layout, path]),
+            Command("condense", ["condense", *layout, self.saved, path], 2),
+            Command("confirm", ["confirm", *layout, self.saved, path], 2),
+        ]
+
+    def test_many_keys(self) -> None:
+        """Files of more keys than a report keeps, which it reads twice."""
+        self.check_changes(self.commands([], MANY_KEYS), MANY_KEYS)
+
+    def test_pieces(self) -> None:
+        """Files of two pieces."""
+        layout = ["--key", "1", "--weight", "2"]
+        self.check_changes(self.commands(layout, TWO_PIECES), TWO_PIECES)
+
+
+if __name__ == "__main__":
+    programs.run_tests("changing_files")
