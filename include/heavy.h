@@ -307,6 +307,11 @@ uint32_t heavy_confirm_items_above(const uint8_t *file, size_t file_len, const u
                                    uint64_t p, uint64_t q, uint8_t *out, size_t out_len, size_t *needed,
                                    struct heavy_fault *fault);
 
+/* Gives what heavy_add gives, with keys hashed by these words. */
+uint32_t heavy_add_by(const uint8_t *file, size_t file_len, const uint8_t *keys, size_t keys_len, const uint64_t *ends,
+                      size_t count, const uint64_t *weights, size_t weights_len, const struct heavy_hash *hash,
+                      uint8_t *out, size_t out_len, size_t *needed, struct heavy_fault *fault);
+
 /* Gives what heavy_condense_items gives, with keys hashed by these words. */
 uint32_t heavy_condense_items_by(const uint8_t *file, size_t file_len, const uint8_t *keys, size_t keys_len,
                                  const uint64_t *ends, size_t count, const uint64_t *weights, size_t weights_len,
@@ -388,10 +393,10 @@ uint32_t heavy_open_by(const uint8_t *file, size_t file_len, const struct heavy_
                        struct heavy_fault *fault);
 
 /* Adds one item to the value that growing has, as heavy_add adds it to a saved file, with no copy of the file. The
-   cost of a new key of a full summary grows as the logarithm of k. The first item after heavy_open, heavy_save or
-   heavy_absorb costs a step for each counter. An item is refused as heavy_add refuses item 1, and at another status
-   than HEAVY_DONE the value is as it was. Where growing has no value, the call answers HEAVY_USAGE, and fault has
-   zeros. */
+   cost of a new key of a full summary grows as the logarithm of k. Some 128 new keys after heavy_open, heavy_save or
+   heavy_absorb cost a walk over the counters each, and the next one makes what finds the others. An item is refused as
+   heavy_add refuses item 1, and at another status than HEAVY_DONE the value is as it was. Where growing has no value,
+   the call answers HEAVY_USAGE, and fault has zeros. */
 uint32_t heavy_update(struct heavy_growing *growing, const uint8_t *key, size_t key_len, uint64_t weight,
                       struct heavy_fault *fault);
 

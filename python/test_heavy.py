@@ -108,13 +108,13 @@ class Pages(unittest.TestCase):
 
 
 def added(keys: bytes, ends: list[int], weights: list[int]) -> list[tuple[bytes, int]] | tuple[int, int]:
-    """What heavy_add makes of no items with k 5: the entries, or else the fault's kind and number."""
+    """What heavy_add_by makes of no items with k 5: the entries, or else the fault's kind and number."""
     empty = heavy.Summary(k=5).to_bytes()
     out, needed, fault = ctypes.create_string_buffer(4096), ctypes.c_size_t(), heavy._library.Fault()
     lent = [(ctypes.c_uint64 * max(len(numbers), 1))(*numbers) for numbers in (ends, weights)]
-    status = heavy._library.calls.heavy_add(
+    status = heavy._library.calls.heavy_add_by(
         *heavy._library.lent(empty), *heavy._library.lent(keys), lent[0], len(ends), lent[1], len(weights),
-        out, 4096, ctypes.byref(needed), ctypes.byref(fault),
+        ctypes.byref(heavy._library.HashWords((5, 9))), out, 4096, ctypes.byref(needed), ctypes.byref(fault),
     )
     return heavy.Summary(out.raw[: needed.value]).entries() if status == 0 else (fault.kind, fault.number)
 
@@ -139,6 +139,18 @@ def updated(file: heavy.Summary | heavy.Table, *items: tuple[str, int]) -> heavy
     for item in items:
         file.update(*item)
     return file
+
+
+def counted_by_hand(items: list[tuple[str, int]], k: int) -> list[tuple[bytes, int]]:
+    """The counters that Misra and Gries have after these items, by rising key."""
+    counters: dict[bytes, int] = {}
+    for text, weight in items:
+        key = text.encode()
+        counters[key] = counters.get(key, 0) + weight
+        if len(counters) > k:
+            least = min(counters.values())
+            counters = {key: counter - least for key, counter in counters.items() if counter > least}
+    return sorted(counters.items())
 
 
 def of_records() -> list[heavy.Summary]:
@@ -277,7 +289,7 @@ class Growing(unittest.TestCase):
             before = updated(make(), ("a", 1), ("b", 1))
             for name, call in (
                 ("heavy_open_by", lambda it: it.copy().update("c")), ("heavy_update", lambda it: it.update("c")),
-                ("heavy_save", heavy.Summary.to_bytes), ("heavy_add", lambda it: it.update_many([*"cde"])),
+                ("heavy_save", heavy.Summary.to_bytes), ("heavy_add_by", lambda it: it.update_many([*"cde"])),
                 ("heavy_merge", lambda it: it.__iadd__(before)),
             ):
                 grown = updated(make(), ("a", 1), ("b", 1))
@@ -290,7 +302,7 @@ class Growing(unittest.TestCase):
         for file in (heavy.Summary(k=9), heavy.Table(width=8)):
             counted: collections.Counter[str] = collections.Counter()
             with contextlib.ExitStack() as stack:
-                for name in ("heavy_open_by", "heavy_update", "heavy_save", "heavy_add"):
+                for name in ("heavy_open_by", "heavy_update", "heavy_save", "heavy_add_by"):
                     call = getattr(heavy._library.calls, name)
 
                     def tallied(*words: object, name: str = name, call: object = call) -> int:
@@ -1381,21 +1393,20 @@ class Arrays(unittest.TestCase):
         self.refused(ValueError, r"^keys\[1499\]: .* not 0$", Coded([*texts[1:], ""]))
 
     def test_many_different_keys(self) -> None:
-        """Many different keys give the bytes of their items one by one, whatever is in them, and what was there before."""
+        """Many different keys give the counters of their items one by one, whatever is in them, and what was there before."""
         draw = random.Random(41)
-        for change in ("", "\ufeff", ",", '"', "\n", "\r", "\0", " ", "é", "x" * 254, "x" * 4000, "0,"):
-            texts = [str(draw.randrange(10 ** draw.randrange(1, 9))) for _ in range(1500)]
-            texts[draw.choice([0, 700, 1499])] += change
+        for change in ("", "\ufeff", ",", "\n", "\0", "é", "x" * 4000):
+            texts = [str(draw.randrange(10 ** draw.randrange(1, 9))) for _ in range(1000)]
+            texts[draw.choice([0, 700, 999])] += change
             texts[0] = change + texts[0]
             for weights in (None, [draw.randint(1, 9) for _ in texts], [draw.randint(1, 2**51) for _ in texts]):
                 for before in ([], [("b", 3)]):
-                    one, many = updated(heavy.Summary(k=500), *before), updated(heavy.Summary(k=500), *before)
-                    updated(one, *zip(texts, weights or itertools.repeat(1)))
+                    items = [*before, *zip(texts, weights or itertools.repeat(1))]
+                    one, many = updated(heavy.Summary(k=200), *items), updated(heavy.Summary(k=200), *before)
                     many.update_many(texts, weights)
-                    self.assertEqual((many, many.total), (one, one.total), (change, before))
-        if has("numpy"):
-            with mock.patch.object(heavy._library.calls, "heavy_add", None):
-                heavy.Summary(k=500).update_many([str(number) for number in range(1500)])
+                    counters = counted_by_hand(items, 200)
+                    self.assertEqual((many.entries(), many.total), (counters, sum(weight for _, weight in items)), (change, before))
+                    self.assertEqual(one, many, (change, before))
 
     def test_texts_with_breaks(self) -> None:
         """Texts are told apart whatever stands in them."""

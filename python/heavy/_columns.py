@@ -129,13 +129,19 @@ def _sizes(words: Iterable[Any], count: int) -> Any:
 
 def _ends(sizes: Any) -> Any:
     """Where each key ends, if it begins where the one before it ends. The first size that no key has is refused."""
-    if len(sizes) and not 1 <= min(_least_and_most(sizes)) <= max(_least_and_most(sizes)) <= MAX_KEY:
-        index = next(i for i, size in enumerate(sizes) if not 1 <= size <= MAX_KEY)
-        raise ValueError(f"keys[{index}]: {_refused_key(int(sizes[index]))}")
+    _check_sizes(sizes)
     if isinstance(sizes, array.array):
         return array.array("Q", itertools.accumulate(sizes))
     numpy = _numpy()
     return numpy.cumsum(sizes, dtype=numpy.uint64)
+
+
+def _check_sizes(sizes: Any) -> None:
+    """Refuses the first of these sizes that no key has."""
+    least, most = _least_and_most(sizes) if len(sizes) else (1, 1)
+    if not 1 <= least <= most <= MAX_KEY:
+        index = next(i for i, size in enumerate(sizes) if not 1 <= size <= MAX_KEY)
+        raise ValueError(f"keys[{index}]: {_refused_key(int(sizes[index]))}")
 
 
 def _least_and_most(values: Any) -> tuple[int, int]:
@@ -253,10 +259,11 @@ class _Arrow(NamedTuple):
         first, last = int(offsets[0]), int(offsets[-1])
         data = ctypes.string_at(self.array.buffers[2] + first, last - first) if last > first else b""
         if isinstance(offsets, array.array):
-            sizes = array.array("Q", map(operator.sub, offsets[1:], offsets))
+            ends = _ends(array.array("Q", map(operator.sub, offsets[1:], offsets)))
         else:
-            sizes = (offsets[1:] - offsets[:-1]).astype("Q")
-        return Columns(data, _ends(sizes), self.format in b"uU")
+            _check_sizes(offsets[1:] - offsets[:-1])
+            ends = (offsets[1:] - first).astype("Q")
+        return Columns(data, ends, self.format in b"uU")
 
     def integers(self) -> Any:
         """Its integers."""
@@ -405,6 +412,13 @@ def _is_integers(values: Any) -> bool:
     return bool(numpy) and isinstance(values, numpy.ndarray) and values.ndim == 1 and values.dtype.kind in "iu"
 
 
+def _words_of(values: Any) -> Any:
+    """Positive integers of numpy as numbers of 64 bits, one after the other: the same memory where they are that."""
+    numpy = _numpy()
+    own = numpy.ascontiguousarray(values)
+    return own.view("u8") if own.dtype in ("=i8", "=u8") else own.astype("=u8")
+
+
 def numbers_of(weights: Any, count: int, names: list[Any] | None = None) -> Any:
     """As many weights as there are keys, all of them checked, or None for 1 each. Weights may go on for ever: one too many
     is enough to refuse them."""
@@ -421,7 +435,7 @@ def numbers_of(weights: Any, count: int, names: list[Any] | None = None) -> Any:
     if _is_integers(values):
         least, most = _least_and_most(values) if len(values) else (0, 0)
         if len(values) == count and 1 <= least <= most <= MAX_TOTAL:
-            return array.array("Q", values) if isinstance(values, array.array) else values.astype("=u8")
+            return array.array("Q", values) if isinstance(values, array.array) else _words_of(values)
         values = values.tolist()
     given = itertools.islice(values, count + 1)
     checked = array.array("Q", _all_checked("weights", integer_of_weight, given, names))
@@ -429,42 +443,6 @@ def numbers_of(weights: Any, count: int, names: list[Any] | None = None) -> Any:
         told = "more" if len(checked) > count else "fewer"
         raise ValueError(f"there are {told} weights than keys, which are {count}")
     return checked
-
-
-def records_of(columns: Columns, weights: Any) -> bytes | None:
-    """Items as CSV records, with no step of Python for each: all of one length, as line feeds stand in front of shorter keys. None
-    where a key wants quotes, where there were mostly line feeds or very many records, or where numpy isn't here."""
-    numpy = _numpy()
-    if not numpy or any(byte in columns.data for byte in (b",", b'"', b"\r", b"\n")):
-        return None
-    ends = numpy.asarray(columns.ends, numpy.int64)
-    sizes = numpy.diff(ends, prepend=0)
-    count, longest, digits = len(ends), int(sizes.max()), _digits(weights)
-    width = longest + digits.shape[1] + 2
-    if longest > 255 or count * longest > 4 * len(columns.data) or count * width > 2**28:
-        return None
-    text = numpy.full(1 + count * width, ord("\n"), numpy.uint8)  # a byte order mark behind a line feed is kept
-    rows = text[1:].reshape(count, width)
-    data = numpy.frombuffer(bytes(longest) + columns.data, numpy.uint8)
-    keys = numpy.ndarray((len(columns.data) + 1,), f"V{longest}", data, strides=(1,))[ends]
-    is_key = numpy.arange(longest, 0, -1, dtype=numpy.uint8) <= sizes.astype(numpy.uint8)[:, None]
-    numpy.copyto(rows[:, :longest], keys.view(numpy.uint8).reshape(count, longest), where=is_key)
-    rows[:, longest], rows[:, longest + 1 : -1] = ord(","), digits
-    return bytes(text)
-
-
-def _digits(weights: Any) -> Any:
-    """The digits of weights, as many of each, a row for each; or one for all, where they are 1."""
-    numpy = _numpy()
-    left = numpy.ones(1, numpy.uint64) if weights is None else numpy.asarray(weights, numpy.uint64)
-    most = int(left.max())
-    left = left.astype(numpy.uint32 if most < 2**32 else numpy.uint64)
-    digits = numpy.empty((len(left), len(str(most))), numpy.uint8)
-    for place in range(digits.shape[1] - 1, -1, -1):
-        higher = left // left.dtype.type(10)
-        digits[:, place] = left - higher * left.dtype.type(10)
-        left = higher
-    return digits + numpy.uint8(ord("0"))
 
 
 class Items(NamedTuple):
@@ -542,6 +520,8 @@ def sum_of(numbers: Any) -> int:
     """The sum of numbers of 64 bits."""
     if isinstance(numbers, array.array):
         return sum(numbers)
+    if not len(numbers) or int(numbers.max()) * len(numbers) < 2**64:
+        return int(numbers.sum())
     return (int((numbers >> 32).sum()) << 32) + int((numbers & 0xFFFFFFFF).sum())
 
 
@@ -549,7 +529,9 @@ def _lent_numbers(numbers: Any) -> tuple[Any, int]:
     """Numbers of 64 bits as an array, never null, and how many they are."""
     if numbers is None or not len(numbers):
         return (ctypes.c_uint64 * 1)(), 0
-    return (ctypes.c_uint64 * len(numbers)).from_buffer(numbers), len(numbers)
+    if isinstance(numbers, array.array):
+        return (ctypes.c_uint64 * len(numbers)).from_buffer(numbers), len(numbers)
+    return numbers.ctypes.data_as(ctypes.POINTER(ctypes.c_uint64)), len(numbers)
 
 
 def lent_items(columns: Columns, numbers: Any) -> tuple[Any, ...]:

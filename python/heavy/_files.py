@@ -14,7 +14,7 @@ from pathlib import Path
 from typing import Any, Callable, Dict, Iterable, Iterator, List, NamedTuple, Optional, Tuple, TypeVar, overload
 
 from ._columns import ANY, Columns, Items, Key, Keys, bytes_of_key, columns_of, integer_of_weight, items_of, lent_items
-from ._columns import records_of, sum_of, text_of_bytes
+from ._columns import sum_of, text_of_bytes
 from ._growing import Growing
 from ._library import BAD_METHOD, BAD_RECORD, BAD_THRESHOLD, LARGE, MAX_KEY, MAX_TOTAL, MIXED_KINDS, NOT_COUNTERS, REFUSED
 from ._library import SMALL, TABLE, TOTAL_TOO_LARGE, USAGE, Entry, Fault, HashWords, HeavyError, InfoWords, Pair, answer, calls
@@ -23,7 +23,6 @@ from ._options import PLAIN, Layout, Threshold, share_of
 from ._records import Bounds, Given, Named, Records, Row, bytes_of, is_file, parts_of, records_in, rows_of, with_records
 
 _COLUMN_BATCH = 1 << 20  # items of a column that the library adds at once
-_WALKED = 160  # counters that are walked over in the time that it takes to read a record
 _METHODS = ("mg", "ss")
 File = TypeVar("File", bound="_File")
 
@@ -61,8 +60,8 @@ def _with_items(saved: bytes, columns: Columns, weights: Any) -> bytes:
             part = array.array("Q", [end - base for end in part.tolist()])
         words = data if len(part) == len(ends) else data[base : base + int(part[-1])]
         numbers = None if weights is None else weights[start : start + _COLUMN_BATCH]
-        items = lent_items(Columns(words, part, text), numbers)
-        saved = answer(calls.heavy_add, *lent(saved), *items, guess=len(saved) + min(len(words) + 10 * len(part), LARGE))
+        given_words = *lent_items(Columns(words, part, text), numbers), ctypes.byref(HashWords(random_words()))
+        saved = answer(calls.heavy_add_by, *lent(saved), *given_words, guess=len(saved) + min(len(words) + 10 * len(part), LARGE))
     return saved
 
 
@@ -436,16 +435,6 @@ class Summary(_File):
             return None
         guess = min(17 + k * (MAX_KEY + 10), LARGE)
         return lambda text: answer(calls.heavy_summarise_records, *lent(text), *layout._words(), k, guess=guess)
-
-    def _with(self, items: Items) -> bytes:
-        begun = self._begun(PLAIN)
-        records = records_of(items.columns, items.weights) if begun and self._is_slow_for(items.columns) else None
-        return begun(records) if begun and records else super()._with(items)
-
-    def _is_slow_for(self, columns: Columns) -> bool:
-        """Whether the library takes longer for these keys than for records: each without a counter costs a walk over all."""
-        first = columns.words(10_000) if len(columns.ends) > 1000 else []
-        return len(set(first)) * self.k > _WALKED * len(first)
 
     def _number(self, name: str) -> int:
         return int(getattr(self._told(), name))

@@ -112,7 +112,7 @@ def _type_calls(library: ctypes.CDLL) -> None:
         "heavy_info": [_READ, _SIZE, ctypes.POINTER(InfoWords), _FAULT],
         "heavy_summarise_records": [_READ, _SIZE, *layout, _NUMBER, *_OUT],
         "heavy_empty": [_NUMBER, *_OUT],
-        "heavy_add": [_READ, _SIZE, *items, *_OUT],
+        "heavy_add_by": [_READ, _SIZE, *items, ctypes.POINTER(HashWords), *_OUT],
         "heavy_add_records": [_READ, _SIZE, _READ, _SIZE, *layout, *_OUT],
         "heavy_empty_table": [_NUMBER, _NUMBER, _NUMBER, *_OUT],
         "heavy_merge": [_READ, _SIZE, ctypes.POINTER(_SIZE), _SIZE, *_OUT],

@@ -113,23 +113,8 @@ static struct answer empty(uint64_t k, size_t room) {
     return a;
 }
 
-/* The weights may be none. */
-static struct answer add(const void *file, size_t size, const char *keys, const uint64_t *ends, size_t count,
-                         const uint64_t *weights, size_t weighed, size_t room) {
-    struct answer a = room_of(room);
-    uint8_t *lent = block(keys, strlen(keys)), *held = block(file, size);
-    uint8_t *places = block(ends, count * sizeof *ends), *numbers = block(weights, weighed * sizeof *weights);
-    a.status = heavy_add(held, size, lent, strlen(keys), (uint64_t *)places, count, (uint64_t *)numbers, weighed, a.room,
-                         room, &a.needed, &a.told);
-    free(held);
-    free(lent);
-    free(places);
-    free(numbers);
-    return a;
-}
-
 /* Which call takes the items, and its share where it has one. */
-enum items_call { CONDENSE, CONFIRM, CONFIRM_ABOVE };
+enum items_call { ADD, CONDENSE, CONFIRM, CONFIRM_ABOVE };
 
 static int is_same(const struct answer *a, const struct answer *b, size_t room) {
     return a->status == b->status && a->needed == b->needed && memcmp(&a->told, &b->told, sizeof a->told) == 0
@@ -143,7 +128,10 @@ static int is_same_by(uint64_t first, uint64_t second, const struct answer *a, e
     const struct heavy_hash hash = {{first, second}};
     const uint64_t p = call == CONFIRM_ABOVE ? share[0] : 0, q = call == CONFIRM_ABOVE ? share[1] : 0;
     struct answer b = room_of(room);
-    if (call == CONDENSE)
+    if (call == ADD)
+        b.status = heavy_add_by(file, size, keys, keys_len, ends, count, weights, weighed, &hash, b.room, room, &b.needed,
+                                &b.told);
+    else if (call == CONDENSE)
         b.status = heavy_condense_items_by(file, size, keys, keys_len, ends, count, weights, weighed, &hash, b.room, room,
                                            &b.needed, &b.told);
     else
@@ -161,7 +149,9 @@ static struct answer of_items(enum items_call call, const void *file, size_t siz
     uint8_t *lent = block(keys, strlen(keys)), *held = block(file, size);
     uint64_t *places = (uint64_t *)block(ends, count * sizeof *ends);
     uint64_t *numbers = (uint64_t *)block(weights, weighed * sizeof *weights);
-    if (call == CONDENSE)
+    if (call == ADD)
+        a.status = heavy_add(held, size, lent, strlen(keys), places, count, numbers, weighed, a.room, room, &a.needed, &a.told);
+    else if (call == CONDENSE)
         a.status = heavy_condense_items(held, size, lent, strlen(keys), places, count, numbers, weighed, a.room, room,
                                         &a.needed, &a.told);
     else if (call == CONFIRM)
@@ -178,6 +168,11 @@ static struct answer of_items(enum items_call call, const void *file, size_t siz
     free(places);
     free(numbers);
     return a;
+}
+
+static struct answer add(const void *file, size_t size, const char *keys, const uint64_t *ends, size_t count,
+                         const uint64_t *weights, size_t weighed, size_t room) {
+    return of_items(ADD, file, size, keys, ends, count, weights, weighed, NULL, room);
 }
 
 static int told(const struct answer *a, uint32_t status, uint32_t kind, uint32_t cause, uint64_t number) {

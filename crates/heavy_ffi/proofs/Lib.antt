@@ -1,5 +1,4 @@
 pub mod GrowingFacts
-pub mod GrownFacts
 pub mod HeldValues
 pub mod LayoutFacts
 pub mod OutcomeFacts

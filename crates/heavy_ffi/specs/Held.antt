@@ -9,7 +9,7 @@ use Rattle.std.specs.Box.Ownership.{box_owns}
 use Rattle.std.specs.Coded.{coded_option}
 use Rattle.std.specs.Global.{Global}
 use Rattle.std_heap.specs.contracts.GlobalAllocator.TheImpl.{ghosts}
-use Rattle.heavy_ffi.specs.contracts.grown.Grown.{the_row}
+use Rattle.hh_library.specs.contracts.accumulator.Accumulator.{the_row}
 
 -- the box of a value, or nothing
 abbrev pub held_owns : (Ty → Ptr → Fml) → (R : RattleType) → Ptr → Option R.Denot → Fml

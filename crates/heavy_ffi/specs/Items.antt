@@ -6,7 +6,6 @@ use Rattle.hh_saved.specs.declared.saved.Saved.{Saved}
 use Rattle.hh_commands.specs.Files.{Refuses, file_of, ◌>>=◌}
 use Rattle.hh_faults.specs.declared.error.ToolError.{ToolError}
 use Rattle.hh_faults.specs.declared.error.ToolError.TheVariants as tool
-use Rattle.hh_library.specs.Add.{GoesOn, IsAdded, TableGoesOn}
 use Rattle.heavy_ffi.specs.Outcomes.{IsOutcome, TellsHead}
 use Rattle.heavy_ffi.specs.declared.fault.Fault.{Fault}
 
@@ -55,12 +54,6 @@ pub record AnswersItems (keys ends weights file : List ℕ) (Gives : List Entry 
   pub shape : IfSome (shape_fault (length keys) ends weights) (λ shape. (status ≡ 2) × (fault ≡ shape) × (new ≡ old))
   pub early : shape_fault (length keys) ends weights ≡ None → TellsHead file status fault
   pub no_bytes : status ≢ 0 → status ≢ 5 → needed ≡ 0
-
--- the bytes are the summary or table of the file with the items added, and go on from a stream's
-pub record AddsItems (file : List ℕ) (xs : List Entry) (bytes : List ℕ) : Type 0 where
-  pub added : IsAdded file xs bytes
-  pub stream : GoesOn file xs bytes
-  pub table : TableGoesOn file xs bytes
 
 -- a refusal of the file is one of what is made of its value
 pub refused_first : {X : Type 0} (file : List ℕ) (follows : Saved → Result X ToolError) (e : ToolError)

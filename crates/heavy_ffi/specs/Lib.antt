@@ -1,6 +1,5 @@
 pub mod Faults
 pub mod Growing
-pub mod Grown
 pub mod Held
 pub mod Infos
 pub mod Items

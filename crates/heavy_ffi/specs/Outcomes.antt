@@ -46,17 +46,21 @@ TellsFault file refusal = (f : SavedFault) → head_at file ≡ Err f → refusa
 abbrev pub first_of : List (List ℕ) → List ℕ
 first_of files = slice_index_or files 0 []
 
--- where a file fails at its head, the call tells so, whatever the memory
-abbrev pub TellsHead : List ℕ → ℕ → Fault → Type 0
-TellsHead file status fault = (f : SavedFault) → head_at file ≡ Err f → IsTold status fault (file_fault 1 f)
+-- where file n fails at its head, the call tells so, whatever the memory
+abbrev pub TellsHeadOf : ℕ → List ℕ → ℕ → Fault → Type 0
+TellsHeadOf n file status fault = (f : SavedFault) → head_at file ≡ Err f → IsTold status fault (file_fault n f)
 
--- the refusal of a file that fails at its head
-abbrev pub fault_at : Result (List ℕ) SavedFault → Option ToolError
-fault_at (Ok rest) = None
-fault_at (Err f) = Some (file_fault 1 f)
+-- and so it is with a file that is the only one
+abbrev pub TellsHead : List ℕ → ℕ → Fault → Type 0
+TellsHead file status fault = TellsHeadOf 1 file status fault
+
+-- the refusal of file n, which fails at its head
+abbrev pub fault_at : ℕ → Result (List ℕ) SavedFault → Option ToolError
+fault_at n (Ok rest) = None
+fault_at n (Err f) = Some (file_fault n f)
 
 abbrev pub head_refusal : List ℕ → Option ToolError
-head_refusal file = fault_at (head_at file)
+head_refusal file = fault_at 1 (head_at file)
 
 -- these elements are those that came
 abbrev pub IsGiven : {X : Type 0} → Result (Vec X) ToolError → List X → Type 0

@@ -4,7 +4,7 @@ ghost use Rattle.std.specs.Prelude.{◌≡◌, Option, None, Some, IsSome};
 ghost use Rattle.hh_saved.specs.declared.saved.Saved.{Saved};
 ghost use Rattle.heavy_ffi.specs.Held.{held_owns, place_owns, value_coded};
 
-use crate::grown::Grown;
+use hh_library::Accumulator;
 use std::alloc::{Allocator, Global};
 use std::marker::Model;
 use std::ptr::null_mut;
@@ -60,7 +60,7 @@ impl Model for Place {
 }
 
 impl Place {
-    pub fn of(held: Held<Grown, Global>) -> Place
+    pub fn of(held: Held<Accumulator, Global>) -> Place
         ensures { result.value ≡ held.value }
     {
         let Held { at, alloc } = held;
@@ -70,12 +70,12 @@ impl Place {
         }
     }
 
-    pub fn into_held(self) -> Held<Grown, Global>
+    pub fn into_held(self) -> Held<Accumulator, Global>
         ensures { result.value ≡ self.value }
     {
         let Place { at, alloc } = self;
         Held {
-            at: at as *mut Grown,
+            at: at as *mut Accumulator,
             alloc,
         }
     }

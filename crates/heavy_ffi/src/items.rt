@@ -23,7 +23,7 @@ fn items_of<'a>(
     ensures { IfOk result (λ items. map (λ item. (item.0.now, item.1)) items.items
         ≡ items_of keys.now ends.now weights.now) }
 {
-    let mut items: Vec<(&[u8], u64)> = Vec::new(alloc);
+    let mut items: Vec<(&[u8], u64)> = Vec::with_capacity(alloc, ends.len())?;
     let mut from = 0;
     let mut rest = keys;
     for i in 0..ends.len() {

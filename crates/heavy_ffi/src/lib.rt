@@ -7,7 +7,6 @@
 mod fault;
 mod fault_text;
 mod growing;
-mod grown;
 mod hash_words;
 mod held;
 mod info;

@@ -5,10 +5,10 @@ ghost use Rattle.hh_stream.specs.Weights.{max_key_len};
 ghost use Rattle.hh_summaries.specs.Counters.{SummaryView};
 ghost use Rattle.hh_countmin.specs.Table.{TableView};
 ghost use Rattle.hh_saved.specs.Sizes.{most_summary_bytes, table_bytes};
-ghost use Rattle.hh_library.specs.Add.{added};
+ghost use Rattle.hh_library.specs.Add.{AddsItems, added};
 ghost use Rattle.hh_library.specs.CountItems.{condensed_items, confirmed_items};
 ghost use Rattle.hh_commands.specs.Files.{HoldsSummary, HoldsTable, Refuses};
-ghost use Rattle.heavy_ffi.specs.Items.{AddsItems, AnswersItems, refused_first};
+ghost use Rattle.heavy_ffi.specs.Items.{AnswersItems, refused_first};
 ghost use Rattle.heavy_ffi.specs.Layouts.{share_given};
 
 use crate::fault::Fault;
@@ -16,14 +16,16 @@ use crate::hash_words::HashWords;
 use crate::items::{ItemsCall, answer_with};
 use crate::layout::share_given;
 use hh_faults::ToolError;
-use hh_library::{add_items, condense_items, confirm_items};
+use hh_library::{add_items_by, condense_items, confirm_items};
 use hh_saved::laws::sizes_are_bounded;
 use hh_stream::KeyHash;
 use std::alloc::Global;
 
 /// Items, added to a saved summary or table.
 #[derive(Clone, Copy)]
-struct Add;
+struct Add {
+    hash: KeyHash,
+}
 
 impl ItemsCall for Add {
     ghost gives = { λ call. AddsItems };
@@ -36,7 +38,7 @@ impl ItemsCall for Add {
         file: &[u8],
         items: &[(&[u8], u64)],
     ) -> Result<Vec<u8>, ToolError> {
-        add_items(alloc, file, items)
+        add_items_by(alloc, file, items, self.hash)
     }
 
     ghost file_first = { λ call file xs fault. refused_first file _ fault };
@@ -66,8 +68,38 @@ pub extern "C" fn heavy_add(
     ensures enough_table { (t : TableView) → HoldsTable file.now t
         → table_bytes t.width (length t.family.rows) ≤ length out.old → result ≢ 5 }
 {
+    let hash = HashWords::fixed();
+    heavy_add_by(alloc, file, keys, ends, weights, &hash, out, needed, fault)
+}
+
+/// Gives what `heavy_add` gives. Keys are hashed by these words, which decide how fast they are
+/// found, and nothing else.
+#[unsafe(no_mangle)]
+pub extern "C" fn heavy_add_by(
+    alloc: Global,
+    file: &[u8],
+    keys: &[u8],
+    ends: &[u64],
+    weights: &[u64],
+    hash: &HashWords,
+    out: &mut [u8],
+    needed: &mut usize,
+    fault: &mut Fault,
+) -> u32
+    ensures answers { AnswersItems keys.now ends.now weights.now file.now
+        (AddsItems file.now)
+        (λ xs. Refuses (added file.now xs))
+        result out.old out.new needed.new fault.new }
+    ensures enough { (s : SummaryView) → HoldsSummary file.now s
+        → most_summary_bytes s.k max_key_len ≤ length out.old → result ≢ 5 }
+    ensures enough_table { (t : TableView) → HoldsTable file.now t
+        → table_bytes t.width (length t.family.rows) ≤ length out.old → result ≢ 5 }
+{
     sizes_are_bounded();
-    answer_with(alloc, Add, file, keys, ends, weights, out, needed, fault)
+    let call = Add {
+        hash: hash.key_hash(),
+    };
+    answer_with(alloc, call, file, keys, ends, weights, out, needed, fault)
 }
 
 /// The condensed rows of items, by a saved summary.

@@ -13,11 +13,26 @@ use Rattle.hh_saved.specs.declared.saved.Saved.{Saved}
 use Rattle.hh_saved.specs.declared.format.Version.TheVariants as version
 use Rattle.hh_saved.specs.declared.saved.Saved.TheVariants.{Cells, Counters}
 use Rattle.hh_saved.specs.Spelling.{Spells}
-use Rattle.hh_library.specs.Add.{GoesOn, IsAdded, TableGoesOn, added, added_to, bad_item, grid_and, item_fault, sketch_and, total_in, value_and}
+use Rattle.hh_library.specs.Add.{AddsItems, GoesOn, IsAdded, TableGoesOn, added, added_to, bad_item, grid_and, item_fault, sketch_and, total_in, value_and}
 use Rattle.hh_commands.specs.Ask.{or_else, unless}
 use Rattle.hh_commands.specs.Files.{Refuses}
 use Rattle.hh_faults.specs.declared.error.ToolError.{ToolError}
 use Rattle.hh_commands.proofs.FileFacts.{refuses_along}
+
+-- an item and then the others are all
+value_more : (v : Saved) (e : Entry) (xs : List Entry) → value_and (value_and v (e ∷ [])) xs ≡ value_and v (e ∷ xs)
+value_more (Counters s) e xs = refl
+value_more (Cells t) e xs = refl
+
+-- no items are nothing more
+none_more : (v : Saved) → value_and v [] ≡ v
+none_more (Counters s) = refl
+none_more (Cells t) = refl
+
+-- an item's weight is added to the total
+pub total_more : (v : Saved) (e : Entry) → total_in (value_and v (e ∷ [])) ≡ total_in v + e.1
+total_more (Counters s) e = refl
+total_more (Cells t) e = refl
 
 -- the i-th item, which has number i + 1
 module _ {X : Type 0} (f : X → Entry) (xs : List X) (i : ℕ) (d : X) (e : Entry)
@@ -25,15 +40,10 @@ module _ {X : Type 0} (f : X → Entry) (xs : List X) (i : ℕ) (d : X) (e : Ent
   drop_item : drop i (map f xs) ≡ e ∷ drop (i + 1) (map f xs)
   drop_item = drop-map f i xs ∙ ap (map f) (drop_more xs i d lt) ∙ (λ j. sym is j ∷ sym (drop-map f (i + 1) xs) j)
 
-  -- those that are left make of the table with it what those with it make
-  pub grids_go_on : (t : TableView) {whole : TableView} → grid_and t (drop i (map f xs)) ≡ whole
-      → grid_and (grid_with t e) (drop (i + 1) (map f xs)) ≡ whole
-  grids_go_on t so_far = ap (grid_and t) (sym drop_item) ∙ so_far
-
-  -- and so it is with a summary
-  pub sums_go_on : (s : SummaryView) {whole : SummaryView} → sketch_and s (drop i (map f xs)) ≡ whole
-      → sketch_and (sketch_with s e) (drop (i + 1) (map f xs)) ≡ whole
-  sums_go_on s so_far = ap (sketch_and s) (sym drop_item) ∙ so_far
+  -- those that are left make of the value with it what those with it make
+  pub values_go_on : (v : Saved) {whole : Saved} → value_and v (drop i (map f xs)) ≡ whole
+      → value_and (value_and v (e ∷ [])) (drop (i + 1) (map f xs)) ≡ whole
+  values_go_on v so_far = value_more v e (drop (i + 1) (map f xs)) ∙ ap (value_and v) (sym drop_item) ∙ so_far
 
   module _ (t : ℕ) (whole : Option ToolError) (so_far : bad_item (i + 1) t (drop i (map f xs)) ≡ whole) where
     items_next : or_else (item_fault (i + 1) t e) (bad_item (i + 1 + 1) (t + e.1) (drop (i + 1) (map f xs)))
@@ -68,13 +78,9 @@ pub items_end : {X : Type 0} (f : X → Entry) (xs : List X) (i n t : ℕ) (whol
 unfolding bad_item
 items_end f xs i n t whole le so_far = sym so_far ∙ rw (drop_all i (map f xs) (rw (length-map xs f) le)) refl
 
-pub sums_end : {X : Type 0} (f : X → Entry) (xs : List X) (i : ℕ) (s whole : SummaryView) → length xs ≤ i
-    → sketch_and s (drop i (map f xs)) ≡ whole → whole ≡ s
-sums_end f xs i s whole le so_far = sym so_far ∙ rw (drop_all i (map f xs) (rw (length-map xs f) le)) refl
-
-pub grids_end : {X : Type 0} (f : X → Entry) (xs : List X) (i : ℕ) (t whole : TableView) → length xs ≤ i
-    → grid_and t (drop i (map f xs)) ≡ whole → whole ≡ t
-grids_end f xs i t whole le so_far = sym so_far ∙ rw (drop_all i (map f xs) (rw (length-map xs f) le)) refl
+pub values_end : {X : Type 0} (f : X → Entry) (xs : List X) (i : ℕ) (v whole : Saved) → length xs ≤ i
+    → value_and v (drop i (map f xs)) ≡ whole → whole ≡ v
+values_end f xs i v whole le so_far = sym so_far ∙ rw (drop_all i (map f xs) (rw (length-map xs f) le)) (none_more v)
 
 -- what came is what was to come
 pub came_of : {X : Type 0} (o : Option ToolError) (x s : X) → unless o x ≡ Ok s → x ≡ s
@@ -104,17 +110,26 @@ added_value file xs v all holds is =
     let made : added_to v xs ≡ Ok all = rw holds at is in came_of (bad_item 1 (total_in v) xs) (value_and v xs) all made
 
 -- so a file with the summary of a stream goes on
-pub goes_on : SummariesFollowItems → (file : List ℕ) (xs : List Entry) (bytes : List ℕ) → IsAdded file xs bytes → GoesOn file xs bytes
+goes_on : SummariesFollowItems → (file : List ℕ) (xs : List Entry) (bytes : List ℕ) → IsAdded file xs bytes → GoesOn file xs bytes
 goes_on law file xs bytes (all, is, spells) = λ k stream holds.
     let came = added_value file xs (Counters (sketch_of k stream)) all holds is in
     subst (λ (v : Saved). Spells version.Two bytes v) (sym came ∙ ap Counters (sums_of_stream law k stream xs)) spells
 
 -- and so does one with the table of a stream
-pub table_goes_on : TablesFollowItems → (file : List ℕ) (xs : List Entry) (bytes : List ℕ) → IsAdded file xs bytes
+table_goes_on : TablesFollowItems → (file : List ℕ) (xs : List Entry) (bytes : List ℕ) → IsAdded file xs bytes
     → TableGoesOn file xs bytes
 table_goes_on law file xs bytes (all, is, spells) = λ family width stream holds.
     let came = added_value file xs (Cells (table_of family width stream)) all holds is in
     subst (λ (v : Saved). Spells version.Two bytes v) (sym came ∙ ap Cells (grids_of_stream law family width stream xs)) spells
+
+-- a file with the items added goes on from a stream's
+pub adds_items : SummariesFollowItems → TablesFollowItems → (file : List ℕ) (xs : List Entry) (bytes : List ℕ)
+    → IsAdded file xs bytes → AddsItems file xs bytes
+adds_items sums tables file xs bytes is = record {
+  added = is;
+  stream = goes_on sums file xs bytes is;
+  table = table_goes_on tables file xs bytes is;
+}
 
 -- adding keeps k
 pub keeps_k : (s : SummaryView) (xs : List Entry) → (sketch_and s xs).k ≡ s.k

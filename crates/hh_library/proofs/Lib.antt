@@ -1,3 +1,4 @@
+pub mod AccumulatorFacts
 pub mod AddFacts
 pub mod CountFacts
 pub mod LaidFacts

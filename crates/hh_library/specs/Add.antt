@@ -74,6 +74,12 @@ TableGoesOn file xs bytes =
     (family : Coefficients) (width : ℕ) (stream : List Entry) → HoldsTable file (table_of family width stream)
     → Spells version.Two bytes (Cells (table_of family width (stream ++ xs)))
 
+-- the bytes are the value of the file with the items added, and go on from a stream's
+pub record AddsItems (file : List ℕ) (xs : List Entry) (bytes : List ℕ) : Type 0 where
+  pub added : IsAdded file xs bytes
+  pub stream : GoesOn file xs bytes
+  pub table : TableGoesOn file xs bytes
+
 -- the summary of no items, or the fault of its k
 abbrev pub empty_of : ℕ → Result SummaryView ToolError
 empty_of k = unless (bad_k k) (sketch_of k [])

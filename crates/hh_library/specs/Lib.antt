@@ -1,3 +1,4 @@
+pub mod Accumulator
 pub mod Add
 pub mod AddText
 pub mod Confirm

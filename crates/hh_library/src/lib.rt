@@ -3,11 +3,13 @@
 //! saved summary, and the places of entries in a saved file.
 #![tactic(auto)]
 
+mod accumulator;
 mod commands;
 mod hashing;
 mod items;
 
-pub use commands::add::{add_items, empty_summary};
+pub use accumulator::Accumulator;
+pub use commands::add::{add_items, add_items_by, empty_summary};
 pub use commands::add_text::add_text;
 pub use commands::confirm::{ConfirmFault, confirm};
 pub use commands::confirm_share::confirm_share;

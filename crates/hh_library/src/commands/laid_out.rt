@@ -13,7 +13,7 @@ ghost use Rattle.hh_library.specs.LaidOut.{CondensesBounded, ConfirmBoundedRefus
 ghost use Rattle.hh_library.specs.LaidOut.{ConfirmsBounded, ReportsRows, bad_report};
 ghost use Rattle.hh_library.specs.LaidOut.{rows_in_units, text_laid};
 
-use crate::commands::add::add_items;
+use crate::commands::add::add_items_by;
 use crate::commands::add_text::items_in;
 use crate::commands::count_items::share_or_least;
 use hh_commands::{
@@ -68,10 +68,11 @@ pub fn add_records<R: ReadRecords>(
     ensures refused { IfErr result (AddRecordsRefused file.now (R.known records)) }
     ensures early { StopsAtHead 1 file.now result }
 {
+    let hash = records.hash();
     let _file = file_of(alloc, 1, file)?;
     let stream = stream_of(alloc, records)?;
     let items = items_in(alloc, &stream)?;
-    add_items(alloc, file, &items)
+    add_items_by(alloc, file, &items, hash)
 }
 
 /// All rows with this many digits of a weight after its point, and no shares.

@@ -23,7 +23,7 @@ use Rattle.std.specs.contracts.alloc.Global as heap
 use Rattle.std.proofs.alloc.Global.TheLaws as heap_laws
 use Rattle.std_heap.specs.contracts.GlobalAllocator.TheImpl.{ghosts}
 use Rattle.heavy_ffi.proofs.HeldValues.{both, Held, held_good, held_in, held_out}
-use Rattle.heavy_ffi.specs.contracts.grown.Grown as grown
+use Rattle.hh_library.specs.contracts.accumulator.Accumulator as accumulator
 use Rattle.heavy_ffi.specs.contracts.held.Place as place
 use Rattle.heavy_ffi.specs.contracts.held.Place.into_held.{ended, clauses}
 use Rattle.heavy_ffi.specs.contracts.held.Place.into_held.Key.{name as #self}
@@ -32,7 +32,7 @@ use Rattle.heavy_ffi.proofs.held.Place.into_held.Code as code
 
 pub into_held_spec : {M : Type 1} → statement M
 into_held_spec 𝓤 𝓛 𝓜 𝓡 wired =
-    let H = 𝓛.H in let 𝓣 = tables 𝓤 H 𝓜 𝓡 𝓡.env in let R : RattleType = grown.the_row in let Z : RattleType = heap.the_row in let LZ = heap_laws.the_row_laws in
+    let H = 𝓛.H in let 𝓣 = tables 𝓤 H 𝓜 𝓡 𝓡.env in let R : RattleType = accumulator.the_row in let Z : RattleType = heap.the_row in let LZ = heap_laws.the_row_laws in
     let c = clauses 𝓛 𝓜.mem 𝓡.returns in let fn : Fn = code.function in let S = (ended).signature in
     let hs : Stays S.params (ended).kept = (stay_dropped (plain (λ _. (place.the_row))) (ended).kept.0, tt) in
     proved_at 𝓛 ended hs c 𝓜 𝓡 (Goes-blank 𝓛 0 (plain (λ _. (place.the_row))) (ended).kept.0 (λ κs x f. tt), tt) #self fn (code.unfolded 𝓤 H 𝓜 𝓡 wired) (λ z are.

@@ -1,10 +1,11 @@
-use Rattle.hh_library.proofs.AddFacts.{goes_on, table_goes_on}
+use Rattle.std.proofs.lemmas.Result.{IfOk-weaker}
 use Rattle.hh_library.proofs.commands.add.add_items.Goals as goal
 
+pub returns-clause-saved : goal.returns-clause-saved
+returns-clause-saved c = IfOk-weaker c.add_items_by.result _ _ (λ bytes adds. adds.added) c.add_items_by.ensures.saved
+
 pub returns-clause-stream : goal.returns-clause-stream
-returns-clause-stream c = goes_on c.summaries_follow_items.ensures.summaries _ _ _
-    (c.in_ok-all.all, rw c.in_ok-saved.ensures.value c.in_ok-all.ensures.added, c.in_ok-write.ensures)
+returns-clause-stream c = IfOk-weaker c.add_items_by.result _ _ (λ bytes adds. adds.stream) c.add_items_by.ensures.saved
 
 pub returns-clause-table : goal.returns-clause-table
-returns-clause-table c = table_goes_on c.tables_follow_items.ensures _ _ _
-    (c.in_ok-all.all, rw c.in_ok-saved.ensures.value c.in_ok-all.ensures.added, c.in_ok-write.ensures)
+returns-clause-table c = IfOk-weaker c.add_items_by.result _ _ (λ bytes adds. adds.table) c.add_items_by.ensures.saved

@@ -7,7 +7,7 @@ use Rattle.hh_library.specs.Add.{grid_and, sketch_and}
 use Rattle.hh_library.proofs.AddFacts.{added_value, keeps_k, keeps_shape}
 use Rattle.heavy_ffi.specs.Items.{items_of, shape_fault}
 use Rattle.heavy_ffi.proofs.OutcomeFacts.{passed_first}
-use Rattle.heavy_ffi.proofs.with_items.heavy_add.Goals as goal
+use Rattle.heavy_ffi.proofs.with_items.heavy_add_by.Goals as goal
 
 pub returns-clause-enough : goal.returns-clause-enough
 returns-clause-enough c = λ s holds room small.

@@ -1,6 +1,6 @@
 use Rattle.std.proofs.Common.{◌≡◌, take}
 use Rattle.hh_counters.specs.SpaceSaving.{monitor_of}
-use Rattle.heavy_ffi.proofs.grown.monitor_of.Given as goal
+use Rattle.hh_library.proofs.accumulator.monitor_of.Given as goal
 
 -- the entries so far are seen
 abbrev pub invariant-loop-i : goal.invariant-loop-i

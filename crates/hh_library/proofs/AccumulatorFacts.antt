@@ -1,5 +1,6 @@
 -- A summary as a monitor, and back.
-use Rattle.std.proofs.Common.{◌≡◌, ◌∙◌, ◌||◌, ℕ, ◌+◌, ◌-◌, ◌<◌, ◌≤◌, true, false, cond, List, [], ◌∷◌, ◌++◌, length, take, fold, get_or, nat_le, nat_lt, ap, arith, inl, inr, refl, subst, sym}
+use Rattle.std.proofs.Common.{◌≡◌, ◌∙◌, ◌||◌, ℕ, ◌+◌, ◌-◌, ◌<◌, ◌≤◌, true, false, cond, List, [], ◌∷◌, ◌++◌, length, take, fold, get_or, nat_le, nat_lt, Result, Ok, Err, ap, arith, inl, inr, refl, subst, sym}
+use Rattle.std.specs.Prelude.{IfErr, OnOk}
 use Rattle.std.specs.List.Sorted.{IsStrictlySortedBy}
 use Rattle.std.proofs.lemmas.Bool.Decides.{leb_tells}
 use Rattle.std.proofs.lemmas.List.{take_all, take_more}
@@ -11,12 +12,17 @@ use Rattle.hh_summaries.proofs.Level.{level_few}
 use Rattle.hh_summaries.proofs.Summaries.{lower_none}
 use Rattle.hh_summaries.proofs.Weights.{by_add_at, counters-tally, same_counters, weight_of-tally}
 use Rattle.hh_counters.specs.Laws.{MonitorsFollowItems, SummariesFollowItems}
+use Rattle.hh_commands.specs.Files.{Refuses, file_of}
+use Rattle.hh_commands.specs.Merge.{merge_saved, merged_from}
+use Rattle.hh_commands.proofs.FileFacts.{refuses_along}
+use Rattle.hh_faults.specs.declared.error.ToolError.{ToolError}
+use Rattle.hh_saved.specs.declared.saved.Saved.{Saved}
 use Rattle.hh_saved.specs.declared.saved.Saved.TheVariants.{Counters as Counted}
 use Rattle.hh_counters.specs.SpaceSaving.{least_of, monitor_of, monitor_with, space_saving, step, taken_over, translate, translation_of}
 use Rattle.hh_library.specs.Add.{total_in, value_and}
-use Rattle.heavy_ffi.specs.Grown.{Grows, HasSeen, behind, value_of}
-use Rattle.heavy_ffi.specs.declared.grown.Form.{Form}
-use Rattle.heavy_ffi.specs.declared.grown.Form.TheVariants.{Monitored}
+use Rattle.hh_library.specs.Accumulator.{Grows, HasSeen, heavier, value_of}
+use Rattle.hh_library.specs.declared.accumulator.Form.{Form}
+use Rattle.hh_library.specs.declared.accumulator.Form.TheVariants.{Monitored, Whole}
 
 -- ---- an item more
 module _ (monitors : MonitorsFollowItems) (m : SummaryView) (e : Entry) (some : 0 < e.1) (seen : HasSeen m) where
@@ -30,7 +36,7 @@ module _ (monitors : MonitorsFollowItems) (m : SummaryView) (e : Entry) (some : 
 
   -- and its translation has it added
   pub translated_more : SummariesFollowItems → (n : ℕ)
-      → behind n (translation_of (monitor_with m e)) ≡ sketch_with (behind n (translation_of m)) e
+      → heavier n (translation_of (monitor_with m e)) ≡ sketch_with (heavier n (translation_of m)) e
   unfolding seen_more
   translated_more sums n =
       let before : translation_of m ≡ sketch_of m.k seen.0 =
@@ -40,7 +46,7 @@ module _ (monitors : MonitorsFollowItems) (m : SummaryView) (e : Entry) (some : 
       let one : translation_of (monitor_with m e) ≡ sketch_with (translation_of m) e =
       after ∙ (sums m.k seen.0 e).1 ∙ ap (λ (s : SummaryView). sketch_with s e) (sym before) in
       let total : n + (m.total + e.1) ≡ n + m.total + e.1 = omega arith in
-      ap (behind n) one
+      ap (heavier n) one
       ∙ (λ j. record { k = m.k; total = total j; counters = join (translate m.counters m.k) (e ∷ []) m.k })
 
 -- a form with a monitor
@@ -51,9 +57,9 @@ module _ (form : Form) (n : ℕ) (m new : SummaryView) (e : Entry) (is : form �
 
   -- is one of the value with the item
   pub monitor_added : SummariesFollowItems
-      → Counted (behind n (translation_of new)) ≡ value_and (value_of form) (e ∷ [])
+      → Counted (heavier n (translation_of new)) ≡ value_and (value_of form) (e ∷ [])
   monitor_added sums =
-      ap (λ (s : SummaryView). Counted (behind n (translation_of s))) made
+      ap (λ (s : SummaryView). Counted (heavier n (translation_of s))) made
       ∙ ap Counted (translated_more monitors m e some as_monitor.0 sums n)
       ∙ ap (λ (f : Form). value_and (value_of f) (e ∷ [])) (sym is)
 
@@ -138,7 +144,7 @@ module _ (s : SummaryView) (fits : Fits s.k s.total s.counters) where
 
   -- their monitor is translated to it, where what the total has besides is put after it
   pub entries_translated : (n : ℕ)
-      → behind (n + (s.total - total_of s.counters)) (translation_of (monitor_of s.k s.counters)) ≡ behind n s
+      → heavier (n + (s.total - total_of s.counters)) (translation_of (monitor_of s.k s.counters)) ≡ heavier n s
   entries_translated n =
       let same : translate (space_saving s.counters s.k) s.k ≡ s.counters =
       ap (λ (c : Counters). translate c s.k) (counted s.counters s.k fits.entries fits.few)
@@ -159,7 +165,39 @@ module _ (s : SummaryView) (fits : Fits s.k s.total s.counters) where
   }
 
   -- merged with it, it has its counters, and both totals
-  pub merged_after : (n : ℕ) → merge_of (record { k = s.k; total = n; counters = [] }) s ≡ behind n s
-  merged_after n =
+  pub merged_heavier : (n : ℕ) → merge_of (record { k = s.k; total = n; counters = [] }) s ≡ heavier n s
+  merged_heavier n =
       let same = joined_to_none s.counters s.k fits.entries fits.few in
       λ j. record { k = s.k; total = n + s.total; counters = same j }
+
+-- ---- a file, merged into the value
+module _ (v : Saved) (file : List ℕ) where
+  -- one that is no saved file is refused for that
+  pub unread_one : (e : ToolError) → Refuses (file_of 2 file) e → Refuses (merged_from 2 v (file ∷ [])) e
+  unfolding merged_from
+  unread_one e refused =
+      refuses_along e (file_of 2 file) (merged_from 2 v (file ∷ [])) (λ h. rw h refl) refused
+
+  -- one that is read is merged as its value is
+  merged_so : (next : Saved) → file_of 2 file ≡ Ok next → (r : Result Saved ToolError) → merge_saved 2 v next ≡ r
+      → merged_from 2 v (file ∷ []) ≡ r
+  unfolding merged_from
+  merged_so next read (Ok both) made = rw (read, made) refl
+  merged_so next read (Err e) made = rw (read, made) refl
+
+  -- so the merge of a value that is the same ends
+  pub merge_ends : (next : Saved) → file_of 2 file ≡ Ok next → (same : Saved) → same ≡ v
+      → (r : Result Unit ToolError) (both : Saved)
+      → (OnOk r (merge_saved 2 same next ≡ Ok both) → OnOk r (merged_from 2 v (file ∷ []) ≡ Ok both))
+      × (IfErr r (Refuses (merge_saved 2 same next)) → IfErr r (Refuses (merged_from 2 v (file ∷ []))))
+  merge_ends next read same is (Ok u) both =
+      (λ made. merged_so next read (Ok both) (subst (λ (s : Saved). merge_saved 2 s next ≡ Ok both) is made), λ refused. tt)
+  merge_ends next read same is (Err e) both = (
+    λ made. tt,
+    λ refused. refuses_along e (merge_saved 2 v next) (merged_from 2 v (file ∷ [])) (merged_so next read (Err e))
+        (subst (λ (s : Saved). Refuses (merge_saved 2 s next) e) is refused),
+  )
+
+-- the value of a form that is the value itself
+pub whole_value : (v w : Saved) → Whole v ≡ Whole w → v ≡ w
+whole_value v w same = cc

@@ -1,5 +1,5 @@
-use Rattle.heavy_ffi.proofs.GrownFacts.{monitor_added, monitor_grows}
-use Rattle.heavy_ffi.proofs.grown.Form.add_within.Goals as goal
+use Rattle.hh_library.proofs.AccumulatorFacts.{monitor_added, monitor_grows}
+use Rattle.hh_library.proofs.accumulator.Form.add_within.Goals as goal
 
 pub returns-in_ok-add_within-in-Monitored-clause-added : goal.returns-in_ok-add_within-in-Monitored-clause-added
 returns-in_ok-add_within-in-Monitored-clause-added c =

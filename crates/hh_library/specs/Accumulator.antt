@@ -4,18 +4,18 @@ use Rattle.hh_stream.specs.Weights.{Entry, max_total}
 use Rattle.hh_summaries.specs.Counters.{SummaryView}
 use Rattle.hh_counters.specs.SpaceSaving.{monitor_of, translation_of}
 use Rattle.hh_saved.specs.declared.saved.Saved.{Saved}
-use Rattle.hh_saved.specs.declared.saved.Saved.TheVariants.{Counters, Cells}
-use Rattle.heavy_ffi.specs.declared.grown.Form.{Form}
-use Rattle.heavy_ffi.specs.declared.grown.Form.TheVariants.{Monitored, Translated, Whole}
+use Rattle.hh_saved.specs.declared.saved.Saved.TheVariants.{Counters}
+use Rattle.hh_library.specs.declared.accumulator.Form.{Form}
+use Rattle.hh_library.specs.declared.accumulator.Form.TheVariants.{Monitored, Translated, Whole}
 
 -- the summary of a stream that weighs n more
-abbrev pub behind : ℕ → SummaryView → SummaryView
-behind n s = record { k = s.k; total = n + s.total; counters = s.counters }
+abbrev pub heavier : ℕ → SummaryView → SummaryView
+heavier n s = record { k = s.k; total = n + s.total; counters = s.counters }
 
 -- the value that a form is of
 abbrev pub value_of : Form → Saved
-value_of (Monitored n m) = Counters (behind n (translation_of m))
-value_of (Translated n s) = Counters (behind n s)
+value_of (Monitored n m) = Counters (heavier n (translation_of m))
+value_of (Translated n s) = Counters (heavier n s)
 value_of (Whole v) = v
 
 -- a monitor has seen some items, each of which weighs something
@@ -30,6 +30,5 @@ Grows (Whole v) = ⊤
 
 -- items are added to a form of this kind
 abbrev pub IsReady : Form → Type 0
-IsReady (Monitored n m) = ⊤
-IsReady (Whole (Cells t)) = ⊤
-IsReady form = ⊥
+IsReady (Translated n s) = ⊥
+IsReady form = ⊤

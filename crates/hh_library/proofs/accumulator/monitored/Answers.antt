@@ -1,8 +1,8 @@
 use Rattle.std.proofs.Common.{ap, subst}
 use Rattle.hh_saved.specs.declared.saved.Saved.TheVariants.{Counters}
 use Rattle.hh_summaries.specs.Counters.{Fits, SummaryView}
-use Rattle.heavy_ffi.proofs.GrownFacts.{entries_translated}
-use Rattle.heavy_ffi.proofs.grown.monitored.Goals as goal
+use Rattle.hh_library.proofs.AccumulatorFacts.{entries_translated}
+use Rattle.hh_library.proofs.accumulator.monitored.Goals as goal
 
 pub returns-in-Ok-clause-same_ok : goal.returns-in-Ok-clause-same_ok
 returns-in-Ok-clause-same_ok c =

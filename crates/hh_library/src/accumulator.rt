@@ -1,46 +1,60 @@
-//! The value of a saved file as it grows: a summary as a monitor, so that each item costs little.
+//! The value of a saved file as it grows: a summary as a monitor, once many items come.
 
-ghost use Rattle.std.specs.Prelude.{◌≡◌, ◌+◌, ◌<◌, ◌≤◌, [], ◌∷◌, length, Ok};
+ghost use Rattle.std.specs.Prelude.{◌≡◌, ◌+◌, ◌<◌, ◌≤◌, [], ◌∷◌, length, None, Ok};
 ghost use Rattle.std.specs.Prelude.{IfErr, IfOk, OnErr, OnOk};
 ghost use Rattle.hh_stream.specs.Weights.{max_key_len, max_total};
 ghost use Rattle.hh_counters.specs.SpaceSaving.{monitor_of};
 ghost use Rattle.hh_saved.specs.Spelling.{Spells};
 ghost use Rattle.hh_saved.specs.declared.format.Version.TheVariants as version;
 ghost use Rattle.hh_faults.specs.declared.error.ToolError.TheVariants as tool;
-ghost use Rattle.hh_commands.specs.Files.{Refuses};
+ghost use Rattle.hh_commands.specs.Ask.{unless};
+ghost use Rattle.hh_commands.specs.Files.{Refuses, StopsAtHead};
 ghost use Rattle.hh_commands.specs.Merge.{merged_from};
-ghost use Rattle.hh_library.specs.Add.{added_to, total_in, value_and};
-ghost use Rattle.heavy_ffi.specs.Grown.{Grows, IsReady, behind, value_of};
-ghost use Rattle.heavy_ffi.specs.declared.grown.Form.TheVariants.{Translated, Whole};
+ghost use Rattle.hh_library.specs.Accumulator.{Grows, IsReady, heavier, value_of};
+ghost use Rattle.hh_library.specs.Add.{item_fault, total_in, value_and};
+ghost use Rattle.hh_library.specs.declared.accumulator.Form.TheVariants.{Translated, Whole};
 
+use crate::items::item_fault;
 use hh_commands::{file_of, merge_saved};
 use hh_counters::laws::summaries_follow_items;
 use hh_counters::{BucketSaving, Monitor, Summary};
 use hh_faults::ToolError;
-use hh_library::item_fault;
 use hh_saved::{Saved, write};
-use hh_stream::KeyHash;
+use hh_stream::{Key, KeyHash};
 use std::alloc::{AllocError, Global};
 use std::marker::Model;
 use std::mem;
 
-/// The value of a saved file, and the words by which its keys are hashed.
+/// The value of a saved file, which grows by items and by other files.
+///
+/// The first items are added to a summary as they come: to find a key takes some comparisons, and
+/// one without a counter may move or lower all others. Once that takes about as long as to make a
+/// monitor of the summary, one is made, to which an item costs little. So few items cost no more
+/// than themselves, and many cost little each.
 #[derive(Drop)]
-pub struct Grown {
+pub struct Accumulator {
     hash: KeyHash,
+    // what may still be spent on items before a monitor is made
+    left: u64,
     form: Form,
 }
 
-impl Model for Grown {
+impl Model for Accumulator {
+    ghost use Rattle.hh_library.specs.Accumulator.{Grows, value_of};
     ghost use Rattle.hh_saved.specs.declared.saved.Saved.{Saved};
-    ghost use Rattle.heavy_ffi.specs.Grown.{Grows, value_of};
 
     ghost Value = { Saved };
 
-    ghost view = { λ g. value_of g.form };
+    ghost view = { λ a. value_of a.form };
 
-    ghost invariant = { λ g. Grows g.form };
+    ghost invariant = { λ a. Grows a.form };
 }
+
+/// What is spent on items before a monitor is made. An item whose key has a counter costs 1.
+const SPENT: u64 = 4096;
+
+/// What an item costs whose key has no counter.
+const NEWCOMER: u64 = 32;
 
 /// How the value is held. The numbers are what a summary's stream weighs besides.
 #[derive(Drop)]
@@ -53,61 +67,75 @@ enum Form {
     Whole(Saved),
 }
 
-impl Grown {
-    /// Lets `value` grow from now on, with its keys hashed by `hash`.
-    pub(crate) fn of(value: Saved, hash: KeyHash) -> Grown
+impl Accumulator {
+    /// Lets `value` grow from now on, with the keys of a monitor hashed by `hash`.
+    pub fn of(value: Saved, hash: KeyHash) -> Accumulator
         ensures { result ≡ value }
     {
-        Grown {
+        Accumulator {
             hash,
+            left: SPENT,
             form: Form::Whole(value),
         }
     }
 
-    /// Adds an item of `key` and `weight`, as item 1. After a refusal the value is as it was.
-    pub(crate) fn add(&mut self, alloc: Global, key: &[u8], weight: u64) -> Result<(), ToolError>
-        ensures added { OnOk result (added_to self.old ((key.now, weight) ∷ []) ≡ Ok self.new) }
-        ensures refused { IfErr result (Refuses (added_to self.old ((key.now, weight) ∷ []))) }
+    /// Adds the item of `key` and `weight` that has this `number`. After a refusal the value is as
+    /// it was.
+    pub fn add(
+        &mut self,
+        alloc: Global,
+        number: u64,
+        key: &[u8],
+        weight: u64,
+    ) -> Result<(), ToolError>
+        ensures added { OnOk result (self.new ≡ value_and self.old ((key.now, weight) ∷ [])) }
+        ensures passes { OnOk result
+            (item_fault number (total_in self.old) (key.now, weight) ≡ None) }
+        ensures refused { IfErr result (Refuses
+            (unless (item_fault number (total_in self.old) (key.now, weight)) self.old)) }
         ensures unchanged { OnErr result (self.new ≡ self.old) }
     {
-        if let Some(fault) = item_fault(1, self.form.total(), key, weight) {
+        if let Some(fault) = item_fault(number, self.form.total(), key, weight) {
             return Err(fault);
         }
-        make_ready(alloc, &mut self.form, self.hash)?;
+        make_ready(alloc, &mut self.form, &mut self.left, self.hash, key)?;
         Ok(self.form.add_within(key, weight)?)
     }
 
     /// Merges a saved `file`, as file 2. After a refusal the value is as it was.
-    pub(crate) fn absorb(&mut self, alloc: Global, file: &[u8]) -> Result<(), ToolError>
+    pub fn absorb(&mut self, alloc: Global, file: &[u8]) -> Result<(), ToolError>
         ensures merged { OnOk result (merged_from 2 self.old (file.now ∷ []) ≡ Ok self.new) }
         ensures refused { IfErr result (Refuses (merged_from 2 self.old (file.now ∷ []))) }
         ensures unchanged { OnErr result (self.new ≡ self.old) }
+        ensures early { StopsAtHead 2 file.now result }
     {
         let next = file_of(alloc, 2, file)?;
-        settle(alloc, &mut self.form)?;
+        self.left = SPENT;
+        make_whole(alloc, &mut self.form)?;
         match &mut self.form {
             Form::Whole(saved) => merge_saved(saved, 2, &next),
-            _ => unreachable!("a settled form is whole"),
+            _ => unreachable!("such a form is whole"),
         }
     }
 
     /// Gives the saved file of the value, which stays.
-    pub(crate) fn save(&mut self, alloc: Global) -> Result<Vec<u8>, ToolError>
+    pub fn save(&mut self, alloc: Global) -> Result<Vec<u8>, ToolError>
         ensures saved { IfOk result (λ bytes. Spells version.Two bytes.items self.old) }
         ensures refused { IfErr result (λ refusal. refusal ≡ tool.Memory) }
         ensures kept { self.new ≡ self.old }
     {
-        settle(alloc, &mut self.form)?;
+        self.left = SPENT;
+        make_whole(alloc, &mut self.form)?;
         match &self.form {
             Form::Whole(saved) => Ok(write(alloc, saved)?),
-            _ => unreachable!("a settled form is whole"),
+            _ => unreachable!("such a form is whole"),
         }
     }
 }
 
 impl Form {
     /// Makes what stands in place of a form while that is made another.
-    fn none(alloc: Global) -> Form
+    fn placeholder(alloc: Global) -> Form
         ensures { Grows result }
     {
         Form::Whole(Saved::Counters(Summary::empty(alloc, 1)))
@@ -128,25 +156,25 @@ impl Form {
     }
 
     /// Gives the value, or where memory is refused a form of it.
-    fn settled(self, alloc: Global) -> Result<Saved, Form>
+    fn into_saved(self, alloc: Global) -> Result<Saved, Form>
         requires { Grows self }
-        ensures settled { IfOk result (λ saved. saved ≡ value_of self) }
+        ensures value { IfOk result (λ saved. saved ≡ value_of self) }
         ensures same { IfErr result (λ form. value_of form ≡ value_of self) }
         ensures grows { IfErr result Grows }
     {
         match self {
             Form::Monitored(besides, monitor) => match monitor.into_summary() {
-                Ok(summary) => settled_summary(alloc, besides, summary),
+                Ok(summary) => summary_as_value(alloc, besides, summary),
                 Err(monitor) => Err(Form::Monitored(besides, monitor)),
             },
-            Form::Translated(besides, summary) => settled_summary(alloc, besides, summary),
+            Form::Translated(besides, summary) => summary_as_value(alloc, besides, summary),
             Form::Whole(saved) => Ok(saved),
         }
     }
 
-    /// Makes the form to which items are added, or where memory is refused another of the value.
-    /// Keys of a monitor are hashed by `hash`.
-    fn ready(self, alloc: Global, hash: KeyHash) -> Result<Form, Form>
+    /// Makes a monitor of a summary, or where memory is refused another form of the value. Keys are
+    /// hashed by `hash`.
+    fn into_monitored(self, alloc: Global, hash: KeyHash) -> Result<Form, Form>
         requires { Grows self }
         ensures ready { IfOk result IsReady }
         ensures same_ok { IfOk result (λ form. value_of form ≡ value_of self) }
@@ -176,17 +204,56 @@ impl Form {
         summaries_follow_items();
         match self {
             Form::Monitored(_, monitor) => Ok(monitor.add_within(key, weight)?),
+            Form::Whole(Saved::Counters(summary)) => Ok(summary.add_within(key, weight)?),
             Form::Whole(Saved::Cells(table)) => {
                 table.add_within(key, weight);
                 Ok(())
             }
-            _ => unreachable!("such a form is not ready"),
+            Form::Translated(..) => unreachable!("such a form is not ready"),
         }
     }
 }
 
-/// Makes `form` one to which items are added. Keys of a monitor are hashed by `hash`.
-fn make_ready(alloc: Global, form: &mut Form, hash: KeyHash) -> Result<(), AllocError>
+/// Tells what it costs to add an item of `key` to a value by itself.
+fn cost_of(alloc: Global, saved: &Saved, key: &[u8]) -> Result<u64, AllocError>
+    requires { (0 < length key.now) × (length key.now ≤ max_key_len) }
+{
+    match saved {
+        Saved::Counters(summary) => {
+            let is_known = summary.get(&Key::of_bytes(alloc, key)?) > 0;
+            Ok(if is_known { 1 } else { NEWCOMER })
+        }
+        Saved::Cells(_) => Ok(0),
+    }
+}
+
+/// Makes `form` one to which an item of `key` is added: as it is, where that costs no more than is
+/// `left`, or a monitor, whose keys are hashed by `hash`.
+fn make_ready(
+    alloc: Global,
+    form: &mut Form,
+    left: &mut u64,
+    hash: KeyHash,
+    key: &[u8],
+) -> Result<(), AllocError>
+    requires grows { Grows form.old }
+    requires key { (0 < length key.now) × (length key.now ≤ max_key_len) }
+    ensures ready { OnOk result (IsReady form.new) }
+    ensures same { value_of form.new ≡ value_of form.old }
+    ensures grows { Grows form.new }
+{
+    if let Form::Whole(saved) = form {
+        let cost = cost_of(alloc, saved, key)?;
+        if cost <= *left {
+            *left -= cost;
+            return Ok(());
+        }
+    }
+    make_monitored(alloc, form, hash)
+}
+
+/// Makes a monitor of the summary that `form` is. Keys are hashed by `hash`.
+fn make_monitored(alloc: Global, form: &mut Form, hash: KeyHash) -> Result<(), AllocError>
     requires { Grows form.old }
     ensures ready { OnOk result (IsReady form.new) }
     ensures same { value_of form.new ≡ value_of form.old }
@@ -195,7 +262,7 @@ fn make_ready(alloc: Global, form: &mut Form, hash: KeyHash) -> Result<(), Alloc
     if let Form::Monitored(..) = form {
         return Ok(());
     }
-    match mem::replace(form, Form::none(alloc)).ready(alloc, hash) {
+    match mem::replace(form, Form::placeholder(alloc)).into_monitored(alloc, hash) {
         Ok(ready) => {
             *form = ready;
             Ok(())
@@ -208,13 +275,13 @@ fn make_ready(alloc: Global, form: &mut Form, hash: KeyHash) -> Result<(), Alloc
 }
 
 /// Makes `form` the value itself.
-fn settle(alloc: Global, form: &mut Form) -> Result<(), AllocError>
+fn make_whole(alloc: Global, form: &mut Form) -> Result<(), AllocError>
     requires { Grows form.old }
-    ensures settled { OnOk result (form.new ≡ Whole (value_of form.old)) }
+    ensures whole { OnOk result (form.new ≡ Whole (value_of form.old)) }
     ensures same { value_of form.new ≡ value_of form.old }
     ensures grows { Grows form.new }
 {
-    match mem::replace(form, Form::none(alloc)).settled(alloc) {
+    match mem::replace(form, Form::placeholder(alloc)).into_saved(alloc) {
         Ok(saved) => {
             *form = Form::Whole(saved);
             Ok(())
@@ -228,9 +295,9 @@ fn settle(alloc: Global, form: &mut Form) -> Result<(), AllocError>
 
 /// Gives the `summary` of a stream that weighs `besides` more as a value, or where memory is
 /// refused a form of it.
-fn settled_summary(alloc: Global, besides: u64, summary: Summary) -> Result<Saved, Form>
+fn summary_as_value(alloc: Global, besides: u64, summary: Summary) -> Result<Saved, Form>
     requires { besides + summary.total ≤ max_total }
-    ensures settled { IfOk result (λ saved. saved ≡ value_of (Translated besides summary)) }
+    ensures value { IfOk result (λ saved. saved ≡ value_of (Translated besides summary)) }
     ensures same { IfErr result (λ form. form ≡ Translated besides summary) }
 {
     let mut whole = Summary::from_entries(summary.k(), besides, Vec::new(alloc));
