@@ -34,9 +34,9 @@ class Change:
     keeps: bool = False
 
 
-def append(path: Path) -> None:
+def add(path: Path, data: bytes) -> None:
     with open(path, "ab") as file:
-        file.write(REST + LATER)
+        file.write(data)
 
 
 def shorten(path: Path) -> None:
@@ -60,13 +60,15 @@ def put(path: Path, at: int, data: bytes) -> None:
 
 
 CHANGES = [
-    Change("appended to", append, grows=True),
+    Change("appended to", lambda path: add(path, REST + LATER), grows=True),
     Change("made shorter", shorten),
     Change("emptied", empty),
     Change("replaced by name", replace, keeps=True),
     Change("written to in place", lambda path: put(path, len(b"a,"), b"8")),
     Change("with two keys of one weight exchanged", lambda path: put(path, 0, b"b,9000\na,9000\n")),
 ]
+
+HALF_A_LINE = Change("given half a line", lambda path: add(path, b"d,99"), keeps=True)
 
 
 @dataclass(frozen=True)
@@ -116,12 +118,8 @@ class Changing(programs.Checks):
         self.path.write_bytes(text)
         os.utime(self.path, (1_000_000_000, 1_000_000_000))
 
-    def check_change(self, command: Command, text: bytes, change: Change) -> None:
-        """The change before each read in turn: what is said then, for as many reads as there are."""
-        name = f"{command.name} of a file that is {change.name}"
-        short, grown = self.plain(command.words, text), self.plain(command.words, text + REST)
-        refused = (1, b"", b"heavy: file %d: could not be read\n" % command.number)
-        self.check(f"{command.name} of both", grown[0] == 0 and short != grown, (short, grown))
+    def said_after(self, command: Command, text: bytes, change: Change) -> list[tuple[int, bytes, bytes]]:
+        """What is said with the change before each read in turn, for as many reads as there are."""
         found = []
         for at in range(1, MOST_READS):
             self.write(text)
@@ -129,7 +127,17 @@ class Changing(programs.Checks):
             if not stopped:
                 break
             found.append(said)
-        self.check(f"{name}: it is read, and comes to an end", 1 < len(found) < MOST_READS - 1, len(found))
+        name = f"{command.name} of a file that is {change.name}: it is read, and comes to an end"
+        self.check(name, 1 < len(found) < MOST_READS - 1, len(found))
+        return found
+
+    def check_change(self, command: Command, text: bytes, change: Change) -> None:
+        """The change before each read."""
+        name = f"{command.name} of a file that is {change.name}"
+        short, grown = self.plain(command.words, text), self.plain(command.words, text + REST)
+        refused = (1, b"", b"heavy: file %d: could not be read\n" % command.number)
+        self.check(f"{command.name} of both", grown[0] == 0 and short != grown, (short, grown))
+        found = self.said_after(command, text, change)
         if change.grows:
             self.check(f"{name}: its last line is read whole where that came before it", found[0] == grown, found[0])
             others = [(at, said) for at, said in enumerate(found, 1) if said not in (short, grown)]
@@ -164,6 +172,14 @@ class Changing(programs.Checks):
     def test_many_keys(self) -> None:
         """Files of more keys than a report keeps, which it reads twice."""
         self.check_changes(self.commands([], MANY_KEYS), MANY_KEYS)
+
+    def test_half_lines(self) -> None:
+        """A file that ends in a line feed, to which half a line is added, is read as it was."""
+        text = MANY_KEYS + REST
+        for command in self.commands([], MANY_KEYS):
+            wanted = self.plain(command.words, text)
+            others = [said for said in self.said_after(command, text, HALF_A_LINE) if said != wanted]
+            self.check(f"{command.name} of a file that is given half a line", not others and wanted[0] == 0, others[:2])
 
     def test_pieces(self) -> None:
         """Files of two pieces."""

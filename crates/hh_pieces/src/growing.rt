@@ -22,9 +22,9 @@ fn time_of(metadata: &Metadata) -> (i64, i64) {
 
 /// A file of the disk, which is read up to the length that it had when it was opened. Where it has
 /// grown by the time that the first reader comes there, it is read on, up to the first line feed,
-/// so that no half-written record is read; and all readers end in that place. A file that has
-/// become shorter, or was written to and hasn't grown, fails: a read of what is gone, or
-/// [`check`](ReadAt::check).
+/// so that no half-written record is read; and all readers end in that place. Where no line feed
+/// has come, they end at the old length. A file that has become shorter, or was written to and
+/// hasn't grown, fails: a read of what is gone, or [`check`](ReadAt::check).
 #[derive(Drop)]
 pub struct GrowingFile {
     file: File,
@@ -50,7 +50,7 @@ impl GrowingFile {
     }
 
     /// Looks for the end of the line that stands where the file ended when it was opened: the place
-    /// after the first line feed, or where there are no more bytes.
+    /// after the first line feed from there on, or where it ended, if there is none.
     fn line_end(&self) -> io::Result<u64> {
         let mut buffer = [0u8; LOOK_LEN];
         let mut at = self.len;
@@ -64,7 +64,7 @@ impl GrowingFile {
             }
             at = at.saturating_add(count as u64);
         }
-        Ok(at)
+        Ok(self.len)
     }
 
     /// Where all readers end. The first that asks for it sets it.
