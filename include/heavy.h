@@ -393,10 +393,10 @@ uint32_t heavy_open_by(const uint8_t *file, size_t file_len, const struct heavy_
                        struct heavy_fault *fault);
 
 /* Adds one item to the value that growing has, as heavy_add adds it to a saved file, with no copy of the file. The
-   cost of a new key of a full summary grows as the logarithm of k. Some 128 new keys after heavy_open, heavy_save or
-   heavy_absorb cost a walk over the counters each, and the next one makes what finds the others. An item is refused as
-   heavy_add refuses item 1, and at another status than HEAVY_DONE the value is as it was. Where growing has no value,
-   the call answers HEAVY_USAGE, and fault has zeros. */
+   cost of a new key of a full summary grows as the logarithm of k. The first new keys after heavy_open, heavy_save or
+   heavy_absorb, fewer than two thousand, cost a walk over the counters each. An item is refused as heavy_add refuses item 1,
+   and at another status than HEAVY_DONE the value is as it was. Where growing has no value, the call answers
+   HEAVY_USAGE, and fault has zeros. */
 uint32_t heavy_update(struct heavy_growing *growing, const uint8_t *key, size_t key_len, uint64_t weight,
                       struct heavy_fault *fault);
 

@@ -5,7 +5,6 @@ ghost use Rattle.std.specs.Prelude.{Err, None, Ok, Some, option_map};
 ghost use mathlib.Core.Logic.{◌↔◌};
 ghost use Rattle.hh_saved.specs.Spelling.{Spells};
 ghost use Rattle.hh_saved.specs.declared.format.Version.TheVariants as version;
-ghost use Rattle.hh_saved.specs.declared.saved.Saved.{Saved};
 ghost use Rattle.hh_faults.specs.declared.error.ToolError.TheVariants as tool;
 ghost use Rattle.hh_commands.specs.Files.{Refuses, StopsAtHead, file_of};
 ghost use Rattle.hh_commands.specs.Merge.{merged_from};

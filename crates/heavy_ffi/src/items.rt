@@ -1,6 +1,6 @@
 //! Items whose keys lie in one slice, one after the other.
 
-ghost use Rattle.std.specs.Prelude.{◌≡◌, ◌≢◌, ℕ, List, map, length, None, IfErr, IfOk, IfSome};
+ghost use Rattle.std.specs.Prelude.{◌≡◌, ℕ, List, map, length, None, IfErr, IfOk};
 ghost use Rattle.hh_stream.specs.Weights.{Entry};
 ghost use Rattle.hh_commands.specs.Files.{Refuses, StopsAtHead, file_of};
 ghost use Rattle.hh_faults.specs.declared.error.ToolError.{ToolError};

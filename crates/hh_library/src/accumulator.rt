@@ -1,7 +1,7 @@
 //! The value of a saved file as it grows: a summary as a monitor, once many items come.
 
 ghost use Rattle.std.specs.Prelude.{◌≡◌, ◌+◌, ◌<◌, ◌≤◌, [], ◌∷◌, length, None, Ok};
-ghost use Rattle.std.specs.Prelude.{IfErr, IfOk, OnErr, OnOk};
+ghost use Rattle.std.specs.Prelude.{IfErr, IfOk, IsTrue, OnErr, OnOk};
 ghost use Rattle.hh_stream.specs.Weights.{max_key_len, max_total};
 ghost use Rattle.hh_counters.specs.SpaceSaving.{monitor_of};
 ghost use Rattle.hh_saved.specs.Spelling.{Spells};
@@ -10,7 +10,7 @@ ghost use Rattle.hh_faults.specs.declared.error.ToolError.TheVariants as tool;
 ghost use Rattle.hh_commands.specs.Ask.{unless};
 ghost use Rattle.hh_commands.specs.Files.{Refuses, StopsAtHead};
 ghost use Rattle.hh_commands.specs.Merge.{merged_from};
-ghost use Rattle.hh_library.specs.Accumulator.{Grows, IsReady, heavier, value_of};
+ghost use Rattle.hh_library.specs.Accumulator.{Grows, IsReady, value_of};
 ghost use Rattle.hh_library.specs.Add.{item_fault, total_in, value_and};
 ghost use Rattle.hh_library.specs.declared.accumulator.Form.TheVariants.{Translated, Whole};
 
@@ -20,7 +20,7 @@ use hh_counters::laws::summaries_follow_items;
 use hh_counters::{BucketSaving, Monitor, Summary};
 use hh_faults::ToolError;
 use hh_saved::{Saved, write};
-use hh_stream::{Key, KeyHash};
+use hh_stream::KeyHash;
 use std::alloc::{AllocError, Global};
 use std::marker::Model;
 use std::mem;
@@ -34,8 +34,8 @@ use std::mem;
 #[derive(Drop)]
 pub struct Accumulator {
     hash: KeyHash,
-    // what may still be spent on items before a monitor is made
-    left: u64,
+    // what the items since the value was whole have cost, in look-ups
+    spent: u64,
     form: Form,
 }
 
@@ -50,12 +50,6 @@ impl Model for Accumulator {
     ghost invariant = { λ a. Grows a.form };
 }
 
-/// What is spent on items before a monitor is made. An item whose key has a counter costs 1.
-const SPENT: u64 = 4096;
-
-/// What an item costs whose key has no counter.
-const NEWCOMER: u64 = 32;
-
 /// How the value is held. The numbers are what a summary's stream weighs besides.
 #[derive(Drop)]
 enum Form {
@@ -67,6 +61,12 @@ enum Form {
     Whole(Saved),
 }
 
+/// What may be spent on the items of a summary of no counters before a monitor is made, halved.
+const LEAST: u64 = 32;
+
+/// How many counters are walked over in the time of a look-up.
+const WALKED: u64 = 512;
+
 impl Accumulator {
     /// Lets `value` grow from now on, with the keys of a monitor hashed by `hash`.
     pub fn of(value: Saved, hash: KeyHash) -> Accumulator
@@ -74,7 +74,7 @@ impl Accumulator {
     {
         Accumulator {
             hash,
-            left: SPENT,
+            spent: 0,
             form: Form::Whole(value),
         }
     }
@@ -98,8 +98,12 @@ impl Accumulator {
         if let Some(fault) = item_fault(number, self.form.total(), key, weight) {
             return Err(fault);
         }
-        make_ready(alloc, &mut self.form, &mut self.left, self.hash, key)?;
-        Ok(self.form.add_within(key, weight)?)
+        make_ready(alloc, &mut self.form, self.spent, self.hash)?;
+        let before = self.form.shape();
+        self.form.add_within(key, weight)?;
+        let cost = cost_of(before, self.form.shape());
+        self.spent = self.spent.saturating_add(cost);
+        Ok(())
     }
 
     /// Merges a saved `file`, as file 2. After a refusal the value is as it was.
@@ -110,7 +114,7 @@ impl Accumulator {
         ensures early { StopsAtHead 2 file.now result }
     {
         let next = file_of(alloc, 2, file)?;
-        self.left = SPENT;
+        self.spent = 0;
         make_whole(alloc, &mut self.form)?;
         match &mut self.form {
             Form::Whole(saved) => merge_saved(saved, 2, &next),
@@ -124,7 +128,7 @@ impl Accumulator {
         ensures refused { IfErr result (λ refusal. refusal ≡ tool.Memory) }
         ensures kept { self.new ≡ self.old }
     {
-        self.left = SPENT;
+        self.spent = 0;
         make_whole(alloc, &mut self.form)?;
         match &self.form {
             Form::Whole(saved) => Ok(write(alloc, saved)?),
@@ -152,6 +156,34 @@ impl Form {
             Form::Translated(besides, summary) => *besides + summary.total(),
             Form::Whole(Saved::Counters(summary)) => summary.total(),
             Form::Whole(Saved::Cells(table)) => table.total(),
+        }
+    }
+
+    /// Tells whether items are added to the form as it is, after items that `spent` is the cost of.
+    fn is_ready(&self, spent: u64) -> bool
+        ensures { IsTrue result → IsReady self.now }
+    {
+        match self {
+            Form::Monitored(..) | Form::Whole(Saved::Cells(_)) => true,
+            Form::Translated(..) => false,
+            Form::Whole(Saved::Counters(summary)) => {
+                (spent / 2).saturating_sub(LEAST) <= summary.len() as u64
+            }
+        }
+    }
+
+    /// Gives the number of a summary's counters and the first of them: an item of a key that has
+    /// none makes the number another, or lowers the counter.
+    fn shape(&self) -> (usize, u64) {
+        match self {
+            Form::Whole(Saved::Counters(summary)) => {
+                if summary.is_empty() {
+                    (0, 0)
+                } else {
+                    (summary.len(), summary.entry(0).1)
+                }
+            }
+            _ => (0, 0),
         }
     }
 
@@ -214,52 +246,24 @@ impl Form {
     }
 }
 
-/// Tells what it costs to add an item of `key` to a value by itself.
-fn cost_of(alloc: Global, saved: &Saved, key: &[u8]) -> Result<u64, AllocError>
-    requires { (0 < length key.now) × (length key.now ≤ max_key_len) }
-{
-    match saved {
-        Saved::Counters(summary) => {
-            let is_known = summary.get(&Key::of_bytes(alloc, key)?) > 0;
-            Ok(if is_known { 1 } else { NEWCOMER })
-        }
-        Saved::Cells(_) => Ok(0),
+/// Tells what an item cost that changed the shape of a form from `before` to `after`.
+fn cost_of(before: (usize, u64), after: (usize, u64)) -> u64 {
+    if after.0 == before.0 && after.1 >= before.1 {
+        1
+    } else {
+        1 + after.0 as u64 / WALKED
     }
 }
 
-/// Makes `form` one to which an item of `key` is added: as it is, where that costs no more than is
-/// `left`, or a monitor, whose keys are hashed by `hash`.
-fn make_ready(
-    alloc: Global,
-    form: &mut Form,
-    left: &mut u64,
-    hash: KeyHash,
-    key: &[u8],
-) -> Result<(), AllocError>
-    requires grows { Grows form.old }
-    requires key { (0 < length key.now) × (length key.now ≤ max_key_len) }
-    ensures ready { OnOk result (IsReady form.new) }
-    ensures same { value_of form.new ≡ value_of form.old }
-    ensures grows { Grows form.new }
-{
-    if let Form::Whole(saved) = form {
-        let cost = cost_of(alloc, saved, key)?;
-        if cost <= *left {
-            *left -= cost;
-            return Ok(());
-        }
-    }
-    make_monitored(alloc, form, hash)
-}
-
-/// Makes a monitor of the summary that `form` is. Keys are hashed by `hash`.
-fn make_monitored(alloc: Global, form: &mut Form, hash: KeyHash) -> Result<(), AllocError>
+/// Makes `form` one to which items are added: as it is, while what was `spent` so is less than a
+/// monitor costs, or a monitor, whose keys are hashed by `hash`.
+fn make_ready(alloc: Global, form: &mut Form, spent: u64, hash: KeyHash) -> Result<(), AllocError>
     requires { Grows form.old }
     ensures ready { OnOk result (IsReady form.new) }
     ensures same { value_of form.new ≡ value_of form.old }
     ensures grows { Grows form.new }
 {
-    if let Form::Monitored(..) = form {
+    if form.is_ready(spent) {
         return Ok(());
     }
     match mem::replace(form, Form::placeholder(alloc)).into_monitored(alloc, hash) {
