@@ -4,7 +4,7 @@ use Rattle.std.specs.Prelude.{vec_items}
 use Rattle.hh_commands.specs.Ask.{asked_value}
 use Rattle.hh_commands.proofs.FileFacts.{refuses}
 use Rattle.hh_commands.proofs.KeyFacts.{keys_go_on, keys_stop, keys_end}
-use Rattle.hh_commands.proofs.commands.ask.asked.Goals as goal
+use Rattle.hh_commands.proofs.commands.ask.read_for_keys.Goals as goal
 
 pub loop-i-preserved : goal.loop-i-preserved
 loop-i-preserved c =

@@ -2,7 +2,7 @@ use Rattle.std.proofs.Common.{◌≡◌, ◌+◌, Ok, map, drop}
 use Rattle.std.specs.Prelude.{vec_items}
 use Rattle.hh_commands.specs.Ask.{bad_key}
 use Rattle.hh_commands.specs.Files.{file_of}
-use Rattle.hh_commands.proofs.commands.ask.asked.Given as goal
+use Rattle.hh_commands.proofs.commands.ask.read_for_keys.Given as goal
 
 -- the words that are left have the first fault of all
 abbrev pub invariant-loop-i : goal.invariant-loop-i
