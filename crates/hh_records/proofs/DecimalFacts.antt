@@ -17,7 +17,7 @@ use Rattle.hh_records.specs.Streams.{weight_of}
 use Rattle.hh_records.proofs.WrittenFacts.{written}
 
 -- ---- digits and points
-second : (a b : Bool) → (a && b) ≡ true → b ≡ true
+pub second : (a b : Bool) → (a && b) ≡ true → b ≡ true
 second true b e = e
 second false b e = absurd (cc e)
 

@@ -1,5 +1,10 @@
 mod BufferFacts
 pub mod ByteFacts
+pub mod ClipFacts
+pub mod ClipLayouts
+pub mod ClipPlaces
+pub mod ClipRows
+pub mod ClipRuns
 pub mod DecimalFacts
 pub mod HeaderFacts
 pub mod KeyFacts

@@ -1,3 +1,4 @@
+pub mod Clips
 pub mod Decimals
 pub mod Laws
 pub mod LayoutWords

@@ -4,6 +4,7 @@
 //! `hh_` is heavy hitters, the frequent keys.
 #![tactic(auto)]
 
+mod clipped;
 mod decimals;
 pub mod laws;
 mod layout;

@@ -5,6 +5,7 @@ ghost use Rattle.std.specs.Io.Buffered.{reader_capacity};
 ghost use Rattle.csv.specs.Reading.{records, strip_bom};
 ghost use Rattle.hh_stream.specs.Weights.{max_total};
 ghost use Rattle.hh_stream.specs.declared.key_hash.KeyHash.{KeyHash};
+ghost use Rattle.hh_records.specs.Clips.{clipped_for};
 ghost use Rattle.hh_records.specs.Layouts.{AllOpen, IsStart, IsText, OpenRefused, Opens, OpensAs};
 ghost use Rattle.hh_stream.specs.Taking.{Takes};
 ghost use Rattle.hh_records.specs.Layouts.{RowsRefused, TextsRefused, all_left};
@@ -15,6 +16,7 @@ ghost use Rattle.hh_records.specs.Layouts.{FindsColumns, rows_in};
 ghost use Rattle.hh_records.specs.Streams.{Known, text_known};
 ghost use Rattle.hh_records.specs.Taking.{TakesItems};
 
+use crate::clipped::Clipped;
 use crate::laws::plain_layouts_read_streams;
 use crate::layout::{ChoiceFault, ColumnIndices, Layout, choose};
 use crate::records::{fault_of, read_rows};
@@ -280,40 +282,46 @@ fn read_len(texts: usize) -> usize
     (MOST_BUFFERED / texts.max(1)).min(READ_LEN).max(1)
 }
 
-/// Makes of `reader` one that reads `len` bytes at once.
+/// Makes of `reader` one that reads `len` bytes at once, and that cuts the long fields of its text
+/// short, by `layout`.
 fn through_buffer<R: Read + Drop>(
     alloc: Global,
+    layout: &Layout,
     reader: R,
     len: usize,
-) -> Result<BufReader<R>, TextError>
+) -> Result<Clipped<BufReader<R>>, TextError>
     requires some { 0 < len }
-    ensures same { IfOk result (λ buffered.
-        ⟦<BufReader<R> as Read>⟧.remaining buffered ≡ R.remaining reader) }
-    ensures room { IfOk result (λ buffered. reader_capacity buffered ≡ len) }
+    ensures clipped { IfOk result (λ clipped.
+        ⟦<Clipped<BufReader<R>> as Read>⟧.remaining clipped
+        ≡ option_map (clipped_for layout.now) (R.remaining reader)) }
+    ensures room { IfOk result (λ clipped. reader_capacity clipped.inner ≡ len) }
     ensures refused { IfErr result (λ error. error ≡ TextError.Memory) }
 {
     match BufReader::with_capacity(alloc, len, reader) {
-        Ok(buffered) => Ok(buffered),
+        Ok(buffered) => Ok(Clipped::new(layout, buffered)),
         Err(_) => Err(TextError::Memory),
     }
 }
 
-/// Makes of each of `readers` one that reads `len` bytes at once.
+/// Makes of each of `readers` one that reads `len` bytes at once, and that cuts the long fields of
+/// its text short, by `layout`.
 fn through_buffers<R: Read + Drop>(
     alloc: Global,
+    layout: &Layout,
     readers: Vec<R>,
     len: usize,
-) -> Result<Vec<BufReader<R>>, TextError>
+) -> Result<Vec<Clipped<BufReader<R>>>, TextError>
     requires some { 0 < len }
-    ensures same { IfOk result (λ buffered.
-        every ⟦<BufReader<R> as Read>⟧.remaining buffered.items
-        ≡ every R.remaining readers.items) }
+    ensures clipped { IfOk result (λ clipped.
+        every ⟦<Clipped<BufReader<R>> as Read>⟧.remaining clipped.items
+        ≡ every (λ reader. option_map (clipped_for layout.now) (R.remaining reader))
+        readers.items) }
     ensures refused { IfErr result (λ error. error ≡ TextError.Memory) }
 {
     let mut all = Vec::new(alloc);
     for reader in readers {
-        let buffered = through_buffer(alloc, reader, len)?;
-        match all.push(buffered) {
+        let clipped = through_buffer(alloc, layout, reader, len)?;
+        match all.push(clipped) {
             Ok(()) => {}
             Err(_) => return Err(TextError::Memory),
         }
@@ -343,6 +351,13 @@ fn read_each<R: Read + Drop, T: TakeItems>(
     }
 }
 
+/// Gives the most digits that a weight of `layout` has after a point.
+fn decimals(layout: &Layout) -> u8
+    ensures { result ≡ layout.now.decimals }
+{
+    layout.decimals
+}
+
 /// Hands the item of each record of some texts to a taker of none, in order, and returns the taker.
 /// A reader is asked for 64 KiB at once, or less where there are many.
 pub fn read_texts<R: Read + Drop, T: TakeItems>(
@@ -359,8 +374,10 @@ pub fn read_texts<R: Read + Drop, T: TakeItems>(
         TextsRefused (texts_known R.remaining layout.now (first ∷ others.items)) error) }
 {
     let len = read_len(others.len().saturating_add(1));
-    let first = through_buffer(alloc, first, len)?;
-    let others = through_buffers(alloc, others, len)?;
+    // A weight has fewer digits than are kept of a field, as the type of this number says.
+    let _ = decimals(layout);
+    let first = through_buffer(alloc, layout, first, len)?;
+    let others = through_buffers(alloc, layout, others, len)?;
     read_each(alloc, layout, first, others, taker)
 }
 

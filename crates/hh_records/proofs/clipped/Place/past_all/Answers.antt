@@ -1,0 +1,23 @@
+use Rattle.std.proofs.Common.{◌≡◌, ◌+◌, ◌-◌, ◌∙◌, arith, length, take, drop}
+use Rattle.std.proofs.lemmas.List.{length-drop, length-take, take_all}
+use Rattle.hh_records.proofs.ClipRuns.{run-more, tracks-less}
+use Rattle.hh_records.proofs.clipped.Place.past_all.Goals as goal
+
+pub loop-at-preserved : goal.loop-at-preserved
+loop-at-preserved c =
+    let inv = c.loop-at.invariant in
+    let bytes = c.args.bytes.now in
+    let at = c.loop-at.at in
+    let e = c.past_run-size.ensures in
+    let long = length-drop at bytes in
+    let cut = length-take (length bytes - at) (drop at bytes) in
+    let within = e.within in
+    let low = inv.0 in
+    let part : take (length bytes - at) (drop at bytes) ≡ drop at bytes = take_all (length bytes - at) (drop at bytes) (omega (arith, long)) in (
+      omega (arith, within, cut, long, low),
+      e.tracks (length bytes - (at + c.past_run-size.result.1))
+          (tracks-less c.loop-at.place (length bytes - at) _ inv.1 (omega (arith, within, cut, long, low))),
+      e.delimiter ∙ inv.2,
+      λ xs. run-more c.args.self c.loop-at.place c.past_run-size.result.0 bytes at c.past_run-size.result.1 xs (inv.3 xs)
+          (rw part at e.past),
+    )
