@@ -2,6 +2,7 @@
 from __future__ import annotations
 
 import array
+import copy
 import ctypes
 import decimal
 import itertools
@@ -20,16 +21,21 @@ _FRAMES = {"DataFrame", "LazyFrame", "RecordBatch", "Table"}  # what libraries c
 
 
 class Columns(NamedTuple):
-    """Keys one behind the other, where each ends (numbers of 64 bits), and whether all of them were `str`."""
+    """Keys one after the other, where each ends (numbers of 64 bits), and whether all of them were `str`. The keys of an array
+    of Arrow lie where they are, and keep it."""
 
-    data: bytes
+    data: bytes | ctypes.Array[ctypes.c_char]
     ends: Any
     text: bool
 
     def words(self, most: int | None = None) -> list[bytes]:
         """The keys, or the first ones, one by one."""
         ends = self.ends[:most].tolist()
-        return [self.data[start:end] for start, end in zip([0, *ends], ends)]
+        return [self.between(start, end) for start, end in zip([0, *ends], ends)]
+
+    def between(self, start: int, end: int) -> bytes:
+        """The bytes of all keys from one place to another."""
+        return memoryview(self.data)[start:end].tobytes()
 
 
 def bytes_of_text(key: str) -> bytes:
@@ -223,10 +229,11 @@ def _released(structure: Any) -> None:
 
 
 class _Arrow(NamedTuple):
-    """An array by Arrow's C interface, and the letter of its kind."""
+    """An array by Arrow's C interface, and the letter of its kind. What owns its memory is None where that is soon given back."""
 
     format: bytes
     array: _ArrowArray
+    owner: Any = None
 
     def first_null(self) -> int | None:
         """The index of the first place that has no value."""
@@ -238,12 +245,19 @@ class _Arrow(NamedTuple):
         return next(missing, None)
 
     def numbers(self, buffer: int, code: str, count: int) -> Any:
-        """The first `count` numbers of a buffer, from this array's offset on."""
-        numpy, held = _numpy(), b""
-        if count and self.array.buffers[buffer]:
-            size = array.array(code).itemsize
-            held = ctypes.string_at(self.array.buffers[buffer] + self.array.offset * size, count * size)
-        return numpy.frombuffer(held, code) if numpy else array.array(code, held)
+        """The first `count` numbers of a buffer, from this array's offset on: with numpy where they lie, while the array is."""
+        size, place = array.array(code).itemsize, self.array.buffers[buffer]
+        held: Any = (ctypes.c_char * (count * size)).from_address(place + self.array.offset * size) if count and place else b""
+        numpy = _numpy()
+        return numpy.frombuffer(held, code) if numpy else array.array(code, bytes(held))
+
+    def bytes_at(self, place: int, size: int) -> bytes | ctypes.Array[ctypes.c_char]:
+        """Bytes of this array, with no copy where something owns them."""
+        if self.owner is None:
+            return ctypes.string_at(place, size)
+        held = (ctypes.c_char * size).from_address(place)
+        held.owner = self.owner  # type: ignore[attr-defined]
+        return held
 
     def columns(self) -> Columns:
         """Its texts, or bytes."""
@@ -257,12 +271,13 @@ class _Arrow(NamedTuple):
             return Columns(b"", array.array("Q"), self.format in b"uU")
         offsets = self.numbers(1, _ARROW_OFFSETS[self.format], self.array.length + 1)
         first, last = int(offsets[0]), int(offsets[-1])
-        data = ctypes.string_at(self.array.buffers[2] + first, last - first) if last > first else b""
+        data = self.bytes_at(self.array.buffers[2] + first, last - first) if last > first else b""
         if isinstance(offsets, array.array):
             ends = _ends(array.array("Q", map(operator.sub, offsets[1:], offsets)))
         else:
-            _check_sizes(offsets[1:] - offsets[:-1])
-            ends = (offsets[1:] - first).astype("Q")
+            numpy = _numpy()
+            _check_sizes(numpy.diff(offsets))
+            ends = numpy.subtract(offsets[1:], first, dtype="i8").view("u8")
         return Columns(data, ends, self.format in b"uU")
 
     def integers(self) -> Any:
@@ -272,7 +287,7 @@ class _Arrow(NamedTuple):
         null = self.first_null()
         if null is not None:
             raise TypeError(f"weights[{null}]: a weight must be an integer, not null")
-        return self.numbers(1, _ARROW_INTEGERS[self.format], self.array.length)
+        return copy.copy(self.numbers(1, _ARROW_INTEGERS[self.format], self.array.length))
 
 
 def _is_pandas(given: Any) -> bool:
@@ -300,7 +315,7 @@ def _arrow_parts(given: Any, take: Callable[[_Arrow], _Taken]) -> list[_Taken] |
         schema = _ArrowSchema.from_address(_pointer(capsules[0], b"arrow_schema"))
         if _format(schema) in _ARROW_OTHERS:
             return None
-        return [take(_Arrow(_format(schema), _ArrowArray.from_address(_pointer(capsules[1], b"arrow_array"))))]
+        return [take(_Arrow(_format(schema), _ArrowArray.from_address(_pointer(capsules[1], b"arrow_array")), (given, capsules)))]
     if hasattr(given, "__arrow_c_stream__"):
         return _stream_parts(given.__arrow_c_stream__(), take)
     return None

@@ -58,7 +58,7 @@ def _with_items(saved: bytes, columns: Columns, weights: Any) -> bytes:
         part = ends[start : start + _COLUMN_BATCH]
         if base:
             part = array.array("Q", [end - base for end in part.tolist()])
-        words = data if len(part) == len(ends) else data[base : base + int(part[-1])]
+        words = data if len(part) == len(ends) else columns.between(base, base + int(part[-1]))
         numbers = None if weights is None else weights[start : start + _COLUMN_BATCH]
         given_words = *lent_items(Columns(words, part, text), numbers), ctypes.byref(HashWords(random_words()))
         saved = answer(calls.heavy_add_by, *lent(saved), *given_words, guess=len(saved) + min(len(words) + 10 * len(part), LARGE))

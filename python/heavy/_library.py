@@ -173,9 +173,9 @@ def random_words() -> tuple[int, int]:
     return secrets.randbits(64) | 1, secrets.randbits(64)
 
 
-def lent(held: bytes) -> tuple[ctypes.c_void_p, int]:
+def lent(held: bytes | ctypes.Array[ctypes.c_char]) -> tuple[ctypes.c_void_p, int]:
     """A pointer, never null, and a length."""
-    return ctypes.cast(ctypes.c_char_p(held), ctypes.c_void_p), len(held)
+    return ctypes.cast(ctypes.c_char_p(held) if isinstance(held, bytes) else held, ctypes.c_void_p), len(held)
 
 
 def joined(parts: list[bytes]) -> tuple[ctypes.c_void_p, int, ctypes.Array[ctypes.c_size_t], int]:
