@@ -16,6 +16,7 @@ import reference
 FIELDS = [
     b"a", b"b", b"c", b"ab", b"", b'"a,b"', b'"a""b"', b'"a\nb"', b'"a\r\nb"', b'a"b', b'"a"b', b"\xff", b"\0", b" a",
     b"\xef\xbb\xbfa", b"k" * 256, b"k" * 4096, b"k" * 4097, b"\xff" * 4096, b'"', b'""',
+    b"k" * 16_385, b'"' + b'""' * 16_384 + b'"', b'"' + b"k\n" * 9_000, b'"k"' + b"k" * 17_000,
 ]
 WEIGHTS = [
     b"1", b"2", b"3", b"7", b"0", b"00", b"007", b"-1", b"+1", b"1.0", b" 1", b"1 ", b"", b'"5"', b"x", b"9" * 20,

@@ -1,7 +1,7 @@
 #!/usr/bin/env python3
 """Summarises, tabulates, condenses and confirms few and many records, and has workers tabulate, condense, confirm and report
-those of a file, with limited address space: none of them needs more for many records than for few. What they answer is
-checked beside.
+those of a file, with limited address space: none of them needs more for many records than for few, or for a long field than
+for a short one. What they answer is checked beside.
 
 usage: tests/one_pass.py
 """
@@ -14,6 +14,7 @@ import programs
 FEW, MANY = 10_000, 1_000_000
 KILOBYTE = 1024
 STEP, MORE, MOST = 256, 1024, 128 * 1024  # kilobytes
+SHORT_FIELD, LONG_FIELD = 200_000, 20_000_000
 
 
 def records(number: int) -> bytes:
@@ -92,6 +93,30 @@ class OnePass(programs.Checks):
             with_feeds.write_bytes(many.replace(b"\r", b"\n"))
             there = programs.run([*runs[1][:-1], str(with_feeds)])
             self.check(f"{name} as with line feeds", ample.out == there.out, there.err)
+
+    def test_long_fields(self) -> None:
+        """A record takes no more memory where a field of it is longer, whether it is refused or not."""
+        program = programs.built("heavy_cli")
+        keys, columns = ["summarise", "--k", "9"], ["summarise", "--k", "9", "--key", "1", "--weight", "2"]
+        texts = {
+            "a field that no column names": (0, columns, b"a,3,%s\nb,4\n", b"x"),
+            "a quoted field that none names": (0, columns, b'a,3,"%s"\nb,4\n', b"x\n"),
+            "a key": (3, keys, b"%s,3\n", b"x"),
+            "a weight": (3, keys, b"a,%s1\n", b"0"),
+            "NULs": (3, keys, b"%s", b"\0"),
+            "quotes": (3, keys, b"%s", b'"'),
+            "a quote that stays open": (3, keys, b'a,3\n"%s', b"b,4\n"),
+        }
+        for name, (status, words, text, part) in texts.items():
+            few, many = (text % (part * (size // len(part))) for size in (SHORT_FIELD, LONG_FIELD))
+            ample = programs.run([program, *words], many)
+            self.check(f"{name}: the status", ample.status == status, ample)
+            enough = range(STEP, MOST, STEP)
+            least = next((size for size in enough if within([program, *words], few, size).status == status), MOST)
+            limited = within([program, *words], many, least + MORE)
+            said = f"{least} KB are enough for a short field, and 1 MB more was not for a long one: {limited.err!r}"
+            ends = limited.status == status and limited.out == ample.out
+            self.check(f"{name}: in bounded memory", least < MOST and ends, said)
 
 
 if __name__ == "__main__":

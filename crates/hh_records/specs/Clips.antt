@@ -28,6 +28,7 @@ ends_field act.EndRecord = true
 ends_field act.Skip = false
 ends_field act.Copy = false
 
+-- whether a state stands within quotes
 abbrev pub is_quoted : State → Bool
 is_quoted st.InQuoted = true
 is_quoted st.StartRecord = false
@@ -53,6 +54,7 @@ kept_by a s n c =
     else if is_quoted s && (n == most_field) then 34 ∷ []
     else []
 
+-- what stands for the byte c in a state
 abbrev pub kept : Config → State → ℕ → ℕ → List ℕ
 kept cfg s n c = kept_by (step cfg s c).1 s n c
 
@@ -62,7 +64,7 @@ clipped cfg s n [] = []
 clipped cfg s n (c ∷ rest) =
     kept cfg s n c ++ clipped cfg (step cfg s c).0 (size_after (step cfg s c).1 n) rest
 
--- the same with a first record that is left whole
+-- a text from a state within its first record, which is left whole
 unfoldable pub clipped_after : Config → State → List ℕ → List ℕ
 clipped_after cfg s [] = []
 clipped_after cfg s (c ∷ rest) =
@@ -74,7 +76,7 @@ abbrev pub clipped_rows : Config → Bool → List ℕ → List ℕ
 clipped_rows cfg headed xs =
     if headed then clipped_after cfg st.StartRecord xs else clipped cfg st.StartRecord 0 xs
 
--- the same of a text, after a byte order mark, which stays
+-- a text with its long fields cut short, after a byte order mark, which stays
 unfoldable pub clipped_text : Config → Bool → List ℕ → List ℕ
 clipped_text cfg headed [] = []
 clipped_text cfg headed (a ∷ []) = clipped_rows cfg headed (a ∷ [])
@@ -103,6 +105,7 @@ state_of spot.Plain = st.InField
 state_of spot.Quoted = st.InQuoted
 state_of spot.Quote = st.AfterQuote
 
+-- what an effect is to csv's reader
 abbrev pub action_of : Effect → Action
 action_of effect.Skip = act.Skip
 action_of effect.Copy = act.Copy
@@ -137,7 +140,7 @@ rest_at place xs =
     if place.headed then clipped_after (delimited place.delimiter) (state_of place.spot) xs
     else clipped (delimited place.delimiter) (state_of place.spot) place.size xs
 
--- and that of a text
+-- how the rest of a text is cut short, from a spot that may stand in a byte order mark
 abbrev pub left_from : Spot → Place → List ℕ → List ℕ
 left_from spot.Start place xs = clipped_text (delimited place.delimiter) place.headed xs
 left_from spot.FirstOfMark place xs =
@@ -209,6 +212,7 @@ ends_at d c = (c == d) || (c == 13) || (c == 10)
 abbrev pub AlikeField : List ℕ → List ℕ → Type 0
 AlikeField f g = (f ≡ g) ⊎ ((max_key_len < length f) × (max_key_len < length g))
 
+-- records with as many fields, which are alike one by one
 abbrev pub AlikeFields : Fields → Fields → Type 0
 AlikeFields [] [] = ⊤
 AlikeFields [] (g ∷ gs) = ⊥
