@@ -4,7 +4,7 @@ ghost use Rattle.std.specs.Prelude.{◌≡◌, Ok, None, IfOk, IfErr, map, vec_i
 ghost use Rattle.hh_commands.specs.Ask.{answer, answer_of, answers_of, bad_key};
 ghost use Rattle.hh_commands.specs.Files.{Refuses, StopsAtHead};
 
-use hh_commands::{answer_of, asked, check_key, file_of, slack_of};
+use hh_commands::{answer_of, check_key, file_of, read_for_keys, slack_of};
 use hh_faults::ToolError;
 use hh_saved::Saved;
 use hh_stream::Key;
