@@ -88,6 +88,8 @@ class Changing(programs.Checks):
         self.program = programs.built("heavy_cli")
         self.library = programs.preloaded("pause.c", self.room)
         self.saved = f"{self.room}/saved"
+        self.other = f"{self.room}/first.csv"
+        Path(self.other).write_bytes(b"a,1\n")
         self.path = Path(self.room, "records.csv")
 
     def run_on(self, words: list[str], at: int, change: Change | None) -> tuple[bool, tuple[int, bytes, bytes]]:
@@ -161,6 +163,7 @@ class Changing(programs.Checks):
         Path(self.saved).write_bytes(made[1])
         return [
             Command("report", ["report", "--k", "5", *layout, path]),
+            Command("report of two files", ["report", "--k", "5", *layout, self.other, path], 2),
             Command("report by a plan", ["report", "--k", "5", "--pieces", "2", *layout, path]),
             Command("summarise", ["summarise", "--k", "5", *layout, path]),
             Command("summarise by workers", ["summarise", "--k", "5", "--workers", "2", *layout, path]),

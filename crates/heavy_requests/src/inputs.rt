@@ -216,6 +216,8 @@ impl<'a> DiskFile<'a> {
 impl<'a> ReadAt for DiskFile<'a> {
     ghost bytes = { λ _. None };
 
+    ghost still = { λ _. ⊤ };
+
     fn len(&self) -> io::Result<u64> {
         self.file.len()
     }
@@ -264,6 +266,8 @@ impl<'a> ReadAt for OpenFile<'a> {
     ghost use Rattle.heavy_requests.specs.Inputs.{open_bytes};
 
     ghost bytes = { open_bytes };
+
+    ghost still = { λ _. ⊤ };
 
     fn len(&self) -> io::Result<u64> {
         match self {

@@ -1,6 +1,6 @@
 //! Keeps what a pipe gives, where its records are read more than once.
 
-ghost use Rattle.std.specs.Prelude.{◌≡◌, ◌⊎◌, IfErr};
+ghost use Rattle.std.specs.Prelude.{◌≡◌, ◌⊎◌, IfErr, ⊤};
 
 use crate::inputs::Reader;
 use crate::unread::Unread;
@@ -48,6 +48,8 @@ impl ReadAt for KeptPipe {
     ghost use Rattle.heavy_requests.specs.Inputs.{kept_bytes};
 
     ghost bytes = { kept_bytes };
+
+    ghost still = { λ _. ⊤ };
 
     fn len(&self) -> io::Result<u64> {
         match &self.bytes {

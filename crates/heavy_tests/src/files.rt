@@ -1,7 +1,7 @@
 //! Reports of files that fail in mid-stream, or that aren't the same in two readings, and files
 //! that workers count, also while these grow.
 
-ghost use Rattle.std.specs.Prelude.{None};
+ghost use Rattle.std.specs.Prelude.{◌≡◌, None, false, ⊤};
 
 use crate::devices::{FaultyWriter, Manner};
 use crate::fixtures::assert_same;
@@ -45,6 +45,8 @@ impl ManyRecords<'_> {
 
 impl ReadAt for ManyRecords<'_> {
     ghost bytes = { λ _. None };
+
+    ghost still = { λ _. ⊤ };
 
     fn len(&self) -> io::Result<u64> {
         Ok(self.first.len() as u64)
@@ -220,6 +222,8 @@ struct LiveFile {
 
 impl ReadAt for LiveFile {
     ghost bytes = { λ _. None };
+
+    ghost still = { λ file. file.is_changed ≡ false };
 
     fn len(&self) -> io::Result<u64> {
         Ok(4)

@@ -1,6 +1,6 @@
 //! A summary confirmed by files, which workers read in pieces.
 
-ghost use Rattle.std.specs.Prelude.{◌≡◌, IfOk, IfErr, OnOk, true};
+ghost use Rattle.std.specs.Prelude.{◌≡◌, All, IfOk, IfErr, OnOk, true};
 ghost use Rattle.hh_stream.specs.Ranges.{in_range};
 ghost use Rattle.hh_workers.specs.Workers.{max_workers};
 ghost use Rattle.hh_records.specs.Layouts.{texts_known};
@@ -57,6 +57,7 @@ pub fn confirm_files<T: Threads + Wait + Sync, S: ReadAt + Sync>(
     ensures workers { OnOk result (in_range workers max_workers ≡ true) }
     ensures explained { IfErr result (TellsCompared file.now
         (texts_known S.bytes records.entry.layout.now records.entry.sources.now) compared.new) }
+    ensures still { OnOk result (All S.still records.entry.sources.now) }
     ensures early { StopsAtHead 1 file.now result }
 {
     let summary = summary_in(alloc, file)?;

@@ -1,6 +1,6 @@
 //! One pass over files, by workers.
 
-ghost use Rattle.std.specs.Prelude.{◌≡◌, ◌<◌, ◌≤◌, true, length, IfOk, IfErr, IfSome};
+ghost use Rattle.std.specs.Prelude.{◌≡◌, ◌<◌, ◌≤◌, All, true, length, IfOk, IfErr, IfSome, OnOk};
 ghost use Rattle.std.specs.Map.{keys_of};
 ghost use Rattle.hh_stream.specs.Ranges.{in_range};
 ghost use Rattle.hh_stream.specs.Weights.{max_total};
@@ -162,6 +162,7 @@ pub(crate) fn count_sources<T: Threads + Wait + Sync, S: ReadAt + Sync>(
         (texts_known S.bytes records.entry.layout.now records.entry.sources.now)
         (keys_of summary.now.counters)) }
     ensures counters { IfOk result (λ _. IsCounters summary.now.counters) }
+    ensures still { OnOk result (All S.still records.entry.sources.now) }
     ensures refused { IfErr result (RecordsRefused
         (texts_known S.bytes records.entry.layout.now records.entry.sources.now)) }
 {

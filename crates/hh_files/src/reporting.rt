@@ -1,6 +1,6 @@
 //! A report of files, of which no item is kept.
 
-ghost use Rattle.std.specs.Prelude.{◌≡◌, ◌<◌, ◌≤◌, ◌+◌, ◌*◌, List, false, true, IfOk, IfErr, IfSome, OnOk, Err};
+ghost use Rattle.std.specs.Prelude.{◌≡◌, ◌<◌, ◌≤◌, ◌+◌, ◌*◌, All, List, false, true, IfOk, IfErr, IfSome, OnOk, Err};
 ghost use Rattle.hh_summaries.specs.Counters.{max_k};
 ghost use Rattle.hh_summaries.specs.Report.{IsShare};
 ghost use Rattle.hh_stream.specs.Cuttings.{max_pieces};
@@ -119,6 +119,7 @@ fn keys_of_sources<T: Threads + Wait + Sync, S: ReadAt + Sync>(
     ensures keys { IfOk result (λ keys.
         FindsKeys (texts_known S.bytes records.entry.layout.now records.entry.sources.now)
         prepared.now.p prepared.now.q keys.0 keys.1.items) }
+    ensures still { OnOk result (All S.still records.entry.sources.now) }
     ensures refused { IfErr result (RecordsRefused
         (texts_known S.bytes records.entry.layout.now records.entry.sources.now)) }
 {
@@ -143,6 +144,7 @@ fn reported_of_files<T: Threads + Wait + Sync, S: ReadAt + Sync>(
         ((xs : List Entry) × (keys.0 ≡ total_of xs) × ReportsKeys options.now
         (texts_known S.bytes records.entry.layout.now records.entry.sources.now)
         xs keys.1.items)) }
+    ensures still { OnOk result (All S.still records.entry.sources.now) }
     ensures refused { IfErr result (StartRefused options.now
         (texts_known S.bytes records.entry.layout.now records.entry.sources.now)) }
     ensures bad_option { IfSome (bad_option options.now) (λ fault. result ≡ Err fault) }
@@ -178,6 +180,7 @@ pub fn report_files<T: Threads + Wait + Sync, F: ReadAt + Sync, S: Sink>(
     ensures reported { OnOk result (IsPrintedOfFiles rows.now options.now
         (texts_known F.bytes records.entry.layout.now records.entry.sources.now)
         (S.taken sink.old) (S.taken sink.new)) }
+    ensures still { OnOk result (All F.still records.entry.sources.now) }
     ensures refused { IfErr result (λ fault. FilesRefused rows.now options.now
         (texts_known F.bytes records.entry.layout.now records.entry.sources.now)
         (S.taken sink.old) (S.taken sink.new) fault) }

@@ -1,6 +1,6 @@
 //! Files summarised, which workers read in pieces.
 
-ghost use Rattle.std.specs.Prelude.{◌≡◌, true, IfOk, IfErr, IfSome, Err};
+ghost use Rattle.std.specs.Prelude.{◌≡◌, All, true, IfOk, IfErr, IfSome, OnOk, Err};
 ghost use Rattle.hh_stream.specs.Ranges.{in_range};
 ghost use Rattle.hh_summaries.specs.Counters.{max_k, sketch_of};
 ghost use Rattle.hh_workers.specs.Workers.{max_workers};
@@ -76,6 +76,7 @@ fn summary_of_sources<T: Threads + Wait + Sync, S: ReadAt + Sync>(
     requires workers { in_range workers max_workers ≡ true }
     ensures summary { IfOk result (SummarisesRecords k
         (texts_known S.bytes records.entry.layout.now records.entry.sources.now)) }
+    ensures still { OnOk result (All S.still records.entry.sources.now) }
     ensures refused { IfErr result (RecordsRefused
         (texts_known S.bytes records.entry.layout.now records.entry.sources.now)) }
 {
@@ -117,6 +118,7 @@ pub fn summarise_files<T: Threads + Wait + Sync, S: ReadAt + Sync>(
     ensures one_worker { workers ≡ 1 → IfOk result (λ bytes.
         SavesStream (λ xs. Counters (sketch_of k xs))
         (texts_known S.bytes records.entry.layout.now records.entry.sources.now) bytes.items) }
+    ensures still { OnOk result (All S.still records.entry.sources.now) }
     ensures refused { IfErr result (RefusedAfter (bad_summary_of_files k workers)
         (texts_known S.bytes records.entry.layout.now records.entry.sources.now)) }
     ensures bad_option { IfSome (bad_summary_of_files k workers)

@@ -1,6 +1,6 @@
 //! Files counted in a saved table, which workers read in pieces.
 
-ghost use Rattle.std.specs.Prelude.{◌≡◌, true, IfOk, IfErr, IfSome, Err};
+ghost use Rattle.std.specs.Prelude.{◌≡◌, All, true, IfOk, IfErr, IfSome, OnOk, Err};
 ghost use Rattle.hh_stream.specs.Ranges.{in_range};
 ghost use Rattle.hh_countmin.specs.Family.{drawn_family, max_depth, max_width};
 ghost use Rattle.hh_countmin.specs.Table.{table_of};
@@ -70,6 +70,7 @@ fn table_of_sources<T: Threads + Wait + Sync, S: ReadAt + Sync>(
     ensures table { IfOk result (TabulatesRecords
         (texts_known S.bytes records.entry.layout.now records.entry.sources.now)
         (drawn_family seed depth) width) }
+    ensures still { OnOk result (All S.still records.entry.sources.now) }
     ensures refused { IfErr result (RecordsRefused
         (texts_known S.bytes records.entry.layout.now records.entry.sources.now)) }
 {
@@ -107,6 +108,7 @@ pub fn table_files<T: Threads + Wait + Sync, S: ReadAt + Sync>(
     ensures saved { IfOk result (λ bytes.
         SavesStream (λ xs. Cells (table_of (drawn_family seed depth) width xs))
         (texts_known S.bytes records.entry.layout.now records.entry.sources.now) bytes.items) }
+    ensures still { OnOk result (All S.still records.entry.sources.now) }
     ensures refused { IfErr result (RefusedAfter (bad_table_of_files depth width workers)
         (texts_known S.bytes records.entry.layout.now records.entry.sources.now)) }
     ensures bad_table { IfSome (bad_table_of_files depth width workers)

@@ -1,6 +1,6 @@
 -- Sources that are read from their starts.
-use Rattle.std.proofs.Common.{◌≡◌, ◌<◌, ◌+◌, ◌++◌, ◌∙◌, ℕ, suc, Bool, true, List, [], ◌∷◌, drop, length, get_or, Option, Some, None, Result, Ok, Err, refl, sym, ap, add-one, arith, drop-cons}
-use Rattle.std.specs.Prelude.{IfErr, IfOk, IfSome, IsOk, option_map}
+use Rattle.std.proofs.Common.{◌≡◌, ◌<◌, ◌+◌, ◌++◌, ◌∙◌, ℕ, suc, Bool, true, false, List, [], ◌∷◌, drop, length, get_or, Option, Some, None, Result, Ok, Err, refl, sym, ap, add-one, arith, drop-cons}
+use Rattle.std.specs.Prelude.{IfErr, IfOk, IfSome, IsOk, OnOk, option_map}
 use Rattle.std.specs.Result.{is_err}
 use Rattle.std.proofs.lemmas.Bool.{false≢true}
 use Rattle.hh_stream.specs.Weights.{Entry}
@@ -31,6 +31,10 @@ known-next f g all i x ys y l e h k =
 is-no-error : {A E : Type 0} (r : Result A E) → IsOk r → is_err r ≡ true → ⊥
 is-no-error (Ok x) ok bad = false≢true bad
 is-no-error (Err e) ok bad = false≢true ok
+
+pub where-no-error : {A E P : Type 0} (r : Result A E) → OnOk r P → is_err r ≡ false → P
+where-no-error (Ok x) h none = h
+where-no-error (Err e) h none = absurd (false≢true (sym none))
 
 pub none-changed : {S A E : Type 0} (P : Type 0) (f : S → Option (List ℕ)) (all : List S) (i : ℕ) (x : S) (r : Result A E)
     → i < length all → x ≡ get_or all i x → IfSome (f x) (λ _. IsOk r) → is_err r ≡ true → IfSome (every f all) (λ _. P)

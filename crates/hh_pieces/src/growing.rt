@@ -1,6 +1,6 @@
 //! Files of the disk, which may grow while they are read.
 
-ghost use Rattle.std.specs.Prelude.{None};
+ghost use Rattle.std.specs.Prelude.{None, ⊤};
 
 use crate::read_at::ReadAt;
 use memchr::memchr;
@@ -87,6 +87,8 @@ impl GrowingFile {
 // Nothing is known of a file's bytes: it may change between two reads.
 impl ReadAt for GrowingFile {
     ghost bytes = { λ _. None };
+
+    ghost still = { λ _. ⊤ };
 
     fn len(&self) -> io::Result<u64> {
         Ok(self.len)

@@ -1,6 +1,6 @@
 //! Bytes that are read at any place.
 
-ghost use Rattle.std.specs.Prelude.{◌≡◌, List, ℕ, Option, Some, drop, length, option_map, IfOk, IfSome, IsOk};
+ghost use Rattle.std.specs.Prelude.{◌≡◌, List, ℕ, Option, Some, drop, length, option_map, IfOk, IfSome, IsOk, OnOk, ⊤};
 ghost use Rattle.std.specs.Io.{ReadsAtMost};
 ghost use Rattle.hh_pieces.specs.Files.{GivesFrom, bytes_between};
 ghost use Rattle.hh_pieces.specs.Sources.{IsKnownStill};
@@ -11,6 +11,9 @@ use std::io::{self, Error, ErrorKind, Read, Take};
 pub trait ReadAt {
     // all the bytes, where they are known
     ghost bytes: { Self → Option (List ℕ) };
+
+    // the bytes that were read are there still
+    ghost still: { Self → Type 0 };
 
     /// How many bytes there are. Of a file that grows there may be more by the time that they are
     /// read.
@@ -26,11 +29,14 @@ pub trait ReadAt {
     /// Checks, once bytes were read, that these are there still. The error is that they were
     /// changed meanwhile, or that this can't be found out.
     fn check(&self) -> io::Result<()>
-        ensures known { IfSome (bytes self.now) (λ _. IsOk result) };
+        ensures known { IfSome (bytes self.now) (λ _. IsOk result) }
+        ensures still { OnOk result (still self.now) };
 }
 
 impl ReadAt for Vec<u8> {
     ghost bytes = { λ bytes. Some bytes.items };
+
+    ghost still = { λ _. ⊤ };
 
     fn len(&self) -> io::Result<u64> {
         Ok(self.as_slice().len() as u64)

@@ -1,6 +1,6 @@
 //! Records in files, or in other bytes that are read at any place.
 
-ghost use Rattle.std.specs.Prelude.{◌≡◌, IfErr, IfOk, IfSome, IsOk};
+ghost use Rattle.std.specs.Prelude.{◌≡◌, All, IfErr, IfOk, IfSome, IsOk, OnOk};
 ghost use Rattle.hh_records.specs.Layouts.{TextsRefused, every, texts_known};
 ghost use Rattle.hh_pieces.specs.Sources.{IsKnownStill};
 ghost use Rattle.hh_records.specs.Taking.{TakesItems};
@@ -24,6 +24,7 @@ impl<'s, S: ReadAt> SourceRecords<'s, S> {
     /// [`TextError::ReadFault`].
     pub fn check(self) -> Result<(), TextError>
         ensures known { IfSome (every S.bytes self.entry.sources.now) (λ _. IsOk result) }
+        ensures still { OnOk result (All S.still self.entry.sources.now) }
         ensures refused { IfErr result (λ fault. fault ≡ TextError.ReadFault) }
     {
         for source in self.sources {

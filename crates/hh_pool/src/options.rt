@@ -193,6 +193,7 @@ impl Options {
         ensures family { result.now ≡ self.now.family }
         ensures in_range { IsFamily self.now.family }
     {
+        // Its contract says that the family is in range.
         let _depth = self.family.depth();
         &self.family
     }
