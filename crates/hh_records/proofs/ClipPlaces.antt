@@ -191,6 +191,15 @@ module _ (place : Place) (c : ℕ) (xs : List ℕ) (e : separates place.delimite
   no-third at other =
       rw (e, at, unmarked-three place.delimiter place.headed c xs (ne_eqb c 0xBF other), two-join place.delimiter place.headed (c ∷ xs) e) refl
 
+-- bytes that begin a text with no mark
+pub begins-unmarked : (place : Place) (bytes xs : List ℕ) → separates place.delimiter ≡ true → place.spot ≡ spot.Start
+    → 0 < length bytes → (get_or bytes 0 0 ≡ 0xEF → ⊥)
+    → left_at place (bytes ++ xs) ≡ left_at (record place { spot = spot.Record; size = 0 }) (bytes ++ xs)
+begins-unmarked place [] xs e at some other = absurd (omega (arith, some))
+begins-unmarked place (c ∷ bytes) xs e at some other =
+    no-mark place c (bytes ++ xs) e at other
+    ∙ sym (in-a-record (record place { spot = spot.Record; size = 0 }) (c ∷ (bytes ++ xs)) e refl)
+
 -- ---- bytes of a buffer
 -- the bytes from a place on begin with that at the place
 front : (xs : List ℕ) (i n m : ℕ) → i < length xs → n ≡ suc m → take n (drop i xs) ≡ get_or xs i 0 ∷ take m (drop (i + 1) xs)

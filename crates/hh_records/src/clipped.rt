@@ -410,6 +410,23 @@ impl Place {
         }
     }
 
+    /// This place or, where a text begins with `bytes` and with no byte order mark, the start of its
+    /// first record.
+    fn begun(self, bytes: &[u8]) -> Place
+        requires separates { separates self.delimiter ≡ true }
+        ensures left { (xs : List ℕ)
+            → left_at self (bytes.now ++ xs) ≡ left_at result (bytes.now ++ xs) }
+        ensures delimiter { result.delimiter ≡ self.delimiter }
+    {
+        match self.spot {
+            Spot::Start => match bytes {
+                [byte, ..] if *byte != 0xEF => self.at(Spot::Record, 0),
+                _ => self,
+            },
+            _ => self,
+        }
+    }
+
     /// Cuts the first `count` bytes of `buf` short, and gives how many are left.
     fn cut(&mut self, buf: &mut [u8], count: usize) -> usize
         requires within { count ≤ length buf.old }
@@ -419,6 +436,7 @@ impl Place {
         ensures left { (xs : List ℕ) → left_at self.old (take count buf.old ++ xs)
             ≡ take result buf.new ++ left_at self.new xs }
     {
+        *self = self.begun(&buf[..count]);
         if self.has_room(count) {
             *self = self.past_all(&buf[..count]);
             return count;
