@@ -124,7 +124,8 @@ static size_t merged(uint8_t *file, size_t len, const uint8_t *other, size_t oth
     return needed;
 }
 
-/* Summaries of which weights were taken before, too: of a merge, and of a file. */
+/* Summaries of which weights were taken before, too: of a merge, and of a file. Items that come in a row are often enough for a
+   monitor to be made. */
 static void try_many(const struct heavy_hash *hash) {
     struct heavy_growing growing = {0};
     uint8_t file[ROOM], other[ROOM];
@@ -136,15 +137,15 @@ static void try_many(const struct heavy_hash *hash) {
     for (int i = 0; i < 3000; i++) {
         state = state * 6364136223846793005u + 1442695040888963407u;
         uint8_t key = (uint8_t)('a' + (state >> 33) % 11);
-        int merges = (state >> 40) % 40 == 0;
+        int merges = (state >> 40) % 200 == 0;
         uint64_t weight = 1 + (state >> 50) % 9;
         len = merges ? merged(file, len, other, other_len) : added(file, len, key, weight);
         uint32_t status = merges ? heavy_absorb(other, other_len, &growing, &told)
                                  : heavy_update(&growing, &key, 1, weight, &told);
         check("a step", status == HEAVY_DONE && is_fault(0, 0, 0));
-        if ((state >> 45) % 20 == 0)
+        if ((state >> 45) % 150 == 0)
             check("the file that the calls on files make", saves(&growing, file, len));
-        if ((state >> 48) % 100 == 0)
+        if ((state >> 48) % 400 == 0)
             check("opened again", heavy_open_by(file, len, hash, &growing, &told) == HEAVY_DONE);
     }
     check("the last file", saves(&growing, file, len));

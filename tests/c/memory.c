@@ -45,29 +45,32 @@ static struct heavy_info info;
 static uint8_t grown[256];
 static size_t grown_len;
 
-/* What grows by an item of a key that is there, by a file of such keys, by an item of a new key, and is saved; each step that
+/* Items of a key that is there, which are enough for a monitor to be made. */
+enum { ITEMS = 90 };
+
+/* What grows by items of a key that is there, by a file of such keys, by an item of a new key, and is saved; each step that
    meets a refusal is made again. How many did, or -1 where one was refused for another reason. */
 static int grow(uint8_t *out, size_t size, size_t *len) {
     struct heavy_growing growing = {0};
     struct heavy_fault fault;
     int refused = 0, step = 0;
-    while (step < 5) {
-        uint32_t status = step == 0 ? heavy_open(summary, summary_len / 2, &growing, &fault)
-                        : step == 1 ? heavy_update(&growing, (const uint8_t *)"a", 1, 9, &fault)
-                        : step == 2 ? heavy_absorb(summary, summary_len / 2, &growing, &fault)
-                        : step == 3 ? heavy_update(&growing, (const uint8_t *)"new", 3, 9, &fault)
-                                    : heavy_save(&growing, out, size, len, &fault);
+    while (step < ITEMS + 4) {
+        uint32_t status = step == 0           ? heavy_open(summary, summary_len / 2, &growing, &fault)
+                        : step <= ITEMS       ? heavy_update(&growing, (const uint8_t *)"a", 1, 9, &fault)
+                        : step == ITEMS + 1   ? heavy_absorb(summary, summary_len / 2, &growing, &fault)
+                        : step == ITEMS + 2   ? heavy_update(&growing, (const uint8_t *)"new", 3, 9, &fault)
+                                              : heavy_save(&growing, out, size, len, &fault);
         if (status == HEAVY_DONE) {
             step++;
         } else if (status == HEAVY_MEMORY) {
             refused++;
             told = fault;
         } else {
-            step = 6;
+            step = ITEMS + 5;
         }
     }
     heavy_free(&growing);
-    return step == 5 ? refused : -1;
+    return step == ITEMS + 4 ? refused : -1;
 }
 
 /* The status of a growth that comes to the same, whatever was refused on the way. */
