@@ -8,7 +8,7 @@ ghost use Rattle.heavy_answers.specs.Answers.{PrintsReport};
 ghost use Rattle.heavy_answers.specs.Refusals.{CommandFails, FilesFail, IsRefused, ReportFails};
 
 use crate::host::Host;
-use crate::opening::{keep, open, open_records};
+use crate::opening::{into_kept, open, open_records};
 use crate::single_pass::{SinglePass, in_one_pass};
 use heavy_host::{ReadFailure, read_file, read_files};
 use heavy_requests::{Command, Invocation, RecordWords, Request};

@@ -1,6 +1,6 @@
 //! The analyses of `hh_pool`.
 
-ghost use Rattle.std.specs.Prelude.{◌≡◌, IfOk, length, sum};
+ghost use Rattle.std.specs.Prelude.{◌≡◌, ◌*◌, IfOk, length, sum};
 
 use crate::lab::{Lab, Said, marked, no_such_call};
 use crate::show::{Cells, Counters, Numbers, Report};
@@ -31,9 +31,19 @@ pub fn call<R: Threads + Wait + Sync>(rt: &R, lab: &Lab, name: &str) -> Result<S
     }
 }
 
-fn options(lab: &Lab, workers: u64) -> Result<Options, Fail> {
+// The options of an analysis, and how many cells its table has.
+fn options_and_cells(lab: &Lab, workers: u64) -> Result<(Options, usize), Fail>
+    ensures { IfOk result (λ r. r.1 ≡ length r.0.family.rows * r.0.width) }
+{
     let family = Family::from_parts(lab.alloc, 256, &[(1, 0), (3, 1)])?;
-    Ok(Options::new(2, 1, 3, workers, 4, family)?)
+    let cells = (family.depth() * 4) as usize;
+    let options = Options::new(2, 1, 3, workers, 4, family)?;
+    Ok((options, cells))
+}
+
+fn options(lab: &Lab, workers: u64) -> Result<Options, Fail> {
+    let (options, _) = options_and_cells(lab, workers)?;
+    Ok(options)
 }
 
 // What the analysis answers, or nothing where memory was refused.
@@ -60,7 +70,7 @@ fn outcome<R: Threads + Wait + Sync, G: Gate + Sync>(
 }
 
 // The four items, in two pieces.
-fn in_two_pieces(lab: &Lab) -> Result<(Stream, Cutting), Fail>
+fn two_pieces(lab: &Lab) -> Result<(Stream, Cutting), Fail>
     ensures { IfOk result (λ r. sum r.1 ≡ length r.0) }
 {
     let stream = lab.stream()?;
@@ -70,9 +80,8 @@ fn in_two_pieces(lab: &Lab) -> Result<(Stream, Cutting), Fail>
 
 // What one worker finds in the first pass.
 fn first_passed(lab: &Lab) -> Result<Said, Fail> {
-    let (stream, cutting) = in_two_pieces(lab)?;
-    let options = options(lab, 1)?;
-    let cells = (options.family().depth() * options.width()) as usize;
+    let (stream, cutting) = two_pieces(lab)?;
+    let (options, cells) = options_and_cells(lab, 1)?;
     let (sums, seat) = SharedSums::new(lab.alloc, cutting.count(), cells)?;
     let pass = marked!(
         lab,
@@ -88,7 +97,7 @@ fn first_passed(lab: &Lab) -> Result<Said, Fail> {
 
 // What the calling thread finds in the first pass.
 fn first_passed_sequentially(lab: &Lab) -> Result<Said, Fail> {
-    let (stream, cutting) = in_two_pieces(lab)?;
+    let (stream, cutting) = two_pieces(lab)?;
     let options = options(lab, 1)?;
     let pass = marked!(
         lab,
@@ -101,7 +110,9 @@ fn first_passed_sequentially(lab: &Lab) -> Result<Said, Fail> {
 }
 
 // The two keys whose weights the second pass counts.
-fn two_candidates(lab: &Lab) -> Result<Candidates, Fail> {
+fn two_candidates(lab: &Lab) -> Result<Candidates, Fail>
+    ensures { IfOk result (λ candidates. length candidates ≡ 2) }
+{
     let candidates = Candidates::of(lab.alloc, &lab.summary()?)?;
     if candidates.len() != 2 {
         return Err(Fail::new("two keys have counters"));
@@ -111,7 +122,7 @@ fn two_candidates(lab: &Lab) -> Result<Candidates, Fail> {
 
 // Whether one worker has done the second pass.
 fn second_passed(lab: &Lab) -> Result<Said, Fail> {
-    let (stream, cutting) = in_two_pieces(lab)?;
+    let (stream, cutting) = two_pieces(lab)?;
     let candidates = two_candidates(lab)?;
     let (sums, seat) = SharedSums::new(lab.alloc, cutting.count(), candidates.len())?;
     let pass = marked!(
@@ -135,7 +146,7 @@ fn second_passed(lab: &Lab) -> Result<Said, Fail> {
 
 // What the calling thread counts in the second pass.
 fn second_passed_sequentially(lab: &Lab) -> Result<Said, Fail> {
-    let (stream, cutting) = in_two_pieces(lab)?;
+    let (stream, cutting) = two_pieces(lab)?;
     let candidates = two_candidates(lab)?;
     let pass = marked!(
         lab,
