@@ -1,7 +1,9 @@
 #!/usr/bin/env python3
 """Times the program and the library on keys that are chosen to collide, beside random keys of the same lengths.
 
-usage: bench/colliding.py [RUNS [COUNT..]]
+usage: bench/colliding.py [--library] [RUNS [COUNT..]]
+
+With --library it times the library alone, that which LIBHEAVY names or else one that it builds.
 
 Whoever chose these keys knows how keys are hashed and the words that all runs have, and not those of one run. Each set has one
 hash under the former, which the script computes by itself. `old` is the set for the hasher that stood here before. Prints the
@@ -146,6 +148,8 @@ def library_runs(path: Path) -> dict[str, Callable[[], float]]:
     calls = {
         "C and Python: summarise": lambda: heavy.Summary.of_csv(text, k=K),
         "C and Python: summarise by ss": lambda: heavy.Summary.of_csv(text, k=K, method="ss"),
+        "C and Python: update_many": lambda: heavy.Summary(k=K).update_many(*items),
+        "C and Python: report": lambda: heavy.report_csv(text, k=K),
         "C and Python: confirm": lambda: summary.confirm(text),
         "C and Python: condense": lambda: summary.condense(text),
         "C and Python: confirm_items": lambda: summary.confirm_items(*items),
@@ -161,12 +165,14 @@ def library_runs(path: Path) -> dict[str, Callable[[], float]]:
 
 
 def main() -> None:
-    numbers = [int(word) for word in sys.argv[1:]]
+    numbers = [int(word) for word in sys.argv[1:] if word != "--library"]
     runs, counts = numbers[0] if numbers else 5, numbers[1:] or COUNTS
-    heavy, worst = programs.heavy(), 0.0
+    heavy, worst = None if "--library" in sys.argv else programs.heavy(), 0.0
     with tempfile.TemporaryDirectory() as folder:
         room = Path(folder)
         with_library = programs.library(room)
+        if not (heavy or with_library):
+            sys.exit("there is no library to time")
         for name, count in itertools.product(SETS, counts):
             draw = random.Random(count)
             keys = taken(SETS[name](draw), count)
@@ -176,7 +182,7 @@ def main() -> None:
             for side, given in (("colliding", keys), ("random", others)):
                 path = room / f"{side}.csv"
                 path.write_bytes(text_of(random.Random(1), given))
-                sides.append(program_runs(heavy, path) | (library_runs(path) if with_library else {}))
+                sides.append((program_runs(heavy, path) if heavy else {}) | (library_runs(path) if with_library else {}))
             for what, run in sides[0].items():
                 times = [(run(), sides[1][what]()) for _ in range(runs)]
                 one, other = (statistics.median(side) for side in zip(*times))

@@ -22,11 +22,13 @@ def heavy_bench() -> str:
 
 
 def library(room: Path) -> bool:
-    """Makes the library for C in this room, for the module `heavy` of python/, where the machine has a compiler of C."""
-    prefix = room / "library"
-    if subprocess.run([TOP / "bin" / "install-library", prefix], stdout=subprocess.DEVNULL).returncode != 0:
-        return False
-    os.environ["LIBHEAVY"] = str(prefix / "lib" / "libheavy.so.1")
+    """Makes the library for C in this room, for the module `heavy` of python/, where the machine has a compiler of C and
+    LIBHEAVY names none that is made."""
+    if "LIBHEAVY" not in os.environ:
+        prefix = room / "library"
+        if subprocess.run([TOP / "bin" / "install-library", prefix], stdout=subprocess.DEVNULL).returncode != 0:
+            return False
+        os.environ["LIBHEAVY"] = str(prefix / "lib" / "libheavy.so.1")
     sys.path.insert(0, str(TOP / "python"))
     return True
 

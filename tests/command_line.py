@@ -837,7 +837,7 @@ class CommandLine(programs.Checks):
             (["plain", "op\ten", "one"], opened[:30] + r"op\ten"),
         ]:
             self.notes(["report", *words], note)
-        Path(self.room, "long").write_bytes(b"key,weight\n".replace(b"weight", b"1") * 2_000_000 + b'"b')
+        Path(self.room, "long").write_bytes(b"key,1\n" * 3_000_000 + b'"b')
         self.notes(["report", "long"], opened[:30] + "long")
         self.notes(["confirm", "day", "one", "two"], semicolon)
         self.notes(["condense", "day", "plain", "op\ten"], opened[:30] + r"op\ten")
@@ -1017,8 +1017,16 @@ class CommandLine(programs.Checks):
             found = self.heavy([*command[:1], "--explain", *command[1:], pipe])
             feeder.wait()
             self.check(f"{command[0]} of a pipe", found == (3, b"", b"heavy: file %d: bad magic\n" % len(command)), found)
-        self.refuses(["describe", "/dev/zero"], "file 1: bad magic", 3)
-        self.refuses(["merge", "day", "/dev/zero"], "file 2: bad magic", 3)
+            feeder = subprocess.Popen(["cp", f"{self.room}/1.csv", pipe], stderr=subprocess.DEVNULL)
+            terminal = on_terminal([self.program, *command, pipe], b"", self.room)
+            feeder.wait()
+            self.check(f"{command[0]} of a pipe, on a terminal", terminal == found[::2], (terminal, found))
+        for words, number in [
+            (["describe", "/dev/zero"], 1), (["list", "/dev/zero"], 1), (["ask", "/dev/zero", "a"], 1), (["merge", "day", "/dev/zero"], 2),
+            (["merge", "/dev/zero", "day"], 1), (["condense", "/dev/zero"], 1), (["confirm", "/dev/zero", "1.csv"], 1),
+        ]:
+            self.tells(words, "", 3)
+            self.refuses(words, f"file {number}: bad magic", 3)
 
     def test_kinds(self) -> None:
         """What clap says of each kind of fault."""

@@ -127,11 +127,32 @@ class Devices(programs.Checks):
             self.check(f"{command[0]} with standard output closed", found == NOT_WRITTEN, found)
             found = shell('"$@" 2>&-', words[:-1])
             self.check(f"{command[0]} with standard error closed", found == same, found)
-        found = shell('"$@" <&-', [self.program, *REPORT, four, "/dev/stdin"])
-        self.check("report of closed standard input by its name", found == (0, b"a,6\n", b""), found)
+            found = shell('"$@" <&-', [*words[:-1], "/dev/stdin"])
+            self.check(f"{command[0]} of a file and closed standard input by its name", found == same, found)
         for path in (four, other):
             text = Path(path).read_bytes()
             self.check(f"{path} is as it was", text in (RECORDS, b"b,9\n"), text)
+
+    def test_closed_streams_of_saved_files(self) -> None:
+        """A saved file that is opened is never taken for a stream that is closed, and standard input by its name is empty then."""
+        day = self.summary
+        for command, more, number in [
+            (["merge"], [], 1), (["merge", day], [], 2), (["ask"], ["a"], 1), (["list"], [], 1), (["describe"], [], 1),
+            (["condense"], [day], 1), (["confirm"], [day], 1),
+        ]:
+            found = shell('"$@" <&-', [self.program, *command, "/dev/stdin", *more])
+            cut_off = (3, b"", b"heavy: file %d: truncated\n" % number)
+            self.check(f"{command[0]} of closed standard input by its name, {number}", found == cut_off, found)
+        for command, rows in [
+            (["merge", day], Path(day).read_bytes()), (["ask", day, "a"], b"a,4,6\n"), (["list", day], b"a,4,6\nb,1,3\n"),
+            (["describe", day], b"version,2\nkind,summary\nk,2\nkeys,2\ntotal,11\ncounters,5\nslack,2\n"),
+        ]:
+            words = [self.program, *command]
+            for redirection, wanted in [
+                ("<&-", (0, rows, b"")), ("<&- 2>&-", (0, rows, b"")), ("<&- >&-", NOT_WRITTEN), ("<&- >&- 2>&-", (1, b"", b"")),
+            ]:
+                found = shell(f'"$@" {redirection}', words)
+                self.check(f"{command[0]} with {redirection}", found == wanted, found)
 
     def test_unread_inputs(self) -> None:
         """What is tested before the records are read, where they can't be."""

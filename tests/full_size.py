@@ -5,8 +5,11 @@ many records, and readers that are interrupted or would block. What it has to sa
 usage: tests/full_size.py
 """
 import os
+import re
+import subprocess
 import tempfile
 from pathlib import Path
+from typing import BinaryIO
 
 import programs
 import reference
@@ -15,6 +18,19 @@ RECORDS = b"a,5\nb,3\nc,2\na,1\n"
 MOST_K = 65_535
 # A run over little input that takes more processor time than this spins.
 IDLE = 1.0
+
+
+# how many parts a text has that is read part by part, and fewer reads than so many are made besides, most to start a program
+PARTS, STARTING = 64, 32
+
+
+def reads_of(words: list[str], records: BinaryIO) -> int:
+    """How many reads a program makes by the kernel's count, from its start to its end, with these records on standard input."""
+    running = subprocess.Popen(words, stdin=records, stdout=subprocess.DEVNULL)
+    os.waitid(os.P_PID, running.pid, os.WEXITED | os.WNOWAIT)
+    counted = re.search(r"syscr: (\d+)", Path(f"/proc/{running.pid}/io").read_text())
+    assert running.wait() == 0, words
+    return int(counted[1])
 
 
 class FullSize(programs.Checks):
@@ -60,6 +76,29 @@ class FullSize(programs.Checks):
         self.expect("most rows of ask", ["ask", name, *keys], b"".join(key + b",2,3\n" for key in keys))
         self.expect("most rows of confirm", ["confirm", name], b"".join(records), text)
         self.expect("most records of condense", ["condense", name], b"".join(records) + b"others,1\n", text)
+
+    def test_lighter_newcomers(self) -> None:
+        """k = 65,535: as many keys of weight 60,000, and 50,000 others of weight 1, each of which lowers all counters by 1."""
+        keys = [b"%05d" % number for number in range(MOST_K)]
+        text = b"".join(key + b",60000\n" for key in keys) + b"".join(b"new%d\n" % number for number in range(50_000))
+        summary = reference.Summary(MOST_K, 60_000 * MOST_K + 50_000, {key: 10_000 for key in keys})
+        for method in ("mg", "ss"):
+            words = ["summarise", "--k", str(MOST_K), "--method", method]
+            self.expect(f"lighter newcomers by {method}", words, reference.written(summary), text)
+
+    def test_keys_with_one_end(self) -> None:
+        """20,000 keys whose last eight bytes are those that a hash by multiplying has at 0: each is a row, once."""
+        end = (0x9E37_79B9_7F4A_7C15).to_bytes(8, "little")
+        keys = [b"%08d" % (number * 7919 % 20_000) + end for number in range(20_000)]
+        text, rows = b"".join(key + b"\n" for key in keys), b"".join(key + b",1\n" for key in sorted(keys))
+        self.expect("a report of keys with one end", ["report", "--k", str(MOST_K)], rows, text)
+        summary = reference.written(reference.Summary(MOST_K, 20_000, {key: 1 for key in keys}))
+        for method in ("mg", "ss"):
+            words = ["summarise", "--k", str(MOST_K), "--method", method]
+            self.expect(f"a summary of keys with one end by {method}", words, summary, text)
+        name = self.save("ends", summary)
+        self.expect("keys with one end confirmed", ["confirm", name], rows, text)
+        self.expect("keys with one end condensed", ["condense", name], rows, text)
 
     def test_most_cells(self) -> None:
         """A table of 16 rows of 65,536 cells, written, read back and merged: each row has each key at its place."""
@@ -141,6 +180,17 @@ class FullSize(programs.Checks):
             given = b"".join(key + b",2\n" for key in names[:count]) + b"x,7\ny,4\n"
             rows = b"".join(key + b",2\n" for key in sorted(names[:count])) + free + b",11\n"
             self.expect(f"the name of others beside {count}", ["condense", name], rows, given)
+
+    def test_reads(self) -> None:
+        """One thread reads 65,536 bytes at once, so it makes 64 reads of 64 times as many, and one or two at their end. It makes
+        no others where a quote is open at the very end."""
+        closed, path = b"keyed,1\n" * (PARTS * 65_536 // 8), Path(self.room, "records.csv")
+        for name, text in (("records", closed), ("an open quote", closed[:-8] + b'"opened\n')):
+            path.write_bytes(text)
+            for words in (["summarise", str(path)], ["summarise"], ["table"], ["report", "--pieces", "1", "--memory", "0"]):
+                with open(path, "rb") as records:
+                    reads = reads_of([self.program, *words], records)
+                self.check(f"{words[0]} of {name}: {reads} reads", PARTS < reads < PARTS + STARTING, reads)
 
     def test_readers(self) -> None:
         """A reader that is interrupted 100,000 times reads on; one that would block is a fault, at once."""

@@ -10,11 +10,25 @@ from functools import partial
 from pathlib import Path
 
 import programs
+import reference
 
 FEW, MANY = 10_000, 1_000_000
 KILOBYTE = 1024
 STEP, MORE, MOST = 256, 1024, 128 * 1024  # kilobytes
 SHORT_FIELD, LONG_FIELD = 200_000, 20_000_000
+# of a file, in bytes: more than a worker holds of a piece, and much more
+SHORT_FILE = 3_000_000
+COLUMNS = ["--key", "1", "--weight", "2"]
+# Texts with a place for something long, which one part makes again and again: the status of a run, its options, and the part.
+LONG_TEXTS = {
+    "a field that no column names": (0, COLUMNS, b"a,3,%s\nb,4\n", b"x"),
+    "a quoted field that none names": (0, COLUMNS, b'a,3,"%s"\nb,4\n', b"x\n"),
+    "a key": (3, [], b"%s,3\n", b"x"),
+    "a weight": (3, [], b"a,%s1\n", b"0"),
+    "NULs": (3, [], b"%s", b"\0"),
+    "quotes": (3, [], b"%s", b'"'),
+    "a quote that stays open": (3, [], b'a,3\n"%s', b"b,4\n"),
+}
 
 
 def records(number: int) -> bytes:
@@ -97,17 +111,8 @@ class OnePass(programs.Checks):
     def test_long_fields(self) -> None:
         """A record takes no more memory where a field of it is longer, whether it is refused or not."""
         program = programs.built("heavy_cli")
-        keys, columns = ["summarise", "--k", "9"], ["summarise", "--k", "9", "--key", "1", "--weight", "2"]
-        texts = {
-            "a field that no column names": (0, columns, b"a,3,%s\nb,4\n", b"x"),
-            "a quoted field that none names": (0, columns, b'a,3,"%s"\nb,4\n', b"x\n"),
-            "a key": (3, keys, b"%s,3\n", b"x"),
-            "a weight": (3, keys, b"a,%s1\n", b"0"),
-            "NULs": (3, keys, b"%s", b"\0"),
-            "quotes": (3, keys, b"%s", b'"'),
-            "a quote that stays open": (3, keys, b'a,3\n"%s', b"b,4\n"),
-        }
-        for name, (status, words, text, part) in texts.items():
+        for name, (status, options, text, part) in LONG_TEXTS.items():
+            words = ["summarise", "--k", "9", *options]
             few, many = (text % (part * (size // len(part))) for size in (SHORT_FIELD, LONG_FIELD))
             ample = programs.run([program, *words], many)
             self.check(f"{name}: the status", ample.status == status, ample)
@@ -117,6 +122,28 @@ class OnePass(programs.Checks):
             said = f"{least} KB are enough for a short field, and 1 MB more was not for a long one: {limited.err!r}"
             ends = limited.status == status and limited.out == ample.out
             self.check(f"{name}: in bounded memory", least < MOST and ends, said)
+
+    def test_long_fields_of_files(self) -> None:
+        """A file's record takes no more memory either, whether one thread or workers read it, and nor does the second line of a
+        fault, which the file is read again for."""
+        program, few, many = programs.built("heavy_cli"), f"{self.room}/few.csv", f"{self.room}/many.csv"
+        late = {"a fault after many records": (3, [], b"%sb,x\n", b"a,1\n")}
+        summary = reference.written(reference.Summary(9, 7, {b"a": 3, b"b": 4}))
+        commands = ((["summarise"], summary), (["report", "--workers", "2"], b"b,4\na,3\n"))
+        for name, (status, options, text, part) in (LONG_TEXTS | late).items():
+            for path, size in ((few, SHORT_FILE), (many, LONG_FIELD)):
+                Path(path).write_bytes(text % (part * (size // len(part))))
+            for command, out in commands:
+                words = [program, *command, "--k", "9", *options]
+                ample = programs.run([*words, many])
+                found = (ample.status, ample.out, ample.err.count(b"\n"))
+                self.check(f"{command[0]} of a file, {name}", found == ((0, out, 0) if status == 0 else (status, b"", 2)), ample)
+                enough = range(STEP, MOST, STEP)
+                least = next((size for size in enough if within([*words, few], b"", size).status == status), MOST)
+                limited = within([*words, many], b"", least + MORE)
+                same = (limited.status, limited.out, limited.err) == (ample.status, ample.out, ample.err)
+                said = f"{least} KB are enough for a short field, and 1 MB more was not for a long one: {limited.err!r}"
+                self.check(f"{command[0]} of a file, {name}: in bounded memory", least < MOST and same, said)
 
 
 if __name__ == "__main__":
