@@ -1,0 +1,1 @@
+-- Rows that were printed as CSV, in another form.

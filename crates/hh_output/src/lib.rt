@@ -1,0 +1,8 @@
+//! Rows that were printed as CSV, in the form that is asked for: as they are, as TSV, or as JSON,
+//! an object a line.
+#![tactic(auto)]
+
+mod json;
+mod output;
+
+pub use output::{Form, Output, converted};
