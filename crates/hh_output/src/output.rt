@@ -1,11 +1,17 @@
 //! The forms of rows.
 
-ghost use Rattle.std.specs.Prelude.{◌≡◌, ◌++◌, IfOk, map};
+ghost use Rattle.std.specs.Prelude.{◌≡◌, ◌++◌, false, Some, IfOk, map};
+ghost use Rattle.std.specs.Io.KnownBytes.{Keeps};
 ghost use Rattle.std.specs.List.{flat_map};
-ghost use Rattle.csv.specs.Reading.{default_config, records};
+ghost use Rattle.csv.specs.Reading.{Ready, default_config, reader_config, reader_state};
+ghost use Rattle.csv.specs.Reading.{reader_trim, records};
 ghost use Rattle.csv.specs.Records.{fields_of};
-ghost use Rattle.csv.specs.Writing.{default_writer, row_text, with_delimiter};
+ghost use Rattle.csv.specs.Writing.{default_writer, fields_written, has_written, row_text};
+ghost use Rattle.csv.specs.Writing.{text_written, with_delimiter, writer_setup};
+ghost use Rattle.csv.specs.declared.parser.State.TheVariants as st;
+ghost use Rattle.csv.specs.declared.reader.Trim.TheVariants as trim;
 ghost use Rattle.hh_output.specs.Outputs.{names_in, names_row, plain_output, row_in, rows_in};
+ghost use Rattle.hh_output.specs.Readers.{records_left};
 
 use crate::json::push_object;
 use csv::{ByteRecord, Reader, ReaderBuilder, Writer, WriterBuilder};
@@ -46,13 +52,21 @@ impl Output {
     }
 }
 
-/// A writer of one row after `text`, of fields with `delimiter` between them.
-fn writer_after(text: Vec<u8>, delimiter: u8) -> Writer<Vec<u8>> {
+/// A writer of rows after `text`, of fields with `delimiter` between them.
+fn writer_after(text: Vec<u8>, delimiter: u8) -> Writer<Vec<u8>>
+    ensures setup { writer_setup result ≡ with_delimiter default_writer delimiter }
+    ensures fields { fields_written result ≡ 0 }
+    ensures written { has_written result ≡ false }
+    ensures text { text_written (λ text. Some text.items) result ≡ Some text.items }
+{
     WriterBuilder::new().delimiter(delimiter).from_writer(text)
 }
 
 /// All that was written.
-fn text_of(writer: Writer<Vec<u8>>) -> Result<Vec<u8>, AllocError> {
+fn text_of(writer: Writer<Vec<u8>>) -> Result<Vec<u8>, AllocError>
+    ensures { IfOk result (λ text.
+        Keeps (text_written (λ text. Some text.items) writer) (Some text.items)) }
+{
     match writer.into_inner() {
         Ok(text) => Ok(text),
         Err(_) => Err(AllocError),
@@ -129,7 +143,13 @@ fn names_in(alloc: Global, output: &Output, names: &[&[u8]]) -> Result<Vec<u8>, 
 
 /// A reader of the records of `text`. It takes a byte order mark off, which stands before the text
 /// here, so that one in the text stays.
-fn reader_of(alloc: Global, text: &[u8]) -> Reader<Chain<&[u8], &[u8]>> {
+fn reader_of<'t>(alloc: Global, text: &'t [u8]) -> Reader<Chain<&'static [u8], &'t [u8]>>
+    ensures config { reader_config result ≡ default_config }
+    ensures trim { reader_trim result ≡ trim.None }
+    ensures ready { Ready result }
+    ensures state { reader_state result ≡ st.StartRecord }
+    ensures left { records_left result ≡ Some text.now }
+{
     ReaderBuilder::new()
         .has_headers(false)
         .flexible(true)
@@ -151,7 +171,8 @@ fn with_rows(
     let mut reader = reader_of(alloc, text);
     let mut row = ByteRecord::new(alloc);
     let mut all = before;
-    for _ in 0..=text.len() {
+    // A text has fewer records than this, since each takes a byte at least.
+    'rows: for _ in 0..=text.len() {
         match reader.read_byte_record(&mut row) {
             Ok(true) => all = with_row(all, form, names, &row)?,
             Ok(false) => return Ok(all),
