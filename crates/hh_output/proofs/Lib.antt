@@ -1,3 +1,4 @@
 pub mod MemberFacts
 pub mod RowFacts
+pub mod StringFacts
 pub mod TextFacts

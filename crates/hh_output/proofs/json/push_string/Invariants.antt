@@ -1,6 +1,7 @@
 use Rattle.std.proofs.Common.{◌≡◌, ◌++◌, ◌∷◌, take}
 use Rattle.std.specs.List.{flat_map}
-use Rattle.hh_output.specs.Json.{quote_mark, string_byte}
+use Rattle.csv.specs.Writing.{quote_mark}
+use Rattle.hh_output.specs.Json.{string_byte}
 use Rattle.hh_output.proofs.json.push_string.Given as goal
 
 abbrev pub invariant-loop-byte : goal.invariant-loop-byte
