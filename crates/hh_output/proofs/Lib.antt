@@ -2,3 +2,4 @@ pub mod MemberFacts
 pub mod RowFacts
 pub mod StringFacts
 pub mod TextFacts
+pub mod WrittenFacts

@@ -2,7 +2,7 @@
 use Rattle.std.proofs.Common.{◌≡◌, ◌∙◌, ◌+◌, ℕ, zero, suc, List, [], ◌∷◌, ◌++◌, length, true, false, Option, Some, None, inl, refl, sym, ap, append_assoc, append-nil}
 use Rattle.std.specs.List.{flat_map}
 use Rattle.csv.specs.Machine.{Read, next_record}
-use Rattle.csv.specs.Reading.{Reached, ReadRecord, Ready, default_config, reader_config, reader_state, reader_trim, records, records_from, source_of, took_first}
+use Rattle.csv.specs.Reading.{Reached, ReadRecord, Ready, default_config, is_flexible, reader_config, reader_state, reader_trim, records, records_from, source_of, took_first}
 use Rattle.csv.specs.declared.parser.State.{State}
 use Rattle.csv.specs.declared.parser.State.TheVariants as st
 use Rattle.csv.specs.declared.reader.Reader.{Reader}
@@ -22,25 +22,27 @@ module _ {R : Type 0} (rem : R → Option (List ℕ)) (write : List (List ℕ) �
     pub config : reader_config reader ≡ default_config
     pub untrimmed : reader_trim reader ≡ trim.None
     pub ready : Ready reader
+    pub flexible : is_flexible reader ≡ true
     pub left : (y : List ℕ) × (source_of rem reader ≡ Some y)
         × (done ++ flat_map write (records_from default_config n (reader_state reader) y) ≡ whole)
 
   -- before the first record
   pub remain-start : (n : ℕ) (done y : List ℕ) (a : Reader R) → reader_config a ≡ default_config → reader_trim a ≡ trim.None
-      → Ready a → reader_state a ≡ st.StartRecord → source_of rem a ≡ Some y → n ≡ length y + 1
+      → Ready a → is_flexible a ≡ true → reader_state a ≡ st.StartRecord → source_of rem a ≡ Some y → n ≡ length y + 1
       → done ++ flat_map write (records default_config y) ≡ whole → Remain n done a
-  remain-start n done y a config untrimmed ready start source is all = record {
+  remain-start n done y a config untrimmed ready flexible start source is all = record {
     config = config;
     untrimmed = untrimmed;
     ready = ready;
+    flexible = flexible;
     left = (y, source, rw (start, is) all);
   }
 
   -- one more was read and written
   pub remain-more : (m n : ℕ) (done : List ℕ) (a b : Reader R) (f : List (List ℕ)) → m ≡ suc n → Remain m done a
-      → ReadRecord rem a b true f → took_first b ≡ true → Remain n (done ++ write f) b
+      → ReadRecord rem a b true f → took_first b ≡ true → is_flexible b ≡ is_flexible a → Remain n (done ++ write f) b
   unfolding Reached
-  remain-more m n done a b f is h r first =
+  remain-more m n done a b f is h r first same =
       let (y, source, rest) = h.left in
       let (z, at, reached) = rows-more rem a b f default_config (reader_state a) y y [] h.config source (refl, refl) r in
       let (state, bytes) = reached.3 in
@@ -51,6 +53,7 @@ module _ {R : Type 0} (rem : R → Option (List ℕ)) (write : List (List ℕ) �
         config = r.2 ∙ h.config;
         untrimmed = r.3 ∙ h.untrimmed;
         ready = inl first;
+        flexible = same ∙ h.flexible;
         left = (
           z,
           at,

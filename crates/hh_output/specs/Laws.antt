@@ -1,12 +1,22 @@
 -- What holds of rows in another form.
-use Rattle.std.specs.Prelude.{◌≡◌, ℕ, true, false, List, [], ◌∷◌, codes}
+use Rattle.std.specs.Prelude.{◌≡◌, ℕ, true, false, List, [], ◌∷◌, ◌++◌, codes, map}
+use Rattle.std.specs.List.{flat_map}
+use Rattle.csv.specs.Writing.{default_writer, read_back, row_text}
 use Rattle.hh_output.specs.Json.{string_text}
-use Rattle.hh_output.specs.Outputs.{plain_output, rows_in}
+use Rattle.hh_output.specs.Outputs.{names_in, plain_output, row_in, rows_in}
 use Rattle.hh_output.specs.declared.output.Form.TheVariants as form
+use Rattle.hh_output.specs.declared.output.Output.{Output}
 
 -- with the plain output the rows are the text as it is
 abbrev pub PlainRowsAreTheText : Type 0
 PlainRowsAreTheText = (names : List (List ℕ)) (text : List ℕ) → rows_in plain_output names text ≡ text
+
+-- rows that csv's default writer wrote are converted one by one, each as it is read back
+abbrev pub RowsAreConverted : Type 0
+RowsAreConverted =
+    (output : Output) (names : List (List ℕ)) (rows : List (List (List ℕ)))
+    → rows_in output names (flat_map (row_text default_writer) rows)
+    ≡ names_in output names ++ flat_map (row_in output.form names) (map read_back rows)
 
 -- equal strings are of equal fields, whether these are UTF-8 or not
 abbrev pub StringsTellFieldsApart : Type 0

@@ -8,7 +8,7 @@ use Rattle.hh_output.proofs.output.with_rows.Goals.{else-rows-test, then-rows-te
 pub rows-init : goal.rows-init
 rows-init c =
     let start = c.reader_of-reader.ensures in
-    remain-start slices_left _ _ _ _ c.args.text.now _ start.config start.trim start.ready start.state start.left
+    remain-start slices_left _ _ _ _ c.args.text.now _ start.config start.trim start.ready start.flexible start.state start.left
     (omega arith) refl
 
 pub returns-in-Ok-false : goal.returns-in-Ok-false
@@ -24,7 +24,7 @@ rows-preserved c =
     let r = rw c.in-Ok-true.field-0-test at (read.reads inv.untrimmed inv.ready) in
     rw c.in_ok-all-in-Ok-true.ensures
     (remain-more slices_left _ _ _ _ c.rows.all.items c.rows.reader c.read_byte_record.new.self
-    (fields_of c.read_byte_record.new.row) (omega arith) inv r (read.ready inv.untrimmed))
+    (fields_of c.read_byte_record.new.row) (omega arith) inv r (read.ready inv.untrimmed) read.flexible)
 
 pub returns : goal.returns
 returns c =
@@ -38,5 +38,5 @@ returns c =
           rw (w.all-is, w.in_ok-all-in-Ok-true.ensures)
           (remain-none slices_left _ _ 0 _ w.read_byte_record.new.self refl
           (remain-more slices_left _ _ _ _ c.rows.all.items c.rows.reader w.read_byte_record.new.self
-          (fields_of w.read_byte_record.new.row) (omega arith) inv r (read.ready inv.untrimmed)))
+          (fields_of w.read_byte_record.new.row) (omega arith) inv r (read.ready inv.untrimmed) read.flexible))
     ]
