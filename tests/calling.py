@@ -22,6 +22,12 @@ LIBRARIES = {
     "hh_pool": "heavy_keys", "hh_commands": "facts_of", "hh_library": "with_item", "hh_reports": "report_of",
     "hh_files": "table_of_files", "heavy": "saved_summary",
 }
+# the calls that `heavy` had in its first version, and how many others it may hand on
+FIRST_CALLS = {
+    "read_stream", "run_report", "report_text", "write_report", "put", "summary_bytes", "table_bytes", "merge_bytes", "ask_bytes",
+    "confirm", "confirm_bytes",
+}
+MOST_OTHERS = 16
 MADE = re.compile(r"^## A caller\n.*", re.MULTILINE | re.DOTALL)
 OWNER = re.compile(r"^(?P<shown>pub trait|impl)(?:<[^{]*?>)? (?P<name>\w+)[^{]*\{$")
 CLAUSE = re.compile(r" *(?:requires|ensures)\b")
@@ -104,6 +110,12 @@ def offered_by(crate: str) -> set[str]:
     return {*names, *(re.findall(r"^pub fn (\w+)", laws.read_text(), re.MULTILINE) if laws.exists() else [])}
 
 
+def handed_on() -> set[str]:
+    """The calls of the crates below that `heavy` hands on."""
+    uses = re.findall(r"^pub use \w+::([^;]*);", (CRATES / "heavy" / "src" / "lib.rt").read_text(), re.MULTILINE)
+    return {name for use in uses for name in re.findall(r"\w+", use) if name[0].islower()}
+
+
 def caller_of(name: str) -> str:
     """A caller, with the comment above it."""
     text = CALLERS.read_text()
@@ -134,6 +146,11 @@ class Calling(programs.Checks):
     def test_calls(self) -> None:
         self.check("docs/CALLS.md is as tests/calling.py --write makes it", CALLS.read_text() == made_calls(), "not so")
         self.check("docs/CALLS.md has calls", made_calls().count("\n| `") > 100)
+
+    def test_handed_on(self) -> None:
+        others = handed_on() - FIRST_CALLS
+        self.check("heavy hands on its first calls", FIRST_CALLS <= handed_on(), f"not {sorted(FIRST_CALLS - handed_on())}")
+        self.check(f"heavy hands on at most {MOST_OTHERS} calls besides", len(others) <= MOST_OTHERS, f"{len(others)}: {sorted(others)}")
 
 
 if __name__ == "__main__":

@@ -1,6 +1,7 @@
 //! Exact reports of the heavy keys of large weighted streams, and saved summaries that are merged
-//! and asked later: all that the program and the library for C do, and laws over several machines.
-//! The calls stand in the crates below, which this one hands on.
+//! and asked later: one call for each thing that the program does, and laws over several machines.
+//! The calls stand in the crates below, which this one hands on. Those of `hh_library` that it
+//! doesn't hand on are what the library for C is made of.
 #![tactic(auto)]
 
 pub mod laws;
@@ -15,18 +16,16 @@ pub use hh_faults::{
 };
 pub use hh_files::{condense_files, confirm_files, report_files, summarise_files, table_files};
 pub use hh_library::{
-    ConfirmFault, TextRecords, add_items, add_records, add_text, ask_bytes, ask_key, ask_keys,
-    condense_bounded, condense_bytes, condense_items, confirm, confirm_above, confirm_bounded,
-    confirm_bytes, confirm_items, confirm_share, empty_summary, empty_table, hash_of, list_entries,
-    list_keys, report_bytes, summary_bytes, table_bytes,
+    ConfirmFault, add_items, ask_bytes, condense_bytes, confirm, confirm_bytes, summary_bytes,
+    table_bytes,
 };
 pub use hh_pieces::{GrowingFile, ReadAt, SourceRecords};
 pub use hh_pool::MAX_WORKERS;
 pub use hh_records::{Column, Layout, LayoutWords, Records, layout_of, read_stream};
 pub use hh_reports::{report_rows, run_report};
 pub use hh_rows::{
-    Out, ReportFault, ReportOptions, RowOptions, Share, Sink, SinkFault, Tree, printed_text, put,
-    report_text, write_printed, write_report,
+    Out, ReportFault, ReportOptions, RowOptions, Share, Sink, SinkFault, Tree, put, report_text,
+    write_report,
 };
 pub use hh_saved::Place;
 pub use hh_stream::KeyHash;
