@@ -1,11 +1,13 @@
 -- What `clap` reads of the program's command line: each command with its arguments, each argument
 -- with its name and how it is given.
 use Rattle.std.specs.Prelude.{ℕ, pos, true, false, List, [], ◌∷◌, ◌++◌, Some, codes, map, flat_map, fold}
+use Rattle.std.specs.Borrow.{Bor}
 use Rattle.clap.specs.Lexer.{usize_max}
 use Rattle.clap.specs.Walk.{Rule, Text}
 use Rattle.clap.specs.Simple.{App, Shape, new_rule, new_shape, on_top, with_subcommand}
 use Rattle.clap.specs.declared.builder.action.ArgAction.TheVariants.{Append, SetTrue}
-use Rattle.clap.specs.declared.builder.value_parser.ValueParser.TheVariants.{Signed, Unsigned}
+use Rattle.clap.specs.declared.builder.value_parser.ValueParser.TheVariants.{Names, Signed, Unsigned}
+use Rattle.heavy_arguments.specs.declared.arguments.TheConstants.{FORMS}
 use Rattle.heavy_arguments.specs.declared.options.Argument.{Argument}
 use Rattle.heavy_arguments.specs.declared.options.Argument.TheVariants as argument
 use Rattle.heavy_arguments.specs.declared.options.Kind.{Kind}
@@ -26,6 +28,10 @@ number name = record (option name) { parser = Some (Unsigned 0 18446744073709551
 -- the same, from 0 to 9
 abbrev pub digit : Text → Rule
 digit name = record (option name) { parser = Some (Signed (pos 0) (pos 9)) }
+
+-- the same, of which the value is one of these words
+abbrev pub one_of : Bor (List (Bor Text)) → Text → Rule
+one_of words name = record (option name) { parser = Some (Names words) }
 
 -- `--NAME VALUE`, any number of times
 abbrev pub options : Text → Rule
@@ -58,6 +64,7 @@ rule_of_kind (kind.Text value) name = option name
 rule_of_kind kind.Byte name = option name
 rule_of_kind kind.Columns name = options name
 rule_of_kind kind.Share name = option name
+rule_of_kind (kind.OneOf value words) name = one_of words name
 rule_of_kind kind.Flag name = flag name
 rule_of_kind kind.LastFlag name = flag name
 rule_of_kind kind.Word name = word name
@@ -114,9 +121,13 @@ abbrev pub columns : List Rule
 columns = with_letter 100 (option (codes "delimiter")) ∷ with_letter 72 (flag (codes "header")) ∷ options (codes "key")
     ∷ option (codes "weight") ∷ flag (codes "allow-zero") ∷ digit (codes "decimals") ∷ []
 
+-- the form in which rows are printed
+abbrev pub output : List Rule
+output = one_of FORMS (codes "output") ∷ flag (codes "names") ∷ []
+
 -- the rows that are printed; `-t` and `-n` are letters of two
 abbrev pub rows : List Rule
-rows = with_letter 116 (option (codes "threshold")) ∷ with_letter 110 (number (codes "top")) ∷ flag (codes "share") ∷ []
+rows = with_letter 116 (option (codes "threshold")) ∷ with_letter 110 (number (codes "top")) ∷ flag (codes "share") ∷ output
 
 -- the number of counters, by `-k` too
 abbrev pub counters : Rule
@@ -144,10 +155,10 @@ program_app = program_of (
     (reading ++ counters ∷ option (codes "method") ∷ workers ∷ records ∷ columns)
     ∷ command (codes "table") (reading ++ grid ++ workers ∷ records ∷ columns)
     ∷ command (codes "merge") (flag (codes "explain") ∷ some_words (codes "FILE") ∷ [])
-    ∷ command (codes "ask") (flag (codes "explain") ∷ digit (codes "decimals") ∷ saved
+    ∷ command (codes "ask") (flag (codes "explain") ∷ digit (codes "decimals") ∷ output ++ saved
     ∷ some_words (codes "KEY") ∷ [])
-    ∷ command (codes "list") (flag (codes "explain") ∷ digit (codes "decimals") ∷ saved ∷ [])
-    ∷ command (codes "describe") (flag (codes "explain") ∷ saved ∷ [])
-    ∷ command (codes "condense") (reading ++ workers ∷ saved ∷ records ∷ columns)
+    ∷ command (codes "list") (flag (codes "explain") ∷ digit (codes "decimals") ∷ output ++ saved ∷ [])
+    ∷ command (codes "describe") (flag (codes "explain") ∷ output ++ saved ∷ [])
+    ∷ command (codes "condense") (reading ++ output ++ workers ∷ saved ∷ records ∷ columns)
     ∷ command (codes "confirm") (reading ++ rows ++ workers ∷ saved ∷ records ∷ columns)
     ∷ [])

@@ -31,6 +31,12 @@ pub const TOP: &str = "top";
 /// The option that adds shares of the total to rows.
 pub const SHARE: &str = "share";
 
+/// The option that says in which form rows are printed.
+pub const OUTPUT: &str = "output";
+
+/// The option that adds a first row with the names of the columns.
+pub const NAMES: &str = "names";
+
 /// The words that name files of records.
 pub const RECORDS: &str = "RECORDS";
 
@@ -167,6 +173,23 @@ const SHARE_FLAG: Argument = Argument::Given(
     "Print in a third column the weight's share of the total in percent, rounded down",
 );
 
+/// The forms in which rows are printed.
+const FORMS: &[&str] = &["csv", "tsv", "json"];
+
+/// The option that says in which form rows are printed.
+const OUTPUT_FORM: Argument = Argument::Given(
+    Kind::OneOf("FORM", FORMS),
+    OUTPUT,
+    "Print rows as csv, tsv or json, an object a line [default: csv]",
+);
+
+/// The option that adds a first row with the names of the columns.
+const NAMES_FLAG: Argument = Argument::Given(
+    Kind::Flag,
+    NAMES,
+    "Print a first row with the columns' names",
+);
+
 /// The option with the share above which keys are heavy.
 const THRESHOLD: Argument = Argument::Short(
     't',
@@ -259,13 +282,15 @@ const MEANS_ARGUMENTS: [Argument; 7] = [
     Argument::Number(SEED),
 ];
 
-const REPORT_ARGUMENTS: [Argument; 7] = [
+const REPORT_ARGUMENTS: [Argument; 9] = [
     EXPLAIN_FLAG,
     PROGRESS_FLAG,
     COUNTERS,
     THRESHOLD,
     TOP_ROWS,
     SHARE_FLAG,
+    OUTPUT_FORM,
+    NAMES_FLAG,
     RECORD_FILES,
 ];
 
@@ -303,31 +328,43 @@ const MERGE_ARGUMENTS: [Argument; 2] = [
     Argument::Given(Kind::Words, "FILE", "A saved file"),
 ];
 
-const ASK_ARGUMENTS: [Argument; 4] = [
+const ASK_ARGUMENTS: [Argument; 6] = [
     EXPLAIN_FLAG,
     PRINTED_DECIMALS,
+    OUTPUT_FORM,
+    NAMES_FLAG,
     SAVED_FILE,
     Argument::Given(Kind::Words, "KEY", "A key"),
 ];
 
-const LIST_ARGUMENTS: [Argument; 3] = [EXPLAIN_FLAG, PRINTED_DECIMALS, SAVED_SUMMARY];
+const LIST_ARGUMENTS: [Argument; 5] = [
+    EXPLAIN_FLAG,
+    PRINTED_DECIMALS,
+    OUTPUT_FORM,
+    NAMES_FLAG,
+    SAVED_SUMMARY,
+];
 
-const DESCRIBE_ARGUMENTS: [Argument; 2] = [EXPLAIN_FLAG, SAVED_FILE];
+const DESCRIBE_ARGUMENTS: [Argument; 4] = [EXPLAIN_FLAG, OUTPUT_FORM, NAMES_FLAG, SAVED_FILE];
 
-const CONDENSE_ARGUMENTS: [Argument; 5] = [
+const CONDENSE_ARGUMENTS: [Argument; 7] = [
     EXPLAIN_FLAG,
     PROGRESS_FLAG,
+    OUTPUT_FORM,
+    NAMES_FLAG,
     Argument::Number(WORKERS),
     SAVED_SUMMARY,
     RECORD_FILES,
 ];
 
-const CONFIRM_ARGUMENTS: [Argument; 8] = [
+const CONFIRM_ARGUMENTS: [Argument; 10] = [
     EXPLAIN_FLAG,
     PROGRESS_FLAG,
     THRESHOLD,
     TOP_ROWS,
     SHARE_FLAG,
+    OUTPUT_FORM,
+    NAMES_FLAG,
     Argument::Number(WORKERS),
     SAVED_SUMMARY,
     RECORD_FILES,

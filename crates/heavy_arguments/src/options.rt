@@ -33,6 +33,8 @@ pub(crate) enum Kind {
     Columns,
     /// An option with a share of the total.
     Share,
+    /// An option with one of these words, by the name that help has for it.
+    OneOf(&'static str, &'static [&'static str]),
     /// An option that is given or not.
     Flag,
     /// A flag that help lists after the command's own options.
@@ -110,6 +112,7 @@ impl Kind {
             Kind::Byte => option(alloc, name, "BYTE", help),
             Kind::Columns => option(alloc, name, "COLUMN", help).action(ArgAction::Append),
             Kind::Share => option(alloc, name, "P/Q", help).long_help(SHARE_HELP),
+            Kind::OneOf(value, words) => option(alloc, name, value, help).value_parser(words),
             Kind::Flag => flag(alloc, name, help),
             Kind::LastFlag => flag(alloc, name, help).display_order(LAST),
             Kind::Word => word(alloc, name, name, help).required(true),
