@@ -5,7 +5,7 @@ ghost use Rattle.clap.specs.declared.builder.command.Command.TheViews.{out-Comma
 ghost use Rattle.clap.specs.Words.{found_of};
 ghost use Rattle.clap.specs.Simple.{app_of, new_app, with_subcommand};
 ghost use Rattle.heavy_arguments.specs.Commands.{HasNoGlobals, IsApp};
-ghost use Rattle.heavy_arguments.specs.CommandLine.{bare_program, program_app, argument_rules};
+ghost use Rattle.heavy_arguments.specs.CommandLine.{AreForms, IsProgram, bare_program, argument_rules};
 ghost use Rattle.heavy_arguments.specs.CommandLine.{shape_of_words, with_rules};
 ghost use Rattle.heavy_arguments.specs.Numbers.{IsNumberOf};
 
@@ -173,12 +173,9 @@ const SHARE_FLAG: Argument = Argument::Given(
     "Print in a third column the weight's share of the total in percent, rounded down",
 );
 
-/// The forms in which rows are printed.
-const FORMS: &[&str] = &["csv", "tsv", "json"];
-
 /// The option that says in which form rows are printed.
 const OUTPUT_FORM: Argument = Argument::Given(
-    Kind::OneOf("FORM", FORMS),
+    Kind::Form,
     OUTPUT,
     "Print rows as csv, tsv or json, an object a line [default: csv]",
 );
@@ -448,29 +445,36 @@ fn described<'a>(alloc: Global, name: &'a str, help: &Help) -> Command<'a>
         .after_long_help(help.end)
 }
 
-/// Adds `arguments` to `command`.
-fn with<'a>(alloc: Global, mut command: Command<'a>, arguments: &[Argument]) -> Built<'a>
+/// Adds `arguments` to `command`. Rows are printed in one of `forms`.
+fn with<'a>(
+    alloc: Global,
+    mut command: Command<'a>,
+    forms: &'a [&'a str],
+    arguments: &[Argument],
+) -> Built<'a>
     requires { (fields_of command).has_globals ≡ false }
-    ensures app { IsApp (with_rules (app_of command.entry) (argument_rules arguments.now)) result }
+    ensures app { IsApp (with_rules (app_of command.entry)
+        (argument_rules forms.entry arguments.now)) result }
     ensures globals { HasNoGlobals result }
 {
     for argument in arguments {
-        command = command.arg(argument.to_arg(alloc))?;
+        command = command.arg(argument.to_arg(alloc, forms))?;
     }
     Ok(command)
 }
 
-/// The command of these words.
-fn command_of<'a>(alloc: Global, words: &CommandWords) -> Built<'a>
-    ensures app { IsApp (record { top = shape_of_words words.now; subs = [] }) result }
+/// The command of these words, which prints rows in one of `forms`.
+fn command_of<'a>(alloc: Global, forms: &'a [&'a str], words: &CommandWords) -> Built<'a>
+    ensures app { IsApp (record { top = shape_of_words forms.entry words.now; subs = [] }) result }
     ensures globals { HasNoGlobals result }
 {
     let command = described(alloc, words.name, words.help).after_help(DASHES);
-    let mut command = with(alloc, command, words.arguments)?;
+    let mut command = with(alloc, command, forms, words.arguments)?;
     for group in words.groups {
         command = with(
             alloc,
             command.next_help_heading(group.heading),
+            forms,
             group.arguments,
         )?;
     }
@@ -487,25 +491,37 @@ fn program<'a>(alloc: Global) -> Built<'a>
         .bin_name("heavy")
 }
 
-/// Adds commands of its own to a command.
-fn with_commands<'a>(alloc: Global, mut all: Command<'a>, commands: &[CommandWords]) -> Built<'a>
+/// Adds commands of its own to a command. They print rows in one of `forms`.
+fn with_commands<'a>(
+    alloc: Global,
+    mut all: Command<'a>,
+    forms: &'a [&'a str],
+    commands: &[CommandWords],
+) -> Built<'a>
     requires { (fields_of all).has_globals ≡ false }
     ensures app { IsApp (fold with_subcommand (app_of all.entry)
-        (map shape_of_words commands.now)) result }
+        (map (shape_of_words forms.entry) commands.now)) result }
     ensures globals { HasNoGlobals result }
 {
     for words in commands {
-        all = all.subcommand(command_of(alloc, words)?)?;
+        all = all.subcommand(command_of(alloc, forms, words)?)?;
     }
     Ok(all)
 }
 
+/// The names of the forms in which rows are printed.
+fn form_names<'a>() -> &'a [&'a str]
+    ensures { AreForms result }
+{
+    &["csv", "tsv", "json"]
+}
+
 /// The command line that the program reads.
 pub fn command_line<'a>(alloc: Global) -> Result<Command<'a>, AllocError>
-    ensures app { IsApp program_app result }
+    ensures app { IfOk result (λ c. IsProgram (app_of c)) }
     ensures globals { HasNoGlobals result }
     ensures required { IfOk result (λ c. (fields_of c).subcommand_required ≡ true) }
 {
-    let all = with_commands(alloc, program(alloc)?, &COMMANDS)?;
+    let all = with_commands(alloc, program(alloc)?, form_names(), &COMMANDS)?;
     Ok(all.subcommand_required(true))
 }

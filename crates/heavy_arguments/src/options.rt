@@ -33,8 +33,8 @@ pub(crate) enum Kind {
     Columns,
     /// An option with a share of the total.
     Share,
-    /// An option with one of these words, by the name that help has for it.
-    OneOf(&'static str, &'static [&'static str]),
+    /// An option with the form in which rows are printed.
+    Form,
     /// An option that is given or not.
     Flag,
     /// A flag that help lists after the command's own options.
@@ -98,9 +98,15 @@ fn flag<'a>(alloc: Global, name: &'a str, help: &'a str) -> Arg<'a>
 }
 
 impl Kind {
-    /// Makes the argument with this name and help for `clap`.
-    fn to_arg<'a>(self, alloc: Global, name: &'a str, help: &'a str) -> Arg<'a>
-        ensures rule { rule_of result ≡ rule_of_kind self name.now }
+    /// Makes the argument with this name and help for `clap`. Rows are printed in one of `forms`.
+    fn to_arg<'a>(
+        self,
+        alloc: Global,
+        forms: &'a [&'a str],
+        name: &'a str,
+        help: &'a str,
+    ) -> Arg<'a>
+        ensures rule { rule_of result ≡ rule_of_kind forms.entry self name.now }
         ensures local { result.global ≡ false }
     {
         match self {
@@ -112,7 +118,7 @@ impl Kind {
             Kind::Byte => option(alloc, name, "BYTE", help),
             Kind::Columns => option(alloc, name, "COLUMN", help).action(ArgAction::Append),
             Kind::Share => option(alloc, name, "P/Q", help).long_help(SHARE_HELP),
-            Kind::OneOf(value, words) => option(alloc, name, value, help).value_parser(words),
+            Kind::Form => option(alloc, name, "FORM", help).value_parser(forms),
             Kind::Flag => flag(alloc, name, help),
             Kind::LastFlag => flag(alloc, name, help).display_order(LAST),
             Kind::Word => word(alloc, name, name, help).required(true),
@@ -123,16 +129,16 @@ impl Kind {
 }
 
 impl Argument {
-    /// Makes the argument for `clap`.
-    pub(crate) fn to_arg<'a>(self, alloc: Global) -> Arg<'a>
-        ensures rule { rule_of result ≡ rule_of_argument self }
+    /// Makes the argument for `clap`. Rows are printed in one of `forms`.
+    pub(crate) fn to_arg<'a>(self, alloc: Global, forms: &'a [&'a str]) -> Arg<'a>
+        ensures rule { rule_of result ≡ rule_of_argument forms.entry self }
         ensures local { result.global ≡ false }
     {
         match self {
-            Argument::Number(it) => Kind::Number.to_arg(alloc, it.name, it.help),
-            Argument::Given(kind, name, help) => kind.to_arg(alloc, name, help),
+            Argument::Number(it) => Kind::Number.to_arg(alloc, forms, it.name, it.help),
+            Argument::Given(kind, name, help) => kind.to_arg(alloc, forms, name, help),
             Argument::Short(letter, kind, name, help) => {
-                kind.to_arg(alloc, name, help).short(letter)
+                kind.to_arg(alloc, forms, name, help).short(letter)
             }
         }
     }
