@@ -1,0 +1,55 @@
+-- Records as JSON, an object a line.
+use Rattle.std.specs.Prelude.{◌+◌, ◌/◌, ◌%◌, ◌<◌, ◌==◌, ◌||◌, nat_lt, ℕ, Bool, List, [], ◌∷◌, ◌++◌, if◌then◌else◌}
+use Rattle.std.specs.Char.{digit_char}
+use Rattle.std.specs.List.{flat_map, zip}
+use Rattle.std.specs.Str.{is_utf8}
+
+-- the bytes that JSON sets apart
+abbrev pub quote_mark : ℕ
+quote_mark = 34
+
+abbrev pub backslash : ℕ
+backslash = 92
+
+-- the two digits of a byte in base 16
+abbrev pub hex : ℕ → List ℕ
+hex b = digit_char (b / 16) ∷ digit_char (b % 16) ∷ []
+
+-- how a string writes the character whose number has this first byte and that second one: `\u`, and the
+-- four digits of both
+abbrev pub escaped_by : ℕ → ℕ → List ℕ
+escaped_by first second = backslash ∷ 117 ∷ (hex first ++ hex second)
+
+-- whether a byte is a control character
+abbrev pub is_control : ℕ → Bool
+is_control b = nat_lt b 32 || (b == 127)
+
+-- a byte of a field, in a string: a quote and a backslash after a backslash, a control character by its
+-- number, and one that is no text by that of a lone surrogate, U+DC80 to U+DCFF
+abbrev pub string_byte : Bool → ℕ → List ℕ
+string_byte is_text b =
+    if (b == quote_mark) || (b == backslash) then backslash ∷ b ∷ []
+    else if is_control b then escaped_by 0 b
+    else if nat_lt b 128 || is_text then b ∷ []
+    else escaped_by 0xDC b
+
+-- a field as a string. Its bytes of 128 and more are text where the whole field is UTF-8
+abbrev pub string_text : List ℕ → List ℕ
+string_text field = quote_mark ∷ (flat_map (string_byte (is_utf8 field)) field ++ (quote_mark ∷ []))
+
+-- a member of an object: its name, and then this text
+abbrev pub member_text : List ℕ → List ℕ → List ℕ
+member_text name text = string_text name ++ (58 ∷ text)
+
+-- a member whose value is a number, after others
+abbrev pub number_text : List ℕ × List ℕ → List ℕ
+number_text p = 44 ∷ member_text p.0 p.1
+
+-- the members of an object, of names and fields: the first value is a string, the others are numbers
+abbrev pub members_text : List (List ℕ × List ℕ) → List ℕ
+members_text [] = []
+members_text (p ∷ ps) = member_text p.0 (string_text p.1) ++ flat_map number_text ps
+
+-- a record as an object in a line
+abbrev pub object_text : List (List ℕ) → List (List ℕ) → List ℕ
+object_text names fields = 123 ∷ (members_text (zip names fields) ++ (125 ∷ 10 ∷ []))
