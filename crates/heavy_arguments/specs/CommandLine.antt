@@ -1,6 +1,6 @@
 -- What `clap` reads of the program's command line: each command with its arguments, each argument
 -- with its name and how it is given.
-use Rattle.std.specs.Prelude.{ℕ, ◌≡◌, pos, true, false, List, [], ◌∷◌, ◌++◌, Some, codes, map, flat_map, fold}
+use Rattle.std.specs.Prelude.{ℕ, ◌≡◌, pos, true, List, [], ◌∷◌, ◌++◌, Some, codes, map, flat_map, fold}
 use Rattle.std.specs.Borrow.{Bor}
 use Rattle.clap.specs.Lexer.{usize_max}
 use Rattle.clap.specs.Walk.{Rule, Text}

@@ -12,7 +12,7 @@ ghost use Rattle.heavy_arguments.specs.Numbers.{IsNumberOf};
 use crate::help::{
     ASK, CONDENSE, CONFIRM, DESCRIBE, Help, LIST, MERGE, PROGRAM, REPORT, SUMMARISE, TABLE,
 };
-use crate::options::{Argument, Kind};
+use crate::options::{Argument, Forms, Kind};
 use clap::{ArgMatches, Command};
 use std::alloc::{AllocError, Global};
 
@@ -445,16 +445,16 @@ fn described<'a>(alloc: Global, name: &'a str, help: &Help) -> Command<'a>
         .after_long_help(help.end)
 }
 
-/// Adds `arguments` to `command`. Rows are printed in one of `forms`.
+/// Adds `arguments` to `command`. Rows are printed in the `forms`.
 fn with<'a>(
     alloc: Global,
     mut command: Command<'a>,
-    forms: &'a [&'a str],
+    forms: Forms<'a>,
     arguments: &[Argument],
 ) -> Built<'a>
     requires { (fields_of command).has_globals ≡ false }
     ensures app { IsApp (with_rules (app_of command.entry)
-        (argument_rules forms.entry arguments.now)) result }
+        (argument_rules forms.entry.names arguments.now)) result }
     ensures globals { HasNoGlobals result }
 {
     for argument in arguments {
@@ -463,9 +463,9 @@ fn with<'a>(
     Ok(command)
 }
 
-/// The command of these words, which prints rows in one of `forms`.
-fn command_of<'a>(alloc: Global, forms: &'a [&'a str], words: &CommandWords) -> Built<'a>
-    ensures app { IsApp (record { top = shape_of_words forms.entry words.now; subs = [] }) result }
+/// The command of these words, which prints rows in the `forms`.
+fn command_of<'a>(alloc: Global, forms: Forms<'a>, words: &CommandWords) -> Built<'a>
+    ensures app { IsApp (record { top = shape_of_words forms.entry.names words.now; subs = [] }) result }
     ensures globals { HasNoGlobals result }
 {
     let command = described(alloc, words.name, words.help).after_help(DASHES);
@@ -491,16 +491,16 @@ fn program<'a>(alloc: Global) -> Built<'a>
         .bin_name("heavy")
 }
 
-/// Adds commands of its own to a command. They print rows in one of `forms`.
+/// Adds commands of its own to a command. They print rows in the `forms`.
 fn with_commands<'a>(
     alloc: Global,
     mut all: Command<'a>,
-    forms: &'a [&'a str],
+    forms: Forms<'a>,
     commands: &[CommandWords],
 ) -> Built<'a>
     requires { (fields_of all).has_globals ≡ false }
     ensures app { IsApp (fold with_subcommand (app_of all.entry)
-        (map (shape_of_words forms.entry) commands.now)) result }
+        (map (shape_of_words forms.entry.names) commands.now)) result }
     ensures globals { HasNoGlobals result }
 {
     for words in commands {
@@ -509,11 +509,13 @@ fn with_commands<'a>(
     Ok(all)
 }
 
-/// The names of the forms in which rows are printed.
-fn form_names<'a>() -> &'a [&'a str]
-    ensures { AreForms result }
+/// The forms in which rows are printed.
+fn all_forms<'a>() -> Forms<'a>
+    ensures { AreForms result.names }
 {
-    &["csv", "tsv", "json"]
+    Forms {
+        names: &["csv", "tsv", "json"],
+    }
 }
 
 /// The command line that the program reads.
@@ -522,6 +524,6 @@ pub fn command_line<'a>(alloc: Global) -> Result<Command<'a>, AllocError>
     ensures globals { HasNoGlobals result }
     ensures required { IfOk result (λ c. (fields_of c).subcommand_required ≡ true) }
 {
-    let all = with_commands(alloc, program(alloc)?, form_names(), &COMMANDS)?;
+    let all = with_commands(alloc, program(alloc)?, all_forms(), &COMMANDS)?;
     Ok(all.subcommand_required(true))
 }

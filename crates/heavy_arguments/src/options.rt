@@ -18,6 +18,12 @@ const LAST: usize = 100;
 const SHARE_HELP: &str = "Keys above this share of the total weight are heavy, from 1/(k+1) to 1/1,
 with P and Q up to 4294967296; k is the number of counters [default: 1/(k+1)]";
 
+/// The forms in which rows are printed.
+#[derive(Clone, Copy)]
+pub(crate) struct Forms<'a> {
+    pub(crate) names: &'a [&'a str],
+}
+
 /// How an argument is given.
 #[derive(Clone, Copy)]
 pub(crate) enum Kind {
@@ -98,15 +104,9 @@ fn flag<'a>(alloc: Global, name: &'a str, help: &'a str) -> Arg<'a>
 }
 
 impl Kind {
-    /// Makes the argument with this name and help for `clap`. Rows are printed in one of `forms`.
-    fn to_arg<'a>(
-        self,
-        alloc: Global,
-        forms: &'a [&'a str],
-        name: &'a str,
-        help: &'a str,
-    ) -> Arg<'a>
-        ensures rule { rule_of result ≡ rule_of_kind forms.entry self name.now }
+    /// Makes the argument with this name and help for `clap`. Rows are printed in the `forms`.
+    fn to_arg<'a>(self, alloc: Global, forms: Forms<'a>, name: &'a str, help: &'a str) -> Arg<'a>
+        ensures rule { rule_of result ≡ rule_of_kind forms.entry.names self name.now }
         ensures local { result.global ≡ false }
     {
         match self {
@@ -118,7 +118,7 @@ impl Kind {
             Kind::Byte => option(alloc, name, "BYTE", help),
             Kind::Columns => option(alloc, name, "COLUMN", help).action(ArgAction::Append),
             Kind::Share => option(alloc, name, "P/Q", help).long_help(SHARE_HELP),
-            Kind::Form => option(alloc, name, "FORM", help).value_parser(forms),
+            Kind::Form => option(alloc, name, "FORM", help).value_parser(forms.names),
             Kind::Flag => flag(alloc, name, help),
             Kind::LastFlag => flag(alloc, name, help).display_order(LAST),
             Kind::Word => word(alloc, name, name, help).required(true),
@@ -129,9 +129,9 @@ impl Kind {
 }
 
 impl Argument {
-    /// Makes the argument for `clap`. Rows are printed in one of `forms`.
-    pub(crate) fn to_arg<'a>(self, alloc: Global, forms: &'a [&'a str]) -> Arg<'a>
-        ensures rule { rule_of result ≡ rule_of_argument forms.entry self }
+    /// Makes the argument for `clap`. Rows are printed in the `forms`.
+    pub(crate) fn to_arg<'a>(self, alloc: Global, forms: Forms<'a>) -> Arg<'a>
+        ensures rule { rule_of result ≡ rule_of_argument forms.entry.names self }
         ensures local { result.global ≡ false }
     {
         match self {

@@ -3,4 +3,4 @@ use Rattle.std.proofs.Common.{rules}
 use Rattle.heavy_arguments.proofs.arguments.command_line.Goals as goal
 
 pub returns-clause-app : goal.returns-clause-app
-returns-clause-app c = record { forms = c.form_names.result; named = c.form_names.ensures; is = search rules }
+returns-clause-app c = record { forms = c.all_forms.result.names; named = c.all_forms.ensures; is = search rules }

@@ -1,5 +1,5 @@
 -- One argument more.
-use Rattle.std.proofs.Common.{rules, ◌∙◌}
+use Rattle.std.proofs.Common.{rules}
 use Rattle.heavy_arguments.proofs.Rules.{argument_added}
 use Rattle.heavy_arguments.proofs.arguments.with.Goals as goal
 
