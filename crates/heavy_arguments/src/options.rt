@@ -118,7 +118,9 @@ impl Kind {
             Kind::Byte => option(alloc, name, "BYTE", help),
             Kind::Columns => option(alloc, name, "COLUMN", help).action(ArgAction::Append),
             Kind::Share => option(alloc, name, "P/Q", help).long_help(SHARE_HELP),
-            Kind::Form => option(alloc, name, "FORM", help).value_parser(forms.names),
+            Kind::Form => option(alloc, name, "FORM", help)
+                .value_parser(forms.names)
+                .hide_possible_values(true),
             Kind::Flag => flag(alloc, name, help),
             Kind::LastFlag => flag(alloc, name, help).display_order(LAST),
             Kind::Word => word(alloc, name, name, help).required(true),
