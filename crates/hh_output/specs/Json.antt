@@ -1,15 +1,20 @@
 -- Records as JSON, an object a line.
-use Rattle.std.specs.Prelude.{◌+◌, ◌/◌, ◌%◌, ◌<◌, ◌==◌, ◌||◌, nat_lt, ℕ, Bool, List, [], ◌∷◌, ◌++◌, if◌then◌else◌}
+use Rattle.std.specs.Prelude.{◌/◌, ◌%◌, ◌==◌, ◌||◌, nat_lt, ℕ, Bool, List, [], ◌∷◌, ◌++◌, if◌then◌else◌}
 use Rattle.std.specs.Char.{digit_char}
 use Rattle.std.specs.List.{flat_map, zip}
 use Rattle.std.specs.Str.{is_utf8}
+use Rattle.csv.specs.Machine.{line_feed}
+use Rattle.csv.specs.Writing.{backslash, comma, quote_mark}
 
--- the bytes that JSON sets apart
-abbrev pub quote_mark : ℕ
-quote_mark = 34
+-- the bytes around an object, and the one after a member's name
+abbrev pub left_brace : ℕ
+left_brace = 123
 
-abbrev pub backslash : ℕ
-backslash = 92
+abbrev pub right_brace : ℕ
+right_brace = 125
+
+abbrev pub colon : ℕ
+colon = 58
 
 -- the two digits of a byte in base 16
 abbrev pub hex : ℕ → List ℕ
@@ -39,11 +44,11 @@ string_text field = quote_mark ∷ (flat_map (string_byte (is_utf8 field)) field
 
 -- a member of an object: its name, and then this text
 abbrev pub member_text : List ℕ → List ℕ → List ℕ
-member_text name text = string_text name ++ (58 ∷ text)
+member_text name text = string_text name ++ (colon ∷ text)
 
 -- a member whose value is a number, after others
 abbrev pub number_text : List ℕ × List ℕ → List ℕ
-number_text p = 44 ∷ member_text p.0 p.1
+number_text p = comma ∷ member_text p.0 p.1
 
 -- the members of an object, of names and fields: the first value is a string, the others are numbers
 abbrev pub members_text : List (List ℕ × List ℕ) → List ℕ
@@ -52,4 +57,4 @@ members_text (p ∷ ps) = member_text p.0 (string_text p.1) ++ flat_map number_t
 
 -- a record as an object in a line
 abbrev pub object_text : List (List ℕ) → List (List ℕ) → List ℕ
-object_text names fields = 123 ∷ (members_text (zip names fields) ++ (125 ∷ 10 ∷ []))
+object_text names fields = left_brace ∷ (members_text (zip names fields) ++ (right_brace ∷ line_feed ∷ []))

@@ -1,2 +1,4 @@
 pub mod Json
+pub mod Laws
 pub mod Outputs
+pub mod Readers

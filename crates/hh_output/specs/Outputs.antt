@@ -1,5 +1,5 @@
 -- Rows that were printed as CSV, in another form.
-use Rattle.std.specs.Prelude.{ℕ, Bool, false, List, [], ◌++◌, if◌then◌else◌}
+use Rattle.std.specs.Prelude.{ℕ, false, List, [], ◌++◌, if◌then◌else◌}
 use Rattle.std.specs.List.{flat_map}
 use Rattle.csv.specs.Reading.{default_config, records}
 use Rattle.csv.specs.Writing.{default_writer, row_text, with_delimiter}

@@ -1,10 +1,12 @@
 //! Records as JSON.
 
-ghost use Rattle.std.specs.Prelude.{◌≡◌, ◌++◌, ◌∷◌, ◌<◌, OnOk, map};
+ghost use Rattle.std.specs.Prelude.{◌≡◌, ◌++◌, ◌<◌, OnOk, drop, map};
 ghost use Rattle.std.specs.Char.{digit_char};
+ghost use Rattle.std.specs.List.{flat_map, zip};
 ghost use Rattle.std.specs.Str.{is_utf8};
 ghost use Rattle.csv.specs.Records.{fields_of};
-ghost use Rattle.hh_output.specs.Json.{escaped_by, hex, object_text, string_byte, string_text};
+ghost use Rattle.hh_output.specs.Json.{escaped_by, hex, members_text, number_text};
+ghost use Rattle.hh_output.specs.Json.{object_text, string_byte, string_text};
 
 use csv::ByteRecord;
 use std::alloc::AllocError;
@@ -57,11 +59,18 @@ fn push_byte(text: &mut Vec<u8>, is_text: bool, byte: u8) -> Result<(), AllocErr
     Ok(())
 }
 
+/// Whether a field is UTF-8.
+fn is_text(field: &[u8]) -> bool
+    ensures { result ≡ is_utf8 field.now }
+{
+    str::from_utf8(field).is_ok()
+}
+
 /// Writes a `field` as a string.
 fn push_string(text: &mut Vec<u8>, field: &[u8]) -> Result<(), AllocError>
     ensures { OnOk result (text.new.items ≡ text.old.items ++ string_text field.now) }
 {
-    let is_text = str::from_utf8(field).is_ok();
+    let is_text = is_text(field);
     text.push(b'"')?;
     for byte in field {
         push_byte(text, is_text, *byte)?;
@@ -70,23 +79,47 @@ fn push_string(text: &mut Vec<u8>, field: &[u8]) -> Result<(), AllocError>
     Ok(())
 }
 
-/// Writes the members of a record's object, by the `names` of its fields.
-fn push_members(text: &mut Vec<u8>, names: &[&[u8]], row: &ByteRecord) -> Result<(), AllocError> {
-    for i in 0..names.len() {
-        let Some(field) = row.get(i) else {
+/// Writes a member whose value is a number, after others.
+fn push_number(text: &mut Vec<u8>, name: &[u8], number: &[u8]) -> Result<(), AllocError>
+    ensures { OnOk result (text.new.items
+        ≡ text.old.items ++ number_text (name.now, number.now)) }
+{
+    text.push(b',')?;
+    push_string(text, name)?;
+    text.push(b':')?;
+    text.extend_from_slice(number)?;
+    Ok(())
+}
+
+/// Writes the members of a record's fields after the first, by the `names` of its fields.
+fn push_numbers(text: &mut Vec<u8>, names: &[&[u8]], row: &ByteRecord) -> Result<(), AllocError>
+    ensures { OnOk result (text.new.items ≡ text.old.items ++ flat_map number_text
+        (zip (drop 1 (map (λ name. name.now) names.now)) (drop 1 (fields_of row.now)))) }
+{
+    for i in 1..names.len() {
+        let Some(number) = row.get(i) else {
             return Ok(());
         };
-        if i > 0 {
-            text.push(b',')?;
-        }
-        push_string(text, names[i])?;
-        text.push(b':')?;
-        if i == 0 {
-            push_string(text, field)?;
-        } else {
-            text.extend_from_slice(field)?;
-        }
+        push_number(text, names[i], number)?;
     }
+    Ok(())
+}
+
+/// Writes the members of a record, by the `names` of its fields.
+fn push_members(text: &mut Vec<u8>, names: &[&[u8]], row: &ByteRecord) -> Result<(), AllocError>
+    ensures { OnOk result (text.new.items ≡ text.old.items
+        ++ members_text (zip (map (λ name. name.now) names.now) (fields_of row.now))) }
+{
+    let Some(name) = names.first() else {
+        return Ok(());
+    };
+    let Some(field) = row.get(0) else {
+        return Ok(());
+    };
+    push_string(text, name)?;
+    text.push(b':')?;
+    push_string(text, field)?;
+    push_numbers(text, names, row)?;
     Ok(())
 }
 

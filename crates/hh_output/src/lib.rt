@@ -3,6 +3,7 @@
 #![tactic(auto)]
 
 mod json;
+pub mod laws;
 mod output;
 
 pub use output::{Form, Output, converted};

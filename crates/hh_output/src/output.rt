@@ -1,14 +1,20 @@
 //! The forms of rows.
 
-ghost use Rattle.std.specs.Prelude.{◌≡◌, ◌++◌, IfOk, map};
+ghost use Rattle.std.specs.Prelude.{◌≡◌, ◌++◌, false, true, Some, IfOk, map};
+ghost use Rattle.std.specs.Io.KnownBytes.{Keeps};
 ghost use Rattle.std.specs.List.{flat_map};
-ghost use Rattle.csv.specs.Reading.{default_config, records};
+ghost use Rattle.csv.specs.Reading.{Ready, default_config, is_flexible, reader_config};
+ghost use Rattle.csv.specs.Reading.{reader_state, reader_trim, records, stops_reader};
 ghost use Rattle.csv.specs.Records.{fields_of};
-ghost use Rattle.csv.specs.Writing.{default_writer, row_text, with_delimiter};
+ghost use Rattle.csv.specs.Writing.{default_writer, fields_written, has_written, row_text};
+ghost use Rattle.csv.specs.Writing.{text_written, with_delimiter, writer_setup};
+ghost use Rattle.csv.specs.declared.parser.State.TheVariants as st;
+ghost use Rattle.csv.specs.declared.reader.Trim.TheVariants as trim;
 ghost use Rattle.hh_output.specs.Outputs.{names_in, names_row, plain_output, row_in, rows_in};
+ghost use Rattle.hh_output.specs.Readers.{records_left};
 
 use crate::json::push_object;
-use csv::{ByteRecord, Reader, ReaderBuilder, Writer, WriterBuilder};
+use csv::{ByteRecord, ErrorKind, Reader, ReaderBuilder, Writer, WriterBuilder};
 use std::alloc::{AllocError, Global};
 use std::io::{Chain, Read};
 
@@ -46,13 +52,21 @@ impl Output {
     }
 }
 
-/// A writer of one row after `text`, of fields with `delimiter` between them.
-fn writer_after(text: Vec<u8>, delimiter: u8) -> Writer<Vec<u8>> {
+/// A writer of rows after `text`, of fields with `delimiter` between them.
+fn writer_after(text: Vec<u8>, delimiter: u8) -> Writer<Vec<u8>>
+    ensures setup { writer_setup result ≡ with_delimiter default_writer delimiter }
+    ensures fields { fields_written result ≡ 0 }
+    ensures written { has_written result ≡ false }
+    ensures text { text_written (λ text. Some text.items) result ≡ Some text.items }
+{
     WriterBuilder::new().delimiter(delimiter).from_writer(text)
 }
 
 /// All that was written.
-fn text_of(writer: Writer<Vec<u8>>) -> Result<Vec<u8>, AllocError> {
+fn text_of(writer: Writer<Vec<u8>>) -> Result<Vec<u8>, AllocError>
+    ensures { IfOk result (λ text.
+        Keeps (text_written (λ text. Some text.items) writer) (Some text.items)) }
+{
     match writer.into_inner() {
         Ok(text) => Ok(text),
         Err(_) => Err(AllocError),
@@ -129,11 +143,32 @@ fn names_in(alloc: Global, output: &Output, names: &[&[u8]]) -> Result<Vec<u8>, 
 
 /// A reader of the records of `text`. It takes a byte order mark off, which stands before the text
 /// here, so that one in the text stays.
-fn reader_of(alloc: Global, text: &[u8]) -> Reader<Chain<&[u8], &[u8]>> {
+fn reader_of<'t>(alloc: Global, text: &'t [u8]) -> Reader<Chain<&'static [u8], &'t [u8]>>
+    ensures config { reader_config result ≡ default_config }
+    ensures trim { reader_trim result ≡ trim.None }
+    ensures ready { Ready result }
+    ensures flexible { is_flexible result ≡ true }
+    ensures state { reader_state result ≡ st.StartRecord }
+    ensures left { records_left result ≡ Some text.now }
+{
     ReaderBuilder::new()
         .has_headers(false)
         .flexible(true)
         .from_reader(alloc, BYTE_ORDER_MARK.chain(text))
+}
+
+/// The want of memory that a fault of `csv`'s reader is, where it reads from memory and takes
+/// records of any length.
+fn memory_fault(fault: &ErrorKind) -> AllocError
+    requires { stops_reader fault.now ≡ true }
+{
+    match fault {
+        ErrorKind::Io(_) | ErrorKind::OutOfMemory => AllocError,
+        ErrorKind::UnequalLengths { .. }
+        | ErrorKind::Utf8 { .. }
+        | ErrorKind::Serialize(_)
+        | ErrorKind::Deserialize { .. } => unreachable!(),
+    }
 }
 
 /// `before`, and after it the records of `text`, of columns with these `names`.
@@ -151,11 +186,12 @@ fn with_rows(
     let mut reader = reader_of(alloc, text);
     let mut row = ByteRecord::new(alloc);
     let mut all = before;
-    for _ in 0..=text.len() {
+    // A text has fewer records than this, since each takes a byte at least.
+    'rows: for _ in 0..=text.len() {
         match reader.read_byte_record(&mut row) {
             Ok(true) => all = with_row(all, form, names, &row)?,
             Ok(false) => return Ok(all),
-            Err(_) => return Err(AllocError),
+            Err(error) => return Err(memory_fault(error.kind())),
         }
     }
     Ok(all)

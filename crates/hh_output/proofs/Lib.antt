@@ -1,0 +1,5 @@
+pub mod MemberFacts
+pub mod RowFacts
+pub mod StringFacts
+pub mod TextFacts
+pub mod WrittenFacts

@@ -1,0 +1,47 @@
+-- What holds of rows in another form.
+use Rattle.std.specs.Prelude.{◌≡◌, ℕ, true, false, List, [], ◌∷◌, ◌++◌, codes, map}
+use Rattle.std.specs.List.{flat_map}
+use Rattle.csv.specs.Writing.{default_writer, read_back, row_text}
+use Rattle.hh_output.specs.Json.{string_text}
+use Rattle.hh_output.specs.Outputs.{names_in, plain_output, row_in, rows_in}
+use Rattle.hh_output.specs.declared.output.Form.TheVariants as form
+use Rattle.hh_output.specs.declared.output.Output.{Output}
+
+-- with the plain output the rows are the text as it is
+abbrev pub PlainRowsAreTheText : Type 0
+PlainRowsAreTheText = (names : List (List ℕ)) (text : List ℕ) → rows_in plain_output names text ≡ text
+
+-- rows that csv's default writer wrote are converted one by one, each as it is read back
+abbrev pub RowsAreConverted : Type 0
+RowsAreConverted =
+    (output : Output) (names : List (List ℕ)) (rows : List (List (List ℕ)))
+    → rows_in output names (flat_map (row_text default_writer) rows)
+    ≡ names_in output names ++ flat_map (row_in output.form names) (map read_back rows)
+
+-- equal strings are of equal fields, whether these are UTF-8 or not
+abbrev pub StringsTellFieldsApart : Type 0
+StringsTellFieldsApart = (f g : List ℕ) → string_text f ≡ string_text g → f ≡ g
+
+-- the names of two columns, and two rows of them
+abbrev pub example_names : List (List ℕ)
+example_names = codes "key" ∷ codes "weight" ∷ []
+
+abbrev pub example_text : List ℕ
+example_text = codes "a,1\n\"b \"\"c\",20\n"
+
+-- the rows in each form
+abbrev pub ExampleRows : Type 0
+ExampleRows =
+    (rows_in (record { form = form.Csv; has_names = true }) example_names example_text
+    ≡ codes "key,weight\na,1\n\"b \"\"c\",20\n")
+    × (rows_in (record { form = form.Tsv; has_names = true }) example_names example_text
+    ≡ codes "key\tweight\na\t1\n\"b \"\"c\"\t20\n")
+    × (rows_in (record { form = form.Json; has_names = false }) example_names example_text
+    ≡ codes "{\"key\":\"a\",\"weight\":1}\n{\"key\":\"b \\\"c\",\"weight\":20}\n")
+
+-- fields as strings: one that is UTF-8, one that is not, and one of bytes that are escaped
+abbrev pub ExampleStrings : Type 0
+ExampleStrings =
+    (string_text (195 ∷ 164 ∷ []) ≡ 34 ∷ 195 ∷ 164 ∷ 34 ∷ [])
+    × (string_text (195 ∷ 97 ∷ []) ≡ codes "\"\\udcc3a\"")
+    × (string_text (92 ∷ 34 ∷ 31 ∷ 127 ∷ []) ≡ codes "\"\\\\\\\"\\u001f\\u007f\"")

@@ -1,0 +1,30 @@
+//! Laws of the definitions in `specs/`. Each function does nothing: its contract is the law.
+
+ghost use Rattle.hh_output.specs.Laws.{ExampleRows, ExampleStrings};
+ghost use Rattle.hh_output.specs.Laws.{PlainRowsAreTheText, RowsAreConverted};
+ghost use Rattle.hh_output.specs.Laws.{StringsTellFieldsApart};
+
+/// With the plain output the rows are the text as it is.
+pub fn plain_rows_are_the_text()
+    ensures { PlainRowsAreTheText }
+{}
+
+/// Rows that `csv`'s default writer wrote are converted one by one, each as it is read back.
+pub fn rows_are_converted()
+    ensures { RowsAreConverted }
+{}
+
+/// Equal strings are of equal fields, whether these are UTF-8 or not.
+pub fn strings_tell_fields_apart()
+    ensures { StringsTellFieldsApart }
+{}
+
+/// Two rows, in each form.
+pub fn example_rows()
+    ensures { ExampleRows }
+{}
+
+/// Fields as strings: one that is UTF-8, one that is not, and one of bytes that are escaped.
+pub fn example_strings()
+    ensures { ExampleStrings }
+{}
