@@ -185,15 +185,18 @@ fn converted_report<T: Threads + Wait + Sync, H: Host, S: Sink>(
         output.now options.now rows.now by_plan words.now (S.taken sink.old) (S.taken sink.new)) }
     ensures flushed { OnOk result (S.is_flushed sink.new ≡ true) }
 {
-    let mut kept = Kept::new(host.alloc());
-    if let Err(fault) = report(threads, host, options, rows, words, by_plan, &mut kept) {
-        return Err(kept_fault(fault));
+    let alloc = host.alloc();
+    let mut kept = Kept::new(alloc);
+    match report(threads, host, options, rows, words, by_plan, &mut kept) {
+        Ok(()) => {
+            let Ok(bytes) = converted(alloc, output, report_columns(rows), kept.text) else {
+                return Err(ToolError::Memory);
+            };
+            put(sink, &bytes)?;
+            Ok(())
+        }
+        Err(fault) => Err(kept_fault(fault)),
     }
-    let Ok(bytes) = converted(host.alloc(), output, report_columns(rows), kept.text) else {
-        return Err(ToolError::Memory);
-    };
-    put(sink, &bytes)?;
-    Ok(())
 }
 
 /// Answers the command line `asked`: reads the files that it names from `host`, calls the library
