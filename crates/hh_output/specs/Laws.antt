@@ -1,8 +1,8 @@
 -- What holds of rows in another form.
-use Rattle.std.specs.Prelude.{◌≡◌, ℕ, true, false, List, [], ◌∷◌, ◌++◌, codes, map}
+use Rattle.std.specs.Prelude.{◌≡◌, ◌<◌, ℕ, All, IsUtf8, true, false, List, [], ◌∷◌, ◌++◌, codes, map}
 use Rattle.std.specs.List.{flat_map}
 use Rattle.csv.specs.Writing.{default_writer, read_back, row_text}
-use Rattle.hh_output.specs.Json.{string_text}
+use Rattle.hh_output.specs.Json.{is_control, string_text}
 use Rattle.hh_output.specs.Outputs.{names_in, plain_output, row_in, rows_in}
 use Rattle.hh_output.specs.declared.output.Form.TheVariants as form
 use Rattle.hh_output.specs.declared.output.Output.{Output}
@@ -21,6 +21,15 @@ RowsAreConverted =
 -- equal strings are of equal fields, whether these are UTF-8 or not
 abbrev pub StringsTellFieldsApart : Type 0
 StringsTellFieldsApart = (f g : List ℕ) → string_text f ≡ string_text g → f ≡ g
+
+-- a string is UTF-8, also that of bytes that are not
+abbrev pub StringsAreUtf8 : Type 0
+StringsAreUtf8 = (f : List ℕ) → All (λ b. b < 256) f → IsUtf8 (string_text f)
+
+-- and it has no control character, so that it stands in one line
+abbrev pub StringsHaveNoControls : Type 0
+StringsHaveNoControls =
+    (f : List ℕ) → All (λ b. b < 256) f → All (λ b. is_control b ≡ false) (string_text f)
 
 -- the names of two columns, and two rows of them
 abbrev pub example_names : List (List ℕ)

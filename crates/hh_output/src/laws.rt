@@ -2,6 +2,7 @@
 
 ghost use Rattle.hh_output.specs.Laws.{ExampleRows, ExampleStrings};
 ghost use Rattle.hh_output.specs.Laws.{PlainRowsAreTheText, RowsAreConverted};
+ghost use Rattle.hh_output.specs.Laws.{StringsAreUtf8, StringsHaveNoControls};
 ghost use Rattle.hh_output.specs.Laws.{StringsTellFieldsApart};
 
 /// With the plain output the rows are the text as it is.
@@ -17,6 +18,16 @@ pub fn rows_are_converted()
 /// Equal strings are of equal fields, whether these are UTF-8 or not.
 pub fn strings_tell_fields_apart()
     ensures { StringsTellFieldsApart }
+{}
+
+/// A string is UTF-8, also that of bytes that are not.
+pub fn strings_are_utf8()
+    ensures { StringsAreUtf8 }
+{}
+
+/// It has no control character, so that it stands in one line.
+pub fn strings_have_no_controls()
+    ensures { StringsHaveNoControls }
 {}
 
 /// Two rows, in each form.
