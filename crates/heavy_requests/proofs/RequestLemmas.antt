@@ -1,11 +1,11 @@
 -- What the program's command line makes of words.
-use Rattle.std.proofs.Common.{◌≡◌, ◌∙◌, ℕ, Bool, true, false, List, map, Option, Some, None, ap, sym, refl, subst}
+use Rattle.std.proofs.Common.{◌≡◌, ◌∙◌, ℕ, Bool, true, false, List, map, IfErr, Option, Result, Ok, Err, Some, None, ap, sym, refl, subst}
 use Rattle.std.specs.Option.{option_map}
 use Rattle.clap.specs.Words.{App, HasMatchesOf, Text, is_simple, subcommand_of, subcommand_rows_of, takes}
 use Rattle.clap.specs.declared.parser.matches.ArgMatches.{ArgMatches}
 use Rattle.heavy_arguments.specs.CommandLine.{IsProgram}
-use Rattle.heavy_host.specs.Words.{word_of}
-use Rattle.heavy_requests.specs.Request.{MayRefuse}
+use Rattle.heavy_host.specs.Words.{AreAllWords, word_of}
+use Rattle.heavy_requests.specs.Request.{MayRefuse, MayRefuseFrom}
 use Rattle.heavy_requests.specs.declared.request.UsageError.{UsageError}
 use Rattle.heavy_requests.specs.declared.request.UsageError.TheVariants as usage
 
@@ -47,3 +47,10 @@ pub may_refuse : (words : List (List ℕ)) (program : App) (texts : List Text) (
 may_refuse words program texts usage.Memory it spelled only = tt
 may_refuse words program texts (usage.Reported report) it spelled only =
     (program, it, texts, spelled, not_true (takes program texts) (λ yes. let same = only yes in cc))
+
+-- words that are refused so are refused so as those of their source
+pub refused_from : {T : Type 0} (gives : ℕ → Option (List ℕ) → Type 0) (words : List (List ℕ)) (r : Result T UsageError)
+    → AreAllWords gives words → IfErr r (MayRefuse words) → IfErr r (MayRefuseFrom gives)
+refused_from gives words (Ok asked) all may = tt
+refused_from gives words (Err usage.Memory) all may = tt
+refused_from gives words (Err (usage.Reported report)) all may = (words, all, may)
