@@ -5,6 +5,9 @@ status, and words that are no text.
 usage: tests/command_line.py
 """
 import ast
+import csv
+import io
+import json
 import os
 import random
 import re
@@ -53,6 +56,18 @@ CONDENSED = [
     (b"\xef\xbb\xbf\xef\xbb\xbfa,%d", b"b\n\xef\xbb\xbfa,2\n", b'"\xef\xbb\xbfa",2\nothers,1\n'),
     (b"a,%d", b"a,9223372036854775807", b"a,9223372036854775807\n"),
 ]
+
+# Keys that the forms of rows write differently, by falling weight: as CSV has them, as TSV and as JSON. The byte order mark is
+# text of its key.
+FORMS = [
+    (b'"a,b"', b"a,b", b'"a,b"', 90), (b'"say ""hi"""', b'"say ""hi"""', rb'"say \"hi\""', 80),
+    (b"tab\there", b'"tab\there"', rb'"tab\u0009here"', 70), (b'"line\nfeed"', b'"line\nfeed"', rb'"line\u000afeed"', 60),
+    (b"\x01\x7f", b"\x01\x7f", rb'"\u0001\u007f"', 50), (b"back\\slash", b"back\\slash", rb'"back\\slash"', 45),
+    (b"\xc3\xa9\xf0\x9f\x98\x80", b"\xc3\xa9\xf0\x9f\x98\x80", b'"\xc3\xa9\xf0\x9f\x98\x80"', 40),
+    (b"\xc3\xa9\xffq", b"\xc3\xa9\xffq", rb'"\udcc3\udca9\udcffq"', 30),
+    (b"\xef\xbb\xbfmark", b"\xef\xbb\xbfmark", b'"\xef\xbb\xbfmark"', 20),
+]
+FORMS_RECORDS = b"".join(b"%s,%d\n" % (key, weight) for key, _, _, weight in FORMS)
 
 COMMANDS = ["report", "summarise", "table", "merge", "ask", "list", "describe", "condense", "confirm"]
 
@@ -1028,6 +1043,98 @@ class CommandLine(programs.Checks):
             self.tells(words, "", 3)
             self.refuses(words, f"file {number}: bad magic", 3)
 
+    def test_forms_of_keys(self) -> None:
+        """Keys of all kinds in each form, by hand; and what Python's readers of CSV and JSON read of them."""
+        every = ["report", "--k", "65535"]
+        self.expect(every, (0, FORMS_RECORDS, b""), FORMS_RECORDS)
+        self.expect([*every, "--output", "csv"], (0, FORMS_RECORDS, b""), FORMS_RECORDS)
+        tabs = b"".join(b"%s\t%d\n" % (key, weight) for _, key, _, weight in FORMS)
+        self.expect([*every, "--output=tsv"], (0, tabs, b""), FORMS_RECORDS)
+        objects = b"".join(b'{"key":%s,"weight":%d}\n' % (key, weight) for _, _, key, weight in FORMS)
+        self.expect([*every, "--output", "json"], (0, objects, b""), FORMS_RECORDS)
+        self.expect([*every, "--names"], (0, b"key,weight\n" + FORMS_RECORDS, b""), FORMS_RECORDS)
+        self.expect([*every, "--names", "--output", "tsv"], (0, b"key\tweight\n" + tabs, b""), FORMS_RECORDS)
+        self.expect([*every, "--names", "--output", "json"], (0, objects, b""), FORMS_RECORDS)
+
+        def by_csv(words: list[str], delimiter: str) -> list[tuple[bytes, int]]:
+            text = os.fsdecode(self.heavy([*every, *words], FORMS_RECORDS)[1])
+            rows = csv.reader(io.StringIO(text, newline=""), delimiter=delimiter)
+            return [(os.fsencode(key), int(weight)) for key, weight in rows]
+
+        lines = self.heavy([*every, "--output", "json"], FORMS_RECORDS)[1].decode().split("\n")
+        read = [(os.fsencode(it["key"]), it["weight"]) for it in map(json.loads, lines[:-1])]
+        self.check("each form has the same rows", by_csv([], ",") == by_csv(["--output", "tsv"], "\t") == read, read)
+
+    def test_forms_of_reports(self) -> None:
+        """Reports in each form: with shares, of decimals, the first rows, none, by a plan and of files."""
+        json_form = ["--output", "json"]
+        shared = b'{"key":"a","weight":6,"share":54.5454}\n{"key":"b","weight":3,"share":27.2727}\n'
+        self.expect(["report", "--k", "4", "--share", *json_form], (0, shared, b""))
+        tabs = b"key\tweight\tshare\na\t6\t54.5454\nb\t3\t27.2727\n"
+        self.expect(["report", "--k", "4", "--share", "--names", "--output", "tsv"], (0, tabs, b""))
+        self.expect(["report", "--k", "4", "--share", "--names", "-n1"], (0, b"key,weight,share\na,6,54.5454\n", b""))
+        self.expect(["report", "--names", "--top", "0"], (0, b"key,weight\n", b""))
+        self.expect(["report", "--names", "--share"], (0, b"key,weight,share\n", b""), b"")
+        self.expect(["report", "--names", "--output", "tsv"], (0, b"key\tweight\n", b""), b"")
+        self.expect(["report", *json_form], (0, b"", b""), b"")
+        decimals = b'{"key":"a","weight":92233720368547758.07}\n'
+        self.expect(["report", "--decimals", "2", *json_form], (0, decimals, b""), b"a,92233720368547758.07\n")
+        most = b'{"key":"a","weight":9223372036854775807}\n'
+        self.expect(["report", *json_form], (0, most, b""), b"a,9223372036854775807\n")
+        self.expect(["report", "--k", "2", "--tree", "chain", *json_form], (0, b'{"key":"a","weight":6}\n', b""))
+        Path(self.room, "day.csv").write_bytes(RECORDS)
+        twice = b'{"key":"a","weight":12}\n'
+        self.expect(["report", "--k", "2", *json_form, "day.csv", "day.csv"], (0, twice, b""))
+        self.expect(["report", "--k", "2", *json_form], (3, b"", b"heavy: record 2: zero weight\n"), b"a,5\nb,0\n")
+        self.refuses(["report", "--k", "0", *json_form], "k must be 1 to 65535")
+        with open("/dev/full", "wb") as full:
+            for words in (json_form, ["--names"], ["--output", "tsv"]):
+                ended = programs.run([self.program, "report", *words], RECORDS, stdout=full)
+                told = (ended.status, ended.err)
+                self.check(f"report {words} on a full device", told == (1, b"heavy: output could not be written\n"), told)
+
+    def test_forms_of_saved(self) -> None:
+        """The rows of the other commands in each form."""
+        self.save("day", ["summarise", "--k", "2"])
+        self.save("forms", ["summarise", "--k", "65535"], FORMS_RECORDS)
+        self.save("table", ["table", "--width", "2", "--depth", "1"])
+        self.save("mark", ["summarise", "--k", "2"], b"\xef\xbb\xbf\xef\xbb\xbfa,2\n")
+        forms = (["--names"], ["--names", "--output", "tsv"], ["--output", "json"])
+        for words, given, rows in [
+            (["ask", "day", "a", "z,"], RECORDS, [b'key,low,high\na,4,6\n"z,",0,2\n', b"key\tlow\thigh\na\t4\t6\nz,\t0\t2\n",
+                b'{"key":"a","low":4,"high":6}\n{"key":"z,","low":0,"high":2}\n']),
+            (["ask", "--decimals", "1", "day", "a"], RECORDS, [b"key,low,high\na,0.4,0.6\n", b"key\tlow\thigh\na\t0.4\t0.6\n",
+                b'{"key":"a","low":0.4,"high":0.6}\n']),
+            (["list", "day"], RECORDS, [b"key,low,high\na,4,6\nb,1,3\n", b"key\tlow\thigh\na\t4\t6\nb\t1\t3\n",
+                b'{"key":"a","low":4,"high":6}\n{"key":"b","low":1,"high":3}\n']),
+            (["list", "--decimals", "3", "mark"], RECORDS, [b"key,low,high\n\xef\xbb\xbfa,0.002,0.002\n",
+                b"key\tlow\thigh\n\xef\xbb\xbfa\t0.002\t0.002\n", b'{"key":"\xef\xbb\xbfa","low":0.002,"high":0.002}\n']),
+            (["condense", "day"], RECORDS, [b"key,weight\na,6\nb,3\nothers,2\n", b"key\tweight\na\t6\nb\t3\nothers\t2\n",
+                b'{"key":"a","weight":6}\n{"key":"b","weight":3}\n{"key":"others","weight":2}\n']),
+            (["condense", "--decimals", "1", "mark"], b"\xef\xbb\xbf\xef\xbb\xbfa,.2\n", [b'key,weight\n"\xef\xbb\xbfa",0.2\n',
+                b"key\tweight\n\xef\xbb\xbfa\t0.2\n", b'{"key":"\xef\xbb\xbfa","weight":0.2}\n']),
+            (["confirm", "day"], RECORDS, [b"key,weight\na,6\n", b"key\tweight\na\t6\n", b'{"key":"a","weight":6}\n']),
+            (["confirm", "--share", "-n1", "day"], RECORDS, [b"key,weight,share\na,6,54.5454\n", b"key\tweight\tshare\na\t6\t54.5454\n",
+                b'{"key":"a","weight":6,"share":54.5454}\n']),
+            (["describe", "table"], RECORDS, [b"name,value\nversion,2\nkind,table\ndepth,1\nwidth,2\ntotal,11\n",
+                b"name\tvalue\nversion\t2\nkind\ttable\ndepth\t1\nwidth\t2\ntotal\t11\n",
+                b'{"name":"version","value":2}\n{"name":"kind","value":"table"}\n{"name":"depth","value":1}\n'
+                b'{"name":"width","value":2}\n{"name":"total","value":11}\n']),
+        ]:
+            for form, expected in zip(forms, rows):
+                self.expect([words[0], *form, *words[1:]], (0, expected, b""), given)
+            plain = rows[0].split(b"\n", 1)[1]
+            self.expect(words, (0, plain, b""), given)
+            self.expect([words[0], "--output=csv", *words[1:]], (0, plain, b""), given)
+        found = self.heavy(["list", "--output", "json", "forms"])[1].decode().split("\n")[:-1]
+        keys = [os.fsencode(json.loads(line)["key"]) for line in found]
+        wanted = [key for (key,) in csv.reader(io.StringIO("".join(os.fsdecode(it[0]) + "\n" for it in FORMS), newline=""))]
+        self.check("list has the keys of all kinds", keys == [os.fsencode(key) for key in wanted], keys)
+        for command in ("summarise", "table"):
+            for word in ("--output", "--names"):
+                err = self.heavy([command, word])[2]
+                self.check(f"{command} {word}", err.startswith(f"error: unexpected argument '{word}' found".encode()), err)
+
     def test_kinds(self) -> None:
         """What clap says of each kind of fault."""
         other, missing = "unexpected argument '%s' found", "the following required arguments were not provided:"
@@ -1043,6 +1150,12 @@ class CommandLine(programs.Checks):
             (["report", "--k", "x"], "invalid value 'x' for '--k <N>'"),
             (["report", "--k", str(2**64)], f"invalid value '{2**64}' for '--k <N>'"),
             (["report", "--top", "x"], "invalid value 'x' for '--top <N>'"), (["table", "--share"], other % "--share"),
+            *((words, "invalid value 'xml' for '--output <FORM>'\n  [possible values: csv, tsv, json]\n") for words in [
+                ["report", "--output", "xml"], ["confirm", "--output=xml", "day"], ["condense", "--output=xml", "day"],
+                ["ask", "--output=xml", "day", "a"], ["list", "--output=xml", "day"], ["describe", "--output=xml", "day"]]),
+            (["list", "--output", "CSV", "day"], "invalid value 'CSV' for '--output <FORM>'"),
+            (["report", "--output"], "a value is required for '--output <FORM>' but none was supplied"),
+            (["merge", "--output", "csv", "day"], other % "--output"), (["merge", "--names", "day"], other % "--names"),
             (["report", "--share", "--share"], "the argument '--share' cannot be used multiple times"),
             (["report", "--k", "1", "--k", "2"], "the argument '--k <N>' cannot be used multiple times"),
             (["merge"], missing), (["ask", "file"], missing), (["condense"], missing), (["confirm"], missing),

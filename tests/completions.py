@@ -31,7 +31,7 @@ LONG = re.compile(r"--[a-z-]+")
 OPTION = re.compile(r"^ +(?:-(\w), )?--([a-z-]+)(?: <(\S+)>)?  +(.*)$", re.MULTILINE)
 NUMBERS = re.compile(r"from (\d+) to (\d+) \[default: (\d+)\]")
 # the values that an option's text names
-VALUES = {"method": "mg ss", "tree": "balanced chain"}
+VALUES = {"method": "mg ss", "output": "csv tsv json", "tree": "balanced chain"}
 # the options that may be given several times
 REPEATED = {"key"}
 # a shell, the words that start it on a terminal with no settings, and how it takes our completions there

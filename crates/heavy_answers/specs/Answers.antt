@@ -23,8 +23,9 @@ use Rattle.hh_commands.specs.Merge.{merged_files}
 use Rattle.hh_commands.specs.Records.{SavesStream}
 use Rattle.hh_commands.specs.declared.compared.Bounds.TheVariants as bounds
 use Rattle.hh_commands.specs.declared.compared.Outside.{Outside}
-use Rattle.hh_reports.specs.Report.{IsPrinted}
-use Rattle.hh_files.specs.ReportFiles.{IsPrintedOfFiles}
+use Rattle.hh_output.specs.declared.output.Output.{Output}
+use Rattle.hh_reports.specs.Report.{AreWritten, PrintsRows}
+use Rattle.hh_files.specs.ReportFiles.{PrintsFileRows}
 use Rattle.hh_files.specs.SummaryFiles.{SavesSummary}
 use Rattle.heavy_host.specs.Files.{AreRead}
 use Rattle.heavy_requests.specs.declared.request.Command.{Command}
@@ -33,6 +34,7 @@ use Rattle.heavy_requests.specs.declared.request.Invocation.{Invocation}
 use Rattle.heavy_requests.specs.declared.request.RecordWords.{RecordWords}
 use Rattle.heavy_requests.specs.declared.request.Request.{Request}
 use Rattle.heavy_requests.specs.declared.request.Request.TheVariants.{Report, Answer}
+use Rattle.heavy_answers.specs.Columns.{InForm, bytes_in, columns_of}
 use Rattle.heavy_answers.specs.Inputs.{AreRecords}
 use Rattle.heavy_answers.specs.declared.single_pass.SinglePass.{SinglePass}
 use Rattle.heavy_answers.specs.declared.single_pass.SinglePass.TheVariants as one
@@ -84,10 +86,11 @@ pub record ByPlan (by_plan : Bool) (Planned Tallied : Type 0) : Type 0 where
   pub planned : by_plan ≡ true → Planned
   pub tallied : by_plan ≡ false → Tallied
 
--- the report of the records was written: by the plan that was asked for, or by tallies
-abbrev pub PrintsReport : ReportOptions → RowOptions → Bool → Known → Option (List ℕ) → Option (List ℕ) → Type 0
-PrintsReport options rows by_plan known old new =
-    ByPlan by_plan (IsPrinted rows options known old new) (IsPrintedOfFiles rows options known old new)
+-- the report of the records was written in the form that is asked for: by the plan that was asked for, or by tallies
+abbrev pub PrintsReport : Output → ReportOptions → RowOptions → Bool → Known → Option (List ℕ) → Option (List ℕ) → Type 0
+PrintsReport output options rows by_plan known old new =
+    ByPlan by_plan (AreWritten options (InForm output rows (PrintsRows rows options known)) old new)
+    (AreWritten options (InForm output rows (PrintsFileRows rows options known)) old new)
 
 -- this holds of the saved file with this name
 abbrev pub OfSaved : (List ℕ → Option (List ℕ) → Type 0) → List ℕ → (List ℕ → Type 0) → Type 0
@@ -114,15 +117,18 @@ AnswersCommand gives opens (Confirm name share rows workers) words refuses outsi
     OfSaved gives name.items
     (λ file. OfRecords opens words (λ _ known. Confirms file share rows refuses outside known bytes))
 
--- the request was answered: what it asks for of the files that it names was written, and nothing else
-abbrev pub AnswersRequest : (List ℕ → Option (List ℕ) → Type 0) → (Bool → List ℕ → Option (List ℕ) → Type 0) → Request → RecordWords
-    → Bool → Option Outside → Option (List ℕ) → Option (List ℕ) → Type 0
-AnswersRequest gives opens (Report options rows by_plan) words refuses outside old new =
-    OfRecords opens words (λ _ known. PrintsReport options rows by_plan known old new)
-AnswersRequest gives opens (Answer command) words refuses outside old new =
-    (bytes : List ℕ) × AnswersCommand gives opens command words refuses outside bytes × Appends old new bytes
+-- the request was answered: what it asks for of the files that it names was written in the form that is asked for, and
+-- nothing else
+abbrev pub AnswersRequest : (List ℕ → Option (List ℕ) → Type 0) → (Bool → List ℕ → Option (List ℕ) → Type 0) → Output → Request
+    → RecordWords → Bool → Option Outside → Option (List ℕ) → Option (List ℕ) → Type 0
+AnswersRequest gives opens output (Report options rows by_plan) words refuses outside old new =
+    OfRecords opens words (λ _ known. PrintsReport output options rows by_plan known old new)
+AnswersRequest gives opens output (Answer command) words refuses outside old new =
+    (bytes : List ℕ) × AnswersCommand gives opens command words refuses outside bytes
+    × Appends old new (bytes_in output (columns_of command) bytes)
 
 -- what was asked for on the command line was answered so
 abbrev pub IsAnswered : (List ℕ → Option (List ℕ) → Type 0) → (Bool → List ℕ → Option (List ℕ) → Type 0) → Invocation
     → Bool → Option Outside → Option (List ℕ) → Option (List ℕ) → Type 0
-IsAnswered gives opens asked refuses outside old new = AnswersRequest gives opens asked.request asked.records refuses outside old new
+IsAnswered gives opens asked refuses outside old new =
+    AnswersRequest gives opens asked.output asked.request asked.records refuses outside old new

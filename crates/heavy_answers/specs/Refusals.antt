@@ -22,9 +22,10 @@ use Rattle.hh_commands.specs.Merge.{merged_files}
 use Rattle.hh_commands.specs.Summarise.{word_of}
 use Rattle.hh_commands.specs.declared.commands.summarise.Method.{Method}
 use Rattle.hh_commands.specs.declared.compared.Outside.{Outside}
-use Rattle.hh_reports.specs.Report.{PrintRefused, bad_option}
+use Rattle.hh_output.specs.declared.output.Output.{Output}
+use Rattle.hh_reports.specs.Report.{PrintsRows, WriteRefused, bad_option}
 use Rattle.hh_files.specs.FilePasses.{CondenseFilesRefused, ConfirmFilesRefused}
-use Rattle.hh_files.specs.ReportFiles.{FilesRefused}
+use Rattle.hh_files.specs.ReportFiles.{PrintsFileRows}
 use Rattle.hh_files.specs.SummaryFiles.{bad_summary_of_files}
 use Rattle.hh_files.specs.TableFiles.{bad_table_of_files}
 use Rattle.heavy_host.specs.Files.{AreRead}
@@ -35,6 +36,7 @@ use Rattle.heavy_requests.specs.declared.request.RecordWords.{RecordWords}
 use Rattle.heavy_requests.specs.declared.request.Request.{Request}
 use Rattle.heavy_requests.specs.declared.request.Request.TheVariants.{Report, Answer}
 use Rattle.heavy_answers.specs.Answers.{AnswersCommand, ByPlan, OfRecords}
+use Rattle.heavy_answers.specs.Columns.{InForm, bytes_in, columns_of}
 use Rattle.heavy_answers.specs.Inputs.{AreRecords, standard_name}
 use Rattle.heavy_answers.specs.declared.single_pass.SinglePass.{SinglePass}
 use Rattle.heavy_answers.specs.declared.single_pass.SinglePass.TheVariants as one
@@ -143,38 +145,46 @@ CommandFails gives opens unopened (Confirm name share rows workers) words refuse
     SavedFails gives name.items
     (λ file. ReadingFails opens unopened words 1 workers (ConfirmFails refuses share workers file)) e
 
--- a refusal of a command has written nothing, but where its answer could not be written: then a part of it
+-- a refusal of a command has written nothing, but where its answer could not be written: then a part of it. There may be no
+-- memory for the form that is asked for
 abbrev pub AnswerRefused : (List ℕ → Option (List ℕ) → Type 0) → (Bool → List ℕ → Option (List ℕ) → Type 0)
-    → (List ℕ → ℕ → ToolError → Type 0) → Command → RecordWords → Bool → Option Outside → Option (List ℕ) → Option (List ℕ)
+    → (List ℕ → ℕ → ToolError → Type 0) → Output → Command → RecordWords → Bool → Option Outside → Option (List ℕ) → Option (List ℕ)
     → ToolError → Type 0
-AnswerRefused gives opens unopened command words refuses outside old new e =
-    (CommandFails gives opens unopened command words refuses e × Keeps old new)
+AnswerRefused gives opens unopened output command words refuses outside old new e =
+    ((CommandFails gives opens unopened command words refuses e ⊎ (e ≡ tool.Memory)) × Keeps old new)
     ⊎ ((bytes : List ℕ) × (n : ℕ) × AnswersCommand gives opens command words refuses outside bytes
-    × TakesFirst old new bytes n × (e ≡ tool.WriteFault n))
+    × TakesFirst old new (bytes_in output (columns_of command) bytes) n × (e ≡ tool.WriteFault n))
 
--- the report of the records is refused as the library refuses it: by the plan that was asked for, or by tallies
-abbrev pub RowsFail : ReportOptions → RowOptions → Bool → Known → Option (List ℕ) → Option (List ℕ) → ToolError → Type 0
-RowsFail options rows by_plan known old new e =
-    ByPlan by_plan (PrintRefused rows options known old new e) (FilesRefused rows options known old new e)
+-- the report of the records is refused as the library refuses it, and where a write fails a part of it is written in the form
+-- that is asked for: by the plan that was asked for, or by tallies
+abbrev pub RowsFail : Output → ReportOptions → RowOptions → Bool → Known → Option (List ℕ) → Option (List ℕ) → ToolError → Type 0
+RowsFail output options rows by_plan known old new e =
+    ByPlan by_plan (WriteRefused options known (InForm output rows (PrintsRows rows options known)) old new e)
+    (WriteRefused options known (InForm output rows (PrintsFileRows rows options known)) old new e)
 
 -- the report is refused with nothing written: the records can't be had, or an option is refused; or the library refuses it
-abbrev pub ReportFails : (Bool → List ℕ → Option (List ℕ) → Type 0) → (List ℕ → ℕ → ToolError → Type 0) → ReportOptions → RowOptions
-    → Bool → RecordWords → Option (List ℕ) → Option (List ℕ) → ToolError → Type 0
-ReportFails opens unopened options rows by_plan words old new e =
+abbrev pub ReportFails : (Bool → List ℕ → Option (List ℕ) → Type 0) → (List ℕ → ℕ → ToolError → Type 0) → Output → ReportOptions
+    → RowOptions → Bool → RecordWords → Option (List ℕ) → Option (List ℕ) → ToolError → Type 0
+ReportFails opens unopened output options rows by_plan words old new e =
     ((OpenRefused unopened words 0 e ⊎ (bad_option options ≡ Some e)) × Keeps old new)
-    ⊎ OfRecords opens words (λ _ known. RowsFail options rows by_plan known old new e)
+    ⊎ OfRecords opens words (λ _ known. RowsFail output options rows by_plan known old new e)
 
 -- what was asked for is refused so
 abbrev pub RequestRefused : (List ℕ → Option (List ℕ) → Type 0) → (Bool → List ℕ → Option (List ℕ) → Type 0)
-    → (List ℕ → ℕ → ToolError → Type 0) → Request → RecordWords → Bool → Option Outside → Option (List ℕ) → Option (List ℕ)
+    → (List ℕ → ℕ → ToolError → Type 0) → Output → Request → RecordWords → Bool → Option Outside → Option (List ℕ) → Option (List ℕ)
     → ToolError → Type 0
-RequestRefused gives opens unopened (Report options rows by_plan) words refuses outside old new e =
-    ReportFails opens unopened options rows by_plan words old new e
-RequestRefused gives opens unopened (Answer command) words refuses outside old new e =
-    AnswerRefused gives opens unopened command words refuses outside old new e
+RequestRefused gives opens unopened output (Report options rows by_plan) words refuses outside old new e =
+    ReportFails opens unopened output options rows by_plan words old new e
+RequestRefused gives opens unopened output (Answer command) words refuses outside old new e =
+    AnswerRefused gives opens unopened output command words refuses outside old new e
 
 -- what was asked for on the command line is refused so
 abbrev pub IsRefused : (List ℕ → Option (List ℕ) → Type 0) → (Bool → List ℕ → Option (List ℕ) → Type 0)
     → (List ℕ → ℕ → ToolError → Type 0) → Invocation → Bool → Option Outside → Option (List ℕ) → Option (List ℕ) → ToolError → Type 0
 IsRefused gives opens unopened asked refuses outside old new e =
-    RequestRefused gives opens unopened asked.request asked.records refuses outside old new e
+    RequestRefused gives opens unopened asked.output asked.request asked.records refuses outside old new e
+
+-- the fault of rows that could not be kept in memory, and any other as it is
+abbrev pub kept_fault : ToolError → ToolError
+kept_fault (tool.WriteFault n) = tool.Memory
+kept_fault e = e

@@ -6,8 +6,12 @@ ghost use Rattle.hh_commands.specs.Merge.{merged_files};
 ghost use Rattle.heavy_answers.specs.Answers.{AnswersCommand, IsAnswered, MakesMerge, OfRecords};
 ghost use Rattle.heavy_answers.specs.Answers.{PrintsReport};
 ghost use Rattle.heavy_answers.specs.Refusals.{CommandFails, FilesFail, IsRefused, ReportFails};
+ghost use Rattle.heavy_answers.specs.Refusals.{kept_fault};
+ghost use Rattle.hh_output.specs.Outputs.{plain_output};
 
+use crate::columns::{bytes_in, is_plain, report_columns};
 use crate::host::Host;
+use crate::kept::Kept;
 use crate::opening::{into_kept, open, open_records};
 use crate::single_pass::{SinglePass, in_one_pass};
 use heavy_host::{ReadFailure, read_file, read_files};
@@ -15,6 +19,7 @@ use heavy_requests::{Command, Invocation, RecordWords, Request};
 use hh_commands::{Comparison, Method, ask_rows, describe_file, list_rows, merge_bytes};
 use hh_faults::ToolError;
 use hh_files::report_files;
+use hh_output::{Output, converted};
 use hh_reports::{check_options, report_rows};
 use hh_rows::{ReportOptions, RowOptions, Sink, put};
 use std::sync::Wait;
@@ -118,7 +123,7 @@ fn bytes_of<T: Threads + Wait + Sync, H: Host>(
     }
 }
 
-/// Writes the report of the records that `words` name to `sink`. All inputs are opened first, then
+/// Writes the report of the records that `words` name to `sink`, as CSV. All inputs are opened first, then
 /// the options are tested, and only then is anything read: a pipe, which can be read only once, is
 /// untouched when an option is refused. With `by_plan`, one thread reads the inputs once.
 fn report<T: Threads + Wait + Sync, H: Host, S: Sink>(
@@ -131,10 +136,11 @@ fn report<T: Threads + Wait + Sync, H: Host, S: Sink>(
     sink: &mut S,
 ) -> Result<(), ToolError>
     requires { S.has_failed sink.old ≡ false }
-    ensures made { OnOk result (OfRecords (H.opens host.now) words.now (λ _ known.
-        PrintsReport options.now rows.now by_plan known (S.taken sink.old) (S.taken sink.new))) }
+    ensures made { OnOk result (OfRecords (H.opens host.now) words.now (λ _ known. PrintsReport plain_output
+        options.now rows.now by_plan known (S.taken sink.old) (S.taken sink.new))) }
     ensures refused { IfErr result (ReportFails (H.opens host.now) (H.unopened host.now)
-        options.now rows.now by_plan words.now (S.taken sink.old) (S.taken sink.new)) }
+        plain_output options.now rows.now by_plan words.now (S.taken sink.old)
+        (S.taken sink.new)) }
     ensures flushed { OnOk result (S.is_flushed sink.new ≡ true) }
 {
     let alloc = host.alloc();
@@ -148,6 +154,49 @@ fn report<T: Threads + Wait + Sync, H: Host, S: Sink>(
     report_files(threads, alloc, options, rows, files.records(), sink)?;
     files.note_last_record(host);
     Ok(())
+}
+
+/// Gives the fault of rows that could not be kept in memory, and any other `fault` as it is.
+fn kept_fault(fault: ToolError) -> ToolError
+    ensures { result ≡ kept_fault fault }
+{
+    match fault {
+        ToolError::WriteFault { .. } => ToolError::Memory,
+        _ => fault,
+    }
+}
+
+/// Makes the report of the records that `words` name whole, and writes it to `sink` in the form that
+/// `output` asks for.
+fn converted_report<T: Threads + Wait + Sync, H: Host, S: Sink>(
+    threads: &T,
+    host: &H,
+    output: &Output,
+    options: &ReportOptions,
+    rows: &RowOptions,
+    words: &RecordWords,
+    by_plan: bool,
+    sink: &mut S,
+) -> Result<(), ToolError>
+    requires { S.has_failed sink.old ≡ false }
+    ensures made { OnOk result (OfRecords (H.opens host.now) words.now (λ _ known. PrintsReport
+        output.now options.now rows.now by_plan known (S.taken sink.old) (S.taken sink.new))) }
+    ensures refused { IfErr result (ReportFails (H.opens host.now) (H.unopened host.now)
+        output.now options.now rows.now by_plan words.now (S.taken sink.old) (S.taken sink.new)) }
+    ensures flushed { OnOk result (S.is_flushed sink.new ≡ true) }
+{
+    let alloc = host.alloc();
+    let mut kept = Kept::new(alloc);
+    match report(threads, host, options, rows, words, by_plan, &mut kept) {
+        Ok(()) => {
+            let Ok(bytes) = converted(alloc, output, report_columns(rows), kept.text) else {
+                return Err(ToolError::Memory);
+            };
+            put(sink, &bytes)?;
+            Ok(())
+        }
+        Err(fault) => Err(kept_fault(fault)),
+    }
 }
 
 /// Answers the command line `asked`: reads the files that it names from `host`, calls the library
@@ -174,9 +223,17 @@ pub fn answer<T: Threads + Wait + Sync, H: Host, S: Sink>(
             options,
             rows,
             by_plan,
-        } => report(threads, host, options, rows, &asked.records, *by_plan, sink),
+        } => {
+            let (output, words) = (&asked.output, &asked.records);
+            if is_plain(output) {
+                report(threads, host, options, rows, words, *by_plan, sink)
+            } else {
+                converted_report(threads, host, output, options, rows, words, *by_plan, sink)
+            }
+        }
         Request::Answer(command) => {
             let bytes = bytes_of(threads, host, command, &asked.records, compared)?;
+            let bytes = bytes_in(host.alloc(), &asked.output, command, bytes)?;
             put(sink, &bytes)?;
             Ok(())
         }

@@ -3,7 +3,9 @@
 #![tactic(auto)]
 
 mod answering;
+mod columns;
 mod host;
+mod kept;
 mod opening;
 mod single_pass;
 

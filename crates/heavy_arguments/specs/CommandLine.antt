@@ -1,17 +1,22 @@
 -- What `clap` reads of the program's command line: each command with its arguments, each argument
 -- with its name and how it is given.
-use Rattle.std.specs.Prelude.{ℕ, pos, true, false, List, [], ◌∷◌, ◌++◌, Some, codes, map, flat_map, fold}
+use Rattle.std.specs.Prelude.{ℕ, ◌≡◌, pos, true, List, [], ◌∷◌, ◌++◌, Some, codes, map, flat_map, fold}
+use Rattle.std.specs.Borrow.{Bor}
 use Rattle.clap.specs.Lexer.{usize_max}
 use Rattle.clap.specs.Walk.{Rule, Text}
 use Rattle.clap.specs.Simple.{App, Shape, new_rule, new_shape, on_top, with_subcommand}
 use Rattle.clap.specs.declared.builder.action.ArgAction.TheVariants.{Append, SetTrue}
-use Rattle.clap.specs.declared.builder.value_parser.ValueParser.TheVariants.{Signed, Unsigned}
+use Rattle.clap.specs.declared.builder.value_parser.ValueParser.TheVariants.{Names, Signed, Unsigned}
 use Rattle.heavy_arguments.specs.declared.options.Argument.{Argument}
 use Rattle.heavy_arguments.specs.declared.options.Argument.TheVariants as argument
 use Rattle.heavy_arguments.specs.declared.options.Kind.{Kind}
 use Rattle.heavy_arguments.specs.declared.options.Kind.TheVariants as kind
 use Rattle.heavy_arguments.specs.declared.arguments.Group.{Group}
 use Rattle.heavy_arguments.specs.declared.arguments.CommandWords.{CommandWords}
+
+-- words, where they lie in memory
+abbrev pub Words : Type 0
+Words = Bor (List (Bor Text))
 
 -- ---- arguments
 
@@ -26,6 +31,10 @@ number name = record (option name) { parser = Some (Unsigned 0 18446744073709551
 -- the same, from 0 to 9
 abbrev pub digit : Text → Rule
 digit name = record (option name) { parser = Some (Signed (pos 0) (pos 9)) }
+
+-- the same, of which the value is one of these words
+abbrev pub one_of : Words → Text → Rule
+one_of words name = record (option name) { parser = Some (Names words) }
 
 -- `--NAME VALUE`, any number of times
 abbrev pub options : Text → Rule
@@ -51,30 +60,31 @@ words name = record (new_rule name) {
 abbrev pub some_words : Text → Rule
 some_words name = record (words name) { required = true }
 
-abbrev pub rule_of_kind : Kind → Text → Rule
-rule_of_kind kind.Number name = number name
-rule_of_kind kind.Digit name = digit name
-rule_of_kind (kind.Text value) name = option name
-rule_of_kind kind.Byte name = option name
-rule_of_kind kind.Columns name = options name
-rule_of_kind kind.Share name = option name
-rule_of_kind kind.Flag name = flag name
-rule_of_kind kind.LastFlag name = flag name
-rule_of_kind kind.Word name = word name
-rule_of_kind kind.Words name = some_words name
-rule_of_kind kind.Files name = words name
+abbrev pub rule_of_kind : Words → Kind → Text → Rule
+rule_of_kind forms kind.Number name = number name
+rule_of_kind forms kind.Digit name = digit name
+rule_of_kind forms (kind.Text value) name = option name
+rule_of_kind forms kind.Byte name = option name
+rule_of_kind forms kind.Columns name = options name
+rule_of_kind forms kind.Share name = option name
+rule_of_kind forms kind.Form name = one_of forms name
+rule_of_kind forms kind.Flag name = flag name
+rule_of_kind forms kind.LastFlag name = flag name
+rule_of_kind forms kind.Word name = word name
+rule_of_kind forms kind.Words name = some_words name
+rule_of_kind forms kind.Files name = words name
 
 -- an option that this letter after one hyphen gives too
 abbrev pub with_letter : ℕ → Rule → Rule
 with_letter letter rule = record rule { short = Some letter }
 
-abbrev pub rule_of_argument : Argument → Rule
-rule_of_argument (argument.Number it) = number it.name.now
-rule_of_argument (argument.Given kind name help) = rule_of_kind kind name.now
-rule_of_argument (argument.Short letter kind name help) = with_letter letter (rule_of_kind kind name.now)
+abbrev pub rule_of_argument : Words → Argument → Rule
+rule_of_argument forms (argument.Number it) = number it.name.now
+rule_of_argument forms (argument.Given kind name help) = rule_of_kind forms kind name.now
+rule_of_argument forms (argument.Short letter kind name help) = with_letter letter (rule_of_kind forms kind name.now)
 
-abbrev pub argument_rules : List Argument → List Rule
-argument_rules = map rule_of_argument
+abbrev pub argument_rules : Words → List Argument → List Rule
+argument_rules forms = map (rule_of_argument forms)
 
 -- ---- commands
 
@@ -82,14 +92,14 @@ argument_rules = map rule_of_argument
 abbrev pub with_rules : App → List Rule → App
 with_rules app rules = on_top (λ s. record s { rules = s.rules ++ rules }) app
 
-abbrev pub rules_of_group : Group → List Rule
-rules_of_group it = argument_rules it.arguments.now
+abbrev pub rules_of_group : Words → Group → List Rule
+rules_of_group forms it = argument_rules forms it.arguments.now
 
-abbrev pub rules_of_words : CommandWords → List Rule
-rules_of_words it = argument_rules it.arguments.now ++ flat_map rules_of_group it.groups.now
+abbrev pub rules_of_words : Words → CommandWords → List Rule
+rules_of_words forms it = argument_rules forms it.arguments.now ++ flat_map (rules_of_group forms) it.groups.now
 
-abbrev pub shape_of_words : CommandWords → Shape
-shape_of_words it = record (new_shape it.name.now) { rules = rules_of_words it }
+abbrev pub shape_of_words : Words → CommandWords → Shape
+shape_of_words forms it = record (new_shape it.name.now) { rules = rules_of_words forms it }
 
 -- the program before it has commands
 abbrev pub bare_program : App
@@ -114,9 +124,13 @@ abbrev pub columns : List Rule
 columns = with_letter 100 (option (codes "delimiter")) ∷ with_letter 72 (flag (codes "header")) ∷ options (codes "key")
     ∷ option (codes "weight") ∷ flag (codes "allow-zero") ∷ digit (codes "decimals") ∷ []
 
+-- the form in which rows are printed
+abbrev pub output : Words → List Rule
+output forms = one_of forms (codes "output") ∷ flag (codes "names") ∷ []
+
 -- the rows that are printed; `-t` and `-n` are letters of two
-abbrev pub rows : List Rule
-rows = with_letter 116 (option (codes "threshold")) ∷ with_letter 110 (number (codes "top")) ∷ flag (codes "share") ∷ []
+abbrev pub rows : Words → List Rule
+rows forms = with_letter 116 (option (codes "threshold")) ∷ with_letter 110 (number (codes "top")) ∷ flag (codes "share") ∷ output forms
 
 -- the number of counters, by `-k` too
 abbrev pub counters : Rule
@@ -135,19 +149,29 @@ records = words (codes "RECORDS")
 abbrev pub saved : Rule
 saved = word (codes "FILE")
 
--- the command line of the program
-abbrev pub program_app : App
-program_app = program_of (
-    command (codes "report") (reading ++ counters ∷ rows ++ records ∷ columns
+-- the command line of the program, which prints rows in one of these forms
+abbrev pub program_app : Words → App
+program_app forms = program_of (
+    command (codes "report") (reading ++ counters ∷ rows forms ++ records ∷ columns
     ++ workers ∷ number (codes "memory") ∷ number (codes "pieces") ∷ option (codes "tree") ∷ grid)
     ∷ command (codes "summarise")
     (reading ++ counters ∷ option (codes "method") ∷ workers ∷ records ∷ columns)
     ∷ command (codes "table") (reading ++ grid ++ workers ∷ records ∷ columns)
     ∷ command (codes "merge") (flag (codes "explain") ∷ some_words (codes "FILE") ∷ [])
-    ∷ command (codes "ask") (flag (codes "explain") ∷ digit (codes "decimals") ∷ saved
+    ∷ command (codes "ask") (flag (codes "explain") ∷ digit (codes "decimals") ∷ output forms ++ saved
     ∷ some_words (codes "KEY") ∷ [])
-    ∷ command (codes "list") (flag (codes "explain") ∷ digit (codes "decimals") ∷ saved ∷ [])
-    ∷ command (codes "describe") (flag (codes "explain") ∷ saved ∷ [])
-    ∷ command (codes "condense") (reading ++ workers ∷ saved ∷ records ∷ columns)
-    ∷ command (codes "confirm") (reading ++ rows ++ workers ∷ saved ∷ records ∷ columns)
+    ∷ command (codes "list") (flag (codes "explain") ∷ digit (codes "decimals") ∷ output forms ++ saved ∷ [])
+    ∷ command (codes "describe") (flag (codes "explain") ∷ output forms ++ saved ∷ [])
+    ∷ command (codes "condense") (reading ++ output forms ++ workers ∷ saved ∷ records ∷ columns)
+    ∷ command (codes "confirm") (reading ++ rows forms ++ workers ∷ saved ∷ records ∷ columns)
     ∷ [])
+
+-- these are the names of the forms
+abbrev pub AreForms : Words → Type 0
+AreForms forms = map (λ form. form.now) forms.now ≡ codes "csv" ∷ codes "tsv" ∷ codes "json" ∷ []
+
+-- the command line of the program, wherever the names of the forms lie
+pub record IsProgram (app : App) : Type 0 where
+  pub forms : Words
+  pub named : AreForms forms
+  pub is : app ≡ program_app forms

@@ -5,14 +5,14 @@ ghost use Rattle.clap.specs.declared.builder.command.Command.TheViews.{out-Comma
 ghost use Rattle.clap.specs.Words.{found_of};
 ghost use Rattle.clap.specs.Simple.{app_of, new_app, with_subcommand};
 ghost use Rattle.heavy_arguments.specs.Commands.{HasNoGlobals, IsApp};
-ghost use Rattle.heavy_arguments.specs.CommandLine.{bare_program, program_app, argument_rules};
+ghost use Rattle.heavy_arguments.specs.CommandLine.{AreForms, IsProgram, bare_program, argument_rules};
 ghost use Rattle.heavy_arguments.specs.CommandLine.{shape_of_words, with_rules};
 ghost use Rattle.heavy_arguments.specs.Numbers.{IsNumberOf};
 
 use crate::help::{
     ASK, CONDENSE, CONFIRM, DESCRIBE, Help, LIST, MERGE, PROGRAM, REPORT, SUMMARISE, TABLE,
 };
-use crate::options::{Argument, Kind};
+use crate::options::{Argument, Forms, Kind};
 use clap::{ArgMatches, Command};
 use std::alloc::{AllocError, Global};
 
@@ -30,6 +30,12 @@ pub const TOP: &str = "top";
 
 /// The option that adds shares of the total to rows.
 pub const SHARE: &str = "share";
+
+/// The option that says in which form rows are printed.
+pub const OUTPUT: &str = "output";
+
+/// The option that adds a first row with the names of the columns.
+pub const NAMES: &str = "names";
 
 /// The words that name files of records.
 pub const RECORDS: &str = "RECORDS";
@@ -167,6 +173,20 @@ const SHARE_FLAG: Argument = Argument::Given(
     "Print in a third column the weight's share of the total in percent, rounded down",
 );
 
+/// The option that says in which form rows are printed.
+const OUTPUT_FORM: Argument = Argument::Given(
+    Kind::Form,
+    OUTPUT,
+    "Print rows as csv, tsv or json, an object a line [default: csv]",
+);
+
+/// The option that adds a first row with the names of the columns.
+const NAMES_FLAG: Argument = Argument::Given(
+    Kind::Flag,
+    NAMES,
+    "Print a first row with the columns' names",
+);
+
 /// The option with the share above which keys are heavy.
 const THRESHOLD: Argument = Argument::Short(
     't',
@@ -259,13 +279,15 @@ const MEANS_ARGUMENTS: [Argument; 7] = [
     Argument::Number(SEED),
 ];
 
-const REPORT_ARGUMENTS: [Argument; 7] = [
+const REPORT_ARGUMENTS: [Argument; 9] = [
     EXPLAIN_FLAG,
     PROGRESS_FLAG,
     COUNTERS,
     THRESHOLD,
     TOP_ROWS,
     SHARE_FLAG,
+    OUTPUT_FORM,
+    NAMES_FLAG,
     RECORD_FILES,
 ];
 
@@ -303,31 +325,43 @@ const MERGE_ARGUMENTS: [Argument; 2] = [
     Argument::Given(Kind::Words, "FILE", "A saved file"),
 ];
 
-const ASK_ARGUMENTS: [Argument; 4] = [
+const ASK_ARGUMENTS: [Argument; 6] = [
     EXPLAIN_FLAG,
     PRINTED_DECIMALS,
+    OUTPUT_FORM,
+    NAMES_FLAG,
     SAVED_FILE,
     Argument::Given(Kind::Words, "KEY", "A key"),
 ];
 
-const LIST_ARGUMENTS: [Argument; 3] = [EXPLAIN_FLAG, PRINTED_DECIMALS, SAVED_SUMMARY];
+const LIST_ARGUMENTS: [Argument; 5] = [
+    EXPLAIN_FLAG,
+    PRINTED_DECIMALS,
+    OUTPUT_FORM,
+    NAMES_FLAG,
+    SAVED_SUMMARY,
+];
 
-const DESCRIBE_ARGUMENTS: [Argument; 2] = [EXPLAIN_FLAG, SAVED_FILE];
+const DESCRIBE_ARGUMENTS: [Argument; 4] = [EXPLAIN_FLAG, OUTPUT_FORM, NAMES_FLAG, SAVED_FILE];
 
-const CONDENSE_ARGUMENTS: [Argument; 5] = [
+const CONDENSE_ARGUMENTS: [Argument; 7] = [
     EXPLAIN_FLAG,
     PROGRESS_FLAG,
+    OUTPUT_FORM,
+    NAMES_FLAG,
     Argument::Number(WORKERS),
     SAVED_SUMMARY,
     RECORD_FILES,
 ];
 
-const CONFIRM_ARGUMENTS: [Argument; 8] = [
+const CONFIRM_ARGUMENTS: [Argument; 10] = [
     EXPLAIN_FLAG,
     PROGRESS_FLAG,
     THRESHOLD,
     TOP_ROWS,
     SHARE_FLAG,
+    OUTPUT_FORM,
+    NAMES_FLAG,
     Argument::Number(WORKERS),
     SAVED_SUMMARY,
     RECORD_FILES,
@@ -411,29 +445,36 @@ fn described<'a>(alloc: Global, name: &'a str, help: &Help) -> Command<'a>
         .after_long_help(help.end)
 }
 
-/// Adds `arguments` to `command`.
-fn with<'a>(alloc: Global, mut command: Command<'a>, arguments: &[Argument]) -> Built<'a>
+/// Adds `arguments` to `command`. Rows are printed in the `forms`.
+fn with<'a>(
+    alloc: Global,
+    mut command: Command<'a>,
+    forms: Forms<'a>,
+    arguments: &[Argument],
+) -> Built<'a>
     requires { (fields_of command).has_globals ≡ false }
-    ensures app { IsApp (with_rules (app_of command.entry) (argument_rules arguments.now)) result }
+    ensures app { IsApp (with_rules (app_of command.entry)
+        (argument_rules forms.entry.names arguments.now)) result }
     ensures globals { HasNoGlobals result }
 {
     for argument in arguments {
-        command = command.arg(argument.to_arg(alloc))?;
+        command = command.arg(argument.to_arg(alloc, forms))?;
     }
     Ok(command)
 }
 
-/// The command of these words.
-fn command_of<'a>(alloc: Global, words: &CommandWords) -> Built<'a>
-    ensures app { IsApp (record { top = shape_of_words words.now; subs = [] }) result }
+/// The command of these words, which prints rows in the `forms`.
+fn command_of<'a>(alloc: Global, forms: Forms<'a>, words: &CommandWords) -> Built<'a>
+    ensures app { IsApp (record { top = shape_of_words forms.entry.names words.now; subs = [] }) result }
     ensures globals { HasNoGlobals result }
 {
     let command = described(alloc, words.name, words.help).after_help(DASHES);
-    let mut command = with(alloc, command, words.arguments)?;
+    let mut command = with(alloc, command, forms, words.arguments)?;
     for group in words.groups {
         command = with(
             alloc,
             command.next_help_heading(group.heading),
+            forms,
             group.arguments,
         )?;
     }
@@ -450,25 +491,39 @@ fn program<'a>(alloc: Global) -> Built<'a>
         .bin_name("heavy")
 }
 
-/// Adds commands of its own to a command.
-fn with_commands<'a>(alloc: Global, mut all: Command<'a>, commands: &[CommandWords]) -> Built<'a>
+/// Adds commands of its own to a command. They print rows in the `forms`.
+fn with_commands<'a>(
+    alloc: Global,
+    mut all: Command<'a>,
+    forms: Forms<'a>,
+    commands: &[CommandWords],
+) -> Built<'a>
     requires { (fields_of all).has_globals ≡ false }
     ensures app { IsApp (fold with_subcommand (app_of all.entry)
-        (map shape_of_words commands.now)) result }
+        (map (shape_of_words forms.entry.names) commands.now)) result }
     ensures globals { HasNoGlobals result }
 {
     for words in commands {
-        all = all.subcommand(command_of(alloc, words)?)?;
+        all = all.subcommand(command_of(alloc, forms, words)?)?;
     }
     Ok(all)
 }
 
+/// The forms in which rows are printed.
+fn all_forms<'a>() -> Forms<'a>
+    ensures { AreForms result.names }
+{
+    Forms {
+        names: &["csv", "tsv", "json"],
+    }
+}
+
 /// The command line that the program reads.
 pub fn command_line<'a>(alloc: Global) -> Result<Command<'a>, AllocError>
-    ensures app { IsApp program_app result }
+    ensures app { IfOk result (λ c. IsProgram (app_of c)) }
     ensures globals { HasNoGlobals result }
     ensures required { IfOk result (λ c. (fields_of c).subcommand_required ≡ true) }
 {
-    let all = with_commands(alloc, program(alloc)?, &COMMANDS)?;
+    let all = with_commands(alloc, program(alloc)?, all_forms(), &COMMANDS)?;
     Ok(all.subcommand_required(true))
 }

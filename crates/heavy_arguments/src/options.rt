@@ -18,6 +18,12 @@ const LAST: usize = 100;
 const SHARE_HELP: &str = "Keys above this share of the total weight are heavy, from 1/(k+1) to 1/1,
 with P and Q up to 4294967296; k is the number of counters [default: 1/(k+1)]";
 
+/// The forms in which rows are printed.
+#[derive(Clone, Copy)]
+pub(crate) struct Forms<'a> {
+    pub(crate) names: &'a [&'a str],
+}
+
 /// How an argument is given.
 #[derive(Clone, Copy)]
 pub(crate) enum Kind {
@@ -33,6 +39,8 @@ pub(crate) enum Kind {
     Columns,
     /// An option with a share of the total.
     Share,
+    /// An option with the form in which rows are printed.
+    Form,
     /// An option that is given or not.
     Flag,
     /// A flag that help lists after the command's own options.
@@ -96,9 +104,9 @@ fn flag<'a>(alloc: Global, name: &'a str, help: &'a str) -> Arg<'a>
 }
 
 impl Kind {
-    /// Makes the argument with this name and help for `clap`.
-    fn to_arg<'a>(self, alloc: Global, name: &'a str, help: &'a str) -> Arg<'a>
-        ensures rule { rule_of result ≡ rule_of_kind self name.now }
+    /// Makes the argument with this name and help for `clap`. Rows are printed in the `forms`.
+    fn to_arg<'a>(self, alloc: Global, forms: Forms<'a>, name: &'a str, help: &'a str) -> Arg<'a>
+        ensures rule { rule_of result ≡ rule_of_kind forms.entry.names self name.now }
         ensures local { result.global ≡ false }
     {
         match self {
@@ -110,6 +118,9 @@ impl Kind {
             Kind::Byte => option(alloc, name, "BYTE", help),
             Kind::Columns => option(alloc, name, "COLUMN", help).action(ArgAction::Append),
             Kind::Share => option(alloc, name, "P/Q", help).long_help(SHARE_HELP),
+            Kind::Form => option(alloc, name, "FORM", help)
+                .value_parser(forms.names)
+                .hide_possible_values(true),
             Kind::Flag => flag(alloc, name, help),
             Kind::LastFlag => flag(alloc, name, help).display_order(LAST),
             Kind::Word => word(alloc, name, name, help).required(true),
@@ -120,16 +131,16 @@ impl Kind {
 }
 
 impl Argument {
-    /// Makes the argument for `clap`.
-    pub(crate) fn to_arg<'a>(self, alloc: Global) -> Arg<'a>
-        ensures rule { rule_of result ≡ rule_of_argument self }
+    /// Makes the argument for `clap`. Rows are printed in the `forms`.
+    pub(crate) fn to_arg<'a>(self, alloc: Global, forms: Forms<'a>) -> Arg<'a>
+        ensures rule { rule_of result ≡ rule_of_argument forms.entry.names self }
         ensures local { result.global ≡ false }
     {
         match self {
-            Argument::Number(it) => Kind::Number.to_arg(alloc, it.name, it.help),
-            Argument::Given(kind, name, help) => kind.to_arg(alloc, name, help),
+            Argument::Number(it) => Kind::Number.to_arg(alloc, forms, it.name, it.help),
+            Argument::Given(kind, name, help) => kind.to_arg(alloc, forms, name, help),
             Argument::Short(letter, kind, name, help) => {
-                kind.to_arg(alloc, name, help).short(letter)
+                kind.to_arg(alloc, forms, name, help).short(letter)
             }
         }
     }

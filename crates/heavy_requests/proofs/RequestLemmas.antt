@@ -1,24 +1,22 @@
 -- What the program's command line makes of words.
-use Rattle.std.proofs.Common.{◌≡◌, ◌∙◌, ℕ, Bool, true, false, List, map, Option, Some, None, ap, sym, refl, subst}
+use Rattle.std.proofs.Common.{◌≡◌, ◌∙◌, ℕ, Bool, true, false, List, map, IfErr, Option, Result, Ok, Err, Some, None, ap, sym, refl, subst}
 use Rattle.std.specs.Option.{option_map}
 use Rattle.clap.specs.Words.{App, HasMatchesOf, Text, is_simple, subcommand_of, subcommand_rows_of, takes}
 use Rattle.clap.specs.declared.parser.matches.ArgMatches.{ArgMatches}
-use Rattle.heavy_arguments.specs.CommandLine.{program_app}
-use Rattle.heavy_host.specs.Words.{word_of}
-use Rattle.heavy_requests.specs.Request.{MayRefuse}
+use Rattle.heavy_arguments.specs.CommandLine.{IsProgram}
+use Rattle.heavy_host.specs.Words.{AreAllWords, word_of}
+use Rattle.heavy_requests.specs.Request.{MayRefuse, MayRefuseFrom}
 use Rattle.heavy_requests.specs.declared.request.UsageError.{UsageError}
 use Rattle.heavy_requests.specs.declared.request.UsageError.TheVariants as usage
 
 -- `clap` says exactly what it finds by the program's command line
-program_is_simple : is_simple program_app ≡ true
-program_is_simple = refl
+program_is_simple : (app : App) → IsProgram app → is_simple app ≡ true
+program_is_simple app it = subst (λ (a : App). is_simple a ≡ true) (sym it.is) refl
 
 -- the command that a parse by the program's command line met is the one that the texts name
-pub found_by_program : (app : App) (texts : List Text) (m : ArgMatches) → app ≡ program_app → HasMatchesOf app texts m
-    → subcommand_of program_app texts ≡ subcommand_rows_of m
-found_by_program app texts m is found =
-    let exact = subst (λ (a : App). HasMatchesOf a texts m) is found in
-    sym (exact program_is_simple).1
+pub found_by_program : (app : App) (texts : List Text) (m : ArgMatches) → IsProgram app → HasMatchesOf app texts m
+    → subcommand_of app texts ≡ subcommand_rows_of m
+found_by_program app texts m it found = sym (found (program_is_simple app it)).1
 
 -- a pair with these parts
 pair_same : {N R : Type 0} (p : N × R) (n : N) (r : R) → n ≡ p.0 → r ≡ p.1 → p ≡ (n, r)
@@ -44,8 +42,15 @@ not_true true isnt = absurd (isnt refl)
 not_true false isnt = refl
 
 -- words are refused so where only memory refuses those that the command line takes
-pub may_refuse : (words : List (List ℕ)) (texts : List Text) (fault : UsageError) → map word_of texts ≡ words
-    → (takes program_app texts ≡ true → fault ≡ usage.Memory) → MayRefuse words fault
-may_refuse words texts usage.Memory spelled only = tt
-may_refuse words texts (usage.Reported report) spelled only =
-    (texts, spelled, not_true (takes program_app texts) (λ yes. let same = only yes in cc))
+pub may_refuse : (words : List (List ℕ)) (program : App) (texts : List Text) (fault : UsageError) → IsProgram program
+    → map word_of texts ≡ words → (takes program texts ≡ true → fault ≡ usage.Memory) → MayRefuse words fault
+may_refuse words program texts usage.Memory it spelled only = tt
+may_refuse words program texts (usage.Reported report) it spelled only =
+    (program, it, texts, spelled, not_true (takes program texts) (λ yes. let same = only yes in cc))
+
+-- words that are refused so are refused so as those of their source
+pub refused_from : {T : Type 0} (gives : ℕ → Option (List ℕ) → Type 0) (words : List (List ℕ)) (r : Result T UsageError)
+    → AreAllWords gives words → IfErr r (MayRefuse words) → IfErr r (MayRefuseFrom gives)
+refused_from gives words (Ok asked) all may = tt
+refused_from gives words (Err usage.Memory) all may = tt
+refused_from gives words (Err (usage.Reported report)) all may = (words, all, may)

@@ -2,7 +2,7 @@
 use Rattle.std.specs.Prelude.{ℕ, ◌≡◌, ◌≢◌, ◌<◌, ◌^◌, ◌==◌, ◌||◌, Bool, is_some, ⊤, true, false, List, [], Option, Some, None, codes, map, drop, option_map, unwrap_or, if◌then◌else◌}
 use Rattle.std.specs.List.{flat_map, list_any, slice_split}
 use Rattle.std.specs.Str.Parse.{IsNumeral, without_leading_plus}
-use Rattle.clap.specs.Words.{Text, first_value, matched_of, one_text, raw_values, rows_of, subcommand_of, takes}
+use Rattle.clap.specs.Words.{App, Text, first_value, matched_of, one_text, raw_values, rows_of, subcommand_of, takes}
 use Rattle.clap.specs.declared.parser.matches.Found.{Found}
 use Rattle.hh_rows.specs.declared.report_options.ReportOptions.{ReportOptions}
 use Rattle.hh_rows.specs.declared.report_options.Tree.{Tree}
@@ -10,7 +10,10 @@ use Rattle.hh_rows.specs.declared.report_options.Tree.TheVariants as shape
 use Rattle.hh_rows.specs.declared.printed.RowOptions.{RowOptions}
 use Rattle.hh_rows.specs.declared.threshold.Share.{Share}
 use Rattle.hh_rows.specs.declared.threshold.Share.TheVariants as limit
-use Rattle.heavy_arguments.specs.CommandLine.{program_app}
+use Rattle.hh_output.specs.declared.output.Form.{Form}
+use Rattle.hh_output.specs.declared.output.Form.TheVariants as form
+use Rattle.hh_output.specs.declared.output.Output.{Output}
+use Rattle.heavy_arguments.specs.CommandLine.{IsProgram}
 use Rattle.heavy_arguments.specs.Numbers.{IsNumberOf, number_in}
 use Rattle.heavy_host.specs.Words.{AreAllWords, word_of}
 use Rattle.heavy_requests.specs.Fields.{fields_in}
@@ -81,6 +84,18 @@ pub record AreRowOptions (found : Found) (rows : RowOptions) : Type 0 where
   pub shared : one_text found (codes "share") ≡ Some (codes "true") → rows.share ≡ true
   pub unshared : one_text found (codes "share") ≡ None → rows.share ≡ false
   pub decimals : AreDecimals found rows.decimals
+
+-- the form that a word names: CSV, where it is no other
+abbrev pub NamesForm : Text → Form → Type 0
+NamesForm word form.Csv = (word ≢ codes "tsv") × (word ≢ codes "json")
+NamesForm word form.Tsv = word ≡ codes "tsv"
+NamesForm word form.Json = word ≡ codes "json"
+
+-- how rows are printed
+pub record IsOutput (found : Found) (output : Output) : Type 0 where
+  pub form : NamesForm (unwrap_or (first_value found (codes "output")) (codes "csv")) output.form
+  pub named : one_text found (codes "names") ≡ Some (codes "true") → output.has_names ≡ true
+  pub unnamed : one_text found (codes "names") ≡ None → output.has_names ≡ false
 
 -- the records that are read: their files in order, and where their columns stand
 pub record AreRecordWords (found : Found) (records : RecordWords) : Type 0 where
@@ -168,24 +183,27 @@ AsksFor name found (Answer command) = Answers name found command
 
 -- these words ask for it: in their texts the program's command line has this command, with its name and its arguments
 pub record IsAskedBy (words : List (List ℕ)) (asked : Invocation) : Type 0 where
+  pub program : App
+  pub is_program : IsProgram program
   pub texts : List Text
   pub spelled : map word_of texts ≡ words
   pub name : Text
   pub found : Found
-  pub command : subcommand_of program_app texts ≡ Some (name, rows_of found)
+  pub command : subcommand_of program texts ≡ Some (name, rows_of found)
   pub request : AsksFor name found asked.request
   pub records : AreRecordWords found asked.records
   pub told : one_text found (codes "progress") ≡ Some (codes "true") → asked.tells_progress ≡ true
   pub untold : one_text found (codes "progress") ≡ None → asked.tells_progress ≡ false
   pub explained : one_text found (codes "explain") ≡ Some (codes "true") → asked.explains ≡ true
   pub unexplained : one_text found (codes "explain") ≡ None → asked.explains ≡ false
+  pub output : IsOutput found asked.output
   pub memory : IsNumberOf found (codes "memory") 64 asked.memory
 
 -- these words may be refused so: the program's command line doesn't take their texts, or memory was refused
 abbrev pub MayRefuse : List (List ℕ) → UsageError → Type 0
 MayRefuse words usage.Memory = ⊤
 MayRefuse words (usage.Reported report) =
-    (texts : List Text) × (map word_of texts ≡ words) × (takes program_app texts ≡ false)
+    (program : App) × IsProgram program × (texts : List Text) × (map word_of texts ≡ words) × (takes program texts ≡ false)
 
 -- all words of a source may be refused so
 abbrev pub MayRefuseFrom : (ℕ → Option (List ℕ) → Type 0) → UsageError → Type 0

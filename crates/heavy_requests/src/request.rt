@@ -4,20 +4,21 @@ ghost use Rattle.std.specs.Prelude.{◌≡◌, ◌++◌, [], IfErr, IfOk, OnOk, 
 ghost use Rattle.clap.specs.Words.{Text, first_value, found_of, kind_of};
 ghost use Rattle.heavy_host.specs.Words.{word_of};
 ghost use Rattle.heavy_requests.specs.Request.{AreDecimals, AreOptions, AreRecordWords};
-ghost use Rattle.heavy_requests.specs.Request.{AreRowOptions, AsksFor, GivesShare, IsAskedBy};
-ghost use Rattle.heavy_requests.specs.Request.{IsAskedFrom, IsReportName, NamesTree, all_words, asks_plan};
-ghost use Rattle.heavy_requests.specs.Request.{MayRefuse, MayRefuseFrom, all_columns, between_commas};
-ghost use Rattle.heavy_requests.specs.Request.{columns_in, first_word};
+ghost use Rattle.heavy_requests.specs.Request.{AreRowOptions, AsksFor, GivesShare, IsAskedBy, IsOutput};
+ghost use Rattle.heavy_requests.specs.Request.{IsAskedFrom, IsReportName, NamesForm, NamesTree};
+ghost use Rattle.heavy_requests.specs.Request.{MayRefuse, MayRefuseFrom, all_columns, all_words, asks_plan};
+ghost use Rattle.heavy_requests.specs.Request.{between_commas, columns_in, first_word};
 
 use crate::fields::split_fields;
 use crate::usage_report::{UsageReport, usage_report_of};
 use clap::error::ErrorKind;
 use clap::{ArgMatches, Error};
 use heavy_arguments::{
-    ALLOW_ZERO, DECIMALS, DELIMITER, DEPTH, EXPLAIN, HEADER, K, KEY, MEMORY, PIECES, PROGRESS,
-    RECORDS, SEED, SHARE, SUMMARY_WORKERS, TOP, WEIGHT, WIDTH, WORKERS, command_line,
+    ALLOW_ZERO, DECIMALS, DELIMITER, DEPTH, EXPLAIN, HEADER, K, KEY, MEMORY, NAMES, OUTPUT, PIECES,
+    PROGRESS, RECORDS, SEED, SHARE, SUMMARY_WORKERS, TOP, WEIGHT, WIDTH, WORKERS, command_line,
 };
 use heavy_host::{WordSource, after_first, bytes_of, read_words, texts_of};
+use hh_output::{Form, Output};
 use hh_records::LayoutWords;
 use hh_rows::{ReportOptions, RowOptions, Share, Tree};
 use std::alloc::{AllocError, Global};
@@ -31,6 +32,8 @@ pub struct Invocation {
     pub tells_progress: bool,
     /// Whether an error message gets a second line, which explains it.
     pub explains: bool,
+    /// How rows are printed, where the command prints any.
+    pub output: Output,
     /// The most megabytes of a pipe that are kept in memory, where it is read twice. One that gives
     /// more is kept in a temporary file.
     pub memory: u64,
@@ -313,6 +316,28 @@ fn rows_of(found: &ArgMatches) -> RowOptions
     }
 }
 
+/// Gives the form that `word` names. `clap` takes the three forms' names alone, so that the one that
+/// isn't named here is `csv`.
+fn form_of(word: &str) -> Form
+    ensures { NamesForm word.now result }
+{
+    match word {
+        "tsv" => Form::Tsv,
+        "json" => Form::Json,
+        _ => Form::Csv,
+    }
+}
+
+/// Reads how rows are printed.
+fn output_of(found: &ArgMatches) -> Output
+    ensures { IsOutput (found_of found.now) result }
+{
+    Output {
+        form: form_of(found.get_str(OUTPUT).unwrap_or("csv")),
+        has_names: found.get_flag(NAMES),
+    }
+}
+
 /// Gives the name of the saved file, which `clap` requires. Where there is none the name is empty,
 /// so that it can't be read.
 fn file_named(alloc: Global, found: &ArgMatches) -> Result<Vec<u8>, AllocError>
@@ -467,6 +492,7 @@ fn request_in(alloc: Global, words: &[Vec<u8>]) -> Result<Invocation, UsageError
         records: record_words(alloc, found)?,
         tells_progress: found.get_flag(PROGRESS),
         explains: found.get_flag(EXPLAIN),
+        output: output_of(found),
         memory: MEMORY.of(found),
     })
 }

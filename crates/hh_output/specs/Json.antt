@@ -1,6 +1,6 @@
 -- Records as JSON, an object a line.
-use Rattle.std.specs.Prelude.{◌/◌, ◌%◌, ◌==◌, ◌||◌, nat_lt, ℕ, Bool, List, [], ◌∷◌, ◌++◌, if◌then◌else◌}
-use Rattle.std.specs.Char.{digit_char}
+use Rattle.std.specs.Prelude.{◌/◌, ◌%◌, ◌==◌, ◌||◌, nat_lt, ℕ, Bool, false, List, [], ◌∷◌, ◌++◌, if◌then◌else◌}
+use Rattle.std.specs.Char.{digit_char, is_ascii_digit}
 use Rattle.std.specs.List.{flat_map, zip}
 use Rattle.std.specs.Str.{is_utf8}
 use Rattle.csv.specs.Machine.{line_feed}
@@ -46,14 +46,23 @@ string_text field = quote_mark ∷ (flat_map (string_byte (is_utf8 field)) field
 abbrev pub member_text : List ℕ → List ℕ → List ℕ
 member_text name text = string_text name ++ (colon ∷ text)
 
--- a member whose value is a number, after others
-abbrev pub number_text : List ℕ × List ℕ → List ℕ
-number_text p = comma ∷ member_text p.0 p.1
+-- whether a field begins with a digit
+abbrev pub is_number : List ℕ → Bool
+is_number [] = false
+is_number (b ∷ rest) = is_ascii_digit b
 
--- the members of an object, of names and fields: the first value is a string, the others are numbers
+-- a field after the first: a number as it is where it begins with a digit, and else a string
+abbrev pub value_text : List ℕ → List ℕ
+value_text field = if is_number field then field else string_text field
+
+-- a member after others
+abbrev pub next_member : List ℕ × List ℕ → List ℕ
+next_member p = comma ∷ member_text p.0 (value_text p.1)
+
+-- the members of an object, of names and fields: the first value is a string, and so are others that are no numbers
 abbrev pub members_text : List (List ℕ × List ℕ) → List ℕ
 members_text [] = []
-members_text (p ∷ ps) = member_text p.0 (string_text p.1) ++ flat_map number_text ps
+members_text (p ∷ ps) = member_text p.0 (string_text p.1) ++ flat_map next_member ps
 
 -- a record as an object in a line
 abbrev pub object_text : List (List ℕ) → List (List ℕ) → List ℕ

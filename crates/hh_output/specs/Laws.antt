@@ -47,6 +47,8 @@ ExampleRows =
     ≡ codes "key\tweight\na\t1\n\"b \"\"c\"\t20\n")
     × (rows_in (record { form = form.Json; has_names = false }) example_names example_text
     ≡ codes "{\"key\":\"a\",\"weight\":1}\n{\"key\":\"b \\\"c\",\"weight\":20}\n")
+    × (rows_in (record { form = form.Json; has_names = false }) (codes "name" ∷ codes "value" ∷ []) (codes "kind,table\n")
+    ≡ codes "{\"name\":\"kind\",\"value\":\"table\"}\n")
 
 -- fields as strings: one that is UTF-8, one that is not, and one of bytes that are escaped
 abbrev pub ExampleStrings : Type 0

@@ -5,8 +5,8 @@ ghost use Rattle.std.specs.Char.{digit_char};
 ghost use Rattle.std.specs.List.{flat_map, zip};
 ghost use Rattle.std.specs.Str.{is_utf8};
 ghost use Rattle.csv.specs.Records.{fields_of};
-ghost use Rattle.hh_output.specs.Json.{escaped_by, hex, members_text, number_text};
-ghost use Rattle.hh_output.specs.Json.{object_text, string_byte, string_text};
+ghost use Rattle.hh_output.specs.Json.{escaped_by, hex, is_number, members_text, next_member};
+ghost use Rattle.hh_output.specs.Json.{object_text, string_byte, string_text, value_text};
 
 use csv::ByteRecord;
 use std::alloc::AllocError;
@@ -79,28 +79,48 @@ fn push_string(text: &mut Vec<u8>, field: &[u8]) -> Result<(), AllocError>
     Ok(())
 }
 
-/// Writes a member whose value is a number, after others.
-fn push_number(text: &mut Vec<u8>, name: &[u8], number: &[u8]) -> Result<(), AllocError>
+/// Whether a `field` begins with a digit.
+fn is_number(field: &[u8]) -> bool
+    ensures { result ≡ is_number field.now }
+{
+    match field {
+        [first, ..] => first.is_ascii_digit(),
+        [] => false,
+    }
+}
+
+/// Writes a `field` as a number where it begins with a digit, and else as a string.
+fn push_value(text: &mut Vec<u8>, field: &[u8]) -> Result<(), AllocError>
+    ensures { OnOk result (text.new.items ≡ text.old.items ++ value_text field.now) }
+{
+    if is_number(field) {
+        text.extend_from_slice(field)
+    } else {
+        push_string(text, field)
+    }
+}
+
+/// Writes a member after others.
+fn push_member(text: &mut Vec<u8>, name: &[u8], field: &[u8]) -> Result<(), AllocError>
     ensures { OnOk result (text.new.items
-        ≡ text.old.items ++ number_text (name.now, number.now)) }
+        ≡ text.old.items ++ next_member (name.now, field.now)) }
 {
     text.push(b',')?;
     push_string(text, name)?;
     text.push(b':')?;
-    text.extend_from_slice(number)?;
-    Ok(())
+    push_value(text, field)
 }
 
 /// Writes the members of a record's fields after the first, by the `names` of its fields.
-fn push_numbers(text: &mut Vec<u8>, names: &[&[u8]], row: &ByteRecord) -> Result<(), AllocError>
-    ensures { OnOk result (text.new.items ≡ text.old.items ++ flat_map number_text
+fn push_others(text: &mut Vec<u8>, names: &[&[u8]], row: &ByteRecord) -> Result<(), AllocError>
+    ensures { OnOk result (text.new.items ≡ text.old.items ++ flat_map next_member
         (zip (drop 1 (map (λ name. name.now) names.now)) (drop 1 (fields_of row.now)))) }
 {
     for i in 1..names.len() {
-        let Some(number) = row.get(i) else {
+        let Some(field) = row.get(i) else {
             return Ok(());
         };
-        push_number(text, names[i], number)?;
+        push_member(text, names[i], field)?;
     }
     Ok(())
 }
@@ -119,7 +139,7 @@ fn push_members(text: &mut Vec<u8>, names: &[&[u8]], row: &ByteRecord) -> Result
     push_string(text, name)?;
     text.push(b':')?;
     push_string(text, field)?;
-    push_numbers(text, names, row)?;
+    push_others(text, names, row)?;
     Ok(())
 }
 

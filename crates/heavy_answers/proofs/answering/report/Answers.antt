@@ -2,6 +2,9 @@ use Rattle.std.proofs.Common.{inr}
 use Rattle.std.proofs.lemmas.Result.{err_from_is_err_and}
 use Rattle.hh_records.specs.Layouts.{records_known, texts_known}
 use Rattle.heavy_answers.proofs.AnswerLemmas.{of_records, planned, tallied}
+use Rattle.hh_reports.specs.Report.{PrintsRows}
+use Rattle.hh_files.specs.ReportFiles.{PrintsFileRows}
+use Rattle.heavy_answers.proofs.FormLemmas.{plain_refused, plain_written}
 use Rattle.heavy_answers.proofs.InputLemmas.{records_are_of}
 use Rattle.heavy_answers.proofs.answering.report.Goals as goal
 
@@ -9,14 +12,18 @@ pub returns-then-by_plan-clause-made : goal.returns-then-by_plan-clause-made
 returns-then-by_plan-clause-made g c =
     let records = c.in_ok-records.records in
     of_records _ _ _ records.layout (records_known g.H.Reader.Read.remaining records) c.in_ok-records.ensures.records
-    (planned c.args.by_plan c.if-by_plan.true c.in_ok-report_rows.ensures.reported)
+    (planned c.args.by_plan c.if-by_plan.true (plain_written c.args.options.now c.args.rows.now
+    (PrintsRows c.args.rows.now c.args.options.now (records_known g.H.Reader.Read.remaining records)) _ _
+    c.in_ok-report_rows.ensures.reported))
 
 pub returns-in_err-report_rows-clause-refused : goal.returns-in_err-report_rows-clause-refused
 returns-in_err-report_rows-clause-refused g c =
     let p = err_from_is_err_and c.from_residual-in_err-report_rows.result c.from_residual-in_err-report_rows.ensures.1 in
     let records = c.in_ok-records.records in
     rw (p.1, p.2) (inr (of_records _ _ _ records.layout (records_known g.H.Reader.Read.remaining records) c.in_ok-records.ensures.records
-    (planned c.args.by_plan c.if-by_plan.true c.in_err-report_rows.ensures.refused)))
+    (planned c.args.by_plan c.if-by_plan.true (plain_refused c.args.options.now _ c.args.rows.now
+    (PrintsRows c.args.rows.now c.args.options.now (records_known g.H.Reader.Read.remaining records)) _ _ _
+    c.in_err-report_rows.ensures.refused))))
 
 pub returns-in_err-report_files-clause-refused : goal.returns-in_err-report_files-clause-refused
 returns-in_err-report_files-clause-refused g c =
@@ -27,8 +34,9 @@ returns-in_err-report_files-clause-refused g c =
     (records_are_of (g.H.Host.opens c.args.host.now) c.args.words.now opened.layout files.layout g.H.Host.text g.H.File.ReadAt.bytes
     opened.inputs.items files.files.items c.in_ok-files.ensures.layout c.in_ok-opened.ensures.layout c.in_ok-opened.ensures.opened
     c.in_ok-files.ensures.texts)
-    (tallied c.args.by_plan c.if-by_plan.false
-    (rw (c.records.ensures.layout, c.records.ensures.sources) at c.in_err-report_files.ensures.refused))))
+    (tallied c.args.by_plan c.if-by_plan.false (plain_refused c.args.options.now _ c.args.rows.now
+    (PrintsFileRows c.args.rows.now c.args.options.now (texts_known g.H.File.ReadAt.bytes files.layout files.files.items)) _ _ _
+    (rw (c.records.ensures.layout, c.records.ensures.sources) at c.in_err-report_files.ensures.refused)))))
 
 pub returns-clause-made : goal.returns-clause-made
 returns-clause-made g c =
@@ -38,5 +46,6 @@ returns-clause-made g c =
     (records_are_of (g.H.Host.opens c.args.host.now) c.args.words.now opened.layout files.layout g.H.Host.text g.H.File.ReadAt.bytes
     opened.inputs.items files.files.items c.in_ok-files.ensures.layout c.in_ok-opened.ensures.layout c.in_ok-opened.ensures.opened
     c.in_ok-files.ensures.texts)
-    (tallied c.args.by_plan c.if-by_plan.false
-    (rw (c.records.ensures.layout, c.records.ensures.sources) at c.in_ok-report_files.ensures.reported))
+    (tallied c.args.by_plan c.if-by_plan.false (plain_written c.args.options.now c.args.rows.now
+    (PrintsFileRows c.args.rows.now c.args.options.now (texts_known g.H.File.ReadAt.bytes files.layout files.files.items)) _ _
+    (rw (c.records.ensures.layout, c.records.ensures.sources) at c.in_ok-report_files.ensures.reported)))

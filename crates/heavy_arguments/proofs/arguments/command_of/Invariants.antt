@@ -9,4 +9,4 @@ use Rattle.heavy_arguments.proofs.arguments.command_of.Given as goal
 abbrev pub invariant-loop-group : goal.invariant-loop-group
 invariant-loop-group l = ((fields_of l.command).has_globals ≡ false)
     × (app_of l.command ≡ with_rules (app_of l.initial.command)
-    (flat_map rules_of_group (take l.group-index l.words.groups.now)))
+    (flat_map (rules_of_group l.fn.forms.names) (take l.group-index l.words.groups.now)))

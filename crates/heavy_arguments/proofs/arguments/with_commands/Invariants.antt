@@ -8,4 +8,4 @@ use Rattle.heavy_arguments.proofs.arguments.with_commands.Given as goal
 -- the program so far has the commands so far, of no argument that its own commands take too
 abbrev pub invariant-loop-words : goal.invariant-loop-words
 invariant-loop-words l = ((fields_of l.all).has_globals ≡ false)
-    × (app_of l.all ≡ fold with_subcommand (app_of l.initial.all) (map shape_of_words (take l.words-index l.commands)))
+    × (app_of l.all ≡ fold with_subcommand (app_of l.initial.all) (map (shape_of_words l.fn.forms.names) (take l.words-index l.commands)))

@@ -11,6 +11,8 @@ use Rattle.heavy_requests.proofs.request.request_in.Goals as goal
 
 pub returns-clause-asked : goal.returns-clause-asked
 returns-clause-asked c = record {
+  program = app_of c.in_ok-command_line.field-0;
+  is_program = c.in_ok-command_line.ensures.app;
   texts = map string_bytes c.in_ok-texts.texts.items;
   spelled = map-map word_of string_bytes c.in_ok-texts.texts.items ∙ c.in_ok-texts.ensures;
   name = c.in-Some.name.now;
@@ -28,6 +30,7 @@ returns-clause-asked c = record {
   untold = c.get_flag.ensures.none;
   explained = c.get_flag-2.ensures.value;
   unexplained = c.get_flag-2.ensures.none;
+  output = c.output_of.ensures;
   memory = c.of.ensures;
 }
 
@@ -35,7 +38,7 @@ pub returns-in-Err-clause-refused : goal.returns-in-Err-clause-refused
 returns-in-Err-clause-refused c =
     let texts = c.in_ok-texts.texts.items in
     let app = app_of c.in_ok-command_line.field-0 in
-    may_refuse _ (map string_bytes texts) _ (map-map word_of string_bytes texts ∙ c.in_ok-texts.ensures)
+    may_refuse _ app (map string_bytes texts) _ c.in_ok-command_line.ensures.app
+    (map-map word_of string_bytes texts ∙ c.in_ok-texts.ensures)
     (λ yes. c.usage_error.ensures (c.in-Err.ensures.passes
-    (subst (λ items. takes app (map string_bytes items) ≡ true) (sym c.as_slice.ensures.value)
-    (subst (λ (a : App). takes a (map string_bytes texts) ≡ true) (sym c.in_ok-command_line.ensures.app) yes))))
+    (subst (λ items. takes app (map string_bytes items) ≡ true) (sym c.as_slice.ensures.value) yes)))

@@ -1,7 +1,7 @@
 use Rattle.std.proofs.Common.{◌∙◌, ◌++◌, sym, ap, append-nil}
 use Rattle.csv.specs.Records.{fields_of}
 use Rattle.hh_output.specs.Json.{string_text}
-use Rattle.hh_output.proofs.MemberFacts.{members-first, members-none, member-written, numbers_from, texts_of}
+use Rattle.hh_output.proofs.MemberFacts.{members-first, members-none, member-written, others_from, texts_of}
 use Rattle.hh_output.proofs.json.push_members.Goals as goal
 
 pub returns-in_default-get : goal.returns-in_default-get
@@ -13,9 +13,9 @@ pub returns : goal.returns
 returns c =
     let first = members-first c.args.names.now (fields_of c.args.row.now) c.in-Some.name.now c.in-Some-get.field.now
     c.in-Some.ensures.value c.in-Some-get.ensures.value in
-    let rest = numbers_from 1 c.args.names.now (fields_of c.args.row.now) in
+    let rest = others_from 1 c.args.names.now (fields_of c.args.row.now) in
     rw (
-      c.in_ok-push_numbers.ensures,
+      c.in_ok-push_others.ensures,
       c.in_ok-push_string-2.ensures,
       c.in_ok-push.ensures.items,
       c.in_ok-push_string.ensures,

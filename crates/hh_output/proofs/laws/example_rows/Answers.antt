@@ -7,4 +7,4 @@ use Rattle.hh_output.proofs.laws.example_rows.Goals as goal
 
 pub returns : goal.returns
 unfolding next_record records_from escaped fields_text is_blank chars is_utf8
-returns c = (refl, refl, refl)
+returns c = (refl, refl, refl, refl)

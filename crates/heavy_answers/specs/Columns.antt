@@ -1,0 +1,40 @@
+-- The columns of the rows that are printed, and the form of what is written.
+use Rattle.std.specs.Prelude.{ℕ, ◌≡◌, List, [], ◌∷◌, Option, Some, None, codes, if◌then◌else◌}
+use Rattle.hh_output.specs.Outputs.{rows_in}
+use Rattle.hh_output.specs.declared.output.Output.{Output}
+use Rattle.hh_rows.specs.declared.printed.RowOptions.{RowOptions}
+use Rattle.heavy_requests.specs.declared.request.Command.{Command}
+use Rattle.heavy_requests.specs.declared.request.Command.TheVariants.{Summarise, Table, Merge, Ask, List as ListKeys, Describe, Condense, Confirm}
+
+-- the names of columns: of keys and their weights, of a report, of keys and their bounds, and of what is in a saved file
+abbrev pub weight_columns : List (List ℕ)
+weight_columns = codes "key" ∷ codes "weight" ∷ []
+
+abbrev pub report_columns : RowOptions → List (List ℕ)
+report_columns rows = if rows.share then codes "key" ∷ codes "weight" ∷ codes "share" ∷ [] else weight_columns
+
+abbrev pub bound_columns : List (List ℕ)
+bound_columns = codes "key" ∷ codes "low" ∷ codes "high" ∷ []
+
+abbrev pub value_columns : List (List ℕ)
+value_columns = codes "name" ∷ codes "value" ∷ []
+
+-- the names of the columns of the rows that a command prints; a saved file has none
+abbrev pub columns_of : Command → Option (List (List ℕ))
+columns_of (Summarise k method workers) = None
+columns_of (Table width depth seed workers) = None
+columns_of (Merge first others) = None
+columns_of (Ask name keys decimals) = Some bound_columns
+columns_of (ListKeys name decimals) = Some bound_columns
+columns_of (Describe name) = Some value_columns
+columns_of (Condense name workers) = Some weight_columns
+columns_of (Confirm name share rows workers) = Some (report_columns rows)
+
+-- rows of columns with these names in the form that is asked for, or a saved file as it is
+abbrev pub bytes_in : Output → Option (List (List ℕ)) → List ℕ → List ℕ
+bytes_in output None bytes = bytes
+bytes_in output (Some names) bytes = rows_in output names bytes
+
+-- the bytes are rows of a report of which this holds, in the form that is asked for
+abbrev pub InForm : Output → RowOptions → (List ℕ → Type 0) → List ℕ → Type 0
+InForm output rows Holds bytes = (csv : List ℕ) × Holds csv × (bytes ≡ rows_in output (report_columns rows) csv)
