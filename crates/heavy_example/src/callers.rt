@@ -1,6 +1,6 @@
 //! A caller of each library, as its page CALLING.md shows it.
 
-ghost use Rattle.std.specs.Prelude.{◌≡◌, ◌+◌, ◌<◌, ◌≤◌, ◌↔◌, ◌∷◌, [], List, Ok, Some, false, IsTrue, IfOk, IfSome, OnOk};
+ghost use Rattle.std.specs.Prelude.{◌≡◌, ◌+◌, ◌<◌, ◌≤◌, ◌↔◌, ◌∷◌, [], List, Ok, Some, false, IsTrue, IfOk, IfSome, OnOk, map};
 ghost use Rattle.hh_faults.specs.Faults.{text_fault};
 ghost use Rattle.hh_faults.specs.Status.{status_of};
 ghost use Rattle.hh_stream.specs.Weights.{Entry, max_total, total_of, weight_of};
@@ -15,6 +15,8 @@ ghost use Rattle.hh_records.specs.Layouts.{texts_known};
 ghost use Rattle.hh_records.specs.Streams.{ReadsAs, text_known};
 ghost use Rattle.csv.specs.Writing.{comma};
 ghost use Rattle.hh_rows.specs.Rows.{rows_of};
+ghost use Rattle.hh_output.specs.Outputs.{plain_output, rows_in};
+ghost use Rattle.hh_output.specs.declared.output.Form.TheVariants as form;
 ghost use Rattle.hh_pieces.specs.Pieces.{ends_outside};
 ghost use Rattle.hh_workers.specs.PlanTexts.{SpellsTree};
 ghost use Rattle.hh_commands.specs.Describe.{description};
@@ -29,6 +31,7 @@ use hh_countmin::Table;
 use hh_faults::{ReadError, SavedFault, TextError, ToolError};
 use hh_files::table_files;
 use hh_library::{add_items, summary_bytes};
+use hh_output::{Form, Output, converted};
 use hh_pieces::{ReadAt, SourceRecords, ends_outside_quotes};
 use hh_pool::{OpenGate, Options, Plan, RunError, analyse};
 use hh_records::read_stream;
@@ -122,6 +125,18 @@ pub fn text_of_rows(alloc: Global, rows: &[Heavy]) -> Result<Vec<u8>, AllocError
     ensures { IfOk result (λ text. text.items ≡ rows_of rows.now) }
 {
     report_text(alloc, rows)
+}
+
+/// Rows that were printed as CSV, as JSON.
+pub fn rows_as_json(alloc: Global, names: &[&[u8]], text: Vec<u8>) -> Result<Vec<u8>, AllocError>
+    ensures { IfOk result (λ rows. rows.items ≡ rows_in (record plain_output { form = form.Json })
+        (map (λ name. name.now) names.now) text.items) }
+{
+    let output = Output {
+        form: Form::Json,
+        has_names: false,
+    };
+    converted(alloc, &output, names, text)
 }
 
 /// Whether a line feed after a text of records ends a record.
