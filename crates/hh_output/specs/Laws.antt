@@ -26,7 +26,7 @@ StringsTellFieldsApart = (f g : List ℕ) → string_text f ≡ string_text g �
 abbrev pub StringsAreUtf8 : Type 0
 StringsAreUtf8 = (f : List ℕ) → All (λ b. b < 256) f → IsUtf8 (string_text f)
 
--- and it has no control character, so that it stands in one line
+-- a string has no control character, so that it stands in one line
 abbrev pub StringsHaveNoControls : Type 0
 StringsHaveNoControls =
     (f : List ℕ) → All (λ b. b < 256) f → All (λ b. is_control b ≡ false) (string_text f)

@@ -25,7 +25,7 @@ pub fn strings_are_utf8()
     ensures { StringsAreUtf8 }
 {}
 
-/// It has no control character, so that it stands in one line.
+/// A string has no control character, so that it stands in one line.
 pub fn strings_have_no_controls()
     ensures { StringsHaveNoControls }
 {}
