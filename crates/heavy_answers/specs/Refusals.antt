@@ -1,6 +1,6 @@
 -- What a refusal to answer a request says, by the bytes that are given of the files that it names.
 use Rattle.std.specs.Io.KnownBytes.{Keeps}
-use Rattle.std.specs.Prelude.{ℕ, ◌≡◌, ◌⊎◌, ◌+◌, ◌-◌, ◌^◌, ◌<◌, min, Bool, true, false, List, [], ◌∷◌, Option, Some, None, map, length, slice_index_or}
+use Rattle.std.specs.Prelude.{ℕ, ◌≡◌, ◌⊎◌, ◌+◌, ◌-◌, ◌^◌, ◌<◌, min, Bool, true, List, [], ◌∷◌, Option, Some, None, map, length, slice_index_or}
 use Rattle.hh_stream.specs.Ranges.{in_range}
 use Rattle.hh_workers.specs.Workers.{max_workers}
 use Rattle.hh_records.specs.LayoutWords.{LayoutRefused}

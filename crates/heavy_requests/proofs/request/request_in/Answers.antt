@@ -2,7 +2,7 @@
 use Rattle.std.proofs.Common.{◌≡◌, ◌∙◌, true, map, subst, sym, refl}
 use Rattle.std.proofs.lemmas.Simd.{map-map}
 use Rattle.std.specs.String.{string_bytes}
-use Rattle.clap.specs.Words.{App, HasMatchesOf, app_of, found_of, rows_of, takes}
+use Rattle.clap.specs.Words.{HasMatchesOf, app_of, found_of, rows_of, takes}
 use Rattle.clap.specs.declared.parser.matches.ArgMatches.TheViews.{out-ArgMatches, out-SubCommand}
 use Rattle.std.specs.Box.{box_value}
 use Rattle.heavy_host.specs.Words.{word_of}
