@@ -123,9 +123,10 @@ fn bytes_of<T: Threads + Wait + Sync, H: Host>(
     }
 }
 
-/// Writes the report of the records that `words` name to `sink`, as CSV. All inputs are opened first, then
-/// the options are tested, and only then is anything read: a pipe, which can be read only once, is
-/// untouched when an option is refused. With `by_plan`, one thread reads the inputs once.
+/// Writes the report of the records that `words` name to `sink`, as CSV. All inputs are opened
+/// first, then the options are tested, and only then is anything read: a pipe, which can be read
+/// only once, is untouched when an option is refused. With `by_plan`, one thread reads the inputs
+/// once.
 fn report<T: Threads + Wait + Sync, H: Host, S: Sink>(
     threads: &T,
     host: &H,
@@ -136,8 +137,9 @@ fn report<T: Threads + Wait + Sync, H: Host, S: Sink>(
     sink: &mut S,
 ) -> Result<(), ToolError>
     requires { S.has_failed sink.old ≡ false }
-    ensures made { OnOk result (OfRecords (H.opens host.now) words.now (λ _ known. PrintsReport plain_output
-        options.now rows.now by_plan known (S.taken sink.old) (S.taken sink.new))) }
+    ensures made { OnOk result (OfRecords (H.opens host.now) words.now (λ _ known.
+        PrintsReport plain_output options.now rows.now by_plan known
+        (S.taken sink.old) (S.taken sink.new))) }
     ensures refused { IfErr result (ReportFails (H.opens host.now) (H.unopened host.now)
         plain_output options.now rows.now by_plan words.now (S.taken sink.old)
         (S.taken sink.new)) }
@@ -166,8 +168,8 @@ fn kept_fault(fault: ToolError) -> ToolError
     }
 }
 
-/// Makes the report of the records that `words` name whole, and writes it to `sink` in the form that
-/// `output` asks for.
+/// Makes the report of the records that `words` name whole, and writes it to `sink` in the form
+/// that `output` asks for.
 fn converted_report<T: Threads + Wait + Sync, H: Host, S: Sink>(
     threads: &T,
     host: &H,

@@ -48,8 +48,8 @@ fn columns_of(command: &Command) -> Option<Names>
     }
 }
 
-/// Converts `bytes`, all that `command` makes, into what `output` asks for. A saved file stays as it
-/// is.
+/// Converts `bytes`, all that `command` makes, into what `output` asks for. A saved file stays as
+/// it is.
 pub(crate) fn bytes_in(
     alloc: Global,
     output: &Output,

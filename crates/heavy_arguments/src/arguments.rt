@@ -465,7 +465,10 @@ fn with<'a>(
 
 /// The command of these words, which prints rows in the `forms`.
 fn command_of<'a>(alloc: Global, forms: Forms<'a>, words: &CommandWords) -> Built<'a>
-    ensures app { IsApp (record { top = shape_of_words forms.entry.names words.now; subs = [] }) result }
+    ensures app { IsApp (record {
+      top = shape_of_words forms.entry.names words.now;
+      subs = [];
+    }) result }
     ensures globals { HasNoGlobals result }
 {
     let command = described(alloc, words.name, words.help).after_help(DASHES);

@@ -316,8 +316,8 @@ fn rows_of(found: &ArgMatches) -> RowOptions
     }
 }
 
-/// Gives the form that `word` names. `clap` takes the three forms' names alone, so that the one that
-/// isn't named here is `csv`.
+/// Gives the form that `word` names. `clap` takes the three forms' names alone, so that the one
+/// that isn't named here is `csv`.
 fn form_of(word: &str) -> Form
     ensures { NamesForm word.now result }
 {
