@@ -9,19 +9,20 @@ _heavy() {
   fi
   case $prev in
     --method) mapfile -t COMPREPLY < <(compgen -W 'mg ss' -- "$cur"); return ;;
+    --output) mapfile -t COMPREPLY < <(compgen -W 'csv tsv json' -- "$cur"); return ;;
     --tree) mapfile -t COMPREPLY < <(compgen -W 'balanced chain' -- "$cur"); return ;;
     -k | --k | -t | --threshold | -n | --top | -d | --delimiter | --key | --weight | --decimals | --workers | --memory | --pieces | --width | --depth | --seed) return ;;
   esac
   case ${COMP_WORDS[1]} in
-    report) options='-k --k -t --threshold -n --top --share --explain --progress -h --help -d --delimiter -H --header --key --weight --allow-zero --decimals --workers --memory --pieces --tree --width --depth --seed' ;;
+    report) options='-k --k -t --threshold -n --top --share --output --names --explain --progress -h --help -d --delimiter -H --header --key --weight --allow-zero --decimals --workers --memory --pieces --tree --width --depth --seed' ;;
     summarise) options='-k --k --method --workers --explain --progress -h --help -d --delimiter -H --header --key --weight --allow-zero --decimals' ;;
     table) options='--width --depth --seed --workers --explain --progress -h --help -d --delimiter -H --header --key --weight --allow-zero --decimals' ;;
     merge) options='--explain -h --help' ;;
-    ask) options='--decimals --explain -h --help' ;;
-    list) options='--decimals --explain -h --help' ;;
-    describe) options='--explain -h --help' ;;
-    condense) options='--workers --explain --progress -h --help -d --delimiter -H --header --key --weight --allow-zero --decimals' ;;
-    confirm) options='-t --threshold -n --top --share --workers --explain --progress -h --help -d --delimiter -H --header --key --weight --allow-zero --decimals' ;;
+    ask) options='--decimals --output --names --explain -h --help' ;;
+    list) options='--decimals --output --names --explain -h --help' ;;
+    describe) options='--output --names --explain -h --help' ;;
+    condense) options='--output --names --workers --explain --progress -h --help -d --delimiter -H --header --key --weight --allow-zero --decimals' ;;
+    confirm) options='-t --threshold -n --top --share --output --names --workers --explain --progress -h --help -d --delimiter -H --header --key --weight --allow-zero --decimals' ;;
     help) mapfile -t COMPREPLY < <(compgen -W "$commands" -- "$cur"); return ;;
   esac
   case $cur in

@@ -15,6 +15,8 @@ complete -c heavy -n '__fish_seen_subcommand_from report summarise' -s k -l k -x
 complete -c heavy -n '__fish_seen_subcommand_from report confirm' -s t -l threshold -x -d 'Keys above this share of the total are heavy, as 1/50'
 complete -c heavy -n '__fish_seen_subcommand_from report confirm' -s n -l top -x -d 'Print at most the first N rows'
 complete -c heavy -n '__fish_seen_subcommand_from report confirm' -l share -d 'Print in a third column the weight\'s share of the total in percent, rounded down'
+complete -c heavy -n '__fish_seen_subcommand_from report ask list describe condense confirm' -l output -x -a 'csv tsv json' -d 'Print rows as csv, tsv or json, an object a line'
+complete -c heavy -n '__fish_seen_subcommand_from report ask list describe condense confirm' -l names -d 'Print a first row with the columns\' names'
 complete -c heavy -n '__fish_seen_subcommand_from report summarise table merge ask list describe condense confirm' -l explain -d 'Say more about a fault, in a second line, as is done on a terminal'
 complete -c heavy -n '__fish_seen_subcommand_from report summarise table condense confirm' -l progress -d 'Tell on standard error how far the input is read, about once a second'
 complete -c heavy -n '__fish_seen_subcommand_from report summarise table condense confirm' -s d -l delimiter -x -d 'The byte between two fields, \\t for a tab, =- for a hyphen'
