@@ -1,21 +1,32 @@
 -- Layouts of records that are said in words.
 use Rattle.std.specs.Prelude.{◌≡◌, ◌⊎◌, ℕ, Bool, List, [], ◌∷◌, map, Contains, Option, Some, None, IsSome, option_map, ⊤}
 use Rattle.csv.specs.Writing.{comma}
+use Rattle.hh_records.specs.Formats.{part_said}
 use Rattle.hh_records.specs.Layouts.{NamesColumn, delimiter_of}
+use Rattle.hh_records.specs.declared.format.Format.{Format}
+use Rattle.hh_records.specs.declared.format.Format.TheVariants as format
 use Rattle.hh_records.specs.declared.layout.Column.{Column}
 use Rattle.hh_records.specs.declared.layout.Layout.{Layout}
 use Rattle.hh_faults.specs.declared.error.ToolError.{ToolError}
 use Rattle.hh_faults.specs.declared.error.ToolError.TheVariants as tool
 use Rattle.hh_records.specs.declared.layout_words.LayoutWords.{LayoutWords}
 
--- the byte that a word names to stand between fields; no word is a comma
-abbrev pub delimiter_said : Option (List ℕ) → Option ℕ
-delimiter_said None = Some comma
-delimiter_said (Some word) = delimiter_of word
+-- the byte between the fields of a format where no word names one: a comma or, where several are one,
+-- a space
+abbrev pub usual_delimiter : Format → ℕ
+usual_delimiter format.Csv = comma
+usual_delimiter format.Unquoted = comma
+usual_delimiter format.Squeezed = 32
+usual_delimiter format.Lines = comma
+
+-- the byte that a word names to stand between fields, if any does
+abbrev pub delimiter_said : Format → Option (List ℕ) → Option ℕ
+delimiter_said format None = Some (usual_delimiter format)
+delimiter_said format (Some word) = delimiter_of word
 
 -- the byte between fields that these words say
 abbrev pub byte_said : LayoutWords → Option ℕ
-byte_said words = delimiter_said (option_map (λ word. word.items) words.delimiter)
+byte_said words = delimiter_said words.format (option_map (λ word. word.items) words.delimiter)
 
 -- a word names no column
 abbrev pub NamesNone : Bool → List ℕ → Type 0
@@ -50,10 +61,12 @@ weight_word words = option_map (λ word. word.items) words.weight
 
 -- the words say this layout
 pub record SaysLayout (words : LayoutWords) (layout : Layout) : Type 0 where
+  pub format : layout.format ≡ words.format
   pub delimiter : byte_said words ≡ Some layout.delimiter
   pub has_header : layout.has_header ≡ words.has_header
   pub key : NamesKey words.has_header (key_words words) layout.key.items
   pub weight : NamesWeight words.has_header (weight_word words) layout.weight
+  pub part : part_said layout.part ≡ (words.until.items, words.prefix)
   pub allow_zero : layout.allow_zero ≡ words.allow_zero
   pub decimals : layout.decimals ≡ words.decimals
 

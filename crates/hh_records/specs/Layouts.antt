@@ -15,13 +15,17 @@ use Rattle.csv.specs.declared.reader.Trim.TheVariants as trim
 use Rattle.hh_stream.specs.Digits.{is_number, value_of}
 use Rattle.hh_stream.specs.Weights.{Entry, total_of}
 use Rattle.hh_records.specs.Decimals.{units_of}
+use Rattle.hh_records.specs.Formats.{Part, byte_between, fields_by, has_quotes, is_whole, part_said, with_part}
 use Rattle.hh_records.specs.Streams.{Fields, Known, Parts, Reading, ReadsAs, item_of_key, parts_of}
+use Rattle.hh_records.specs.declared.format.Format.{Format}
+use Rattle.hh_records.specs.declared.format.Format.TheVariants as format
 use Rattle.hh_records.specs.declared.layout.ChoiceFault.{ChoiceFault}
 use Rattle.hh_records.specs.declared.layout.ChoiceFault.TheVariants as choice
 use Rattle.hh_records.specs.declared.layout.ColumnIndices.{ColumnIndices}
 use Rattle.hh_records.specs.declared.layout.Column.{Column}
 use Rattle.hh_records.specs.declared.layout.Column.TheVariants as column
 use Rattle.hh_records.specs.declared.layout.Layout.{Layout}
+use Rattle.hh_records.specs.declared.layout.ChosenLayout.{ChosenLayout}
 use Rattle.hh_faults.specs.declared.records.BadRecordCause.{BadRecordCause}
 use Rattle.hh_faults.specs.declared.records.BadRecordCause.TheVariants as cause
 use Rattle.hh_faults.specs.declared.records.ReadError.{ReadError}
@@ -36,11 +40,25 @@ use Rattle.hh_faults.specs.declared.records.TextError.TheVariants as text
 
 -- where the fields of the key and that of the weight stand, from 0 on; nothing says that a record is
 -- a key and, after it, its weight
-abbrev pub Places : Type 0
-Places = Option (List ℕ × Option ℕ)
+abbrev pub Columns : Type 0
+Columns = Option (List ℕ × Option ℕ)
 
-abbrev pub chosen_places : Option ColumnIndices → Places
-chosen_places chosen = option_map (λ c. (c.key.items, c.weight)) chosen
+-- how a record is read: its format, the places of its columns, and which part of the key's last field
+-- is the key
+pub record Places : Type 0 where
+  pub format : Format
+  pub columns : Columns
+  pub part : Part
+
+abbrev pub chosen_columns : Option ColumnIndices → Columns
+chosen_columns columns = option_map (λ c. (c.key.items, c.weight)) columns
+
+abbrev pub chosen_places : ChosenLayout → Places
+chosen_places chosen = record {
+  format = chosen.format;
+  columns = chosen_columns chosen.columns;
+  part = part_said chosen.part;
+}
 
 -- what f gives of each, where it gives something of all
 unfoldable pub every : {A B : Type 0} → (A → Option B) → List A → Option (List B)
@@ -62,10 +80,15 @@ abbrev pub weight_at : Fields → Option ℕ → Option (Option (List ℕ))
 weight_at r None = Some None
 weight_at r (Some i) = option_map Some (field_at r i)
 
+-- the key and the weight's field of these fields, by their columns and a part of the key's last one
+abbrev pub parts_by : Columns → Part → Fields → Parts
+parts_by None part r = parts_of r
+parts_by (Some at) part r =
+    option_zip (option_map (λ fs. key_of (with_part part fs)) (fields_at r at.0)) (weight_at r at.1)
+
 -- a record's key and weight's field, by their places
 abbrev pub parts_at : Places → Fields → Parts
-parts_at None r = parts_of r
-parts_at (Some at) r = option_zip (option_map key_of (fields_at r at.0)) (weight_at r at.1)
+parts_at at r = parts_by at.columns at.part (fields_by at.format r)
 
 -- a hyphen alone, as logs write it for no bytes
 abbrev pub is_hyphen : List ℕ → Bool
@@ -131,9 +154,18 @@ NamesColumn has_header word (column.Number n) =
 NamesColumn has_header word (column.Name name) =
     (has_header ≡ true) × (is_digits word ≡ false) × (name.items ≡ word)
 
--- how csv reads fields with this byte between them
+-- how csv reads fields with this byte between them, with quotes or without
+abbrev pub configured : Bool → ℕ → Config
+configured quoting d = record default_config { delimiter = d; quoting = quoting }
+
+-- how csv reads fields that may be quoted, with this byte between them
 abbrev pub delimited : ℕ → Config
-delimited d = record default_config { delimiter = d }
+delimited d = configured true d
+
+-- how csv reads the records of a layout
+abbrev pub config_of : Layout → Config
+config_of layout =
+    configured (has_quotes layout.format) (byte_between layout.format layout.delimiter)
 
 -- the place of the first field like a name, where the list starts at this place
 abbrev pub named_from : List ℕ → ℕ → Fields → Option ℕ
@@ -157,25 +189,38 @@ abbrev pub weight_place : Fields → Option Column → Option (Option ℕ)
 weight_place header None = Some None
 weight_place header (Some c) = option_map Some (place_of header c)
 
--- whether a layout names no column
+-- whether no column is named
 abbrev pub names_none : List Column → Option Column → Bool
 names_none [] None = true
 names_none [] (Some c) = false
 names_none (c ∷ cs) weight = false
 
--- whether a layout names columns
+-- whether a layout names columns, or a part of the first one
 abbrev pub names_columns : Layout → Bool
-names_columns layout = not (names_none layout.key.items layout.weight)
+names_columns layout =
+    not (names_none layout.key.items layout.weight && is_whole (part_said layout.part))
 
--- the places that a layout names, or nothing where the header lacks a column
+-- the columns that a layout names, or nothing where these fields of a header lack one
+abbrev pub columns_among : Layout → Fields → Option Columns
+columns_among layout header =
+    if names_columns layout
+    then option_map Some
+    (option_zip (key_places header layout.key.items) (weight_place header layout.weight))
+    else Some None
+
+-- how the records of a text are read by a layout, or nothing where this header lacks a column
 abbrev pub places_in : Layout → Fields → Option Places
 places_in layout header =
-    if names_none layout.key.items layout.weight then Some None
-    else option_map Some
-    (option_zip (key_places header layout.key.items) (weight_place header layout.weight))
+    option_map (λ columns. record {
+      format = layout.format;
+      columns = columns;
+      part = part_said layout.part;
+    }) (columns_among layout (fields_by layout.format header))
 
 -- a layout of a key and, after a comma, its weight, a whole number but 0, with no header
 pub record IsPlain (layout : Layout) : Type 0 where
+  pub csv : layout.format ≡ format.Csv
+  pub whole_field : is_whole (part_said layout.part) ≡ true
   pub delimiter : layout.delimiter ≡ comma
   pub no_header : layout.has_header ≡ false
   pub no_key : layout.key.items ≡ []
@@ -197,7 +242,7 @@ headed_parts layout (h ∷ rows) = option_map (λ at. map (parts_at at) rows) (p
 
 abbrev pub text_parts : Layout → List ℕ → Option (List Parts)
 text_parts layout text =
-    let rows = records (delimited layout.delimiter) (strip_bom text) in
+    let rows = records (config_of layout) (strip_bom text) in
     if layout.has_header then headed_parts layout rows
     else option_map (λ at. map (parts_at at) rows) (places_in layout [])
 
@@ -238,7 +283,7 @@ pub record IsStart {R : Type 0} (layout : Layout) (rows : Reader R) : Type 0 whe
   pub untrimmed : reader_trim rows ≡ trim.None
   pub ready : Ready rows
   pub flexible : is_flexible rows ≡ true
-  pub config : reader_config rows ≡ delimited layout.delimiter
+  pub config : reader_config rows ≡ config_of layout
   pub start : reader_state rows ≡ st.StartRecord
 
 -- the records that a text has left, each as its key and its weight's field, where its bytes are known
@@ -332,4 +377,4 @@ FindsColumns layout rows (Some at) = columns_of layout rows ≡ Some at
 
 -- the records of a text as csv reads it by a layout, with the header
 abbrev pub rows_in : Layout → List ℕ → List Fields
-rows_in layout bytes = records (delimited layout.delimiter) (strip_bom bytes)
+rows_in layout bytes = records (config_of layout) (strip_bom bytes)

@@ -1,5 +1,6 @@
 pub mod Clips
 pub mod Decimals
+pub mod Formats
 pub mod Laws
 pub mod LayoutWords
 pub mod Layouts

@@ -4,7 +4,7 @@
 ghost use Rattle.std.specs.Bool.{OnTrue};
 ghost use Rattle.std.specs.Prelude.{◌≡◌, ◌++◌, ◌∷◌, ◌+◌, ◌-◌, ◌<◌, ◌≤◌, [], get_or, List, ℕ, true, false, length, take, drop, option_map};
 ghost use Rattle.csv.specs.Machine.{in_field, is_end, start_field, step};
-ghost use Rattle.hh_records.specs.Clips.{GoesPast, IsOpen, IsQuoteless, JoinsField, Tracks, ends_at};
+ghost use Rattle.hh_records.specs.Clips.{GoesPast, IsOpen, IsQuoteless, JoinsField, Tracks, ends_at, may_be_cut};
 ghost use Rattle.hh_records.specs.Clips.{action_of, clipped_for, in_record, is_quoted, kept_by, left_at, rest_at, separates, settled, shown, size_after, state_of};
 ghost use Rattle.hh_records.specs.Layouts.{delimited};
 
@@ -111,7 +111,7 @@ fn effect_at(delimiter: u8, spot: Spot, byte: u8) -> (Spot, Effect)
     }
 }
 
-/// How far a text was read: which byte separates its fields, whether its header is still to end,
+/// How far a text was read: which byte separates its fields, or a quote where it is read as it is, whether its header is still to end,
 /// where the next byte stands, and how many bytes the field there has so far, up to one more than
 /// are kept.
 #[derive(Clone, Copy)]
@@ -120,6 +120,14 @@ pub(crate) struct Place {
     headed: bool,
     spot: Spot,
     size: usize,
+}
+
+/// Whether what a layout makes of a record doesn't depend on the end of a long field: where its
+/// fields may be quoted, and keys are whole fields.
+fn may_be_cut(layout: &Layout) -> bool
+    ensures { result ≡ may_be_cut layout.now }
+{
+    layout.format.has_quotes() && layout.part.is_whole() && separates(layout.delimiter)
 }
 
 /// Whether `effect` ends a record.
@@ -214,7 +222,7 @@ impl Place {
         ensures { (xs : List ℕ) → left_at result xs ≡ clipped_for layout.now xs }
     {
         Place {
-            delimiter: layout.delimiter,
+            delimiter: if may_be_cut(layout) { layout.delimiter } else { b'"' },
             headed: layout.has_header,
             spot: Spot::Start,
             size: 0,

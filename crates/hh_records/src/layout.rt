@@ -1,9 +1,12 @@
 //! Where the key and the weight of a record stand.
 
-ghost use Rattle.std.specs.Prelude.{◌≡◌, [], option_map, Some, None, Ok, IfOk, IfErr, IfSome};
+ghost use Rattle.std.specs.Prelude.{◌≡◌, [], option_map, Some, None, Ok, Err, true, IfOk, IfErr, IfSome};
 ghost use Rattle.csv.specs.Records.{fields_of};
-ghost use Rattle.hh_records.specs.Layouts.{ChoiceRefused, IsPlain, NamesColumn, chosen_places, delimiter_of, key_places, named_from, place_of, places_in, places_of};
+ghost use Rattle.hh_records.specs.Layouts.{ChoiceRefused, IsPlain, NamesColumn, chosen_columns, chosen_places, columns_among};
+ghost use Rattle.hh_records.specs.Layouts.{delimiter_of, key_places, named_from, names_columns, place_of, places_in, places_of};
+ghost use Rattle.hh_records.specs.declared.layout.ChoiceFault.TheVariants.{Memory, NoColumn};
 
+use crate::format::{Format, KeyPart, fields_by};
 use crate::records::number_in;
 use csv::ByteRecord;
 use hh_stream::KeyHash;
@@ -21,6 +24,8 @@ pub enum Column {
 /// How records are laid out in the texts that they are read from.
 #[derive(Drop)]
 pub struct Layout {
+    /// How a record is written.
+    pub format: Format,
     /// The byte between two fields.
     pub delimiter: u8,
     /// The first record of each text names the columns, and is no record. An empty text has none.
@@ -31,6 +36,8 @@ pub struct Layout {
     pub key: Vec<Column>,
     /// The column of the weight. Where none is named beside a key's, each record weighs 1.
     pub weight: Option<Column>,
+    /// The part of the key's last column that counts, and of column 1 where no column is named.
+    pub part: KeyPart,
     /// A record of weight 0 adds nothing and is no fault, and `-` is such a weight.
     pub allow_zero: bool,
     /// The most digits that a weight has after a point. It counts in units of the last of them:
@@ -56,10 +63,12 @@ impl Layout {
         ensures hash { result.hash ≡ hash }
     {
         Layout {
+            format: Format::Csv,
             delimiter: b',',
             has_header: false,
             key: Vec::new(alloc),
             weight: None,
+            part: KeyPart::whole(alloc),
             allow_zero: false,
             decimals: 0,
             hash,
@@ -101,6 +110,18 @@ pub fn column_of(alloc: Global, word: &[u8], has_header: bool) -> Result<Option<
 pub struct ColumnIndices {
     pub key: Vec<usize>,
     pub weight: Option<usize>,
+}
+
+/// How the records of one text are read, by the columns that its header has.
+#[derive(Drop)]
+pub struct ChosenLayout {
+    /// How a record is written.
+    pub format: Format,
+    /// The places of the columns. Nothing says that a record is a key and, where it has a second
+    /// field, its weight.
+    pub columns: Option<ColumnIndices>,
+    /// The part of the key's last field that counts.
+    pub part: KeyPart,
 }
 
 /// Why the columns of a layout were not found.
@@ -177,19 +198,26 @@ fn key_places(
     places_of(alloc, header, columns)
 }
 
-/// Finds the places of the columns that `layout` names, by `header`, or nothing where it names
-/// none.
-pub(crate) fn choose(
+/// Whether `layout` names columns, or a part of the first one.
+fn names_columns(layout: &Layout) -> bool
+    ensures { result ≡ names_columns layout.now }
+{
+    !layout.key.is_empty() || layout.weight.is_some() || !layout.part.is_whole()
+}
+
+/// Finds the places of the columns that `layout` names among the fields of `header`, or nothing
+/// where it names none.
+fn columns_among(
     alloc: Global,
     layout: &Layout,
     header: &ByteRecord,
 ) -> Result<Option<ColumnIndices>, ChoiceFault>
-    ensures chosen { IfOk result (λ chosen.
-        places_in layout.now (fields_of header.now) ≡ Some (chosen_places chosen)) }
-    ensures refused { IfErr result (λ fault.
-        ChoiceRefused layout.now (fields_of header.now) fault) }
+    ensures columns { IfOk result (λ columns.
+        columns_among layout.now (fields_of header.now) ≡ Some (chosen_columns columns)) }
+    ensures missing { result ≡ Err NoColumn → (names_columns layout.now ≡ true)
+        × (columns_among layout.now (fields_of header.now) ≡ None) }
 {
-    if layout.key.is_empty() && layout.weight.is_none() {
+    if !names_columns(layout) {
         return Ok(None);
     }
     let weight = match &layout.weight {
@@ -204,4 +232,34 @@ pub(crate) fn choose(
         Ok(None) => Err(ChoiceFault::NoColumn),
         Err(AllocError) => Err(ChoiceFault::Memory),
     }
+}
+
+impl From<AllocError> for ChoiceFault {
+    ghost from_gives = { λ _ fault. fault ≡ Memory };
+
+    fn from(_: AllocError) -> ChoiceFault {
+        ChoiceFault::Memory
+    }
+}
+
+/// Gives how the records of a text are read by `layout` where this is its header, or one of no
+/// fields where it has none.
+pub(crate) fn choose(
+    alloc: Global,
+    layout: &Layout,
+    header: &ByteRecord,
+) -> Result<ChosenLayout, ChoiceFault>
+    ensures chosen { IfOk result (λ chosen.
+        places_in layout.now (fields_of header.now) ≡ Some (chosen_places chosen)) }
+    ensures refused { IfErr result (λ fault.
+        ChoiceRefused layout.now (fields_of header.now) fault) }
+{
+    let mut spare = ByteRecord::new(alloc);
+    let header = fields_by(alloc, layout.format, header, &mut spare)?;
+    let columns = columns_among(alloc, layout, header)?;
+    Ok(ChosenLayout {
+        format: layout.format,
+        columns,
+        part: layout.part.copy(alloc)?,
+    })
 }

@@ -1,8 +1,9 @@
 //! How words say where the keys and the weights of records stand.
 
 ghost use Rattle.std.specs.Prelude.{◌≡◌, IfOk, IfErr, IfSome, None, Ok, map};
-ghost use Rattle.hh_records.specs.LayoutWords.{LayoutRefused, NamesKey, NamesNot, SaysLayout};
+ghost use Rattle.hh_records.specs.LayoutWords.{LayoutRefused, NamesKey, NamesNot, SaysLayout, byte_said};
 
+use crate::format::{Format, KeyPart};
 use crate::layout::{Column, Layout, column_of, delimiter_of};
 use hh_faults::ToolError;
 use hh_stream::KeyHash;
@@ -11,7 +12,10 @@ use std::alloc::{AllocError, Global};
 /// Where the keys and the weights of records stand, in words.
 #[derive(Debug, Drop)]
 pub struct LayoutWords {
-    /// The byte between two fields, or `\t` for a tab. None is a comma.
+    /// How a record is written.
+    pub format: Format,
+    /// The byte between two fields, or `\t` for a tab. None is a comma or, where several delimiters
+    /// are one, a space.
     pub delimiter: Option<Vec<u8>>,
     /// The first record of each text names the columns.
     pub has_header: bool,
@@ -19,6 +23,10 @@ pub struct LayoutWords {
     pub key: Vec<Vec<u8>>,
     /// The column of the weight.
     pub weight: Option<Vec<u8>>,
+    /// The key ends before the first of these bytes in its last column.
+    pub until: Vec<u8>,
+    /// The key has at most this many bytes of its last column.
+    pub prefix: Option<usize>,
     /// A record of weight 0 adds nothing and is no fault, nor is one of weight `-`.
     pub allow_zero: bool,
     /// The most digits that a weight has after a point. It counts in units of the last of them.
@@ -47,6 +55,19 @@ fn key_of(
     Ok(Some(key))
 }
 
+/// Gives the byte between fields that `words` say.
+fn delimiter_said(words: &LayoutWords) -> Option<u8>
+    ensures { result ≡ byte_said words.now }
+{
+    match &words.delimiter {
+        Some(word) => delimiter_of(word),
+        None => match words.format {
+            Format::Squeezed => Some(b' '),
+            Format::Csv | Format::Unquoted | Format::Lines => Some(b','),
+        },
+    }
+}
+
 /// Gives the layout that `words` say. The delimiter is tested first, then the key's columns, then
 /// the weight's ([`ToolError::BadDelimiter`], [`ToolError::BadColumn`]). Keys are hashed by the
 /// words that all runs have.
@@ -54,12 +75,8 @@ pub fn layout_of(alloc: Global, words: &LayoutWords) -> Result<Layout, ToolError
     ensures layout { IfOk result (SaysLayout words.now) }
     ensures refused { IfErr result (LayoutRefused words.now) }
 {
-    let delimiter = match &words.delimiter {
-        None => b',',
-        Some(word) => match delimiter_of(word) {
-            Some(byte) => byte,
-            None => return Err(ToolError::BadDelimiter),
-        },
+    let Some(delimiter) = delimiter_said(words) else {
+        return Err(ToolError::BadDelimiter);
     };
     let Some(key) = key_of(alloc, &words.key, words.has_header)? else {
         return Err(ToolError::BadColumn);
@@ -72,10 +89,15 @@ pub fn layout_of(alloc: Global, words: &LayoutWords) -> Result<Layout, ToolError
         },
     };
     Ok(Layout {
+        format: words.format,
         delimiter,
         has_header: words.has_header,
         key,
         weight,
+        part: KeyPart {
+            until: Vec::from_slice(alloc, words.until.as_slice())?,
+            prefix: words.prefix,
+        },
         allow_zero: words.allow_zero,
         decimals: words.decimals,
         hash: KeyHash::fixed(),

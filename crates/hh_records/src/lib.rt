@@ -6,6 +6,7 @@
 
 mod clipped;
 mod decimals;
+mod format;
 pub mod laws;
 mod layout;
 mod layout_words;
@@ -14,9 +15,10 @@ pub mod retrying;
 mod texts;
 
 pub use decimals::pointed;
+pub use format::{Format, KeyPart};
 pub use hh_faults::{BadRecordCause, ReadError, TextError};
 pub use hh_stream::TakeItems;
-pub use layout::{Column, ColumnIndices, Layout, column_of, delimiter_of};
+pub use layout::{Column, ColumnIndices, Layout, ChosenLayout, column_of, delimiter_of};
 pub use layout_words::{LayoutWords, layout_of};
 pub use records::{
     RecordFault, number_in, numbered_fault, read_items, read_rows, read_stream, take_item,

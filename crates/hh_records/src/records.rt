@@ -7,12 +7,15 @@ ghost use Rattle.csv.specs.Writing.{default_writer, row_body};
 ghost use Rattle.hh_stream.specs.Weights.{max_total};
 ghost use Rattle.hh_stream.specs.Digits.{is_number, value_of};
 ghost use Rattle.hh_stream.specs.Taking.{Takes};
+ghost use Rattle.hh_records.specs.Formats.{part_said, with_part};
+ghost use Rattle.hh_records.specs.Layouts.{parts_by, chosen_columns};
 ghost use Rattle.hh_records.specs.Layouts.{IsText, PartsRefused, RowsRefused, adds, chosen_places, fields_at, is_hyphen, items_after, parts_at, parts_left, weight_at, weight_by};
 ghost use Rattle.hh_records.specs.Streams.{fault_of, numbered_fault, parts_of, ReadRefused, ReadsAs, text_known};
 ghost use Rattle.hh_records.specs.Taking.{TakesItems};
 
 use crate::decimals::{scaled, units_in};
-use crate::layout::{ColumnIndices, Layout};
+use crate::format::{KeyPart, fields_by};
+use crate::layout::{ColumnIndices, Layout, ChosenLayout};
 use crate::retrying::Retrying;
 use crate::texts::{Records, Text, read_records};
 use csv::{ByteRecord, ErrorKind, Reader, WriterBuilder};
@@ -129,19 +132,27 @@ pub fn take_item<T: TakeItems>(
     }
 }
 
-/// The text of some fields of a record, as `csv` writes it, where the record has them.
+/// The text of the fields of a record at `places`, of the last one a `part`, as `csv` writes it,
+/// where the record has them.
 fn joined_key(
     alloc: Global,
     row: &ByteRecord,
     places: &[usize],
+    part: &KeyPart,
 ) -> Result<Option<Vec<u8>>, AllocError>
     ensures { IfOk result (λ key. option_map (λ k. k.items) key
-        ≡ option_map (row_body default_writer) (fields_at (fields_of row.now) places.now)) }
+        ≡ option_map (λ fs. row_body default_writer (with_part (part_said part.now) fs))
+        (fields_at (fields_of row.now) places.now)) }
 {
     let mut writer = WriterBuilder::new().from_writer(Vec::new(alloc));
-    for place in places {
-        let Some(field) = row.get(*place) else {
+    for i in 0..places.len() {
+        let Some(field) = row.get(places[i]) else {
             return Ok(None);
+        };
+        let field = if i + 1 == places.len() {
+            part.of(field)
+        } else {
+            field
         };
         match writer.write_field(field) {
             Ok(()) => {}
@@ -168,23 +179,27 @@ fn weight_field(row: &ByteRecord, place: Option<usize>) -> Option<Option<&[u8]>>
     }
 }
 
-/// Hands on what a record adds, by the places of its key and of its weight.
+/// Hands on what a record adds, by the places of its key, of whose last field a `part` counts, and
+/// of its weight.
 fn take_chosen<T: TakeItems>(
     alloc: Global,
     taker: &mut T,
     row: &ByteRecord,
     chosen: &ColumnIndices,
+    part: &KeyPart,
     layout: &Layout,
 ) -> Result<(), RecordFault>
     requires bounded { T.weight_taken taker.old ≤ max_total }
     ensures taken { OnOk result
         (Takes T.with_item T.weight_taken taker.old taker.new (λ xs.
         adds layout.now (T.weight_taken taker.old)
-        (parts_at (chosen_places (Some chosen.now)) (fields_of row.now)) ≡ Ok xs)) }
+        (parts_by (chosen_columns (Some chosen.now)) (part_said part.now) (fields_of row.now))
+        ≡ Ok xs)) }
     ensures bounded { OnOk result (T.weight_taken taker.new ≤ max_total) }
     ensures refused { IfErr result (λ fault.
         PartsRefused layout.now (T.weight_taken taker.old)
-        (parts_at (chosen_places (Some chosen.now)) (fields_of row.now)) fault) }
+        (parts_by (chosen_columns (Some chosen.now)) (part_said part.now) (fields_of row.now))
+        fault) }
 {
     let Some(field) = weight_field(row, chosen.weight) else {
         return Err(RecordFault::Bad(BadRecordCause::FieldCount));
@@ -193,21 +208,51 @@ fn take_chosen<T: TakeItems>(
         let Some(key) = row.get(chosen.key[0]) else {
             return Err(RecordFault::Bad(BadRecordCause::FieldCount));
         };
-        return take_item(alloc, taker, key, field, layout);
+        return take_item(alloc, taker, part.of(key), field, layout);
     }
-    match joined_key(alloc, row, chosen.key.as_slice()) {
+    match joined_key(alloc, row, chosen.key.as_slice(), part) {
         Ok(Some(key)) => take_item(alloc, taker, key.as_slice(), field, layout),
         Ok(None) => Err(RecordFault::Bad(BadRecordCause::FieldCount)),
         Err(AllocError) => Err(RecordFault::Memory),
     }
 }
 
-/// Hands on what a record adds.
+/// Hands on what a record of these fields adds.
+fn take_fields<T: TakeItems>(
+    alloc: Global,
+    taker: &mut T,
+    row: &ByteRecord,
+    chosen: &ChosenLayout,
+    layout: &Layout,
+) -> Result<(), RecordFault>
+    requires bounded { T.weight_taken taker.old ≤ max_total }
+    ensures taken { OnOk result
+        (Takes T.with_item T.weight_taken taker.old taker.new (λ xs.
+        adds layout.now (T.weight_taken taker.old)
+        (parts_by (chosen_columns chosen.now.columns) (part_said chosen.now.part)
+        (fields_of row.now)) ≡ Ok xs)) }
+    ensures bounded { OnOk result (T.weight_taken taker.new ≤ max_total) }
+    ensures refused { IfErr result (λ fault.
+        PartsRefused layout.now (T.weight_taken taker.old)
+        (parts_by (chosen_columns chosen.now.columns) (part_said chosen.now.part)
+        (fields_of row.now)) fault) }
+{
+    match &chosen.columns {
+        Some(columns) => take_chosen(alloc, taker, row, columns, &chosen.part, layout),
+        None => match parts_of(row) {
+            Some((key, field)) => take_item(alloc, taker, key, field, layout),
+            None => Err(RecordFault::Bad(BadRecordCause::FieldCount)),
+        },
+    }
+}
+
+/// Hands on what a record adds that `csv` reads as `row`. `spare` is room for its fields.
 fn take_record<T: TakeItems>(
     alloc: Global,
     taker: &mut T,
     row: &ByteRecord,
-    chosen: &Option<ColumnIndices>,
+    spare: &mut ByteRecord,
+    chosen: &ChosenLayout,
     layout: &Layout,
 ) -> Result<(), RecordFault>
     requires bounded { T.weight_taken taker.old ≤ max_total }
@@ -220,12 +265,9 @@ fn take_record<T: TakeItems>(
         PartsRefused layout.now (T.weight_taken taker.old)
         (parts_at (chosen_places chosen.now) (fields_of row.now)) fault) }
 {
-    match chosen {
-        Some(chosen) => take_chosen(alloc, taker, row, chosen, layout),
-        None => match parts_of(row) {
-            Some((key, field)) => take_item(alloc, taker, key, field, layout),
-            None => Err(RecordFault::Bad(BadRecordCause::FieldCount)),
-        },
+    match fields_by(alloc, chosen.format, row, spare) {
+        Ok(fields) => take_fields(alloc, taker, fields, chosen, layout),
+        Err(AllocError) => Err(RecordFault::Memory),
     }
 }
 
@@ -260,7 +302,7 @@ pub(crate) fn fault_of(fault: &ErrorKind) -> ReadError
 fn take_rows<R: Read, T: TakeItems>(
     alloc: Global,
     rows: &mut Reader<Retrying<R>>,
-    chosen: &Option<ColumnIndices>,
+    chosen: &ChosenLayout,
     before: u64,
     taker: &mut T,
     layout: &Layout,
@@ -278,6 +320,7 @@ fn take_rows<R: Read, T: TakeItems>(
         (parts_left R.remaining (record { rows = rows.old; chosen = chosen.now })) error) }
 {
     let mut row = ByteRecord::new(alloc);
+    let mut spare = ByteRecord::new(alloc);
     let mut number = before;
     while number < u64::MAX {
         match rows.read_byte_record(&mut row) {
@@ -286,7 +329,7 @@ fn take_rows<R: Read, T: TakeItems>(
             Err(error) => return Err(fault_of(error.kind())),
         }
         number += 1;
-        match take_record(alloc, taker, &row, chosen, layout) {
+        match take_record(alloc, taker, &row, &mut spare, chosen, layout) {
             Ok(()) => {}
             Err(fault) => return Err(numbered_fault(number, fault)),
         }

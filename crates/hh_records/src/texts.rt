@@ -9,7 +9,7 @@ ghost use Rattle.hh_records.specs.Clips.{clipped_for};
 ghost use Rattle.hh_records.specs.Layouts.{AllOpen, IsStart, IsText, OpenRefused, Opens, OpensAs};
 ghost use Rattle.hh_stream.specs.Taking.{Takes};
 ghost use Rattle.hh_records.specs.Layouts.{RowsRefused, TextsRefused, all_left};
-ghost use Rattle.hh_records.specs.Layouts.{choice_fault, chosen_places, delimited, every, headed_parts, items_after};
+ghost use Rattle.hh_records.specs.Layouts.{choice_fault, chosen_places, config_of, every, headed_parts, items_after};
 ghost use Rattle.hh_records.specs.Layouts.{names_columns, records_known, texts_known};
 ghost use Rattle.hh_records.specs.Layouts.{text_parts, texts_parts, unread};
 ghost use Rattle.hh_records.specs.Layouts.{FindsColumns, rows_in};
@@ -18,7 +18,7 @@ ghost use Rattle.hh_records.specs.Taking.{TakesItems};
 
 use crate::clipped::Clipped;
 use crate::laws::plain_layouts_read_streams;
-use crate::layout::{ChoiceFault, ColumnIndices, Layout, choose};
+use crate::layout::{ChoiceFault, Layout, ChosenLayout, choose};
 use crate::records::{fault_of, read_rows};
 use crate::retrying::Retrying;
 use csv::{ByteRecord, Reader, ReaderBuilder};
@@ -42,7 +42,7 @@ impl From<ChoiceFault> for TextError {
 #[derive(Drop)]
 pub struct Text<R> {
     pub rows: Reader<Retrying<R>>,
-    pub chosen: Option<ColumnIndices>,
+    pub chosen: ChosenLayout,
 }
 
 /// A reader of the records of a text, at its start.
@@ -51,7 +51,8 @@ fn rows_of<R: Read>(alloc: Global, reader: R, layout: &Layout) -> Reader<Retryin
     ensures source { unread R.remaining result ≡ option_map strip_bom (R.remaining reader) }
 {
     ReaderBuilder::new()
-        .delimiter(layout.delimiter)
+        .delimiter(layout.format.byte_between(layout.delimiter))
+        .quoting(layout.format.has_quotes())
         .has_headers(false)
         .flexible(true)
         .from_reader(alloc, Retrying::new(reader))
@@ -63,22 +64,22 @@ fn after_header<R: Read>(
     alloc: Global,
     rows: &mut Reader<Retrying<R>>,
     layout: &Layout,
-) -> Result<Option<Option<ColumnIndices>>, TextError>
+) -> Result<Option<ChosenLayout>, TextError>
     requires start { IsStart layout.now rows.old }
     requires headed { layout.now.has_header ≡ true }
     ensures text { IfOk result (λ found. IfSome found (λ chosen.
         IsText (record { rows = rows.new; chosen = chosen }))) }
     ensures opened { IfOk result (λ found. Opens R.remaining
         (option_map (λ bytes.
-        headed_parts layout.now (records (delimited layout.now.delimiter) bytes))
+        headed_parts layout.now (records (config_of layout.now) bytes))
         (unread R.remaining rows.old))
         (option_map (λ chosen. record { rows = rows.new; chosen = chosen }) found)) }
     ensures columns { IfOk result (λ found. IfSome (unread R.remaining rows.old) (λ bytes.
-        FindsColumns layout.now (records (delimited layout.now.delimiter) bytes)
+        FindsColumns layout.now (records (config_of layout.now) bytes)
         (option_map chosen_places found))) }
     ensures refused { IfErr result (λ error. OpenRefused (names_columns layout.now)
         (option_map (λ bytes.
-        headed_parts layout.now (records (delimited layout.now.delimiter) bytes))
+        headed_parts layout.now (records (config_of layout.now) bytes))
         (unread R.remaining rows.old)) error) }
 {
     let mut header = ByteRecord::new(alloc);
