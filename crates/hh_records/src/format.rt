@@ -5,7 +5,6 @@ ghost use Rattle.std.specs.List.{position_or_len};
 ghost use Rattle.bstr.specs.Bytes.{is_in};
 ghost use Rattle.csv.specs.Records.{fields_of, partial_of};
 ghost use Rattle.hh_records.specs.Formats.{byte_between, fields_by, has_quotes, is_whole_field, part_of, part_said};
-
 ghost use Rattle.hh_records.specs.declared.format.Format.TheVariants.{Lines, Squeezed};
 
 use bstr::{ByteSlice, join};

@@ -15,7 +15,7 @@ ghost use Rattle.hh_records.specs.Taking.{TakesItems};
 
 use crate::decimals::{scaled, units_in};
 use crate::format::{KeyPart, fields_by, part_of_last};
-use crate::layout::{ColumnIndices, Layout, ChosenLayout};
+use crate::layout::{ChosenLayout, ColumnIndices, Layout};
 use crate::retrying::Retrying;
 use crate::texts::{Records, Text, read_records};
 use csv::{ByteRecord, ErrorKind, Reader, WriterBuilder};

@@ -38,7 +38,7 @@ loop-i-preserved c =
     let part = part_said c.args.part.now in
     let more : (i == length ps) ≡ false = ne_eqb i (length ps) (λ e. omega (arith, e, c.loop-i-test.true)) in
     let last = so-far-push (i + 1 == length ps) part fs c.in-Some.field.now c.part_of_last-field.result.now
-        c.part_of_last-field.ensures in (
+    c.part_of_last-field.ensures in (
       wrote.same ∙ inv.0,
       wrote.count ∙ rw inv.1 (omega (arith, c.loop-i-test.true)),
       (
