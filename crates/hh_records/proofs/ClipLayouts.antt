@@ -21,7 +21,7 @@ use Rattle.hh_records.specs.Streams.{Fields, Parts, item_of_key, parts_of}
 use Rattle.hh_records.specs.declared.layout.Layout.{Layout}
 use Rattle.hh_faults.specs.declared.records.BadRecordCause.{BadRecordCause}
 use Rattle.hh_faults.specs.declared.records.BadRecordCause.TheVariants as cause
-use Rattle.hh_records.proofs.FormatFacts.{with-whole}
+use Rattle.hh_records.proofs.FormatFacts.{whole-parts, with-whole}
 use Rattle.hh_records.proofs.ClipRows.{AlikeHeaded, AlikeRows, all-alike, headed-alike, stripped}
 
 -- ---- a weight's field that is long
@@ -189,7 +189,7 @@ weight-at-alike fs gs (Some i) h = by (field_at fs i) (field_at gs i) (at-alike 
 
 parts-alike : (columns : Columns) (part : Part) (fs gs : Fields) → is_whole_field part ≡ true → AlikeFields fs gs
     → AlikeParts (parts_by columns part fs) (parts_by columns part gs)
-parts-alike None part fs gs whole h = pair-alike fs gs h
+parts-alike None part fs gs whole h = rw (whole-parts part fs whole, whole-parts part gs whole) (pair-alike fs gs h)
 parts-alike (Some at) part fs gs whole h = by _ _ _ _ (fields-alike fs gs at.0 h) (weight-at-alike fs gs at.1 h)
   where
     key : Fields → List ℕ

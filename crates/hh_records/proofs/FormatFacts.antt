@@ -10,7 +10,8 @@ use Rattle.csv.specs.Records.{field_at, fields_of}
 use Rattle.csv.specs.declared.record.ByteRecordIter.{ByteRecordIter}
 use Rattle.memchr.specs.Find.{Nowhere, Passes}
 use Rattle.hh_records.specs.Formats.{Part, is_empty, is_whole_field, part_of, with_part}
-use Rattle.hh_records.specs.Streams.{Fields}
+use Rattle.hh_records.specs.Layouts.{parts_by}
+use Rattle.hh_records.specs.Streams.{Fields, Parts, parts_of}
 
 -- ---- the first place that passes a test
 module _ (test : ℕ → Bool) where
@@ -55,6 +56,19 @@ unfolding with_part
 with-whole part [] e = refl
 with-whole part (f ∷ []) e = ap (λ (g : List ℕ). g ∷ []) (whole-part part f e)
 with-whole part (f ∷ g ∷ rest) e = ap (λ (fs : Fields). f ∷ fs) (with-whole part (g ∷ rest) e)
+
+-- a key, and the whole of it
+whole-key : (part : Part) (o : Parts) → is_whole_field part ≡ true → option_map (λ p. (part_of part p.0, p.1)) o ≡ o
+whole-key part None e = refl
+whole-key part (Some p) e = ap (λ (k : List ℕ). Some (k, p.1)) (whole-part part p.0 e)
+
+-- records of a key and its weight, where keys are whole fields
+pub whole-parts : (part : Part) (r : Fields) → is_whole_field part ≡ true → parts_by None part r ≡ parts_of r
+whole-parts part r e = whole-key part (parts_of r) e
+
+pub whole-rows : (part : Part) (rows : List Fields) → is_whole_field part ≡ true → map (parts_by None part) rows ≡ map parts_of rows
+whole-rows part [] e = refl
+whole-rows part (r ∷ rows) e = rw (whole-parts part r e) (ap (λ (ps : List Parts). parts_of r ∷ ps) (whole-rows part rows e))
 
 -- a field more, of which a part counts
 pub with-part-push : (part : Part) (fs : Fields) (f : List ℕ) → with_part part (fs ++ f ∷ []) ≡ fs ++ part_of part f ∷ []

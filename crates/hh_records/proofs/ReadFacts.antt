@@ -28,6 +28,8 @@ use Rattle.hh_records.specs.declared.layout.ChoiceFault.TheVariants as choice
 use Rattle.hh_records.specs.declared.layout.ChosenLayout.{ChosenLayout}
 use Rattle.hh_records.specs.declared.layout.Layout.{Layout}
 use Rattle.hh_records.specs.declared.retrying.Retrying.{Retrying}
+use Rattle.hh_records.proofs.FormatFacts.{whole-rows}
+use Rattle.hh_records.specs.Formats.{part_said}
 use Rattle.hh_records.specs.Laws.{PlainLayoutsReadStreams}
 use Rattle.hh_records.specs.Streams.{Fields, Parts, Reading, item_of_parts, items_from, numbered_fault, parts_of, reading_next}
 
@@ -442,7 +444,8 @@ plain-parts : (layout : Layout) (text : List ℕ) → IsPlain layout
 unfolding gathered
 plain-parts layout text plain =
     let nothing = append-nil (map parts_of (records default_config (strip_bom text))) in
-    rw (plain.csv, plain.delimiter, plain.no_header, plain.no_key, plain.no_weight, plain.whole_field, nothing) refl
+    let whole = whole-rows (part_said layout.part) (records default_config (strip_bom text)) plain.whole_field in
+    rw (plain.csv, plain.delimiter, plain.no_header, plain.no_key, plain.no_weight, whole, nothing) refl
 
 -- such a layout reads a text as its stream
 pub plain-layouts : PlainLayoutsReadStreams

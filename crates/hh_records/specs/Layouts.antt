@@ -15,7 +15,7 @@ use Rattle.csv.specs.declared.reader.Trim.TheVariants as trim
 use Rattle.hh_stream.specs.Digits.{is_number, value_of}
 use Rattle.hh_stream.specs.Weights.{Entry, total_of}
 use Rattle.hh_records.specs.Decimals.{units_of}
-use Rattle.hh_records.specs.Formats.{Part, byte_between, fields_by, has_quotes, is_whole_field, part_said, with_part}
+use Rattle.hh_records.specs.Formats.{Part, byte_between, fields_by, has_quotes, is_whole_field, part_of, part_said, with_part}
 use Rattle.hh_records.specs.Streams.{Fields, Known, Parts, Reading, ReadsAs, item_of_key, parts_of}
 use Rattle.hh_records.specs.declared.format.Format.{Format}
 use Rattle.hh_records.specs.declared.format.Format.TheVariants as format
@@ -82,7 +82,7 @@ weight_at r (Some i) = option_map Some (field_at r i)
 
 -- the key and the weight's field of these fields, by their columns and a part of the key's last one
 abbrev pub parts_by : Columns → Part → Fields → Parts
-parts_by None part r = parts_of r
+parts_by None part r = option_map (λ p. (part_of part p.0, p.1)) (parts_of r)
 parts_by (Some at) part r =
     option_zip (option_map (λ fs. key_of (with_part part fs)) (fields_at r at.0)) (weight_at r at.1)
 
@@ -195,10 +195,9 @@ names_none [] None = true
 names_none [] (Some c) = false
 names_none (c ∷ cs) weight = false
 
--- whether a layout names columns, or a part of the first one
+-- whether a layout names columns
 abbrev pub names_columns : Layout → Bool
-names_columns layout =
-    not (names_none layout.key.items layout.weight && is_whole_field (part_said layout.part))
+names_columns layout = not (names_none layout.key.items layout.weight)
 
 -- the columns that a layout names, or nothing where these fields of a header lack one
 abbrev pub columns_among : Layout → Fields → Option Columns

@@ -36,7 +36,7 @@ pub struct Layout {
     pub key: Vec<Column>,
     /// The column of the weight. Where none is named beside a key's, each record weighs 1.
     pub weight: Option<Column>,
-    /// The part of the key's last column that counts, and of column 1 where no column is named.
+    /// The part of the key's last field that counts.
     pub part: KeyPart,
     /// A record of weight 0 adds nothing and is no fault, and `-` is such a weight.
     pub allow_zero: bool,
@@ -198,13 +198,6 @@ fn key_places(
     places_of(alloc, header, columns)
 }
 
-/// Whether `layout` names columns, or a part of the first one.
-fn names_columns(layout: &Layout) -> bool
-    ensures { result ≡ names_columns layout.now }
-{
-    !layout.key.is_empty() || layout.weight.is_some() || !layout.part.is_whole()
-}
-
 /// Finds the places of the columns that `layout` names among the fields of `header`, or nothing
 /// where it names none.
 fn columns_among(
@@ -217,7 +210,7 @@ fn columns_among(
     ensures missing { result ≡ Err NoColumn → (names_columns layout.now ≡ true)
         × (columns_among layout.now (fields_of header.now) ≡ None) }
 {
-    if !names_columns(layout) {
+    if layout.key.is_empty() && layout.weight.is_none() {
         return Ok(None);
     }
     let weight = match &layout.weight {

@@ -236,7 +236,7 @@ fn take_fields<T: TakeItems>(
     match &chosen.columns {
         Some(columns) => take_chosen(alloc, taker, row, columns, &chosen.part, layout),
         None => match parts_of(row) {
-            Some((key, field)) => take_item(alloc, taker, key, field, layout),
+            Some((key, field)) => take_item(alloc, taker, chosen.part.of(key), field, layout),
             None => Err(RecordFault::Bad(BadRecordCause::FieldCount)),
         },
     }
