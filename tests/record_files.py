@@ -40,6 +40,9 @@ class Layout:
     weight: bytes | None = None
     allow_zero: bool = False
     decimals: int = 0
+    form: bytes = b""
+    until: bytes = b""
+    prefix: int | None = None
 
 
 @dataclass
@@ -50,11 +53,13 @@ class Records:
     texts: dict[int, bytes | None]
 
 
-def delimiter_of(word: bytes | None) -> str:
+def delimiter_of(word: bytes | None, form: bytes = b"") -> str:
     if word is None:
-        return ","
+        return " " if form == b"--squeeze" else ","
     if word == b"\\t":
         return "\t"
+    if word == b'"' and form:
+        return '"'
     if len(word) != 1 or word in b'"\r\n':
         raise reference.Refused(BAD_DELIMITER, 2)
     return word.decode("latin-1")
@@ -78,6 +83,18 @@ def fields_of(text: bytes, delimiter: str) -> list[list[str]]:
     return [record for record in csv.reader(lines, delimiter=delimiter) if record]
 
 
+def records_of(text: bytes, layout: Layout) -> list[list[str]]:
+    """The records of a text by a layout's form."""
+    delimiter = delimiter_of(layout.delimiter, layout.form)
+    if not layout.form:
+        return fields_of(text, delimiter)
+    lines = [line for line in re.split("[\r\n]", text.removeprefix(MARK).decode("latin-1")) if line]
+    if layout.form == b"--lines":
+        return [[line] for line in lines]
+    rows = [line.split(delimiter) for line in lines]
+    return [[one for one in row if one] for row in rows] if layout.form == b"--squeeze" else rows
+
+
 def place_of(column: int | str, header: list[str]) -> int:
     if isinstance(column, int):
         return column
@@ -95,18 +112,26 @@ def key_text(fields: list[str]) -> str:
     return line.getvalue().removesuffix("\r\n")
 
 
-def parts_of(record: list[str], key: list[int], weight: int | None) -> tuple[str, str] | None:
+def part_of(field: str, layout: Layout) -> str:
+    """The part of a key's last field that counts."""
+    ends = [place for place, byte in enumerate(field) if byte in layout.until.decode("latin-1")]
+    return field[: min([len(field), *ends])][: layout.prefix]
+
+
+def parts_of(record: list[str], key: list[int], weight: int | None, layout: Layout) -> tuple[str, str] | None:
     """A record's key and weight, or None where it lacks a field. Without places it is a key or a key and a weight."""
     if not key:
-        return (record[0], (record + ["1"])[1]) if len(record) <= 2 else None
+        return (part_of(record[0], layout), (record + ["1"])[1]) if len(record) in (1, 2) else None
     if max([*key, weight or 0]) >= len(record):
         return None
-    return key_text([record[place] for place in key]), "1" if weight is None else record[weight]
+    fields = [record[place] for place in key]
+    fields[-1] = part_of(fields[-1], layout)
+    return key_text(fields), "1" if weight is None else record[weight]
 
 
 def parts_in(text: bytes, layout: Layout) -> list[tuple[str, str] | None]:
     """The records of a text by its own header."""
-    rows = fields_of(text, delimiter_of(layout.delimiter))
+    rows = records_of(text, layout)
     header = []
     if layout.has_header:
         if not rows:
@@ -114,9 +139,9 @@ def parts_in(text: bytes, layout: Layout) -> list[tuple[str, str] | None]:
         header, *rows = rows
     key = [place_of(column_of(word, layout.has_header), header) for word in layout.key]
     if layout.weight is None:
-        return [parts_of(row, key, None) for row in rows]
+        return [parts_of(row, key, None, layout) for row in rows]
     weight = place_of(column_of(layout.weight, layout.has_header), header)
-    return [parts_of(row, key or [0], weight) for row in rows]
+    return [parts_of(row, key or [0], weight, layout) for row in rows]
 
 
 def weight_in(written: str, layout: Layout) -> int | None:
@@ -130,7 +155,7 @@ def weight_in(written: str, layout: Layout) -> int | None:
 def items_of(records: Records) -> list[reference.Item]:
     """The stream of some texts, or the first refusal: of the words, of a missing file, of a header, of a record."""
     layout = records.layout
-    delimiter_of(layout.delimiter)
+    delimiter_of(layout.delimiter, layout.form)
     for word in [*layout.key, *([] if layout.weight is None else [layout.weight])]:
         column_of(word, layout.has_header)
     for place, text in records.texts.items():
@@ -230,7 +255,7 @@ def some_text(draw: Random, layout: Layout, names: list[bytes]) -> bytes:
     if draw.random() < 0.1:
         return draw.choice([b"", b"", b"\n", b"\r\n\n", MARK])
     try:
-        byte = delimiter_of(layout.delimiter).encode("latin-1")
+        byte = delimiter_of(layout.delimiter, layout.form).encode("latin-1")
     except reference.Refused:
         byte = b","
     rows, columns = [], list(names)
@@ -247,7 +272,8 @@ def some_text(draw: Random, layout: Layout, names: list[bytes]) -> bytes:
     end = draw.choice(ENDS)
     parts = [MARK] if draw.random() < 0.1 else []
     for row in rows:
-        parts += [byte.join(spelled(draw, one, byte) for one in row), end * draw.choice([1] * 9 + [2])]
+        padding = byte * draw.choice([1, 1, 2, 3]) if layout.form == b"--squeeze" else byte
+        parts += [padding.join(spelled(draw, one, byte) for one in row), end * draw.choice([1] * 9 + [2])]
     if draw.random() < 0.4:
         parts.append(b"")
         parts[-2 if rows else -1] = b""
@@ -289,6 +315,12 @@ def some_layout(draw: Random, names: list[bytes]) -> Layout:
         layout.decimals = draw.choice([0, 1, 2, 3, 3, 6, 9, 9])
     if draw.random() < 0.6:
         layout.delimiter = draw.choice(BAD_DELIMITERS if draw.random() < 0.02 else DELIMITERS)
+    if draw.random() < 0.4:
+        layout.form = draw.choice([b"--no-quotes", b"--squeeze", b"--lines"])
+    if draw.random() < 0.2:
+        layout.until = draw.choice([b"?", b"b", b"/?#", b'"', b",", b"kq", b"a\xff;"])
+    if draw.random() < 0.2:
+        layout.prefix = draw.choice([1, 1, 2, 3, 2047, 4096, 2**64 - 1])
     if draw.random() < 0.7:
         columns = [some_column(draw, has_header, names) for _ in range(draw.choice([1, 1, 1, 2, 2, 3]))]
         layout.key = [column for column in columns if b"," not in column]
@@ -306,6 +338,12 @@ def words_of(draw: Random, layout: Layout) -> list[bytes]:
         groups.append([b"--header"])
     if layout.allow_zero:
         groups.append([b"--allow-zero"])
+    if layout.form:
+        groups.append([layout.form])
+    if layout.until:
+        groups.append([b"--until", layout.until])
+    if layout.prefix is not None:
+        groups.append([b"--prefix", b"%d" % layout.prefix])
     if layout.decimals or draw.random() < 0.1:
         groups.append([b"--decimals", b"%d" % layout.decimals])
     keys = [b",".join(layout.key)] if layout.key and draw.random() < 0.7 else layout.key
@@ -341,7 +379,7 @@ def case(draw: Random) -> hostile.Case:
     layout = some_layout(draw, names)
     texts = [some_text(draw, layout, names) for _ in range(draw.choice([1, 1, 2, 2, 3, 5]))]
     if draw.random() < 0.3:
-        layout = Layout(layout.delimiter, False, allow_zero=layout.allow_zero, decimals=layout.decimals)
+        layout = Layout(layout.delimiter, False, allow_zero=layout.allow_zero, decimals=layout.decimals, form=layout.form)
         texts = [some_unquoted_text(draw, layout.delimiter) for _ in texts]
     files, read, given = some_files(draw, texts)
     kind, k = draw.randrange(6), draw.choice([1, 2, 3, 9, 65535])
@@ -388,6 +426,12 @@ def layout_of(words: list[str]) -> Layout:
                 layout.weight = left.pop(0)
             case b"--decimals":
                 layout.decimals = int(left.pop(0))
+            case b"--no-quotes" | b"--squeeze" | b"--lines" as form:
+                layout.form = form
+            case b"--until":
+                layout.until = left.pop(0)
+            case b"--prefix":
+                layout.prefix = int(left.pop(0))
             case word:
                 raise ValueError(f"no option of records: {word}")
     return layout
@@ -524,6 +568,23 @@ REPORTS = [
     (["--decimals", "2", "--key", "1"], [b"a,1.5\nb\na,x\n"], b"a,2.00\nb,1.00\n"),
     (["--decimals", "3"], [b"a," + b"0" * 20 + b".001\n"], b"a,0.001\n"),
     (["--decimals", "2", "--delimiter", "."], [b"a.5\n"], b"a,5.00\n"),
+    # a quote is a byte as any other
+    (["--no-quotes"], [b'"a,5\nb,2\n"a,1'], b'"""a",6\nb,2\n'), (["--no-quotes", "--key", "2"], [b'x,"y\nz,"y\n'], b'"""y",2\n'),
+    (["--no-quotes", "--delimiter", '"', "--key", "2"], [BACKSLASH], b"GET /\\,1\n"),
+    (["--no-quotes", "--header", "--key", '"n"'], [b'"n",w\n"a,b\n'], b'"""a",1\n'),
+    # several delimiters are one, and those at a line's ends none
+    (["--squeeze", "--key", "2", "--weight", "1"], [b"   12 a\n 3   b \n4 a   \n"], b"a,16\nb,3\n"),
+    (["--squeeze"], [b"  a   5\nb\n\n  a\n"], b"a,6\nb,1\n"), (["--squeeze", "-d", ";"], [b";;a;;5\n"], b"a,5\n"),
+    (["--squeeze", "-H", "--key", "CMD", "--weight", "PID"], [b"  PID TTY CMD\n    7 ?   sh\n   12 ?   sh\n"], b"sh,19\n"),
+    # a line is a key
+    (["--lines"], [b'a,1\n"x\na,1\r\n\n b'], b'"a,1",2\n b,1\n"""x",1\n'), (["--lines"], [MARK + b"a\0b\na\0b\n"], b"a\0b,2\n"),
+    (["--lines", "--prefix", "1"], [b"ab\nac\nb\n"], b"a,2\nb,1\n"),
+    # a part of a key's last column
+    (["--until", "?#"], [b"/a?b,5\n/a#c,2\n/a,1\n/b?,1\n"], b"/a,8\n/b,1\n"), (["--prefix", "2"], [b"abc,5\nabd,2\na,1\n"], b"ab,7\na,1\n"),
+    (["--key", "1,2", "--prefix", "1"], [b"xy,ab\nxy,ac\nxz,a\n"], b'"xy,a",2\n"xz,a",1\n'),
+    (["--key", "2", "--until", ":", "--prefix", "3"], [b"x,abcd:e\nx,ab:c\n"], b"ab,1\nabc,1\n"),
+    (["--prefix", "18446744073709551615"], [b"abc\n"], b"abc,1\n"), (["--prefix", "4096"], [b"k" * 5000], b"k" * 4096 + b",1\n"),
+    (["--until", "k"], [b"a" + b"k" * 99999 + b",3\n"], b"a,3\n"),
     (["--decimals", "2", "--delimiter", ";"], [b"a;1.5\n", b"a;.25"], b"a,1.75\n"),
 ]
 
@@ -558,6 +619,9 @@ BAD_RECORDS = [
     *((["--decimals", "2"], [b"a," + weight], 1, "bad weight") for weight in BAD_DECIMALS),
     *((["--decimals", "0"], [b"a," + weight], 1, "bad weight") for weight in [*BAD_DECIMALS, b"1.5", b".5", b"0.0"]),
     *(([], [b"a," + weight], 1, "bad weight") for weight in [*BAD_DECIMALS, b"1.5", b".5", b"0.0"]),
+    (["--squeeze"], [b"a 1\n   \n"], 2, "wrong number of fields"), (["--no-quotes"], [b'"a,b",1\n'], 1, "wrong number of fields"),
+    (["--lines", "--key", "2"], [b"a,b\n"], 1, "wrong number of fields"), (["--until", "?"], [b"a\n?b\n"], 2, "empty key"),
+    (["--prefix", "0"], [b"a\n"], 1, "empty key"), (["--lines"], [b"a\n" + b"k" * 4097], 2, "key too long"),
     (["--decimals", "2"], [b"a,1,5\n"], 1, "wrong number of fields"), (["--decimals", "2"], [b",1.5\n"], 1, "empty key"),
     (["--decimals", "2"], [b"a,0.00\n"], 1, "zero weight"), (["--decimals", "2"], [b"a,-\n"], 1, "bad weight"),
     (["--decimals", "9"], [b"a,9223372036.854775808\n"], 1, "total too large"),

@@ -1,7 +1,7 @@
 -- Layouts of records that are said in words.
-use Rattle.std.specs.Prelude.{◌≡◌, ◌⊎◌, ℕ, Bool, List, [], ◌∷◌, map, Contains, Option, Some, None, IsSome, option_map, ⊤}
+use Rattle.std.specs.Prelude.{◌≡◌, ◌==◌, ◌&&◌, ◌⊎◌, ℕ, Bool, false, not, if◌then◌else◌, List, [], ◌∷◌, map, Contains, Option, Some, None, IsSome, option_map, ⊤}
 use Rattle.csv.specs.Writing.{comma}
-use Rattle.hh_records.specs.Formats.{part_said}
+use Rattle.hh_records.specs.Formats.{has_quotes, part_said}
 use Rattle.hh_records.specs.Layouts.{NamesColumn, delimiter_of}
 use Rattle.hh_records.specs.declared.format.Format.{Format}
 use Rattle.hh_records.specs.declared.format.Format.TheVariants as format
@@ -19,10 +19,17 @@ usual_delimiter format.Unquoted = comma
 usual_delimiter format.Squeezed = 32
 usual_delimiter format.Lines = comma
 
--- the byte that a word names to stand between fields, if any does
+-- whether a word is a quote alone
+abbrev pub is_quote : List ℕ → Bool
+is_quote [] = false
+is_quote (b ∷ []) = b == 34
+is_quote (b ∷ c ∷ rest) = false
+
+-- the byte that a word names to stand between fields, if any does: a quote does where none is quoted
 abbrev pub delimiter_said : Format → Option (List ℕ) → Option ℕ
 delimiter_said format None = Some (usual_delimiter format)
-delimiter_said format (Some word) = delimiter_of word
+delimiter_said format (Some word) =
+    if not (has_quotes format) && is_quote word then Some 34 else delimiter_of word
 
 -- the byte between fields that these words say
 abbrev pub byte_said : LayoutWords → Option ℕ

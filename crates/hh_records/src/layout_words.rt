@@ -14,7 +14,8 @@ use std::alloc::{AllocError, Global};
 pub struct LayoutWords {
     /// How a record is written.
     pub format: Format,
-    /// The byte between two fields, or `\t` for a tab. None is a comma or, where several delimiters
+    /// The byte between two fields, or `\t` for a tab. It is a quote only where none is quoted. None
+    /// is a comma or, where several delimiters
     /// are one, a space.
     pub delimiter: Option<Vec<u8>>,
     /// The first record of each text names the columns.
@@ -60,7 +61,10 @@ fn delimiter_said(words: &LayoutWords) -> Option<u8>
     ensures { result ≡ byte_said words.now }
 {
     match &words.delimiter {
-        Some(word) => delimiter_of(word),
+        Some(word) => match word.as_slice() {
+            b"\"" if !words.format.has_quotes() => Some(b'"'),
+            word => delimiter_of(word),
+        },
         None => match words.format {
             Format::Squeezed => Some(b' '),
             Format::Csv | Format::Unquoted | Format::Lines => Some(b','),
