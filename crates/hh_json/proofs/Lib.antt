@@ -1,0 +1,3 @@
+pub mod MemberFacts
+pub mod ObjectFacts
+pub mod PathFacts

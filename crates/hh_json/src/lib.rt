@@ -1,0 +1,7 @@
+//! Lines of JSON, an object each: the members that names name, as the fields of a record.
+#![tactic(auto)]
+
+mod fields;
+mod paths;
+
+pub use fields::members;
