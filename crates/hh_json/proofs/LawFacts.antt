@@ -1,5 +1,5 @@
 -- The laws.
-use Rattle.std.proofs.Common.{◌≡◌, ◌==◌, ◌⊎◌, inl, inr, ◌∙◌, ◌+◌, ℕ, suc, Bool, true, false, List, [], ◌∷◌, ◌++◌, Bor, Option, None, Some, cond, length, refl, sym, ap, arith, eqb-true, length-append}
+use Rattle.std.proofs.Common.{◌≡◌, ◌==◌, ◌⊎◌, inl, inr, ◌∙◌, ◌+◌, ℕ, Bool, true, false, List, [], ◌∷◌, ◌++◌, Bor, Option, None, Some, length, refl, sym, ap, arith, eqb-true, length-append}
 use Rattle.std.specs.Prelude.{option_and_then, option_map}
 use Rattle.std.specs.List.{flat_map}
 use Rattle.std.specs.Option.{option_len, unwrap_or}
@@ -10,9 +10,9 @@ use Rattle.json.specs.Find.{get, get_member}
 use Rattle.json.specs.Json.{Json, object}
 use Rattle.json.specs.Value.{members_of}
 use Rattle.serde_json.specs.Find.{unescape}
-use Rattle.hh_json.specs.Fields.{fields_in, json_fields, key_of, keys_of, object_in, weight_of, weights_of}
+use Rattle.hh_json.specs.Fields.{fields_in, key_of, keys_of, object_in, weight_of, weights_of}
 use Rattle.hh_json.specs.Laws.{EachMemberHasAPointer, FieldsAreAllOrNone, LastMemberCounts, LinesOfOneObject, PointersGoPartByPart, escaped, is_pointer}
-use Rattle.hh_json.specs.Paths.{follow, named, parts_of, step}
+use Rattle.hh_json.specs.Paths.{follow, named, parts_of}
 use Rattle.hh_json.proofs.PathFacts.{last-step}
 
 pub lines_of_one_object : LinesOfOneObject

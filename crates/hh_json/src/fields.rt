@@ -5,7 +5,8 @@ ghost use Rattle.std.specs.Bool.{then_some};
 ghost use Rattle.std.specs.Prelude.{map, option_map};
 ghost use Rattle.csv.specs.Records.{fields_of, partial_of};
 ghost use Rattle.json.specs.Value.{value_view};
-ghost use Rattle.hh_json.specs.Fields.{fields_in, is_object, json_fields, key_of, key_text, keys_of, object_in, weight_of};
+ghost use Rattle.hh_json.specs.Fields.{fields_in, is_object, json_fields, key_of, key_text};
+ghost use Rattle.hh_json.specs.Fields.{keys_of, object_in, weight_of};
 
 use crate::paths::named;
 use csv::ByteRecord;
@@ -125,9 +126,9 @@ fn push_members(
 /// of members of one name the last counts.
 ///
 /// A key's member is a string, of which its characters count, or a number, `true` or `false`, as it
-/// is spelled. The weight's is a number. `fields` is left empty where one of them is missing, `null`
-/// or of another kind, and where `line` is no object that JSON text in UTF-8 spells, with no lone
-/// surrogate, and with at most 128 levels.
+/// is spelled. The weight's is a number, as it is spelled. `fields` is left empty where one of them
+/// is missing, `null` or of another kind, and where `line` isn't an object that JSON in UTF-8
+/// spells, without a lone surrogate and with at most 128 levels.
 ///
 /// `scratch` is kept from line to line, so that its memory serves them all.
 pub fn members(

@@ -1,6 +1,7 @@
 //! The values that names lead to.
 
-ghost use Rattle.std.specs.Prelude.{◌≡◌, ◌<◌, ◌∷◌, ◌↔◌, [], IsTrue, MatchOption, length, option_map};
+ghost use Rattle.std.specs.Prelude.{◌≡◌, ◌<◌, ◌∷◌, ◌↔◌, [], IsTrue, MatchOption, length};
+ghost use Rattle.std.specs.Prelude.{option_map};
 ghost use Rattle.json.specs.Find.{get_member};
 ghost use Rattle.json.specs.Value.{members_view, value_view};
 ghost use Rattle.serde_json.specs.Find.{index_of, unescape};

@@ -1,7 +1,6 @@
 use Rattle.std.proofs.Common.{◌∙◌, refl, ap, sym}
-use Rattle.std.specs.Prelude.{option_and_then}
 use Rattle.json.specs.Value.{value_view}
-use Rattle.hh_json.specs.Paths.{follow, parts_of}
+use Rattle.hh_json.specs.Paths.{follow}
 use Rattle.hh_json.proofs.PathFacts.{last-step, parts-more, parts-one}
 use Rattle.hh_json.proofs.paths.+follow.Goals as goal
 

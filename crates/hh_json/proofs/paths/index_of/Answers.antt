@@ -1,6 +1,5 @@
-use Rattle.std.proofs.Common.{◌≡◌, arith, sym}
+use Rattle.std.proofs.Common.{arith}
 use Rattle.std.proofs.lemmas.Bool.Decides.{nat_tests}
-use Rattle.fast_float.specs.Text.{scan}
 use Rattle.serde_json.specs.Find.{index_of}
 use Rattle.hh_json.proofs.paths.index_of.Goals as goal
 use Rattle.hh_json.proofs.paths.index_of.Goals.{then-len-part-via-then-len-part, then-len-part-via-else-len-part+then-part-eq48, then-part-gt1, else-part-gt1}

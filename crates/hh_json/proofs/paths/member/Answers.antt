@@ -24,6 +24,6 @@ loop-left-preserved c =
     let text = c.as_bytes.ensures.value in (
       omega arith,
       c.loop-left.invariant.1 ∙ ap (λ n. get_member name (members_view (take n all))) next
-      ∙ member-before name all k c.index.result.now (omega arith) c.index.ensures
-      (λ same. true≢false (sym (c.is_named.ensures.1 (same ∙ sym text)) ∙ c.if-is_named.false)),
+          ∙ member-before name all k c.index.result.now (omega arith) c.index.ensures
+          (λ same. true≢false (sym (c.is_named.ensures.1 (same ∙ sym text)) ∙ c.if-is_named.false)),
     )
