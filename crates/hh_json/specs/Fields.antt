@@ -43,7 +43,7 @@ abbrev pub keys_of : Json → List (List ℕ) → Option (List (List ℕ))
 keys_of j [] = Some []
 keys_of j (name ∷ names) = option_and_then (λ text. option_map (λ texts. text ∷ texts) (keys_of j names)) (key_of j name)
 
--- the same of the weight's name, where there is one
+-- the weight's text, as a list of one, or no text where no weight is named
 abbrev pub weights_of : Json → Option (List ℕ) → Option (List (List ℕ))
 weights_of j None = Some []
 weights_of j (Some name) = option_map (λ text. text ∷ []) (weight_of j name)
