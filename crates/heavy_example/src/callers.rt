@@ -1,6 +1,6 @@
 //! A caller of each library, as its page CALLING.md shows it.
 
-ghost use Rattle.std.specs.Prelude.{◌≡◌, ◌+◌, ◌<◌, ◌≤◌, ◌↔◌, ◌∷◌, [], List, Ok, Some, false, IsTrue, IfOk, IfSome, OnOk, map};
+ghost use Rattle.std.specs.Prelude.{◌≡◌, ◌+◌, ◌<◌, ◌≤◌, ◌↔◌, ◌∷◌, [], List, Ok, Some, false, IsTrue, IfOk, IfSome, OnOk, codes, map};
 ghost use Rattle.hh_faults.specs.Faults.{text_fault};
 ghost use Rattle.hh_faults.specs.Status.{status_of};
 ghost use Rattle.hh_stream.specs.Weights.{Entry, max_total, total_of, weight_of};
@@ -11,6 +11,8 @@ ghost use Rattle.hh_countmin.specs.Family.{drawn_family};
 ghost use Rattle.hh_countmin.specs.Table.{estimate_in, table_of};
 ghost use Rattle.hh_saved.specs.Reading.{saved_of};
 ghost use Rattle.hh_saved.specs.declared.saved.Saved.TheVariants.{Cells, Counters};
+ghost use Rattle.csv.specs.Records.{fields_of};
+ghost use Rattle.hh_json.specs.Fields.{json_fields};
 ghost use Rattle.hh_records.specs.Layouts.{texts_known};
 ghost use Rattle.hh_records.specs.Streams.{ReadsAs, text_known};
 ghost use Rattle.csv.specs.Writing.{comma};
@@ -24,12 +26,14 @@ ghost use Rattle.hh_commands.specs.Records.{SavesStream};
 ghost use Rattle.hh_library.specs.Add.{IsAdded};
 ghost use Rattle.hh_reports.specs.Report.{IsReported};
 
+use csv::ByteRecord;
 use hh_commands::{Method, describe_file};
 use hh_counters::Heavy;
 use hh_counters::laws::counters_bound_weights;
 use hh_countmin::Table;
 use hh_faults::{ReadError, SavedFault, TextError, ToolError};
 use hh_files::table_files;
+use hh_json::members;
 use hh_library::{add_items, summary_bytes};
 use hh_output::{Form, Output, converted};
 use hh_pieces::{ReadAt, SourceRecords, ends_outside_quotes};
@@ -43,6 +47,7 @@ use hh_stream::{Cutting, Key, PushRefused, Stream};
 use hh_summaries::{MergeFault, Summary};
 use hh_tally::Tally;
 use hh_workers::PlanFault;
+use json::Scratch;
 use std::alloc::{AllocError, Global};
 use std::io::Read;
 use std::sync::Wait;
@@ -108,6 +113,18 @@ pub fn summary_in(alloc: Global, file: &[u8]) -> Result<Option<Summary>, SavedFa
         Saved::Counters(summary) => Ok(Some(summary)),
         Saved::Cells(_) => Ok(None),
     }
+}
+
+/// The record of a line of JSON: its key is the member `client`, and its weight the member `bytes`.
+pub fn client_and_bytes(alloc: Global, line: &[u8]) -> Result<ByteRecord, AllocError>
+    ensures { IfOk result (λ row. fields_of row
+        ≡ json_fields (codes "client" ∷ []) (Some (codes "bytes")) line.now) }
+{
+    let mut scratch = Scratch::new(alloc);
+    let mut row = ByteRecord::new(alloc);
+    let names = [Vec::from_slice(alloc, b"client")?];
+    members(alloc, line, &names, Some(b"bytes"), &mut scratch, &mut row)?;
+    Ok(row)
 }
 
 /// The total weight of the records of a reader.

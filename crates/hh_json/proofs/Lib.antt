@@ -1,0 +1,4 @@
+pub mod LawFacts
+pub mod MemberFacts
+pub mod ObjectFacts
+pub mod PathFacts

@@ -1,0 +1,153 @@
+//! The members of a line as the fields of a record.
+
+ghost use Rattle.std.specs.Prelude.{◌≡◌, ◌++◌, [], IfOk, OnOk};
+ghost use Rattle.std.specs.Bool.{then_some};
+ghost use Rattle.std.specs.Prelude.{map, option_map};
+ghost use Rattle.csv.specs.Records.{fields_of, partial_of};
+ghost use Rattle.json.specs.Value.{value_view};
+ghost use Rattle.hh_json.specs.Fields.{fields_in, is_object, json_fields, key_of, key_text};
+ghost use Rattle.hh_json.specs.Fields.{keys_of, object_in, weight_of};
+
+use crate::paths::named;
+use csv::ByteRecord;
+use json::{Error, Scratch, Value};
+use std::alloc::{AllocError, Global};
+
+/// Whether a value is an object.
+fn is_object(value: &Value<'_>) -> bool
+    ensures { result ≡ is_object (value_view value.now) }
+{
+    matches!(value, Value::Object(_))
+}
+
+/// Reads the object that `line` is, where it is one.
+fn object_in<'a>(
+    alloc: Global,
+    line: &'a [u8],
+    scratch: &'a mut Scratch,
+) -> Result<Option<Value<'a>>, AllocError>
+    ensures { IfOk result (λ value. option_map value_view value ≡ object_in line.now) }
+{
+    match Value::from_slice(alloc, line, scratch) {
+        Ok(value) => {
+            if is_object(&value) {
+                Ok(Some(value))
+            } else {
+                Ok(None)
+            }
+        }
+        Err(Error::Invalid) => Ok(None),
+        Err(_) => Err(AllocError),
+    }
+}
+
+/// Gives the text of a key's member: the characters of a string, a number or a word as it is
+/// spelled. `null` is as no member.
+fn key_text<'v, 'a>(value: &'v Value<'a>) -> Option<&'v [u8]>
+    ensures { option_map (λ text. text.now) result ≡ key_text (value_view value.now) }
+{
+    match value {
+        Value::String(text) | Value::Number(text) => Some(text.as_bytes()),
+        Value::Bool(true) => Some(b"true"),
+        Value::Bool(false) => Some(b"false"),
+        Value::Null | Value::Array(_) | Value::Object(_) => None,
+    }
+}
+
+/// Gives the text of the member of a key that `name` names.
+fn key_of<'v, 'a>(object: &'v Value<'a>, name: &[u8]) -> Option<&'v [u8]>
+    ensures { option_map (λ text. text.now) result ≡ key_of (value_view object.now) name.now }
+{
+    key_text(named(object, name)?)
+}
+
+/// Gives the text of the weight that `name` names.
+fn weight_of<'v, 'a>(object: &'v Value<'a>, name: &[u8]) -> Option<&'v [u8]>
+    ensures { option_map (λ text. text.now) result ≡ weight_of (value_view object.now) name.now }
+{
+    match named(object, name)? {
+        Value::Number(text) => Some(text.as_bytes()),
+        _ => None,
+    }
+}
+
+/// Puts the members that `names` name behind `fields`, and says whether all are there.
+fn push_keys(
+    object: &Value<'_>,
+    names: &[Vec<u8>],
+    fields: &mut ByteRecord,
+) -> Result<bool, AllocError>
+    requires { partial_of fields.old ≡ [] }
+    ensures keys { IfOk result (λ found. then_some found (fields_of fields.new)
+        ≡ option_map (λ texts. fields_of fields.old ++ texts)
+        (keys_of (value_view object.now) (map (λ name. name.items) names.now))) }
+    ensures partial { OnOk result (partial_of fields.new ≡ []) }
+{
+    for name in names {
+        match key_of(object, name.as_slice()) {
+            Some(text) => fields.push_field(text)?,
+            None => return Ok(false),
+        }
+    }
+    Ok(true)
+}
+
+/// Puts the members that `names` name, and after them the weight's, behind `fields`, and says
+/// whether all are there.
+fn push_members(
+    object: &Value<'_>,
+    names: &[Vec<u8>],
+    weight: Option<&[u8]>,
+    fields: &mut ByteRecord,
+) -> Result<bool, AllocError>
+    requires { partial_of fields.old ≡ [] }
+    ensures { IfOk result (λ found. then_some found (fields_of fields.new)
+        ≡ option_map (λ texts. fields_of fields.old ++ texts) (fields_in
+        (map (λ name. name.items) names.now) (option_map (λ name. name.now) weight.entry)
+        (value_view object.now))) }
+{
+    if !push_keys(object, names, fields)? {
+        return Ok(false);
+    }
+    let Some(name) = weight else {
+        return Ok(true);
+    };
+    match weight_of(object, name) {
+        Some(text) => {
+            fields.push_field(text)?;
+            Ok(true)
+        }
+        None => Ok(false),
+    }
+}
+
+/// Puts the members of the JSON object `line` that `names` name into `fields`, in their order, and
+/// after them the one that `weight` names. A name that begins with a slash is a JSON pointer, and
+/// of members of one name the last counts.
+///
+/// A key's member is a string, of which its characters count, or a number, `true` or `false`, as it
+/// is spelled. The weight's is a number, as it is spelled. `fields` is left empty where one of them
+/// is missing, `null` or of another kind, and where `line` isn't an object that JSON in UTF-8
+/// spells, without a lone surrogate and with at most 128 levels.
+///
+/// `scratch` is kept from line to line, so that its memory serves them all.
+pub fn members(
+    alloc: Global,
+    line: &[u8],
+    names: &[Vec<u8>],
+    weight: Option<&[u8]>,
+    scratch: &mut Scratch,
+    fields: &mut ByteRecord,
+) -> Result<(), AllocError>
+    ensures { OnOk result (fields_of fields.new ≡ json_fields (map (λ name. name.items) names.now)
+        (option_map (λ name. name.now) weight.entry) line.now) }
+{
+    fields.clear();
+    let Some(object) = object_in(alloc, line, scratch)? else {
+        return Ok(());
+    };
+    if !push_members(&object, names, weight, fields)? {
+        fields.clear();
+    }
+    Ok(())
+}
