@@ -13,8 +13,8 @@ use Rattle.std.specs.List.{list_all}
 use Rattle.hh_stream.specs.Weights.{Entry, max_key_len, total_of}
 use Rattle.hh_records.specs.Clips.{AlikeField, AlikeFields, clipped_for, clipped_text, may_be_cut, separates}
 use Rattle.hh_records.specs.Decimals.{is_whole, point_from, units_at, units_of}
-use Rattle.hh_records.specs.Formats.{Part, fields_by, has_quotes, is_whole_field, part_said, with_part}
-use Rattle.hh_records.specs.Layouts.{Columns, Places, adding_next, adds, columns_among, config_of, delimited, every, fields_at, gathered, headed_parts, is_hyphen, items_after, joined, key_of, parts_at, parts_by, stream_with, text_parts, weight_at, weight_by}
+use Rattle.hh_records.specs.Formats.{Part, has_quotes, is_whole_field, part_said, with_part}
+use Rattle.hh_records.specs.Layouts.{Columns, Places, adding_next, adds, by_columns, columns_among, config_of, delimited, every, field_names, fields_at, gathered, headed_parts, is_hyphen, items_after, joined, key_of, parts_at, parts_by, stream_with, text_parts, weight_at, weight_by}
 use Rattle.hh_records.specs.declared.format.Format.{Format}
 use Rattle.hh_records.specs.declared.format.Format.TheVariants as format
 use Rattle.hh_records.specs.Streams.{Fields, Parts, item_of_key, parts_of}
@@ -261,13 +261,6 @@ module _ (layout : Layout) (few : layout.decimals ≤ 255) where
       by (Ok es) more = ap (joined es) (more es)
       by (Err c) more = refl
 
-  -- records by these columns
-  abbrev by_columns : Columns → Places
-  by_columns columns = record {
-    format = layout.format;
-    columns = columns;
-    part = part_said layout.part;
-  }
 
   abbrev AlikeText : Option (List Parts) → Option (List Parts) → Type 0
   AlikeText None None = ⊤
@@ -277,7 +270,7 @@ module _ (layout : Layout) (few : layout.decimals ≤ 255) where
 
   module _ (csv : layout.format ≡ format.Csv) (whole : is_whole_field (part_said layout.part) ≡ true) where
     map-alike : (columns : Columns) (fs gs : List Fields) → AlikeRows fs gs
-        → AlikeList (map (parts_at (by_columns columns)) fs) (map (parts_at (by_columns columns)) gs)
+        → AlikeList (map (parts_at (by_columns layout columns)) fs) (map (parts_at (by_columns layout columns)) gs)
     map-alike columns [] [] h = tt
     map-alike columns [] (g ∷ gs) h = absurd h
     map-alike columns (f ∷ fs) [] h = absurd h
@@ -285,8 +278,8 @@ module _ (layout : Layout) (few : layout.decimals ≤ 255) where
         (rw csv (parts-alike columns (part_said layout.part) f g whole h.0), map-alike columns fs gs h.1)
 
     chosen-alike : (o : Option Columns) (fs gs : List Fields) → AlikeRows fs gs
-        → AlikeText (option_map (λ at. map (parts_at at) fs) (option_map by_columns o))
-        (option_map (λ at. map (parts_at at) gs) (option_map by_columns o))
+        → AlikeText (option_map (λ at. map (parts_at at) fs) (option_map (by_columns layout) o))
+        (option_map (λ at. map (parts_at at) gs) (option_map (by_columns layout) o))
     chosen-alike None fs gs h = tt
     chosen-alike (Some columns) fs gs h = map-alike columns fs gs h
 
@@ -296,7 +289,7 @@ module _ (layout : Layout) (few : layout.decimals ≤ 255) where
     headed-parts-alike [] (g ∷ gs) h = absurd h
     headed-parts-alike (f ∷ fs) [] h = absurd h
     headed-parts-alike (f ∷ fs) (g ∷ gs) h =
-        rw h.0 (chosen-alike (columns_among layout (fields_by layout.format g)) fs gs h.1)
+        rw h.0 (chosen-alike (columns_among layout (field_names layout g)) fs gs h.1)
 
   same-list : (ps : List Parts) → AlikeList ps ps
   same-list [] = tt
@@ -326,6 +319,7 @@ module _ (layout : Layout) (few : layout.decimals ≤ 255) where
   quoted-is-csv format.Unquoted e = cc e
   quoted-is-csv format.Squeezed e = cc e
   quoted-is-csv format.Lines e = cc e
+  quoted-is-csv format.Json e = cc e
 
   both-true : (a b : Bool) → (a && b) ≡ true → (a ≡ true) × (b ≡ true)
   both-true true b e = (refl, e)
@@ -344,7 +338,7 @@ module _ (layout : Layout) (few : layout.decimals ≤ 255) where
         (headed-alike layout.delimiter (other-quote layout.delimiter apart) (strip_bom text)))
     cut-alike false is =
         rw (is, config, stripped layout.delimiter false text)
-        (chosen-alike csv whole (columns_among layout (fields_by layout.format [])) _ _
+        (chosen-alike csv whole (columns_among layout (field_names layout [])) _ _
         (all-alike layout.delimiter (other-quote layout.delimiter apart) (strip_bom text)))
 
   text-alike : (text : List ℕ) → AlikeText (text_parts layout text) (text_parts layout (clipped_for layout text))

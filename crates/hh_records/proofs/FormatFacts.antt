@@ -1,5 +1,5 @@
 -- Parts of fields, and the fields of a format.
-use Rattle.std.proofs.Common.{◌≡◌, ◌<◌, ◌+◌, ◌∷◌, ◌++◌, ℕ, suc, zero, List, [], length, map, take, drop, Bool, true, false, Some, None, refl, ap, sym, arith, Option, Bor}
+use Rattle.std.proofs.Common.{◌≡◌, ◌<◌, ◌+◌, ◌∷◌, ◌++◌, ℕ, suc, zero, List, [], length, map, take, drop, Bool, true, false, Some, None, refl, ap, sym, append-nil, ◌∙◌, arith, Option, Bor}
 use Rattle.std.specs.Prelude.{IfSome, not, option_map, if◌then◌else◌}
 use Rattle.std.specs.Iterator.{AlwaysYields, Drains}
 use Rattle.std.proofs.lemmas.Iterator.{items_from_drains}
@@ -9,7 +9,7 @@ use Rattle.bstr.specs.Bytes.{is_in}
 use Rattle.csv.specs.Records.{field_at, fields_of}
 use Rattle.csv.specs.declared.record.ByteRecordIter.{ByteRecordIter}
 use Rattle.memchr.specs.Find.{Nowhere, Passes}
-use Rattle.hh_records.specs.Formats.{Part, is_empty, is_whole_field, part_of, with_part}
+use Rattle.hh_records.specs.Formats.{Part, is_empty, is_whole_field, line_of, part_of, with_part}
 use Rattle.hh_records.specs.Layouts.{parts_by}
 use Rattle.hh_records.specs.Streams.{Fields, Parts, parts_of}
 
@@ -76,6 +76,13 @@ unfolding with_part
 with-part-push part [] f = refl
 with-part-push part (g ∷ []) f = refl
 with-part-push part (g ∷ h ∷ rest) f = ap (λ (fs : Fields). g ∷ fs) (with-part-push part (h ∷ rest) f)
+
+-- the line of a record that is one field
+pub one-line : (r : Fields) (line : List ℕ) → length r ≡ 1 → Some line ≡ field_at r 0 → line_of r ≡ line
+unfolding field_at
+one-line [] line long e = absurd (omega (arith, long))
+one-line (f ∷ []) line long e = append-nil f ∙ cc e
+one-line (f ∷ g ∷ r) line long e = absurd (omega (arith, long))
 
 -- the fields of a key that are written, of which a part of the last one counts
 abbrev pub so_far : Bool → Part → Fields → Fields

@@ -22,14 +22,14 @@ use Rattle.hh_faults.specs.declared.records.BadRecordCause.{BadRecordCause}
 use Rattle.hh_faults.specs.declared.records.BadRecordCause.TheVariants as cause
 use Rattle.hh_records.specs.declared.records.RecordFault.{RecordFault}
 use Rattle.hh_records.specs.declared.records.RecordFault.TheVariants as fault
-use Rattle.hh_records.specs.Layouts.{ChoiceRefused, IsPlain, IsStart, OpenRefused, Opens, PartsRefused, RowsRefused, added, adding_next, adds, between, choice_fault, chosen_places, config_of, gathered, headed_parts, items_after, joined, names_columns, parts_at, places_in, texts_parts}
+use Rattle.hh_records.specs.Layouts.{ChoiceRefused, IsPlain, IsStart, OpenRefused, Opens, PartsRefused, RowsRefused, added, adding_next, adds, between, by_columns, choice_fault, chosen_places, columns_among, config_of, configured, field_names, gathered, headed_parts, items_after, joined, member_names, names_columns, parts_at, parts_by, places_in, text_parts, texts_parts}
 use Rattle.hh_records.specs.declared.layout.ChoiceFault.{ChoiceFault}
 use Rattle.hh_records.specs.declared.layout.ChoiceFault.TheVariants as choice
 use Rattle.hh_records.specs.declared.layout.ChosenLayout.{ChosenLayout}
 use Rattle.hh_records.specs.declared.layout.Layout.{Layout}
 use Rattle.hh_records.specs.declared.retrying.Retrying.{Retrying}
-use Rattle.hh_records.proofs.FormatFacts.{whole-rows}
-use Rattle.hh_records.specs.Formats.{part_said}
+use Rattle.hh_records.proofs.FormatFacts.{whole-parts}
+use Rattle.hh_records.specs.Formats.{byte_between, fields_by, has_quotes, part_said}
 use Rattle.hh_records.specs.Laws.{PlainLayoutsReadStreams}
 use Rattle.hh_records.specs.Streams.{Fields, Parts, Reading, item_of_parts, items_from, numbered_fault, parts_of, reading_next}
 
@@ -439,18 +439,44 @@ module _ (layout : Layout) (no_zero : layout.allow_zero ≡ false) (whole : layo
       by (Err x) more = rw (unadded x) refl
 
 -- of a layout that names nothing the parts are those of keys and weights
-plain-parts : (layout : Layout) (text : List ℕ) → IsPlain layout
-    → texts_parts layout (text ∷ []) ≡ Some (map parts_of (records default_config (strip_bom text)))
-unfolding gathered
-plain-parts layout text plain =
-    let nothing = append-nil (map parts_of (records default_config (strip_bom text))) in
-    let whole = whole-rows (part_said layout.part) (records default_config (strip_bom text)) plain.whole_field in
-    rw (plain.csv, plain.delimiter, plain.no_header, plain.no_key, plain.no_weight, whole, nothing) refl
+module _ (layout : Layout) (plain : IsPlain layout) where
+  plain-config : config_of layout ≡ default_config
+  plain-config =
+      ap (λ f. configured (has_quotes f) (byte_between f layout.delimiter)) plain.csv ∙ ap (configured true) plain.delimiter
+
+  plain-places : places_in layout [] ≡ Some (by_columns layout None)
+  plain-places =
+      let none : columns_among layout (field_names layout []) ≡ Some None = rw (plain.no_key, plain.no_weight) refl in
+      ap (option_map (by_columns layout)) none
+
+  plain-rows : (rows : List Fields) → map (parts_at (by_columns layout None)) rows ≡ map parts_of rows
+  plain-rows [] = refl
+  plain-rows (r ∷ rows) =
+      let one : parts_at (by_columns layout None) r ≡ parts_of r =
+      ap (λ f. parts_by None (part_said layout.part) (fields_by f (member_names layout) r)) plain.csv
+      ∙ whole-parts (part_said layout.part) r plain.whole_field in
+      ap (λ (p : Parts). p ∷ map (parts_at (by_columns layout None)) rows) one
+      ∙ ap (λ (ps : List Parts). parts_of r ∷ ps) (plain-rows rows)
+
+  plain-text : (text : List ℕ) → text_parts layout text ≡ Some (map parts_of (records default_config (strip_bom text)))
+  plain-text text =
+      let rows = records (config_of layout) (strip_bom text) in
+      ap (λ b. if b then headed_parts layout rows else option_map (λ at. map (parts_at at) rows) (places_in layout []))
+      plain.no_header
+      ∙ ap (option_map (λ at. map (parts_at at) rows)) plain-places
+      ∙ ap Some (plain-rows rows)
+      ∙ ap (λ cfg. Some (map parts_of (records cfg (strip_bom text)))) plain-config
+
+  plain-parts : (text : List ℕ)
+      → texts_parts layout (text ∷ []) ≡ Some (map parts_of (records default_config (strip_bom text)))
+  unfolding gathered
+  plain-parts text =
+      let nothing = append-nil (map parts_of (records default_config (strip_bom text))) in rw (plain-text text, nothing) refl
 
 -- such a layout reads a text as its stream
 pub plain-layouts : PlainLayoutsReadStreams
 plain-layouts layout text plain =
     let rows = records default_config (strip_bom text) in
-    ap (option_map (items_after layout 1 0)) (plain-parts layout text plain)
+    ap (option_map (items_after layout 1 0)) (plain-parts layout plain text)
     ∙ ap Some (sym (joined-none (items_after layout 1 0 (map parts_of rows)))
     ∙ same-items layout plain.no_zero plain.whole 1 [] rows)

@@ -1,12 +1,14 @@
 -- How the fields of a record follow from what csv reads, and which part of a field is the key.
-use Rattle.std.specs.Prelude.{◌==◌, ◌&&◌, ◌+◌, ℕ, Bool, true, false, List, [], ◌∷◌, length, min, not, take, Option, Some, None, if◌then◌else◌}
+use Rattle.std.specs.Prelude.{◌==◌, ◌&&◌, ◌+◌, ℕ, Bool, true, false, List, [], ◌∷◌, map, not, take, Option, Some, None, option_map, if◌then◌else◌}
 use Rattle.std.specs.List.{filter, position_or_len}
 use Rattle.bstr.specs.Bytes.{is_in}
 use Rattle.bstr.specs.Owned as bytes
+use Rattle.hh_json.specs.Fields.{json_fields}
 use Rattle.hh_records.specs.Streams.{Fields}
 use Rattle.hh_records.specs.declared.format.Format.{Format}
 use Rattle.hh_records.specs.declared.format.Format.TheVariants as format
 use Rattle.hh_records.specs.declared.format.KeyPart.{KeyPart}
+use Rattle.hh_records.specs.declared.format.MemberNames.{MemberNames}
 
 -- whether fields may be quoted
 abbrev pub has_quotes : Format → Bool
@@ -14,6 +16,14 @@ has_quotes format.Csv = true
 has_quotes format.Unquoted = false
 has_quotes format.Squeezed = false
 has_quotes format.Lines = false
+has_quotes format.Json = false
+
+abbrev pub is_json : Format → Bool
+is_json format.Csv = false
+is_json format.Unquoted = false
+is_json format.Squeezed = false
+is_json format.Lines = false
+is_json format.Json = true
 
 -- the byte between fields, by that of a layout: a line is cut at none, and joined where csv cut it
 abbrev pub byte_between : Format → ℕ → ℕ
@@ -21,18 +31,31 @@ byte_between format.Csv delimiter = delimiter
 byte_between format.Unquoted delimiter = delimiter
 byte_between format.Squeezed delimiter = delimiter
 byte_between format.Lines delimiter = 0
+byte_between format.Json delimiter = 0
 
 abbrev pub is_empty : List ℕ → Bool
 is_empty [] = true
 is_empty (c ∷ rest) = false
 
+-- the line that csv cut into these fields where no byte parts them
+abbrev pub line_of : Fields → List ℕ
+line_of r = bytes.joined (0 ∷ []) r
+
+-- the names of the members of an object that are fields: those of the key, and that of the weight
+abbrev pub Names : Type 0
+Names = List (List ℕ) × Option (List ℕ)
+
+abbrev pub names_said : MemberNames → Names
+names_said names = (map (λ name. name.items) names.key.items, option_map (λ name. name.items) names.weight)
+
 -- the fields of a record that csv reads as these: all but the empty ones, where several delimiters are
--- one, and the line as one field, where a record is a line
-abbrev pub fields_by : Format → Fields → Fields
-fields_by format.Csv r = r
-fields_by format.Unquoted r = r
-fields_by format.Squeezed r = filter (λ f. not (is_empty f)) r
-fields_by format.Lines r = bytes.joined (0 ∷ []) r ∷ []
+-- one; the line as one field, where a record is a line; and the members of an object that are named
+abbrev pub fields_by : Format → Names → Fields → Fields
+fields_by format.Csv names r = r
+fields_by format.Unquoted names r = r
+fields_by format.Squeezed names r = filter (λ f. not (is_empty f)) r
+fields_by format.Lines names r = line_of r ∷ []
+fields_by format.Json names r = json_fields names.0 names.1 (line_of r)
 
 -- a part of a field: what comes before the first of some bytes, and no more than some bytes of it
 abbrev pub Part : Type 0

@@ -1,11 +1,12 @@
 -- Layouts of records that are said in words.
-use Rattle.std.specs.Prelude.{◌≡◌, ◌==◌, ◌&&◌, ◌⊎◌, ℕ, Bool, false, not, if◌then◌else◌, List, [], ◌∷◌, map, Contains, Option, Some, None, IsSome, option_map, ⊤}
+use Rattle.std.specs.Prelude.{◌≡◌, ◌==◌, ◌&&◌, ◌⊎◌, ℕ, Bool, true, false, not, if◌then◌else◌, List, [], ◌∷◌, map, Contains, Option, Some, None, IsSome, option_map, ⊤}
 use Rattle.csv.specs.Writing.{comma}
-use Rattle.hh_records.specs.Formats.{has_quotes, part_said}
+use Rattle.hh_records.specs.Formats.{has_quotes, is_json, part_said}
 use Rattle.hh_records.specs.Layouts.{NamesColumn, delimiter_of}
 use Rattle.hh_records.specs.declared.format.Format.{Format}
 use Rattle.hh_records.specs.declared.format.Format.TheVariants as format
 use Rattle.hh_records.specs.declared.layout.Column.{Column}
+use Rattle.hh_records.specs.declared.layout.Column.TheVariants as column
 use Rattle.hh_records.specs.declared.layout.Layout.{Layout}
 use Rattle.hh_faults.specs.declared.error.ToolError.{ToolError}
 use Rattle.hh_faults.specs.declared.error.ToolError.TheVariants as tool
@@ -18,6 +19,7 @@ usual_delimiter format.Csv = comma
 usual_delimiter format.Unquoted = comma
 usual_delimiter format.Squeezed = 32
 usual_delimiter format.Lines = comma
+usual_delimiter format.Json = comma
 
 -- whether a word is a quote alone
 abbrev pub is_quote : List ℕ → Bool
@@ -35,28 +37,43 @@ delimiter_said format (Some word) =
 abbrev pub byte_said : LayoutWords → Option ℕ
 byte_said words = delimiter_said words.format (option_map (λ word. word.items) words.delimiter)
 
+-- how words name columns: of objects all are names of members; and else whether a header has names
+abbrev pub Naming : Type 0
+Naming = Bool × Bool
+
+abbrev pub naming : LayoutWords → Naming
+naming words = (is_json words.format, words.has_header)
+
+abbrev pub IsMember : List ℕ → Column → Type 0
+IsMember word (column.Number n) = ⊥
+IsMember word (column.Name name) = name.items ≡ word
+
+-- a word names this column
+abbrev pub SaysColumn : Naming → List ℕ → Column → Type 0
+SaysColumn (true, has_header) word c = IsMember word c
+SaysColumn (false, has_header) word c = NamesColumn has_header word c
+
 -- a word names no column
-abbrev pub NamesNone : Bool → List ℕ → Type 0
-NamesNone has_header word = (column : Column) → NamesColumn has_header word column → ⊥
+abbrev pub NamesNone : Naming → List ℕ → Type 0
+NamesNone how word = (column : Column) → SaysColumn how word column → ⊥
 
 -- words name these columns, one by one
-abbrev pub NamesKey : Bool → List (List ℕ) → List Column → Type 0
-NamesKey has_header [] [] = ⊤
-NamesKey has_header [] (column ∷ columns) = ⊥
-NamesKey has_header (word ∷ words) [] = ⊥
-NamesKey has_header (word ∷ words) (column ∷ columns) =
-    NamesColumn has_header word column × NamesKey has_header words columns
+abbrev pub NamesKey : Naming → List (List ℕ) → List Column → Type 0
+NamesKey how [] [] = ⊤
+NamesKey how [] (column ∷ columns) = ⊥
+NamesKey how (word ∷ words) [] = ⊥
+NamesKey how (word ∷ words) (column ∷ columns) = SaysColumn how word column × NamesKey how words columns
 
 -- one of these words names no column
-abbrev pub NamesNot : Bool → List (List ℕ) → Type 0
-NamesNot has_header words = (word : List ℕ) × Contains words word × NamesNone has_header word
+abbrev pub NamesNot : Naming → List (List ℕ) → Type 0
+NamesNot how words = (word : List ℕ) × Contains words word × NamesNone how word
 
 -- no word, or one that names this column
-abbrev pub NamesWeight : Bool → Option (List ℕ) → Option Column → Type 0
-NamesWeight has_header None None = ⊤
-NamesWeight has_header None (Some column) = ⊥
-NamesWeight has_header (Some word) None = ⊥
-NamesWeight has_header (Some word) (Some column) = NamesColumn has_header word column
+abbrev pub NamesWeight : Naming → Option (List ℕ) → Option Column → Type 0
+NamesWeight how None None = ⊤
+NamesWeight how None (Some column) = ⊥
+NamesWeight how (Some word) None = ⊥
+NamesWeight how (Some word) (Some column) = SaysColumn how word column
 
 -- the words of the key's columns
 abbrev pub key_words : LayoutWords → List (List ℕ)
@@ -71,20 +88,25 @@ pub record SaysLayout (words : LayoutWords) (layout : Layout) : Type 0 where
   pub format : layout.format ≡ words.format
   pub delimiter : byte_said words ≡ Some layout.delimiter
   pub has_header : layout.has_header ≡ words.has_header
-  pub key : NamesKey words.has_header (key_words words) layout.key.items
-  pub weight : NamesWeight words.has_header (weight_word words) layout.weight
+  pub key : NamesKey (naming words) (key_words words) layout.key.items
+  pub weight : NamesWeight (naming words) (weight_word words) layout.weight
   pub part : part_said layout.part ≡ (words.until.items, words.prefix)
   pub allow_zero : layout.allow_zero ≡ words.allow_zero
   pub decimals : layout.decimals ≡ words.decimals
 
 -- the weight's word names no column
 abbrev pub NamesNoWeight : LayoutWords → Type 0
-NamesNoWeight words = (word : List ℕ) × (weight_word words ≡ Some word) × NamesNone words.has_header word
+NamesNoWeight words = (word : List ℕ) × (weight_word words ≡ Some word) × NamesNone (naming words) word
+
+-- objects are read, and no member is named for the key
+abbrev pub LacksKey : LayoutWords → Type 0
+LacksKey words = (is_json words.format ≡ true) × (words.key.items ≡ [])
 
 -- what a refusal of such words says: that the delimiter is bad or, where it is good, that a column is
 abbrev pub LayoutRefused : LayoutWords → ToolError → Type 0
 LayoutRefused words tool.BadDelimiter = byte_said words ≡ None
 LayoutRefused words tool.BadColumn =
-    IsSome (byte_said words) × (NamesNot words.has_header (key_words words) ⊎ NamesNoWeight words)
+    IsSome (byte_said words)
+    × (LacksKey words ⊎ (NamesNot (naming words) (key_words words) ⊎ NamesNoWeight words))
 LayoutRefused words tool.Memory = ⊤
 LayoutRefused words _ = ⊥

@@ -1,7 +1,7 @@
 -- Records whose key and weight stand in columns of one's own.
 use Rattle.std.specs.Prelude.{◌≡◌, ◌==◌, ◌&&◌, ◌||◌, ◌+◌, ◌-◌, ◌^◌, ◌<◌, ℕ, Bool, true, false, List, [], ◌∷◌, ◌++◌, length, map, min, not, Option, Some, None, IfSome, option_map, option_and_then, Result, Ok, Err, ⊤, if◌then◌else◌}
-use Rattle.std.specs.List.{position_from}
-use Rattle.std.specs.Option.{option_zip}
+use Rattle.std.specs.List.{flat_map, position_from}
+use Rattle.std.specs.Option.{option_to_list, option_zip}
 use Rattle.std.specs.Str.{bytes_eq}
 use Rattle.csv.specs.Machine.{ends_at_end}
 use Rattle.csv.specs.Reading.{Ready, default_config, is_flexible, reader_config, reader_state, reader_trim, records, records_from, source_of, strip_bom}
@@ -15,7 +15,7 @@ use Rattle.csv.specs.declared.reader.Trim.TheVariants as trim
 use Rattle.hh_stream.specs.Digits.{is_number, value_of}
 use Rattle.hh_stream.specs.Weights.{Entry, total_of}
 use Rattle.hh_records.specs.Decimals.{units_of}
-use Rattle.hh_records.specs.Formats.{Part, byte_between, fields_by, has_quotes, is_whole_field, part_of, part_said, with_part}
+use Rattle.hh_records.specs.Formats.{Names, Part, byte_between, fields_by, has_quotes, is_json, is_whole_field, names_said, part_of, part_said, with_part}
 use Rattle.hh_records.specs.Streams.{Fields, Known, Parts, Reading, ReadsAs, item_of_key, parts_of}
 use Rattle.hh_records.specs.declared.format.Format.{Format}
 use Rattle.hh_records.specs.declared.format.Format.TheVariants as format
@@ -43,10 +43,11 @@ use Rattle.hh_faults.specs.declared.records.TextError.TheVariants as text
 abbrev pub Columns : Type 0
 Columns = Option (List ℕ × Option ℕ)
 
--- how a record is read: its format, the places of its columns, and which part of the key's last field
--- is the key
+-- how a record is read: its format, the members that are its fields, the places of its columns, and
+-- which part of the key's last field is the key
 pub record Places : Type 0 where
   pub format : Format
+  pub names : Names
   pub columns : Columns
   pub part : Part
 
@@ -56,6 +57,7 @@ chosen_columns columns = option_map (λ c. (c.key.items, c.weight)) columns
 abbrev pub chosen_places : ChosenLayout → Places
 chosen_places chosen = record {
   format = chosen.format;
+  names = names_said chosen.names;
   columns = chosen_columns chosen.columns;
   part = part_said chosen.part;
 }
@@ -88,7 +90,7 @@ parts_by (Some at) part r =
 
 -- a record's key and weight's field, by their places
 abbrev pub parts_at : Places → Fields → Parts
-parts_at at r = parts_by at.columns at.part (fields_by at.format r)
+parts_at at r = parts_by at.columns at.part (fields_by at.format at.names r)
 
 -- a hyphen alone, as logs write it for no bytes
 abbrev pub is_hyphen : List ℕ → Bool
@@ -207,14 +209,39 @@ columns_among layout header =
     (option_zip (key_places header layout.key.items) (weight_place header layout.weight))
     else Some None
 
+-- the name of a member that a column is
+abbrev pub name_of : Column → List (List ℕ)
+name_of (column.Number n) = []
+name_of (column.Name name) = name.items ∷ []
+
+abbrev pub weight_name : Option Column → Option (List ℕ)
+weight_name None = None
+weight_name (Some (column.Number n)) = None
+weight_name (Some (column.Name name)) = Some name.items
+
+-- the members that the columns of a layout name
+abbrev pub member_names : Layout → Names
+member_names layout = (flat_map name_of layout.key.items, weight_name layout.weight)
+
+-- the names of a record's fields, by the header of its text or, of an object, those of its members
+abbrev pub field_names : Layout → Fields → Fields
+field_names layout header =
+    if is_json layout.format then (member_names layout).0 ++ option_to_list (member_names layout).1
+    else fields_by layout.format (member_names layout) header
+
+-- how a record is read by a layout and these columns
+abbrev pub by_columns : Layout → Columns → Places
+by_columns layout columns = record {
+  format = layout.format;
+  names = member_names layout;
+  columns = columns;
+  part = part_said layout.part;
+}
+
 -- how the records of a text are read by a layout, or nothing where this header lacks a column
 abbrev pub places_in : Layout → Fields → Option Places
 places_in layout header =
-    option_map (λ columns. record {
-      format = layout.format;
-      columns = columns;
-      part = part_said layout.part;
-    }) (columns_among layout (fields_by layout.format header))
+    option_map (by_columns layout) (columns_among layout (field_names layout header))
 
 -- a layout of a key and, after a comma, its weight, a whole number but 0, with no header
 pub record IsPlain (layout : Layout) : Type 0 where

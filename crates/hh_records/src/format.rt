@@ -1,14 +1,18 @@
 //! How lines are records, and which part of a field is the key.
 
-ghost use Rattle.std.specs.Prelude.{◌≡◌, ◌∷◌, ◌++◌, [], take, true, IfOk, OnOk, if◌then◌else◌};
-ghost use Rattle.std.specs.List.{position_or_len};
+ghost use Rattle.std.specs.Prelude.{option_map, ◌≡◌, ◌∷◌, ◌++◌, [], map, not, take, true, IfOk, OnOk, if◌then◌else◌};
+ghost use Rattle.std.specs.List.{filter, position_or_len};
+ghost use Rattle.std.specs.Option.{option_to_list};
 ghost use Rattle.bstr.specs.Bytes.{is_in};
 ghost use Rattle.csv.specs.Records.{fields_of, partial_of};
-ghost use Rattle.hh_records.specs.Formats.{byte_between, fields_by, has_quotes, is_whole_field, part_of, part_said};
-ghost use Rattle.hh_records.specs.declared.format.Format.TheVariants.{Lines, Squeezed};
+ghost use Rattle.hh_records.specs.Formats.{byte_between, fields_by, has_quotes, is_empty, is_json, is_whole_field};
+ghost use Rattle.hh_records.specs.Formats.{line_of, names_said, part_of, part_said};
+ghost use Rattle.hh_records.specs.declared.format.Format.TheVariants.{Json};
 
 use bstr::{ByteSlice, join};
 use csv::ByteRecord;
+use hh_json::members;
+use json::Scratch;
 use std::alloc::{AllocError, Global};
 
 /// How a record is written.
@@ -23,6 +27,8 @@ pub enum Format {
     Squeezed,
     /// A line is one field.
     Lines,
+    /// A line is a JSON object, and the members that columns name are its fields.
+    Json,
 }
 
 impl Format {
@@ -32,7 +38,17 @@ impl Format {
     {
         match self {
             Format::Csv => true,
-            Format::Unquoted | Format::Squeezed | Format::Lines => false,
+            Format::Unquoted | Format::Squeezed | Format::Lines | Format::Json => false,
+        }
+    }
+
+    /// Whether records are JSON objects.
+    pub fn is_json(self) -> bool
+        ensures { result ≡ is_json self }
+    {
+        match self {
+            Format::Json => true,
+            Format::Csv | Format::Unquoted | Format::Squeezed | Format::Lines => false,
         }
     }
 
@@ -42,7 +58,97 @@ impl Format {
     {
         match self {
             Format::Csv | Format::Unquoted | Format::Squeezed => delimiter,
-            Format::Lines => 0,
+            Format::Lines | Format::Json => 0,
+        }
+    }
+}
+
+/// The names of the members of a JSON object that are the fields of a record.
+#[derive(Drop)]
+pub struct MemberNames {
+    /// The key's, in their order.
+    pub key: Vec<Vec<u8>>,
+    /// The weight's.
+    pub weight: Option<Vec<u8>>,
+}
+
+/// Copies `words`.
+fn copy_all(alloc: Global, words: &[Vec<u8>]) -> Result<Vec<Vec<u8>>, AllocError>
+    ensures { IfOk result (λ copies. map (λ word. word.items) copies.items
+        ≡ map (λ word. word.items) words.now) }
+{
+    let mut copies = Vec::new(alloc);
+    for word in words {
+        copies.push(Vec::from_slice(alloc, word.as_slice())?)?;
+    }
+    Ok(copies)
+}
+
+/// Puts `words` after `fields`.
+fn push_all(fields: &mut ByteRecord, words: &[Vec<u8>]) -> Result<(), AllocError>
+    requires whole { partial_of fields.old ≡ [] }
+    ensures fields { OnOk result (fields_of fields.new
+        ≡ fields_of fields.old ++ map (λ word. word.items) words.now) }
+    ensures whole { OnOk result (partial_of fields.new ≡ []) }
+{
+    for word in words {
+        fields.push_field(word.as_slice())?;
+    }
+    Ok(())
+}
+
+impl MemberNames {
+    /// Copies the names.
+    pub fn copy(&self, alloc: Global) -> Result<MemberNames, AllocError>
+        ensures { IfOk result (λ copy. names_said copy ≡ names_said self.now) }
+    {
+        let weight = match &self.weight {
+            Some(name) => Some(Vec::from_slice(alloc, name.as_slice())?),
+            None => None,
+        };
+        Ok(MemberNames {
+            key: copy_all(alloc, self.key.as_slice())?,
+            weight,
+        })
+    }
+
+    /// Gives the weight's name.
+    fn weight_name(&self) -> Option<&[u8]>
+        ensures { option_map (λ name. name.now) result ≡ (names_said self.now).1 }
+    {
+        match &self.weight {
+            Some(name) => Some(name.as_slice()),
+            None => None,
+        }
+    }
+
+    /// Gives a record of the names, that of the weight after those of the key.
+    pub(crate) fn to_row(&self, alloc: Global) -> Result<ByteRecord, AllocError>
+        ensures { IfOk result (λ row. fields_of row
+            ≡ (names_said self.now).0 ++ option_to_list (names_said self.now).1) }
+    {
+        let mut row = ByteRecord::new(alloc);
+        push_all(&mut row, self.key.as_slice())?;
+        let Some(name) = self.weight_name() else {
+            return Ok(row);
+        };
+        row.push_field(name)?;
+        Ok(row)
+    }
+}
+
+/// Room for the fields of a record, which serves one record after the other.
+#[derive(Drop)]
+pub(crate) struct Spare {
+    fields: ByteRecord,
+    scratch: Scratch,
+}
+
+impl Spare {
+    pub(crate) fn new(alloc: Global) -> Spare {
+        Spare {
+            fields: ByteRecord::new(alloc),
+            scratch: Scratch::new(alloc),
         }
     }
 }
@@ -117,7 +223,7 @@ fn before<'f>(field: &'f [u8], until: &[u8]) -> &'f [u8]
 fn push_filled(fields: &mut ByteRecord, field: &[u8]) -> Result<(), AllocError>
     requires whole { partial_of fields.old ≡ [] }
     ensures fields { OnOk result (fields_of fields.new
-        ≡ fields_of fields.old ++ fields_by Squeezed (field.now ∷ [])) }
+        ≡ fields_of fields.old ++ filter (λ f. not (is_empty f)) (field.now ∷ [])) }
     ensures whole { OnOk result (partial_of fields.new ≡ []) }
 {
     if field.is_empty() {
@@ -128,7 +234,7 @@ fn push_filled(fields: &mut ByteRecord, field: &[u8]) -> Result<(), AllocError>
 
 /// Puts the fields of `row` that are not empty into `fields`.
 fn squeeze(row: &ByteRecord, fields: &mut ByteRecord) -> Result<(), AllocError>
-    ensures { OnOk result (fields_of fields.new ≡ fields_by Squeezed (fields_of row.now)) }
+    ensures { OnOk result (fields_of fields.new ≡ filter (λ f. not (is_empty f)) (fields_of row.now)) }
 {
     fields.clear();
     for place in 0..row.len() {
@@ -140,12 +246,42 @@ fn squeeze(row: &ByteRecord, fields: &mut ByteRecord) -> Result<(), AllocError>
     Ok(())
 }
 
-/// Puts the fields of `row`, joined by the byte at which `csv` cuts lines, into `fields` as one.
+/// Gives the line that `csv` cut into the fields of `row`, where it is cut at a byte of no meaning.
+fn line_of(alloc: Global, row: &ByteRecord) -> Result<Vec<u8>, AllocError>
+    ensures { IfOk result (λ line. line.items ≡ line_of (fields_of row.now)) }
+{
+    Ok(join(alloc, b"\0", row)?)
+}
+
+/// Puts the line that is `row` into `fields` as one field.
 fn rejoin(alloc: Global, row: &ByteRecord, fields: &mut ByteRecord) -> Result<(), AllocError>
-    ensures { OnOk result (fields_of fields.new ≡ fields_by Lines (fields_of row.now)) }
+    ensures { OnOk result (fields_of fields.new ≡ line_of (fields_of row.now) ∷ []) }
 {
     fields.clear();
-    fields.push_field(join(alloc, b"\0", row)?.as_slice())
+    fields.push_field(line_of(alloc, row)?.as_slice())
+}
+
+/// Puts the members that `names` name of the object that is `row` into `spare`.
+fn read_members(
+    alloc: Global,
+    names: &MemberNames,
+    row: &ByteRecord,
+    spare: &mut Spare,
+) -> Result<(), AllocError>
+    ensures { OnOk result (fields_of spare.new.fields
+        ≡ fields_by Json (names_said names.now) (fields_of row.now)) }
+{
+    let Spare { fields, scratch } = spare;
+    let weight = names.weight_name();
+    match row.get(0) {
+        Some(line) if row.len() == 1 => {
+            members(alloc, line, names.key.as_slice(), weight, scratch, fields)
+        }
+        _ => {
+            let line = line_of(alloc, row)?;
+            members(alloc, line.as_slice(), names.key.as_slice(), weight, scratch, fields)
+        }
+    }
 }
 
 /// Gives the fields of a record that `csv` reads as `row`. They are put into `spare` where they are
@@ -153,24 +289,29 @@ fn rejoin(alloc: Global, row: &ByteRecord, fields: &mut ByteRecord) -> Result<()
 pub(crate) fn fields_by<'r>(
     alloc: Global,
     format: Format,
+    names: &MemberNames,
     row: &'r ByteRecord,
-    spare: &'r mut ByteRecord,
+    spare: &'r mut Spare,
 ) -> Result<&'r ByteRecord, AllocError>
     ensures { IfOk result (λ fields.
-        fields_of fields.now ≡ fields_by format (fields_of row.now)) }
+        fields_of fields.now ≡ fields_by format (names_said names.now) (fields_of row.now)) }
 {
     match format {
         Format::Csv | Format::Unquoted => Ok(row),
         Format::Squeezed => {
-            squeeze(row, spare)?;
-            Ok(spare)
+            squeeze(row, &mut spare.fields)?;
+            Ok(&spare.fields)
         }
         Format::Lines => {
             if row.len() == 1 {
                 return Ok(row);
             }
-            rejoin(alloc, row, spare)?;
-            Ok(spare)
+            rejoin(alloc, row, &mut spare.fields)?;
+            Ok(&spare.fields)
+        }
+        Format::Json => {
+            read_members(alloc, names, row, spare)?;
+            Ok(&spare.fields)
         }
     }
 }

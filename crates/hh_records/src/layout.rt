@@ -1,12 +1,15 @@
 //! Where the key and the weight of a record stand.
 
-ghost use Rattle.std.specs.Prelude.{◌≡◌, [], option_map, Some, None, Ok, Err, true, IfOk, IfErr, IfSome};
+ghost use Rattle.std.specs.Prelude.{◌≡◌, [], map, option_map, Some, None, Ok, Err, true, IfOk, IfErr, IfSome};
 ghost use Rattle.csv.specs.Records.{fields_of};
 ghost use Rattle.hh_records.specs.Layouts.{ChoiceRefused, IsPlain, NamesColumn, chosen_columns, chosen_places, columns_among};
-ghost use Rattle.hh_records.specs.Layouts.{delimiter_of, key_places, named_from, names_columns, place_of, places_in, places_of};
+ghost use Rattle.hh_records.specs.Layouts.{delimiter_of, key_places, member_names, name_of, named_from};
+ghost use Rattle.hh_records.specs.Layouts.{names_columns, place_of, places_in, places_of};
+ghost use Rattle.hh_records.specs.Formats.{names_said};
+ghost use Rattle.std.specs.List.{flat_map};
 ghost use Rattle.hh_records.specs.declared.layout.ChoiceFault.TheVariants.{Memory, NoColumn};
 
-use crate::format::{Format, KeyPart, fields_by};
+use crate::format::{Format, KeyPart, MemberNames, Spare, fields_by};
 use crate::records::number_in;
 use csv::ByteRecord;
 use hh_stream::KeyHash;
@@ -117,11 +120,34 @@ pub struct ColumnIndices {
 pub struct ChosenLayout {
     /// How a record is written.
     pub format: Format,
+    /// The members of an object that columns name.
+    pub names: MemberNames,
     /// The places of the columns. Nothing says that a record is a key and, where it has a second
     /// field, its weight.
     pub columns: Option<ColumnIndices>,
     /// The part of the key's last field that counts.
     pub part: KeyPart,
+}
+
+impl ChosenLayout {
+    /// Copies the layout.
+    pub fn copy(&self, alloc: Global) -> Result<ChosenLayout, AllocError>
+        ensures { IfOk result (λ copy. chosen_places copy ≡ chosen_places self.now) }
+    {
+        let columns = match &self.columns {
+            Some(columns) => Some(ColumnIndices {
+                key: Vec::from_slice(alloc, columns.key.as_slice())?,
+                weight: columns.weight,
+            }),
+            None => None,
+        };
+        Ok(ChosenLayout {
+            format: self.format,
+            names: self.names.copy(alloc)?,
+            columns,
+            part: self.part.copy(alloc)?,
+        })
+    }
 }
 
 /// Why the columns of a layout were not found.
@@ -235,6 +261,35 @@ impl From<AllocError> for ChoiceFault {
     }
 }
 
+/// Gives the names of `columns`, but for those that have a number.
+fn names_of(alloc: Global, columns: &[Column]) -> Result<Vec<Vec<u8>>, AllocError>
+    ensures { IfOk result (λ names.
+        map (λ name. name.items) names.items ≡ flat_map name_of columns.now) }
+{
+    let mut names = Vec::new(alloc);
+    for column in columns {
+        match column {
+            Column::Name(name) => names.push(Vec::from_slice(alloc, name.as_slice())?)?,
+            Column::Number(_) => {}
+        }
+    }
+    Ok(names)
+}
+
+/// Gives the members that the columns of `layout` name.
+fn member_names(alloc: Global, layout: &Layout) -> Result<MemberNames, AllocError>
+    ensures { IfOk result (λ names. names_said names ≡ member_names layout.now) }
+{
+    let weight = match &layout.weight {
+        Some(Column::Name(name)) => Some(Vec::from_slice(alloc, name.as_slice())?),
+        Some(Column::Number(_)) | None => None,
+    };
+    Ok(MemberNames {
+        key: names_of(alloc, layout.key.as_slice())?,
+        weight,
+    })
+}
+
 /// Gives how the records of a text are read by `layout` where this is its header, or one of no
 /// fields where it has none.
 pub(crate) fn choose(
@@ -247,11 +302,17 @@ pub(crate) fn choose(
     ensures refused { IfErr result (λ fault.
         ChoiceRefused layout.now (fields_of header.now) fault) }
 {
-    let mut spare = ByteRecord::new(alloc);
-    let header = fields_by(alloc, layout.format, header, &mut spare)?;
-    let columns = columns_among(alloc, layout, header)?;
+    let names = member_names(alloc, layout)?;
+    let columns = if layout.format.is_json() {
+        columns_among(alloc, layout, &names.to_row(alloc)?)?
+    } else {
+        let mut spare = Spare::new(alloc);
+        let fields = fields_by(alloc, layout.format, &names, header, &mut spare)?;
+        columns_among(alloc, layout, fields)?
+    };
     Ok(ChosenLayout {
         format: layout.format,
+        names,
         columns,
         part: layout.part.copy(alloc)?,
     })

@@ -1,7 +1,7 @@
 //! How words say where the keys and the weights of records stand.
 
 ghost use Rattle.std.specs.Prelude.{◌≡◌, IfOk, IfErr, IfSome, None, Ok, map};
-ghost use Rattle.hh_records.specs.LayoutWords.{LayoutRefused, NamesKey, NamesNot, SaysLayout, byte_said};
+ghost use Rattle.hh_records.specs.LayoutWords.{LayoutRefused, NamesKey, NamesNone, NamesNot, SaysColumn, SaysLayout, byte_said};
 
 use crate::format::{Format, KeyPart};
 use crate::layout::{Column, Layout, column_of, delimiter_of};
@@ -20,7 +20,8 @@ pub struct LayoutWords {
     pub delimiter: Option<Vec<u8>>,
     /// The first record of each text names the columns.
     pub has_header: bool,
-    /// The columns of the key: numbers from 1 on or, with a header, names.
+    /// The columns of the key: numbers from 1 on or, with a header, names. Of JSON objects they are
+    /// members: names, or JSON pointers, which begin with a slash.
     pub key: Vec<Vec<u8>>,
     /// The column of the weight.
     pub weight: Option<Vec<u8>>,
@@ -34,20 +35,38 @@ pub struct LayoutWords {
     pub decimals: u8,
 }
 
+/// Finds the column that `word` names. Of objects it is the name of a member.
+fn column_said(
+    alloc: Global,
+    word: &[u8],
+    is_json: bool,
+    has_header: bool,
+) -> Result<Option<Column>, AllocError>
+    ensures named { IfOk result (λ column.
+        IfSome column (SaysColumn (is_json, has_header) word.now)) }
+    ensures unnamed { result ≡ Ok None → NamesNone (is_json, has_header) word.now }
+{
+    if is_json {
+        return Ok(Some(Column::Name(Vec::from_slice(alloc, word)?)));
+    }
+    column_of(alloc, word, has_header)
+}
+
 /// Gives the columns that `words` name, where each names one.
 fn key_of(
     alloc: Global,
     words: &[Vec<u8>],
+    is_json: bool,
     has_header: bool,
 ) -> Result<Option<Vec<Column>>, AllocError>
     ensures named { IfOk result (λ key. IfSome key (λ key.
-        NamesKey has_header (map (λ word. word.items) words.now) key.items)) }
+        NamesKey (is_json, has_header) (map (λ word. word.items) words.now) key.items)) }
     ensures unnamed { result ≡ Ok None
-        → NamesNot has_header (map (λ word. word.items) words.now) }
+        → NamesNot (is_json, has_header) (map (λ word. word.items) words.now) }
 {
     let mut key = Vec::new(alloc);
     for word in words {
-        match column_of(alloc, word, has_header) {
+        match column_said(alloc, word, is_json, has_header) {
             Ok(Some(column)) => key.push(column)?,
             Ok(None) => return Ok(None),
             Err(AllocError) => return Err(AllocError),
@@ -67,13 +86,13 @@ fn delimiter_said(words: &LayoutWords) -> Option<u8>
         },
         None => match words.format {
             Format::Squeezed => Some(b' '),
-            Format::Csv | Format::Unquoted | Format::Lines => Some(b','),
+            Format::Csv | Format::Unquoted | Format::Lines | Format::Json => Some(b','),
         },
     }
 }
 
-/// Gives the layout that `words` say. The delimiter is tested first, then the key's columns, then
-/// the weight's ([`ToolError::BadDelimiter`], [`ToolError::BadColumn`]). Keys are hashed by the
+/// Gives the layout that `words` say. The delimiter is tested first, then the key's columns, of
+/// which objects need one, then the weight's ([`ToolError::BadDelimiter`], [`ToolError::BadColumn`]). Keys are hashed by the
 /// words that all runs have.
 pub fn layout_of(alloc: Global, words: &LayoutWords) -> Result<Layout, ToolError>
     ensures layout { IfOk result (SaysLayout words.now) }
@@ -82,12 +101,16 @@ pub fn layout_of(alloc: Global, words: &LayoutWords) -> Result<Layout, ToolError
     let Some(delimiter) = delimiter_said(words) else {
         return Err(ToolError::BadDelimiter);
     };
-    let Some(key) = key_of(alloc, &words.key, words.has_header)? else {
+    let is_json = words.format.is_json();
+    if is_json && words.key.is_empty() {
+        return Err(ToolError::BadColumn);
+    }
+    let Some(key) = key_of(alloc, &words.key, is_json, words.has_header)? else {
         return Err(ToolError::BadColumn);
     };
     let weight = match &words.weight {
         None => None,
-        Some(word) => match column_of(alloc, word, words.has_header)? {
+        Some(word) => match column_said(alloc, word, is_json, words.has_header)? {
             None => return Err(ToolError::BadColumn),
             column => column,
         },

@@ -15,7 +15,7 @@ pub mod retrying;
 mod texts;
 
 pub use decimals::pointed;
-pub use format::{Format, KeyPart};
+pub use format::{Format, KeyPart, MemberNames};
 pub use hh_faults::{BadRecordCause, ReadError, TextError};
 pub use hh_stream::TakeItems;
 pub use layout::{ChosenLayout, Column, ColumnIndices, Layout, column_of, delimiter_of};

@@ -14,7 +14,7 @@ ghost use Rattle.hh_records.specs.Streams.{fault_of, numbered_fault, parts_of, R
 ghost use Rattle.hh_records.specs.Taking.{TakesItems};
 
 use crate::decimals::{scaled, units_in};
-use crate::format::{KeyPart, fields_by, part_of_last};
+use crate::format::{KeyPart, Spare, fields_by, part_of_last};
 use crate::layout::{ChosenLayout, ColumnIndices, Layout};
 use crate::retrying::Retrying;
 use crate::texts::{Records, Text, read_records};
@@ -247,7 +247,7 @@ fn take_record<T: TakeItems>(
     alloc: Global,
     taker: &mut T,
     row: &ByteRecord,
-    spare: &mut ByteRecord,
+    spare: &mut Spare,
     chosen: &ChosenLayout,
     layout: &Layout,
 ) -> Result<(), RecordFault>
@@ -261,7 +261,7 @@ fn take_record<T: TakeItems>(
         PartsRefused layout.now (T.weight_taken taker.old)
         (parts_at (chosen_places chosen.now) (fields_of row.now)) fault) }
 {
-    match fields_by(alloc, chosen.format, row, spare) {
+    match fields_by(alloc, chosen.format, &chosen.names, row, spare) {
         Ok(fields) => take_fields(alloc, taker, fields, chosen, layout),
         Err(AllocError) => Err(RecordFault::Memory),
     }
@@ -316,7 +316,7 @@ fn take_rows<R: Read, T: TakeItems>(
         (parts_left R.remaining (record { rows = rows.old; chosen = chosen.now })) error) }
 {
     let mut row = ByteRecord::new(alloc);
-    let mut spare = ByteRecord::new(alloc);
+    let mut spare = Spare::new(alloc);
     let mut number = before;
     while number < u64::MAX {
         match rows.read_byte_record(&mut row) {

@@ -5,4 +5,4 @@ use Rattle.hh_records.proofs.layout_words.key_of.Given as goal
 
 abbrev pub invariant-loop-word : goal.invariant-loop-word
 invariant-loop-word l =
-    NamesKey l.has_header (map (λ word. word.items) (take l.word-index l.words)) l.key.items
+    NamesKey (l.is_json, l.has_header) (map (λ word. word.items) (take l.word-index l.words)) l.key.items
