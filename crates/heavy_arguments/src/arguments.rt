@@ -58,6 +58,8 @@ pub const SQUEEZE: &str = "squeeze";
 
 pub const LINES: &str = "lines";
 
+pub const JSON: &str = "json";
+
 /// The options that say which part of a field is the key.
 pub const UNTIL: &str = "until";
 
@@ -240,7 +242,7 @@ const RECORD_FILES: Argument = Argument::Given(
 );
 
 /// The options that say how records are read.
-const COLUMN_ARGUMENTS: [Argument; 11] = [
+const COLUMN_ARGUMENTS: [Argument; 12] = [
     Argument::Short(
         'd',
         Kind::Byte,
@@ -297,6 +299,11 @@ const COLUMN_ARGUMENTS: [Argument; 11] = [
         Kind::Flag,
         LINES,
         "Each line is a key; its delimiters and quotes are bytes as any other",
+    ),
+    Argument::Given(
+        Kind::Flag,
+        JSON,
+        "Each line is a JSON object; --key and --weight name members, or are JSON pointers as /a/b",
     ),
 ];
 

@@ -108,12 +108,14 @@ IsAbsent found name = one_text found name ≡ None
 
 -- how a record is written, by the first of these flags that is given
 pub record IsFormat (found : Found) (written : Format) : Type 0 where
-  pub lines : IsGiven found (codes "lines") → written ≡ format.Lines
-  pub squeezed : IsAbsent found (codes "lines") → IsGiven found (codes "squeeze") → written ≡ format.Squeezed
-  pub unquoted : IsAbsent found (codes "lines") → IsAbsent found (codes "squeeze") → IsGiven found (codes "no-quotes")
-      → written ≡ format.Unquoted
-  pub csv : IsAbsent found (codes "lines") → IsAbsent found (codes "squeeze") → IsAbsent found (codes "no-quotes")
-      → written ≡ format.Csv
+  pub json : IsGiven found (codes "json") → written ≡ format.Json
+  pub lines : IsAbsent found (codes "json") → IsGiven found (codes "lines") → written ≡ format.Lines
+  pub squeezed : IsAbsent found (codes "json") → IsAbsent found (codes "lines") → IsGiven found (codes "squeeze")
+      → written ≡ format.Squeezed
+  pub unquoted : IsAbsent found (codes "json") → IsAbsent found (codes "lines") → IsAbsent found (codes "squeeze")
+      → IsGiven found (codes "no-quotes") → written ≡ format.Unquoted
+  pub csv : IsAbsent found (codes "json") → IsAbsent found (codes "lines") → IsAbsent found (codes "squeeze")
+      → IsAbsent found (codes "no-quotes") → written ≡ format.Csv
 
 -- the records that are read: their files in order, and where their columns stand
 pub record AreRecordWords (found : Found) (records : RecordWords) : Type 0 where

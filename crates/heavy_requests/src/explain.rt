@@ -71,6 +71,9 @@ fn names_columns(layout: &LayoutWords) -> bool {
 fn wanted(cause: BadRecordCause, layout: &LayoutWords) -> &'static str {
     let decimals = layout.decimals;
     match cause {
+        BadRecordCause::FieldCount if layout.format.is_json() => {
+            "a record is an object with each member that --key and --weight name: text or a number"
+        }
         BadRecordCause::FieldCount if names_columns(layout) => {
             "a record has each column that --key and --weight name"
         }
@@ -498,8 +501,12 @@ fn weight_is_none(texts: Texts<'_>, text: Text<'_>, fields: &[Vec<u8>]) -> bool 
 fn verdict_on<'a>(texts: Texts<'a>, place: &RecordPlace<'_>, cause: BadRecordCause) -> Verdict<'a> {
     let layout = &texts.asked.records.layout;
     let wanted = Verdict::Wanted(wanted(cause, layout));
-    if let [b'{' | b'[', ..] = place.begin() {
-        return Verdict::Wanted("looks like JSON, and a record is CSV");
+    if layout.format.has_quotes()
+        && let [b'{' | b'[', ..] = place.begin()
+    {
+        return Verdict::Wanted(
+            "looks like JSON, and a record is CSV; --json reads an object a line",
+        );
     }
     let fields = match texts.delimiter() {
         Some(delimiter) => place.fields(texts.rt.alloc(), delimiter),
@@ -632,6 +639,9 @@ pub fn explain(texts: Texts<'_>, fault: &ToolError, compared: &Comparison, unrea
             tell_record(texts, *number, *cause);
         }
         ToolError::NoColumn => tell_columns(texts),
+        ToolError::BadColumn if asked.records.layout.format.is_json() => {
+            let _ = eprintln!(rt; "  --json wants --key: the name of a member, or a JSON pointer");
+        }
         _ => {}
     }
 }

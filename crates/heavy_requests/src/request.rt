@@ -14,7 +14,7 @@ use crate::usage_report::{UsageReport, usage_report_of};
 use clap::error::ErrorKind;
 use clap::{ArgMatches, Error};
 use heavy_arguments::{
-    ALLOW_ZERO, DECIMALS, DELIMITER, DEPTH, EXPLAIN, HEADER, K, KEY, LINES, MEMORY, NAMES,
+    ALLOW_ZERO, DECIMALS, DELIMITER, DEPTH, EXPLAIN, HEADER, JSON, K, KEY, LINES, MEMORY, NAMES,
     NO_QUOTES, OUTPUT, PIECES, PREFIX, PROGRESS, RECORDS, SEED, SHARE, SQUEEZE, SUMMARY_WORKERS,
     TOP, UNTIL, WEIGHT, WIDTH, WORKERS, command_line,
 };
@@ -279,11 +279,14 @@ fn decimals_of(found: &ArgMatches) -> u8
     found.get_one(DECIMALS).unwrap_or(0)
 }
 
-/// Reads how a record is written. Lines have no fields, and squeezed fields no quotes.
+/// Reads how a record is written: objects have no delimiters, lines no fields, and squeezed fields
+/// no quotes.
 fn format_of(found: &ArgMatches) -> Format
     ensures { IsFormat (found_of found.now) result }
 {
-    if found.get_flag(LINES) {
+    if found.get_flag(JSON) {
+        Format::Json
+    } else if found.get_flag(LINES) {
         Format::Lines
     } else if found.get_flag(SQUEEZE) {
         Format::Squeezed
