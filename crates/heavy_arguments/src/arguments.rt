@@ -51,6 +51,18 @@ pub const WEIGHT: &str = "weight";
 
 pub const ALLOW_ZERO: &str = "allow-zero";
 
+/// The options that say how a record is written.
+pub const NO_QUOTES: &str = "no-quotes";
+
+pub const SQUEEZE: &str = "squeeze";
+
+pub const LINES: &str = "lines";
+
+/// The options that say which part of a field is the key.
+pub const UNTIL: &str = "until";
+
+pub const PREFIX: &str = "prefix";
+
 /// The option that says how many digits a weight may have after a point.
 pub const DECIMALS: &str = "decimals";
 
@@ -228,12 +240,12 @@ const RECORD_FILES: Argument = Argument::Given(
 );
 
 /// The options that say how records are read.
-const COLUMN_ARGUMENTS: [Argument; 6] = [
+const COLUMN_ARGUMENTS: [Argument; 11] = [
     Argument::Short(
         'd',
         Kind::Byte,
         DELIMITER,
-        "The byte between two fields, \\t for a tab, =- for a hyphen [default: ,]",
+        "The byte between two fields, \\t for a tab, =- for a hyphen [default: , or, squeezed, a space]",
     ),
     Argument::Short(
         'H',
@@ -260,6 +272,31 @@ const COLUMN_ARGUMENTS: [Argument; 6] = [
         Kind::Digit,
         DECIMALS,
         "Weights may have a point and up to D digits behind it, D from 0 to 9 [default: 0]",
+    ),
+    Argument::Given(
+        Kind::Text("BYTES"),
+        UNTIL,
+        "The key ends before the first of these bytes in its last column, as ? in a path",
+    ),
+    Argument::Given(
+        Kind::Number,
+        PREFIX,
+        "The key has at most the first N bytes of its last column, as 13 of a time to the hour",
+    ),
+    Argument::Given(
+        Kind::Flag,
+        NO_QUOTES,
+        "A quote is a byte as any other: each line is a record",
+    ),
+    Argument::Given(
+        Kind::Flag,
+        SQUEEZE,
+        "Several delimiters are one, and those at a line's ends none; no quotes, as padded columns",
+    ),
+    Argument::Given(
+        Kind::Flag,
+        LINES,
+        "Each line is a key; its delimiters and quotes are bytes as any other",
     ),
 ];
 

@@ -2,6 +2,7 @@
 use Rattle.std.specs.Prelude.{◌≡◌, ◌≢◌, ◌<◌, ◌≤◌, ◌⊎◌, ◌==◌, ◌&&◌, nat_le, ℕ, List, [], ◌∷◌, ◌++◌, length, is_some, Option, option_to_list, Some, None, IfSome, option_map, ⊤, if◌then◌else◌}
 use Rattle.hh_stream.specs.Cuttings.{pieces_of}
 use Rattle.hh_pieces.specs.Pieces.{IsCutAt}
+use Rattle.hh_records.specs.declared.format.Format.TheVariants as format
 use Rattle.hh_records.specs.LayoutWords.{SaysLayout, key_words, weight_word}
 use Rattle.hh_records.specs.LayoutWords as said
 use Rattle.hh_records.specs.declared.layout.Layout.{Layout}
@@ -25,10 +26,13 @@ layout_fault o count =
 
 -- what the program would be told in words: the columns are the key's, and then the weight's where it has one
 pub record AreLayoutWords (o : TextLayout) (columns : List (List ℕ)) (words : LayoutWords) : Type 0 where
+  pub csv : words.format ≡ format.Csv
   pub delimiter : option_map (λ word. word.items) words.delimiter ≡ Some (o.delimiter ∷ [])
   pub has_header : words.has_header ≡ o.header == 1
   pub named : columns ≡ key_words words ++ option_to_list (weight_word words)
   pub weight : is_some words.weight ≡ o.has_weight == 1
+  pub until : words.until.items ≡ []
+  pub prefix : words.prefix ≡ None
   pub allow_zero : words.allow_zero ≡ o.allow_zero == 1
   pub decimals : words.decimals ≡ o.decimals
 

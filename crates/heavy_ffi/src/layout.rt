@@ -9,7 +9,7 @@ use crate::fault::Fault;
 use crate::parts::files_of;
 use hh_faults::ToolError;
 use hh_library::hash_of;
-use hh_records::{Layout, LayoutWords};
+use hh_records::{Format, Layout, LayoutWords};
 use std::alloc::{AllocError, Global};
 
 /// How the records of a text are laid out, beside the words of their columns.
@@ -67,10 +67,13 @@ fn words_of(
         None
     };
     Ok(LayoutWords {
+        format: Format::Csv,
         delimiter: Some(Vec::from_slice(alloc, &[layout.delimiter])?),
         has_header: layout.header == 1,
         key,
         weight,
+        until: Vec::new(alloc),
+        prefix: None,
         allow_zero: layout.allow_zero == 1,
         decimals: layout.decimals,
     })

@@ -3,6 +3,7 @@
 /// What parts the fields of a text of records, and whether its first record is a header.
 #[derive(Clone, Copy)]
 pub struct Form {
+    /// The byte between two fields; a quote, where no field is quoted.
     pub delimiter: u8,
     pub has_header: bool,
 }

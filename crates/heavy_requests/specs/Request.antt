@@ -4,6 +4,8 @@ use Rattle.std.specs.List.{flat_map, list_any, slice_split}
 use Rattle.std.specs.Str.Parse.{IsNumeral, without_leading_plus}
 use Rattle.clap.specs.Words.{App, Text, first_value, matched_of, one_text, raw_values, rows_of, subcommand_of, takes}
 use Rattle.clap.specs.declared.parser.matches.Found.{Found}
+use Rattle.hh_records.specs.declared.format.Format.{Format}
+use Rattle.hh_records.specs.declared.format.Format.TheVariants as format
 use Rattle.hh_rows.specs.declared.report_options.ReportOptions.{ReportOptions}
 use Rattle.hh_rows.specs.declared.report_options.Tree.{Tree}
 use Rattle.hh_rows.specs.declared.report_options.Tree.TheVariants as shape
@@ -97,6 +99,22 @@ pub record IsOutput (found : Found) (output : Output) : Type 0 where
   pub named : one_text found (codes "names") ≡ Some (codes "true") → output.has_names ≡ true
   pub unnamed : one_text found (codes "names") ≡ None → output.has_names ≡ false
 
+-- whether a flag is given
+abbrev pub IsGiven : Found → Text → Type 0
+IsGiven found name = one_text found name ≡ Some (codes "true")
+
+abbrev pub IsAbsent : Found → Text → Type 0
+IsAbsent found name = one_text found name ≡ None
+
+-- how a record is written, by the first of these flags that is given
+pub record IsFormat (found : Found) (written : Format) : Type 0 where
+  pub lines : IsGiven found (codes "lines") → written ≡ format.Lines
+  pub squeezed : IsAbsent found (codes "lines") → IsGiven found (codes "squeeze") → written ≡ format.Squeezed
+  pub unquoted : IsAbsent found (codes "lines") → IsAbsent found (codes "squeeze") → IsGiven found (codes "no-quotes")
+      → written ≡ format.Unquoted
+  pub csv : IsAbsent found (codes "lines") → IsAbsent found (codes "squeeze") → IsAbsent found (codes "no-quotes")
+      → written ≡ format.Csv
+
 -- the records that are read: their files in order, and where their columns stand
 pub record AreRecordWords (found : Found) (records : RecordWords) : Type 0 where
   pub files : map (λ w. w.items) records.files.items ≡ all_words found (codes "RECORDS")
@@ -110,6 +128,11 @@ pub record AreRecordWords (found : Found) (records : RecordWords) : Type 0 where
   pub zeros : one_text found (codes "allow-zero") ≡ Some (codes "true") → records.layout.allow_zero ≡ true
   pub no_zeros : one_text found (codes "allow-zero") ≡ None → records.layout.allow_zero ≡ false
   pub decimals : AreDecimals found records.layout.decimals
+  pub format : IsFormat found records.layout.format
+  pub until : records.layout.until.items ≡ first_word [] found (codes "until")
+  pub no_prefix : one_text found (codes "prefix") ≡ None → records.layout.prefix ≡ None
+  pub prefix : (text : Text) → one_text found (codes "prefix") ≡ Some text → IsNumeral 10 (without_leading_plus text)
+      → number_in text < 2 ^ 64 → records.layout.prefix ≡ Some (number_in text)
 
 -- the options of a table
 pub record AreTableOptions (found : Found) (width depth seed workers : ℕ) : Type 0 where

@@ -15,7 +15,7 @@ use heavy_progress::{
 };
 use hh_faults::ToolError;
 use hh_pieces::{GrowingFile, ReadAt};
-use hh_records::delimiter_of;
+use hh_records::Format;
 use memchr::memrchr;
 use std::alloc::Global;
 use std::cell::Cell;
@@ -345,7 +345,6 @@ impl<'a> Inputs<'a> {
         begin: &'a Begin,
     ) -> Inputs<'a> {
         let layout = &asked.records.layout;
-        let delimiter = layout.delimiter.as_ref();
         Inputs {
             rt,
             progress,
@@ -354,13 +353,12 @@ impl<'a> Inputs<'a> {
             begin,
             keeps_begin: explains_faults(rt, asked) || !asked.records.are_plain(),
             form: Form {
-                delimiter: delimiter
-                    .and_then(|word| delimiter_of(word))
-                    .unwrap_or(b','),
+                delimiter: asked.records.parting_byte().unwrap_or(b','),
                 has_header: layout.has_header,
             },
             prints_hints: explains_faults(rt, asked),
-            looks_for_format: delimiter.is_none()
+            looks_for_format: layout.delimiter.is_none()
+                && layout.format == Format::Csv
                 && layout.key.is_empty()
                 && layout.weight.is_none(),
             most_kept: asked.memory.saturating_mul(MEGABYTE),

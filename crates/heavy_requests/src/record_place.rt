@@ -3,7 +3,6 @@
 use crate::fields::split_fields;
 use crate::request::Invocation;
 use heavy_progress::{Begin, RecordCount};
-use hh_records::delimiter_of;
 use std::alloc::{AllocError, Global};
 use std::fs::{self, File};
 use std::io::Read;
@@ -171,18 +170,19 @@ impl<'a> Texts<'a> {
         })
     }
 
-    /// Gives the byte between two fields of the records.
+    /// Gives the byte between two fields of the records, where they may be quoted.
     pub fn delimiter(self) -> Option<u8> {
-        match &self.asked.records.layout.delimiter {
-            Some(word) => delimiter_of(word),
-            None => Some(b','),
+        if self.asked.records.layout.format.has_quotes() {
+            self.asked.records.parting_byte()
+        } else {
+            None
         }
     }
 
     /// Looks in `text` for the record after `before` others, where the text can be looked at
     /// again.
     fn search_in(self, text: Text<'_>, before: u64) -> Option<Search> {
-        let search = Search::new(self.rt, before, self.delimiter()?);
+        let search = Search::new(self.rt, before, self.asked.records.parting_byte()?);
         if let Some(bytes) = self.begin.bytes_of(text.number) {
             return search.through_begin(&bytes, self.begin.is_whole());
         }

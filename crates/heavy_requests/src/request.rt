@@ -4,7 +4,7 @@ ghost use Rattle.std.specs.Prelude.{◌≡◌, ◌++◌, [], IfErr, IfOk, OnOk, 
 ghost use Rattle.clap.specs.Words.{Text, first_value, found_of, kind_of};
 ghost use Rattle.heavy_host.specs.Words.{word_of};
 ghost use Rattle.heavy_requests.specs.Request.{AreDecimals, AreOptions, AreRecordWords};
-ghost use Rattle.heavy_requests.specs.Request.{AreRowOptions, AsksFor, GivesShare, IsAskedBy, IsOutput};
+ghost use Rattle.heavy_requests.specs.Request.{AreRowOptions, AsksFor, GivesShare, IsAskedBy, IsFormat, IsOutput};
 ghost use Rattle.heavy_requests.specs.Request.{IsAskedFrom, IsReportName, NamesForm, NamesTree};
 ghost use Rattle.heavy_requests.specs.Request.{MayRefuse, MayRefuseFrom, all_columns, all_words, asks_plan};
 ghost use Rattle.heavy_requests.specs.Request.{between_commas, columns_in, first_word};
@@ -14,12 +14,13 @@ use crate::usage_report::{UsageReport, usage_report_of};
 use clap::error::ErrorKind;
 use clap::{ArgMatches, Error};
 use heavy_arguments::{
-    ALLOW_ZERO, DECIMALS, DELIMITER, DEPTH, EXPLAIN, HEADER, K, KEY, MEMORY, NAMES, OUTPUT, PIECES,
-    PROGRESS, RECORDS, SEED, SHARE, SUMMARY_WORKERS, TOP, WEIGHT, WIDTH, WORKERS, command_line,
+    ALLOW_ZERO, DECIMALS, DELIMITER, DEPTH, EXPLAIN, HEADER, K, KEY, LINES, MEMORY, NAMES,
+    NO_QUOTES, OUTPUT, PIECES, PREFIX, PROGRESS, RECORDS, SEED, SHARE, SQUEEZE, SUMMARY_WORKERS,
+    TOP, UNTIL, WEIGHT, WIDTH, WORKERS, command_line,
 };
 use heavy_host::{WordSource, after_first, bytes_of, read_words, texts_of};
 use hh_output::{Form, Output};
-use hh_records::LayoutWords;
+use hh_records::{Format, LayoutWords, delimiter_of};
 use hh_rows::{ReportOptions, RowOptions, Share, Tree};
 use std::alloc::{AllocError, Global};
 
@@ -56,8 +57,23 @@ impl RecordWords {
             && !layout.has_header
             && layout.key.is_empty()
             && layout.weight.is_none()
+            && layout.until.is_empty()
+            && layout.prefix.is_none()
+            && layout.format == Format::Csv
             && !layout.allow_zero
             && layout.decimals == 0
+    }
+
+    /// Gives the byte that parts two fields where records are counted: a quote where no field is
+    /// quoted, since it opens none then.
+    pub fn parting_byte(&self) -> Option<u8> {
+        if !self.layout.format.has_quotes() {
+            return Some(b'"');
+        }
+        match &self.layout.delimiter {
+            Some(word) => delimiter_of(word),
+            None => Some(b','),
+        }
     }
 }
 
@@ -263,15 +279,33 @@ fn decimals_of(found: &ArgMatches) -> u8
     found.get_one(DECIMALS).unwrap_or(0)
 }
 
+/// Reads how a record is written. Lines have no fields, and squeezed fields no quotes.
+fn format_of(found: &ArgMatches) -> Format
+    ensures { IsFormat (found_of found.now) result }
+{
+    if found.get_flag(LINES) {
+        Format::Lines
+    } else if found.get_flag(SQUEEZE) {
+        Format::Squeezed
+    } else if found.get_flag(NO_QUOTES) {
+        Format::Unquoted
+    } else {
+        Format::Csv
+    }
+}
+
 /// Reads which records are asked for.
 fn record_words(alloc: Global, found: &ArgMatches) -> Result<RecordWords, AllocError>
     ensures { IfOk result (AreRecordWords (found_of found.now)) }
 {
     let layout = LayoutWords {
+        format: format_of(found),
         delimiter: word_given(alloc, found, DELIMITER)?,
         has_header: found.get_flag(HEADER),
         key: columns(alloc, found, KEY)?,
         weight: word_given(alloc, found, WEIGHT)?,
+        until: word_or(alloc, found, UNTIL, "")?,
+        prefix: found.get_one(PREFIX),
         allow_zero: found.get_flag(ALLOW_ZERO),
         decimals: decimals_of(found),
     };

@@ -11,13 +11,17 @@ use Rattle.csv.specs.Writing.{default_writer, escaped, field_text, fields_text, 
 use Rattle.hh_stream.specs.Digits.{is_digit, is_number}
 use Rattle.std.specs.List.{list_all}
 use Rattle.hh_stream.specs.Weights.{Entry, max_key_len, total_of}
-use Rattle.hh_records.specs.Clips.{AlikeField, AlikeFields, clipped_for, clipped_text, separates}
+use Rattle.hh_records.specs.Clips.{AlikeField, AlikeFields, clipped_for, clipped_text, may_be_cut, separates}
 use Rattle.hh_records.specs.Decimals.{is_whole, point_from, units_at, units_of}
-use Rattle.hh_records.specs.Layouts.{Places, adding_next, adds, delimited, every, fields_at, gathered, headed_parts, is_hyphen, items_after, joined, key_of, parts_at, places_in, stream_with, text_parts, weight_at, weight_by}
+use Rattle.hh_records.specs.Formats.{Part, fields_by, has_quotes, is_whole_field, part_said, with_part}
+use Rattle.hh_records.specs.Layouts.{Columns, Places, adding_next, adds, columns_among, config_of, delimited, every, fields_at, gathered, headed_parts, is_hyphen, items_after, joined, key_of, parts_at, parts_by, stream_with, text_parts, weight_at, weight_by}
+use Rattle.hh_records.specs.declared.format.Format.{Format}
+use Rattle.hh_records.specs.declared.format.Format.TheVariants as format
 use Rattle.hh_records.specs.Streams.{Fields, Parts, item_of_key, parts_of}
 use Rattle.hh_records.specs.declared.layout.Layout.{Layout}
 use Rattle.hh_faults.specs.declared.records.BadRecordCause.{BadRecordCause}
 use Rattle.hh_faults.specs.declared.records.BadRecordCause.TheVariants as cause
+use Rattle.hh_records.proofs.FormatFacts.{with-whole}
 use Rattle.hh_records.proofs.ClipRows.{AlikeHeaded, AlikeRows, all-alike, headed-alike, stripped}
 
 -- ---- a weight's field that is long
@@ -183,19 +187,24 @@ weight-at-alike fs gs (Some i) h = by (field_at fs i) (field_at gs i) (at-alike 
     by (Some x) None k = absurd k
     by (Some x) (Some y) k = k
 
-parts-alike : (at : Places) (fs gs : Fields) → AlikeFields fs gs → AlikeParts (parts_at at fs) (parts_at at gs)
-parts-alike None fs gs h = pair-alike fs gs h
-parts-alike (Some at) fs gs h = by _ _ _ _ (fields-alike fs gs at.0 h) (weight-at-alike fs gs at.1 h)
+parts-alike : (columns : Columns) (part : Part) (fs gs : Fields) → is_whole_field part ≡ true → AlikeFields fs gs
+    → AlikeParts (parts_by columns part fs) (parts_by columns part gs)
+parts-alike None part fs gs whole h = pair-alike fs gs h
+parts-alike (Some at) part fs gs whole h = by _ _ _ _ (fields-alike fs gs at.0 h) (weight-at-alike fs gs at.1 h)
   where
+    key : Fields → List ℕ
+    key fs = key_of (with_part part fs)
+
     by : (xs ys : Option Fields) (v w : Option (Option (List ℕ))) → AlikeMany xs ys → AlikeChosen v w
-        → AlikeParts (option_zip (option_map key_of xs) v) (option_zip (option_map key_of ys) w)
+        → AlikeParts (option_zip (option_map key xs) v) (option_zip (option_map key ys) w)
     by None None v w h k = tt
     by None (Some ys) v w h k = absurd h
     by (Some xs) None v w h k = absurd h
     by (Some xs) (Some ys) None None h k = tt
     by (Some xs) (Some ys) None (Some w) h k = absurd k
     by (Some xs) (Some ys) (Some v) None h k = absurd k
-    by (Some xs) (Some ys) (Some v) (Some w) h k = (key-alike xs ys h, k)
+    by (Some xs) (Some ys) (Some v) (Some w) h k =
+        (rw (with-whole part xs whole, with-whole part ys whole) (key-alike xs ys h), k)
 
 key-long : (t : ℕ) (k : List ℕ) (w : Option ℕ) → max_key_len < length k → item_of_key t k w ≡ Err cause.KeyTooLong
 key-long t k w h =
@@ -252,11 +261,13 @@ module _ (layout : Layout) (few : layout.decimals ≤ 255) where
       by (Ok es) more = ap (joined es) (more es)
       by (Err c) more = refl
 
-  map-alike : (at : Places) (fs gs : List Fields) → AlikeRows fs gs → AlikeList (map (parts_at at) fs) (map (parts_at at) gs)
-  map-alike at [] [] h = tt
-  map-alike at [] (g ∷ gs) h = absurd h
-  map-alike at (f ∷ fs) [] h = absurd h
-  map-alike at (f ∷ fs) (g ∷ gs) h = (parts-alike at f g h.0, map-alike at fs gs h.1)
+  -- records by these columns
+  abbrev by_columns : Columns → Places
+  by_columns columns = record {
+    format = layout.format;
+    columns = columns;
+    part = part_said layout.part;
+  }
 
   abbrev AlikeText : Option (List Parts) → Option (List Parts) → Type 0
   AlikeText None None = ⊤
@@ -264,16 +275,28 @@ module _ (layout : Layout) (few : layout.decimals ≤ 255) where
   AlikeText (Some p) None = ⊥
   AlikeText (Some p) (Some q) = AlikeList p q
 
-  chosen-alike : (o : Option Places) (fs gs : List Fields) → AlikeRows fs gs
-      → AlikeText (option_map (λ at. map (parts_at at) fs) o) (option_map (λ at. map (parts_at at) gs) o)
-  chosen-alike None fs gs h = tt
-  chosen-alike (Some at) fs gs h = map-alike at fs gs h
+  module _ (csv : layout.format ≡ format.Csv) (whole : is_whole_field (part_said layout.part) ≡ true) where
+    map-alike : (columns : Columns) (fs gs : List Fields) → AlikeRows fs gs
+        → AlikeList (map (parts_at (by_columns columns)) fs) (map (parts_at (by_columns columns)) gs)
+    map-alike columns [] [] h = tt
+    map-alike columns [] (g ∷ gs) h = absurd h
+    map-alike columns (f ∷ fs) [] h = absurd h
+    map-alike columns (f ∷ fs) (g ∷ gs) h =
+        (rw csv (parts-alike columns (part_said layout.part) f g whole h.0), map-alike columns fs gs h.1)
 
-  headed-parts-alike : (fs gs : List Fields) → AlikeHeaded fs gs → AlikeText (headed_parts layout fs) (headed_parts layout gs)
-  headed-parts-alike [] [] h = tt
-  headed-parts-alike [] (g ∷ gs) h = absurd h
-  headed-parts-alike (f ∷ fs) [] h = absurd h
-  headed-parts-alike (f ∷ fs) (g ∷ gs) h = rw h.0 (chosen-alike (places_in layout g) fs gs h.1)
+    chosen-alike : (o : Option Columns) (fs gs : List Fields) → AlikeRows fs gs
+        → AlikeText (option_map (λ at. map (parts_at at) fs) (option_map by_columns o))
+        (option_map (λ at. map (parts_at at) gs) (option_map by_columns o))
+    chosen-alike None fs gs h = tt
+    chosen-alike (Some columns) fs gs h = map-alike columns fs gs h
+
+    headed-parts-alike : (fs gs : List Fields) → AlikeHeaded fs gs
+        → AlikeText (headed_parts layout fs) (headed_parts layout gs)
+    headed-parts-alike [] [] h = tt
+    headed-parts-alike [] (g ∷ gs) h = absurd h
+    headed-parts-alike (f ∷ fs) [] h = absurd h
+    headed-parts-alike (f ∷ fs) (g ∷ gs) h =
+        rw h.0 (chosen-alike (columns_among layout (fields_by layout.format g)) fs gs h.1)
 
   same-list : (ps : List Parts) → AlikeList ps ps
   same-list [] = tt
@@ -298,22 +321,42 @@ module _ (layout : Layout) (few : layout.decimals ≤ 255) where
       by true is = absurd (cc (rw is at e))
       by false is = ne_eqb 34 d (λ q. eqb-false d 34 is (sym q))
 
-  text-alike : (text : List ℕ) → AlikeText (text_parts layout text) (text_parts layout (clipped_for layout text))
-  text-alike text = by (separates layout.delimiter) refl
-    where
-      plain : separates layout.delimiter ≡ true → (b : Bool) → layout.has_header ≡ b
-          → AlikeText (text_parts layout text) (text_parts layout (clipped_text (delimited layout.delimiter) layout.has_header text))
-      plain e true is =
-          rw (is, stripped layout.delimiter true text)
-          (headed-parts-alike _ _ (headed-alike layout.delimiter (other-quote layout.delimiter e) (strip_bom text)))
-      plain e false is =
-          rw (is, stripped layout.delimiter false text)
-          (chosen-alike (places_in layout []) _ _ (all-alike layout.delimiter (other-quote layout.delimiter e) (strip_bom text)))
+  quoted-is-csv : (f : Format) → has_quotes f ≡ true → f ≡ format.Csv
+  quoted-is-csv format.Csv e = refl
+  quoted-is-csv format.Unquoted e = cc e
+  quoted-is-csv format.Squeezed e = cc e
+  quoted-is-csv format.Lines e = cc e
 
-      by : (b : Bool) → separates layout.delimiter ≡ b
+  both-true : (a b : Bool) → (a && b) ≡ true → (a ≡ true) × (b ≡ true)
+  both-true true b e = (refl, e)
+  both-true false b e = cc e
+
+  module _ (csv : layout.format ≡ format.Csv) (whole : is_whole_field (part_said layout.part) ≡ true)
+      (apart : separates layout.delimiter ≡ true) (text : List ℕ) where
+    config : config_of layout ≡ delimited layout.delimiter
+    config = rw csv refl
+
+    cut-alike : (b : Bool) → layout.has_header ≡ b
+        → AlikeText (text_parts layout text) (text_parts layout (clipped_text (delimited layout.delimiter) layout.has_header text))
+    cut-alike true is =
+        rw (is, config, stripped layout.delimiter true text)
+        (headed-parts-alike csv whole _ _
+        (headed-alike layout.delimiter (other-quote layout.delimiter apart) (strip_bom text)))
+    cut-alike false is =
+        rw (is, config, stripped layout.delimiter false text)
+        (chosen-alike csv whole (columns_among layout (fields_by layout.format [])) _ _
+        (all-alike layout.delimiter (other-quote layout.delimiter apart) (strip_bom text)))
+
+  text-alike : (text : List ℕ) → AlikeText (text_parts layout text) (text_parts layout (clipped_for layout text))
+  text-alike text = by (may_be_cut layout) refl
+    where
+      by : (b : Bool) → may_be_cut layout ≡ b
           → AlikeText (text_parts layout text)
           (text_parts layout (if b then clipped_text (delimited layout.delimiter) layout.has_header text else text))
-      by true e = plain e layout.has_header refl
+      by true e =
+          let outer = both-true _ _ e in
+          let inner = both-true _ _ outer.0 in
+          cut-alike (quoted-is-csv layout.format inner.0) inner.1 outer.1 text layout.has_header refl
       by false e = same-text (text_parts layout text)
 
   append-alike : (ps qs rs ss : List Parts) → AlikeList ps qs → AlikeList rs ss → AlikeList (ps ++ rs) (qs ++ ss)

@@ -8,10 +8,10 @@ use Rattle.csv.specs.declared.parser.State.TheVariants as st
 use Rattle.csv.specs.declared.reader.Reader.{Reader}
 use Rattle.hh_records.specs.declared.layout.ChoiceFault.{ChoiceFault}
 use Rattle.hh_records.specs.declared.layout.ChoiceFault.TheVariants as choice
-use Rattle.hh_records.specs.declared.layout.ColumnIndices.{ColumnIndices}
+use Rattle.hh_records.specs.declared.layout.ChosenLayout.{ChosenLayout}
 use Rattle.hh_records.specs.declared.layout.Layout.{Layout}
 use Rattle.hh_records.specs.declared.retrying.Retrying.{Retrying}
-use Rattle.hh_records.specs.Layouts.{ChoiceRefused, FindsColumns, IsStart, OpenRefused, Opens, Places, between, choice_fault, chosen_places, delimited, names_columns, parts_at, places_in, rows_in, text_parts, unread}
+use Rattle.hh_records.specs.Layouts.{ChoiceRefused, FindsColumns, IsStart, OpenRefused, Opens, Places, between, choice_fault, chosen_places, config_of, names_columns, parts_at, places_in, rows_in, text_parts, unread}
 use Rattle.hh_records.specs.Streams.{Fields, Parts}
 use Rattle.hh_records.proofs.ReadFacts.{header-missed, header-taken}
 
@@ -21,35 +21,35 @@ module _ {R : Type 0} (remaining : R → Option (List ℕ)) (layout : Layout) (h
   rem r = remaining r.inner
 
   abbrev rows : List ℕ → List Fields
-  rows bytes = records (delimited layout.delimiter) bytes
+  rows bytes = records (config_of layout) bytes
 
   -- a text without a first record has no columns
   pub columns-none : (o : Option (List ℕ)) → source_of rem a ≡ o → ReadRecord rem a b false f
       → IfSome o (λ bytes. FindsColumns layout (rows bytes) None)
   columns-none None e r = tt
   columns-none (Some y) e r =
-      rw (headed, header-missed rem a b f (delimited layout.delimiter) y start.config start.start e r) refl
+      rw (headed, header-missed rem a b f (config_of layout) y start.config start.start e r) refl
 
   -- the columns of the first record are those of the text
   pub columns-some : (at : Places) (o : Option (List ℕ)) → source_of rem a ≡ o → ReadRecord rem a b true f
       → places_in layout f ≡ Some at → IfSome o (λ bytes. FindsColumns layout (rows bytes) (Some at))
   columns-some at None e r places = tt
   columns-some at (Some y) e r places =
-      let (z, rest, stands, all) = header-taken rem a b f (delimited layout.delimiter) y start.config start.start e r in
+      let (z, rest, stands, all) = header-taken rem a b f (config_of layout) y start.config start.start e r in
       rw (headed, all) places
 
 -- ---- a text without a header
 -- what is left of a reader at its start
 left-at-start : (parts : Fields → Parts) (layout : Layout) (cfg : Config) (s : State) (o : Option (List ℕ)) (y : List ℕ)
-    → s ≡ st.StartRecord → cfg ≡ delimited layout.delimiter → o ≡ Some y
+    → s ≡ st.StartRecord → cfg ≡ config_of layout → o ≡ Some y
     → option_map (λ bytes. map parts (records_from cfg (length bytes + 1) s bytes)) (between s o)
-    ≡ Some (map parts (records (delimited layout.delimiter) y))
+    ≡ Some (map parts (records (config_of layout) y))
 left-at-start parts layout cfg s o y start config known = rw (start, config, known) refl
 
 module _ {R : Type 0} (remaining : R → Option (List ℕ)) (layout : Layout) (plain : layout.has_header ≡ false)
     (f : Fields) (empty : f ≡ []) where
   -- a reader at the start of such a text has all its records left, by the places that the layout names
-  pub opened-plain : (a : Reader (Retrying R)) (start : IsStart layout a) (chosen : Option ColumnIndices) (o : Option (List ℕ))
+  pub opened-plain : (a : Reader (Retrying R)) (start : IsStart layout a) (chosen : ChosenLayout) (o : Option (List ℕ))
       → unread remaining a ≡ option_map strip_bom o → places_in layout f ≡ Some (chosen_places chosen)
       → Opens remaining (option_map (text_parts layout) o) (Some (record { rows = a; chosen = chosen }))
   opened-plain a start chosen None source places = tt

@@ -6,6 +6,7 @@ pub mod ClipPlaces
 pub mod ClipRows
 pub mod ClipRuns
 pub mod DecimalFacts
+pub mod FormatFacts
 pub mod HeaderFacts
 pub mod KeyFacts
 pub mod LayoutFacts

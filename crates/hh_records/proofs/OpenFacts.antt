@@ -365,7 +365,7 @@ pub plain-known : {R : Type 0} (remaining : R → Option (List ℕ)) (records : 
     → IsPlain records.layout → records.others.items ≡ [] → records_known remaining records ≡ text_known (remaining records.first)
 unfolding every
 plain-known remaining records law plain none =
-    let names : names_columns records.layout ≡ false = rw (plain.no_key, plain.no_weight) refl in
+    let names : names_columns records.layout ≡ false = rw (plain.no_key, plain.no_weight, plain.whole_field) refl in
     rw (names, none) (ap (λ o. record {
       names_columns = false;
       reading = o;

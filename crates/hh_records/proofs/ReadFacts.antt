@@ -22,10 +22,10 @@ use Rattle.hh_faults.specs.declared.records.BadRecordCause.{BadRecordCause}
 use Rattle.hh_faults.specs.declared.records.BadRecordCause.TheVariants as cause
 use Rattle.hh_records.specs.declared.records.RecordFault.{RecordFault}
 use Rattle.hh_records.specs.declared.records.RecordFault.TheVariants as fault
-use Rattle.hh_records.specs.Layouts.{ChoiceRefused, IsPlain, IsStart, OpenRefused, Opens, PartsRefused, RowsRefused, added, adding_next, adds, between, choice_fault, chosen_places, delimited, gathered, headed_parts, items_after, joined, names_columns, parts_at, places_in, texts_parts}
+use Rattle.hh_records.specs.Layouts.{ChoiceRefused, IsPlain, IsStart, OpenRefused, Opens, PartsRefused, RowsRefused, added, adding_next, adds, between, choice_fault, chosen_places, config_of, gathered, headed_parts, items_after, joined, names_columns, parts_at, places_in, texts_parts}
 use Rattle.hh_records.specs.declared.layout.ChoiceFault.{ChoiceFault}
 use Rattle.hh_records.specs.declared.layout.ChoiceFault.TheVariants as choice
-use Rattle.hh_records.specs.declared.layout.ColumnIndices.{ColumnIndices}
+use Rattle.hh_records.specs.declared.layout.ChosenLayout.{ChosenLayout}
 use Rattle.hh_records.specs.declared.layout.Layout.{Layout}
 use Rattle.hh_records.specs.declared.retrying.Retrying.{Retrying}
 use Rattle.hh_records.specs.Laws.{PlainLayoutsReadStreams}
@@ -360,22 +360,22 @@ module _ {R : Type 0} (remaining : R → Option (List ℕ)) (layout : Layout) (a
   rem r = remaining r.inner
 
   abbrev pub parts : List ℕ → Option (List Parts)
-  parts bytes = headed_parts layout (records (delimited layout.delimiter) bytes)
+  parts bytes = headed_parts layout (records (config_of layout) bytes)
 
   -- with no header
   pub opened-none : (o : Option (List ℕ)) → source_of rem a ≡ o → ReadRecord rem a b false f
       → Opens remaining (option_map parts o) None
   opened-none None e r = tt
   opened-none (Some y) e r =
-      ([], refl, rw (header-missed rem a b f (delimited layout.delimiter) y start.config start.start e r) refl)
+      ([], refl, rw (header-missed rem a b f (config_of layout) y start.config start.start e r) refl)
 
   -- after its header
-  pub opened-some : (chosen : Option ColumnIndices) (o : Option (List ℕ)) → source_of rem a ≡ o → ReadRecord rem a b true f
+  pub opened-some : (chosen : ChosenLayout) (o : Option (List ℕ)) → source_of rem a ≡ o → ReadRecord rem a b true f
       → places_in layout f ≡ Some (chosen_places chosen)
       → Opens remaining (option_map parts o) (Some (record { rows = b; chosen = chosen }))
   opened-some chosen None e r places = tt
   opened-some chosen (Some y) e r places =
-      let cfg = delimited layout.delimiter in
+      let cfg = config_of layout in
       let (z, at, stands, all) = header-taken rem a b f cfg y start.config start.start e r in
       let config : b.config ≡ cfg = r.2 ∙ start.config in
       let all_parts : List Fields → List Parts = λ rows. map (parts_at (chosen_places chosen)) rows in (
@@ -392,7 +392,7 @@ module _ {R : Type 0} (remaining : R → Option (List ℕ)) (layout : Layout) (a
   opened-not None e r places = tt
   opened-not (Some y) e r places =
       let (z, at, stands, all) =
-      header-taken rem a b f (delimited layout.delimiter) y start.config start.start e r in
+      header-taken rem a b f (config_of layout) y start.config start.start e r in
       rw (all, places) refl
 
   -- with a header that lacks a column, or with no memory
@@ -442,7 +442,7 @@ plain-parts : (layout : Layout) (text : List ℕ) → IsPlain layout
 unfolding gathered
 plain-parts layout text plain =
     let nothing = append-nil (map parts_of (records default_config (strip_bom text))) in
-    rw (plain.delimiter, plain.no_header, plain.no_key, plain.no_weight, nothing) refl
+    rw (plain.csv, plain.delimiter, plain.no_header, plain.no_key, plain.no_weight, plain.whole_field, nothing) refl
 
 -- such a layout reads a text as its stream
 pub plain-layouts : PlainLayoutsReadStreams

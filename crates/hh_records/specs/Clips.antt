@@ -8,7 +8,7 @@ use Rattle.csv.specs.declared.parser.Config.{Config}
 use Rattle.csv.specs.declared.parser.State.{State}
 use Rattle.csv.specs.declared.parser.State.TheVariants as st
 use Rattle.hh_stream.specs.Weights.{max_key_len}
-use Rattle.hh_records.specs.Formats.{has_quotes, is_whole, part_said}
+use Rattle.hh_records.specs.Formats.{has_quotes, is_whole_field, part_said}
 use Rattle.hh_records.specs.Layouts.{delimited}
 use Rattle.hh_records.specs.Streams.{Fields}
 use Rattle.hh_records.specs.declared.clipped.Effect.{Effect}
@@ -93,7 +93,7 @@ separates d = not (d == 34) && not (d == 13) && not (d == 10) && nat_lt d 128
 -- whether what a layout makes of a record doesn't depend on the end of a long field
 abbrev pub may_be_cut : Layout → Bool
 may_be_cut layout =
-    has_quotes layout.format && is_whole (part_said layout.part) && separates layout.delimiter
+    has_quotes layout.format && is_whole_field (part_said layout.part) && separates layout.delimiter
 
 -- a text as its records are read by a layout
 abbrev pub clipped_for : Layout → List ℕ → List ℕ

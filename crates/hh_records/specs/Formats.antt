@@ -42,10 +42,10 @@ abbrev pub part_said : KeyPart → Part
 part_said part = (part.until.items, part.prefix)
 
 -- whether the part is the whole field
-abbrev pub is_whole : Part → Bool
-is_whole ([], None) = true
-is_whole ([], Some n) = false
-is_whole (b ∷ until, prefix) = false
+abbrev pub is_whole_field : Part → Bool
+is_whole_field ([], None) = true
+is_whole_field ([], Some n) = false
+is_whole_field (b ∷ until, prefix) = false
 
 abbrev pub shortened : Option ℕ → List ℕ → List ℕ
 shortened None f = f

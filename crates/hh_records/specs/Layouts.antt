@@ -15,7 +15,7 @@ use Rattle.csv.specs.declared.reader.Trim.TheVariants as trim
 use Rattle.hh_stream.specs.Digits.{is_number, value_of}
 use Rattle.hh_stream.specs.Weights.{Entry, total_of}
 use Rattle.hh_records.specs.Decimals.{units_of}
-use Rattle.hh_records.specs.Formats.{Part, byte_between, fields_by, has_quotes, is_whole, part_said, with_part}
+use Rattle.hh_records.specs.Formats.{Part, byte_between, fields_by, has_quotes, is_whole_field, part_said, with_part}
 use Rattle.hh_records.specs.Streams.{Fields, Known, Parts, Reading, ReadsAs, item_of_key, parts_of}
 use Rattle.hh_records.specs.declared.format.Format.{Format}
 use Rattle.hh_records.specs.declared.format.Format.TheVariants as format
@@ -198,7 +198,7 @@ names_none (c ∷ cs) weight = false
 -- whether a layout names columns, or a part of the first one
 abbrev pub names_columns : Layout → Bool
 names_columns layout =
-    not (names_none layout.key.items layout.weight && is_whole (part_said layout.part))
+    not (names_none layout.key.items layout.weight && is_whole_field (part_said layout.part))
 
 -- the columns that a layout names, or nothing where these fields of a header lack one
 abbrev pub columns_among : Layout → Fields → Option Columns
@@ -220,7 +220,7 @@ places_in layout header =
 -- a layout of a key and, after a comma, its weight, a whole number but 0, with no header
 pub record IsPlain (layout : Layout) : Type 0 where
   pub csv : layout.format ≡ format.Csv
-  pub whole_field : is_whole (part_said layout.part) ≡ true
+  pub whole_field : is_whole_field (part_said layout.part) ≡ true
   pub delimiter : layout.delimiter ≡ comma
   pub no_header : layout.has_header ≡ false
   pub no_key : layout.key.items ≡ []

@@ -222,7 +222,11 @@ impl Place {
         ensures { (xs : List ℕ) → left_at result xs ≡ clipped_for layout.now xs }
     {
         Place {
-            delimiter: if may_be_cut(layout) { layout.delimiter } else { b'"' },
+            delimiter: if may_be_cut(layout) {
+                layout.delimiter
+            } else {
+                b'"'
+            },
             headed: layout.has_header,
             spot: Spot::Start,
             size: 0,

@@ -1,9 +1,11 @@
 //! How lines are records, and which part of a field is the key.
 
-ghost use Rattle.std.specs.Prelude.{◌≡◌, ◌==◌, IfOk};
-ghost use Rattle.csv.specs.Records.{fields_of};
-ghost use Rattle.hh_records.specs.Formats as spec;
-ghost use Rattle.hh_records.specs.Formats.{byte_between, fields_by, has_quotes, is_whole, part_of, part_said};
+ghost use Rattle.std.specs.Prelude.{◌≡◌, ◌∷◌, ◌++◌, [], take, true, IfOk, OnOk, if◌then◌else◌};
+ghost use Rattle.std.specs.List.{position_or_len};
+ghost use Rattle.bstr.specs.Bytes.{is_in};
+ghost use Rattle.csv.specs.Records.{fields_of, partial_of};
+ghost use Rattle.hh_records.specs.Formats.{byte_between, fields_by, has_quotes, is_whole_field, part_of, part_said};
+ghost use Rattle.hh_records.specs.declared.format.Format.TheVariants.{Lines, Squeezed};
 
 use bstr::{ByteSlice, join};
 use csv::ByteRecord;
@@ -57,7 +59,7 @@ pub struct KeyPart {
 impl KeyPart {
     /// The whole field.
     pub fn whole(alloc: Global) -> KeyPart
-        ensures { is_whole (part_said result) ≡ true }
+        ensures { is_whole_field (part_said result) ≡ true }
     {
         KeyPart {
             until: Vec::new(alloc),
@@ -67,7 +69,7 @@ impl KeyPart {
 
     /// Whether this is the whole of any field.
     pub fn is_whole(&self) -> bool
-        ensures { result ≡ is_whole (part_said self.now) }
+        ensures { result ≡ is_whole_field (part_said self.now) }
     {
         self.until.is_empty() && self.prefix.is_none()
     }
@@ -86,35 +88,61 @@ impl KeyPart {
     pub(crate) fn of<'f>(&self, field: &'f [u8]) -> &'f [u8]
         ensures { result.now ≡ part_of (part_said self.now) field.now }
     {
-        let end = match field.find_byteset(self.until.as_slice()) {
-            Some(place) => place,
-            None => field.len(),
-        };
+        let field = before(field, self.until.as_slice());
         match self.prefix {
-            Some(most) => &field[..end.min(most)],
-            None => &field[..end],
+            Some(most) => &field[..most.min(field.len())],
+            None => field,
         }
     }
 }
 
+/// Gives `field`, of which a `part` counts where it `is_last` of a key.
+pub(crate) fn part_of_last<'f>(part: &KeyPart, is_last: bool, field: &'f [u8]) -> &'f [u8]
+    ensures { result.now ≡ (if is_last then part_of (part_said part.now) field.now else field.now) }
+{
+    if is_last { part.of(field) } else { field }
+}
+
+/// Gives what comes before the first of the bytes `until` in `field`, or all of it.
+fn before<'f>(field: &'f [u8], until: &[u8]) -> &'f [u8]
+    ensures { result.now ≡ take (position_or_len (is_in until.now) field.now) field.now }
+{
+    match field.find_byteset(until) {
+        Some(end) => &field[..end],
+        None => field,
+    }
+}
+
+/// Puts `field` after `fields`, if it is not empty.
+fn push_filled(fields: &mut ByteRecord, field: &[u8]) -> Result<(), AllocError>
+    requires whole { partial_of fields.old ≡ [] }
+    ensures fields { OnOk result (fields_of fields.new
+        ≡ fields_of fields.old ++ fields_by Squeezed (field.now ∷ [])) }
+    ensures whole { OnOk result (partial_of fields.new ≡ []) }
+{
+    if field.is_empty() {
+        return Ok(());
+    }
+    fields.push_field(field)
+}
+
 /// Puts the fields of `row` that are not empty into `fields`.
 fn squeeze(row: &ByteRecord, fields: &mut ByteRecord) -> Result<(), AllocError>
-    ensures { IfOk result (λ _.
-        fields_of fields.new ≡ fields_by spec.format.Squeezed (fields_of row.now)) }
+    ensures { OnOk result (fields_of fields.new ≡ fields_by Squeezed (fields_of row.now)) }
 {
     fields.clear();
     for place in 0..row.len() {
-        if let Some(field) = row.get(place) && !field.is_empty() {
-            fields.push_field(field)?;
-        }
+        let Some(field) = row.get(place) else {
+            return Ok(());
+        };
+        push_filled(fields, field)?;
     }
     Ok(())
 }
 
 /// Puts the fields of `row`, joined by the byte at which `csv` cuts lines, into `fields` as one.
 fn rejoin(alloc: Global, row: &ByteRecord, fields: &mut ByteRecord) -> Result<(), AllocError>
-    ensures { IfOk result (λ _.
-        fields_of fields.new ≡ fields_by spec.format.Lines (fields_of row.now)) }
+    ensures { OnOk result (fields_of fields.new ≡ fields_by Lines (fields_of row.now)) }
 {
     fields.clear();
     fields.push_field(join(alloc, b"\0", row)?.as_slice())

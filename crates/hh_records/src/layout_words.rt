@@ -26,7 +26,7 @@ pub struct LayoutWords {
     /// The key ends before the first of these bytes in its last column.
     pub until: Vec<u8>,
     /// The key has at most this many bytes of its last column.
-    pub prefix: Option<usize>,
+    pub prefix: Option<u64>,
     /// A record of weight 0 adds nothing and is no fault, nor is one of weight `-`.
     pub allow_zero: bool,
     /// The most digits that a weight has after a point. It counts in units of the last of them.
@@ -96,7 +96,10 @@ pub fn layout_of(alloc: Global, words: &LayoutWords) -> Result<Layout, ToolError
         weight,
         part: KeyPart {
             until: Vec::from_slice(alloc, words.until.as_slice())?,
-            prefix: words.prefix,
+            prefix: match words.prefix {
+                Some(count) => Some(count as usize),
+                None => None,
+            },
         },
         allow_zero: words.allow_zero,
         decimals: words.decimals,

@@ -18,7 +18,7 @@ pub use decimals::pointed;
 pub use format::{Format, KeyPart};
 pub use hh_faults::{BadRecordCause, ReadError, TextError};
 pub use hh_stream::TakeItems;
-pub use layout::{Column, ColumnIndices, Layout, ChosenLayout, column_of, delimiter_of};
+pub use layout::{ChosenLayout, Column, ColumnIndices, Layout, column_of, delimiter_of};
 pub use layout_words::{LayoutWords, layout_of};
 pub use records::{
     RecordFault, number_in, numbered_fault, read_items, read_rows, read_stream, take_item,

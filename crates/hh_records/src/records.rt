@@ -14,8 +14,8 @@ ghost use Rattle.hh_records.specs.Streams.{fault_of, numbered_fault, parts_of, R
 ghost use Rattle.hh_records.specs.Taking.{TakesItems};
 
 use crate::decimals::{scaled, units_in};
-use crate::format::{KeyPart, fields_by};
-use crate::layout::{ColumnIndices, Layout, ChosenLayout};
+use crate::format::{KeyPart, fields_by, part_of_last};
+use crate::layout::{ChosenLayout, ColumnIndices, Layout};
 use crate::retrying::Retrying;
 use crate::texts::{Records, Text, read_records};
 use csv::{ByteRecord, ErrorKind, Reader, WriterBuilder};
@@ -149,11 +149,7 @@ fn joined_key(
         let Some(field) = row.get(places[i]) else {
             return Ok(None);
         };
-        let field = if i + 1 == places.len() {
-            part.of(field)
-        } else {
-            field
-        };
+        let field = part_of_last(part, i + 1 == places.len(), field);
         match writer.write_field(field) {
             Ok(()) => {}
             Err(_) => return Err(AllocError),

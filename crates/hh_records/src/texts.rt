@@ -18,7 +18,7 @@ ghost use Rattle.hh_records.specs.Taking.{TakesItems};
 
 use crate::clipped::Clipped;
 use crate::laws::plain_layouts_read_streams;
-use crate::layout::{ChoiceFault, Layout, ChosenLayout, choose};
+use crate::layout::{ChoiceFault, ChosenLayout, Layout, choose};
 use crate::records::{fault_of, read_rows};
 use crate::retrying::Retrying;
 use csv::{ByteRecord, Reader, ReaderBuilder};
