@@ -1,16 +1,20 @@
 -- The records of a text without quotes, or where a quote is a byte as any other, line by line.
-use Rattle.std.proofs.Common.{◌≡◌, ◌∷◌, ◌++◌, ◌∙◌, ℕ, List, [], map, Bool, true, false, refl, sym, ap, append-nil, append_assoc}
+use Rattle.std.proofs.Common.{◌≡◌, ◌∷◌, ◌++◌, ◌∙◌, ℕ, List, [], get_or, map, Bool, true, false, Some, None, refl, sym, ap, append-nil, append_assoc}
 use Rattle.std.specs.Prelude.{◌==◌, ◌&&◌, not, if◌then◌else◌}
-use Rattle.std.specs.List.{AllByRecursion, onto_first, slice_split}
+use Rattle.std.specs.List.{AllByRecursion, join_with_byte, onto_first, slice_split}
+use Rattle.std.proofs.lemmas.List.Splits.{join_with_byte-slice_split}
+use Rattle.std.proofs.lemmas.Simd.{map-map}
 use Rattle.std.proofs.lemmas.Bool.{eqb-true, false≢true}
 use Rattle.csv.specs.Machine.{step, after_end}
 use Rattle.csv.specs.declared.parser.Config.{Config}
 use Rattle.csv.specs.declared.parser.State.{State}
 use Rattle.csv.specs.declared.parser.State.TheVariants as st
+use Rattle.hh_records.specs.Formats.{fields_by}
 use Rattle.hh_records.specs.Layouts.{configured}
+use Rattle.hh_records.specs.declared.format.Format.TheVariants as format
 use Rattle.hh_pieces.specs.Laws.{UnquotedTextsAreSplit}
-use Rattle.hh_pieces.specs.Lines.{IsUnquoted, filled, is_line_end, is_separator, line_fields}
-use Rattle.hh_records.specs.Streams.{Fields}
+use Rattle.hh_pieces.specs.Lines.{IsUnquoted, filled, is_line_end, is_separator, line_fields, parts_in_line}
+use Rattle.hh_records.specs.Streams.{Fields, parts_of}
 use Rattle.hh_pieces.proofs.CutFacts.{runs, runs-all}
 
 -- these bytes before the first of some fields
@@ -178,3 +182,20 @@ pub unquoted-split : UnquotedTextsAreSplit
 unquoted-split quoting d text separator plain =
     runs-all (configured quoting d) text
     ∙ (unquoted-rows quoting d (separator-ends-none d separator) text (sees-no-quote quoting text plain)).1.start
+
+-- the one field of a line that was cut into these at 0 bytes
+one-field : (fields : Fields) → fields_by format.Lines fields ≡ join_with_byte 0 fields ∷ []
+one-field [] = refl
+one-field (x ∷ []) = ap (λ (l : List ℕ). l ∷ []) (append-nil x)
+one-field (x ∷ y ∷ rest) = ap (λ (fs : Fields). (x ++ 0 ∷ get_or fs 0 []) ∷ []) (one-field (y ∷ rest))
+
+-- the key and the weight's field of each line: where it is one field, and where it is cut
+pub lines-joined : (lines : List (List ℕ))
+    → map (λ r. parts_of (fields_by format.Lines r)) (map (line_fields 0) lines) ≡ map (parts_in_line None) lines
+lines-joined [] = refl
+lines-joined (line ∷ lines) =
+    rw (one-field (line_fields 0 line), join_with_byte-slice_split 0 line, lines-joined lines) refl
+
+pub lines-cut : (d : ℕ) (lines : List (List ℕ))
+    → map parts_of (map (line_fields d) lines) ≡ map (parts_in_line (Some d)) lines
+lines-cut d lines = map-map parts_of (line_fields d) lines

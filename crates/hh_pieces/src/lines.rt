@@ -2,7 +2,7 @@
 //! its fields are what stands between separators.
 
 ghost use Rattle.std.specs.Bool.{OnTrue};
-ghost use Rattle.std.specs.Prelude.{◌≡◌, ◌≤◌, IfErr, OnOk, Ok, Some, length, map, option_map};
+ghost use Rattle.std.specs.Prelude.{◌≡◌, ◌≤◌, IfErr, OnOk, Ok, Some, length, map, option_map, true};
 ghost use Rattle.hh_stream.specs.Weights.{max_total};
 ghost use Rattle.hh_stream.specs.Taking.{Takes};
 ghost use Rattle.hh_records.specs.Layouts.{PartsRefused, RowsRefused, adds, items_after};
@@ -23,10 +23,17 @@ pub(crate) fn is_separator(byte: u8) -> bool
 }
 
 /// Whether a text has no quote.
-pub(crate) fn is_unquoted(text: &[u8]) -> bool
+fn is_unquoted(text: &[u8]) -> bool
     ensures { OnTrue result (IsUnquoted text.now) }
 {
     memchr(b'"', text).is_none()
+}
+
+/// Whether a text has no quote, where there are quotes at all.
+pub(crate) fn sees_no_quote(text: &[u8], quoting: bool) -> bool
+    ensures { OnTrue result (quoting ≡ true → IsUnquoted text.now) }
+{
+    !quoting || is_unquoted(text)
 }
 
 /// Whether a text has no CR.

@@ -15,7 +15,7 @@ ghost use Rattle.hh_records.specs.Layouts.{FindsColumns, rows_in};
 ghost use Rattle.hh_records.specs.Streams.{parts_of};
 
 use crate::cuts::mark_len;
-use crate::lines::{is_separator, is_unquoted, read_lines, separator_of};
+use crate::lines::{is_separator, read_lines, sees_no_quote, separator_of};
 use csv::ReaderBuilder;
 use hh_faults::TextError;
 use hh_records::retrying::Retrying;
@@ -202,14 +202,16 @@ fn plain_text<'t>(layout: &Layout, columns: Option<&Columns>, piece: &'t [u8]) -
         ≡ Some (map (parts_in_line (spec.separator_of layout.now.format layout.now.delimiter))
         (filled_lines text.now))) }
 {
-    if !names_no_columns(layout, columns) || !has_plain_lines(layout) {
-        return None;
-    }
     let text = &piece[mark_len(piece)..];
-    if layout.format.has_quotes() && !is_unquoted(text) {
-        return None;
+    let quoting = layout.format.has_quotes();
+    if names_no_columns(layout, columns)
+        && has_plain_lines(layout)
+        && sees_no_quote(text, quoting)
+    {
+        Some(text)
+    } else {
+        None
     }
-    Some(text)
 }
 
 /// Hands on what the records of one piece of a text add. The first piece of a text is read with no
