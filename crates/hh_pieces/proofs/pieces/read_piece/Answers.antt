@@ -12,7 +12,7 @@ returns-in-Ok-clause-items g c =
       xs = t.xs;
       given = piece-some c.args.layout.now (option_map (λ c. c.now) c.args.columns) c.args.piece.now
           (g.T.TakeItems.weight_taken c.args.taker.now) t.xs
-          (map (parts_in_line (separator_of c.args.layout.now.format c.args.layout.now.delimiter)) (filled_lines c.in-Some.text.now)) c.in-Some.ensures (rw c.separator_of.ensures at t.given)
+          (map (parts_in_line (separator_of c.args.layout.now.format c.args.layout.now.delimiter)) (filled_lines c.in-Some.text.now)) c.in-Some.ensures (rw c.separator_of-separator.ensures at t.given)
           (omega (arith, t.weight, c.in-Ok.ensures.bounded));
       positive = t.positive;
       weight = t.weight;
