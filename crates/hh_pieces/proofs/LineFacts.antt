@@ -1,5 +1,5 @@
 -- The records of a text without quotes, or where a quote is a byte as any other, line by line.
-use Rattle.std.proofs.Common.{◌≡◌, ◌∷◌, ◌++◌, ◌∙◌, ℕ, List, [], get_or, map, Bool, true, false, Some, None, refl, sym, ap, append-nil, append_assoc}
+use Rattle.std.proofs.Common.{◌≡◌, ◌⊎◌, ◌∷◌, ◌++◌, ◌∙◌, inl, inr, ℕ, List, [], get_or, map, Bool, true, false, Some, None, refl, sym, ap, append-nil, append_assoc}
 use Rattle.std.specs.Prelude.{◌==◌, ◌&&◌, not, if◌then◌else◌}
 use Rattle.std.specs.List.{AllByRecursion, join_with_byte, onto_first, slice_split}
 use Rattle.std.proofs.lemmas.List.Splits.{join_with_byte-slice_split}
@@ -9,12 +9,13 @@ use Rattle.csv.specs.Machine.{step, after_end}
 use Rattle.csv.specs.declared.parser.Config.{Config}
 use Rattle.csv.specs.declared.parser.State.{State}
 use Rattle.csv.specs.declared.parser.State.TheVariants as st
-use Rattle.hh_records.specs.Formats.{fields_by}
+use Rattle.hh_records.specs.Formats.{byte_between, fields_by}
 use Rattle.hh_records.specs.Layouts.{configured}
+use Rattle.hh_records.specs.declared.format.Format.{Format}
 use Rattle.hh_records.specs.declared.format.Format.TheVariants as format
 use Rattle.hh_pieces.specs.Laws.{UnquotedTextsAreSplit}
-use Rattle.hh_pieces.specs.Lines.{IsUnquoted, filled, is_line_end, is_separator, line_fields, parts_in_line}
-use Rattle.hh_records.specs.Streams.{Fields, parts_of}
+use Rattle.hh_pieces.specs.Lines.{IsUnquoted, filled, is_line_end, is_separator, line_fields, parts_in_line, separator_of}
+use Rattle.hh_records.specs.Streams.{Fields, Parts, parts_of}
 use Rattle.hh_pieces.proofs.CutFacts.{runs, runs-all}
 
 -- these bytes before the first of some fields
@@ -189,13 +190,19 @@ one-field [] = refl
 one-field (x ∷ []) = ap (λ (l : List ℕ). l ∷ []) (append-nil x)
 one-field (x ∷ y ∷ rest) = ap (λ (fs : Fields). (x ++ 0 ∷ get_or fs 0 []) ∷ []) (one-field (y ∷ rest))
 
--- the key and the weight's field of each line: where it is one field, and where it is cut
+-- the keys and the weights' fields of lines, where each is one field
 pub lines-joined : (lines : List (List ℕ))
     → map (λ r. parts_of (fields_by format.Lines r)) (map (line_fields 0) lines) ≡ map (parts_in_line None) lines
 lines-joined [] = refl
 lines-joined (line ∷ lines) =
-    rw (one-field (line_fields 0 line), join_with_byte-slice_split 0 line, lines-joined lines) refl
+    let all : fields_by format.Lines (line_fields 0 line) ≡ line ∷ [] =
+    one-field (line_fields 0 line) ∙ ap (λ (l : List ℕ). l ∷ []) (join_with_byte-slice_split 0 line) in
+    ap (λ (r : Fields). parts_of r ∷ map (λ r. parts_of (fields_by format.Lines r)) (map (line_fields 0) lines)) all
+    ∙ ap (λ (ps : List Parts). Some (line, None) ∷ ps) (lines-joined lines)
 
-pub lines-cut : (d : ℕ) (lines : List (List ℕ))
-    → map parts_of (map (line_fields d) lines) ≡ map (parts_in_line (Some d)) lines
-lines-cut d lines = map-map parts_of (line_fields d) lines
+-- and where a line is cut at each delimiter
+pub lines-cut : (f : Format) (d : ℕ) → (f ≡ format.Csv) ⊎ (f ≡ format.Unquoted) → (lines : List (List ℕ))
+    → map (λ r. parts_of (fields_by f r)) (map (line_fields (byte_between f d)) lines)
+    ≡ map (parts_in_line (separator_of f d)) lines
+lines-cut f d (inl csv) lines = rw csv (map-map parts_of (line_fields d) lines)
+lines-cut f d (inr unquoted) lines = rw unquoted (map-map parts_of (line_fields d) lines)

@@ -16,12 +16,12 @@ use Rattle.hh_faults.specs.declared.records.ReadError.TheVariants as read
 use Rattle.hh_faults.specs.declared.records.TextError.{TextError}
 use Rattle.hh_faults.specs.declared.records.TextError.TheVariants as text
 use Rattle.hh_pieces.specs.Laws.{PiecesAreRead}
-use Rattle.hh_records.specs.Formats.{byte_between, fields_by, has_quotes, is_whole, part_said}
+use Rattle.hh_records.specs.Formats.{byte_between, has_quotes}
 use Rattle.hh_records.specs.Layouts.{OpenRefused, Places, RowsRefused, added, adding_next, adds, config_of, gathered, headed_parts, item_by, items_after, joined, names_columns, parts_at, places_in, text_parts, texts_parts, weight_by}
 use Rattle.hh_pieces.specs.Chunks.{Follows}
 use Rattle.hh_pieces.specs.Pieces.{InPieces, IsCut, IsInPieces, PieceRefused, all_pieces, first_piece, piece_parts, piece_reading, text_of, with_columns}
 use Rattle.hh_records.specs.Layouts.{columns_of, first_of, rows_in}
-use Rattle.hh_records.specs.Streams.{Fields, Parts, Reading, item_of_key, item_of_pair, parts_of, weight_after, weight_or_cause}
+use Rattle.hh_records.specs.Streams.{Fields, Parts, Reading, item_of_key, item_of_pair, weight_after, weight_or_cause}
 use Rattle.hh_pieces.proofs.CutFacts.{parts-records, pieces-records}
 use Rattle.hh_records.proofs.OpenFacts.{map-nothing, map-twice, some-is}
 use Rattle.hh_records.proofs.ReadFacts.{items-more, ok-eq}
@@ -187,20 +187,6 @@ module _ (layout : Layout) (columns : Option Places) where
   rows-refused (Some bytes) t left (read.BadRecord n c) (ps, is, e) refused =
       rw e (ap Some (rw is at refused))
   rows-refused (Some bytes) t left read.Memory h refused = tt
-
--- ---- records of a key and its weight, or of a key alone
-module _ (layout : Layout) (bytes : List ℕ) where
-  -- what the records are where no column is named
-  abbrev pub unnamed : Option (List Parts)
-  unnamed = Some (map (λ r. parts_of (fields_by layout.format r)) (rows_in layout bytes))
-
-  pub unnamed-first : layout.has_header ≡ false → layout.key.items ≡ [] → layout.weight ≡ None
-      → is_whole (part_said layout.part) ≡ true → piece_parts layout None bytes ≡ unnamed
-  unnamed-first no_header no_key no_weight whole = rw (no_header, no_key, no_weight, whole) refl
-
-  pub unnamed-later : (at : Places) → at.columns ≡ None → at.format ≡ layout.format
-      → piece_parts layout (Some at) bytes ≡ unnamed
-  unnamed-later at none same = rw (none, same) refl
 
 -- ---- the records of pieces
 module _ {A B : Type 0} (f : A → Option (List B)) where
