@@ -14,6 +14,7 @@ ghost use Rattle.hh_saved.specs.declared.saved.Saved.TheVariants.{Cells, Counter
 ghost use Rattle.csv.specs.Records.{fields_of};
 ghost use Rattle.hh_json.specs.Fields.{json_fields};
 ghost use Rattle.hh_records.specs.Layouts.{texts_known};
+ghost use Rattle.hh_records.specs.Layouts.{delimited};
 ghost use Rattle.hh_records.specs.Streams.{ReadsAs, text_known};
 ghost use Rattle.csv.specs.Writing.{comma};
 ghost use Rattle.hh_rows.specs.Rows.{rows_of};
@@ -38,7 +39,7 @@ use hh_library::{add_items, summary_bytes};
 use hh_output::{Form, Output, converted};
 use hh_pieces::{ReadAt, SourceRecords, ends_outside_quotes};
 use hh_pool::{OpenGate, Options, Plan, RunError, analyse};
-use hh_records::read_stream;
+use hh_records::{Format, read_stream};
 use hh_reports::run_report;
 use hh_rows::{ReportOptions, Sink, report_text};
 use hh_saved::{Saved, read};
@@ -158,9 +159,9 @@ pub fn rows_as_json(alloc: Global, names: &[&[u8]], text: Vec<u8>) -> Result<Vec
 
 /// Whether a line feed after a text of records ends a record.
 pub fn ends_a_record(text: &[u8]) -> bool
-    ensures { result ≡ ends_outside comma text.now }
+    ensures { result ≡ ends_outside (delimited comma) text.now }
 {
-    ends_outside_quotes(text, b',')
+    ends_outside_quotes(text, Format::Csv, b',')
 }
 
 /// Adds to the first cell, if nobody else has claimed to do so.

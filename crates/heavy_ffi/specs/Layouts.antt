@@ -5,6 +5,7 @@ use Rattle.hh_pieces.specs.Pieces.{IsCutAt}
 use Rattle.hh_records.specs.declared.format.Format.TheVariants as format
 use Rattle.hh_records.specs.LayoutWords.{SaysLayout, key_words, weight_word}
 use Rattle.hh_records.specs.LayoutWords as said
+use Rattle.hh_records.specs.Layouts.{delimited}
 use Rattle.hh_records.specs.declared.layout.Layout.{Layout}
 use Rattle.hh_records.specs.declared.layout_words.LayoutWords.{LayoutWords}
 use Rattle.hh_faults.specs.declared.error.ToolError.{ToolError}
@@ -74,5 +75,5 @@ share_given p q = if p == 0 && q == 0 then None else Some (p, q)
 -- nowhere further on, or there are none
 pub record AreWholeRecordsBy (d : ℕ) (bytes : List ℕ) (n : ℕ) : Type 0 where
   pub within : n ≤ length bytes
-  pub cut : 0 < n → IsCutAt d bytes n
-  pub last : (at : ℕ) → n < at → at < length bytes → IsCutAt d bytes at → ⊥
+  pub cut : 0 < n → IsCutAt (delimited d) bytes n
+  pub last : (at : ℕ) → n < at → at < length bytes → IsCutAt (delimited d) bytes at → ⊥

@@ -24,7 +24,7 @@ use hh_commands::{Method, summary_bytes_from, table_bytes_from};
 use hh_faults::ToolError;
 use hh_library::{TextRecords, add_records, condense_bounded, confirm_bounded, report_bytes};
 use hh_pieces::whole_records;
-use hh_records::Layout;
+use hh_records::{Format, Layout};
 use hh_saved::laws::sizes_are_bounded;
 use std::alloc::Global;
 
@@ -344,7 +344,7 @@ pub extern "C" fn heavy_report(
 pub extern "C" fn heavy_whole_records_by(text: &[u8], delimiter: u8) -> usize
     ensures { AreWholeRecordsBy delimiter text.now result }
 {
-    match whole_records(text, delimiter) {
+    match whole_records(text, Format::Csv, delimiter) {
         Some(whole) => whole,
         None => 0,
     }

@@ -12,7 +12,8 @@ use Rattle.hh_stream.specs.Weights.{Entry, max_total, total_of}
 use Rattle.hh_pieces.specs.Chunks.{Follows, LeadsTo}
 use Rattle.hh_pieces.specs.CutTexts.{Piece, piece_items}
 use Rattle.hh_stream.specs.Taking.{Takes}
-use Rattle.hh_records.specs.Layouts.{Places, items_after, joined, parts_at}
+use Rattle.hh_records.specs.Formats.{byte_between, has_quotes}
+use Rattle.hh_records.specs.Layouts.{Places, config_of, items_after, joined, parts_at}
 use Rattle.hh_pieces.specs.Pieces.{IsCut, IsCutAt, piece_parts, piece_reading}
 use Rattle.hh_records.specs.Layouts.{rows_in}
 use Rattle.hh_records.specs.Streams.{Parts}
@@ -85,7 +86,7 @@ weight_in e = e.1
 
 module _ (layout : Layout) where
   -- what a text reads as that is cut after a part that reads as some items
-  reading-more : (columns : Option Places) (at : Places) (a b : List ℕ) (xs ys : List Entry) → IsCut layout.delimiter a b
+  reading-more : (columns : Option Places) (at : Places) (a b : List ℕ) (xs ys : List Entry) → IsCut (config_of layout) a b
       → Follows layout columns at a → piece_reading layout columns a ≡ Some (Ok xs)
       → piece_reading layout (Some at) b ≡ Some (Ok ys) → total_of (xs ++ ys) ≤ max_total
       → piece_reading layout columns (a ++ b) ≡ Some (Ok (xs ++ ys))
@@ -106,7 +107,7 @@ module _ (layout : Layout) where
 
   -- a piece leads by a chunk of it to what stands after the chunk
   chunk-leads : (columns : Option Places) (at : Places) (held : List ℕ) (count : ℕ) (xs : List Entry)
-      → IsCutAt layout.delimiter held count → Follows layout columns at (take count held)
+      → IsCutAt (config_of layout) held count → Follows layout columns at (take count held)
       → piece_reading layout columns (take count held) ≡ Some (Ok xs)
       → (behind : List ℕ) → LeadsTo layout (columns, held ++ behind) xs (Some at, drop count held ++ behind)
   chunk-leads columns at held count xs cut follows reads behind = λ ys e l.
@@ -114,16 +115,16 @@ module _ (layout : Layout) where
       let b : List ℕ = drop count held ++ behind in
       let all : held ++ behind ≡ a ++ b =
       ap (λ (h : List ℕ). h ++ behind) (sym (take-append-drop count held)) ∙ append_assoc a (drop count held) behind in
-      let here : IsCut layout.delimiter a b =
+      let here : IsCut (config_of layout) a b =
       record { outside = cut.outside; feed = feed-append (drop count held) behind cut.feed } in
       let (outside, later) = piece-reads layout (Some at, b) ys e in
-      let ends = outside-more layout.delimiter a b here outside in
+      let ends = outside-more (has_quotes layout.format) (byte_between layout.format layout.delimiter) a b here outside in
       let items = reading-more columns at a b xs ys here follows reads later l in
       rw (all, ends, items) refl
 
   -- the same of the first chunk of a text, which chooses the columns
   pub chunk-first : (columns : Option Places) (at : Places) (held : List ℕ) (count : ℕ) (xs : List Entry)
-      → is_some columns ≡ false → IsCutAt layout.delimiter held count → Follows layout None at (take count held)
+      → is_some columns ≡ false → IsCutAt (config_of layout) held count → Follows layout None at (take count held)
       → piece_reading layout None (take count held) ≡ Some (Ok xs)
       → (behind : List ℕ) → LeadsTo layout (columns, held ++ behind) xs (Some at, drop count held ++ behind)
   chunk-first None at held count xs none cut follows reads behind = chunk-leads None at held count xs cut follows reads behind
@@ -131,7 +132,7 @@ module _ (layout : Layout) where
 
   -- the same of a chunk whose columns are chosen
   pub chunk-later : (columns : Option Places) (held : List ℕ) (count : ℕ) (xs : List Entry) → is_some columns ≡ true
-      → IsCutAt layout.delimiter held count → piece_reading layout columns (take count held) ≡ Some (Ok xs)
+      → IsCutAt (config_of layout) held count → piece_reading layout columns (take count held) ≡ Some (Ok xs)
       → (behind : List ℕ) → LeadsTo layout (columns, held ++ behind) xs (columns, drop count held ++ behind)
   chunk-later None held count xs some cut reads behind = cc some
   chunk-later (Some at) held count xs some cut reads behind = chunk-leads (Some at) at held count xs cut refl reads behind

@@ -12,7 +12,7 @@ use Rattle.csv.specs.declared.parser.Action.{Action}
 use Rattle.csv.specs.declared.parser.Action.TheVariants as act
 use Rattle.hh_records.specs.Streams.{Fields}
 use Rattle.hh_stream.specs.Cuttings.{whole_of}
-use Rattle.hh_records.specs.Layouts.{delimited}
+use Rattle.hh_records.specs.Layouts.{configured}
 use Rattle.hh_pieces.specs.Laws.{FeedsOutsideQuotesAreCuts, PiecesHaveTheRecords}
 use Rattle.hh_pieces.specs.Pieces.{IsCut, begins_with_feed, ends_outside, is_outside, state_after}
 
@@ -140,38 +140,59 @@ one-end : (e : Bool) (g : Fields) (a1 a2 b1 b2 more : List Fields) → a1 ≡ b1
 one-end true g a1 a2 b1 b2 more new on = ap (λ (rs : List Fields). g ∷ rs) new
 one-end false g a1 a2 b1 b2 more new on = on refl
 
-module _ (d : ℕ) (other : (10 == d) ≡ false) where
+-- a line feed is no quote, whether quotes are looked for or not
+no-quote : (quoting : Bool) → (quoting && (10 == 34)) ≡ false
+no-quote true = refl
+no-quote false = refl
+
+no-second-quote : (quoting : Bool) → (quoting && true && (10 == 34)) ≡ false
+no-second-quote true = refl
+no-second-quote false = refl
+
+module _ (quoting : Bool) (d : ℕ) where
   abbrev cfg : Config
-  cfg = delimited d
+  cfg = configured quoting d
+
+  -- a line feed outside quotes ends the record at hand, or is skipped
+  feed-step : (s : State) → (10 == d) ≡ false → is_outside s ≡ true
+      → step cfg s 10 ≡ (st.StartRecord, if ends_at_end s then act.EndRecord else act.Skip)
+  feed-step st.StartRecord other h = refl
+  feed-step st.AfterCr other h = refl
+  feed-step st.StartField other h = rw (no-quote quoting, other) refl
+  feed-step st.InField other h = rw other refl
+  feed-step st.AfterQuote other h = rw (no-second-quote quoting, other) refl
+  feed-step st.InQuoted other h = absurd (false≢true h)
+  feed-step st.InEscape other h = absurd (false≢true h)
+  feed-step st.InComment other h = absurd (false≢true h)
 
   -- the text from a line feed on, where the machine is not in quotes
-  cut-here : (s : State) (f : Fields) (p b : List ℕ) → Fresh s f p → is_outside s ≡ true
+  cut-here : (10 == d) ≡ false → (s : State) (f : Fields) (p b : List ℕ) → Fresh s f p → is_outside s ≡ true
       → runs cfg s f p (10 ∷ b) ≡ runs cfg s f p [] ++ runs cfg st.StartRecord [] [] (10 ∷ b)
   unfolding runs Fresh
-  cut-here st.StartRecord f p b fresh h = let (a, c) = fresh refl in rw (a, c) refl
-  cut-here st.AfterCr f p b fresh h = let (a, c) = fresh refl in rw (a, c) refl
-  cut-here st.StartField f p b fresh h = rw other refl
-  cut-here st.InField f p b fresh h = rw other refl
-  cut-here st.AfterQuote f p b fresh h = rw other refl
-  cut-here st.InQuoted f p b fresh h = absurd (false≢true h)
-  cut-here st.InEscape f p b fresh h = absurd (false≢true h)
-  cut-here st.InComment f p b fresh h = absurd (false≢true h)
+  cut-here other st.StartRecord f p b fresh h = let (a, c) = fresh refl in rw (a, c) refl
+  cut-here other st.AfterCr f p b fresh h = let (a, c) = fresh refl in rw (a, c) refl
+  cut-here other st.StartField f p b fresh h = rw (no-quote quoting, other) refl
+  cut-here other st.InField f p b fresh h = rw other refl
+  cut-here other st.AfterQuote f p b fresh h = rw (no-second-quote quoting, other) refl
+  cut-here other st.InQuoted f p b fresh h = absurd (false≢true h)
+  cut-here other st.InEscape f p b fresh h = absurd (false≢true h)
+  cut-here other st.InComment f p b fresh h = absurd (false≢true h)
 
-  runs-cut : (s : State) (f : Fields) (p a b : List ℕ) → Fresh s f p → is_outside (state_after cfg s a) ≡ true
+  runs-cut : (10 == d) ≡ false → (s : State) (f : Fields) (p a b : List ℕ) → Fresh s f p → is_outside (state_after cfg s a) ≡ true
       → runs cfg s f p (a ++ (10 ∷ b)) ≡ runs cfg s f p a ++ runs cfg st.StartRecord [] [] (10 ∷ b)
   unfolding runs Fresh
-  runs-cut s f p [] b fresh h = cut-here s f p b fresh h
-  runs-cut s f p (c ∷ a) b fresh h =
+  runs-cut other s f p [] b fresh h = cut-here other s f p b fresh h
+  runs-cut other s f p (c ∷ a) b fresh h =
       let q = step cfg s c in
-      one-end (is_end q.1) (fields_after q.1 f p) _ _ _ _ _ (runs-cut q.0 [] [] a b (λ t. (refl, refl)) h)
-      (λ e. runs-cut q.0 _ _ a b (fresh-next s f p c q (stays-step cfg s c) e fresh) h)
+      one-end (is_end q.1) (fields_after q.1 f p) _ _ _ _ _ (runs-cut other q.0 [] [] a b (λ t. (refl, refl)) h)
+      (λ e. runs-cut other q.0 _ _ a b (fresh-next s f p c q (stays-step cfg s c) e fresh) h)
 
-  records-cut : (a b : List ℕ) → is_outside (state_after cfg st.StartRecord a) ≡ true
+  records-cut : (10 == d) ≡ false → (a b : List ℕ) → is_outside (state_after cfg st.StartRecord a) ≡ true
       → records cfg (a ++ (10 ∷ b)) ≡ records cfg a ++ records cfg (10 ∷ b)
   unfolding Fresh
-  records-cut a b h =
+  records-cut other a b h =
       runs-all cfg (a ++ (10 ∷ b))
-      ∙ runs-cut st.StartRecord [] [] a b (λ t. (refl, refl)) h
+      ∙ runs-cut other st.StartRecord [] [] a b (λ t. (refl, refl)) h
       ∙ ap (λ (rs : List Fields). rs ++ runs cfg st.StartRecord [] [] (10 ∷ b)) (sym (runs-all cfg a))
       ∙ ap (λ (rs : List Fields). records cfg a ++ rs) (sym (runs-all cfg (10 ∷ b)))
 
@@ -215,75 +236,66 @@ pub feed-append : (b c : List ℕ) → begins_with_feed b ≡ true → begins_wi
 feed-append [] c h = absurd (false≢true h)
 feed-append (x ∷ b) c h = h
 
--- a text that ends outside quotes has another byte than a line feed between its fields
-outside-both : (d : ℕ) (bytes : List ℕ) → ends_outside d bytes ≡ true
-    → ((10 == d) ≡ false) × (is_outside (state_after (delimited d) st.StartRecord (strip_bom bytes)) ≡ true)
-outside-both d bytes h = by (d == 10) refl h
-  where
-    by : (e : Bool) → (d == 10) ≡ e
-        → not e && is_outside (state_after (delimited d) st.StartRecord (strip_bom bytes)) ≡ true
-        → ((10 == d) ≡ false) × (is_outside (state_after (delimited d) st.StartRecord (strip_bom bytes)) ≡ true)
-    by true e h = absurd (false≢true h)
-    by false e h = (ne_eqb 10 d (λ same. eqb-false d 10 e (sym same)), h)
+module _ (quoting : Bool) (d : ℕ) where
+  abbrev cut_cfg : Config
+  cut_cfg = configured quoting d
 
--- the records of two parts of a text that is cut there
-pub parts-records : (d : ℕ) (a b : List ℕ) → IsCut d a b
-    → records (delimited d) (strip_bom (a ++ b))
-    ≡ records (delimited d) (strip_bom a) ++ records (delimited d) (strip_bom b)
-parts-records d a b cut =
-    let (other, outside) = outside-both d a cut.outside in
-    let (rest, is) = feed-rest b cut.feed in
-    ap (λ (u : List ℕ). records (delimited d) (strip_bom (a ++ u))) is
-    ∙ ap (records (delimited d)) (strip-cut a rest)
-    ∙ records-cut d other (strip_bom a) rest outside
-    ∙ ap (λ (u : List ℕ). records (delimited d) (strip_bom a) ++ records (delimited d) u)
-    (sym (ap strip_bom is ∙ strip-line rest))
+  -- a text that ends outside quotes has another byte than a line feed between its fields
+  outside-both : (bytes : List ℕ) → ends_outside cut_cfg bytes ≡ true
+      → ((10 == d) ≡ false) × (is_outside (state_after cut_cfg st.StartRecord (strip_bom bytes)) ≡ true)
+  outside-both bytes h = by (d == 10) refl h
+    where
+      by : (e : Bool) → (d == 10) ≡ e
+          → not e && is_outside (state_after cut_cfg st.StartRecord (strip_bom bytes)) ≡ true
+          → ((10 == d) ≡ false) × (is_outside (state_after cut_cfg st.StartRecord (strip_bom bytes)) ≡ true)
+      by true e h = absurd (false≢true h)
+      by false e h = (ne_eqb 10 d (λ same. eqb-false d 10 e (sym same)), h)
 
--- a line feed outside quotes leads to the start of a record
-feed-starts : (d : ℕ) → (10 == d) ≡ false → (s : State) → is_outside s ≡ true
-    → (step (delimited d) s 10).0 ≡ st.StartRecord
-feed-starts d other st.StartRecord h = refl
-feed-starts d other st.AfterCr h = refl
-feed-starts d other st.StartField h = rw other refl
-feed-starts d other st.InField h = rw other refl
-feed-starts d other st.AfterQuote h = rw other refl
-feed-starts d other st.InQuoted h = absurd (false≢true h)
-feed-starts d other st.InEscape h = absurd (false≢true h)
-feed-starts d other st.InComment h = absurd (false≢true h)
+  -- the records of two parts of a text that is cut there
+  pub parts-records : (a b : List ℕ) → IsCut cut_cfg a b
+      → records cut_cfg (strip_bom (a ++ b)) ≡ records cut_cfg (strip_bom a) ++ records cut_cfg (strip_bom b)
+  parts-records a b cut =
+      let (other, outside) = outside-both a cut.outside in
+      let (rest, is) = feed-rest b cut.feed in
+      ap (λ (u : List ℕ). records cut_cfg (strip_bom (a ++ u))) is
+      ∙ ap (records cut_cfg) (strip-cut a rest)
+      ∙ records-cut quoting d other (strip_bom a) rest outside
+      ∙ ap (λ (u : List ℕ). records cut_cfg (strip_bom a) ++ records cut_cfg u) (sym (ap strip_bom is ∙ strip-line rest))
 
--- a text that is cut ends outside quotes where its last part does
-pub outside-more : (d : ℕ) (a b : List ℕ) → IsCut d a b → ends_outside d b ≡ true → ends_outside d (a ++ b) ≡ true
-outside-more d a b cut h =
-    let (other, outside) = outside-both d a cut.outside in
-    let (rest, is) = feed-rest b cut.feed in
-    let start = feed-starts d other (state_after (delimited d) st.StartRecord (strip_bom a)) outside in
-    let behind : state_after (delimited d) st.StartRecord (strip_bom (a ++ b)) ≡ state_after (delimited d) st.StartRecord rest =
-    ap (λ (u : List ℕ). state_after (delimited d) st.StartRecord (strip_bom (a ++ u))) is
-    ∙ ap (state_after (delimited d) st.StartRecord) (strip-cut a rest)
-    ∙ fold-append (λ s c. (step (delimited d) s c).0) st.StartRecord (strip_bom a) (10 ∷ rest)
-    ∙ ap (λ s. state_after (delimited d) s rest) start in
-    let alone : state_after (delimited d) st.StartRecord (strip_bom b) ≡ state_after (delimited d) st.StartRecord rest =
-    ap (λ (u : List ℕ). state_after (delimited d) st.StartRecord (strip_bom u)) is
-    ∙ ap (state_after (delimited d) st.StartRecord) (strip-line rest) in
-    ap (λ s. not (d == 10) && is_outside s) (behind ∙ sym alone) ∙ h
+  -- a text that is cut ends outside quotes where its last part does
+  pub outside-more : (a b : List ℕ) → IsCut cut_cfg a b → ends_outside cut_cfg b ≡ true → ends_outside cut_cfg (a ++ b) ≡ true
+  outside-more a b cut h =
+      let (other, outside) = outside-both a cut.outside in
+      let (rest, is) = feed-rest b cut.feed in
+      let ended : State = state_after cut_cfg st.StartRecord (strip_bom a) in
+      let start : (step cut_cfg ended 10).0 ≡ st.StartRecord = ap (λ q. q.0) (feed-step quoting d ended other outside) in
+      let behind : state_after cut_cfg st.StartRecord (strip_bom (a ++ b)) ≡ state_after cut_cfg st.StartRecord rest =
+      ap (λ (u : List ℕ). state_after cut_cfg st.StartRecord (strip_bom (a ++ u))) is
+      ∙ ap (state_after cut_cfg st.StartRecord) (strip-cut a rest)
+      ∙ fold-append (λ s c. (step cut_cfg s c).0) st.StartRecord (strip_bom a) (10 ∷ rest)
+      ∙ ap (λ s. state_after cut_cfg s rest) start in
+      let alone : state_after cut_cfg st.StartRecord (strip_bom b) ≡ state_after cut_cfg st.StartRecord rest =
+      ap (λ (u : List ℕ). state_after cut_cfg st.StartRecord (strip_bom u)) is
+      ∙ ap (state_after cut_cfg st.StartRecord) (strip-line rest) in
+      ap (λ s. not (d == 10) && is_outside s) (behind ∙ sym alone) ∙ h
 
-no-records : (d : ℕ) → records (delimited d) (strip_bom []) ≡ []
+no-records : (cfg : Config) → records cfg (strip_bom []) ≡ []
 unfolding strip_bom
-no-records d = at_end (delimited d) 1
+no-records cfg = at_end cfg 1
 
 pub pieces-records : PiecesHaveTheRecords
-pieces-records d [] cut = no-records d
-pieces-records d (a ∷ []) cut =
-    let one = records (delimited d) (strip_bom a) in
-    ap (λ (u : List ℕ). records (delimited d) (strip_bom u)) (append-nil a) ∙ sym (append-nil one)
-pieces-records d (a ∷ b ∷ rest) cut =
-    let behind : IsCut d a (whole_of (b ∷ rest)) =
+pieces-records quoting d [] cut = no-records (configured quoting d)
+pieces-records quoting d (a ∷ []) cut =
+    let one = records (configured quoting d) (strip_bom a) in
+    ap (λ (u : List ℕ). records (configured quoting d) (strip_bom u)) (append-nil a) ∙ sym (append-nil one)
+pieces-records quoting d (a ∷ b ∷ rest) cut =
+    let behind : IsCut (configured quoting d) a (whole_of (b ∷ rest)) =
     record { outside = cut.0.outside; feed = feed-append b (whole_of rest) cut.0.feed } in
-    parts-records d a (whole_of (b ∷ rest)) behind
-    ∙ ap (λ (rs : List Fields). records (delimited d) (strip_bom a) ++ rs) (pieces-records d (b ∷ rest) cut.1)
+    parts-records quoting d a (whole_of (b ∷ rest)) behind
+    ∙ ap (λ (rs : List Fields). records (configured quoting d) (strip_bom a) ++ rs) (pieces-records quoting d (b ∷ rest) cut.1)
 
 pub feeds-cut : FeedsOutsideQuotesAreCuts
-feeds-cut d [] later outside = tt
-feeds-cut d (a ∷ []) later outside = tt
-feeds-cut d (a ∷ b ∷ rest) later outside =
-    (record { outside = outside.0; feed = later.0 }, feeds-cut d (b ∷ rest) later.1 outside.1)
+feeds-cut config [] later outside = tt
+feeds-cut config (a ∷ []) later outside = tt
+feeds-cut config (a ∷ b ∷ rest) later outside =
+    (record { outside = outside.0; feed = later.0 }, feeds-cut config (b ∷ rest) later.1 outside.1)

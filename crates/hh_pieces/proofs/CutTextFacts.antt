@@ -8,7 +8,7 @@ use Rattle.hh_stream.specs.Cuttings.{whole_of}
 use Rattle.hh_stream.specs.Weights.{Entry}
 use Rattle.hh_pieces.specs.CutTexts.{AreReadByPieces, Begins, Piece, items_of, padded, piece_items}
 use Rattle.hh_pieces.specs.Laws.{FeedsOutsideQuotesAreCuts, PiecesAreRead}
-use Rattle.hh_records.specs.Layouts.{Places}
+use Rattle.hh_records.specs.Layouts.{Places, config_of}
 use Rattle.hh_pieces.specs.Pieces.{InPieces, IsInPieces, all_pieces, ends_outside, piece_reading, text_of, with_columns}
 use Rattle.hh_records.specs.Streams.{Reading}
 use Rattle.hh_records.specs.declared.layout.Layout.{Layout}
@@ -57,8 +57,8 @@ all-append P (x ∷ xs) ys h k = (h.0, all-append P xs ys h.1 k)
 module _ (layout : Layout) where
   -- a piece with items ends outside quotes and reads as them
   pub piece-reads : (piece : Piece) (xs : List Entry) → piece_items layout piece ≡ Some xs
-      → (ends_outside layout.delimiter piece.1 ≡ true) × (piece_reading layout piece.0 piece.1 ≡ Some (Ok xs))
-  piece-reads piece xs e = by (ends_outside layout.delimiter piece.1) (piece_reading layout piece.0 piece.1) e
+      → (ends_outside (config_of layout) piece.1 ≡ true) × (piece_reading layout piece.0 piece.1 ≡ Some (Ok xs))
+  piece-reads piece xs e = by (ends_outside (config_of layout) piece.1) (piece_reading layout piece.0 piece.1) e
     where
       by : (outside : Bool) (r : Option Reading) → (if outside then items_of r else None) ≡ Some xs
           → (outside ≡ true) × (r ≡ Some (Ok xs))
@@ -71,7 +71,7 @@ module _ (layout : Layout) where
   reading_of piece = piece_reading layout piece.0 piece.1
 
   abbrev pub IsOutside : Piece → Type 0
-  IsOutside piece = ends_outside layout.delimiter piece.1 ≡ true
+  IsOutside piece = ends_outside (config_of layout) piece.1 ≡ true
 
   pub pieces-read : (pieces : List Piece) (parts : List (List Entry)) → map (piece_items layout) pieces ≡ map Some parts
       → (map reading_of pieces ≡ map (λ part. Some (Ok part)) parts) × AllByRecursion IsOutside pieces
@@ -86,12 +86,12 @@ module _ (layout : Layout) where
   -- the pieces of a text end outside quotes where they do with their columns
   pub bytes-outside : (columns : Places) (pieces : List (List ℕ))
       → AllByRecursion IsOutside (map (λ q. (Some columns, q)) pieces)
-      → AllByRecursion (λ piece. ends_outside layout.delimiter piece ≡ true) pieces
+      → AllByRecursion (λ piece. ends_outside (config_of layout) piece ≡ true) pieces
   bytes-outside columns [] h = tt
   bytes-outside columns (q ∷ qs) h = (h.0, bytes-outside columns qs h.1)
 
   pub text-outside : (columns : Places) (pieces : List (List ℕ)) → AllByRecursion IsOutside (with_columns columns pieces)
-      → AllByRecursion (λ piece. ends_outside layout.delimiter piece ≡ true) pieces
+      → AllByRecursion (λ piece. ends_outside (config_of layout) piece ≡ true) pieces
   text-outside columns [] h = tt
   text-outside columns (q ∷ qs) h = (h.0, bytes-outside columns qs h.1)
 
@@ -102,7 +102,7 @@ module _ (layout : Layout) where
   texts-cut law (t ∷ texts) h outside =
       let (here, later) = all-split IsOutside (with_columns t.columns t.pieces) (all_pieces texts) outside in (
         record {
-          cut = law layout.delimiter t.pieces h.0.feeds (text-outside t.columns t.pieces here);
+          cut = law (config_of layout) t.pieces h.0.feeds (text-outside t.columns t.pieces here);
           columns = h.0.columns;
         },
         texts-cut law texts h.1 later,

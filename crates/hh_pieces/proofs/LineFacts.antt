@@ -1,16 +1,21 @@
--- The records of a text without quotes, line by line.
-use Rattle.std.proofs.Common.{◌≡◌, ◌∷◌, ◌++◌, ◌∙◌, ℕ, List, [], Bool, true, false, refl, sym, ap, append-nil, append_assoc}
+-- The records of a text without quotes, or where a quote is a byte as any other, line by line.
+use Rattle.std.proofs.Common.{◌≡◌, ◌⊎◌, ◌∷◌, ◌++◌, ◌∙◌, inl, inr, ℕ, List, [], get_or, map, Bool, true, false, Some, None, refl, sym, ap, append-nil, append_assoc}
 use Rattle.std.specs.Prelude.{◌==◌, ◌&&◌, not, if◌then◌else◌}
-use Rattle.std.specs.List.{onto_first, slice_split}
+use Rattle.std.specs.List.{AllByRecursion, join_with_byte, onto_first, slice_split}
+use Rattle.std.proofs.lemmas.List.Splits.{join_with_byte-slice_split}
+use Rattle.std.proofs.lemmas.Simd.{map-map}
 use Rattle.std.proofs.lemmas.Bool.{eqb-true, false≢true}
 use Rattle.csv.specs.Machine.{step, after_end}
 use Rattle.csv.specs.declared.parser.Config.{Config}
 use Rattle.csv.specs.declared.parser.State.{State}
 use Rattle.csv.specs.declared.parser.State.TheVariants as st
-use Rattle.hh_records.specs.Layouts.{delimited}
+use Rattle.hh_records.specs.Formats.{byte_between, fields_by}
+use Rattle.hh_records.specs.Layouts.{configured}
+use Rattle.hh_records.specs.declared.format.Format.{Format}
+use Rattle.hh_records.specs.declared.format.Format.TheVariants as format
 use Rattle.hh_pieces.specs.Laws.{UnquotedTextsAreSplit}
-use Rattle.hh_pieces.specs.Lines.{IsUnquoted, is_line_end, is_separator, line_fields, line_rows}
-use Rattle.hh_records.specs.Streams.{Fields}
+use Rattle.hh_pieces.specs.Lines.{IsUnquoted, filled, is_line_end, is_separator, line_fields, parts_in_line, separator_of}
+use Rattle.hh_records.specs.Streams.{Fields, Parts, parts_of}
 use Rattle.hh_pieces.proofs.CutFacts.{runs, runs-all}
 
 -- these bytes before the first of some fields
@@ -18,7 +23,20 @@ before_first_field : List ℕ → Fields → Fields
 before_first_field p [] = p ∷ []
 before_first_field p (x ∷ xs) = (p ++ x) ∷ xs
 
-module _ (d : ℕ) where
+-- no byte is a quote that csv sees, if it looks for quotes at all
+abbrev SeesNoQuote : Bool → List ℕ → Type 0
+SeesNoQuote quoting text = AllByRecursion (λ c. (quoting && (c == 34)) ≡ false) text
+
+sees-no-quote : (quoting : Bool) (text : List ℕ) → (quoting ≡ true → IsUnquoted text) → SeesNoQuote quoting text
+sees-no-quote true text h = h refl
+sees-no-quote false [] h = tt
+sees-no-quote false (c ∷ rest) h = (refl, sees-no-quote false rest (λ e. absurd (false≢true e)))
+
+module _ (quoting : Bool) (d : ℕ) where
+  -- the records of these lines: a blank one is none
+  abbrev rows_of : List (List ℕ) → List Fields
+  rows_of lines = map (line_fields d) (filled lines)
+
   no-bytes-before : (line : List ℕ) → before_first_field [] (line_fields d line) ≡ line_fields d line
   unfolding before_first_field
   no-bytes-before [] = refl
@@ -34,7 +52,7 @@ module _ (d : ℕ) where
   -- of the other lines
   rows_after : Fields → List ℕ → List (List ℕ) → List Fields
   rows_after f p [] = (f ++ (p ∷ [])) ∷ []
-  rows_after f p (line ∷ lines) = (f ++ before_first_field p (line_fields d line)) ∷ line_rows d lines
+  rows_after f p (line ∷ lines) = (f ++ before_first_field p (line_fields d line)) ∷ rows_of lines
 
   -- a delimiter ends the field
   after-delimiter : (f : Fields) (p : List ℕ) (c : ℕ) (lines : List (List ℕ)) → (c == d) ≡ true
@@ -52,13 +70,13 @@ module _ (d : ℕ) where
   after-byte f p c (line ∷ lines) joins = rw joins (by (line_fields d line))
     where
       by : (fields : Fields)
-          → (f ++ before_first_field (p ++ (c ∷ [])) fields) ∷ line_rows d lines
-          ≡ (f ++ before_first_field p (onto_first c fields)) ∷ line_rows d lines
+          → (f ++ before_first_field (p ++ (c ∷ [])) fields) ∷ rows_of lines
+          ≡ (f ++ before_first_field p (onto_first c fields)) ∷ rows_of lines
       by [] = refl
       by (x ∷ xs) = rw (append_assoc p (c ∷ []) x) refl
 
   abbrev cfg : Config
-  cfg = delimited d
+  cfg = configured quoting d
 
   abbrev lines_in : List ℕ → List (List ℕ)
   lines_in xs = slice_split is_line_end xs
@@ -70,8 +88,8 @@ module _ (d : ℕ) where
 
   -- between two records
   record Between (xs : List ℕ) : Type 0 where
-    start : runs cfg st.StartRecord [] [] xs ≡ line_rows d (lines_in xs)
-    after_cr : runs cfg st.AfterCr [] [] xs ≡ line_rows d (lines_in xs)
+    start : runs cfg st.StartRecord [] [] xs ≡ rows_of (lines_in xs)
+    after_cr : runs cfg st.AfterCr [] [] xs ≡ rows_of (lines_in xs)
 
   runs-same : (s t : State) (f : Fields) (p : List ℕ) (c : ℕ) (rest : List ℕ) → step cfg s c ≡ step cfg t c
       → runs cfg s f p (c ∷ rest) ≡ runs cfg t f p (c ∷ rest)
@@ -80,19 +98,19 @@ module _ (d : ℕ) where
 
   -- after a byte that ends a record
   after-end-rows : (c : ℕ) (rest : List ℕ) → Between rest
-      → runs cfg (after_end cfg.terminator c) [] [] rest ≡ line_rows d (lines_in rest)
+      → runs cfg (after_end cfg.terminator c) [] [] rest ≡ rows_of (lines_in rest)
   after-end-rows c rest between = by (c == 13)
     where
-      by : (b : Bool) → runs cfg (if b then st.AfterCr else st.StartRecord) [] [] rest ≡ line_rows d (lines_in rest)
+      by : (b : Bool) → runs cfg (if b then st.AfterCr else st.StartRecord) [] [] rest ≡ rows_of (lines_in rest)
       by true = between.after_cr
       by false = between.start
 
-  rows-begin : (c : ℕ) (lines : List (List ℕ)) → rows_after [] [] (onto_first c lines) ≡ line_rows d (onto_first c lines)
+  rows-begin : (c : ℕ) (lines : List (List ℕ)) → rows_after [] [] (onto_first c lines) ≡ rows_of (onto_first c lines)
   unfolding rows_after
   rows-begin c [] = rw (no-bytes-before (c ∷ [])) refl
   rows-begin c (line ∷ lines) = rw (no-bytes-before (c ∷ line)) refl
 
-  module _ (separator : is_line_end d ≡ false) (c : ℕ) (rest : List ℕ) (plain : (c == 34) ≡ false) where
+  module _ (separator : is_line_end d ≡ false) (c : ℕ) (rest : List ℕ) (plain : (quoting && (c == 34)) ≡ false) where
     field-more : Inside rest → Between rest → (f : Fields) (p : List ℕ)
         → runs cfg st.InField f p (c ∷ rest) ≡ rows_after f p (lines_in (c ∷ rest))
     unfolding runs rows_after before_first_field
@@ -115,11 +133,11 @@ module _ (d : ℕ) where
           start_field = λ f p. runs-same st.StartField st.InField f p c rest begun ∙ field-more inside between f p;
         }
 
-    start-more : Inside (c ∷ rest) → Between rest → runs cfg st.StartRecord [] [] (c ∷ rest) ≡ line_rows d (lines_in (c ∷ rest))
+    start-more : Inside (c ∷ rest) → Between rest → runs cfg st.StartRecord [] [] (c ∷ rest) ≡ rows_of (lines_in (c ∷ rest))
     unfolding runs
     start-more inside between = by (is_line_end c) refl
       where
-        by : (b : Bool) → is_line_end c ≡ b → runs cfg st.StartRecord [] [] (c ∷ rest) ≡ line_rows d (lines_in (c ∷ rest))
+        by : (b : Bool) → is_line_end c ≡ b → runs cfg st.StartRecord [] [] (c ∷ rest) ≡ rows_of (lines_in (c ∷ rest))
         by true e = rw e between.start
         by false e =
             let begun : step cfg st.StartRecord c ≡ step cfg st.InField c = rw (e, plain) refl in
@@ -128,20 +146,20 @@ module _ (d : ℕ) where
             ∙ inside.in_field [] []
             ∙ ap (rows_after [] []) first
             ∙ rows-begin c (lines_in rest)
-            ∙ ap (line_rows d) (sym first)
+            ∙ ap rows_of (sym first)
 
     between-more : Inside (c ∷ rest) → Between rest → Between (c ∷ rest)
     unfolding runs
     between-more inside between =
         record { start = start-more inside between; after_cr = by (c == 10) refl }
       where
-        by : (b : Bool) → (c == 10) ≡ b → runs cfg st.AfterCr [] [] (c ∷ rest) ≡ line_rows d (lines_in (c ∷ rest))
+        by : (b : Bool) → (c == 10) ≡ b → runs cfg st.AfterCr [] [] (c ∷ rest) ≡ rows_of (lines_in (c ∷ rest))
         by true e = rw (eqb-true c 10 e) between.start
         by false e =
             let begun : step cfg st.AfterCr c ≡ step cfg st.StartRecord c = rw e refl in
             runs-same st.AfterCr st.StartRecord [] [] c rest begun ∙ start-more inside between
 
-  unquoted-rows : is_line_end d ≡ false → (xs : List ℕ) → IsUnquoted xs → Inside xs × Between xs
+  unquoted-rows : is_line_end d ≡ false → (xs : List ℕ) → SeesNoQuote quoting xs → Inside xs × Between xs
   unfolding runs rows_after before_first_field
   unquoted-rows separator [] plain = (
     record { in_field = λ f p. rw (append-nil p) refl; start_field = λ f p. rw (append-nil p) refl },
@@ -162,5 +180,29 @@ separator-ends-none d h = by (d == 34) (is_line_end d) h
     by false true h = absurd (false≢true h)
 
 pub unquoted-split : UnquotedTextsAreSplit
-unquoted-split d text separator plain =
-    runs-all (delimited d) text ∙ (unquoted-rows d (separator-ends-none d separator) text plain).1.start
+unquoted-split quoting d text separator plain =
+    runs-all (configured quoting d) text
+    ∙ (unquoted-rows quoting d (separator-ends-none d separator) text (sees-no-quote quoting text plain)).1.start
+
+-- the one field of a line that was cut into these at 0 bytes
+one-field : (fields : Fields) → fields_by format.Lines fields ≡ join_with_byte 0 fields ∷ []
+one-field [] = refl
+one-field (x ∷ []) = ap (λ (l : List ℕ). l ∷ []) (append-nil x)
+one-field (x ∷ y ∷ rest) = ap (λ (fs : Fields). (x ++ 0 ∷ get_or fs 0 []) ∷ []) (one-field (y ∷ rest))
+
+-- the keys and the weights' fields of lines, where each is one field
+pub lines-joined : (lines : List (List ℕ))
+    → map (λ r. parts_of (fields_by format.Lines r)) (map (line_fields 0) lines) ≡ map (parts_in_line None) lines
+lines-joined [] = refl
+lines-joined (line ∷ lines) =
+    let all : fields_by format.Lines (line_fields 0 line) ≡ line ∷ [] =
+    one-field (line_fields 0 line) ∙ ap (λ (l : List ℕ). l ∷ []) (join_with_byte-slice_split 0 line) in
+    ap (λ (r : Fields). parts_of r ∷ map (λ r. parts_of (fields_by format.Lines r)) (map (line_fields 0) lines)) all
+    ∙ ap (λ (ps : List Parts). Some (line, None) ∷ ps) (lines-joined lines)
+
+-- and where a line is cut at each delimiter
+pub lines-cut : (f : Format) (d : ℕ) → (f ≡ format.Csv) ⊎ (f ≡ format.Unquoted) → (lines : List (List ℕ))
+    → map (λ r. parts_of (fields_by f r)) (map (line_fields (byte_between f d)) lines)
+    ≡ map (parts_in_line (separator_of f d)) lines
+lines-cut f d (inl csv) lines = rw csv (map-map parts_of (line_fields d) lines)
+lines-cut f d (inr unquoted) lines = rw unquoted (map-map parts_of (line_fields d) lines)

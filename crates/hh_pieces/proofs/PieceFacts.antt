@@ -16,7 +16,8 @@ use Rattle.hh_faults.specs.declared.records.ReadError.TheVariants as read
 use Rattle.hh_faults.specs.declared.records.TextError.{TextError}
 use Rattle.hh_faults.specs.declared.records.TextError.TheVariants as text
 use Rattle.hh_pieces.specs.Laws.{PiecesAreRead}
-use Rattle.hh_records.specs.Layouts.{OpenRefused, Places, RowsRefused, added, adding_next, adds, gathered, headed_parts, item_by, items_after, joined, names_columns, parts_at, places_in, text_parts, texts_parts, weight_by}
+use Rattle.hh_records.specs.Formats.{byte_between, has_quotes}
+use Rattle.hh_records.specs.Layouts.{OpenRefused, Places, RowsRefused, added, adding_next, adds, config_of, gathered, headed_parts, item_by, items_after, joined, names_columns, parts_at, places_in, text_parts, texts_parts, weight_by}
 use Rattle.hh_pieces.specs.Chunks.{Follows}
 use Rattle.hh_pieces.specs.Pieces.{InPieces, IsCut, IsInPieces, PieceRefused, all_pieces, first_piece, piece_parts, piece_reading, text_of, with_columns}
 use Rattle.hh_records.specs.Layouts.{columns_of, first_of, rows_in}
@@ -239,18 +240,18 @@ module _ (layout : Layout) where
       )
 
   -- the records of a text that is cut are those of a part and, by the columns that follow it, of the rest
-  pub parts-more : (columns : Option Places) (at : Places) (a b : List ℕ) (ps : List Parts) → IsCut layout.delimiter a b
+  pub parts-more : (columns : Option Places) (at : Places) (a b : List ℕ) (ps : List Parts) → IsCut (config_of layout) a b
       → Follows layout columns at a → piece_parts layout columns a ≡ Some ps
       → piece_parts layout columns (a ++ b) ≡ Some (ps ++ map (parts_at at) (rows_in layout b))
   unfolding parts_in
   parts-more None at a b ps cut follows e =
       let (qs, first, more) = rows-more (rows_in layout a) at follows in
       let same : qs ≡ ps = some-is (sym first ∙ e) in
-      ap parts_in (parts-records layout.delimiter a b cut)
+      ap parts_in (parts-records (has_quotes layout.format) (byte_between layout.format layout.delimiter) a b cut)
       ∙ more (rows_in layout b)
       ∙ ap (λ (l : List Parts). Some (l ++ map (parts_at at) (rows_in layout b))) same
   parts-more (Some columns) at a b ps cut follows e =
-      ap (λ (rows : List Fields). Some (map (parts_at columns) rows)) (parts-records layout.delimiter a b cut)
+      ap (λ (rows : List Fields). Some (map (parts_at columns) rows)) (parts-records (has_quotes layout.format) (byte_between layout.format layout.delimiter) a b cut)
       ∙ ap Some (map-append (parts_at columns) (rows_in layout a) (rows_in layout b))
       ∙ ap (λ (l : List Parts). Some (l ++ map (parts_at columns) (rows_in layout b))) (some-is e)
       ∙ ap (λ (c : Places). Some (ps ++ map (parts_at c) (rows_in layout b))) (sym follows)
@@ -279,7 +280,7 @@ module _ (layout : Layout) where
   text-pieces : (t : InPieces) → IsInPieces layout t
       → text_parts layout (text_of t) ≡ gathered parts_of_piece (with_columns t.columns t.pieces)
   unfolding gathered parts_of_piece parts_in
-  text-pieces t is = by t.pieces (pieces-records layout.delimiter t.pieces is.cut) is.columns
+  text-pieces t is = by t.pieces (pieces-records (has_quotes layout.format) (byte_between layout.format layout.delimiter) t.pieces is.cut) is.columns
     where
       by : (pieces : List (List ℕ)) → rows_in layout (whole_of pieces) ≡ flat_map (rows_in layout) pieces
           → columns_of layout (rows_in layout (first_piece pieces)) ≡ Some t.columns

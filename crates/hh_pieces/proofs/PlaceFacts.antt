@@ -1,12 +1,13 @@
 -- Places in a text and the states of csv's machine.
-use Rattle.std.proofs.Common.{◌≡◌, ◌≤◌, ◌<◌, ◌+◌, ◌-◌, ◌∙◌, ◌==◌, ◌∷◌, ℕ, suc, zero, List, [], length, take, drop, get_or, Bool, true, false, refl, sym, ap, arith, length-drop, subst}
+use Rattle.std.proofs.Common.{◌≡◌, ◌≤◌, ◌<◌, ◌+◌, ◌-◌, ◌∙◌, ◌==◌, ◌∷◌, ℕ, suc, zero, List, [], length, take, drop, get_or, Bool, true, false, Option, Some, None, refl, sym, ap, arith, length-drop, subst}
 use Rattle.std.specs.Prelude.{◌||◌, ◌&&◌, fold, if◌then◌else◌, slice_range}
 use Rattle.std.proofs.lemmas.Bool.{eq-eqb, eqb-true, false≢true}
 use Rattle.std.proofs.lemmas.List.{drop_more, get_or-drop}
 use native.Mathlib.Decide.{dec_lt}
-use Rattle.memchr.specs.Find.{NoneAfter, Nowhere}
+use Rattle.memchr.specs.Find.{IsLast, IsLastByte, NoneAfter, Nowhere, is_byte}
 use Rattle.csv.specs.Machine.{after_end, in_field, start_field, start_record, step}
 use Rattle.csv.specs.Reading.{is_bom, strip_bom}
+use Rattle.csv.specs.declared.parser.Config.{Config}
 use Rattle.csv.specs.declared.parser.State.{State}
 use Rattle.csv.specs.declared.parser.State.TheVariants as st
 use Rattle.csv.specs.declared.parser.Action.{Action}
@@ -14,7 +15,7 @@ use Rattle.csv.specs.declared.parser.Action.TheVariants as act
 use Rattle.csv.specs.declared.parser.Terminator.TheVariants as term
 use Rattle.hh_pieces.specs.declared.cuts.QuoteState.{QuoteState}
 use Rattle.hh_pieces.specs.declared.cuts.QuoteState.TheVariants as place
-use Rattle.hh_records.specs.Layouts.{delimited}
+use Rattle.hh_records.specs.Layouts.{configured, delimited}
 use Rattle.hh_pieces.specs.Pieces.{IsCutAt, begins_with_feed, ends_outside, is_outside, state_after}
 use Rattle.hh_pieces.specs.Quotes.{IsFeedAt, is_open, mark_len, place_after, place_next, plain_after}
 use Rattle.hh_pieces.proofs.QuoteFacts.{rest-all}
@@ -231,20 +232,20 @@ module _ (d : ℕ) (other : (d == 10) ≡ false) (text : List ℕ) (mark : ℕ) 
       ∙ cut-place d (take at (drop (mark_len text) text))
       ∙ ap (λ m. is_open (place_after d (take at (drop m text)))) (sym is)
 
-  cut-from-line : (at : ℕ) → mark + at < length text → IsFeedAt d (drop mark text) at → IsCutAt d text (mark + at)
+  cut-from-line : (at : ℕ) → mark + at < length text → IsFeedAt d (drop mark text) at → IsCutAt (delimited d) text (mark + at)
   cut-from-line at l h = record {
     outside = rw other (cut-state at ∙ h.outside);
     feed = line-drop text (mark + at) l ∙ eq-eqb (get_or text (mark + at) 0) 10 (sym (body-at at) ∙ h.feed);
   }
 
-  line-from-cut : (at : ℕ) → mark + at < length text → IsCutAt d text (mark + at) → IsFeedAt d (drop mark text) at
+  line-from-cut : (at : ℕ) → mark + at < length text → IsCutAt (delimited d) text (mark + at) → IsFeedAt d (drop mark text) at
   line-from-cut at l h = record {
     feed = body-at at ∙ eqb-true (get_or text (mark + at) 0) 10 (sym (line-drop text (mark + at) l) ∙ h.feed);
     outside = sym (cut-state at) ∙ (rw other at h.outside);
   }
 
   -- a cut stands after the mark
-  cut-after : (k : ℕ) → k < length text → IsCutAt d text k → mark ≤ k
+  cut-after : (k : ℕ) → k < length text → IsCutAt (delimited d) text k → mark ≤ k
   cut-after k l h =
       let feed = eqb-true (get_or text k 0) 10 (sym (line-drop text k l) ∙ h.feed) in
       elim (dec_lt k mark) [
@@ -252,16 +253,16 @@ module _ (d : ℕ) (other : (d == 10) ≡ false) (text : List ℕ) (mark : ℕ) 
         | no above ↦ omega (arith, above)
       ]
 
-  line-at-cut : (k : ℕ) → k < length text → IsCutAt d text k
+  line-at-cut : (k : ℕ) → k < length text → IsCutAt (delimited d) text k
       → (at : ℕ) × (k ≡ mark + at) × IsFeedAt d (drop mark text) at
   line-at-cut k l h =
       let behind = cut-after k l h in
       let at : ℕ = k - mark in
       let same : k ≡ mark + at = omega (arith, behind) in
-      (at, same, line-from-cut at (omega (arith, l, same)) (subst (IsCutAt d text) same h))
+      (at, same, line-from-cut at (omega (arith, l, same)) (subst (IsCutAt (delimited d) text) same h))
 
   pub cut-none : Nowhere (IsFeedAt d (slice_range text mark (length text))) 0 (length (slice_range text mark (length text)))
-      → Nowhere (IsCutAt d text) 0 (length text)
+      → Nowhere (IsCutAt (delimited d) text) 0 (length text)
   cut-none none k a b h =
       let g = rw (rest-all text mark) at none in
       let (at, same, line) = line-at-cut k b h in
@@ -270,7 +271,7 @@ module _ (d : ℕ) (other : (d == 10) ≡ false) (text : List ℕ) (mark : ℕ) 
   pub cut-some : (at : ℕ)
       → NoneAfter (IsFeedAt d (slice_range text mark (length text))) 0 (length (slice_range text mark (length text))) at
       → IsFeedAt d (slice_range text mark (length text)) at
-      → NoneAfter (IsCutAt d text) 0 (length text) (mark + at) × IsCutAt d text (mark + at)
+      → NoneAfter (IsCutAt (delimited d) text) 0 (length text) (mark + at) × IsCutAt (delimited d) text (mark + at)
   cut-some at none line =
       let g = rw (rest-all text mark) at none in
       let within : mark + at < length text = omega (arith, g.high, length-drop mark text) in (
@@ -285,15 +286,69 @@ module _ (d : ℕ) (other : (d == 10) ≡ false) (text : List ℕ) (mark : ℕ) 
       )
 
   -- whether the text ends outside quotes, by the place after it
-  pub ends-open : (p : QuoteState) → p ≡ place_after d (slice_range text mark (length text)) → is_open p ≡ ends_outside d text
+  pub ends-open : (p : QuoteState) → p ≡ place_after d (slice_range text mark (length text)) → is_open p ≡ ends_outside (delimited d) text
   ends-open p h =
       ap is_open (h ∙ ap (place_after d) (rest-all text mark ∙ ap (λ m. drop m text) is ∙ sym (strip-drop text)))
       ∙ sym (cut-place d (strip_bom text))
       ∙ rw other refl
 
--- where the byte between fields is a line feed, there is no cut
-pub no-cut : (d : ℕ) (text : List ℕ) → d ≡ 10 → Nowhere (IsCutAt d text) 0 (length text)
-no-cut d text e k a b h = absurd (false≢true (rw e at h.outside))
+-- where fields are cut at line feeds, there is no cut
+pub no-cut : (config : Config) (text : List ℕ) → config.delimiter ≡ 10 → Nowhere (IsCutAt config text) 0 (length text)
+no-cut config text e k a b h = absurd (false≢true (rw e at h.outside))
 
-pub not-outside-feed : (d : ℕ) (text : List ℕ) → d ≡ 10 → false ≡ ends_outside d text
-not-outside-feed d text e = rw e refl
+pub not-outside-feed : (config : Config) (text : List ℕ) → config.delimiter ≡ 10 → false ≡ ends_outside config text
+not-outside-feed config text e = rw e refl
+
+-- ---- where a quote is a byte as any other
+outside-if : (b : Bool) (p q : State × Action) → is_outside p.0 ≡ true → is_outside q.0 ≡ true
+    → is_outside (if b then p else q).0 ≡ true
+outside-if true p q h k = h
+outside-if false p q h k = k
+
+module _ (d : ℕ) where
+  abbrev plain : Config
+  plain = configured false d
+
+  outside-in-field : (c : ℕ) → is_outside (in_field plain c).0 ≡ true
+  outside-in-field c =
+      outside-if (c == d) (st.StartField, act.EndField) _ refl
+      (outside-if ((c == 13) || (c == 10)) (after_end term.CRLF c, act.EndRecord) (st.InField, act.Copy) (by (c == 13)) refl)
+    where
+      by : (b : Bool) → is_outside (if b then st.AfterCr else st.StartRecord) ≡ true
+      by true = refl
+      by false = refl
+
+  outside-start-record : (c : ℕ) → is_outside (start_record plain c).0 ≡ true
+  outside-start-record c =
+      outside-if ((c == 13) || (c == 10)) (st.StartRecord, act.Skip) (in_field plain c) refl (outside-in-field c)
+
+  outside-step : (s : State) (c : ℕ) → is_outside s ≡ true → is_outside (step plain s c).0 ≡ true
+  outside-step st.StartRecord c h = outside-start-record c
+  outside-step st.StartField c h = outside-in-field c
+  outside-step st.InField c h = outside-in-field c
+  outside-step st.AfterQuote c h = outside-in-field c
+  outside-step st.AfterCr c h =
+      outside-if (c == 10) (st.StartRecord, act.Skip) (start_record plain c) refl (outside-start-record c)
+  outside-step st.InQuoted c h = absurd (false≢true h)
+  outside-step st.InEscape c h = absurd (false≢true h)
+  outside-step st.InComment c h = absurd (false≢true h)
+
+  outside-all : (xs : List ℕ) (s : State) → is_outside s ≡ true → is_outside (state_after plain s xs) ≡ true
+  outside-all [] s h = h
+  outside-all (c ∷ xs) s h = outside-all xs (step plain s c).0 (outside-step s c h)
+
+  pub plain-outside : (d == 10) ≡ false → (text : List ℕ) → ends_outside plain text ≡ true
+  plain-outside other text = rw other (outside-all (strip_bom text) st.StartRecord refl)
+
+  -- each line feed is a cut
+  pub plain-cuts : (d == 10) ≡ false → (text : List ℕ) (last : Option ℕ)
+      → IsLastByte (is_byte 10) text last → IsLast (IsCutAt plain text) 0 (length text) last
+  plain-cuts other text None none = λ k a b cut. none k a b (sym (line-drop text k b) ∙ cut.feed)
+  plain-cuts other text (Some at) (none, here) = (
+    record {
+      low = none.low;
+      high = none.high;
+      after = λ k a b cut. none.after k a b (sym (line-drop text k b) ∙ cut.feed);
+    },
+    record { outside = plain-outside other (take at text); feed = line-drop text at none.high ∙ here },
+  )

@@ -1,5 +1,5 @@
 -- Lines and fields by the places of the bytes that end them.
-use Rattle.std.proofs.Common.{◌≡◌, ◌==◌, ◌≤◌, ◌<◌, ◌+◌, ◌-◌, ◌∷◌, ◌++◌, ◌∙◌, ℕ, suc, zero, List, [], length, map, take, drop, Bool, true, false, Some, None, Ok, refl, sym, ap, arith, append-nil, append_assoc, length-append, length-drop}
+use Rattle.std.proofs.Common.{◌≡◌, ◌==◌, ◌≤◌, ◌<◌, ◌+◌, ◌-◌, ◌∷◌, ◌++◌, ◌∙◌, ℕ, suc, zero, List, [], length, map, take, drop, Bool, true, false, Option, Some, None, Ok, refl, sym, ap, arith, append-nil, append_assoc, length-append, length-drop}
 use Rattle.std.specs.Prelude.{if◌then◌else◌, slice_range}
 use Rattle.std.specs.List.{onto_first, position_or_len, slice_split}
 use Rattle.std.proofs.lemmas.List.{drop-drop, drop_all, length-map, length-take-le, map-append}
@@ -13,7 +13,7 @@ use Rattle.hh_records.specs.declared.layout.Layout.{Layout}
 use Rattle.hh_records.specs.declared.records.RecordFault.{RecordFault}
 use Rattle.hh_records.specs.declared.records.RecordFault.TheVariants as fault
 use Rattle.hh_records.specs.Layouts.{PartsRefused, RowsRefused, adds, items_after}
-use Rattle.hh_pieces.specs.Lines.{HasNoReturn, is_line_end, line_end, line_fields, line_rows, split_rows}
+use Rattle.hh_pieces.specs.Lines.{HasNoReturn, filled, filled_lines, is_line_end, line_end, line_fields, parts_in_line}
 use Rattle.hh_records.specs.Streams.{Fields, Parts, numbered_fault, parts_of}
 use Rattle.hh_pieces.proofs.QuoteFacts.{rest-all}
 use Rattle.hh_records.proofs.ReadFacts.{items-more}
@@ -123,129 +123,135 @@ module _ (d : ℕ) (line : List ℕ) where
         rw (first-field, parts, more) refl
 
 -- ---- the lines of a text
-module _ (d : ℕ) where
-  line-cons : (line : List ℕ) (lines : List (List ℕ))
-      → line_rows d (line ∷ lines) ≡ line_rows d (line ∷ []) ++ line_rows d lines
-  line-cons [] lines = refl
-  line-cons (c ∷ line) lines = refl
+line-cons : (line : List ℕ) (lines : List (List ℕ)) → filled (line ∷ lines) ≡ filled (line ∷ []) ++ filled lines
+line-cons [] lines = refl
+line-cons (c ∷ line) lines = refl
 
-  module _ (text : List ℕ) (from end : ℕ) (order : from ≤ end) (within : end ≤ length text) (is : end ≡ line_end text from) where
-    abbrev rest : List ℕ
-    rest = drop from text
+module _ (text : List ℕ) (from end : ℕ) (order : from ≤ end) (within : end ≤ length text) (is : end ≡ line_end text from) where
+  abbrev rest : List ℕ
+  rest = drop from text
 
-    -- what is left is the line and what stands after it
-    line-first : split_rows d rest ≡ line_rows d (take (end - from) rest ∷ []) ++ split_rows d (drop (end - from + 1) rest)
-    line-first = elim (dec_lt (end - from) (length rest)) [ yes some ↦ by_end some | no none ↦ by_text none ]
-      where
-        by_end : end - from < length rest
-            → split_rows d rest ≡ line_rows d (take (end - from) rest ∷ []) ++ split_rows d (drop (end - from + 1) rest)
-        by_end some =
-            let run : position_or_len is_line_end rest ≡ end - from = omega (arith, is) in
-            let lines = rw run at (slice_split_first is_line_end rest 0 (omega (arith, run, some))) in
-            ap (line_rows d) lines ∙ line-cons (take (end - from) rest) (slice_split is_line_end (drop (end - from + 1) rest))
+  -- what is left is the line and what stands after it
+  line-first : filled_lines rest ≡ filled (take (end - from) rest ∷ []) ++ filled_lines (drop (end - from + 1) rest)
+  line-first = elim (dec_lt (end - from) (length rest)) [ yes some ↦ by_end some | no none ↦ by_text none ]
+    where
+      by_end : end - from < length rest
+          → filled_lines rest ≡ filled (take (end - from) rest ∷ []) ++ filled_lines (drop (end - from + 1) rest)
+      by_end some =
+          let run : position_or_len is_line_end rest ≡ end - from = omega (arith, is) in
+          let lines = rw run at (slice_split_first is_line_end rest 0 (omega (arith, run, some))) in
+          ap filled lines ∙ line-cons (take (end - from) rest) (slice_split is_line_end (drop (end - from + 1) rest))
 
-        by_text : (end - from < length rest → ⊥)
-            → split_rows d rest ≡ line_rows d (take (end - from) rest ∷ []) ++ split_rows d (drop (end - from + 1) rest)
-        by_text none =
-            let size = length-drop from text in
-            let run : position_or_len is_line_end rest ≡ length rest = omega (arith, is, none, within, order, size) in
-            let all : end - from ≡ length rest = omega (arith, none, within, order, size) in
-            rw (split-none is_line_end rest run, all, take-length rest, drop_all (length rest + 1) rest (omega arith))
-            (sym (append-nil (line_rows d (rest ∷ []))))
+      by_text : (end - from < length rest → ⊥)
+          → filled_lines rest ≡ filled (take (end - from) rest ∷ []) ++ filled_lines (drop (end - from + 1) rest)
+      by_text none =
+          let size = length-drop from text in
+          let run : position_or_len is_line_end rest ≡ length rest = omega (arith, is, none, within, order, size) in
+          let all : end - from ≡ length rest = omega (arith, none, within, order, size) in
+          rw (split-none is_line_end rest run, all, take-length rest, drop_all (length rest + 1) rest (omega arith))
+          (sym (append-nil (filled (rest ∷ []))))
 
-    after-line : drop (end - from + 1) rest ≡ drop (end + 1) text
-    after-line =
-        let at : from + (end - from + 1) ≡ end + 1 = omega (arith, order) in
-        drop-drop (end - from + 1) from text ∙ ap (λ n. drop n text) at
+  after-line : drop (end - from + 1) rest ≡ drop (end + 1) text
+  after-line =
+      let at : from + (end - from + 1) ≡ end + 1 = omega (arith, order) in
+      drop-drop (end - from + 1) from text ∙ ap (λ n. drop n text) at
 
-    -- a blank line
-    pub line-none : end ≤ from → split_rows d rest ≡ split_rows d (drop (end + 1) text)
-    line-none blank =
-        let none : end - from ≡ 0 = omega (arith, blank) in
-        let rows : line_rows d (take (end - from) rest ∷ []) ≡ [] = rw none refl in
-        line-first ∙ ap (λ (rs : List Fields). rs ++ split_rows d (drop (end - from + 1) rest)) rows
-        ∙ ap (split_rows d) after-line
+  -- a blank line
+  pub line-none : end ≤ from → filled_lines rest ≡ filled_lines (drop (end + 1) text)
+  line-none blank =
+      let none : end - from ≡ 0 = omega (arith, blank) in
+      let lines : filled (take (end - from) rest ∷ []) ≡ [] = rw none refl in
+      line-first ∙ ap (λ (ls : List (List ℕ)). ls ++ filled_lines (drop (end - from + 1) rest)) lines
+      ∙ ap filled_lines after-line
 
-    -- and any other
-    pub line-some : from < end
-        → split_rows d rest ≡ line_fields d (slice_range text from end) ∷ split_rows d (drop (end + 1) text)
-    line-some some =
-        line-first ∙ ap (λ (rs : List Fields). rs ++ split_rows d (drop (end - from + 1) rest)) (by (take (end - from) rest) size)
-        ∙ ap (λ (u : List ℕ). line_fields d (take (end - from) rest) ∷ split_rows d u) after-line
-      where
-        size : 0 < length (take (end - from) rest)
-        size = let l = length-take-le (end - from) rest (omega (arith, within, order, length-drop from text)) in omega (arith, l, some)
+  -- and any other
+  pub line-some : from < end → filled_lines rest ≡ slice_range text from end ∷ filled_lines (drop (end + 1) text)
+  line-some some =
+      line-first
+      ∙ ap (λ (ls : List (List ℕ)). ls ++ filled_lines (drop (end - from + 1) rest)) (by (take (end - from) rest) size)
+      ∙ ap (λ (u : List ℕ). take (end - from) rest ∷ filled_lines u) after-line
+    where
+      size : 0 < length (take (end - from) rest)
+      size = let l = length-take-le (end - from) rest (omega (arith, within, order, length-drop from text)) in omega (arith, l, some)
 
-        by : (line : List ℕ) → 0 < length line → line_rows d (line ∷ []) ≡ line_fields d line ∷ []
-        by [] l = absurd (omega (arith, l))
-        by (c ∷ line) l = refl
+      by : (line : List ℕ) → 0 < length line → filled (line ∷ []) ≡ line ∷ []
+      by [] l = absurd (omega (arith, l))
+      by (c ∷ line) l = refl
 
 -- ---- the lines read so far
-module _ (layout : Layout) (d t : ℕ) (text : List ℕ) where
+module _ (layout : Layout) (separator : Option ℕ) (t : ℕ) (text : List ℕ) where
+  abbrev parts : List (List ℕ) → List Parts
+  parts lines = map (parts_in_line separator) lines
+
   -- so many lines before a place were read, and add these items
   pub record LinesRead (from : ℕ) (xs : List Entry) (number : ℕ) : Type 0 where
-    pub rows : List Fields
-    pub all : split_rows d text ≡ rows ++ split_rows d (drop from text)
-    pub items : items_after layout 1 t (map parts_of rows) ≡ Ok xs
-    pub count : length rows ≡ number
+    pub lines : List (List ℕ)
+    pub all : filled_lines text ≡ lines ++ filled_lines (drop from text)
+    pub items : items_after layout 1 t (parts lines) ≡ Ok xs
+    pub count : length lines ≡ number
 
   pub lines-none : LinesRead 0 [] 0
   unfolding items_after
-  lines-none = record { rows = []; all = refl; items = refl; count = refl }
+  lines-none = record { lines = []; all = refl; items = refl; count = refl }
 
   -- all of them
   pub lines-end : (from : ℕ) (xs : List Entry) (number : ℕ) → length text ≤ from → LinesRead from xs number
-      → items_after layout 1 t (map parts_of (split_rows d text)) ≡ Ok xs
+      → items_after layout 1 t (parts (filled_lines text)) ≡ Ok xs
   lines-end from xs number end so_far =
-      rw (so_far.all, drop_all from text end, append-nil so_far.rows) so_far.items
+      rw (so_far.all, drop_all from text end, append-nil so_far.lines) so_far.items
 
   module _ (from end : ℕ) (xs : List Entry) (number : ℕ) (order : from ≤ end) (within : end ≤ length text)
       (is : end ≡ line_end text from) (so_far : LinesRead from xs number) where
     pub lines-blank : end ≤ from → LinesRead (end + 1) xs number
     lines-blank blank =
-        let left = line-none d text from end order within is blank in
+        let left = line-none text from end order within is blank in
         record {
-          rows = so_far.rows;
-          all = so_far.all ∙ ap (λ (rs : List Fields). so_far.rows ++ rs) left;
+          lines = so_far.lines;
+          all = so_far.all ∙ ap (λ (ls : List (List ℕ)). so_far.lines ++ ls) left;
           items = so_far.items;
           count = so_far.count;
         }
 
-    abbrev row : List (List ℕ)
-    row = line_fields d (slice_range text from end)
+    abbrev line : List ℕ
+    line = slice_range text from end
 
-    all-rows : from < end → split_rows d text ≡ so_far.rows ++ row ∷ split_rows d (drop (end + 1) text)
-    all-rows some =
-        so_far.all ∙ ap (λ (rs : List Fields). so_far.rows ++ rs) (line-some d text from end order within is some)
+    all-lines : from < end → filled_lines text ≡ so_far.lines ++ line ∷ filled_lines (drop (end + 1) text)
+    all-lines some =
+        so_far.all ∙ ap (λ (ls : List (List ℕ)). so_far.lines ++ ls) (line-some text from end order within is some)
 
-    pub lines-more : from < end → (es : List Entry) → adds layout (t + total_of xs) (parts_of row) ≡ Ok es
+    pub lines-more : from < end → (es : List Entry) → adds layout (t + total_of xs) (parts_in_line separator line) ≡ Ok es
         → LinesRead (end + 1) (xs ++ es) (number + 1)
     unfolding items_after
     lines-more some es j =
-        let size = length-append so_far.rows (row ∷ []) in
-        let all : map parts_of (so_far.rows ++ row ∷ []) ≡ map parts_of so_far.rows ++ parts_of row ∷ [] =
-        map-append parts_of so_far.rows (row ∷ []) in
+        let size = length-append so_far.lines (line ∷ []) in
+        let all : parts (so_far.lines ++ line ∷ []) ≡ parts so_far.lines ++ parts_in_line separator line ∷ [] =
+        map-append (parts_in_line separator) so_far.lines (line ∷ []) in
         record {
-          rows = so_far.rows ++ row ∷ [];
-          all = all-rows some ∙ sym (append_assoc so_far.rows (row ∷ []) (split_rows d (drop (end + 1) text)));
-          items = rw (all, items-more layout 1 t xs (map parts_of so_far.rows) (parts_of row ∷ []) so_far.items, j, append-nil es) refl;
+          lines = so_far.lines ++ line ∷ [];
+          all = all-lines some ∙ sym (append_assoc so_far.lines (line ∷ []) (filled_lines (drop (end + 1) text)));
+          items = rw (
+            all,
+            items-more layout 1 t xs (parts so_far.lines) (parts_in_line separator line ∷ []) so_far.items,
+            j,
+            append-nil es,
+          ) refl;
           count = omega (arith, size, so_far.count);
         }
 
-    pub lines-refused : from < end → (x : RecordFault) → PartsRefused layout (t + total_of xs) (parts_of row) x
-        → RowsRefused layout 0 t (Some (map parts_of (split_rows d text))) (numbered_fault (number + 1) x)
+    pub lines-refused : from < end → (x : RecordFault) → PartsRefused layout (t + total_of xs) (parts_in_line separator line) x
+        → RowsRefused layout 0 t (Some (parts (filled_lines text))) (numbered_fault (number + 1) x)
     unfolding items_after
     lines-refused some fault.Memory j = tt
     lines-refused some (fault.Bad x) j =
-        let left = split_rows d (drop (end + 1) text) in
-        let parts : map parts_of (so_far.rows ++ row ∷ left) ≡ map parts_of so_far.rows ++ parts_of row ∷ map parts_of left =
-        map-append parts_of so_far.rows (row ∷ left) in
-        let size = length-map so_far.rows parts_of in
-        let place : 1 + length (map parts_of so_far.rows) ≡ number + 1 = omega (arith, size, so_far.count) in
+        let left = filled_lines (drop (end + 1) text) in
+        let all : parts (so_far.lines ++ line ∷ left) ≡ parts so_far.lines ++ parts_in_line separator line ∷ parts left =
+        map-append (parts_in_line separator) so_far.lines (line ∷ left) in
+        let size = length-map so_far.lines (parts_in_line separator) in
+        let place : 1 + length (parts so_far.lines) ≡ number + 1 = omega (arith, size, so_far.count) in
         rw (
-          all-rows some,
-          parts,
-          items-more layout 1 t xs (map parts_of so_far.rows) (parts_of row ∷ map parts_of left) so_far.items,
+          all-lines some,
+          all,
+          items-more layout 1 t xs (parts so_far.lines) (parts_in_line separator line ∷ parts left) so_far.items,
           j,
           place,
         ) refl

@@ -2,7 +2,7 @@
 use Rattle.std.specs.Prelude.{◌≡◌, ◌-◌, ◌≤◌, ◌++◌, ℕ, List, [], length, map, replicate, Option, Some, None, Ok, Err, if◌then◌else◌}
 use Rattle.hh_stream.specs.Cuttings.{whole_of}
 use Rattle.hh_stream.specs.Weights.{Entry, max_total, total_of}
-use Rattle.hh_records.specs.Layouts.{Places, stream_with}
+use Rattle.hh_records.specs.Layouts.{Places, config_of, stream_with}
 use Rattle.hh_pieces.specs.Pieces.{InPieces, LaterBeginWithFeed, ends_outside, first_piece, piece_reading}
 use Rattle.hh_records.specs.Layouts.{columns_of, rows_in}
 use Rattle.hh_records.specs.Streams.{Reading}
@@ -32,7 +32,7 @@ items_of (Some (Ok xs)) = Some xs
 -- the items of a piece that ends outside quotes, where none of its records is refused
 abbrev pub piece_items : Layout → Piece → Option (List Entry)
 piece_items layout piece =
-    if ends_outside layout.delimiter piece.1 then items_of (piece_reading layout piece.0 piece.1) else None
+    if ends_outside (config_of layout) piece.1 then items_of (piece_reading layout piece.0 piece.1) else None
 
 -- these and, after them, pieces of no items, `count` in all
 abbrev pub padded : ℕ → List (Option (List Entry)) → List (Option (List Entry))

@@ -1,8 +1,10 @@
 -- The records of a text without quotes, line by line.
-use Rattle.std.specs.Prelude.{◌≡◌, ◌==◌, ◌||◌, ◌&&◌, ◌+◌, ℕ, Bool, true, false, List, [], ◌∷◌, map, not, drop}
+use Rattle.std.specs.Prelude.{◌≡◌, ◌==◌, ◌||◌, ◌&&◌, ◌+◌, ℕ, Bool, true, false, List, [], ◌∷◌, map, not, drop, Option, Some, None}
 use Rattle.std.specs.List.{AllByRecursion, filter, position_or_len, slice_split}
 use Rattle.csv.specs.Machine.{carriage_return, line_feed}
-use Rattle.hh_records.specs.Streams.{Fields}
+use Rattle.hh_records.specs.Streams.{Fields, Parts, parts_of}
+use Rattle.hh_records.specs.declared.format.Format.{Format}
+use Rattle.hh_records.specs.declared.format.Format.TheVariants as format
 
 -- whether a byte ends a line
 abbrev pub is_line_end : ℕ → Bool
@@ -20,13 +22,28 @@ abbrev pub is_blank : List ℕ → Bool
 is_blank [] = true
 is_blank (c ∷ line) = false
 
--- the records of these lines: a blank one is none
-abbrev pub line_rows : ℕ → List (List ℕ) → List Fields
-line_rows d lines = map (line_fields d) (filter (λ line. not (is_blank line)) lines)
+-- these lines, but for blank ones
+abbrev pub filled : List (List ℕ) → List (List ℕ)
+filled lines = filter (λ line. not (is_blank line)) lines
+
+abbrev pub filled_lines : List ℕ → List (List ℕ)
+filled_lines text = filled (slice_split is_line_end text)
 
 -- the records of a text, of which each line is one, but for blank ones
 abbrev pub split_rows : ℕ → List ℕ → List Fields
-split_rows d text = line_rows d (slice_split is_line_end text)
+split_rows d text = map (line_fields d) (filled_lines text)
+
+-- the byte at which the lines of a format are cut into fields, where a line is not one field
+abbrev pub separator_of : Format → ℕ → Option ℕ
+separator_of format.Csv delimiter = Some delimiter
+separator_of format.Unquoted delimiter = Some delimiter
+separator_of format.Squeezed delimiter = Some delimiter
+separator_of format.Lines delimiter = None
+
+-- the key and the weight's field of a line that is cut at this byte, or is one field
+abbrev pub parts_in_line : Option ℕ → List ℕ → Parts
+parts_in_line None line = Some (line, None)
+parts_in_line (Some d) line = parts_of (line_fields d line)
 
 -- no byte is a quote
 abbrev pub IsUnquoted : List ℕ → Type 0

@@ -8,8 +8,10 @@ use Rattle.csv.specs.declared.parser.Config.{Config}
 use Rattle.csv.specs.declared.parser.State.{State}
 use Rattle.csv.specs.declared.parser.State.TheVariants as st
 use Rattle.hh_stream.specs.Cuttings.{whole_of}
-use Rattle.hh_records.specs.Layouts.{Places, columns_of, delimited, items_after, names_columns, parts_at, rows_in, text_parts}
+use Rattle.hh_records.specs.Formats.{byte_between, has_quotes}
+use Rattle.hh_records.specs.Layouts.{Places, columns_of, config_of, configured, delimited, items_after, names_columns, parts_at, rows_in, text_parts}
 use Rattle.hh_records.specs.Streams.{Parts, Reading}
+use Rattle.hh_records.specs.declared.format.Format.{Format}
 use Rattle.hh_records.specs.declared.layout.Layout.{Layout}
 use Rattle.hh_faults.specs.declared.records.TextError.{TextError}
 use Rattle.hh_faults.specs.declared.records.TextError.TheVariants as text
@@ -30,37 +32,42 @@ is_outside st.InQuoted = false
 is_outside st.InEscape = false
 is_outside st.InComment = false
 
--- whether a text with this byte between its fields ends outside quotes, so that a line feed after it
--- ends a record or is skipped; where the byte is a line feed itself, it ends a field alone
-abbrev pub ends_outside : ℕ → List ℕ → Bool
-ends_outside d bytes =
-    not (d == line_feed) && is_outside (state_after (delimited d) st.StartRecord (strip_bom bytes))
+-- how csv reads records of this format, with this byte between their fields
+abbrev pub config_by : Format → ℕ → Config
+config_by format delimiter = configured (has_quotes format) (byte_between format delimiter)
+
+-- whether a text that csv reads so ends outside quotes, so that a line feed after it ends a record or is
+-- skipped; where csv cuts fields at line feeds, one ends a field alone
+abbrev pub ends_outside : Config → List ℕ → Bool
+ends_outside config bytes =
+    not (config.delimiter == line_feed)
+    && is_outside (state_after config st.StartRecord (strip_bom bytes))
 
 abbrev pub begins_with_feed : List ℕ → Bool
 begins_with_feed [] = false
 begins_with_feed (c ∷ rest) = c == line_feed
 
--- a text of records may be cut between these two parts
-pub record IsCut (d : ℕ) (a b : List ℕ) : Type 0 where
-  pub outside : ends_outside d a ≡ true
+-- a text of records that csv reads so may be cut between these two parts
+pub record IsCut (config : Config) (a b : List ℕ) : Type 0 where
+  pub outside : ends_outside config a ≡ true
   pub feed : begins_with_feed b ≡ true
 
 -- a text may be cut at this place
-abbrev pub IsCutAt : ℕ → List ℕ → ℕ → Type 0
-IsCutAt d bytes at = IsCut d (take at bytes) (drop at bytes)
+abbrev pub IsCutAt : Config → List ℕ → ℕ → Type 0
+IsCutAt config bytes at = IsCut config (take at bytes) (drop at bytes)
 
 -- n bytes of a part of a text, with commas between its fields, are whole records: the text may be
 -- cut after them and nowhere further on, or they are none
 pub record AreWholeRecords (bytes : List ℕ) (n : ℕ) : Type 0 where
   pub within : n ≤ length bytes
-  pub cut : 0 < n → IsCutAt comma bytes n
-  pub last : (at : ℕ) → n < at → at < length bytes → IsCutAt comma bytes at → ⊥
+  pub cut : 0 < n → IsCutAt (delimited comma) bytes n
+  pub last : (at : ℕ) → n < at → at < length bytes → IsCutAt (delimited comma) bytes at → ⊥
 
 -- a text may be cut between each of these pieces and the next
-abbrev pub AreCut : ℕ → List (List ℕ) → Type 0
-AreCut d [] = ⊤
-AreCut d (a ∷ []) = ⊤
-AreCut d (a ∷ b ∷ rest) = IsCut d a b × AreCut d (b ∷ rest)
+abbrev pub AreCut : Config → List (List ℕ) → Type 0
+AreCut config [] = ⊤
+AreCut config (a ∷ []) = ⊤
+AreCut config (a ∷ b ∷ rest) = IsCut config a b × AreCut config (b ∷ rest)
 
 -- each piece but the first begins with a line feed
 abbrev pub LaterBeginWithFeed : List (List ℕ) → Type 0
@@ -100,7 +107,7 @@ first_piece (p ∷ ps) = p
 
 -- a text is cut into pieces, of which the first chooses the columns
 pub record IsInPieces (layout : Layout) (t : InPieces) : Type 0 where
-  pub cut : AreCut layout.delimiter t.pieces
+  pub cut : AreCut (config_of layout) t.pieces
   pub columns : columns_of layout (rows_in layout (first_piece t.pieces)) ≡ Some t.columns
 
 -- the pieces of a text, each with the columns that it is read by

@@ -64,7 +64,7 @@ fn take_chunk<T: TakeItems>(
         (columns.new, drop count held.now ++ rest))) }
     ensures bounded { IfOk result (λ _. T.weight_taken taker.new ≤ max_total) }
 {
-    let Some(count) = whole_records(held, layout.delimiter) else {
+    let Some(count) = whole_records(held, layout.format, layout.delimiter) else {
         return Ok(0);
     };
     let chunk = &held[..count];
@@ -100,7 +100,7 @@ fn feed_bytes<T: TakeItems>(
         piece_items layout.now (option_map (λ c. c.now) columns.entry, piece.now) ≡ Some xs)) }
     ensures bounded { OnOk result (T.weight_taken taker.new ≤ max_total) }
 {
-    if !ends_outside_quotes(piece, layout.delimiter) {
+    if !ends_outside_quotes(piece, layout.format, layout.delimiter) {
         return Err(PieceFault::Refused);
     }
     match read_piece(alloc, layout, columns, piece, taker) {

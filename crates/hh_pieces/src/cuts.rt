@@ -2,10 +2,11 @@
 
 ghost use Rattle.std.specs.Prelude.{◌≡◌, ◌≤◌, length, take};
 ghost use Rattle.memchr.specs.Find.{IsLast};
-ghost use Rattle.hh_pieces.specs.Pieces.{IsCutAt, ends_outside};
+ghost use Rattle.hh_pieces.specs.Pieces.{IsCutAt, config_by, ends_outside};
 ghost use Rattle.hh_pieces.specs.Quotes as spec;
 ghost use Rattle.hh_pieces.specs.Quotes.{IsFeedAt, NoQuote, place_after};
 
+use hh_records::Format;
 use memchr::{memchr, memrchr};
 
 /// A place in a text, as far as it tells what a quote does there.
@@ -126,29 +127,38 @@ pub(crate) fn mark_len(text: &[u8]) -> usize
     }
 }
 
-/// Whether a text with this byte between its fields ends outside quotes, so that it may be cut
-/// there before a line feed. It may not where the byte is itself a line feed.
-pub fn ends_outside_quotes(text: &[u8], delimiter: u8) -> bool
-    ensures { result ≡ ends_outside delimiter text.now }
+/// Whether a text of records of this `format`, with `delimiter` between two fields, ends outside
+/// quotes, so that it may be cut there before a line feed. It may not where fields are cut at line
+/// feeds. Where the format has no quotes, every text does.
+pub fn ends_outside_quotes(text: &[u8], format: Format, delimiter: u8) -> bool
+    ensures { result ≡ ends_outside (config_by format delimiter) text.now }
 {
-    if delimiter == b'\n' {
+    let between = format.byte_between(delimiter);
+    if between == b'\n' {
         return false;
     }
+    if !format.has_quotes() {
+        return true;
+    }
     let mark = mark_len(text);
-    let (place, _) = scan(&text[mark..], delimiter);
+    let (place, _) = scan(&text[mark..], between);
     is_open(place)
 }
 
 /// How many bytes of a part of a text are whole records: those before the last line feed outside
 /// quotes, where the text may be cut. There is no such place in a part of one record, or in quotes.
-pub fn whole_records(text: &[u8], delimiter: u8) -> Option<usize>
-    ensures { IsLast (IsCutAt delimiter text.now) 0 (length text.now) result }
+pub fn whole_records(text: &[u8], format: Format, delimiter: u8) -> Option<usize>
+    ensures { IsLast (IsCutAt (config_by format delimiter) text.now) 0 (length text.now) result }
 {
-    if delimiter == b'\n' {
+    let between = format.byte_between(delimiter);
+    if between == b'\n' {
         return None;
     }
+    if !format.has_quotes() {
+        return memrchr(b'\n', text);
+    }
     let mark = mark_len(text);
-    let (_, last) = scan(&text[mark..], delimiter);
+    let (_, last) = scan(&text[mark..], between);
     match last {
         Some(at) => Some(mark + at),
         None => None,

@@ -18,8 +18,8 @@ pub fn pieces_are_read()
     ensures { PiecesAreRead }
 {}
 
-/// The records of a text without quotes are its lines, but for blank ones, and their fields are
-/// what stands between separators.
+/// The records of a text without quotes, or of one where a quote is a byte as any other, are its
+/// lines, but for blank ones, and their fields are what stands between separators.
 pub fn unquoted_texts_are_split()
     ensures { UnquotedTextsAreSplit }
 {}

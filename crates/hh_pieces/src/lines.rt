@@ -1,17 +1,16 @@
-//! Records of texts without quotes: each line is one, and its fields are what stands between
-//! separators.
+//! Records of texts without quotes, or where a quote is a byte as any other: each line is one, and
+//! its fields are what stands between separators.
 
 ghost use Rattle.std.specs.Bool.{OnTrue};
-ghost use Rattle.std.specs.Prelude.{◌≡◌, ◌≤◌, IfErr, OnOk, Ok, Some, length, map, option_map};
+ghost use Rattle.std.specs.Prelude.{◌≡◌, ◌≤◌, IfErr, OnOk, Ok, Some, length, map, option_map, true};
 ghost use Rattle.hh_stream.specs.Weights.{max_total};
 ghost use Rattle.hh_stream.specs.Taking.{Takes};
 ghost use Rattle.hh_records.specs.Layouts.{PartsRefused, RowsRefused, adds, items_after};
 ghost use Rattle.hh_pieces.specs.Lines as spec;
-ghost use Rattle.hh_pieces.specs.Lines.{HasNoReturn, IsUnquoted, line_fields, split_rows};
-ghost use Rattle.hh_records.specs.Streams.{parts_of};
+ghost use Rattle.hh_pieces.specs.Lines.{HasNoReturn, IsUnquoted, filled_lines, parts_in_line};
 
 use hh_faults::{BadRecordCause, ReadError};
-use hh_records::{Layout, RecordFault, numbered_fault, take_item};
+use hh_records::{Format, Layout, RecordFault, numbered_fault, take_item};
 use hh_stream::TakeItems;
 use memchr::{memchr, memchr2};
 use std::alloc::Global;
@@ -24,10 +23,17 @@ pub(crate) fn is_separator(byte: u8) -> bool
 }
 
 /// Whether a text has no quote.
-pub(crate) fn is_unquoted(text: &[u8]) -> bool
+fn is_unquoted(text: &[u8]) -> bool
     ensures { OnTrue result (IsUnquoted text.now) }
 {
     memchr(b'"', text).is_none()
+}
+
+/// Whether a text has no quote, where there are quotes at all.
+pub(crate) fn sees_no_quote(text: &[u8], quoting: bool) -> bool
+    ensures { OnTrue result (quoting ≡ true → IsUnquoted text.now) }
+{
+    !quoting || is_unquoted(text)
 }
 
 /// Whether a text has no CR.
@@ -80,11 +86,25 @@ fn line_end(text: &[u8], from: usize, has_no_return: bool) -> usize
     }
 }
 
-/// The key and the weight's field of a line of one or two fields.
-fn line_parts(line: &[u8], delimiter: u8) -> Option<(&[u8], Option<&[u8]>)>
-    ensures { option_map (λ parts. (parts.0.now, option_map (λ field. field.now) parts.1)) result
-        ≡ parts_of (line_fields delimiter line.now) }
+/// The byte at which the lines of a format are cut into fields, where a line is not one field.
+pub(crate) fn separator_of(format: Format, delimiter: u8) -> Option<u8>
+    ensures { result ≡ spec.separator_of format delimiter }
 {
+    match format {
+        Format::Csv | Format::Unquoted | Format::Squeezed => Some(delimiter),
+        Format::Lines => None,
+    }
+}
+
+/// The key and the weight's field of a line that is cut at `separator` into one or two fields, or
+/// is one field itself, where there is no separator.
+fn line_parts(line: &[u8], separator: Option<u8>) -> Option<(&[u8], Option<&[u8]>)>
+    ensures { option_map (λ parts. (parts.0.now, option_map (λ field. field.now) parts.1)) result
+        ≡ parts_in_line separator line.now }
+{
+    let Some(delimiter) = separator else {
+        return Some((line, None));
+    };
     let Some(end) = memchr(delimiter, line) else {
         return Some((line, None));
     };
@@ -100,28 +120,31 @@ fn take_line<T: TakeItems>(
     alloc: Global,
     taker: &mut T,
     line: &[u8],
+    separator: Option<u8>,
     layout: &Layout,
 ) -> Result<(), RecordFault>
     requires bounded { T.weight_taken taker.old ≤ max_total }
     ensures taken { OnOk result
         (Takes T.with_item T.weight_taken taker.old taker.new (λ xs.
         adds layout.now (T.weight_taken taker.old)
-        (parts_of (line_fields layout.now.delimiter line.now)) ≡ Ok xs)) }
+        (parts_in_line separator line.now) ≡ Ok xs)) }
     ensures bounded { OnOk result (T.weight_taken taker.new ≤ max_total) }
     ensures refused { IfErr result (λ fault.
         PartsRefused layout.now (T.weight_taken taker.old)
-        (parts_of (line_fields layout.now.delimiter line.now)) fault) }
+        (parts_in_line separator line.now) fault) }
 {
-    match line_parts(line, layout.delimiter) {
+    match line_parts(line, separator) {
         Some((key, field)) => take_item(alloc, taker, key, field, layout),
         None => Err(RecordFault::Bad(BadRecordCause::FieldCount)),
     }
 }
 
-/// Hands on what each line of a text adds, blank ones aside.
+/// Hands on what each line of a text adds, blank ones aside, where a line is cut into fields at
+/// `separator`.
 pub(crate) fn read_lines<T: TakeItems>(
     alloc: Global,
     text: &[u8],
+    separator: Option<u8>,
     taker: &mut T,
     layout: &Layout,
 ) -> Result<(), ReadError>
@@ -129,11 +152,11 @@ pub(crate) fn read_lines<T: TakeItems>(
     ensures items { OnOk result
         (Takes T.with_item T.weight_taken taker.old taker.new (λ xs.
         items_after layout.now 1 (T.weight_taken taker.old)
-        (map parts_of (split_rows layout.now.delimiter text.now)) ≡ Ok xs)) }
+        (map (parts_in_line separator) (filled_lines text.now)) ≡ Ok xs)) }
     ensures bounded { OnOk result (T.weight_taken taker.new ≤ max_total) }
     ensures refused { IfErr result (λ error.
         RowsRefused layout.now 0 (T.weight_taken taker.old)
-        (Some (map parts_of (split_rows layout.now.delimiter text.now))) error) }
+        (Some (map (parts_in_line separator) (filled_lines text.now))) error) }
 {
     let has_no_return = has_no_return(text);
     let mut from = 0;
@@ -142,7 +165,7 @@ pub(crate) fn read_lines<T: TakeItems>(
         let end = line_end(text, from, has_no_return);
         if from < end {
             number += 1;
-            match take_line(alloc, taker, &text[from..end], layout) {
+            match take_line(alloc, taker, &text[from..end], separator, layout) {
                 Ok(()) => {}
                 Err(fault) => return Err(numbered_fault(number, fault)),
             }

@@ -6,27 +6,30 @@ ghost use Rattle.hh_stream.specs.Weights.{max_total};
 ghost use Rattle.hh_stream.specs.Taking.{Takes};
 ghost use Rattle.hh_records.specs.Layouts.{IsText, OpenRefused, Opens, Places, chosen_places};
 ghost use Rattle.hh_records.specs.Layouts.{names_columns, parts_left, text_parts};
+ghost use Rattle.hh_records.specs.Formats.{byte_between, fields_by};
+ghost use Rattle.hh_records.specs.Layouts.{chosen_columns};
 ghost use Rattle.hh_pieces.specs.Lines as spec;
-ghost use Rattle.hh_pieces.specs.Lines.{split_rows};
+ghost use Rattle.hh_pieces.specs.Lines.{filled_lines, parts_in_line};
 ghost use Rattle.hh_pieces.specs.Pieces.{PieceRefused, piece_parts, piece_reading};
 ghost use Rattle.hh_records.specs.Layouts.{FindsColumns, rows_in};
 ghost use Rattle.hh_records.specs.Streams.{parts_of};
 
 use crate::cuts::mark_len;
-use crate::lines::{is_separator, is_unquoted, read_lines};
+use crate::lines::{is_separator, read_lines, sees_no_quote, separator_of};
 use csv::ReaderBuilder;
 use hh_faults::TextError;
 use hh_records::retrying::Retrying;
-use hh_records::{ColumnIndices, Layout, Text, open, read_rows};
+use hh_records::{ChosenLayout, ColumnIndices, Format, Layout, Text, open, read_rows};
 use hh_stream::TakeItems;
 use std::alloc::{AllocError, Global};
 use std::io::Read;
 use std::marker::Model;
 
-/// The columns that a layout chooses in a text, by its header where it has one.
+/// How the records of a text are read by a layout: by the columns that it chooses in the text, by
+/// its header where it has one.
 #[derive(Drop)]
 pub struct Columns {
-    chosen: Option<ColumnIndices>,
+    chosen: ChosenLayout,
 }
 
 impl Model for Columns {
@@ -85,19 +88,30 @@ impl Columns {
 }
 
 /// Copies the indices of columns, if any.
-fn copy_of(
+fn copy_indices(
     alloc: Global,
-    chosen: &Option<ColumnIndices>,
+    columns: &Option<ColumnIndices>,
 ) -> Result<Option<ColumnIndices>, AllocError>
-    ensures { IfOk result (λ copy. chosen_places copy ≡ chosen_places chosen.now) }
+    ensures { IfOk result (λ copy. chosen_columns copy ≡ chosen_columns columns.now) }
 {
-    match chosen {
+    match columns {
         None => Ok(None),
-        Some(chosen) => Ok(Some(ColumnIndices {
-            key: Vec::from_slice(alloc, chosen.key.as_slice())?,
-            weight: chosen.weight,
+        Some(columns) => Ok(Some(ColumnIndices {
+            key: Vec::from_slice(alloc, columns.key.as_slice())?,
+            weight: columns.weight,
         })),
     }
+}
+
+/// Copies how the records of a text are read.
+fn copy_of(alloc: Global, chosen: &ChosenLayout) -> Result<ChosenLayout, AllocError>
+    ensures { IfOk result (λ copy. chosen_places copy ≡ chosen_places chosen.now) }
+{
+    Ok(ChosenLayout {
+        format: chosen.format,
+        columns: copy_indices(alloc, &chosen.columns)?,
+        part: chosen.part.copy(alloc)?,
+    })
 }
 
 /// A later piece of a text, whose records are to be read by the columns of the text.
@@ -113,7 +127,8 @@ fn open_later<R: Read + Drop>(
 {
     let chosen = copy_of(alloc, &columns.chosen)?;
     let rows = ReaderBuilder::new()
-        .delimiter(layout.delimiter)
+        .delimiter(layout.format.byte_between(layout.delimiter))
+        .quoting(layout.format.has_quotes())
         .has_headers(false)
         .flexible(true)
         .from_reader(alloc, Retrying::new(piece));
@@ -144,29 +159,55 @@ fn open_piece<R: Read + Drop>(
     }
 }
 
-/// Whether a piece of a text is read by keys and weights, with a byte between them that may
-/// separate fields without quotes.
-fn has_plain_records(layout: &Layout, columns: Option<&Columns>) -> bool
-    ensures separated { OnTrue result (spec.is_separator layout.now.delimiter ≡ true) }
-    ensures parts { (bytes : List ℕ) → OnTrue result (
+/// Whether the records of a piece of a text are keys and weights, or keys alone.
+fn names_no_columns(layout: &Layout, columns: Option<&Columns>) -> bool
+    ensures { (bytes : List ℕ) → OnTrue result (
         piece_parts layout.now (option_map (λ c. c.now) columns.entry) bytes
-        ≡ Some (map parts_of (rows_in layout.now bytes))) }
+        ≡ Some (map (λ r. parts_of (fields_by layout.now.format r)) (rows_in layout.now bytes))) }
 {
-    let plain = match columns {
-        Some(columns) => columns.chosen.is_none(),
-        None => !layout.has_header && layout.key.is_empty() && layout.weight.is_none(),
-    };
-    plain && is_separator(layout.delimiter)
+    match columns {
+        Some(columns) => {
+            columns.chosen.columns.is_none() && columns.chosen.format == layout.format
+        }
+        None => {
+            !layout.has_header
+                && layout.key.is_empty()
+                && layout.weight.is_none()
+                && layout.part.is_whole()
+        }
+    }
+}
+
+/// Whether `csv` cuts a text of this layout, but for its quotes, into lines, and these at each
+/// delimiter or not at all.
+fn has_plain_lines(layout: &Layout) -> bool
+    ensures separated { OnTrue result
+        (spec.is_separator (byte_between layout.now.format layout.now.delimiter) ≡ true) }
+    ensures parts { OnTrue result ((lines : List (List ℕ)) →
+        map (λ r. parts_of (fields_by layout.now.format r))
+        (map (spec.line_fields (byte_between layout.now.format layout.now.delimiter)) lines)
+        ≡ map (parts_in_line (spec.separator_of layout.now.format layout.now.delimiter)) lines) }
+{
+    match layout.format {
+        Format::Csv | Format::Unquoted => is_separator(layout.delimiter),
+        Format::Squeezed => false,
+        Format::Lines => true,
+    }
 }
 
 /// What stands after a byte order mark, where a piece of a text can be read line by line.
 fn plain_text<'t>(layout: &Layout, columns: Option<&Columns>, piece: &'t [u8]) -> Option<&'t [u8]>
     ensures { IfSome result (λ text.
         piece_parts layout.now (option_map (λ c. c.now) columns.entry) piece.now
-        ≡ Some (map parts_of (split_rows layout.now.delimiter text.now))) }
+        ≡ Some (map (parts_in_line (spec.separator_of layout.now.format layout.now.delimiter))
+        (filled_lines text.now))) }
 {
     let text = &piece[mark_len(piece)..];
-    if has_plain_records(layout, columns) && is_unquoted(text) {
+    let quoting = layout.format.has_quotes();
+    if names_no_columns(layout, columns)
+        && has_plain_lines(layout)
+        && sees_no_quote(text, quoting)
+    {
         Some(text)
     } else {
         None
@@ -198,7 +239,8 @@ pub fn read_piece<T: TakeItems>(
     // What was taken before is in range, as this call's clause says.
     let _ = taker.total();
     if let Some(text) = plain_text(layout, columns, piece) {
-        return match read_lines(alloc, text, taker, layout) {
+        let separator = separator_of(layout.format, layout.delimiter);
+        return match read_lines(alloc, text, separator, taker, layout) {
             Ok(()) => Ok(()),
             Err(error) => Err(TextError::from(error)),
         };

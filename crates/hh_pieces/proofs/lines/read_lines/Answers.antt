@@ -20,7 +20,7 @@ loop-from-init g c = (
     omega arith,
     All-from_recursion Weighs [] tt,
     refl,
-    lines-none c.args.layout.now c.args.layout.now.delimiter (g.T.TakeItems.weight_taken c.args.taker.now) c.args.text.now,
+    lines-none c.args.layout.now c.args.separator (g.T.TakeItems.weight_taken c.args.taker.now) c.args.text.now,
   ),
 )
 
@@ -29,7 +29,7 @@ returns-in-Err-clause-refused g c =
     let (xs, total, weigh, made, so_far) = c.loop-from.invariant.2 in
     let line = c.line_end-end.ensures in
     rw c.numbered_fault.ensures
-    (lines-refused c.args.layout.now c.args.layout.now.delimiter (g.T.TakeItems.weight_taken c.args.taker.now) c.args.text.now
+    (lines-refused c.args.layout.now c.args.separator (g.T.TakeItems.weight_taken c.args.taker.now) c.args.text.now
     c.loop-from.from c.line_end-end.result xs c.loop-from.number line.after line.within line.end so_far c.if-from-end.true
     c.in-Err.fault (rw (← total) c.in-Err.ensures.refused))
 
@@ -49,7 +49,7 @@ loop-from-preserved g c =
               All-append Weighs xs t.xs weigh t.positive,
               t.taken ∙ ap (λ taker. fold g.T.TakeItems.with_item taker t.xs) made
                   ∙ sym (fold-append g.T.TakeItems.with_item c.args.taker.now xs t.xs),
-              lines-more c.args.layout.now c.args.layout.now.delimiter (g.T.TakeItems.weight_taken c.args.taker.now) c.args.text.now
+              lines-more c.args.layout.now c.args.separator (g.T.TakeItems.weight_taken c.args.taker.now) c.args.text.now
                   c.loop-from.from c.line_end-end.result xs c.loop-from.number line.after line.within line.end so_far w.if-from-end.true t.xs
                   (rw (← total) t.given),
             ),
@@ -63,7 +63,7 @@ loop-from-preserved g c =
               total,
               weigh,
               made,
-              lines-blank c.args.layout.now c.args.layout.now.delimiter (g.T.TakeItems.weight_taken c.args.taker.now) c.args.text.now
+              lines-blank c.args.layout.now c.args.separator (g.T.TakeItems.weight_taken c.args.taker.now) c.args.text.now
                   c.loop-from.from c.line_end-end.result xs c.loop-from.number line.after line.within line.end so_far
                   (omega (arith, w.if-from-end.false)),
             ),
