@@ -1,6 +1,7 @@
 -- The records of a text without quotes, or where a quote is a byte as any other, line by line.
-use Rattle.std.proofs.Common.{◌≡◌, ◌⊎◌, ◌∷◌, ◌++◌, ◌∙◌, inl, inr, ℕ, List, [], get_or, map, Bool, true, false, Some, None, refl, sym, ap, append-nil, append_assoc}
-use Rattle.std.specs.Prelude.{◌==◌, ◌&&◌, not, if◌then◌else◌}
+use Rattle.std.proofs.Common.{◌≡◌, ◌⊎◌, ◌∷◌, ◌++◌, ◌∙◌, inl, inr, ℕ, List, [], get_or, map, Bool, true, false, Option, Some, None, refl, sym, ap, append-nil, append_assoc}
+use Rattle.std.specs.Prelude.{⊤, ◌==◌, ◌&&◌, not, option_map, if◌then◌else◌}
+use Rattle.std.specs.Bool.{OnTrue}
 use Rattle.std.specs.List.{AllByRecursion, join_with_byte, onto_first, slice_split}
 use Rattle.std.proofs.lemmas.List.Splits.{join_with_byte-slice_split}
 use Rattle.std.proofs.lemmas.Simd.{map-map}
@@ -9,8 +10,11 @@ use Rattle.csv.specs.Machine.{step, after_end}
 use Rattle.csv.specs.declared.parser.Config.{Config}
 use Rattle.csv.specs.declared.parser.State.{State}
 use Rattle.csv.specs.declared.parser.State.TheVariants as st
-use Rattle.hh_records.specs.Formats.{byte_between, fields_by}
-use Rattle.hh_records.specs.Layouts.{configured}
+use Rattle.hh_records.specs.Formats.{Names, byte_between, fields_by, is_whole_field, part_said}
+use Rattle.hh_records.specs.Layouts.{Places, by_columns, columns_among, configured, field_names, headed_parts, member_names, names_columns, parts_at, parts_by, places_in, rows_in}
+use Rattle.hh_records.specs.declared.layout.Layout.{Layout}
+use Rattle.hh_records.proofs.FormatFacts.{whole-parts}
+use Rattle.hh_pieces.specs.Pieces.{piece_parts}
 use Rattle.hh_records.specs.declared.format.Format.{Format}
 use Rattle.hh_records.specs.declared.format.Format.TheVariants as format
 use Rattle.hh_pieces.specs.Laws.{UnquotedTextsAreSplit}
@@ -184,25 +188,67 @@ unquoted-split quoting d text separator plain =
     runs-all (configured quoting d) text
     ∙ (unquoted-rows quoting d (separator-ends-none d separator) text (sees-no-quote quoting text plain)).1.start
 
--- the one field of a line that was cut into these at 0 bytes
-one-field : (fields : Fields) → fields_by format.Lines fields ≡ join_with_byte 0 fields ∷ []
-one-field [] = refl
-one-field (x ∷ []) = ap (λ (l : List ℕ). l ∷ []) (append-nil x)
-one-field (x ∷ y ∷ rest) = ap (λ (fs : Fields). (x ++ 0 ∷ get_or fs 0 []) ∷ []) (one-field (y ∷ rest))
+-- the parts of a record that is read without columns
+module _ (names : Names) where
+  -- the one field of a line that was cut into these at 0 bytes
+  one-field : (fields : Fields) → fields_by format.Lines names fields ≡ join_with_byte 0 fields ∷ []
+  one-field [] = refl
+  one-field (x ∷ []) = ap (λ (l : List ℕ). l ∷ []) (append-nil x)
+  one-field (x ∷ y ∷ rest) = ap (λ (fs : Fields). (x ++ 0 ∷ get_or fs 0 []) ∷ []) (one-field (y ∷ rest))
 
--- the keys and the weights' fields of lines, where each is one field
-pub lines-joined : (lines : List (List ℕ))
-    → map (λ r. parts_of (fields_by format.Lines r)) (map (line_fields 0) lines) ≡ map (parts_in_line None) lines
-lines-joined [] = refl
-lines-joined (line ∷ lines) =
-    let all : fields_by format.Lines (line_fields 0 line) ≡ line ∷ [] =
-    one-field (line_fields 0 line) ∙ ap (λ (l : List ℕ). l ∷ []) (join_with_byte-slice_split 0 line) in
-    ap (λ (r : Fields). parts_of r ∷ map (λ r. parts_of (fields_by format.Lines r)) (map (line_fields 0) lines)) all
-    ∙ ap (λ (ps : List Parts). Some (line, None) ∷ ps) (lines-joined lines)
+  -- the keys and the weights' fields of lines, where each is one field
+  pub lines-joined : (lines : List (List ℕ))
+      → map (λ r. parts_of (fields_by format.Lines names r)) (map (line_fields 0) lines) ≡ map (parts_in_line None) lines
+  lines-joined [] = refl
+  lines-joined (line ∷ lines) =
+      let all : fields_by format.Lines names (line_fields 0 line) ≡ line ∷ [] =
+      one-field (line_fields 0 line) ∙ ap (λ (l : List ℕ). l ∷ []) (join_with_byte-slice_split 0 line) in
+      ap (λ (r : Fields). parts_of r ∷ map (λ r. parts_of (fields_by format.Lines names r)) (map (line_fields 0) lines)) all
+      ∙ ap (λ (ps : List Parts). Some (line, None) ∷ ps) (lines-joined lines)
 
--- and where a line is cut at each delimiter
-pub lines-cut : (f : Format) (d : ℕ) → (f ≡ format.Csv) ⊎ (f ≡ format.Unquoted) → (lines : List (List ℕ))
-    → map (λ r. parts_of (fields_by f r)) (map (line_fields (byte_between f d)) lines)
-    ≡ map (parts_in_line (separator_of f d)) lines
-lines-cut f d (inl csv) lines = rw csv (map-map parts_of (line_fields d) lines)
-lines-cut f d (inr unquoted) lines = rw unquoted (map-map parts_of (line_fields d) lines)
+  -- and where a line is cut at each delimiter
+  pub lines-cut : (f : Format) (d : ℕ) → (f ≡ format.Csv) ⊎ (f ≡ format.Unquoted) → (lines : List (List ℕ))
+      → map (λ r. parts_of (fields_by f names r)) (map (line_fields (byte_between f d)) lines)
+      ≡ map (parts_in_line (separator_of f d)) lines
+  lines-cut f d (inl csv) lines = rw csv (map-map parts_of (line_fields d) lines)
+  lines-cut f d (inr unquoted) lines = rw unquoted (map-map parts_of (line_fields d) lines)
+
+-- ---- records that are read without columns
+-- the records of a piece are the keys and the weights of its fields, by some names of members
+abbrev ReadsPairs : Layout → Option Places → List ℕ → Type 0
+ReadsPairs layout columns bytes = (names : Names)
+    × (piece_parts layout columns bytes ≡ Some (map (λ r. parts_of (fields_by layout.format names r)) (rows_in layout bytes)))
+
+-- the parts of records that are read so
+pairs-of : (at : Places) (rows : List Fields) → at.columns ≡ None → is_whole_field at.part ≡ true
+    → map (parts_at at) rows ≡ map (λ r. parts_of (fields_by at.format at.names r)) rows
+pairs-of at [] none whole = refl
+pairs-of at (r ∷ rows) none whole =
+    let one : parts_at at r ≡ parts_of (fields_by at.format at.names r) =
+    ap (λ columns. parts_by columns at.part (fields_by at.format at.names r)) none
+    ∙ whole-parts at.part (fields_by at.format at.names r) whole in
+    ap (λ (p : Parts). p ∷ map (parts_at at) rows) one
+    ∙ ap (λ (ps : List Parts). parts_of (fields_by at.format at.names r) ∷ ps) (pairs-of at rows none whole)
+
+-- those of a later piece
+pub piece-pairs : (b : Bool) (layout : Layout) (at : Places) (bytes : List ℕ)
+    → OnTrue b ((at.columns ≡ None) × (is_whole_field at.part ≡ true) × (at.format ≡ layout.format))
+    → OnTrue b (ReadsPairs layout (Some at) bytes)
+piece-pairs false layout at bytes h = tt
+piece-pairs true layout at bytes h =
+    (at.names, ap Some (pairs-of at (rows_in layout bytes) h.0 h.1)
+    ∙ ap (λ f. Some (map (λ r. parts_of (fields_by f at.names r)) (rows_in layout bytes))) h.2)
+
+-- and those of a text without a header
+pub text-pairs : (b : Bool) (layout : Layout) (bytes : List ℕ)
+    → OnTrue b ((layout.has_header ≡ false) × (names_columns layout ≡ false)
+    × (is_whole_field (part_said layout.part) ≡ true))
+    → OnTrue b (ReadsPairs layout None bytes)
+text-pairs false layout bytes h = tt
+text-pairs true layout bytes h =
+    let rows = rows_in layout bytes in
+    let columns : columns_among layout (field_names layout []) ≡ Some None = rw h.1 refl in
+    (member_names layout,
+    ap (λ b. if b then headed_parts layout rows else option_map (λ at. map (parts_at at) rows) (places_in layout [])) h.0
+    ∙ ap (λ o. option_map (λ at. map (parts_at at) rows) (option_map (by_columns layout) o)) columns
+    ∙ ap Some (pairs-of (by_columns layout None) rows refl h.2))

@@ -39,6 +39,7 @@ separator_of format.Csv delimiter = Some delimiter
 separator_of format.Unquoted delimiter = Some delimiter
 separator_of format.Squeezed delimiter = Some delimiter
 separator_of format.Lines delimiter = None
+separator_of format.Json delimiter = None
 
 -- the key and the weight's field of a line that is cut at this byte, or is one field
 abbrev pub parts_in_line : Option ℕ → List ℕ → Parts

@@ -92,7 +92,7 @@ pub(crate) fn separator_of(format: Format, delimiter: u8) -> Option<u8>
 {
     match format {
         Format::Csv | Format::Unquoted | Format::Squeezed => Some(delimiter),
-        Format::Lines => None,
+        Format::Lines | Format::Json => None,
     }
 }
 

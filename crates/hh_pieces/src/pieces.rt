@@ -1,12 +1,12 @@
 //! Pieces of a text of records, each of which is read by itself.
 
 ghost use Rattle.std.specs.Bool.{OnTrue};
-ghost use Rattle.std.specs.Prelude.{◌≡◌, ◌≤◌, ℕ, List, Ok, Some, true, map, IfOk, IfErr, IfSome, OnOk, option_and_then, option_map};
+ghost use Rattle.std.specs.Prelude.{◌≡◌, ◌≤◌, ℕ, List, None, Ok, Some, false, true, map, IfOk, IfErr, IfSome, OnOk, option_and_then, option_map};
 ghost use Rattle.hh_stream.specs.Weights.{max_total};
 ghost use Rattle.hh_stream.specs.Taking.{Takes};
 ghost use Rattle.hh_records.specs.Layouts.{IsText, OpenRefused, Opens, Places, chosen_places};
 ghost use Rattle.hh_records.specs.Layouts.{names_columns, parts_left, text_parts};
-ghost use Rattle.hh_records.specs.Formats.{byte_between, fields_by};
+ghost use Rattle.hh_records.specs.Formats.{Names, byte_between, fields_by, is_whole_field, part_said};
 ghost use Rattle.hh_records.specs.Layouts.{chosen_columns};
 ghost use Rattle.hh_pieces.specs.Lines as spec;
 ghost use Rattle.hh_pieces.specs.Lines.{filled_lines, parts_in_line};
@@ -19,7 +19,7 @@ use crate::lines::{is_separator, read_lines, sees_no_quote, separator_of};
 use csv::ReaderBuilder;
 use hh_faults::TextError;
 use hh_records::retrying::Retrying;
-use hh_records::{ChosenLayout, ColumnIndices, Format, Layout, Text, open, read_rows};
+use hh_records::{ChosenLayout, Format, Layout, Text, open, read_rows};
 use hh_stream::TakeItems;
 use std::alloc::{AllocError, Global};
 use std::io::Read;
@@ -45,7 +45,7 @@ impl Columns {
     pub(crate) fn copy(&self, alloc: Global) -> Result<Columns, AllocError>
         ensures { IfOk result (λ copy. copy ≡ self.now) }
     {
-        let chosen = copy_of(alloc, &self.chosen)?;
+        let chosen = self.chosen.copy(alloc)?;
         Ok(Columns { chosen })
     }
 
@@ -87,33 +87,6 @@ impl Columns {
     }
 }
 
-/// Copies the indices of columns, if any.
-fn copy_indices(
-    alloc: Global,
-    columns: &Option<ColumnIndices>,
-) -> Result<Option<ColumnIndices>, AllocError>
-    ensures { IfOk result (λ copy. chosen_columns copy ≡ chosen_columns columns.now) }
-{
-    match columns {
-        None => Ok(None),
-        Some(columns) => Ok(Some(ColumnIndices {
-            key: Vec::from_slice(alloc, columns.key.as_slice())?,
-            weight: columns.weight,
-        })),
-    }
-}
-
-/// Copies how the records of a text are read.
-fn copy_of(alloc: Global, chosen: &ChosenLayout) -> Result<ChosenLayout, AllocError>
-    ensures { IfOk result (λ copy. chosen_places copy ≡ chosen_places chosen.now) }
-{
-    Ok(ChosenLayout {
-        format: chosen.format,
-        columns: copy_indices(alloc, &chosen.columns)?,
-        part: chosen.part.copy(alloc)?,
-    })
-}
-
 /// A later piece of a text, whose records are to be read by the columns of the text.
 fn open_later<R: Read + Drop>(
     alloc: Global,
@@ -125,7 +98,7 @@ fn open_later<R: Read + Drop>(
     ensures opened { IfOk result (λ text. parts_left R.remaining text
         ≡ option_and_then (piece_parts layout.now (Some columns.now)) (R.remaining piece)) }
 {
-    let chosen = copy_of(alloc, &columns.chosen)?;
+    let chosen = columns.chosen.copy(alloc)?;
     let rows = ReaderBuilder::new()
         .delimiter(layout.format.byte_between(layout.delimiter))
         .quoting(layout.format.has_quotes())
@@ -159,22 +132,40 @@ fn open_piece<R: Read + Drop>(
     }
 }
 
+/// Whether records in this `format` that `chosen` reads are keys and weights, or keys alone.
+fn chooses_no_columns(chosen: &ChosenLayout, format: Format) -> bool
+    ensures { OnTrue result ((chosen_columns chosen.now.columns ≡ None)
+        × (is_whole_field (part_said chosen.now.part) ≡ true) × (chosen.now.format ≡ format)) }
+{
+    if chosen.columns.is_some() || chosen.format != format {
+        return false;
+    }
+    chosen.part.is_whole()
+}
+
+/// Whether the records of a text that `layout` reads, from the first one on, are keys and weights,
+/// or keys alone.
+fn names_no_columns(layout: &Layout) -> bool
+    ensures { OnTrue result ((layout.now.has_header ≡ false)
+        × (names_columns layout.now ≡ false)
+        × (is_whole_field (part_said layout.now.part) ≡ true)) }
+{
+    if layout.has_header || !layout.key.is_empty() || layout.weight.is_some() {
+        return false;
+    }
+    layout.part.is_whole()
+}
+
 /// Whether the records of a piece of a text are keys and weights, or keys alone.
-fn names_no_columns(layout: &Layout, columns: Option<&Columns>) -> bool
-    ensures { (bytes : List ℕ) → OnTrue result (
-        piece_parts layout.now (option_map (λ c. c.now) columns.entry) bytes
-        ≡ Some (map (λ r. parts_of (fields_by layout.now.format r)) (rows_in layout.now bytes))) }
+fn has_pairs(layout: &Layout, columns: Option<&Columns>) -> bool
+    ensures { (bytes : List ℕ) → OnTrue result ((names : Names)
+        × (piece_parts layout.now (option_map (λ c. c.now) columns.entry) bytes
+        ≡ Some (map (λ r. parts_of (fields_by layout.now.format names r))
+        (rows_in layout.now bytes)))) }
 {
     match columns {
-        Some(columns) => {
-            columns.chosen.columns.is_none() && columns.chosen.format == layout.format
-        }
-        None => {
-            !layout.has_header
-                && layout.key.is_empty()
-                && layout.weight.is_none()
-                && layout.part.is_whole()
-        }
+        Some(columns) => chooses_no_columns(&columns.chosen, layout.format),
+        None => names_no_columns(layout),
     }
 }
 
@@ -183,14 +174,14 @@ fn names_no_columns(layout: &Layout, columns: Option<&Columns>) -> bool
 fn has_plain_lines(layout: &Layout) -> bool
     ensures separated { OnTrue result
         (spec.is_separator (byte_between layout.now.format layout.now.delimiter) ≡ true) }
-    ensures parts { OnTrue result ((lines : List (List ℕ)) →
-        map (λ r. parts_of (fields_by layout.now.format r))
+    ensures parts { OnTrue result ((names : Names) (lines : List (List ℕ)) →
+        map (λ r. parts_of (fields_by layout.now.format names r))
         (map (spec.line_fields (byte_between layout.now.format layout.now.delimiter)) lines)
         ≡ map (parts_in_line (spec.separator_of layout.now.format layout.now.delimiter)) lines) }
 {
     match layout.format {
         Format::Csv | Format::Unquoted => is_separator(layout.delimiter),
-        Format::Squeezed => false,
+        Format::Squeezed | Format::Json => false,
         Format::Lines => true,
     }
 }
@@ -204,7 +195,7 @@ fn plain_text<'t>(layout: &Layout, columns: Option<&Columns>, piece: &'t [u8]) -
 {
     let text = &piece[mark_len(piece)..];
     let quoting = layout.format.has_quotes();
-    if names_no_columns(layout, columns)
+    if has_pairs(layout, columns)
         && has_plain_lines(layout)
         && sees_no_quote(text, quoting)
     {

@@ -15,12 +15,13 @@ returns-then-sees_no_quote c =
     let layout = c.args.layout.now in
     let q = has_quotes layout.format in
     let d = byte_between layout.format layout.delimiter in
-    let parts : Fields → Parts = λ r. parts_of (fields_by layout.format r) in
+    let (names, read) = c.if-has_pairs.ensures piece in
+    let parts : Fields → Parts = λ r. parts_of (fields_by layout.format names r) in
     let all = rest-all piece c.mark_len.result in
     let behind = strip-drop piece ∙ ap (λ n. drop n piece) (sym c.mark_len.ensures) ∙ sym all in
     let lines = c.if-has_plain_lines.ensures in
     let no_quote = rw c.has_quotes-quoting.ensures at c.if-sees_no_quote.ensures in
-    c.if-names_no_columns.ensures piece
+    read
     ∙ ap (λ text. Some (map parts (records (configured q d) text))) behind
     ∙ ap (λ rows. Some (map parts rows)) (unquoted-split q d _ lines.separated no_quote)
-    ∙ ap Some (lines.parts _)
+    ∙ ap Some (lines.parts names _)
