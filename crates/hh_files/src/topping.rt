@@ -1,14 +1,20 @@
 //! The greatest keys of files, which workers read in pieces, twice.
 
 ghost use Rattle.std.specs.Prelude.{◌≡◌, All, true, IfOk, IfErr, OnOk};
+ghost use Rattle.std.specs.Map.{keys_of};
 ghost use Rattle.hh_stream.specs.Ranges.{in_range};
+ghost use Rattle.hh_summaries.specs.Counters.{max_k};
+ghost use Rattle.hh_top.specs.Top.{exceeding, floor_of};
 ghost use Rattle.hh_workers.specs.Workers.{max_workers};
 ghost use Rattle.hh_records.specs.Layouts.{texts_known};
+ghost use Rattle.hh_records.specs.Refusals.{RecordsRefused};
+ghost use Rattle.hh_commands.specs.Records.{CountsRecords};
+ghost use Rattle.hh_files.specs.SummaryFiles.{SummarisesRecords};
 ghost use Rattle.hh_files.specs.TopFiles.{FindsTop, PrintsTop, TopFilesRefused, TopRefused};
 
 use crate::file_passes::count_sources;
 use crate::summarising::summary_of_sources;
-use hh_counters::{Heavy, MAX_K};
+use hh_counters::{Counts, Heavy, MAX_K, Summary};
 use hh_faults::ToolError;
 use hh_pieces::{ReadAt, SourceRecords};
 use hh_pool::MAX_WORKERS;
@@ -19,8 +25,37 @@ use std::alloc::Global;
 use std::sync::Wait;
 use std::thread::Threads;
 
-/// Finds the total of `records` and their `n` greatest keys, with the most counters that a summary
-/// can have. If two readings have different totals, the error is [`ToolError::ReadFault`].
+/// The summary of `records` with the most counters that one can have, and the counts of those of
+/// its keys that can be among the `n` greatest. If two readings have different totals, the error is
+/// [`ToolError::ReadFault`].
+fn chosen_counts<T: Threads + Wait + Sync, S: ReadAt + Sync>(
+    rt: &T,
+    alloc: Global,
+    n: u64,
+    workers: u64,
+    records: SourceRecords<'_, S>,
+) -> Result<(Summary, Counts), ToolError>
+    requires workers { in_range workers max_workers ≡ true }
+    ensures summary { IfOk result (λ chosen. SummarisesRecords max_k
+        (texts_known S.bytes records.entry.layout.now records.entry.sources.now) chosen.0) }
+    ensures counts { IfOk result (λ chosen. CountsRecords
+        (texts_known S.bytes records.entry.layout.now records.entry.sources.now)
+        (keys_of (exceeding (floor_of n chosen.0) chosen.0).counters) chosen.1) }
+    ensures still { OnOk result (All S.still records.entry.sources.now) }
+    ensures refused { IfErr result (RecordsRefused
+        (texts_known S.bytes records.entry.layout.now records.entry.sources.now)) }
+{
+    let summary = summary_of_sources(rt, alloc, MAX_K, workers, records)?;
+    let floor = floor_of(alloc, &summary, n)?;
+    let chosen = exceeding(alloc, &summary, floor)?;
+    let counts = count_sources(rt, alloc, &chosen, workers, records)?;
+    if counts.total() != summary.total() {
+        return Err(ToolError::ReadFault);
+    }
+    Ok((summary, counts))
+}
+
+/// Finds the total of `records` and their `n` greatest keys.
 fn top_of_sources<T: Threads + Wait + Sync, S: ReadAt + Sync>(
     rt: &T,
     alloc: Global,
@@ -36,15 +71,14 @@ fn top_of_sources<T: Threads + Wait + Sync, S: ReadAt + Sync>(
     ensures refused { IfErr result (TopRefused n
         (texts_known S.bytes records.entry.layout.now records.entry.sources.now)) }
 {
-    let summary = summary_of_sources(rt, alloc, MAX_K, workers, records)?;
-    let floor = floor_of(alloc, &summary, n)?;
-    let chosen = exceeding(alloc, &summary, floor)?;
-    let counts = count_sources(rt, alloc, &chosen, workers, records)?;
-    if counts.total() != summary.total() {
-        return Err(ToolError::ReadFault);
+    let (summary, counts) = match chosen_counts(rt, alloc, n, workers, records) {
+        Ok(chosen) => chosen,
+        Err(fault) => return Err(fault),
+    };
+    match greatest(alloc, &summary, &counts, n) {
+        Ok(keys) => Ok((summary.total(), keys)),
+        Err(fault) => Err(fault),
     }
-    let keys = greatest(alloc, &summary, &counts, n)?;
-    Ok((summary.total(), keys))
 }
 
 /// The `n` greatest keys of files of any size, or of other bytes that are read at any place, with
@@ -80,6 +114,8 @@ pub fn top_files<T: Threads + Wait + Sync, S: ReadAt + Sync>(
     if !in_range(workers, MAX_WORKERS) {
         return Err(ToolError::BadWorkers);
     }
-    let (total, keys) = top_of_sources(rt, alloc, n, workers, records)?;
-    Ok(printed_text(alloc, total, rows, &keys)?)
+    match top_of_sources(rt, alloc, n, workers, records) {
+        Ok((total, keys)) => Ok(printed_text(alloc, total, rows, &keys)?),
+        Err(fault) => Err(fault),
+    }
 }

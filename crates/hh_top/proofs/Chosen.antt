@@ -1,5 +1,5 @@
 -- What the keys that can exceed a floor tell, once they were counted.
-use Rattle.std.proofs.Common.{◌≡◌, ℕ, suc, ◌+◌, ◌-◌, ◌*◌, ◌<◌, ◌≤◌, ⊎_elim, ◌⊎◌, inl, inr, Bool, true, false, cond, List, [], ◌∷◌, length, max, refl, sym, ap, ◌∙◌, subst, arith, map, filter, fold, nat_lt, take, zip, Less, Contains, IsPermutation, IsSortedBy}
+use Rattle.std.proofs.Common.{◌≡◌, ℕ, suc, ◌+◌, ◌-◌, ◌*◌, ◌<◌, ◌≤◌, ⊎_elim, ◌⊎◌, Bool, true, cond, List, [], ◌∷◌, length, refl, sym, ap, ◌∙◌, subst, arith, filter, fold, nat_lt, take, zip, Less, Contains, IsPermutation, IsSortedBy}
 use Rattle.std.specs.List.{AllByRecursion}
 use Rattle.std.specs.List.Sorted.{IsStrictlySortedBy}
 use Rattle.std.specs.Map.{keys_of}
@@ -10,7 +10,7 @@ use Rattle.std.proofs.lemmas.Bool.Decides.{nat_tests}
 use Rattle.std.proofs.lemmas.List.Sums.{count_by-le-length, length-filter}
 use Rattle.std.proofs.lemmas.List.Elements.{All-contains, All-contains_itself, All-map, All-weaker}
 use Rattle.hh_stream.specs.Weights.{Bytes, Entry, key_cmp, total_of, weight_of}
-use Rattle.hh_summaries.specs.Counters.{Counters, Fits, IsCounters, IsHonest, IsLevel, SummaryView, exceeds, level, over, slack, tally}
+use Rattle.hh_summaries.specs.Counters.{Counters, Fits, IsCounters, IsHonest, SummaryView, exceeds, level, over, slack, tally}
 use Rattle.hh_summaries.specs.Report.{by_rank, rank_cmp, ranked_in, weights_at}
 use Rattle.hh_summaries.proofs.Level.{is_level, over-cons}
 use Rattle.hh_summaries.proofs.Weights.{in_from_number, number_from_in, rising-tally, total_of-cons, weight_of-tally}

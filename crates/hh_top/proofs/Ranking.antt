@@ -1,18 +1,18 @@
 -- The first of ranked entries.
-use Rattle.std.proofs.Common.{◌≡◌, ℕ, zero, suc, ◌+◌, ◌*◌, ◌<◌, ◌≤◌, ⊎_elim, ◌⊎◌, inl, inr, Bool, true, false, cond, List, [], ◌∷◌, length, get_or, Ordering, Less, Equal, Greater, is_lt, nat_cmp, refl, sym, ap, ◌∙◌, subst, take, arith, filter, fold, nat_lt, mul-zero, mul-le-mul_left, Contains, ◌↔◌}
+use Rattle.std.proofs.Common.{◌≡◌, ℕ, zero, suc, ◌*◌, ◌<◌, ◌≤◌, ⊎_elim, ◌⊎◌, inl, inr, Bool, true, false, List, [], ◌∷◌, length, get_or, Ordering, Less, Equal, Greater, is_lt, refl, sym, ap, ◌∙◌, subst, take, arith, filter, nat_lt, mul-zero, mul-le-mul_left, Contains, ◌↔◌}
 use Rattle.std.proofs.Math.Nat.{one-mul}
 use Rattle.std.specs.Cmp.{nat_cmp_is}
 use Rattle.std.specs.List.{AllByRecursion}
 use Rattle.std.specs.List.Sorted.{IsStrictlySortedBy}
 use Rattle.std.specs.Map.{keys_of}
 use Rattle.std.specs.Ordering.{ordering_then}
-use Rattle.std.proofs.lemmas.Bool.{cases_lt, cond_both, false_from_ne_true}
+use Rattle.std.proofs.lemmas.Bool.{cases_lt, cond_both}
 use Rattle.std.proofs.lemmas.Bool.Decides.{nat_tests}
 use Rattle.std.proofs.lemmas.List.{take_all, take-take, length-take, get_or-take, get_or_default}
 use Rattle.std.proofs.lemmas.Map.Keys.{Less-from_sorted}
 use Rattle.hh_stream.specs.Weights.{Bytes, Entry, key_cmp, total_of, weight_of}
-use Rattle.hh_summaries.specs.Counters.{exceeds, tally}
-use Rattle.hh_summaries.specs.Report.{by_rank, heavy, is_heavy, rank_cmp, ranked_in, rows_above}
+use Rattle.hh_summaries.specs.Counters.{tally}
+use Rattle.hh_summaries.specs.Report.{by_rank, heavy, is_heavy, rank_cmp, rows_above}
 use Rattle.hh_summaries.proofs.Weights.{in_from_number, number_from_in, rising-tally, weight_of-tally}
 use Rattle.hh_summaries.proofs.Reports.{filter_in, in_filter, rank_total, ranked-filter, rows_are_exact, same_ranked}
 use Rattle.hh_top.specs.Top.{IsTop, ranking, rows_over, top}

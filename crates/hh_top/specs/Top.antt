@@ -54,3 +54,9 @@ abbrev pub GreatestRefused : List Entry → ℕ → ℕ → ToolError → Type 0
 GreatestRefused xs n k (tool.TopUncertain certain most) = IsUncertain xs n k certain most
 GreatestRefused xs n k tool.Memory = ⊤
 GreatestRefused xs n k _ = ⊥
+
+-- a refusal of the greatest keys is one of these, whatever was counted
+abbrev pub IsTopFault : ToolError → Type 0
+IsTopFault (tool.TopUncertain certain most) = ⊤
+IsTopFault tool.Memory = ⊤
+IsTopFault _ = ⊥

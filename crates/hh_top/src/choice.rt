@@ -6,7 +6,7 @@ ghost use Rattle.std.specs.List.Sorted.{IsStrictlySortedBy};
 ghost use Rattle.hh_stream.specs.Weights.{Entry, key_cmp};
 ghost use Rattle.hh_summaries.specs.Counters.{IsHonest, level};
 ghost use Rattle.hh_counters.specs.Counting.{count_of};
-ghost use Rattle.hh_top.specs.Top.{GreatestRefused, exceeding, floor_of, rows_over, top};
+ghost use Rattle.hh_top.specs.Top.{GreatestRefused, IsTopFault, exceeding, floor_of, rows_over, top};
 
 use hh_counters::laws::counters_bound_weights;
 use hh_counters::{Counts, Heavy, Summary};
@@ -109,6 +109,7 @@ pub fn greatest(
     ensures refused { let s = summary.now in IfErr result (λ fault. (xs : List Entry)
         → IsHonest s.counters s.total xs s.k → counts.now ≡ count_of counts.now.keys xs
         → GreatestRefused xs n s.k fault) }
+    ensures kind { IfErr result IsTopFault }
 {
     counters_bound_weights();
     // the counters of a summary are by rising key
