@@ -42,8 +42,8 @@ can_exceed t s e = nat_lt t (e.1 + slack s.counters s.total s.k)
 abbrev pub exceeding : ℕ → SummaryView → SummaryView
 exceeding t s = record { k = s.k; total = s.total; counters = filter (can_exceed t s) s.counters }
 
--- of the n greatest keys only so many are certain: just these weigh more than `most`, which is at most what k counters
--- leave open
+-- of the n greatest keys only the first are certain, fewer than n: just these weigh more than `most`, which is at most what
+-- k counters leave open
 pub record IsUncertain (xs : List Entry) (n k certain most : ℕ) : Type 0 where
   pub few : certain < n
   pub counted : certain ≡ length (rows_over most (tally xs))
