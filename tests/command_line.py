@@ -69,7 +69,7 @@ FORMS = [
 ]
 FORMS_RECORDS = b"".join(b"%s,%d\n" % (key, weight) for key, _, _, weight in FORMS)
 
-COMMANDS = ["report", "summarise", "table", "merge", "ask", "list", "describe", "condense", "confirm"]
+COMMANDS = ["report", "top", "summarise", "table", "merge", "ask", "list", "describe", "condense", "confirm"]
 
 # in a command's help: an option with a number, its range and its default
 RANGE = re.compile(rb"(--[a-z]+) <N>\n +.* from (\d+) to (\d+) \[default: (\d+)\]\n")
@@ -191,6 +191,35 @@ class CommandLine(programs.Checks):
             self.expect(["summarise", *method], expected, MANY)
             for workers in ([], ["--workers", "1"], ["--workers", "4"]):
                 self.expect(["summarise", "--k", "2", *method, *workers], (0, ONE_IN_2, b""))
+
+    def test_top(self) -> None:
+        """The greatest keys, by hand: ties by rising key, all keys where they are fewer, and options of rows and of records."""
+        tied, shares = b"b,2\na,2\nc,1\n", b"a,6,54.5454\nb,3,27.2727\n"
+        for words, text, rows in [
+            (["1"], RECORDS, b"a,6\n"), (["2"], RECORDS, b"a,6\nb,3\n"), (["3"], RECORDS, b"a,6\nb,3\nc,2\n"),
+            (["9"], RECORDS, b"a,6\nb,3\nc,2\n"), (["18446744073709551615"], RECORDS, b"a,6\nb,3\nc,2\n"),
+            (["1"], tied, b"a,2\n"), (["2"], tied, b"a,2\nb,2\n"), (["3"], tied, b"a,2\nb,2\nc,1\n"), (["5"], b"", b""),
+            (["1", "-"], RECORDS, b"a,6\n"), (["--workers", "1", "1"], RECORDS, b"a,6\n"), (["--share", "2"], RECORDS, shares),
+            (["--names", "--output", "tsv", "1"], RECORDS, b"key\tweight\na\t6\n"),
+            (["-Hd;", "--key", "k", "--weight", "w", "1"], b"k;w\nx;5\ny;7\n", b"y,7\n"),
+            (["--decimals", "1", "1"], b"a,0.5\nb,0.4\n", b"a,0.5\n"), (["--allow-zero", "2"], b"a,0\nb,4\n", b"b,4\n"),
+        ]:
+            self.expect(["top", *words], (0, rows, b""), text)
+        self.refuses(["top", "--workers", "0", "1"], "workers must be 1 to 64")
+        self.refuses(["top", "1"], "record 2: zero weight", 3, b"a,5\nb,0\n")
+        for words in ([], ["0"], ["-1"], ["x"], ["1.5"], ["18446744073709551616"], ["--top", "2", "1"]):
+            status, out, err = self.heavy(["top", *words])
+            self.check(f"top {words}", (status, out, err[:6]) == (2, b"", b"error:"), err)
+
+    def test_top_left_open(self) -> None:
+        """Of one key more than there are counters, which all weigh 1, none is certain; of as many all are. A key that weighs
+        more is certain."""
+        ones = [b"k%05d\n" % number for number in range(65_536)]
+        told = "of the greatest keys only %d are certain\n  the next key weighs at most 1"
+        self.expect(["top", "2"], (0, b"k00001,1\nk00002,1\n", b""), b"".join(ones[1:]))
+        self.refuses(["top", "--explain", "1"], told % 0, 3, b"".join(ones))
+        self.expect(["top", "1"], (0, b"big,2\n", b""), b"".join(ones) + b"big,2\n")
+        self.refuses(["top", "--explain", "2"], told % 1, 3, b"".join(ones) + b"big,2\n")
 
     def test_letters(self) -> None:
         """Options by their letters, with the value in the same word or in the next, and several in one word."""

@@ -27,9 +27,10 @@ use Rattle.hh_output.specs.declared.output.Output.{Output}
 use Rattle.hh_reports.specs.Report.{AreWritten, PrintsRows}
 use Rattle.hh_files.specs.ReportFiles.{PrintsFileRows}
 use Rattle.hh_files.specs.SummaryFiles.{SavesSummary}
+use Rattle.hh_files.specs.TopFiles.{PrintsTop}
 use Rattle.heavy_host.specs.Files.{AreRead}
 use Rattle.heavy_requests.specs.declared.request.Command.{Command}
-use Rattle.heavy_requests.specs.declared.request.Command.TheVariants.{Summarise, Table, Merge, Ask, List as ListKeys, Describe, Condense, Confirm}
+use Rattle.heavy_requests.specs.declared.request.Command.TheVariants.{Top, Summarise, Table, Merge, Ask, List as ListKeys, Describe, Condense, Confirm}
 use Rattle.heavy_requests.specs.declared.request.Invocation.{Invocation}
 use Rattle.heavy_requests.specs.declared.request.RecordWords.{RecordWords}
 use Rattle.heavy_requests.specs.declared.request.Request.{Request}
@@ -99,6 +100,8 @@ OfSaved gives name Holds = (file : List ℕ) × gives name (Some file) × Holds 
 -- the bytes answer the command
 abbrev pub AnswersCommand : (List ℕ → Option (List ℕ) → Type 0) → (Bool → List ℕ → Option (List ℕ) → Type 0) → Command → RecordWords
     → Bool → Option Outside → List ℕ → Type 0
+AnswersCommand gives opens (Top n rows workers) words refuses outside bytes =
+    OfRecords opens words (λ _ known. PrintsTop rows n known bytes)
 AnswersCommand gives opens (Summarise k method workers) words refuses outside bytes =
     OfRecords opens words (λ _ known. SavesByWorkers k workers known bytes)
 AnswersCommand gives opens (Table width depth seed workers) words refuses outside bytes =

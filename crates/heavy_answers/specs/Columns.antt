@@ -4,7 +4,7 @@ use Rattle.hh_output.specs.Outputs.{rows_in}
 use Rattle.hh_output.specs.declared.output.Output.{Output}
 use Rattle.hh_rows.specs.declared.printed.RowOptions.{RowOptions}
 use Rattle.heavy_requests.specs.declared.request.Command.{Command}
-use Rattle.heavy_requests.specs.declared.request.Command.TheVariants.{Summarise, Table, Merge, Ask, List as ListKeys, Describe, Condense, Confirm}
+use Rattle.heavy_requests.specs.declared.request.Command.TheVariants.{Top, Summarise, Table, Merge, Ask, List as ListKeys, Describe, Condense, Confirm}
 
 -- the names of columns: of keys and their weights, of a report, of keys and their bounds, and of what is in a saved file
 abbrev pub weight_columns : List (List ℕ)
@@ -21,6 +21,7 @@ value_columns = codes "name" ∷ codes "value" ∷ []
 
 -- the names of the columns of the rows that a command prints; a saved file has none
 abbrev pub columns_of : Command → Option (List (List ℕ))
+columns_of (Top n rows workers) = Some (report_columns rows)
 columns_of (Summarise k method workers) = None
 columns_of (Table width depth seed workers) = None
 columns_of (Merge first others) = None

@@ -1,6 +1,6 @@
 -- What a refusal to answer a request says, by the bytes that are given of the files that it names.
 use Rattle.std.specs.Io.KnownBytes.{Keeps}
-use Rattle.std.specs.Prelude.{ℕ, ◌≡◌, ◌⊎◌, ◌+◌, ◌-◌, ◌^◌, ◌<◌, min, Bool, true, List, [], ◌∷◌, Option, Some, None, map, length, slice_index_or}
+use Rattle.std.specs.Prelude.{ℕ, ◌≡◌, ◌⊎◌, ◌+◌, ◌-◌, ◌^◌, ◌<◌, min, Bool, false, true, List, [], ◌∷◌, Option, Some, None, map, length, slice_index_or}
 use Rattle.hh_stream.specs.Ranges.{in_range}
 use Rattle.hh_workers.specs.Workers.{max_workers}
 use Rattle.hh_records.specs.LayoutWords.{LayoutRefused}
@@ -28,9 +28,10 @@ use Rattle.hh_files.specs.FilePasses.{CondenseFilesRefused, ConfirmFilesRefused}
 use Rattle.hh_files.specs.ReportFiles.{PrintsFileRows}
 use Rattle.hh_files.specs.SummaryFiles.{bad_summary_of_files}
 use Rattle.hh_files.specs.TableFiles.{bad_table_of_files}
+use Rattle.hh_files.specs.TopFiles.{TopFilesRefused}
 use Rattle.heavy_host.specs.Files.{AreRead}
 use Rattle.heavy_requests.specs.declared.request.Command.{Command}
-use Rattle.heavy_requests.specs.declared.request.Command.TheVariants.{Summarise, Table, Merge, Ask, List as ListKeys, Describe, Condense, Confirm}
+use Rattle.heavy_requests.specs.declared.request.Command.TheVariants.{Top, Summarise, Table, Merge, Ask, List as ListKeys, Describe, Condense, Confirm}
 use Rattle.heavy_requests.specs.declared.request.Invocation.{Invocation}
 use Rattle.heavy_requests.specs.declared.request.RecordWords.{RecordWords}
 use Rattle.heavy_requests.specs.declared.request.Request.{Request}
@@ -108,6 +109,14 @@ SummaryFails opens unopened words k method workers e =
     (NamesNoMethod method × (e ≡ tool.BadMethod))
     ⊎ ReadingFails opens unopened words 0 workers (RefusedAfter (bad_summary_of_files k workers)) e
 
+-- the greatest keys are refused: the records can't be had, or the workers are refused before anything is read; or the library
+-- refuses them
+abbrev pub TopFails : (Bool → List ℕ → Option (List ℕ) → Type 0) → (List ℕ → ℕ → ToolError → Type 0) → RecordWords → ℕ → ℕ
+    → ToolError → Type 0
+TopFails opens unopened words n workers e =
+    OpenRefused unopened words 0 e ⊎ ((in_range workers max_workers ≡ false) × (e ≡ tool.BadWorkers))
+    ⊎ OfRecords opens words (λ _ known. TopFilesRefused n workers known e)
+
 -- the file in this place can't be read, which is reported by its number
 pub record IsUnreadAt (gives : List ℕ → Option (List ℕ) → Type 0) (names : List (List ℕ)) (e : ToolError) (place : ℕ) : Type 0 where
   pub within : place < length names
@@ -128,6 +137,7 @@ SavedFails gives name Fails e =
 -- a command is refused: by its options, by a file that can't be read, or as the library refuses what it is asked for
 abbrev pub CommandFails : (List ℕ → Option (List ℕ) → Type 0) → (Bool → List ℕ → Option (List ℕ) → Type 0)
     → (List ℕ → ℕ → ToolError → Type 0) → Command → RecordWords → Bool → ToolError → Type 0
+CommandFails gives opens unopened (Top n rows workers) words refuses e = TopFails opens unopened words n workers e
 CommandFails gives opens unopened (Summarise k method workers) words refuses e =
     SummaryFails opens unopened words k method.items workers e
 CommandFails gives opens unopened (Table width depth seed workers) words refuses e =

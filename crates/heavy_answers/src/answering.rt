@@ -6,7 +6,8 @@ ghost use Rattle.hh_commands.specs.Merge.{merged_files};
 ghost use Rattle.heavy_answers.specs.Answers.{AnswersCommand, IsAnswered, MakesMerge, OfRecords};
 ghost use Rattle.heavy_answers.specs.Answers.{PrintsReport};
 ghost use Rattle.heavy_answers.specs.Refusals.{CommandFails, FilesFail, IsRefused, ReportFails};
-ghost use Rattle.heavy_answers.specs.Refusals.{kept_fault};
+ghost use Rattle.heavy_answers.specs.Refusals.{TopFails, kept_fault};
+ghost use Rattle.hh_files.specs.TopFiles.{PrintsTop};
 ghost use Rattle.hh_output.specs.Outputs.{plain_output};
 
 use crate::columns::{bytes_in, is_plain, report_columns};
@@ -18,10 +19,12 @@ use heavy_host::{ReadFailure, read_file, read_files};
 use heavy_requests::{Command, Invocation, RecordWords, Request};
 use hh_commands::{Comparison, Method, ask_rows, describe_file, list_rows, merge_bytes};
 use hh_faults::ToolError;
-use hh_files::report_files;
+use hh_files::{report_files, top_files};
 use hh_output::{Output, converted};
 use hh_reports::{check_options, report_rows};
 use hh_rows::{ReportOptions, RowOptions, Sink, put};
+use hh_stream::in_range;
+use hh_workers::MAX_WORKERS;
 use std::sync::Wait;
 use std::thread::Threads;
 
@@ -60,6 +63,31 @@ fn merged<H: Host>(host: &H, first: &[u8], others: &[Vec<u8>]) -> Result<Vec<u8>
     merge_bytes(host.alloc(), &files)
 }
 
+/// Makes the rows of the `n` greatest keys of the records that `words` name. All inputs are opened
+/// first, then `workers` is tested, and only then is anything read.
+fn top<T: Threads + Wait + Sync, H: Host>(
+    threads: &T,
+    host: &H,
+    n: u64,
+    rows: &RowOptions,
+    workers: u64,
+    words: &RecordWords,
+) -> Result<Vec<u8>, ToolError>
+    ensures made { IfOk result (λ bytes. OfRecords (H.opens host.now) words.now
+        (λ _ known. PrintsTop rows.now n known bytes.items)) }
+    ensures refused { IfErr result
+        (TopFails (H.opens host.now) (H.unopened host.now) words.now n workers) }
+{
+    let opened = open(host, words, 0)?;
+    if !in_range(workers, MAX_WORKERS) {
+        return Err(ToolError::BadWorkers);
+    }
+    let files = into_kept(host, opened)?;
+    let bytes = top_files(threads, host.alloc(), n, rows, workers, files.records())?;
+    files.note_last_record(host);
+    Ok(bytes)
+}
+
 /// Makes the whole output of `command`, over the records that `words` name if it reads any. It
 /// stores in `compared` where a saved summary and the records differ.
 fn bytes_of<T: Threads + Wait + Sync, H: Host>(
@@ -76,6 +104,7 @@ fn bytes_of<T: Threads + Wait + Sync, H: Host>(
 {
     let alloc = host.alloc();
     match command {
+        Command::Top { n, rows, workers } => top(threads, host, *n, rows, *workers, words),
         Command::Summarise { k, method, workers } => {
             let method = Method::of(method)?;
             let command = SinglePass::Summarise { k: *k, method };

@@ -44,7 +44,7 @@ fn columns_of(command: &Command) -> Option<Names>
         Command::Ask { .. } | Command::List { .. } => Some(BOUNDS),
         Command::Describe { .. } => Some(VALUES),
         Command::Condense { .. } => Some(WEIGHTS),
-        Command::Confirm { rows, .. } => Some(report_columns(rows)),
+        Command::Top { rows, .. } | Command::Confirm { rows, .. } => Some(report_columns(rows)),
     }
 }
 

@@ -48,6 +48,10 @@ flag name = record (new_rule name) { long = Some name; action = Some SetTrue }
 abbrev pub word : Text → Rule
 word name = record (new_rule name) { value_names = 1; required = true }
 
+-- such a word that is a number from 1 on
+abbrev pub count : Text → Rule
+count name = record (word name) { parser = Some (Unsigned 1 18446744073709551615) }
+
 -- any number of words at the end, or none
 abbrev pub words : Text → Rule
 words name = record (new_rule name) {
@@ -71,6 +75,7 @@ rule_of_kind forms kind.Form name = one_of forms name
 rule_of_kind forms kind.Flag name = flag name
 rule_of_kind forms kind.LastFlag name = flag name
 rule_of_kind forms kind.Word name = word name
+rule_of_kind forms kind.Count name = count name
 rule_of_kind forms kind.Words name = some_words name
 rule_of_kind forms kind.Files name = words name
 
@@ -130,9 +135,13 @@ columns = with_letter 100 (option (codes "delimiter")) ∷ with_letter 72 (flag 
 abbrev pub output : Words → List Rule
 output forms = one_of forms (codes "output") ∷ flag (codes "names") ∷ []
 
+-- the form of rows that may have shares
+abbrev pub shared_output : Words → List Rule
+shared_output forms = flag (codes "share") ∷ output forms
+
 -- the rows that are printed; `-t` and `-n` are letters of two
 abbrev pub rows : Words → List Rule
-rows forms = with_letter 116 (option (codes "threshold")) ∷ with_letter 110 (number (codes "top")) ∷ flag (codes "share") ∷ output forms
+rows forms = with_letter 116 (option (codes "threshold")) ∷ with_letter 110 (number (codes "top")) ∷ shared_output forms
 
 -- the number of counters, by `-k` too
 abbrev pub counters : Rule
@@ -156,6 +165,8 @@ abbrev pub program_app : Words → App
 program_app forms = program_of (
     command (codes "report") (reading ++ counters ∷ rows forms ++ records ∷ columns
     ++ workers ∷ number (codes "memory") ∷ number (codes "pieces") ∷ option (codes "tree") ∷ grid)
+    ∷ command (codes "top")
+    (reading ++ shared_output forms ++ workers ∷ number (codes "memory") ∷ count (codes "N") ∷ records ∷ columns)
     ∷ command (codes "summarise")
     (reading ++ counters ∷ option (codes "method") ∷ workers ∷ records ∷ columns)
     ∷ command (codes "table") (reading ++ grid ++ workers ∷ records ∷ columns)

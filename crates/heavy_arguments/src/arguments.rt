@@ -11,6 +11,7 @@ ghost use Rattle.heavy_arguments.specs.Numbers.{IsNumberOf};
 
 use crate::help::{
     ASK, CONDENSE, CONFIRM, DESCRIBE, Help, LIST, MERGE, PROGRAM, REPORT, SUMMARISE, TABLE,
+    TOP_HELP,
 };
 use crate::options::{Argument, Forms, Kind};
 use clap::{ArgMatches, Command};
@@ -112,6 +113,15 @@ pub const MEMORY: Number = Number {
     name: "memory",
     help: "Megabytes of a pipe to keep in memory; a longer one goes to a file [default: 64]",
     default: 64,
+};
+
+const GREATEST_HELP: &str = "How many keys, from 1 on";
+
+/// The word that says how many of the greatest keys are printed.
+pub const GREATEST: Number = Number {
+    name: "N",
+    help: GREATEST_HELP,
+    default: 1,
 };
 
 pub const PIECES: Number = Number {
@@ -345,6 +355,18 @@ const REPORT_GROUPS: [Group; 2] = [
 
 const RECORD_GROUPS: [Group; 1] = [COLUMN_GROUP];
 
+const TOP_ARGUMENTS: [Argument; 9] = [
+    EXPLAIN_FLAG,
+    PROGRESS_FLAG,
+    SHARE_FLAG,
+    OUTPUT_FORM,
+    NAMES_FLAG,
+    Argument::Number(WORKERS),
+    Argument::Number(MEMORY),
+    Argument::Given(Kind::Count, "N", GREATEST_HELP),
+    RECORD_FILES,
+];
+
 const SUMMARISE_ARGUMENTS: [Argument; 6] = [
     EXPLAIN_FLAG,
     PROGRESS_FLAG,
@@ -412,12 +434,18 @@ const CONFIRM_ARGUMENTS: [Argument; 10] = [
 ];
 
 /// The commands in the order of help.
-const COMMANDS: [CommandWords; 9] = [
+const COMMANDS: [CommandWords; 10] = [
     CommandWords {
         name: "report",
         help: &REPORT,
         arguments: &REPORT_ARGUMENTS,
         groups: &REPORT_GROUPS,
+    },
+    CommandWords {
+        name: "top",
+        help: &TOP_HELP,
+        arguments: &TOP_ARGUMENTS,
+        groups: &RECORD_GROUPS,
     },
     CommandWords {
         name: "summarise",

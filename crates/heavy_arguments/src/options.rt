@@ -47,6 +47,8 @@ pub(crate) enum Kind {
     LastFlag,
     /// A word that has to be given.
     Word,
+    /// A number from 1 on that has to be given, as a word.
+    Count,
     /// One such word or more.
     Words,
     /// The names of files, if any.
@@ -124,6 +126,9 @@ impl Kind {
             Kind::Flag => flag(alloc, name, help),
             Kind::LastFlag => flag(alloc, name, help).display_order(LAST),
             Kind::Word => word(alloc, name, name, help).required(true),
+            Kind::Count => word(alloc, name, name, help)
+                .required(true)
+                .value_parser(value_parser!(u64).range(1..)),
             Kind::Words => several(word(alloc, name, name, help).required(true)),
             Kind::Files => several(word(alloc, name, "FILE", help)),
         }

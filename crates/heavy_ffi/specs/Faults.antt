@@ -38,6 +38,7 @@ kind_of tool.BadDelimiter = 22
 kind_of tool.BadColumn = 23
 kind_of tool.NoColumn = 24
 kind_of tool.WeightOutside = 25
+kind_of (tool.TopUncertain n m) = 27
 
 abbrev pub record_cause : BadRecordCause → ℕ
 record_cause bad.FieldCount = 1

@@ -112,6 +112,7 @@ fn kind_of(fault: &ToolError) -> u32
         ToolError::BadColumn => 23,
         ToolError::NoColumn => 24,
         ToolError::WeightOutside => 25,
+        ToolError::TopUncertain { .. } => 27,
     }
 }
 

@@ -20,7 +20,7 @@ use Rattle.heavy_arguments.specs.Numbers.{IsNumberOf, number_in}
 use Rattle.heavy_host.specs.Words.{AreAllWords, word_of}
 use Rattle.heavy_requests.specs.Fields.{fields_in}
 use Rattle.heavy_requests.specs.declared.request.Command.{Command}
-use Rattle.heavy_requests.specs.declared.request.Command.TheVariants.{Summarise, Table, Merge, Ask, List as ListKeys, Describe, Condense, Confirm}
+use Rattle.heavy_requests.specs.declared.request.Command.TheVariants.{Top, Summarise, Table, Merge, Ask, List as ListKeys, Describe, Condense, Confirm}
 use Rattle.heavy_requests.specs.declared.request.RecordWords.{RecordWords}
 use Rattle.heavy_requests.specs.declared.request.Request.{Request}
 use Rattle.heavy_requests.specs.declared.request.Request.TheVariants.{Report, Answer}
@@ -161,6 +161,9 @@ pub record AreKeys (found : Found) (file : List ℕ) (keys : List (List ℕ)) : 
 
 -- what the command with a name asks for, but for a report
 abbrev pub Answers : Text → Found → Command → Type 0
+Answers name found (Top n rows workers) =
+    (name ≡ codes "top") × IsNumberOf found (codes "N") 1 n × AreRowOptions found rows
+    × IsNumberOf found (codes "workers") 4 workers
 Answers name found (Summarise k method workers) =
     (name ≡ codes "summarise") × AreSummaryOptions found k method.items workers
 Answers name found (Table width depth seed workers) =
@@ -181,6 +184,7 @@ Answers name found (Confirm file share rows workers) =
 
 -- the name is none of the commands that are answered whole
 pub record IsReportName (name : Text) : Type 0 where
+  pub not_top : name ≢ codes "top"
   pub not_summarise : name ≢ codes "summarise"
   pub not_table : name ≢ codes "table"
   pub not_merge : name ≢ codes "merge"

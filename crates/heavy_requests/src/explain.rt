@@ -39,6 +39,7 @@ fn reads_records(request: &Request) -> bool {
     match request {
         Request::Report { .. } => true,
         Request::Answer(Command::Summarise { .. } | Command::Table { .. }) => true,
+        Request::Answer(Command::Top { .. }) => true,
         Request::Answer(Command::Condense { .. } | Command::Confirm { .. }) => true,
         Request::Answer(_) => false,
     }
@@ -155,7 +156,7 @@ fn name_of(asked: &Invocation, number: u64) -> &[u8] {
         return name_at(records, number.saturating_sub(1));
     };
     match command {
-        Command::Summarise { .. } | Command::Table { .. } => {
+        Command::Top { .. } | Command::Summarise { .. } | Command::Table { .. } => {
             name_at(records, number.saturating_sub(1))
         }
         Command::Merge { first, others } => name_after(first, others, number),
@@ -279,6 +280,17 @@ fn tell_totals(rt: &HostRuntime, name: &[u8], totals: Option<Totals>, decimals: 
             Name(name),
             summary.as_slice().escape_ascii(),
             records.as_slice().escape_ascii()
+        );
+    }
+}
+
+/// Prints what the key behind the certain ones weighs at most, with `decimals` digits after the
+/// point.
+fn tell_next(rt: &HostRuntime, most: u64, decimals: u8) {
+    if let Ok(most) = pointed(rt.alloc(), u128::from(most), decimals) {
+        let _ = eprintln!(rt;
+            "  the next key weighs at most {}",
+            most.as_slice().escape_ascii()
         );
     }
 }
@@ -633,6 +645,9 @@ pub fn explain(texts: Texts<'_>, fault: &ToolError, compared: &Comparison, unrea
                 let decimals = asked.records.layout.decimals;
                 tell_outside(rt, "  ", name_of(asked, 1), outside, decimals);
             }
+        }
+        ToolError::TopUncertain { most, .. } => {
+            tell_next(rt, *most, asked.records.layout.decimals);
         }
         ToolError::BadThreshold => tell_threshold(rt, &asked.request),
         ToolError::BadRecord { number, cause } => {

@@ -14,9 +14,9 @@ use crate::usage_report::{UsageReport, usage_report_of};
 use clap::error::ErrorKind;
 use clap::{ArgMatches, Error};
 use heavy_arguments::{
-    ALLOW_ZERO, DECIMALS, DELIMITER, DEPTH, EXPLAIN, HEADER, JSON, K, KEY, LINES, MEMORY, NAMES,
-    NO_QUOTES, OUTPUT, PIECES, PREFIX, PROGRESS, RECORDS, SEED, SHARE, SQUEEZE, SUMMARY_WORKERS,
-    TOP, UNTIL, WEIGHT, WIDTH, WORKERS, command_line,
+    ALLOW_ZERO, DECIMALS, DELIMITER, DEPTH, EXPLAIN, GREATEST, HEADER, JSON, K, KEY, LINES, MEMORY,
+    NAMES, NO_QUOTES, OUTPUT, PIECES, PREFIX, PROGRESS, RECORDS, SEED, SHARE, SQUEEZE,
+    SUMMARY_WORKERS, TOP, UNTIL, WEIGHT, WIDTH, WORKERS, command_line,
 };
 use heavy_host::{WordSource, after_first, bytes_of, read_words, texts_of};
 use hh_output::{Form, Output};
@@ -102,11 +102,12 @@ impl Request {
     }
 
     /// Gives the most passes in which workers read the files of records, by the command line alone:
-    /// 0 if they read none. A report needs two, or one if its keys are few.
+    /// 0 if they read none. A report needs two, or one if its keys are few; the greatest keys need
+    /// two.
     pub fn passes(&self) -> u64 {
         match self {
             Request::Report { by_plan: true, .. } => 0,
-            Request::Report { .. } => 2,
+            Request::Report { .. } | Request::Answer(Command::Top { .. }) => 2,
             Request::Answer(Command::Summarise { workers, .. }) => u64::from(*workers != 1),
             Request::Answer(Command::Table { .. }) => 1,
             Request::Answer(Command::Condense { .. } | Command::Confirm { .. }) => 1,
@@ -119,6 +120,12 @@ impl Request {
 /// kept as bytes, which need not be UTF-8.
 #[derive(Drop)]
 pub enum Command {
+    /// The `n` greatest keys of records.
+    Top {
+        n: u64,
+        rows: RowOptions,
+        workers: u64,
+    },
     /// The saved summary of records.
     Summarise {
         k: u64,
@@ -417,6 +424,16 @@ fn report(alloc: Global, found: &ArgMatches) -> Result<Request, AllocError>
     })
 }
 
+fn top(found: &ArgMatches) -> Request
+    ensures { AsksFor (codes "top") (found_of found.now) result }
+{
+    Request::Answer(Command::Top {
+        n: GREATEST.of(found),
+        rows: rows_of(found),
+        workers: WORKERS.of(found),
+    })
+}
+
 fn summarise(alloc: Global, found: &ArgMatches) -> Result<Request, AllocError>
     ensures { IfOk result (AsksFor (codes "summarise") (found_of found.now)) }
 {
@@ -472,12 +489,13 @@ fn confirm(alloc: Global, found: &ArgMatches) -> Result<Request, AllocError>
     }))
 }
 
-/// Reads what the command `name` asks for. `clap` takes the nine commands' names alone, so that
+/// Reads what the command `name` asks for. `clap` takes the ten commands' names alone, so that
 /// the one that isn't named here is `report`.
 fn request_of(alloc: Global, name: &str, found: &ArgMatches) -> Result<Request, AllocError>
     ensures { IfOk result (AsksFor name.now (found_of found.now)) }
 {
     match name {
+        "top" => Ok(top(found)),
         "summarise" => summarise(alloc, found),
         "table" => Ok(table(found)),
         "merge" => merge(alloc, found),

@@ -28,3 +28,4 @@ status_of tool.BadDelimiter = 2
 status_of tool.BadColumn = 2
 status_of tool.NoColumn = 3
 status_of tool.WeightOutside = 3
+status_of (tool.TopUncertain n m) = 3

@@ -117,6 +117,9 @@ pub enum ToolError {
     NoColumn,
     #[error("file 1: a key's weight in the input is outside its bounds")]
     WeightOutside,
+    /// Of the greatest keys only the first `certain` are known; each other weighs at most `most`.
+    #[error("of the greatest keys only {certain} are certain")]
+    TopUncertain { certain: u64, most: u64 },
 }
 
 impl ToolError {
@@ -145,7 +148,8 @@ impl ToolError {
             | ToolError::NotCounters
             | ToolError::TotalDiffers
             | ToolError::NoColumn
-            | ToolError::WeightOutside => 3,
+            | ToolError::WeightOutside
+            | ToolError::TopUncertain { .. } => 3,
             ToolError::Memory => 4,
         }
     }

@@ -6,3 +6,4 @@ pub mod SourceReportFacts
 pub mod TableFacts
 pub mod WeighFacts
 pub mod SummaryFacts
+pub mod TopFacts

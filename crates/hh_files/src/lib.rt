@@ -9,9 +9,11 @@ mod file_pieces;
 mod reporting;
 mod summarising;
 mod tabulating;
+mod topping;
 
 pub use condensing::condense_files;
 pub use confirming::confirm_files;
 pub use reporting::report_files;
 pub use summarising::summarise_files;
 pub use tabulating::table_files;
+pub use topping::top_files;

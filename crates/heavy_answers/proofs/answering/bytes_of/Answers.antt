@@ -9,6 +9,12 @@ pub returns-in_ok-method-in-Summarise-clause-refused : goal.returns-in_ok-method
 returns-in_ok-method-in-Summarise-clause-refused g c =
     rw c.in-Summarise.is (if_err_more c.in_one_pass.result (λ fault fails. inr fails) c.in_one_pass.ensures.refused)
 
+pub returns-in-Top-clause-made : goal.returns-in-Top-clause-made
+returns-in-Top-clause-made g c = rw c.in-Top.is c.top.ensures.made
+
+pub returns-in-Top-clause-refused : goal.returns-in-Top-clause-refused
+returns-in-Top-clause-refused g c = rw c.in-Top.is c.top.ensures.refused
+
 pub returns-in-Table-clause-made : goal.returns-in-Table-clause-made
 returns-in-Table-clause-made g c = rw c.in-Table.is c.in_one_pass-in-Table.ensures.made
 

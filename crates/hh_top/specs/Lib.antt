@@ -1,0 +1,2 @@
+pub mod Top
+pub mod Laws

@@ -1,0 +1,62 @@
+-- The greatest keys of a list of items.
+use Rattle.std.specs.Prelude.{◌≡◌, ℕ, ◌+◌, ◌-◌, ◌*◌, ◌<◌, ◌≤◌, ⊤, Bool, true, nat_lt, List, filter, length, max, take, Contains}
+use Rattle.std.specs.List.Sorted.{IsStrictlySortedBy}
+use Rattle.std.specs.Ordering.{is_lt}
+use Rattle.hh_stream.specs.Weights.{Bytes, Entry, total_of, weight_of}
+use Rattle.hh_summaries.specs.Counters.{SummaryView, exceeds, level, slack, tally}
+use Rattle.hh_summaries.specs.Report.{by_rank, rank_cmp}
+use Rattle.hh_faults.specs.declared.error.ToolError.{ToolError}
+use Rattle.hh_faults.specs.declared.error.ToolError.TheVariants as tool
+
+-- those of the entries that exceed t, by falling weight and then by rising key
+abbrev pub rows_over : ℕ → List Entry → List Entry
+rows_over t es = by_rank (filter (exceeds t) es)
+
+-- all keys that weigh something, with their weights, by falling weight and then by rising key
+abbrev pub ranking : List Entry → List Entry
+ranking xs = rows_over 0 (tally xs)
+
+-- the n greatest keys with their weights: the first n of all
+abbrev pub top : ℕ → List Entry → List Entry
+top n xs = take n (ranking xs)
+
+-- these are the n greatest keys of xs: each with its weight, in order; what comes before one of them is one of them; and
+-- where they are fewer than n, they are all keys
+pub record IsTop (xs : List Entry) (n : ℕ) (es : List Entry) : Type 0 where
+  pub ranked : IsStrictlySortedBy rank_cmp es
+  pub exact : (e : Entry) → Contains es e → (e.1 ≡ weight_of e.0 xs) × (0 < e.1)
+  pub greatest : (d e : Entry) → Contains es e → d.1 ≡ weight_of d.0 xs → is_lt (rank_cmp d e) ≡ true → Contains es d
+  pub few : length es ≤ n
+  pub all : length es < n → (x : Bytes) → 0 < weight_of x xs → Contains es (x, weight_of x xs)
+
+-- a weight from which on the n greatest keys are looked for, less one: what a key without a counter can weigh, or less than
+-- the n-th greatest counter
+abbrev pub floor_of : ℕ → SummaryView → ℕ
+floor_of n s = max (slack s.counters s.total s.k) (level s.counters (n - 1) - 1)
+
+-- whether a key with this counter can weigh more than t
+abbrev pub can_exceed : ℕ → SummaryView → Entry → Bool
+can_exceed t s e = nat_lt t (e.1 + slack s.counters s.total s.k)
+
+-- the summary with the counters of those keys alone
+abbrev pub exceeding : ℕ → SummaryView → SummaryView
+exceeding t s = record { k = s.k; total = s.total; counters = filter (can_exceed t s) s.counters }
+
+-- of the n greatest keys only the first are certain, fewer than n: just these weigh more than `most`, which is at most what
+-- k counters leave open
+pub record IsUncertain (xs : List Entry) (n k certain most : ℕ) : Type 0 where
+  pub few : certain < n
+  pub counted : certain ≡ length (rows_over most (tally xs))
+  pub little : (k + 1) * most ≤ total_of xs
+
+-- what a refusal of the n greatest keys tells, where k counters were kept
+abbrev pub GreatestRefused : List Entry → ℕ → ℕ → ToolError → Type 0
+GreatestRefused xs n k (tool.TopUncertain certain most) = IsUncertain xs n k certain most
+GreatestRefused xs n k tool.Memory = ⊤
+GreatestRefused xs n k _ = ⊥
+
+-- a refusal of the greatest keys is one of these, whatever was counted
+abbrev pub IsTopFault : ToolError → Type 0
+IsTopFault (tool.TopUncertain certain most) = ⊤
+IsTopFault tool.Memory = ⊤
+IsTopFault _ = ⊥
