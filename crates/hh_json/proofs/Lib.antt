@@ -1,3 +1,4 @@
+pub mod KindFacts
 pub mod LawFacts
 pub mod MemberFacts
 pub mod ObjectFacts
