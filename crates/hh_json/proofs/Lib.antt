@@ -1,4 +1,4 @@
-pub mod KindFacts
+pub mod FieldFacts
 pub mod LawFacts
 pub mod MemberFacts
 pub mod ObjectFacts

@@ -1,5 +1,5 @@
 -- The object that a line is.
-use Rattle.std.proofs.Common.{◌≡◌, ◌∙◌, ℕ, Bool, true, false, List, Option, None, Some, refl, sym, ap, true≢false}
+use Rattle.std.proofs.Common.{◌≡◌, ℕ, Bool, true, false, List, Option, None, Some, refl, sym, ap, true≢false}
 use Rattle.std.specs.Option.{IsSome, MatchOption, is_some}
 use Rattle.std.specs.Str.{IsUtf8, is_utf8}
 use Rattle.std.proofs.lemmas.Str.{IsUtf8-from_is_utf8, is_utf8-from_IsUtf8}
@@ -27,7 +27,7 @@ no-object (object ms) e = absurd (true≢false (ap is_some e))
 module _ (line : List ℕ) (ts : List Token) (r : Option (List Token)) (text : IsUtf8 line) (some : IsSome (document line))
     (value : (j : Json) → document line ≡ Some j → BeginsWith ts j)
     (members : (j : Json) → BeginsWith ts j
-        → MatchOption r (as_object j ≡ None) (λ rest. (ms : Members) × (j ≡ object ms) × InMembers rest ms)) where
+    → MatchOption r (as_object j ≡ None) (λ rest. (ms : Members) × (j ≡ object ms) × InMembers rest ms)) where
   -- tokens of a value that has members
   pub object-read : is_some r ≡ true → Finds (Some ts) (object_in line)
   object-read is = by (document line) refl some
@@ -37,6 +37,7 @@ module _ (line : List ℕ) (ts : List Token) (r : Option (List Token)) (text : I
           → object_in line ≡ Some j
       at j e None i m = absurd (true≢false (sym i))
       at j e (Some rest) i m = rw (is_utf8-from_IsUtf8 line text, e, m.1) refl
+
       by : (o : Option Json) → document line ≡ o → IsSome o → Finds (Some ts) (object_in line)
       by None e h = absurd (true≢false (sym h))
       by (Some j) e h = (j, at j e r is (members j (value j e)), value j e)
@@ -50,6 +51,7 @@ module _ (line : List ℕ) (ts : List Token) (r : Option (List Token)) (text : I
           → object_in line ≡ None
       at j e None i m = rw (is_utf8-from_IsUtf8 line text, e, no-object j m) refl
       at j e (Some rest) i m = absurd (true≢false i)
+
       by : (o : Option Json) → document line ≡ o → IsSome o → object_in line ≡ None
       by None e h = absurd (true≢false (sym h))
       by (Some j) e h = at j e r is (members j (value j e))

@@ -7,7 +7,7 @@ use Rattle.json.specs.Find.{as_object, at, get}
 use Rattle.json.specs.Json.{Json, array, boolean, null, number, object, string}
 use Rattle.memchr.specs.Find.{Nowhere, Passes, is_byte}
 use Rattle.serde_json.specs.Find.{index_of, unescape}
-use Rattle.hh_json.specs.Paths.{follow, named, parts_of, step}
+use Rattle.hh_json.specs.Paths.{parts_of, step}
 
 abbrev at_slash : List ℕ → ℕ → Type 0
 at_slash text = Passes (is_byte slash) text
@@ -39,7 +39,7 @@ cut-more (x ∷ text) (suc k) l none here =
 abbrev from : ℕ → List ℕ → List ℕ
 from n text = take (length text - n) (drop n text)
 
-from-drop : (n : ℕ) (text : List ℕ) → from n text ≡ drop n text
+pub from-drop : (n : ℕ) (text : List ℕ) → from n text ≡ drop n text
 from-drop n text = ap (λ k. take k (drop n text)) (sym (length-drop n text)) ∙ take-length (drop n text)
 
 -- the first slash ends the first part
@@ -80,16 +80,6 @@ get-none name (number s) e = refl
 get-none name (string s) e = refl
 get-none name (array js) e = refl
 get-none name (object ms) e = absurd (true≢false (ap is_some e))
-
--- a name that begins with a slash, and another
-pub named-pointer : (name : List ℕ) (j : Json) → 0 < length name → slice_index_or name 0 0 ≡ slash
-    → named name j ≡ follow (parts_of (from 1 name)) j
-named-pointer [] j l e = absurd (omega (arith, l))
-named-pointer (x ∷ name) j l e = rw (e, from-drop 1 (x ∷ name)) refl
-
-pub named-plain : (name : List ℕ) (j : Json) → (0 < length name → slice_index_or name 0 0 ≢ slash) → named name j ≡ get name j
-named-plain [] j other = refl
-named-plain (x ∷ name) j other = rw (ne_eqb x slash (other (omega arith))) refl
 
 -- ---- names that are escaped
 -- an unescaped name begins with this byte, and goes on after these bytes

@@ -5,7 +5,7 @@ ghost use Rattle.json.specs.Find.{BeginsWith, Finds, InMembers, get_member};
 ghost use Rattle.json.specs.Json.{Json};
 ghost use Rattle.json.specs.Json as spec;
 ghost use Rattle.serde_json.specs.Find.{index_of, unescape};
-ghost use Rattle.hh_json.specs.Paths.{follow, named, part_name, parts_of, step};
+ghost use Rattle.hh_json.specs.Paths.{follow, is_pointer, named, part_name, parts_of, step};
 
 use fast_float::Numeral;
 use json::{Element, Members};
@@ -112,13 +112,21 @@ fn follow<'t, 'a>(from: &Element<'t, 'a>, parts: &[u8]) -> Option<Element<'t, 'a
     }
 }
 
-/// Finds the value that `name` names in an object: by a JSON pointer where it begins with a slash,
-/// and else the last member of that name.
+/// Whether `name` is a JSON pointer: it begins with a slash.
+fn is_pointer(name: &[u8]) -> bool
+    ensures { result ≡ is_pointer name.now }
+{
+    matches!(name, [b'/', ..])
+}
+
+/// Finds the value that `name` names in an object: by a JSON pointer where it is one, and else the
+/// last member of that name.
 pub(crate) fn named<'t, 'a>(object: &Element<'t, 'a>, name: &[u8]) -> Option<Element<'t, 'a>>
     ensures { (j : Json) → BeginsWith object.now j → Finds result (named name.now j) }
 {
-    if !name.is_empty() && name[0] == b'/' {
-        return follow(object, &name[1..]);
+    if is_pointer(name) {
+        follow(object, &name[1..])
+    } else {
+        member(object.members()?, name, false)
     }
-    member(object.members()?, name, false)
 }

@@ -1,5 +1,5 @@
 use Rattle.std.proofs.Common.{refl}
-use Rattle.hh_json.proofs.KindFacts.{key-kind}
+use Rattle.hh_json.proofs.FieldFacts.{key-kind}
 use Rattle.hh_json.proofs.fields.key_text.Goals as goal
 
 pub returns-in-Some : goal.returns-in-Some

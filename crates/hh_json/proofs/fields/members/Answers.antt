@@ -3,7 +3,7 @@ use Rattle.std.specs.Prelude.{option_map}
 use Rattle.csv.specs.Records.{fields_of}
 use Rattle.json.specs.Find.{BeginsWith, Finds}
 use Rattle.hh_json.specs.Fields.{object_in}
-use Rattle.hh_json.proofs.KindFacts.{fields-found}
+use Rattle.hh_json.proofs.FieldFacts.{fields-found}
 use Rattle.hh_json.proofs.fields.members.Goals as goal
 use Rattle.hh_json.proofs.fields.members.Goals.{else-not-branch, then-not-branch}
 
