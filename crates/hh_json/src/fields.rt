@@ -15,8 +15,7 @@ use json::{Element, Error, Scratch, Tape};
 use std::alloc::{AllocError, Global};
 use std::str;
 
-/// Reads the object that `line` is, where it is one. It is read as a list of its tokens, which takes
-/// two thirds of the time that a tree takes.
+/// Reads the object that `line` is, where it is one, as the list of its tokens.
 fn object_in<'a>(
     alloc: Global,
     line: &'a [u8],
@@ -136,8 +135,8 @@ fn push_members(
 /// is missing, `null` or of another kind, and where `line` isn't an object that JSON in UTF-8
 /// spells, without a lone surrogate and with at most 128 levels.
 ///
-/// `scratch` is kept from line to line, so that its memory serves them all. For a line of 4 GiB or
-/// more memory doesn't suffice.
+/// `scratch` is kept from line to line, so that its memory serves them all. A line of 4 GiB is
+/// answered as one for which memory is missing.
 pub fn members(
     alloc: Global,
     line: &[u8],
