@@ -6,13 +6,13 @@ use Rattle.std.specs.Option.{option_len, unwrap_or}
 use Rattle.std.proofs.lemmas.List.Splits.{slice_split_at}
 use Rattle.std.proofs.lemmas.Slice.Eq.{bytes_eq-Decides}
 use Rattle.json.specs.Ascii.{slash}
-use Rattle.json.specs.Find.{get, get_member}
+use Rattle.json.specs.Find.{get_member}
 use Rattle.json.specs.Json.{Json, object}
 use Rattle.json.specs.Value.{members_of}
 use Rattle.serde_json.specs.Find.{unescape}
 use Rattle.hh_json.specs.Fields.{fields_in, key_of, keys_of, object_in, weight_of, weights_of}
-use Rattle.hh_json.specs.Laws.{EachMemberHasAPointer, FieldsAreAllOrNone, LastMemberCounts, LinesOfOneObject, PointersGoPartByPart, escaped, is_pointer}
-use Rattle.hh_json.specs.Paths.{follow, named, parts_of}
+use Rattle.hh_json.specs.Laws.{EachMemberHasAPointer, FieldsAreAllOrNone, LastMemberCounts, LinesOfOneObject, PointersGoPartByPart, escaped}
+use Rattle.hh_json.specs.Paths.{follow, parts_of}
 use Rattle.hh_json.proofs.PathFacts.{last-step}
 
 pub lines_of_one_object : LinesOfOneObject
@@ -67,12 +67,8 @@ last-found : (ms : List (Bor (List ℕ) × Json)) (m : Bor (List ℕ) × Json)
 last-found [] m = rw ((bytes_eq-Decides m.0.now m.0.now).1 refl) refl
 last-found (n ∷ ms) m = rw (last-found ms m) refl
 
-plain : (name : List ℕ) (j : Json) → is_pointer name ≡ false → named name j ≡ get name j
-plain [] j e = refl
-plain (x ∷ rest) j e = rw e refl
-
 pub last_member_counts : LastMemberCounts
-last_member_counts ms m e = plain m.0.now (object (members_of (ms ++ m ∷ []))) e ∙ last-found ms m
+last_member_counts ms m plain = rw plain (last-found ms m)
 
 -- ---- pointers
 pub pointers_go_part_by_part : PointersGoPartByPart

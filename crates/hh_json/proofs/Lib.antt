@@ -1,3 +1,4 @@
+pub mod FieldFacts
 pub mod LawFacts
 pub mod MemberFacts
 pub mod ObjectFacts

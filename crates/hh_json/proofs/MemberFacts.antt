@@ -1,12 +1,9 @@
 -- The last member of a name.
-use Rattle.std.proofs.Common.{◌≡◌, ◌∙◌, ℕ, ◌+◌, ◌<◌, List, [], ◌∷◌, ◌++◌, length, take, get_or, Bool, true, false, cond, Some, Bor, refl, sym, ap}
+use Rattle.std.proofs.Common.{◌≡◌, ℕ, List, Bool, true, false, Option, None, Some, refl}
 use Rattle.std.specs.Str.{bytes_eq}
-use Rattle.std.proofs.lemmas.List.{take_more}
 use Rattle.std.proofs.lemmas.Slice.Eq.{bytes_eq-Decides}
-use Rattle.json.specs.Find.{get_member}
-use Rattle.json.specs.Value.{members_view, value_view}
-use Rattle.json.specs.declared.value.Value.{Value}
-use Rattle.json.proofs.Trees.{get_member-push}
+use Rattle.json.specs.Find.{get_member, later_or}
+use Rattle.json.specs.Json.{Json, Members, member}
 
 -- names that differ
 differ : (a b : List ℕ) → (a ≡ b → ⊥) → bytes_eq a b ≡ false
@@ -16,19 +13,24 @@ differ a b other = by (bytes_eq a b) refl
     by true e = absurd (other ((bytes_eq-Decides a b).0 e))
     by false e = e
 
-module _ {A : Type 0} (name : List ℕ) (ms : List (Bor (List ℕ) × Value A)) (k : ℕ) (m : Bor (List ℕ) × Value A) where
-  -- the member at a place, after those before it
-  member-at : k < length ms → m ≡ get_or ms k m
-      → get_member name (members_view (take (k + 1) ms))
-      ≡ cond (bytes_eq m.0.now name) (Some (value_view m.1)) (get_member name (members_view (take k ms)))
-  member-at l e =
-      let front = take_more ms k m l ∙ ap (λ n. take k ms ++ n ∷ []) (sym e) in
-      ap (λ ns. get_member name (members_view ns)) front ∙ get_member-push name (take k ms) m
+pub nothing-earlier : (o : Option Json) → o ≡ later_or o None
+nothing-earlier None = refl
+nothing-earlier (Some j) = refl
 
-  pub member-here : k < length ms → m ≡ get_or ms k m → name ≡ m.0.now
-      → get_member name (members_view (take (k + 1) ms)) ≡ Some (value_view m.1)
-  member-here l e same = member-at l e ∙ rw ((bytes_eq-Decides m.0.now name).1 (sym same)) refl
+-- a member of that name takes the place of an earlier one
+pub member-here : (name k : List ℕ) (j : Json) (rest : Members) (earlier : Option Json) → k ≡ name
+    → later_or (get_member name (member k j rest)) earlier ≡ later_or (get_member name rest) (Some j)
+member-here name k j rest earlier same = rw ((bytes_eq-Decides k name).1 same) (by (get_member name rest))
+  where
+    by : (o : Option Json) → later_or (later_or o (Some j)) earlier ≡ later_or o (Some j)
+    by None = refl
+    by (Some i) = refl
 
-  pub member-before : k < length ms → m ≡ get_or ms k m → (name ≡ m.0.now → ⊥)
-      → get_member name (members_view (take (k + 1) ms)) ≡ get_member name (members_view (take k ms))
-  member-before l e other = member-at l e ∙ rw (differ m.0.now name (λ same. other (sym same))) refl
+-- one of another name doesn't
+pub member-other : (name k : List ℕ) (j : Json) (rest : Members) (earlier : Option Json) → (k ≡ name → ⊥)
+    → later_or (get_member name (member k j rest)) earlier ≡ later_or (get_member name rest) earlier
+member-other name k j rest earlier other = rw (differ k name other) (by (get_member name rest))
+  where
+    by : (o : Option Json) → later_or (later_or o None) earlier ≡ later_or o earlier
+    by None = refl
+    by (Some i) = refl

@@ -1,10 +1,13 @@
 -- Parts of a pointer, and names of members.
-use Rattle.std.proofs.Common.{◌≡◌, ◌≢◌, ◌==◌, ◌∙◌, ℕ, zero, suc, ◌+◌, ◌-◌, ◌<◌, ◌≤◌, Bool, true, false, List, [], ◌∷◌, length, drop, take, Option, None, Some, option_and_then, refl, sym, ap, arith, length-drop, ne_eqb, slice_index_or}
+use Rattle.std.proofs.Common.{◌≡◌, ◌≢◌, ◌==◌, ◌∙◌, ℕ, zero, suc, ◌+◌, ◌-◌, ◌<◌, ◌≤◌, Bool, true, false, List, [], ◌∷◌, length, drop, take, Option, None, Some, option_and_then, refl, sym, ap, arith, length-drop, ne_eqb, slice_index_or, true≢false}
 use Rattle.std.proofs.Math.Seq.{take-length}
+use Rattle.std.specs.Option.{is_some}
 use Rattle.json.specs.Ascii.{slash}
+use Rattle.json.specs.Find.{as_object, at, get}
+use Rattle.json.specs.Json.{Json, array, boolean, null, number, object, string}
 use Rattle.memchr.specs.Find.{Nowhere, Passes, is_byte}
-use Rattle.serde_json.specs.Find.{unescape}
-use Rattle.hh_json.specs.Paths.{parts_of}
+use Rattle.serde_json.specs.Find.{index_of, unescape}
+use Rattle.hh_json.specs.Paths.{parts_of, step}
 
 abbrev at_slash : List ℕ → ℕ → Type 0
 at_slash text = Passes (is_byte slash) text
@@ -36,7 +39,7 @@ cut-more (x ∷ text) (suc k) l none here =
 abbrev from : ℕ → List ℕ → List ℕ
 from n text = take (length text - n) (drop n text)
 
-from-drop : (n : ℕ) (text : List ℕ) → from n text ≡ drop n text
+pub from-drop : (n : ℕ) (text : List ℕ) → from n text ≡ drop n text
 from-drop n text = ap (λ k. take k (drop n text)) (sym (length-drop n text)) ∙ take-length (drop n text)
 
 -- the first slash ends the first part
@@ -47,10 +50,36 @@ parts-more text k l none here =
     let rest = ap (λ n. drop n text) next ∙ sym (from-drop (k + 1) text) in
     cut-more text k l none here ∙ ap (λ rest. take k text ∷ parts_of rest) rest
 
+-- no index leads anywhere
+abbrev none_at : ℕ → Option Json
+none_at i = None
+
+nowhere : (o : Option ℕ) → None ≡ option_and_then none_at o
+nowhere None = refl
+nowhere (Some i) = refl
+
 -- what the last step leads to is the end
 pub last-step : {A : Type 0} (o : Option A) → option_and_then Some o ≡ o
 last-step None = refl
 last-step (Some a) = refl
+
+-- a part that leads from no object is the number of an item
+pub step-item : (part : List ℕ) (j : Json) → as_object j ≡ None → step part j ≡ option_and_then (λ i. at i j) (index_of part)
+step-item part null e = nowhere (index_of part)
+step-item part (boolean b) e = nowhere (index_of part)
+step-item part (number s) e = nowhere (index_of part)
+step-item part (string s) e = nowhere (index_of part)
+step-item part (array js) e = refl
+step-item part (object ms) e = absurd (true≢false (ap is_some e))
+
+-- what is no object has no members
+pub get-none : (name : List ℕ) (j : Json) → as_object j ≡ None → get name j ≡ None
+get-none name null e = refl
+get-none name (boolean b) e = refl
+get-none name (number s) e = refl
+get-none name (string s) e = refl
+get-none name (array js) e = refl
+get-none name (object ms) e = absurd (true≢false (ap is_some e))
 
 -- ---- names that are escaped
 -- an unescaped name begins with this byte, and goes on after these bytes

@@ -1,5 +1,5 @@
 -- What holds of the fields that lines of JSON have.
-use Rattle.std.specs.Prelude.{◌≡◌, ◌==◌, ◌⊎◌, ◌+◌, ℕ, All, Bool, false, List, [], ◌∷◌, ◌++◌, Option, None, Some, codes, if◌then◌else◌, length, option_and_then}
+use Rattle.std.specs.Prelude.{◌≡◌, ◌==◌, ◌⊎◌, ◌+◌, ℕ, All, false, List, [], ◌∷◌, ◌++◌, Option, None, Some, codes, if◌then◌else◌, length, option_and_then}
 use Rattle.std.specs.Borrow.{Bor}
 use Rattle.std.specs.List.{flat_map}
 use Rattle.std.specs.Option.{option_len}
@@ -8,7 +8,7 @@ use Rattle.json.specs.Find.{get_member}
 use Rattle.json.specs.Json.{Json, Members, number, object, string}
 use Rattle.json.specs.Value.{members_of}
 use Rattle.hh_json.specs.Fields.{json_fields, key_text, object_in}
-use Rattle.hh_json.specs.Paths.{named, step}
+use Rattle.hh_json.specs.Paths.{is_pointer, named, step}
 
 -- two lines that are one object have the same fields, however they are spelled
 abbrev pub LinesOfOneObject : Type 0
@@ -25,11 +25,6 @@ FieldsAreAllOrNone =
 -- a number is the key that a string of its spelling is
 abbrev pub NumbersAreKeysAsStrings : Type 0
 NumbersAreKeysAsStrings = (s : List ℕ) → key_text (number s) ≡ key_text (string s)
-
--- the name begins with a slash
-abbrev pub is_pointer : List ℕ → Bool
-is_pointer [] = false
-is_pointer (x ∷ rest) = x == slash
 
 -- of members of one name the last counts
 abbrev pub LastMemberCounts : Type 0

@@ -1,5 +1,5 @@
 -- The values that names lead to, in a JSON value.
-use Rattle.std.specs.Prelude.{◌==◌, ℕ, Bool, false, true, List, [], ◌∷◌, Option, None, Some, if◌then◌else◌, option_and_then}
+use Rattle.std.specs.Prelude.{◌==◌, ℕ, Bool, false, true, List, [], ◌∷◌, Option, None, Some, drop, if◌then◌else◌, option_and_then}
 use Rattle.std.specs.List.{slice_split}
 use Rattle.json.specs.Ascii.{slash}
 use Rattle.json.specs.Find.{get, get_item, get_member}
@@ -29,7 +29,11 @@ abbrev pub follow : List (List ℕ) → Json → Option Json
 follow [] j = Some j
 follow (part ∷ parts) j = option_and_then (follow parts) (step part j)
 
--- the value that a name leads to: by a JSON pointer where it begins with a slash, and else the last member of that name
+-- the name is a JSON pointer: it begins with a slash
+abbrev pub is_pointer : List ℕ → Bool
+is_pointer [] = false
+is_pointer (x ∷ rest) = x == slash
+
+-- the value that a name leads to: by a pointer, or the last member of that name
 abbrev pub named : List ℕ → Json → Option Json
-named [] j = get [] j
-named (x ∷ rest) j = if x == slash then follow (parts_of rest) j else get (x ∷ rest) j
+named name j = if is_pointer name then follow (parts_of (drop 1 name)) j else get name j

@@ -4,34 +4,32 @@ ghost use Rattle.std.specs.Prelude.{◌≡◌, ◌++◌, [], IfOk, OnOk};
 ghost use Rattle.std.specs.Bool.{then_some};
 ghost use Rattle.std.specs.Prelude.{map, option_map};
 ghost use Rattle.csv.specs.Records.{fields_of, partial_of};
-ghost use Rattle.json.specs.Value.{value_view};
-ghost use Rattle.hh_json.specs.Fields.{fields_in, is_object, json_fields, key_of, key_text};
+ghost use Rattle.json.specs.Find.{BeginsWith, Finds};
+ghost use Rattle.json.specs.Json.{Json};
+ghost use Rattle.hh_json.specs.Fields.{fields_in, json_fields, key_of, key_text};
 ghost use Rattle.hh_json.specs.Fields.{keys_of, object_in, weight_of};
 
 use crate::paths::named;
 use csv::ByteRecord;
-use json::{Error, Scratch, Value};
+use json::{Element, Error, Scratch, Tape};
 use std::alloc::{AllocError, Global};
+use std::str;
 
-/// Whether a value is an object.
-fn is_object(value: &Value<'_>) -> bool
-    ensures { result ≡ is_object (value_view value.now) }
-{
-    matches!(value, Value::Object(_))
-}
-
-/// Reads the object that `line` is, where it is one.
+/// Reads the object that `line` is, where it is one, as the list of its tokens.
 fn object_in<'a>(
     alloc: Global,
     line: &'a [u8],
     scratch: &'a mut Scratch,
-) -> Result<Option<Value<'a>>, AllocError>
-    ensures { IfOk result (λ value. option_map value_view value ≡ object_in line.now) }
+) -> Result<Option<Tape<'a>>, AllocError>
+    ensures { IfOk result (λ tape. Finds tape (object_in line.now)) }
 {
-    match Value::from_slice(alloc, line, scratch) {
-        Ok(value) => {
-            if is_object(&value) {
-                Ok(Some(value))
+    let Ok(text) = str::from_utf8(line) else {
+        return Ok(None);
+    };
+    match Tape::parse(text, scratch, Vec::new(alloc)) {
+        Ok(tape) => {
+            if tape.root().members().is_some() {
+                Ok(Some(tape))
             } else {
                 Ok(None)
             }
@@ -43,44 +41,50 @@ fn object_in<'a>(
 
 /// Gives the text of a key's member: the characters of a string, a number or a word as it is
 /// spelled. `null` is as no member.
-fn key_text<'v, 'a>(value: &'v Value<'a>) -> Option<&'v [u8]>
-    ensures { option_map (λ text. text.now) result ≡ key_text (value_view value.now) }
+fn key_text<'a>(value: &Element<'_, 'a>) -> Option<&'a [u8]>
+    ensures { (j : Json) → BeginsWith value.now j
+        → option_map (λ text. text.now) result ≡ key_text j }
 {
-    match value {
-        Value::String(text) | Value::Number(text) => Some(text.as_bytes()),
-        Value::Bool(true) => Some(b"true"),
-        Value::Bool(false) => Some(b"false"),
-        Value::Null | Value::Array(_) | Value::Object(_) => None,
+    if let Some(text) = value.as_str() {
+        return Some(text.as_bytes());
+    }
+    if let Some(text) = value.as_number() {
+        return Some(text.as_bytes());
+    }
+    if value.as_bool()? {
+        Some(b"true")
+    } else {
+        Some(b"false")
     }
 }
 
 /// Gives the text of the member of a key that `name` names.
-fn key_of<'v, 'a>(object: &'v Value<'a>, name: &[u8]) -> Option<&'v [u8]>
-    ensures { option_map (λ text. text.now) result ≡ key_of (value_view object.now) name.now }
+fn key_of<'a>(object: &Element<'_, 'a>, name: &[u8]) -> Option<&'a [u8]>
+    ensures { (j : Json) → BeginsWith object.now j
+        → option_map (λ text. text.now) result ≡ key_of j name.now }
 {
-    key_text(named(object, name)?)
+    key_text(&named(object, name)?)
 }
 
 /// Gives the text of the weight that `name` names.
-fn weight_of<'v, 'a>(object: &'v Value<'a>, name: &[u8]) -> Option<&'v [u8]>
-    ensures { option_map (λ text. text.now) result ≡ weight_of (value_view object.now) name.now }
+fn weight_of<'a>(object: &Element<'_, 'a>, name: &[u8]) -> Option<&'a [u8]>
+    ensures { (j : Json) → BeginsWith object.now j
+        → option_map (λ text. text.now) result ≡ weight_of j name.now }
 {
-    match named(object, name)? {
-        Value::Number(text) => Some(text.as_bytes()),
-        _ => None,
-    }
+    Some(named(object, name)?.as_number()?.as_bytes())
 }
 
 /// Puts the members that `names` name behind `fields`, and says whether all are there.
 fn push_keys(
-    object: &Value<'_>,
+    object: &Element<'_, '_>,
     names: &[Vec<u8>],
     fields: &mut ByteRecord,
 ) -> Result<bool, AllocError>
     requires { partial_of fields.old ≡ [] }
-    ensures keys { IfOk result (λ found. then_some found (fields_of fields.new)
+    ensures keys { IfOk result (λ found. (j : Json) → BeginsWith object.now j
+        → then_some found (fields_of fields.new)
         ≡ option_map (λ texts. fields_of fields.old ++ texts)
-        (keys_of (value_view object.now) (map (λ name. name.items) names.now))) }
+        (keys_of j (map (λ name. name.items) names.now))) }
     ensures partial { OnOk result (partial_of fields.new ≡ []) }
 {
     for name in names {
@@ -95,16 +99,17 @@ fn push_keys(
 /// Puts the members that `names` name, and after them the weight's, behind `fields`, and says
 /// whether all are there.
 fn push_members(
-    object: &Value<'_>,
+    object: &Element<'_, '_>,
     names: &[Vec<u8>],
     weight: Option<&[u8]>,
     fields: &mut ByteRecord,
 ) -> Result<bool, AllocError>
     requires { partial_of fields.old ≡ [] }
-    ensures { IfOk result (λ found. then_some found (fields_of fields.new)
+    ensures { IfOk result (λ found. (j : Json) → BeginsWith object.now j
+        → then_some found (fields_of fields.new)
         ≡ option_map (λ texts. fields_of fields.old ++ texts) (fields_in
         (map (λ name. name.items) names.now) (option_map (λ name. name.now) weight.entry)
-        (value_view object.now))) }
+        j)) }
 {
     if !push_keys(object, names, fields)? {
         return Ok(false);
@@ -130,7 +135,8 @@ fn push_members(
 /// is missing, `null` or of another kind, and where `line` isn't an object that JSON in UTF-8
 /// spells, without a lone surrogate and with at most 128 levels.
 ///
-/// `scratch` is kept from line to line, so that its memory serves them all.
+/// `scratch` is kept from line to line, so that its memory serves them all. A line of 4 GiB is
+/// answered as one for which memory is missing.
 pub fn members(
     alloc: Global,
     line: &[u8],
@@ -146,7 +152,7 @@ pub fn members(
     let Some(object) = object_in(alloc, line, scratch)? else {
         return Ok(());
     };
-    if !push_members(&object, names, weight, fields)? {
+    if !push_members(&object.root(), names, weight, fields)? {
         fields.clear();
     }
     Ok(())

@@ -1,14 +1,14 @@
 //! The values that names lead to.
 
 ghost use Rattle.std.specs.Prelude.{◌≡◌, ◌<◌, ◌∷◌, ◌↔◌, [], IsTrue, MatchOption, length};
-ghost use Rattle.std.specs.Prelude.{option_map};
-ghost use Rattle.json.specs.Find.{get_member};
-ghost use Rattle.json.specs.Value.{members_view, value_view};
+ghost use Rattle.json.specs.Find.{BeginsWith, Finds, InMembers, get_member};
+ghost use Rattle.json.specs.Json.{Json};
+ghost use Rattle.json.specs.Json as spec;
 ghost use Rattle.serde_json.specs.Find.{index_of, unescape};
-ghost use Rattle.hh_json.specs.Paths.{follow, named, part_name, parts_of, step};
+ghost use Rattle.hh_json.specs.Paths.{follow, is_pointer, named, part_name, parts_of, step};
 
 use fast_float::Numeral;
-use json::Value;
+use json::{Element, Members};
 use memchr::memchr;
 
 /// Reads the first byte of `part`, unescaped, and gives what follows it.
@@ -61,23 +61,22 @@ fn is_named(part: &[u8], is_escaped: bool, name: &[u8]) -> bool
 }
 
 /// Finds the last of `members` that `part` names.
-fn member<'v, 'a>(
-    members: &'v Vec<(&'a str, Value<'a>)>,
+fn member<'t, 'a>(
+    members: Members<'t, 'a>,
     part: &[u8],
     is_escaped: bool,
-) -> Option<&'v Value<'a>>
-    ensures { option_map (λ v. value_view v.now) result
-        ≡ get_member (part_name is_escaped part.now) (members_view members.now.items) }
+) -> Option<Element<'t, 'a>>
+    ensures { (ms : spec.Members) → InMembers members.entry ms
+        → Finds result (get_member (part_name is_escaped part.now) ms) }
 {
-    let mut left = members.len();
-    while left > 0 {
-        left -= 1;
-        let (name, value) = &members[left];
+    let mut left = members;
+    let mut found = None;
+    while let Some((name, value)) = left.next() {
         if is_named(part, is_escaped, name.as_bytes()) {
-            return Some(value);
+            found = Some(value);
         }
     }
-    None
+    found
 }
 
 /// Reads `part` as the number of an item, from 0 on.
@@ -93,36 +92,41 @@ fn index_of(part: &[u8]) -> Option<usize>
 }
 
 /// Follows one part of a pointer.
-fn step<'v, 'a>(from: &'v Value<'a>, part: &[u8]) -> Option<&'v Value<'a>>
-    ensures { option_map (λ v. value_view v.now) result ≡ step part.now (value_view from.now) }
+fn step<'t, 'a>(from: &Element<'t, 'a>, part: &[u8]) -> Option<Element<'t, 'a>>
+    ensures { (j : Json) → BeginsWith from.now j → Finds result (step part.now j) }
 {
-    match from {
-        Value::Object(members) => member(members, part, true),
-        Value::Array(_) => from.at(index_of(part)?),
-        _ => None,
+    match from.members() {
+        Some(members) => member(members, part, true),
+        None => from.at(index_of(part)?),
     }
 }
 
 /// Follows the parts of a pointer, which stand in `parts` with a slash between two. It calls itself
 /// no deeper than the value nests.
-fn follow<'v, 'a>(from: &'v Value<'a>, parts: &[u8]) -> Option<&'v Value<'a>>
-    ensures { option_map (λ v. value_view v.now) result
-        ≡ follow (parts_of parts.now) (value_view from.now) }
+fn follow<'t, 'a>(from: &Element<'t, 'a>, parts: &[u8]) -> Option<Element<'t, 'a>>
+    ensures { (j : Json) → BeginsWith from.now j → Finds result (follow (parts_of parts.now) j) }
 {
     match memchr(b'/', parts) {
-        Some(end) => follow(step(from, &parts[..end])?, &parts[end + 1..]),
+        Some(end) => follow(&step(from, &parts[..end])?, &parts[end + 1..]),
         None => step(from, parts),
     }
 }
 
-/// Finds the value that `name` names in an object: by a JSON pointer where it begins with a slash,
-/// and else the last member of that name.
-pub(crate) fn named<'v, 'a>(object: &'v Value<'a>, name: &[u8]) -> Option<&'v Value<'a>>
-    ensures { option_map (λ v. value_view v.now) result ≡ named name.now (value_view object.now) }
+/// Whether `name` is a JSON pointer: it begins with a slash.
+fn is_pointer(name: &[u8]) -> bool
+    ensures { result ≡ is_pointer name.now }
 {
-    match (name, object) {
-        ([b'/', parts @ ..], _) => follow(object, parts),
-        (_, Value::Object(members)) => member(members, name, false),
-        _ => None,
+    matches!(name, [b'/', ..])
+}
+
+/// Finds the value that `name` names in an object: by a JSON pointer where it is one, and else the
+/// last member of that name.
+pub(crate) fn named<'t, 'a>(object: &Element<'t, 'a>, name: &[u8]) -> Option<Element<'t, 'a>>
+    ensures { (j : Json) → BeginsWith object.now j → Finds result (named name.now j) }
+{
+    if is_pointer(name) {
+        follow(object, &name[1..])
+    } else {
+        member(object.members()?, name, false)
     }
 }

@@ -1,12 +1,13 @@
 use Rattle.std.proofs.Common.{◌≡◌, ◌++◌, [], drop, map}
 use Rattle.std.specs.Prelude.{option_map}
 use Rattle.csv.specs.Records.{fields_of, partial_of}
-use Rattle.json.specs.Value.{value_view}
+use Rattle.json.specs.Find.{BeginsWith}
+use Rattle.json.specs.Json.{Json}
 use Rattle.hh_json.specs.Fields.{keys_of}
 use Rattle.hh_json.proofs.fields.push_keys.Given as goal
 
 abbrev pub invariant-loop-name : goal.invariant-loop-name
 invariant-loop-name l =
     (partial_of l.fields ≡ [])
-    × (option_map (λ texts. fields_of l.fn.fields ++ texts) (keys_of (value_view l.object) (map (λ name. name.items) l.names))
-    ≡ option_map (λ texts. fields_of l.fields ++ texts) (keys_of (value_view l.object) (map (λ name. name.items) (drop l.name-index l.names))))
+    × ((j : Json) → BeginsWith l.object j → option_map (λ texts. fields_of l.fn.fields ++ texts) (keys_of j (map (λ name. name.items) l.names))
+    ≡ option_map (λ texts. fields_of l.fields ++ texts) (keys_of j (map (λ name. name.items) (drop l.name-index l.names))))
