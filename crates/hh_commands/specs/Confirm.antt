@@ -42,14 +42,8 @@ CountRefused s known e = RecordsRefused known e
 abbrev pub ConfirmRefused : List ℕ → Known → ToolError → Type 0
 ConfirmRefused file known e = RefusedFrom file (λ s. CountRefused s known) e
 
--- the same above a share of one's own, which has to be a threshold for the summary's k
-abbrev pub ConfirmsAbove : Share → List ℕ → Known → List ℕ → Type 0
-ConfirmsAbove share file known rows =
-    (s : SummaryView) × (p : ℕ) × (q : ℕ) × (xs : List Entry) × HoldsSummary file s
-    × (threshold_of s.k share ≡ Some (p, q)) × ReadsAs known (Ok xs)
-    × (s.total ≡ total_of xs) × (rows ≡ rows_of (confirmed_above p q s xs))
-
--- the same as the options of rows want them, with shares of the stream's total
+-- rows are those of a summary's keys above a share, which has to be a threshold for its k, as the options
+-- of rows want them, with shares of the stream's total
 abbrev pub ConfirmsPrinted : RowOptions → Share → List ℕ → Known → List ℕ → Type 0
 ConfirmsPrinted r share file known rows =
     (s : SummaryView) × (p : ℕ) × (q : ℕ) × (xs : List Entry) × HoldsSummary file s
@@ -89,11 +83,6 @@ ConfirmRowsRefused refuses share file known e =
 abbrev pub CountAboveRefused : Option (ℕ × ℕ) → SummaryView → Known → ToolError → Type 0
 CountAboveRefused None s known e = e ≡ tool.BadThreshold
 CountAboveRefused (Some t) s known e = CountRefused s known e
-
--- the same where no bounds are compared
-abbrev pub ConfirmAboveRefused : Share → List ℕ → Known → ToolError → Type 0
-ConfirmAboveRefused share file known e =
-    RefusedFrom file (λ s. CountAboveRefused (threshold_of s.k share) s known) e
 
 -- what a refusal tells of what was compared: both totals, where they differ, and else a key outside its bounds
 abbrev pub TellsCompared : List ℕ → Known → Comparison → ToolError → Type 0

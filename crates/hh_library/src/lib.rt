@@ -21,7 +21,7 @@ pub use commands::laid_out::{
     TextRecords, add_records, condense_bounded, confirm_bounded, report_bytes,
 };
 pub use commands::plain::{
-    ask_bytes, condense_bytes, confirm_above, confirm_bytes, list_keys, summary_bytes, table_bytes,
+    ask_bytes, condense_bytes, confirm_bytes, list_keys, summary_bytes, table_bytes,
 };
 pub use hashing::hash_of;
 pub use items::item_fault;

@@ -4,7 +4,7 @@ ghost use Rattle.std.specs.Prelude.{◌≡◌, ◌++◌, false, true, Some, IfOk
 ghost use Rattle.std.specs.Io.KnownBytes.{Keeps};
 ghost use Rattle.std.specs.List.{flat_map};
 ghost use Rattle.csv.specs.Reading.{Ready, default_config, is_flexible, reader_config};
-ghost use Rattle.csv.specs.Reading.{reader_state, reader_trim, records, stops_reader};
+ghost use Rattle.csv.specs.Reading.{reader_state, reader_trim, records};
 ghost use Rattle.csv.specs.Records.{fields_of};
 ghost use Rattle.csv.specs.Writing.{default_writer, fields_written, has_written, row_text};
 ghost use Rattle.csv.specs.Writing.{text_written, with_delimiter, writer_setup};
@@ -14,7 +14,7 @@ ghost use Rattle.hh_output.specs.Outputs.{names_in, names_row, plain_output, row
 ghost use Rattle.hh_output.specs.Readers.{records_left};
 
 use crate::json::push_object;
-use csv::{ByteRecord, ErrorKind, Reader, ReaderBuilder, Writer, WriterBuilder};
+use csv::{ByteRecord, Reader, ReaderBuilder, Writer, WriterBuilder};
 use std::alloc::{AllocError, Global};
 use std::io::{Chain, Read};
 
@@ -157,20 +157,6 @@ fn reader_of<'t>(alloc: Global, text: &'t [u8]) -> Reader<Chain<&'static [u8], &
         .from_reader(alloc, BYTE_ORDER_MARK.chain(text))
 }
 
-/// The want of memory that a fault of `csv`'s reader is, where it reads from memory and takes
-/// records of any length.
-fn memory_fault(fault: &ErrorKind) -> AllocError
-    requires { stops_reader fault.now ≡ true }
-{
-    match fault {
-        ErrorKind::Io(_) | ErrorKind::OutOfMemory => AllocError,
-        ErrorKind::UnequalLengths { .. }
-        | ErrorKind::Utf8 { .. }
-        | ErrorKind::Serialize(_)
-        | ErrorKind::Deserialize { .. } => unreachable!(),
-    }
-}
-
 /// `before`, and after it the records of `text`, of columns with these `names`.
 fn with_rows(
     alloc: Global,
@@ -191,7 +177,7 @@ fn with_rows(
         match reader.read_byte_record(&mut row) {
             Ok(true) => all = with_row(all, form, names, &row)?,
             Ok(false) => return Ok(all),
-            Err(error) => return Err(memory_fault(error.kind())),
+            Err(_) => return Err(AllocError),
         }
     }
     Ok(all)

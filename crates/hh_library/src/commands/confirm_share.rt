@@ -15,7 +15,7 @@ use hh_stream::KeyHash;
 use std::alloc::Global;
 use std::io::Read;
 
-/// [`confirm_above`](crate::confirm_above) a share p/q whose two numbers are given as such, with
+/// [`confirm_bytes`](crate::confirm_bytes) above a share p/q whose two numbers are given, with
 /// 1 <= p <= q <= 4,294,967,296 and p/q at least 1/(k + 1) for the summary's k. Another one is
 /// refused ([`ToolError::BadThreshold`]) before any record is read. Keys are hashed by `hash`.
 pub fn confirm_share<R: Read + Drop>(

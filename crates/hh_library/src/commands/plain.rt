@@ -9,8 +9,7 @@ ghost use Rattle.hh_records.specs.Refusals.{RefusedAfter};
 ghost use Rattle.hh_saved.specs.declared.saved.Saved.TheVariants.{Cells, Counters};
 ghost use Rattle.hh_commands.specs.Ask.{answers};
 ghost use Rattle.hh_commands.specs.Condense.{CondenseRefused, CondensesRows};
-ghost use Rattle.hh_commands.specs.Confirm.{ConfirmAboveRefused, ConfirmRefused, ConfirmsAbove};
-ghost use Rattle.hh_commands.specs.Confirm.{ConfirmsRows};
+ghost use Rattle.hh_commands.specs.Confirm.{ConfirmRefused, ConfirmsRows};
 ghost use Rattle.hh_commands.specs.Files.{Refuses, StopsAtHead, SummaryRefused};
 ghost use Rattle.hh_commands.specs.List.{ListsKeys};
 ghost use Rattle.hh_commands.specs.Records.{SavesStream};
@@ -19,12 +18,12 @@ ghost use Rattle.hh_commands.specs.Table.{bad_table};
 
 use crate::commands::confirm::confirm_records;
 use hh_commands::{
-    Comparison, Method, ask_rows, condense_bytes_from, confirm_rows, list_rows, summary_bytes_from,
-    summary_in, table_bytes_from,
+    Comparison, Method, ask_rows, condense_bytes_from, list_rows, summary_bytes_from, summary_in,
+    table_bytes_from,
 };
 use hh_faults::ToolError;
 use hh_records::Records;
-use hh_rows::{RowOptions, Share, report_text};
+use hh_rows::report_text;
 use std::alloc::Global;
 use std::io::Read;
 
@@ -118,31 +117,4 @@ pub fn confirm_bytes<R: Read + Drop>(
     let records = Records::of_reader(alloc, reader);
     let rows = confirm_records(alloc, &summary, 1, q, records)?;
     Ok(report_text(alloc, &rows)?)
-}
-
-/// [`confirm_bytes`] above a share of the total of one's own, which is at least 1/(k + 1) for the
-/// summary's k. Another one is refused ([`ToolError::BadThreshold`]) before any record is read. A
-/// key outside its bounds refuses nothing.
-pub fn confirm_above<R: Read + Drop>(
-    alloc: Global,
-    file: &[u8],
-    share: &Share,
-    reader: R,
-) -> Result<Vec<u8>, ToolError>
-    ensures rows { IfOk result (λ rows.
-        ConfirmsAbove share.now file.now (text_known (R.remaining reader)) rows.items) }
-    ensures refused { IfErr result (λ fault.
-        ConfirmAboveRefused share.now file.now (text_known (R.remaining reader)) fault) }
-    ensures early { StopsAtHead 1 file.now result }
-{
-    let rows = RowOptions::plain();
-    let records = Records::of_reader(alloc, reader);
-    confirm_rows(
-        alloc,
-        file,
-        share,
-        &rows,
-        records,
-        &mut Comparison::new(false),
-    )
 }
