@@ -257,7 +257,7 @@ const COLUMN_ARGUMENTS: [Argument; 12] = [
         'd',
         Kind::Byte,
         DELIMITER,
-        "The byte between two fields, \\t for a tab, =- for a hyphen [default: , or, squeezed, a space]",
+        "The byte between two fields, \\t for a tab, =- for a hyphen [default: , or a space]",
     ),
     Argument::Short(
         'H',

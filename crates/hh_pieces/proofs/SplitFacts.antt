@@ -16,34 +16,11 @@ use Rattle.hh_records.specs.Layouts.{PartsRefused, RowsRefused, adds, items_afte
 use Rattle.hh_pieces.specs.Lines.{HasNoReturn, filled, filled_lines, is_line_end, line_end, line_fields, parts_in_line}
 use Rattle.hh_records.specs.Streams.{Fields, Parts, numbered_fault, parts_of}
 use Rattle.hh_pieces.proofs.QuoteFacts.{rest-all}
+use Rattle.hh_records.proofs.FormatFacts.{first-place, none-place}
 use Rattle.hh_records.proofs.ReadFacts.{items-more}
 
--- ---- the first place that passes a test
+-- ---- what is split at the first place that passes a test
 module _ (test : ℕ → Bool) where
-  -- where none does, that is the length
-  pub none-place : (hay : List ℕ) → Nowhere (Passes test hay) 0 (length hay) → position_or_len test hay ≡ length hay
-  none-place [] h = refl
-  none-place (c ∷ rest) h =
-      by (test c) refl (none-place rest (λ k a b p. h (suc k) (omega arith) (omega (arith, b)) p))
-    where
-      by : (b : Bool) → test c ≡ b → position_or_len test rest ≡ length rest
-          → position_or_len test (c ∷ rest) ≡ length (c ∷ rest)
-      by true e more = absurd (h 0 (omega arith) (omega arith) e)
-      by false e more = rw e (omega (arith, more))
-
-  pub first-place : (hay : List ℕ) (k : ℕ) → k < length hay → Nowhere (Passes test hay) 0 k → Passes test hay k
-      → position_or_len test hay ≡ k
-  first-place [] k l none here = absurd (omega (arith, l))
-  first-place (c ∷ rest) zero l none here = rw here refl
-  first-place (c ∷ rest) (suc k) l none here =
-      by (test c) refl
-      (first-place rest k (omega (arith, l)) (λ j a b p. none (suc j) (omega arith) (omega (arith, b)) p) here)
-    where
-      by : (b : Bool) → test c ≡ b → position_or_len test rest ≡ k → position_or_len test (c ∷ rest) ≡ suc k
-      by true e more = absurd (none 0 (omega arith) (omega arith) e)
-      by false e more = rw e (omega (arith, more))
-
-  -- what is split there
   pub split-none : (hay : List ℕ) → position_or_len test hay ≡ length hay → slice_split test hay ≡ hay ∷ []
   split-none [] e = refl
   split-none (c ∷ rest) e = by (test c) refl (λ l. split-none rest l)

@@ -111,9 +111,9 @@ fn effect_at(delimiter: u8, spot: Spot, byte: u8) -> (Spot, Effect)
     }
 }
 
-/// How far a text was read: which byte separates its fields, or a quote where it is read as it is, whether its header is still to end,
-/// where the next byte stands, and how many bytes the field there has so far, up to one more than
-/// are kept.
+/// How far a text was read: which byte separates its fields, or a quote where nothing is cut short;
+/// whether its header is still to end, where the next byte stands, and how many bytes the field
+/// there has so far, up to one more than are kept.
 #[derive(Clone, Copy)]
 pub(crate) struct Place {
     delimiter: u8,
@@ -422,7 +422,7 @@ impl Place {
         }
     }
 
-    /// This place or, where a text begins with `bytes` and with no byte order mark, the start of its
+    /// Gives this place or, where a text begins with `bytes` and no mark, the start of its
     /// first record.
     fn begun(self, bytes: &[u8]) -> Place
         requires separates { separates self.delimiter ≡ true }

@@ -234,7 +234,8 @@ fn push_filled(fields: &mut ByteRecord, field: &[u8]) -> Result<(), AllocError>
 
 /// Puts the fields of `row` that are not empty into `fields`.
 fn squeeze(row: &ByteRecord, fields: &mut ByteRecord) -> Result<(), AllocError>
-    ensures { OnOk result (fields_of fields.new ≡ filter (λ f. not (is_empty f)) (fields_of row.now)) }
+    ensures { OnOk result (fields_of fields.new
+        ≡ filter (λ f. not (is_empty f)) (fields_of row.now)) }
 {
     fields.clear();
     for place in 0..row.len() {

@@ -14,9 +14,8 @@ use std::alloc::{AllocError, Global};
 pub struct LayoutWords {
     /// How a record is written.
     pub format: Format,
-    /// The byte between two fields, or `\t` for a tab. It is a quote only where none is quoted. None
-    /// is a comma or, where several delimiters
-    /// are one, a space.
+    /// The byte between two fields, or `\t` for a tab. It is a quote only where none is quoted.
+    /// Nothing says a comma or, where several delimiters are one, a space.
     pub delimiter: Option<Vec<u8>>,
     /// The first record of each text names the columns.
     pub has_header: bool,
@@ -92,8 +91,8 @@ fn delimiter_said(words: &LayoutWords) -> Option<u8>
 }
 
 /// Gives the layout that `words` say. The delimiter is tested first, then the key's columns, of
-/// which objects need one, then the weight's ([`ToolError::BadDelimiter`], [`ToolError::BadColumn`]). Keys are hashed by the
-/// words that all runs have.
+/// which objects need one, then the weight's ([`ToolError::BadDelimiter`],
+/// [`ToolError::BadColumn`]). Keys are hashed by the words that all runs have.
 pub fn layout_of(alloc: Global, words: &LayoutWords) -> Result<Layout, ToolError>
     ensures layout { IfOk result (SaysLayout words.now) }
     ensures refused { IfErr result (LayoutRefused words.now) }

@@ -1,7 +1,7 @@
 use Rattle.std.proofs.Common.{◌+◌, arith, drop, length-drop, sym, ap}
 use Rattle.hh_pieces.specs.Lines.{is_line_end}
 use Rattle.hh_pieces.proofs.QuoteFacts.{rest-all}
-use Rattle.hh_pieces.proofs.SplitFacts.{first-place, none-place}
+use Rattle.hh_records.proofs.FormatFacts.{first-place, none-place}
 use Rattle.hh_pieces.proofs.lines.any_line_end.Goals as goal
 
 pub returns-in-Some-clause-end : goal.returns-in-Some-clause-end

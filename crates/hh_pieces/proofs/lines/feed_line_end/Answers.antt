@@ -2,7 +2,8 @@ use Rattle.std.proofs.Common.{◌∙◌, ◌+◌, arith, drop, length-drop, sym,
 use Rattle.csv.specs.Machine.{line_feed}
 use Rattle.memchr.specs.Find.{is_byte}
 use Rattle.hh_pieces.proofs.QuoteFacts.{rest-all}
-use Rattle.hh_pieces.proofs.SplitFacts.{ends-at-feeds, first-place, no-return-after, none-place}
+use Rattle.hh_pieces.proofs.SplitFacts.{ends-at-feeds, no-return-after}
+use Rattle.hh_records.proofs.FormatFacts.{first-place, none-place}
 use Rattle.hh_pieces.proofs.lines.feed_line_end.Goals as goal
 
 pub returns-in-Some-clause-end : goal.returns-in-Some-clause-end
