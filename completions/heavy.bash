@@ -1,7 +1,7 @@
 # bash completion of heavy; installed as share/bash-completion/completions/heavy
 _heavy() {
   local cur=${COMP_WORDS[COMP_CWORD]} prev=${COMP_WORDS[COMP_CWORD-1]} options=
-  local commands='report summarise table merge ask list describe condense confirm help'
+  local commands='report top summarise table merge ask list describe condense confirm help'
   COMPREPLY=()
   if ((COMP_CWORD == 1)); then
     mapfile -t COMPREPLY < <(compgen -W "$commands -h --help -V --version" -- "$cur")
@@ -15,6 +15,7 @@ _heavy() {
   esac
   case ${COMP_WORDS[1]} in
     report) options='-k --k -t --threshold -n --top --share --output --names --explain --progress -h --help -d --delimiter -H --header --key --weight --allow-zero --decimals --workers --memory --pieces --tree --width --depth --seed' ;;
+    top) options='--share --output --names --workers --memory --explain --progress -h --help -d --delimiter -H --header --key --weight --allow-zero --decimals' ;;
     summarise) options='-k --k --method --workers --explain --progress -h --help -d --delimiter -H --header --key --weight --allow-zero --decimals' ;;
     table) options='--width --depth --seed --workers --explain --progress -h --help -d --delimiter -H --header --key --weight --allow-zero --decimals' ;;
     merge) options='--explain -h --help' ;;

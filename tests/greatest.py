@@ -63,7 +63,7 @@ def place_of(random: Random, rows: list[tuple[bytes, int]]) -> int:
 
 def text_of(rows: list[tuple[bytes, int]]) -> bytes:
     """The rows as the program prints them."""
-    return b"".join(b"%s,%d\n" % (quoted(key), weight) for key, weight in rows)
+    return b"".join(b"%s,%d\n" % (quoted(key.replace(b'"', b'""')), weight) for key, weight in rows)
 
 
 def is_right(ended: programs.Ended, n: int, rows: list[tuple[bytes, int]]) -> bool:

@@ -14,9 +14,7 @@ pub use hh_counters::Heavy;
 pub use hh_faults::{
     BadRecordCause, KeyCause, MergeCause, ReadError, ToolError, Totals, TreeFault, WriteFault,
 };
-pub use hh_files::{
-    condense_files, confirm_files, report_files, summarise_files, table_files, top_files,
-};
+pub use hh_files::{condense_files, confirm_files, report_files, summarise_files, table_files};
 pub use hh_library::{
     ConfirmFault, add_items, ask_bytes, condense_bytes, confirm, confirm_bytes, summary_bytes,
     table_bytes,

@@ -6,7 +6,8 @@ ghost use Rattle.std.specs.List.Sorted.{IsStrictlySortedBy};
 ghost use Rattle.hh_stream.specs.Weights.{Entry, key_cmp};
 ghost use Rattle.hh_summaries.specs.Counters.{IsHonest, level};
 ghost use Rattle.hh_counters.specs.Counting.{count_of};
-ghost use Rattle.hh_top.specs.Top.{GreatestRefused, IsTopFault, exceeding, floor_of, rows_over, top};
+ghost use Rattle.hh_top.specs.Top.{GreatestRefused, IsTopFault, exceeding, floor_of, rows_over};
+ghost use Rattle.hh_top.specs.Top.{top};
 
 use hh_counters::laws::counters_bound_weights;
 use hh_counters::{Counts, Heavy, Summary};
