@@ -18,6 +18,7 @@ from random import Random
 import corpus
 import hostile
 import hostile_records
+import json_reader
 import programs
 import reference
 
@@ -129,8 +130,18 @@ def parts_of(record: list[str], key: list[int], weight: int | None, layout: Layo
     return key_text(fields), "1" if weight is None else record[weight]
 
 
+def members_in(text: bytes, layout: Layout) -> list[tuple[str, str] | None]:
+    """The records of a text of objects, a line each. A header is a line that is passed over."""
+    lines = [line for line in re.split(rb"[\r\n]", text.removeprefix(MARK)) if line]
+    rows = [json_reader.fields(layout.key, layout.weight, line) for line in lines[layout.has_header :]]
+    key, weight = list(range(len(layout.key))), None if layout.weight is None else len(layout.key)
+    return [parts_of([one.decode("latin-1") for one in row], key, weight, layout) for row in rows]
+
+
 def parts_in(text: bytes, layout: Layout) -> list[tuple[str, str] | None]:
     """The records of a text by its own header."""
+    if layout.form == b"--json":
+        return members_in(text, layout)
     rows = records_of(text, layout)
     header = []
     if layout.has_header:
@@ -156,7 +167,9 @@ def items_of(records: Records) -> list[reference.Item]:
     """The stream of some texts, or the first refusal: of the words, of a missing file, of a header, of a record."""
     layout = records.layout
     delimiter_of(layout.delimiter, layout.form)
-    for word in [*layout.key, *([] if layout.weight is None else [layout.weight])]:
+    if layout.form == b"--json" and not layout.key:
+        raise reference.Refused(BAD_COLUMN, 2)
+    for word in [*layout.key, *([] if layout.weight is None else [layout.weight])] if layout.form != b"--json" else []:
         column_of(word, layout.has_header)
     for place, text in records.texts.items():
         if text is None:
@@ -329,6 +342,19 @@ def some_layout(draw: Random, names: list[bytes]) -> Layout:
     return layout
 
 
+def json_layout(draw: Random) -> Layout:
+    """A layout of objects."""
+    key = [draw.choice(json_reader.KEYS) for _ in range(draw.choice([0] + [1] * 9 + [2, 2, 3]))]
+    layout = Layout(None, draw.random() < 0.1, key, form=b"--json", allow_zero=draw.random() < 0.2)
+    if draw.random() < 0.7:
+        layout.weight = draw.choice(json_reader.WEIGHTS)
+    if draw.random() < 0.3:
+        layout.decimals = draw.choice([1, 3])
+    if draw.random() < 0.2:
+        layout.until, layout.prefix = draw.choice([b"?", b"k", b'"', b""]), draw.choice([None, 1, 2, 4096])
+    return layout
+
+
 def words_of(draw: Random, layout: Layout) -> list[bytes]:
     """The options that say a layout, in some order. A word that begins with a hyphen is joined to its option."""
     groups = []
@@ -381,6 +407,9 @@ def case(draw: Random) -> hostile.Case:
     if draw.random() < 0.3:
         layout = Layout(layout.delimiter, False, allow_zero=layout.allow_zero, decimals=layout.decimals, form=layout.form)
         texts = [some_unquoted_text(draw, layout.delimiter) for _ in texts]
+    if draw.random() < 0.2:
+        layout = json_layout(draw)
+        texts = [json_reader.text(draw, ENDS) for _ in texts]
     files, read, given = some_files(draw, texts)
     kind, k = draw.randrange(6), draw.choice([1, 2, 3, 9, 65535])
     records = Records(layout, dict(enumerate(read, 2 if kind in (1, 2) else 1)))
@@ -426,7 +455,7 @@ def layout_of(words: list[str]) -> Layout:
                 layout.weight = left.pop(0)
             case b"--decimals":
                 layout.decimals = int(left.pop(0))
-            case b"--no-quotes" | b"--squeeze" | b"--lines" as form:
+            case b"--no-quotes" | b"--squeeze" | b"--lines" | b"--json" as form:
                 layout.form = form
             case b"--until":
                 layout.until = left.pop(0)
@@ -571,7 +600,7 @@ REPORTS = [
     # a quote is a byte as any other
     (["--no-quotes"], [b'"a,5\nb,2\n"a,1'], b'"""a",6\nb,2\n'), (["--no-quotes", "--key", "2"], [b'x,"y\nz,"y\n'], b'"""y",2\n'),
     (["--no-quotes", "--delimiter", '"', "--key", "2"], [BACKSLASH], b"GET /\\,1\n"),
-    (["--no-quotes", "--header", "--key", '"n"'], [b'"n",w\n"a,b\n'], b'"""a",1\n'),
+    (["--no-quotes", "--header", "--key", '"""n"""'], [b'"n",w\n"a,b\n'], b'"""a",1\n'),
     # several delimiters are one, and those at a line's ends none
     (["--squeeze", "--key", "2", "--weight", "1"], [b"   12 a\n 3   b \n4 a   \n"], b"a,16\nb,3\n"),
     (["--squeeze"], [b"  a   5\nb\n\n  a\n"], b"a,6\nb,1\n"), (["--squeeze", "-d", ";"], [b";;a;;5\n"], b"a,5\n"),
@@ -579,6 +608,12 @@ REPORTS = [
     # a line is a key
     (["--lines"], [b'a,1\n"x\na,1\r\n\n b'], b'"a,1",2\n b,1\n"""x",1\n'), (["--lines"], [MARK + b"a\0b\na\0b\n"], b"a\0b,2\n"),
     (["--lines", "--prefix", "1"], [b"ab\nac\nb\n"], b"a,2\nb,1\n"),
+    # an object is a record
+    (["--json", "--key", "a", "--weight", "n"], [b'{"n": 5, "a": "x"}\n{"a":"\\u0078","n":2}\n\n{"a":1,"n":1}\r\n{"n":1,"a":"1"}'], b"x,7\n1,2\n"),
+    (["--json", "--key", "/o/a,t"], [b'{"o":{"a":"x"},"t":true}\n{"t":1.10,"o":{"a":2}}\n'], b'"2,1.10",1\n"x,true",1\n'),
+    (["--json", "--key", "a", "--weight", "/n/1", "--decimals", "1"], [b'{"a":"x","n":[0,2.5]}\n{"n":[7,1],"a":"x"}\n'], b"x,3.5\n"),
+    (["--json", "--key", "t", "--prefix", "13"], [b'{"t":"2026-11-28T06:25"}\n{"t":"2026-11-28T06:59"}\n'], b"2026-11-28T06,2\n"),
+    (["--json", "--key", "a"], [b'{"a":"x","a":"y"}\n{"a":"' + b"k" * 4096 + b'"}\n'], b"k" * 4096 + b",1\ny,1\n"),
     # a part of a key's last column
     (["--until", "?#"], [b"/a?b,5\n/a#c,2\n/a,1\n/b?,1\n"], b"/a,8\n/b,1\n"), (["--prefix", "2"], [b"abc,5\nabd,2\na,1\n"], b"ab,7\na,1\n"),
     (["--key", "1,2", "--prefix", "1"], [b"xy,ab\nxy,ac\nxz,a\n"], b'"xy,a",2\n"xz,a",1\n'),
@@ -619,6 +654,12 @@ BAD_RECORDS = [
     *((["--decimals", "2"], [b"a," + weight], 1, "bad weight") for weight in BAD_DECIMALS),
     *((["--decimals", "0"], [b"a," + weight], 1, "bad weight") for weight in [*BAD_DECIMALS, b"1.5", b".5", b"0.0"]),
     *(([], [b"a," + weight], 1, "bad weight") for weight in [*BAD_DECIMALS, b"1.5", b".5", b"0.0"]),
+    *((["--json", "--key", "a", "--weight", "n"], [b'{"a":"x","n":1}\n' + line], 2, "wrong number of fields") for line in [
+        b'{"a":"x"}', b'{"n":1}', b'{"a":null,"n":1}', b'{"a":["x"],"n":1}', b'{"a":"x","n":"1"}', b'[{"a":"x","n":1}]', b"a,1", b'{"a":"\\ud800","n":1}',
+        b'{"a":"x","n":1', b'{"a":"\xff","n":1}', b'{"a":NaN,"n":1}',
+    ]),
+    *((["--json", "--key", "a", "--weight", "n"], [b'{"a":"x","n":%s}' % weight], 1, "bad weight") for weight in [b"1.5", b"1e3", b"-1"]),
+    (["--json", "--key", "a"], [b'{"a":""}'], 1, "empty key"), (["--json", "--key", "a"], [b'{"a":"' + b"k" * 4097 + b'"}'], 1, "key too long"),
     (["--squeeze"], [b"a 1\n   \n"], 2, "wrong number of fields"), (["--no-quotes"], [b'"a,b",1\n'], 1, "wrong number of fields"),
     (["--lines", "--key", "2"], [b"a,b\n"], 1, "wrong number of fields"), (["--until", "?"], [b"a\n?b\n"], 2, "empty key"),
     (["--prefix", "0"], [b"a\n"], 1, "empty key"), (["--lines"], [b"a\n" + b"k" * 4097], 2, "key too long"),
@@ -641,7 +682,7 @@ BAD_OPTIONS = [
     *((["--weight", word], BAD_COLUMN) for word in NO_WEIGHTS),
     *((["--header", option, "0"], BAD_COLUMN) for option in ("--key", "--weight")),
     (["--header", "--key", "a,0"], BAD_COLUMN), (["--header", "--key=a", "--key=000"], BAD_COLUMN),
-    (["--key=-1"], BAD_COLUMN),
+    (["--key=-1"], BAD_COLUMN), (["--json"], BAD_COLUMN), (["--json", "--weight", "n"], BAD_COLUMN),
     (["--delimiter", "", "--key", "0"], BAD_DELIMITER),
 ]
 

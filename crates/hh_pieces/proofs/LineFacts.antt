@@ -235,9 +235,11 @@ pub piece-pairs : (b : Bool) (layout : Layout) (at : Places) (bytes : List ℕ)
     → OnTrue b ((at.columns ≡ None) × (is_whole_field at.part ≡ true) × (at.format ≡ layout.format))
     → OnTrue b (ReadsPairs layout (Some at) bytes)
 piece-pairs false layout at bytes h = tt
-piece-pairs true layout at bytes h =
-    (at.names, ap Some (pairs-of at (rows_in layout bytes) h.0 h.1)
-    ∙ ap (λ f. Some (map (λ r. parts_of (fields_by f at.names r)) (rows_in layout bytes))) h.2)
+piece-pairs true layout at bytes h = (
+  at.names,
+  ap Some (pairs-of at (rows_in layout bytes) h.0 h.1)
+      ∙ ap (λ f. Some (map (λ r. parts_of (fields_by f at.names r)) (rows_in layout bytes))) h.2,
+)
 
 -- and those of a text without a header
 pub text-pairs : (b : Bool) (layout : Layout) (bytes : List ℕ)
@@ -247,8 +249,9 @@ pub text-pairs : (b : Bool) (layout : Layout) (bytes : List ℕ)
 text-pairs false layout bytes h = tt
 text-pairs true layout bytes h =
     let rows = rows_in layout bytes in
-    let columns : columns_among layout (field_names layout []) ≡ Some None = rw h.1 refl in
-    (member_names layout,
-    ap (λ b. if b then headed_parts layout rows else option_map (λ at. map (parts_at at) rows) (places_in layout [])) h.0
-    ∙ ap (λ o. option_map (λ at. map (parts_at at) rows) (option_map (by_columns layout) o)) columns
-    ∙ ap Some (pairs-of (by_columns layout None) rows refl h.2))
+    let columns : columns_among layout (field_names layout []) ≡ Some None = rw h.1 refl in (
+      member_names layout,
+      ap (λ b. if b then headed_parts layout rows else option_map (λ at. map (parts_at at) rows) (places_in layout [])) h.0
+          ∙ ap (λ o. option_map (λ at. map (parts_at at) rows) (option_map (by_columns layout) o)) columns
+          ∙ ap Some (pairs-of (by_columns layout None) rows refl h.2),
+    )

@@ -195,10 +195,7 @@ fn plain_text<'t>(layout: &Layout, columns: Option<&Columns>, piece: &'t [u8]) -
 {
     let text = &piece[mark_len(piece)..];
     let quoting = layout.format.has_quotes();
-    if has_pairs(layout, columns)
-        && has_plain_lines(layout)
-        && sees_no_quote(text, quoting)
-    {
+    if has_pairs(layout, columns) && has_plain_lines(layout) && sees_no_quote(text, quoting) {
         Some(text)
     } else {
         None

@@ -261,7 +261,6 @@ module _ (layout : Layout) (few : layout.decimals ≤ 255) where
       by (Ok es) more = ap (joined es) (more es)
       by (Err c) more = refl
 
-
   abbrev AlikeText : Option (List Parts) → Option (List Parts) → Type 0
   AlikeText None None = ⊤
   AlikeText None (Some q) = ⊥

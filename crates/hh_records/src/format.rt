@@ -280,7 +280,14 @@ fn read_members(
         }
         _ => {
             let line = line_of(alloc, row)?;
-            members(alloc, line.as_slice(), names.key.as_slice(), weight, scratch, fields)
+            members(
+                alloc,
+                line.as_slice(),
+                names.key.as_slice(),
+                weight,
+                scratch,
+                fields,
+            )
         }
     }
 }
