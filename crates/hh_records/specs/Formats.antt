@@ -18,6 +18,7 @@ has_quotes format.Squeezed = false
 has_quotes format.Lines = false
 has_quotes format.Json = false
 
+-- whether records are JSON objects
 abbrev pub is_json : Format → Bool
 is_json format.Csv = false
 is_json format.Unquoted = false
@@ -33,6 +34,7 @@ byte_between format.Squeezed delimiter = delimiter
 byte_between format.Lines delimiter = 0
 byte_between format.Json delimiter = 0
 
+-- whether a field has no bytes
 abbrev pub is_empty : List ℕ → Bool
 is_empty [] = true
 is_empty (c ∷ rest) = false
@@ -45,6 +47,7 @@ line_of r = bytes.joined (0 ∷ []) r
 abbrev pub Names : Type 0
 Names = List (List ℕ) × Option (List ℕ)
 
+-- the names that these are in a program
 abbrev pub names_said : MemberNames → Names
 names_said names = (map (λ name. name.items) names.key.items, option_map (λ name. name.items) names.weight)
 
@@ -61,6 +64,7 @@ fields_by format.Json names r = json_fields names.0 names.1 (line_of r)
 abbrev pub Part : Type 0
 Part = List ℕ × Option ℕ
 
+-- the part that this is in a program
 abbrev pub part_said : KeyPart → Part
 part_said part = (part.until.items, part.prefix)
 
@@ -70,10 +74,12 @@ is_whole_field ([], None) = true
 is_whole_field ([], Some n) = false
 is_whole_field (b ∷ until, prefix) = false
 
+-- at most this many bytes of a field, where there is a number
 abbrev pub shortened : Option ℕ → List ℕ → List ℕ
 shortened None f = f
 shortened (Some n) f = take n f
 
+-- this part of a field
 abbrev pub part_of : Part → List ℕ → List ℕ
 part_of part f = shortened part.1 (take (position_or_len (is_in part.0) f) f)
 

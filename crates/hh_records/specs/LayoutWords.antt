@@ -41,9 +41,11 @@ byte_said words = delimiter_said words.format (option_map (λ word. word.items) 
 abbrev pub Naming : Type 0
 Naming = Bool × Bool
 
+-- how these words name them
 abbrev pub naming : LayoutWords → Naming
 naming words = (is_json words.format, words.has_header)
 
+-- a column is the member of this name
 abbrev pub IsMember : List ℕ → Column → Type 0
 IsMember word (column.Number n) = ⊥
 IsMember word (column.Name name) = name.items ≡ word

@@ -214,6 +214,7 @@ abbrev pub name_of : Column → List (List ℕ)
 name_of (column.Number n) = []
 name_of (column.Name name) = name.items ∷ []
 
+-- the name of the member that the weight is
 abbrev pub weight_name : Option Column → Option (List ℕ)
 weight_name None = None
 weight_name (Some (column.Number n)) = None
