@@ -845,6 +845,7 @@ class CommandLine(programs.Checks):
         """Records without a second field where another delimiter stands in most lines, and a quote that stays open."""
         other = "no record has a second field, and most lines have a %s: --delimiter '%s'"
         tab, semicolon, bar = other % ("tab", r"\t"), other % ("semicolon", ";"), other % ("bar", "|")
+        objects = "most lines begin with {: --json --key NAME reads objects"
         opened, buffer = "a quote is open at the end of standard input", b"k,1\n" * 16_383
         for text, note in [
             (b"", ""), (b"a\nb\n", ""), (RECORDS, ""), (b"a\t1\n", tab), (b"a\t1\nb\t2\nc\n", tab), (b"a\t1\nb\n", ""),
@@ -856,6 +857,7 @@ class CommandLine(programs.Checks):
             (b'a,"1', opened), (b"a,1\n" * 50_000 + b'"b', opened), (b'a,1\n"' + b"b" * 4000 + b'"\n', ""),
             (buffer + b'abc,"1', opened), (buffer + b'abcd"\n', ""), (buffer + b'abc\n"b', opened), (buffer + b'"bc"""\n', ""),
             (b'"a;b', f"{semicolon}\nheavy: note: {opened}"), (b'a;"b', semicolon),
+            (b'{"a":1}\n{"a":2}\nx\n', objects), (b'{"a":1}\nx\n', ""), (b'x{\n', ""), (b'{"a":"b;c"}\n', objects),
         ]:
             self.notes(["summarise", "--k", "2"], note, text)
         commands = [["report"], ["table", "--width", "2"], ["report", "-"], ["report", "--header"], ["report", "--allow-zero"]]

@@ -64,7 +64,7 @@ impl LastRecord {
         LastRecord {
             delimiter,
             place,
-            is_quoted: true,
+            is_quoted: delimiter != b'"',
             size: RecordSize {
                 bytes: MOST_BYTES + 1,
                 lines: 1,
@@ -75,7 +75,7 @@ impl LastRecord {
 
     /// Begins a record with `byte`.
     fn begin(&mut self, byte: u8) {
-        self.is_quoted = byte == b'"';
+        self.is_quoted = byte == b'"' && self.delimiter != b'"';
         self.size = RecordSize { bytes: 1, lines: 1 };
     }
 

@@ -8,6 +8,8 @@ use std::cell::Cell;
 #[derive(Clone, Copy)]
 struct Line {
     is_empty: bool,
+    /// Whether it begins as a JSON object.
+    is_object: bool,
     has_tab: bool,
     has_semicolon: bool,
     has_bar: bool,
@@ -15,6 +17,7 @@ struct Line {
 
 const EMPTY: Line = Line {
     is_empty: true,
+    is_object: false,
     has_tab: false,
     has_semicolon: false,
     has_bar: false,
@@ -24,6 +27,7 @@ impl Line {
     fn with(self, byte: u8) -> Line {
         Line {
             is_empty: false,
+            is_object: self.is_object || (self.is_empty && byte == b'{'),
             has_tab: self.has_tab || byte == b'\t',
             has_semicolon: self.has_semicolon || byte == b';',
             has_bar: self.has_bar || byte == b'|',
@@ -44,6 +48,7 @@ pub struct LongRecord {
 pub struct FormatHints {
     has_comma: bool,
     lines: u64,
+    objects: u64,
     tabs: u64,
     semicolons: u64,
     bars: u64,
@@ -56,6 +61,7 @@ pub struct FormatHints {
 pub const NOTHING: FormatHints = FormatHints {
     has_comma: false,
     lines: 0,
+    objects: 0,
     tabs: 0,
     semicolons: 0,
     bars: 0,
@@ -70,6 +76,7 @@ impl FormatHints {
         }
         FormatHints {
             lines: self.lines.saturating_add(1),
+            objects: self.objects.saturating_add(u64::from(line.is_object)),
             tabs: self.tabs.saturating_add(u64::from(line.has_tab)),
             semicolons: self
                 .semicolons
@@ -93,6 +100,11 @@ impl FormatHints {
     /// Whether `lines` are more than half of the lines.
     fn are_most(self, lines: u64) -> bool {
         lines > self.lines / 2
+    }
+
+    /// Whether most lines begin as JSON objects, and no comma is in any.
+    pub fn are_objects(self) -> bool {
+        !self.has_comma && self.are_most(self.objects)
     }
 
     /// Gives what stands in most lines in place of a comma, which is in none, with the word for it.

@@ -82,6 +82,9 @@ fn wanted(cause: BadRecordCause, layout: &LayoutWords) -> &'static str {
             "a record is key,weight or a key alone; --key and --weight choose columns"
         }
         BadRecordCause::EmptyKey | BadRecordCause::KeyTooLong => "a key has 1 to 4096 bytes",
+        BadRecordCause::BadWeight if layout.format.is_json() => {
+            "a weight is a whole number from 1 on, or with --decimals one with a point"
+        }
         BadRecordCause::BadWeight if decimals > 0 => DECIMAL,
         BadRecordCause::BadWeight => WEIGHT,
         BadRecordCause::ZeroWeight if decimals > 0 => {
@@ -678,7 +681,11 @@ fn input_name(asked: &Invocation, number: u64) -> Name<'_> {
 
 /// Prints where records that were read look like another format.
 pub fn print_format_hint(rt: &HostRuntime, hints: FormatHints, asked: &Invocation) {
-    if let Some((name, word)) = hints.delimiter() {
+    if hints.are_objects() {
+        let _ = eprintln!(rt;
+            "heavy: note: most lines begin with {{: --json --key NAME reads objects"
+        );
+    } else if let Some((name, word)) = hints.delimiter() {
         let _ = eprintln!(rt;
             "heavy: note: no record has a second field, and most lines have a {name}: \
             --delimiter '{word}'"
