@@ -14,7 +14,7 @@ import reference
 
 FEW, MANY = 10_000, 1_000_000
 KILOBYTE = 1024
-STEP, MORE, MOST = 256, 1024, 128 * 1024  # kilobytes
+STEP, MORE, MOST = 256, 4096, 128 * 1024  # kilobytes; what two workers hold at once differs by chance
 SHORT_FIELD, LONG_FIELD = 200_000, 20_000_000
 # of a file, in bytes: more than a worker holds of a piece, and much more
 SHORT_FILE = 3_000_000
@@ -119,7 +119,7 @@ class OnePass(programs.Checks):
             enough = range(STEP, MOST, STEP)
             least = next((size for size in enough if within([program, *words], few, size).status == status), MOST)
             limited = within([program, *words], many, least + MORE)
-            said = f"{least} KB are enough for a short field, and 1 MB more was not for a long one: {limited.err!r}"
+            said = f"{least} KB are enough for a short field, and 4 MB more was not for a long one: {limited.err!r}"
             ends = limited.status == status and limited.out == ample.out
             self.check(f"{name}: in bounded memory", least < MOST and ends, said)
 
@@ -142,7 +142,7 @@ class OnePass(programs.Checks):
                 least = next((size for size in enough if within([*words, few], b"", size).status == status), MOST)
                 limited = within([*words, many], b"", least + MORE)
                 same = (limited.status, limited.out, limited.err) == (ample.status, ample.out, ample.err)
-                said = f"{least} KB are enough for a short field, and 1 MB more was not for a long one: {limited.err!r}"
+                said = f"{least} KB are enough for a short field, and 4 MB more was not for a long one: {limited.err!r}"
                 self.check(f"{command[0]} of a file, {name}: in bounded memory", least < MOST and same, said)
 
 
