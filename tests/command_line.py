@@ -892,6 +892,24 @@ class CommandLine(programs.Checks):
         self.tells(["report"], r'standard input, line 1, "\"": a key has 1 to 4096 bytes', 3, b'"')
         self.tells(["report"], r'standard input, line 2, "\"\"": a key has 1 to 4096 bytes', 3, b"a;1\n\"\"\n")
 
+    def test_notes_about_few_keys(self) -> None:
+        """A report of fewer keys than rows were asked for, or of none, says how many there are, and what shows more."""
+        text = b"a,6\nb,3\nc,1\n"
+        two, names = "2 keys weigh more than 1/10 of the total: --k 99 shows those above 1/100", ["--names"]
+        one = "1 key weighs more than 1/2 of the total: --k 19 shows those above 1/20"
+        none = "no key weighs more than %s of the total: %s"
+        for words, note in [
+            (["--k", "9"], ""), (["--k", "9", "--top", "2"], ""), (["--k", "9", "--top", "3"], two), (["--k", "1"], ""),
+            (["--k", "1", "--top", "2"], one), (["--k", "9", "--top", "3", *names], two), (["--k", "9", "--top", "2", *names], ""),
+            (["--k", "9", "--top", "3", *names, "--output", "json"], two), (["--k", "9", "--top", "3", *names, "--output", "tsv"], two),
+            (["--threshold", "9/10"], none % ("9/10", "a smaller --threshold shows more")), (["--threshold", "1/2"], ""),
+            (["--k", "9999", "--top", "4"], "3 keys weigh more than 1/10000 of the total: --k 65535 shows those above 1/65536"),
+            (["--k", "65535", "--top", "4"], "3 keys weigh more than 1/65536 of the total: `heavy top 4` shows the greatest"),
+        ]:
+            self.notes(["report", *words], note, text)
+        self.notes(["report", "--k", "1"], none % ("1/2", "--k 19 shows those above 1/20"), b"a\nb\n")
+        self.notes(["report", "--k", "1", "--top", "1"], "", b'"a\nb"\n')
+
     def test_notes_about_last_records(self) -> None:
         """A last record that begins with a quote and has more than 100 lines or 65,536 bytes: one line, always."""
         note = "heavy: note: the last record of %s begins with a quote and has %d lines, %d bytes: a quote that isn't closed takes all that follows\n"

@@ -4,7 +4,7 @@
 
 use heavy_answers::answer;
 use heavy_host::hold_closed;
-use heavy_progress::{Begin, NOTHING};
+use heavy_progress::{Begin, NOTHING, RowCount, RowWriter};
 use heavy_requests::{
     Inputs, Unread, UsageError, read_request, shared_progress, status_after, status_of,
     status_of_usage,
@@ -29,7 +29,8 @@ fn main(rt: HostRuntime) -> ExitCode {
     let begin = Begin::new(rt.alloc());
     let progress = shared_progress(&rt, &asked);
     let inputs = Inputs::new(&rt, &asked, progress.as_ref(), &unread, &hints, &begin);
-    let mut out = Out::new(rt.stdout());
+    let rows = RowCount::new();
+    let mut out = Out::new(RowWriter::new(rt.stdout(), &rows));
     let outcome = answer(&rt, &inputs, &asked, &mut out, &mut compared);
-    status_of(inputs, &asked, outcome, &compared)
+    status_of(inputs, &asked, outcome, &compared, rows.number())
 }

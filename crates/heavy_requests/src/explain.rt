@@ -8,6 +8,7 @@ use crate::usage_report::UsageReport;
 use heavy_progress::FormatHints;
 use hh_commands::{Comparison, Outside};
 use hh_faults::{BadRecordCause, ToolError, Totals};
+use hh_output::Form;
 use hh_records::{Column, LayoutWords, column_of, pointed};
 use hh_rows::{Share, threshold_of};
 use std::fmt;
@@ -707,4 +708,60 @@ pub fn print_last_record(rt: &HostRuntime, hints: FormatHints, asked: &Invocatio
             {bytes} bytes: a quote that isn't closed takes all that follows"
         );
     }
+}
+
+/// How many keys a report has, as a sentence begins.
+#[derive(Clone, Copy)]
+struct KeysAbove(u64);
+
+impl fmt::Display for KeysAbove {
+    fn fmt<W: fmt::Write>(&self, f: &mut fmt::Formatter<W>) -> fmt::Result {
+        match self.0 {
+            0 => f.write_str("no key weighs"),
+            1 => f.write_str("1 key weighs"),
+            number => write!(f, "{number} keys weigh"),
+        }
+    }
+}
+
+/// Gives the number of counters that find keys of a tenth of the share that `k` counters find, as
+/// far as there may be as many.
+fn larger_k(k: u64) -> u64 {
+    k.saturating_mul(10).saturating_add(9).min(MOST_COUNTERS)
+}
+
+/// Prints how many keys a report has, of which `rows` were written, where it has fewer than were
+/// asked for or none, and what shows more.
+pub fn print_few_keys(rt: &HostRuntime, asked: &Invocation, rows: u64) {
+    let Request::Report {
+        options,
+        rows: wanted,
+        ..
+    } = &asked.request
+    else {
+        return;
+    };
+    let has_header = asked.output.has_names && asked.output.form != Form::Json;
+    let keys = rows.saturating_sub(u64::from(has_header));
+    let top = wanted.top.unwrap_or(1);
+    if keys >= top {
+        return;
+    }
+    let (k, keys) = (options.k, KeysAbove(keys));
+    let next = larger_k(k);
+    let _ = match &options.threshold {
+        Share::Text(share) => eprintln!(rt;
+            "heavy: note: {keys} more than {} of the total: a smaller --threshold shows more",
+            Name(share.as_slice())
+        ),
+        Share::OfCounters if k < next => eprintln!(rt;
+            "heavy: note: {keys} more than 1/{} of the total: --k {next} shows those above 1/{}",
+            k.saturating_add(1),
+            next.saturating_add(1)
+        ),
+        Share::OfCounters => eprintln!(rt;
+            "heavy: note: {keys} more than 1/{} of the total: `heavy top {top}` shows the greatest",
+            k.saturating_add(1)
+        ),
+    };
 }

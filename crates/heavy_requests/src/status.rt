@@ -1,8 +1,8 @@
 //! How a run of the program ends: what it prints on standard error, and its exit status.
 
 use crate::explain::{
-    Lines, explain, explains_faults, names_records, print_contradicted, print_format_hint,
-    print_last_record, print_own_k,
+    Lines, explain, explains_faults, names_records, print_contradicted, print_few_keys,
+    print_format_hint, print_last_record, print_own_k,
 };
 use crate::inputs::Inputs;
 use crate::record_place::Texts;
@@ -71,13 +71,14 @@ pub fn status_of_usage(rt: &HostRuntime, report: &UsageReport) -> ExitCode {
     }
 }
 
-/// Prints what came of what was asked for, and gives its status. Where files of records are not
-/// what they were before, the first one has the fault.
+/// Prints what came of what was asked for, of which `rows` were written, and gives its status. Where
+/// files of records are not what they were before, the first one has the fault.
 pub fn status_of(
     inputs: Inputs<'_>,
     asked: &Invocation,
     outcome: Result<(), ToolError>,
     compared: &Comparison,
+    rows: u64,
 ) -> ExitCode {
     let rt = inputs.rt;
     match outcome {
@@ -86,6 +87,7 @@ pub fn status_of(
             let hints = inputs.hints.get();
             if explains_faults(rt, asked) {
                 print_format_hint(rt, hints, asked);
+                print_few_keys(rt, asked, rows);
             }
             print_last_record(rt, hints, asked);
             if let Some(outside) = &compared.outside {
