@@ -1,21 +1,29 @@
 -- The greatest keys of files that are read twice.
-use Rattle.std.proofs.Common.{◌≡◌, ◌∙◌, ℕ, Bool, List, Option, Some, None, Ok, Err, Result, Global, Vec, sym, ap, subst}
-use Rattle.std.specs.Prelude.{IfErr, IfOk, true}
-use Rattle.std.specs.Map.{keys_of}
+use Rattle.std.proofs.Common.{◌≡◌, ◌∙◌, ℕ, ◌≤◌, Bool, List, [], ◌∷◌, Option, Some, None, refl, sym, ap, subst, arith, fold, map}
+use Rattle.std.specs.Prelude.{IfSome, IsSome, option_map, true}
+use Rattle.hh_stream.specs.Cuttings.{whole_of}
 use Rattle.hh_stream.specs.Ranges.{in_range}
-use Rattle.hh_stream.specs.Weights.{Bytes, Entry, total_of}
-use Rattle.hh_summaries.specs.Counters.{IsHonest, SummaryView, max_k}
+use Rattle.hh_stream.specs.Weights.{Bytes, Entry, max_total, total_of}
+use Rattle.hh_summaries.specs.Counters.{max_k}
 use Rattle.hh_counters.specs.Counting.{Count, count_of}
-use Rattle.hh_counters.specs.declared.report.Heavy.{Heavy}
-use Rattle.hh_top.specs.Top.{GreatestRefused, IsTopFault, IsUncertain, exceeding, floor_of, top}
+use Rattle.hh_tally.specs.Laws.{BoundsFollow}
+use Rattle.hh_tally.specs.Tallies.{AreBounds, TallyView, empty_tally, tally_with}
+use Rattle.hh_tally.specs.declared.room.Room.{Room}
+use Rattle.hh_top.specs.Top.{GreatestRefused, IsTopFault, top}
+use Rattle.hh_pieces.specs.CutTexts.{AreReadByPieces}
+use Rattle.hh_pool.specs.Tallied.{BoundsSome}
+use Rattle.hh_records.specs.Layouts.{stream_with}
+use Rattle.hh_records.specs.Taking.{TakesItems}
+use Rattle.hh_records.specs.declared.layout.Layout.{Layout}
 use Rattle.hh_workers.specs.Workers.{max_workers}
 use Rattle.hh_records.specs.Refusals.{RecordsRefused}
-use Rattle.hh_records.specs.Streams.{Known, Reading, ReadsAs}
+use Rattle.hh_records.specs.Streams.{Known, Reading}
 use Rattle.hh_rows.specs.Printed.{printed_rows}
 use Rattle.hh_rows.specs.declared.printed.RowOptions.{RowOptions}
 use Rattle.hh_commands.specs.Records.{CountsRecords}
-use Rattle.hh_files.specs.SummaryFiles.{SummarisesRecords}
-use Rattle.hh_files.specs.TopFiles.{FindsTop, PrintsTop, TopFilesRefused, TopRefused}
+use Rattle.hh_files.specs.ReportFiles.{items_or_too_many, lists_of}
+use Rattle.hh_files.specs.TopFiles.{FindsTop, PrintsTop, TalliesRecords, TopFilesRefused, TopRefused}
+use Rattle.hh_files.proofs.FilePieceFacts.{each_is_read}
 use Rattle.hh_faults.specs.declared.error.ToolError.{ToolError}
 use Rattle.hh_faults.specs.declared.error.ToolError.TheVariants as tool
 
@@ -28,36 +36,77 @@ records_refuse n known e h = h
 pub keys_counted : (known : Known) (ks : List Bytes) (counts : Count) → CountsRecords known ks counts → counts.keys ≡ ks
 keys_counted known ks counts (ys, again, (weigh, counted)) = ap (λ (c : Count). c.keys) counted
 
-module _ (names : Bool) (n : ℕ) (s : SummaryView) (ks : List Bytes) (counts : Count) where
+module _ (names : Bool) (n : ℕ) (room : Room) (t : TallyView) where
+  -- what is found of a tally that lost nothing is of the records
+  pub exact_found : (o : Option (Option Reading)) (keys : List Entry)
+      → TalliesRecords room (record { names_columns = names; reading = o }) t
+      → ((xs : List Entry) → AreBounds t xs → keys ≡ top n xs)
+      → FindsTop n (record { names_columns = names; reading = o }) t.total keys
+  exact_found None keys made found = tt
+  exact_found (Some r) keys (xs, read, of, bounds) found = (xs, read, bounds.counted, found xs bounds)
+
+module _ (names : Bool) (n : ℕ) (room : Room) (t : TallyView) (ks : List Bytes) (counts : Count) where
   -- what was found of the records is theirs where both readings are one
-  pub top_found : (o : Option (Option Reading)) (total : ℕ) (keys : List Entry)
-      → SummarisesRecords max_k (record { names_columns = names; reading = o }) s
+  pub top_found : (o : Option (Option Reading)) (keys : List Entry)
+      → TalliesRecords room (record { names_columns = names; reading = o }) t
       → CountsRecords (record { names_columns = names; reading = o }) ks counts
-      → ((xs : List Entry) → IsHonest s.counters s.total xs s.k → counts ≡ count_of counts.keys xs → keys ≡ top n xs)
-      → total ≡ s.total → FindsTop n (record { names_columns = names; reading = o }) total keys
-  top_found None total keys made counted found is = tt
-  top_found (Some r) total keys (xs, read, of, honest) (ys, again, (weigh, counted)) found is =
+      → ((xs : List Entry) → AreBounds t xs → counts ≡ count_of counts.keys xs → keys ≡ top n xs)
+      → FindsTop n (record { names_columns = names; reading = o }) t.total keys
+  top_found None keys made counted found = tt
+  top_found (Some r) keys (xs, read, of, bounds) (ys, again, (weigh, counted)) found =
       let same : ys ≡ xs = cc in
       let own : counts ≡ count_of counts.keys xs = counted ∙ ap (count_of ks) same
       ∙ ap (λ ks. count_of ks xs) (sym (ap (λ (c : Count). c.keys) counted)) in
-      (xs, read, is ∙ honest.counted, found xs honest own)
+      (xs, read, bounds.counted, found xs bounds own)
 
   -- and so is what a refusal tells
   pub top_refused : (o : Option (Option Reading)) (e : ToolError)
-      → SummarisesRecords max_k (record { names_columns = names; reading = o }) s
+      → TalliesRecords room (record { names_columns = names; reading = o }) t
       → CountsRecords (record { names_columns = names; reading = o }) ks counts
       → IsTopFault e
-      → ((xs : List Entry) → IsHonest s.counters s.total xs s.k → counts ≡ count_of counts.keys xs
-      → GreatestRefused xs n s.k e)
+      → ((xs : List Entry) → AreBounds t xs → counts ≡ count_of counts.keys xs → GreatestRefused xs n max_k e)
       → TopRefused n (record { names_columns = names; reading = o }) e
   top_refused None (tool.TopUncertain certain most) made counted kind h = tt
-  top_refused (Some r) (tool.TopUncertain certain most) (xs, read, of, honest) (ys, again, (weigh, counted)) kind h =
+  top_refused (Some r) (tool.TopUncertain certain most) (xs, read, of, bounds) (ys, again, (weigh, counted)) kind h =
       let same : ys ≡ xs = cc in
       let own : counts ≡ count_of counts.keys xs = counted ∙ ap (count_of ks) same
       ∙ ap (λ ks. count_of ks xs) (sym (ap (λ (c : Count). c.keys) counted)) in
-      (xs, read, subst (λ k. IsUncertain xs n k certain most) of (h xs honest own))
+      (xs, read, h xs bounds own)
   top_refused o tool.Memory made counted kind h = tt
   top_refused o e made counted kind h = absurd kind
+
+-- ---- tallies of records
+module _ (room : Room) (t : TallyView) where
+  -- a tally that workers bring back is one of the records
+  pub pieces_tally : (layout : Layout) (names : Bool) (texts : Option (List (List ℕ))) (count : ℕ)
+      (o : Option (List (Option (List Entry))))
+      → IfSome texts (λ texts. (pieces : List (Option (List Entry))) × (o ≡ Some pieces)
+      × AreReadByPieces layout texts pieces)
+      → t.room ≡ room → BoundsSome t → (IsSome o → AreBounds t (whole_of (lists_of count o))) → t.total ≤ max_total
+      → TalliesRecords room (record { names_columns = names; reading = option_map (stream_with layout) texts }) t
+  pieces_tally layout names None count o read of (xs, bounds) whole few = (xs, tt, of, bounds)
+  pieces_tally layout names (Some texts) count o (pieces, known, read) of some whole few =
+      let lists = map items_or_too_many pieces in
+      let bounds = subst (λ (o : Option (List (Option (List Entry)))). AreBounds t (whole_of (lists_of count o))) known
+      (whole (rw known refl)) in
+      let bounded : total_of (whole_of lists) ≤ max_total = omega (arith, bounds.counted, few) in
+      (whole_of lists, read lists (each_is_read pieces bounded) bounded, of, bounds)
+
+-- items leave the room as it is
+room-fold : (xs : List Entry) (t : TallyView) → (fold tally_with t xs).room ≡ t.room
+room-fold [] t = refl
+room-fold (e ∷ xs) t = room-fold xs (tally_with t e)
+
+-- so is one that takes their items one by one
+pub taken_tally : BoundsFollow → (room : Room) (known : Known) (start t : TallyView) → start ≡ empty_tally room
+    → TakesItems tally_with known start t → TalliesRecords room known t
+taken_tally law room known start t is took =
+    let all : t ≡ fold tally_with (empty_tally room) took.xs = took.taken ∙ ap (λ s. fold tally_with s took.xs) is in (
+      took.xs,
+      took.reads,
+      ap (λ (t : TallyView). t.room) all ∙ room-fold took.xs (empty_tally room),
+      subst (λ (t : TallyView). AreBounds t took.xs) (sym all) (law.1 (empty_tally room) [] took.xs (law.0 room)),
+    )
 
 -- the rows of what was found are those of the greatest keys
 pub rows_of_top : (r : RowOptions) (n : ℕ) (names : Bool) (o : Option (Option Reading)) (total : ℕ) (keys : List Entry)

@@ -4,6 +4,8 @@ use Rattle.std.specs.Prelude.{◌≡◌, ℕ, List, Ok}
 use Rattle.hh_stream.specs.Ranges.{in_range}
 use Rattle.hh_stream.specs.Weights.{Entry, total_of}
 use Rattle.hh_summaries.specs.Counters.{max_k}
+use Rattle.hh_tally.specs.Tallies.{AreBounds, TallyView}
+use Rattle.hh_tally.specs.declared.room.Room.{Room}
 use Rattle.hh_top.specs.Top.{IsUncertain, top}
 use Rattle.hh_workers.specs.Workers.{max_workers}
 use Rattle.hh_records.specs.Refusals.{RecordsRefused}
@@ -14,6 +16,10 @@ use Rattle.hh_files.specs.FilePasses.{BehindWorkers}
 use Rattle.hh_files.specs.ReportFiles.{IfKnown}
 use Rattle.hh_faults.specs.declared.error.ToolError.{ToolError}
 use Rattle.hh_faults.specs.declared.error.ToolError.TheVariants as tool
+
+-- the records read as items, whose weights the tally with this room bounds
+abbrev pub TalliesRecords : Room → Known → TallyView → Type 0
+TalliesRecords room known t = (xs : List Entry) × ReadsAs known (Ok xs) × (t.room ≡ room) × AreBounds t xs
 
 -- where the records' bytes are known, these are their total and their n greatest keys
 abbrev pub FindsTop : ℕ → Known → ℕ → List Entry → Type 0

@@ -9,6 +9,7 @@ mod file_pieces;
 mod reporting;
 mod summarising;
 mod tabulating;
+mod tallying;
 mod topping;
 
 pub use condensing::condense_files;

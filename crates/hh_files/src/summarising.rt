@@ -65,7 +65,7 @@ fn summary_in_turn<R: ReadRecords>(alloc: Global, k: u64, records: R) -> Result<
 /// The summary of records in files. Workers read the files in pieces, once; where a piece can't be
 /// read by itself, one thread reads them from their starts. Where a file was changed meanwhile, the
 /// error is [`ToolError::ReadFault`].
-pub(crate) fn summary_of_sources<T: Threads + Wait + Sync, S: ReadAt + Sync>(
+fn summary_of_sources<T: Threads + Wait + Sync, S: ReadAt + Sync>(
     rt: &T,
     alloc: Global,
     k: u64,

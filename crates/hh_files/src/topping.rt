@@ -1,58 +1,123 @@
-//! The greatest keys of files, which workers read in pieces, twice.
+//! The greatest keys of files, which workers read in pieces, up to three times.
 
-ghost use Rattle.std.specs.Prelude.{◌≡◌, All, true, IfOk, IfErr, OnOk};
+ghost use Rattle.std.specs.Prelude.{◌≡◌, ◌+◌, ◌*◌, ◌≤◌, All, true, IfOk, IfErr, OnOk};
 ghost use Rattle.std.specs.Map.{keys_of};
 ghost use Rattle.hh_stream.specs.Ranges.{in_range};
 ghost use Rattle.hh_summaries.specs.Counters.{max_k};
-ghost use Rattle.hh_top.specs.Top.{exceeding, floor_of};
+ghost use Rattle.hh_top.specs.Top.{chosen_of};
 ghost use Rattle.hh_workers.specs.Workers.{max_workers};
 ghost use Rattle.hh_records.specs.Layouts.{texts_known};
 ghost use Rattle.hh_records.specs.Refusals.{RecordsRefused};
 ghost use Rattle.hh_commands.specs.Records.{CountsRecords};
-ghost use Rattle.hh_files.specs.SummaryFiles.{SummarisesRecords};
-ghost use Rattle.hh_files.specs.TopFiles.{FindsTop, PrintsTop, TopFilesRefused, TopRefused};
+ghost use Rattle.hh_files.specs.TopFiles.{FindsTop, PrintsTop, TalliesRecords};
+ghost use Rattle.hh_files.specs.TopFiles.{TopFilesRefused, TopRefused};
 
 use crate::file_passes::count_sources;
-use crate::summarising::summary_of_sources;
-use hh_counters::{Counts, Heavy, MAX_K, Summary};
+use crate::tallying::tally_of_sources;
+use hh_counters::{Counts, Heavy, MAX_K};
 use hh_faults::ToolError;
 use hh_pieces::{ReadAt, SourceRecords};
 use hh_pool::MAX_WORKERS;
 use hh_rows::{RowOptions, printed_text};
-use hh_stream::in_range;
-use hh_top::{exceeding, floor_of, greatest};
+use hh_stream::{TakeItems, in_range};
+use hh_tally::{Room, Tally};
+use hh_top::{choice_of, greatest, greatest_counters, stand_out};
 use std::alloc::Global;
 use std::sync::Wait;
 use std::thread::Threads;
 
-/// The summary of `records` with the most counters that one can have, and the counts of those of
-/// its keys that can be among the `n` greatest. If two readings have different totals, the error is
-/// [`ToolError::ReadFault`].
-fn chosen_counts<T: Threads + Wait + Sync, S: ReadAt + Sync>(
+/// A tally of `records` that tells their `n` greatest keys, or one that is no larger than `memory`
+/// bytes let it be. It is read with room for the most counters of a summary first. Where that
+/// doesn't do, and there is memory for more, it is read again. If two readings have different
+/// totals, the error is [`ToolError::ReadFault`].
+fn grown_tally<T: Threads + Wait + Sync, S: ReadAt + Sync>(
     rt: &T,
     alloc: Global,
     n: u64,
     workers: u64,
+    memory: u64,
     records: SourceRecords<'_, S>,
-) -> Result<(Summary, Counts), ToolError>
+) -> Result<Tally, ToolError>
     requires workers { in_range workers max_workers ≡ true }
-    ensures summary { IfOk result (λ chosen. SummarisesRecords max_k
-        (texts_known S.bytes records.entry.layout.now records.entry.sources.now) chosen.0) }
-    ensures counts { IfOk result (λ chosen. CountsRecords
-        (texts_known S.bytes records.entry.layout.now records.entry.sources.now)
-        (keys_of (exceeding (floor_of n chosen.0) chosen.0).counters) chosen.1) }
+    ensures tally { IfOk result (λ tally. TalliesRecords tally.room
+        (texts_known S.bytes records.entry.layout.now records.entry.sources.now) tally) }
+    ensures share { IfOk result (λ tally. 2 * (max_k + 1) ≤ tally.room.few) }
     ensures still { OnOk result (All S.still records.entry.sources.now) }
     ensures refused { IfErr result (RecordsRefused
         (texts_known S.bytes records.entry.layout.now records.entry.sources.now)) }
 {
-    let summary = summary_of_sources(rt, alloc, MAX_K, workers, records)?;
-    let floor = floor_of(alloc, &summary, n)?;
-    let chosen = exceeding(alloc, &summary, floor)?;
-    let counts = count_sources(rt, alloc, &chosen, workers, records)?;
-    if counts.total() != summary.total() {
+    let first = Room::for_counters(MAX_K);
+    let room = Room::for_memory(memory / workers);
+    let tally = tally_of_sources(rt, alloc, first, workers, records)?;
+    if room.keys <= first.keys || tally.is_exact() || stand_out(alloc, &tally, n)? {
+        return Ok(tally);
+    }
+    let total = tally.total();
+    drop(tally);
+    let grown = tally_of_sources(rt, alloc, room, workers, records)?;
+    if grown.total() != total {
         return Err(ToolError::ReadFault);
     }
-    Ok((summary, counts))
+    Ok(grown)
+}
+
+/// Counts in `records` the keys of a tally of them that can be among the `n` greatest. If the count
+/// has another total than the tally, the error is [`ToolError::ReadFault`].
+fn chosen_counts<T: Threads + Wait + Sync, S: ReadAt + Sync>(
+    rt: &T,
+    alloc: Global,
+    tally: &Tally,
+    n: u64,
+    workers: u64,
+    records: SourceRecords<'_, S>,
+) -> Result<Counts, ToolError>
+    requires workers { in_range workers max_workers ≡ true }
+    requires share { 2 * (max_k + 1) ≤ tally.now.room.few }
+    ensures counts { IfOk result (CountsRecords
+        (texts_known S.bytes records.entry.layout.now records.entry.sources.now)
+        (keys_of (chosen_of n tally.now))) }
+    ensures still { OnOk result (All S.still records.entry.sources.now) }
+    ensures refused { IfErr result (RecordsRefused
+        (texts_known S.bytes records.entry.layout.now records.entry.sources.now)) }
+{
+    let choice = choice_of(alloc, tally, n)?;
+    let counts = count_sources(rt, alloc, &choice, workers, records)?;
+    if counts.total() != tally.total() {
+        return Err(ToolError::ReadFault);
+    }
+    Ok(counts)
+}
+
+/// Finds the `n` greatest keys of `records`, of which this is a tally: by its counters where it
+/// lost nothing, and else by counting those that can be among them.
+fn top_of_tally<T: Threads + Wait + Sync, S: ReadAt + Sync>(
+    rt: &T,
+    alloc: Global,
+    tally: &Tally,
+    n: u64,
+    workers: u64,
+    records: SourceRecords<'_, S>,
+) -> Result<Vec<Heavy>, ToolError>
+    requires workers { in_range workers max_workers ≡ true }
+    requires share { 2 * (max_k + 1) ≤ tally.now.room.few }
+    requires tally { TalliesRecords tally.now.room
+        (texts_known S.bytes records.layout.now records.sources.now) tally.now }
+    requires still { All S.still records.sources.now }
+    ensures keys { IfOk result (λ keys.
+        FindsTop n (texts_known S.bytes records.entry.layout.now records.entry.sources.now)
+        tally.now.total keys.items) }
+    ensures still { OnOk result (All S.still records.entry.sources.now) }
+    ensures refused { IfErr result (TopRefused n
+        (texts_known S.bytes records.entry.layout.now records.entry.sources.now)) }
+{
+    if tally.is_exact() {
+        return Ok(greatest_counters(alloc, tally, n)?);
+    }
+    let counts = match chosen_counts(rt, alloc, tally, n, workers, records) {
+        Ok(counts) => counts,
+        Err(fault) => return Err(fault),
+    };
+    greatest(alloc, tally, &counts, n)
 }
 
 /// Finds the total of `records` and their `n` greatest keys.
@@ -61,6 +126,7 @@ fn top_of_sources<T: Threads + Wait + Sync, S: ReadAt + Sync>(
     alloc: Global,
     n: u64,
     workers: u64,
+    memory: u64,
     records: SourceRecords<'_, S>,
 ) -> Result<(u64, Vec<Heavy>), ToolError>
     requires workers { in_range workers max_workers ≡ true }
@@ -71,26 +137,28 @@ fn top_of_sources<T: Threads + Wait + Sync, S: ReadAt + Sync>(
     ensures refused { IfErr result (TopRefused n
         (texts_known S.bytes records.entry.layout.now records.entry.sources.now)) }
 {
-    let (summary, counts) = match chosen_counts(rt, alloc, n, workers, records) {
-        Ok(chosen) => chosen,
+    let tally = match grown_tally(rt, alloc, n, workers, memory, records) {
+        Ok(tally) => tally,
         Err(fault) => return Err(fault),
     };
-    match greatest(alloc, &summary, &counts, n) {
-        Ok(keys) => Ok((summary.total(), keys)),
+    match top_of_tally(rt, alloc, &tally, n, workers, records) {
+        Ok(keys) => Ok((tally.total(), keys)),
         Err(fault) => Err(fault),
     }
 }
 
 /// The `n` greatest keys of files of any size, or of other bytes that are read at any place, with
 /// their weights, by falling weight and then by rising key; all keys where they are fewer. Workers
-/// read the files in pieces, through a buffer each, and twice: for a summary with 65,535 counters,
-/// and to count the keys that can be among the greatest, as far as the counters tell. Nothing of a
-/// file is kept. Where a piece can't be read by itself, one thread reads all files from their
-/// starts, so that the first refusal has its number.
+/// read the files in pieces, through a buffer each: once where each tallies at most 131,072 keys,
+/// whose counters then are the weights, and else once more, to count the keys that can be among the
+/// greatest, as far as the counters tell. Where these don't tell, the files are tallied anew before
+/// that, with counters for as many keys as have room in `memory` bytes, shared among the workers.
+/// Nothing of a file is kept. Where a piece can't be read by itself, one thread reads all files
+/// from their starts, so that the first refusal has its number.
 ///
 /// The workers are tested first, of whom there are 1 to 64 ([`ToolError::BadWorkers`]), and then
 /// come the records ([`ToolError::ReadFault`], [`ToolError::NoColumn`],
-/// [`ToolError::BadRecord`]). Where fewer than `n` keys weigh more than a key without a counter
+/// [`ToolError::BadRecord`]). Where fewer than `n` keys weigh more than a key that wasn't counted
 /// can, the error is [`ToolError::TopUncertain`]: with how many do, and with what such a key can
 /// weigh, which is at most the total divided by 65,536.
 ///
@@ -103,6 +171,7 @@ pub fn top_files<T: Threads + Wait + Sync, S: ReadAt + Sync>(
     n: u64,
     rows: &RowOptions,
     workers: u64,
+    memory: u64,
     records: SourceRecords<'_, S>,
 ) -> Result<Vec<u8>, ToolError>
     ensures rows { IfOk result (λ text. PrintsTop rows.now n
@@ -114,7 +183,7 @@ pub fn top_files<T: Threads + Wait + Sync, S: ReadAt + Sync>(
     if !in_range(workers, MAX_WORKERS) {
         return Err(ToolError::BadWorkers);
     }
-    match top_of_sources(rt, alloc, n, workers, records) {
+    match top_of_sources(rt, alloc, n, workers, memory, records) {
         Ok((total, keys)) => Ok(printed_text(alloc, total, rows, &keys)?),
         Err(fault) => Err(fault),
     }

@@ -115,35 +115,46 @@ impl<'a, P: Pieces, G: Gate> Pass for TallyPass<'a, P, G> {
 }
 
 /// Tallies the items of all pieces with `workers` workers. Each makes a tally with this `room`, and
-/// the tallies are merged.
-fn tally<R: Threads + Wait + Sync, P: Pieces + Sync, G: Gate + Sync>(
+/// the tallies are merged; one that is merged may have the keys of both for a while. `hash` decides
+/// how fast keys are found. What is lost may differ from run to run, by which worker takes which
+/// piece.
+///
+/// Each piece is asked for once. Where no worker claimed a piece, the calling thread asks for all
+/// of them again; no run is known to leave one. It starts the workers, waits for them and answers
+/// Refused as [`report_pieces`] does. Where the items aren't known, the tally is one of some items.
+pub fn tally_pieces<R: Threads + Wait + Sync, P: Pieces + Sync>(
     rt: &R,
-    context: &PassContext<P, G>,
+    alloc: Global,
+    pieces: &P,
     room: Room,
     hash: KeyHash,
     workers: u64,
 ) -> Result<Tally, PieceFault>
-    requires some { 0 < length (P.pieces context.now.pieces.now) }
-    requires few { length (P.pieces context.now.pieces.now) ≤ max_pieces }
+    requires some { 0 < length (P.pieces pieces.now) }
+    requires few { length (P.pieces pieces.now) ≤ max_pieces }
     requires room { IsRoom room }
     requires workers { in_range workers max_workers ≡ true }
     ensures room { IfOk result (λ tally. tally.room ≡ room) }
     ensures some { IfOk result BoundsSome }
-    ensures bounds { let pieces = context.now.pieces.now in
-        IfOk result (λ tally. P.known pieces → AreBounds tally (whole_of (P.pieces pieces))) }
-    ensures read { let pieces = context.now.pieces.now in
-        OnOk result (P.known pieces → AreRead (P.reads pieces) (P.pieces pieces)) }
-    ensures refused { let pieces = context.now.pieces.now in
-        IsErrOf result PieceFault.Refused → P.known pieces
-        → MayRefuse (P.refuses pieces) (P.pieces pieces) }
+    ensures bounds { IfOk result
+        (λ tally. P.known pieces.now → AreBounds tally (whole_of (P.pieces pieces.now))) }
+    ensures read { OnOk result
+        (P.known pieces.now → AreRead (P.reads pieces.now) (P.pieces pieces.now)) }
+    ensures refused { IsErrOf result PieceFault.Refused → P.known pieces.now
+        → MayRefuse (P.refuses pieces.now) (P.pieces pieces.now) }
 {
     tallies_bound_weights();
+    let context = PassContext {
+        alloc,
+        pieces,
+        gate: &OpenGate,
+    };
     let pass = TallyPass {
-        context,
+        context: &context,
         room,
         hash,
     };
-    let found = share_work(rt, context.alloc, &pass, 0, workers)?;
+    let found = share_work(rt, alloc, &pass, 0, workers)?;
     found_or_made(&pass, found, workers)
 }
 
@@ -225,15 +236,15 @@ pub fn report_pieces<R: Threads + Wait + Sync, P: Pieces + Sync>(
         → MayRefuse (P.refuses pieces.now) (P.pieces pieces.now) }
 {
     let (p, q) = options.threshold();
+    let room = Room::for_counters(options.k());
+    let tally = tally_pieces(rt, alloc, pieces, room, hash, options.workers())?;
+    let contenders = tally.contenders(alloc, p, q)?;
+    let candidates = Candidates::of_entries(alloc, &contenders, hash)?;
     let context = PassContext {
         alloc,
         pieces,
         gate: &OpenGate,
     };
-    let room = Room::for_counters(options.k());
-    let tally = tally(rt, &context, room, hash, options.workers())?;
-    let contenders = tally.contenders(alloc, p, q)?;
-    let candidates = Candidates::of_entries(alloc, &contenders, hash)?;
     let weights = weights_of(
         rt,
         &context,
@@ -252,10 +263,8 @@ pub fn report_pieces<R: Threads + Wait + Sync, P: Pieces + Sync>(
 /// greatest counters are kept, each less the next one (Agarwal et al. 2012). `hash` decides how
 /// fast keys are found. The counters may differ from run to run, by which worker takes which piece.
 ///
-/// Each piece is asked for once. Where no worker claimed a piece, the calling thread asks for all
-/// of them again; no run is known to leave one. It starts the workers, waits for them and answers
-/// Refused as [`report_pieces`] does. Where the items aren't known, the summary is one of some
-/// items.
+/// Pieces are asked for, workers started and errors told as by [`tally_pieces`]. Where the items
+/// aren't known, the summary is one of some items.
 pub fn summarise_pieces<R: Threads + Wait + Sync, P: Pieces + Sync>(
     rt: &R,
     alloc: Global,
@@ -279,13 +288,8 @@ pub fn summarise_pieces<R: Threads + Wait + Sync, P: Pieces + Sync>(
     ensures refused { IsErrOf result PieceFault.Refused → P.known pieces.now
         → MayRefuse (P.refuses pieces.now) (P.pieces pieces.now) }
 {
-    let context = PassContext {
-        alloc,
-        pieces,
-        gate: &OpenGate,
-    };
     let room = Room::for_counters(k);
-    let tally = tally(rt, &context, room, hash, workers)?;
+    let tally = tally_pieces(rt, alloc, pieces, room, hash, workers)?;
     // It bounds the total.
     let _total = tally.total();
     let summary = tally.into_summary(alloc, k)?;

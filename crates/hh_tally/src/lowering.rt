@@ -5,7 +5,7 @@ ghost use Rattle.std.specs.List.{AllByRecursion, IsDistinct};
 ghost use Rattle.std.specs.Map.{keys_of};
 ghost use Rattle.indexmap.specs.IndexMap.{with_value_at};
 ghost use Rattle.hh_stream.specs.Weights.{Entry, max_key_len, same_key, total_of};
-ghost use Rattle.hh_summaries.specs.Counters.{exceeds, level, lower, tally};
+ghost use Rattle.hh_summaries.specs.Counters.{exceeds, level, lower, over, tally};
 ghost use Rattle.hh_tally.specs.Tallies.{add_in, bytes_of, loss_of, left_of, most_left, are_large, is_over};
 
 use crate::room::Room;
@@ -120,8 +120,8 @@ fn most_left(room: &Room, large: bool) -> usize
     if large { room.few / 2 } else { room.keys / 2 }
 }
 
-// The least number that at most `most` counters exceed.
-fn level_in(
+/// The least number that at most `most` counters exceed.
+pub fn level_in(
     alloc: Global,
     index: &IndexMap<Key, u64, KeyHash>,
     most: usize,
@@ -190,8 +190,9 @@ pub fn sorted_above(
     t: u64,
 ) -> Result<Vec<(Key, u64)>, AllocError>
     requires { AllByRecursion (λ (e : Entry). 0 < e.1) index.now.entries }
-    ensures { IfOk result
+    ensures entries { IfOk result
         (λ entries. entries.items ≡ filter (exceeds t) (tally index.now.entries)) }
+    ensures count { IfOk result (λ entries. length entries.items ≡ over index.now.entries t) }
 {
     let mut entries = entries_above(alloc, index, t)?;
     entries.sort_unstable_by(|a, b| a.0.cmp(&b.0));

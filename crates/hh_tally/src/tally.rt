@@ -6,11 +6,11 @@ ghost use Rattle.std.specs.List.Sorted.{IsStrictlySortedBy};
 ghost use Rattle.std.specs.Map.{keys_of, values_of};
 ghost use Rattle.hh_stream.specs.Ranges.{in_range};
 ghost use Rattle.hh_stream.specs.Weights.{Entry, key_cmp, max_total, same_key, total_of};
-ghost use Rattle.hh_summaries.specs.Counters.{IsHonest, Fits, exceeds, lower, max_k, tally};
+ghost use Rattle.hh_summaries.specs.Counters.{IsHonest, Fits, exceeds, level, lower, max_k, over, tally};
 ghost use Rattle.hh_summaries.specs.Report.{IsShare, heavy, rows_above, weights_at};
 ghost use Rattle.hh_tally.specs.Tallies.{AreBounds, IsLoss, IsRoom, contenders_of, empty_tally, merged_tally, pruned, tally_with};
 
-use crate::lowering::{add_all, add_entry, key_bytes, lower_if_over, sorted_above};
+use crate::lowering::{add_all, add_entry, key_bytes, level_in, lower_if_over, sorted_above};
 use crate::room::Room;
 use hh_stream::{Key, KeyHash, TakeItems};
 use hh_summaries::{Summary, cut};
@@ -94,6 +94,24 @@ impl Tally {
         ensures few { result ≤ self.now.room.keys }
     {
         self.index.len()
+    }
+
+    /// The least number that at most `most` counters exceed. Of more counters than that it is the
+    /// greatest but `most`, and else 0.
+    pub fn level(&self, alloc: Global, most: usize) -> Result<u64, AllocError>
+        ensures { IfOk result (λ t. t ≡ level self.now.counters most) }
+    {
+        level_in(alloc, &self.index, most)
+    }
+
+    /// The keys whose counter is above `t`, with their counters, by rising key.
+    pub fn above(&self, alloc: Global, t: u64) -> Result<Vec<(Key, u64)>, AllocError>
+        ensures entries { IfOk result
+            (λ entries. entries.items ≡ filter (exceeds t) (tally self.now.counters)) }
+        ensures count { IfOk result
+            (λ entries. length entries.items ≡ over self.now.counters t) }
+    {
+        sorted_above(alloc, &self.index, t)
     }
 
     /// Gives the keys that can weigh more than p/q of the total, with their counters, by rising

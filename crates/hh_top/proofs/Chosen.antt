@@ -1,23 +1,23 @@
 -- What the keys that can exceed a floor tell, once they were counted.
-use Rattle.std.proofs.Common.{◌≡◌, ℕ, suc, ◌+◌, ◌-◌, ◌*◌, ◌<◌, ◌≤◌, ⊎_elim, ◌⊎◌, Bool, true, cond, List, [], ◌∷◌, length, refl, sym, ap, ◌∙◌, subst, arith, filter, fold, nat_lt, take, zip, Less, Contains, IsPermutation, IsSortedBy}
-use Rattle.std.specs.List.{AllByRecursion}
+use Rattle.std.proofs.Common.{◌≡◌, ℕ, suc, ◌+◌, ◌-◌, ◌*◌, ◌/◌, ◌<◌, ◌≤◌, ◌^◌, ⊎_elim, ◌⊎◌, inl, inr, Bool, true, false, cond, List, [], ◌∷◌, length, refl, sym, ap, ◌∙◌, subst, mul-add, mul-le-mul_right, arith, filter, fold, nat_lt, take, zip, Less, Contains}
+use Rattle.std.specs.List.{AllByRecursion, IsDistinct}
 use Rattle.std.specs.List.Sorted.{IsStrictlySortedBy}
 use Rattle.std.specs.Map.{keys_of}
 use Rattle.std.specs.Ordering.{is_lt}
-use Rattle.std.proofs.Math.Nat.{mul-div-le}
 use Rattle.std.proofs.lemmas.Bool.{cases_lt, cond_both, cond-false}
 use Rattle.std.proofs.lemmas.Bool.Decides.{nat_tests}
-use Rattle.std.proofs.lemmas.List.Sums.{count_by-le-length, length-filter}
+use Rattle.std.proofs.lemmas.List.Sums.{length-filter}
 use Rattle.std.proofs.lemmas.List.Elements.{All-contains, All-contains_itself, All-map, All-weaker}
-use Rattle.hh_stream.specs.Weights.{Bytes, Entry, key_cmp, total_of, weight_of}
-use Rattle.hh_summaries.specs.Counters.{Counters, Fits, IsCounters, IsHonest, SummaryView, exceeds, level, over, slack, tally}
+use Rattle.hh_stream.specs.Weights.{Bytes, Entry, key_cmp, same_key, total_of, weight_of}
+use Rattle.hh_summaries.specs.Counters.{Counters, Fits, IsCounters, add_at, exceeds, level, max_k, over, tally}
 use Rattle.hh_summaries.specs.Report.{by_rank, rank_cmp, ranked_in, weights_at}
 use Rattle.hh_summaries.proofs.Level.{is_level, over-cons}
-use Rattle.hh_summaries.proofs.Weights.{in_from_number, number_from_in, rising-tally, total_of-cons, weight_of-tally}
-use Rattle.hh_summaries.proofs.Reports.{candidates, candidates_in, counters-filter, filter_in, keys_of-candidates, ranked_from_sort, rising-filter, same_ranked, zip-weights_at}
+use Rattle.hh_summaries.proofs.Summaries.{total_of-cut}
+use Rattle.hh_summaries.proofs.Weights.{Distinct, by_add_at, in_from_number, number_from_in, rising-tally, same_self, same_sym, total_of-cons, total_of-tally, weight_of-tally}
+use Rattle.hh_summaries.proofs.Reports.{candidates, candidates_in, filter_in, keys_of-candidates, rising-filter, same_ranked, zip-weights_at}
 use Rattle.hh_counters.specs.Counting.{Count, count_of}
-use Rattle.hh_counters.specs.Laws.{CountersBoundWeights}
-use Rattle.hh_top.specs.Top.{IsUncertain, can_exceed, exceeding, floor_of, rows_over, top}
+use Rattle.hh_tally.specs.Tallies.{AreBounds, IsLoss, TallyView}
+use Rattle.hh_top.specs.Top.{IsUncertain, chosen_of, floor_of, most_uncounted, nth_counter, rows_over, stand_out, top}
 use Rattle.hh_top.proofs.Ranking.{first_rows, over_is_exact}
 
 -- ---- how many rows there are
@@ -35,148 +35,274 @@ pub length-rows_over : (t : ℕ) (es : List Entry) → length (rows_over t es) �
 unfolding by_rank
 length-rows_over t es = omega (arith, length-fold [] (filter (exceeds t) es), length-filter (exceeds t) es)
 
--- ---- keys with counters, of honest ones
-module _ (bound : CountersBoundWeights) (s : SummaryView) (xs : List Entry)
-    (honest : IsHonest s.counters s.total xs s.k) (t : ℕ) (most : slack s.counters s.total s.k ≤ t) where
+-- ---- how many exceed a number
+-- no entry has this key
+abbrev IsApart : Bytes → List Entry → Type 0
+IsApart x c = AllByRecursion (λ (d : Entry). same_key x d.0 ≡ false) c
+
+over-add_at : (t : ℕ) (c : Counters) (e : Entry) → IsApart e.0 c → over (add_at c e) t ≡ over c t + cond (nat_lt t e.1) 1 0
+over-add_at t [] e h = omega (arith, over-cons e [] t)
+over-add_at t (d ∷ c) e h =
+    by_add_at (λ (m : Counters). over m t ≡ over (d ∷ c) t + cond (nat_lt t e.1) 1 0) c d e
+    (λ _. omega (arith, over-cons e (d ∷ c) t))
+    (λ same. absurd (cc (h.0, same, same_self d.0)))
+    (λ _. omega (arith, over-cons d (add_at c e) t, over-cons d c t, over-add_at t c e h.1))
+
+apart-add_at : (x : Bytes) (c : Counters) (e : Entry) → same_key x e.0 ≡ false → IsApart x c → IsApart x (add_at c e)
+apart-add_at x [] e p h = (p, tt)
+apart-add_at x (d ∷ c) e p h = by_add_at (IsApart x) c d e (λ _. (p, h)) (λ _. h) (λ _. (h.0, apart-add_at x c e p h.1))
+
+over-fold : (t : ℕ) (c : Counters) (es : List Entry) → Distinct es → AllByRecursion (λ (e : Entry). IsApart e.0 c) es
+    → over (fold add_at c es) t ≡ over c t + over es t
+unfolding IsDistinct
+over-fold t c [] h apart = omega arith
+over-fold t c (e ∷ es) h apart =
+    omega (arith, over-fold t (add_at c e) es h.1 (still es h.0 apart.1), over-add_at t c e apart.0, over-cons e es t)
+  where
+    still : (fs : List Entry) → AllByRecursion (λ k. same_key e.0 k ≡ false) (keys_of fs)
+        → AllByRecursion (λ (f : Entry). IsApart f.0 c) fs → AllByRecursion (λ (f : Entry). IsApart f.0 (add_at c e)) fs
+    still [] d a = tt
+    still (f ∷ fs) d a = (apart-add_at f.0 c e (same_sym f.0 e.0 ∙ d.0) a.0, still fs d.1 a.1)
+
+-- of distinct keys as many exceed it by rising key
+pub over-tally : (t : ℕ) (es : List Entry) → Distinct es → over (tally es) t ≡ over es t
+unfolding tally
+over-tally t es h = omega (arith, over-fold t [] es h (none es))
+  where
+    none : (fs : List Entry) → AllByRecursion (λ (f : Entry). IsApart f.0 []) fs
+    none [] = tt
+    none (f ∷ fs) = (tt, none fs)
+
+-- no more exceed a greater number
+pub over-falls : (s t : ℕ) (c : Counters) → s ≤ t → over c t ≤ over c s
+over-falls s t [] le = omega arith
+over-falls s t (e ∷ c) le = grind (arith, nat_tests, over-cons e c s, over-cons e c t, over-falls s t c le, le)
+
+-- ---- keys with counters that bound weights
+-- rows of equal weights are the same
+pub rows_alike : (t : ℕ) (es xs : List Entry) → ((x : Bytes) → t < weight_of x es → weight_of x es ≡ weight_of x xs)
+    → ((x : Bytes) → t < weight_of x xs → weight_of x es ≡ weight_of x xs)
+    → IsStrictlySortedBy key_cmp (keys_of es) → rows_over t es ≡ rows_over t (tally xs)
+rows_alike t es xs theirs ours rises =
+    let (ranked, exact) = over_is_exact t es rises in
+    let (all_ranked, all) = over_is_exact t (tally xs) (rising-tally xs) in
+    same_ranked _ _ ranked all_ranked
+    (λ x i. let j = (exact x).0 i in
+    let is = number_from_in x es rises j.0 in
+    let same = theirs x.0 (omega (arith, is, j.1)) in
+    let tallied = weight_of-tally x.0 xs in
+    let there = in_from_number x.0 (tally xs) (rising-tally xs) (omega (arith, is, same, tallied, j.1)) in
+    (all x).1 (subst (λ n. Contains (tally xs) (x.0, n)) (tallied ∙ sym same ∙ is) there, j.1))
+    (λ x i. let j = (all x).0 i in
+    let is = number_from_in x (tally xs) (rising-tally xs) j.0 in
+    let tallied = weight_of-tally x.0 xs in
+    let same = ours x.0 (omega (arith, is, tallied, j.1)) in
+    let there = in_from_number x.0 es rises (omega (arith, is, same, tallied, j.1)) in
+    (exact x).1 (subst (λ n. Contains es (x.0, n)) (same ∙ sym tallied ∙ is) there, j.1))
+
+module _ (t : TallyView) (xs : List Entry) (bounds : AreBounds t xs) (f : ℕ) (most : t.lost ≤ f) where
+  abbrev them : Counters
+  them = tally t.counters
+
   abbrev some : Counters
-  some = (exceeding t s).counters
+  some = filter (exceeds (f - t.lost)) them
 
-  are_counters : IsCounters some
-  are_counters = counters-filter (can_exceed t s) s.counters honest.counters
+  rising_some : IsStrictlySortedBy key_cmp (keys_of some)
+  rising_some = rising-filter (exceeds (f - t.lost)) them (rising-tally t.counters)
 
-  -- a counter is at most its key's weight, and at most the slack below it
-  near : (x : Bytes) → (weight_of x s.counters ≤ weight_of x xs)
-      × (weight_of x xs ≤ weight_of x s.counters + slack s.counters s.total s.k)
-  near x = rw honest.counted (bound s.counters xs s.k (rw honest.counted at honest) x)
+  -- a counter is at most its key's weight, and lacks at most what was lost
+  near : (x : Bytes) → (weight_of x them ≤ weight_of x xs) × (weight_of x xs ≤ weight_of x them + t.lost)
+  near x = (
+    omega (arith, weight_of-tally x t.counters, bounds.below x),
+    omega (arith, weight_of-tally x t.counters, bounds.near x),
+  )
 
-  -- each of them that was counted has its weight
+  -- each of those that were counted has its weight
   counted_in : (x : Entry) → Contains (candidates some xs) x → x.1 ≡ weight_of x.0 xs
   counted_in x i =
-      let f : Entry → Entry = λ e. (e.0, weight_of e.0 xs) in
+      let g : Entry → Entry = λ e. (e.0, weight_of e.0 xs) in
       let P : Entry → Type 0 = λ x. x.1 ≡ weight_of x.0 xs in
-      All-contains P (candidates some xs) x (All-map P f some
-      (All-weaker (Contains some) (λ (e : Entry). P (f e)) (λ e j. refl) some (All-contains_itself some))) i
+      All-contains P (candidates some xs) x (All-map P g some
+      (All-weaker (Contains some) (λ (e : Entry). P (g e)) (λ e j. refl) some (All-contains_itself some))) i
 
   -- a key that weighs more than the floor is one of them
-  counted_over : (x : Bytes) → t < weight_of x xs → Contains (candidates some xs) (x, weight_of x xs)
+  counted_over : (x : Bytes) → f < weight_of x xs → Contains (candidates some xs) (x, weight_of x xs)
   counted_over x more =
-      let c = weight_of x s.counters in
+      let c = weight_of x them in
       let has : 0 < c = omega (arith, more, most, (near x).1) in
-      let can : nat_lt t (c + slack s.counters s.total s.k) ≡ true = grind (arith, nat_tests, more, (near x).1) in
-      candidates_in some xs (x, c) (filter_in (can_exceed t s) (x, c) s.counters
-      (in_from_number x s.counters honest.counters.rising has) can)
+      let can : nat_lt (f - t.lost) c ≡ true = grind (arith, nat_tests, more, most, (near x).1) in
+      candidates_in some xs (x, c) (filter_in (exceeds (f - t.lost)) (x, c) them
+      (in_from_number x them (rising-tally t.counters) has) can)
 
   -- the rows over the floor are those of all keys
-  rows_are_all : rows_over t (candidates some xs) ≡ rows_over t (tally xs)
+  rows_are_all : rows_over f (candidates some xs) ≡ rows_over f (tally xs)
   rows_are_all =
       let rises : IsStrictlySortedBy key_cmp (keys_of (candidates some xs)) =
-      subst (IsStrictlySortedBy key_cmp) (sym (keys_of-candidates some xs)) are_counters.rising in
-      let (ranked, exact) = over_is_exact t (candidates some xs) rises in
-      let (all_ranked, all) = over_is_exact t (tally xs) (rising-tally xs) in
-      same_ranked _ _ ranked all_ranked
-      (λ x i. let j = (exact x).0 i in
-      let is = counted_in x j.0 in
-      let same = weight_of-tally x.0 xs in
-      let there = in_from_number x.0 (tally xs) (rising-tally xs) (omega (arith, is, same, j.1)) in
-      (all x).1 (subst (λ n. Contains (tally xs) (x.0, n)) (same ∙ sym is) there, j.1))
-      (λ x i. let j = (all x).0 i in
-      let is : weight_of x.0 xs ≡ x.1 = sym (weight_of-tally x.0 xs)
-      ∙ number_from_in x (tally xs) (rising-tally xs) j.0 in
-      (exact x).1 (subst (λ n. Contains (candidates some xs) (x.0, n)) is (counted_over x.0 (omega (arith, is, j.1))), j.1))
+      subst (IsStrictlySortedBy key_cmp) (sym (keys_of-candidates some xs)) rising_some in
+      rows_alike f (candidates some xs) xs
+      (λ x more. counted_in (x, weight_of x (candidates some xs))
+      (in_from_number x (candidates some xs) rises (omega (arith, more))))
+      (λ x more. number_from_in (x, weight_of x xs) (candidates some xs) rises (counted_over x more)) rises
 
   -- so are those of a count
-  pub rows_counted : rows_over t (zip (keys_of some) (weights_at (keys_of some) xs)) ≡ rows_over t (tally xs)
-  rows_counted = ap (rows_over t) (zip-weights_at some xs) ∙ rows_are_all
+  pub rows_counted : rows_over f (zip (keys_of some) (weights_at (keys_of some) xs)) ≡ rows_over f (tally xs)
+  rows_counted = ap (rows_over f) (zip-weights_at some xs) ∙ rows_are_all
 
   -- each counter over the floor is one of these rows
   over_kept : (c : Counters) → AllByRecursion (λ (e : Entry). e.1 ≤ weight_of e.0 xs) c
-      → over c t ≤ over (candidates (filter (can_exceed t s) c) xs) t
+      → over c f ≤ over (candidates (filter (exceeds (f - t.lost)) c) xs) f
   over_kept [] h = omega arith
   over_kept (e ∷ c) h =
       let w : Entry = (e.0, weight_of e.0 xs) in
-      let rest = filter (can_exceed t s) c in
-      cond_both (can_exceed t s e) (e ∷ rest) rest (λ (d : Counters). over (e ∷ c) t ≤ over (candidates d xs) t)
-      (λ _. grind (arith, nat_tests, over-cons e c t, over-cons w (candidates rest xs) t, over_kept c h.1, h.0))
-      (λ low. grind (arith, nat_tests, over-cons e c t, over_kept c h.1, low))
+      let rest = filter (exceeds (f - t.lost)) c in
+      cond_both (exceeds (f - t.lost) e) (e ∷ rest) rest (λ (d : Counters). over (e ∷ c) f ≤ over (candidates d xs) f)
+      (λ _. grind (arith, nat_tests, over-cons e c f, over-cons w (candidates rest xs) f, over_kept c h.1, h.0))
+      (λ low. grind (arith, nat_tests, over-cons e c f, over_kept c h.1, low))
 
-  below_all : (c : Counters) → ((e : Entry) → Contains c e → Contains s.counters e)
+  below_all : (c : Counters) → ((e : Entry) → Contains c e → Contains them e)
       → AllByRecursion (λ (e : Entry). e.1 ≤ weight_of e.0 xs) c
   below_all [] h = tt
   below_all (e ∷ c) h = (
-    omega (arith, number_from_in e s.counters honest.counters.rising (h e (0, omega arith, refl)), (near e.0).0),
+    omega (arith, number_from_in e them (rising-tally t.counters) (h e (0, omega arith, refl)), (near e.0).0),
     below_all c (λ x i. h x (suc i.0, omega (arith, i.1), i.2)),
   )
 
-  pub rows_enough : over s.counters t ≤ length (rows_over t (tally xs))
+  pub rows_enough : over t.counters f ≤ length (rows_over f (tally xs))
   rows_enough = omega (
     arith,
-    over_kept s.counters (below_all s.counters (λ e i. i)),
-    length-rows_over t (candidates some xs),
+    over-tally f t.counters bounds.distinct,
+    over_kept them (below_all them (λ e i. i)),
+    length-rows_over f (candidates some xs),
     ap length rows_are_all,
   )
 
--- where fewer than n keys weigh more than the floor, it is at most what k counters leave open
-pub floor_is_little : CountersBoundWeights → (n : ℕ) (s : SummaryView) (xs : List Entry)
-    → IsHonest s.counters s.total xs s.k → length (rows_over (floor_of n s) (tally xs)) < n
-    → (s.k + 1) * floor_of n s ≤ total_of xs
-floor_is_little bound n s xs honest few =
-    let t = floor_of n s in
-    let sl = slack s.counters s.total s.k in
-    let m = level s.counters (n - 1) in
-    let little : (s.k + 1) * sl ≤ s.total - total_of s.counters = mul-div-le (s.total - total_of s.counters) (s.k + 1) in
+-- where n counters stand out, as many keys weigh more than the floor
+pub stand_out_enough : (n : ℕ) (t : TallyView) (xs : List Entry) → AreBounds t xs
+    → most_uncounted t < nth_counter n t → n ≤ length (rows_over (floor_of n t) (tally xs))
+stand_out_enough n t xs bounds out =
+    let f = floor_of n t in
+    let at : f ≡ nth_counter n t - 1 = omega (arith, out) in
+    let enough = rows_enough t xs bounds f (omega (arith, at, out)) in
     ⊎_elim
-    (λ (more : sl < m - 1).
-    let at : t ≡ m - 1 = omega (arith, more) in
-    let enough = rows_enough bound s xs honest t (omega (arith, more, at)) in
-    let is = is_level s.counters (n - 1) in
-    absurd (omega (arith, is.least t (omega (arith, enough, few)), at, more)))
-    (λ (less : m - 1 ≤ sl).
-    let at : t ≡ sl = omega (arith, less) in
-    rw at (omega (arith, little, honest.counted)))
-    (cases_lt sl (m - 1))
+    (λ (few : length (rows_over f (tally xs)) < n).
+    absurd (omega (arith, (is_level t.counters (n - 1)).least f (omega (arith, enough, few)), at, out)))
+    (λ (le : n ≤ length (rows_over f (tally xs))). le)
+    (cases_lt (length (rows_over f (tally xs))) n)
+
+-- what can't be counted is at most what max_k counters leave open
+pub uncounted_is_little : (t : TallyView) → 2 * (max_k + 1) ≤ t.room.few → IsLoss t.room.few t.total t.lost t.counters
+    → (max_k + 1) * most_uncounted t ≤ t.total
+uncounted_is_little t share loss =
+    let u = level t.counters max_k in
+    let half : max_k + 1 ≤ t.room.few / 2 = omega (arith, share) in
+    omega (
+      arith,
+      mul-add (max_k + 1) t.lost u,
+      mul-le-mul_right t.lost half,
+      total_of-cut t.counters max_k u (is_level t.counters max_k),
+      loss,
+    )
+
+-- where fewer than n keys weigh more than the floor, that is
+pub floor_is_little : (n : ℕ) (t : TallyView) (xs : List Entry) → AreBounds t xs → 2 * (max_k + 1) ≤ t.room.few
+    → IsLoss t.room.few t.total t.lost t.counters → length (rows_over (floor_of n t) (tally xs)) < n
+    → (max_k + 1) * floor_of n t ≤ total_of xs
+floor_is_little n t xs bounds share loss few = ⊎_elim
+    (λ (out : most_uncounted t < nth_counter n t). absurd (omega (arith, stand_out_enough n t xs bounds out, few)))
+    (λ (le : nth_counter n t ≤ most_uncounted t).
+    let at : floor_of n t ≡ most_uncounted t = omega (arith, le) in
+    rw at (omega (arith, uncounted_is_little t share loss, bounds.counted)))
+    (cases_lt (most_uncounted t) (nth_counter n t))
 
 -- ---- what is chosen of a count
-module _ (bound : CountersBoundWeights) (n t : ℕ) (s : SummaryView) (is : t ≡ floor_of n s) (counts : Count)
-    (keys : counts.keys ≡ keys_of (exceeding (floor_of n s) s).counters) (rows : List Entry)
-    (chosen : rows ≡ rows_over t (zip counts.keys counts.weights)) (xs : List Entry)
-    (honest : IsHonest s.counters s.total xs s.k) (counted : counts ≡ count_of counts.keys xs) where
-  rows_are_over : rows ≡ rows_over t (tally xs)
+module _ (n f : ℕ) (t : TallyView) (is : f ≡ floor_of n t) (counts : Count) (keys : counts.keys ≡ keys_of (chosen_of n t))
+    (rows : List Entry) (chosen : rows ≡ rows_over f (zip counts.keys counts.weights)) (xs : List Entry)
+    (bounds : AreBounds t xs) (counted : counts ≡ count_of counts.keys xs) where
+  rows_are_over : rows ≡ rows_over f (tally xs)
   rows_are_over =
       let weights : counts.weights ≡ weights_at counts.keys xs = ap (λ (c : Count). c.weights) counted in
-      let some = keys_of (exceeding t s).counters in
-      let same : counts.keys ≡ some = keys ∙ ap (λ t. keys_of (exceeding t s).counters) (sym is) in
-      chosen ∙ ap (λ ns. rows_over t (zip counts.keys ns)) weights
-      ∙ ap (λ ks. rows_over t (zip ks (weights_at ks xs))) same ∙ rows_counted bound s xs honest t (omega (arith, is))
+      let some = keys_of (filter (exceeds (f - t.lost)) (tally t.counters)) in
+      let same : counts.keys ≡ some = keys ∙ ap (λ f. keys_of (filter (exceeds (f - t.lost)) (tally t.counters))) (sym is) in
+      chosen ∙ ap (λ ns. rows_over f (zip counts.keys ns)) weights
+      ∙ ap (λ ks. rows_over f (zip ks (weights_at ks xs))) same ∙ rows_counted t xs bounds f (omega (arith, is))
 
   -- the first n of the rows, where they are as many or nothing weighs less, are the n greatest keys
-  pub are_top : (n ≤ length rows) ⊎ (t ≡ 0) → (first : List Entry) → first ≡ take n rows → first ≡ top n xs
-  are_top enough first is = is ∙ first_rows xs n t rows rows_are_over enough
+  pub are_top : (n ≤ length rows) ⊎ (f ≡ 0) → (first : List Entry) → first ≡ take n rows → first ≡ top n xs
+  are_top enough first is = is ∙ first_rows xs n f rows rows_are_over enough
 
   -- where they are fewer, they are certain, and no others
-  pub are_uncertain : length rows < n → IsUncertain xs n s.k (length rows) t
-  are_uncertain few = record {
+  pub are_uncertain : 2 * (max_k + 1) ≤ t.room.few → IsLoss t.room.few t.total t.lost t.counters → length rows < n
+      → IsUncertain xs n max_k (length rows) f
+  are_uncertain share loss few = record {
     few = few;
     counted = ap length rows_are_over;
-    little = rw is (floor_is_little bound n s xs honest
-        (rw (← is) (omega (arith, few, ap length rows_are_over))));
+    little = rw is (floor_is_little n t xs bounds share loss (rw (← is) (omega (arith, few, ap length rows_are_over))));
   }
 
--- ---- what is left of a summary
+  -- which can't be where they stand out
+  pub are_enough : stand_out n t ≡ true → length rows < n → ⊥
+  are_enough out few =
+      let enough = stand_out_enough n t xs bounds (grind (arith, nat_tests, out)) in
+      let at = ap (λ f. length (rows_over f (tally xs))) is in
+      omega (arith, few, ap length rows_are_over, at, enough)
+
+-- where nothing was lost the counters are the weights
+pub exact_top : (n f : ℕ) (t : TallyView) (xs : List Entry) → AreBounds t xs → t.lost ≡ 0 → f ≡ nth_counter n t - 1
+    → (rows first : List Entry) → rows ≡ rows_over f (tally t.counters) → first ≡ take n rows → first ≡ top n xs
+exact_top n f t xs bounds none is rows first are firsts =
+    let exact : (x : Bytes) → weight_of x (tally t.counters) ≡ weight_of x xs =
+    λ x. omega (arith, weight_of-tally x t.counters, bounds.below x, bounds.near x, none) in
+    let alike = rows_alike f (tally t.counters) xs (λ x _. exact x) (λ x _. exact x) (rising-tally t.counters) in
+    let count : length rows ≡ over t.counters f =
+    ap length are ∙ length-rows_over f (tally t.counters) ∙ over-tally f t.counters bounds.distinct in
+    let enough : (n ≤ length rows) ⊎ (f ≡ 0) = ⊎_elim
+    (λ (few : length rows < n). inr (⊎_elim
+    (λ (low : nth_counter n t < 2). omega (arith, low, is))
+    (λ (high : 2 ≤ nth_counter n t).
+    absurd (omega (arith, (is_level t.counters (n - 1)).least f (omega (arith, count, few)), is, high)))
+    (cases_lt (nth_counter n t) 2)))
+    (λ (le : n ≤ length rows). inl le) (cases_lt (length rows) n) in
+    firsts ∙ first_rows xs n f rows (are ∙ alike) enough
+
+-- ---- the summary of what is chosen
 total_of-filter : (p : Entry → Bool) (c : Counters) → total_of (filter p c) ≤ total_of c
 total_of-filter p [] = omega arith
 total_of-filter p (e ∷ c) = cond_both (p e) (e ∷ filter p c) (filter p c) (λ (d : Counters). total_of d ≤ total_of (e ∷ c))
     (λ _. omega (arith, total_of-cons e c, total_of-cons e (filter p c), total_of-filter p c))
     (λ _. omega (arith, total_of-cons e c, total_of-filter p c))
 
--- some of a summary's counters make one
-pub fits_some : (k n : ℕ) (c : Counters) (p : Entry → Bool) → Fits k n c → Fits k n (filter p c)
-fits_some k n c p h = record {
-  some = h.some;
-  bounded_k = h.bounded_k;
-  bounded_total = h.bounded_total;
-  few = omega (arith, h.few, length-filter p c, count_by-le-length p c);
-  entries = counters-filter p c h.entries;
-  within = omega (arith, h.within, total_of-filter p c);
+-- entries that exceed a number are positive
+positive_over : (t : ℕ) (es : List Entry) → AllByRecursion (λ (e : Entry). 0 < e.1) (filter (exceeds t) es)
+positive_over t [] = tt
+positive_over t (e ∷ es) = cond_both (exceeds t e) (e ∷ filter (exceeds t) es) (filter (exceeds t) es)
+    (λ (c : Counters). AllByRecursion (λ (e : Entry). 0 < e.1) c)
+    (λ more. (grind (arith, nat_tests, more), positive_over t es)) (λ _. positive_over t es)
+
+-- those counters that can exceed the floor make a summary
+pub chosen_fit : (n d : ℕ) (t : TallyView) (c : Counters) → t.total < 2 ^ 63 → IsLoss t.room.few t.total t.lost t.counters
+    → level t.counters max_k ≤ d → c ≡ filter (exceeds d) (tally t.counters) → length c ≡ over t.counters d
+    → Fits max_k t.total c
+chosen_fit n d t c fits loss least is count = record {
+  some = omega arith;
+  bounded_k = omega arith;
+  bounded_total = fits;
+  few = omega (
+    arith,
+    count,
+    over-falls (level t.counters max_k) d t.counters least,
+    (is_level t.counters max_k).at_most,
+  );
+  entries = subst IsCounters (sym is) (record {
+    rising = rising-filter (exceeds d) (tally t.counters) (rising-tally t.counters);
+    positive = positive_over d (tally t.counters);
+  });
+  within = omega (
+    arith,
+    ap total_of is,
+    total_of-filter (exceeds d) (tally t.counters),
+    total_of-tally t.counters,
+    loss,
+  );
 }
 
 -- ---- rows of a count
@@ -202,12 +328,14 @@ over_of_some t (e ∷ es) =
     (λ _. ap (λ (ds : List Entry). cond (exceeds t e) (e ∷ ds) ds) rest)
     (λ none. rest ∙ sym (cond-false (exceeds t e) _ _ (grind (arith, nat_tests, none))))
 
--- rows that were filtered and sorted are those over a number
-pub sorted_rows : (t : ℕ) (ks : List Bytes) (ns : List ℕ) (came kept rows : List Entry) → IsStrictlySortedBy key_cmp ks
-    → came ≡ filter (exceeds 0) (zip ks ns) → kept ≡ filter (exceeds t) came → IsPermutation kept rows
-    → IsSortedBy (λ x y. is_lt (rank_cmp x y)) rows → rows ≡ rows_over t (zip ks ns)
-sorted_rows t ks ns came kept rows rising is left permuted sorted =
-    let all : kept ≡ filter (exceeds t) (zip ks ns) = left ∙ ap (filter (exceeds t)) is ∙ over_of_some t (zip ks ns) in
-    ranked_from_sort (filter (exceeds t) (zip ks ns)) rows
+-- rows that were filtered are those over a number
+pub rows_kept : (t : ℕ) (ks : List Bytes) (ns : List ℕ) (came kept : List Entry) → came ≡ filter (exceeds 0) (zip ks ns)
+    → kept ≡ filter (exceeds t) came → kept ≡ filter (exceeds t) (zip ks ns)
+rows_kept t ks ns came kept is left = left ∙ ap (filter (exceeds t)) is ∙ over_of_some t (zip ks ns)
+
+-- and their keys rise
+pub rising_over : (t : ℕ) (ks : List Bytes) (ns : List ℕ) (came kept : List Entry) → IsStrictlySortedBy key_cmp ks
+    → came ≡ filter (exceeds 0) (zip ks ns) → kept ≡ filter (exceeds t) came → IsStrictlySortedBy key_cmp (keys_of kept)
+rising_over t ks ns came kept rising is left =
+    subst (λ (c : List Entry). IsStrictlySortedBy key_cmp (keys_of c)) (sym (rows_kept t ks ns came kept is left))
     (rising-filter (exceeds t) (zip ks ns) (rising_zip ks ns rising))
-    (subst (λ (l : List Entry). IsPermutation l rows) all permuted) sorted

@@ -141,14 +141,14 @@ before_first n es h d e (k, l, is) (j, m, at) before =
     (cases_lt j n)
 
 -- a key with its weight is among all
-in_ranking : (xs : List Entry) (x : Bytes) → 0 < weight_of x xs → Contains (ranking xs) (x, weight_of x xs)
+pub in_ranking : (xs : List Entry) (x : Bytes) → 0 < weight_of x xs → Contains (ranking xs) (x, weight_of x xs)
 in_ranking xs x some =
     let same = weight_of-tally x xs in
     let there = in_from_number x (tally xs) (rising-tally xs) (omega (arith, same, some)) in
     ((over_is_exact 0 (tally xs) (rising-tally xs)).1 (x, weight_of x xs)).1
     (subst (λ n. Contains (tally xs) (x, n)) same there, some)
 
-ranking_in : (xs : List Entry) (e : Entry) → Contains (ranking xs) e → (e.1 ≡ weight_of e.0 xs) × (0 < e.1)
+pub ranking_in : (xs : List Entry) (e : Entry) → Contains (ranking xs) e → (e.1 ≡ weight_of e.0 xs) × (0 < e.1)
 ranking_in xs e i =
     let j = ((over_is_exact 0 (tally xs) (rising-tally xs)).1 e).0 i in
     (sym (number_from_in e (tally xs) (rising-tally xs) j.0) ∙ weight_of-tally e.0 xs, j.1)

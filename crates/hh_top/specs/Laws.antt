@@ -8,6 +8,10 @@ use Rattle.hh_top.specs.Top.{IsTop, ranking, top}
 abbrev pub TopIsExact : Type 0
 TopIsExact = (xs : List Entry) (n : ℕ) → IsTop xs n (top n xs)
 
+-- and no other list is
+abbrev pub OnlyOneTop : Type 0
+OnlyOneTop = (xs : List Entry) (n : ℕ) (es : List Entry) → IsTop xs n es → es ≡ top n xs
+
 -- the keys of a report are as many of the greatest keys
 abbrev pub ReportsAreTops : Type 0
 ReportsAreTops = (xs : List Entry) (p q : ℕ) → heavy xs p q ≡ top (length (heavy xs p q)) xs

@@ -3,8 +3,9 @@ use Rattle.std.specs.Prelude.{◌≡◌, ℕ, ◌+◌, ◌-◌, ◌*◌, ◌<◌
 use Rattle.std.specs.List.Sorted.{IsStrictlySortedBy}
 use Rattle.std.specs.Ordering.{is_lt}
 use Rattle.hh_stream.specs.Weights.{Bytes, Entry, total_of, weight_of}
-use Rattle.hh_summaries.specs.Counters.{SummaryView, exceeds, level, slack, tally}
+use Rattle.hh_summaries.specs.Counters.{Counters, SummaryView, exceeds, level, max_k, tally}
 use Rattle.hh_summaries.specs.Report.{by_rank, rank_cmp}
+use Rattle.hh_tally.specs.Tallies.{TallyView}
 use Rattle.hh_faults.specs.declared.error.ToolError.{ToolError}
 use Rattle.hh_faults.specs.declared.error.ToolError.TheVariants as tool
 
@@ -29,18 +30,30 @@ pub record IsTop (xs : List Entry) (n : ℕ) (es : List Entry) : Type 0 where
   pub few : length es ≤ n
   pub all : length es < n → (x : Bytes) → 0 < weight_of x xs → Contains es (x, weight_of x xs)
 
--- a weight from which on the n greatest keys are looked for, less one: what a key without a counter can weigh, or less than
--- the n-th greatest counter
-abbrev pub floor_of : ℕ → SummaryView → ℕ
-floor_of n s = max (slack s.counters s.total s.k) (level s.counters (n - 1) - 1)
+-- the n-th greatest counter of a tally, and 0 where it has fewer
+abbrev pub nth_counter : ℕ → TallyView → ℕ
+nth_counter n t = level t.counters (n - 1)
 
--- whether a key with this counter can weigh more than t
-abbrev pub can_exceed : ℕ → SummaryView → Entry → Bool
-can_exceed t s e = nat_lt t (e.1 + slack s.counters s.total s.k)
+-- the most that a key can weigh that isn't counted, where max_k keys are: it has no counter, or one of the others
+abbrev pub most_uncounted : TallyView → ℕ
+most_uncounted t = t.lost + level t.counters max_k
 
--- the summary with the counters of those keys alone
-abbrev pub exceeding : ℕ → SummaryView → SummaryView
-exceeding t s = record { k = s.k; total = s.total; counters = filter (can_exceed t s) s.counters }
+-- whether n counters are above that, so that the n greatest keys are among those that are counted
+abbrev pub stand_out : ℕ → TallyView → Bool
+stand_out n t = nat_lt (most_uncounted t) (nth_counter n t)
+
+-- a weight from which on the n greatest keys are looked for, less one: what a key can weigh that isn't counted, or less
+-- than the n-th greatest counter
+abbrev pub floor_of : ℕ → TallyView → ℕ
+floor_of n t = max (most_uncounted t) (nth_counter n t - 1)
+
+-- the counters of the keys that can weigh more than that, at most max_k of them, by rising key
+abbrev pub chosen_of : ℕ → TallyView → Counters
+chosen_of n t = filter (exceeds (floor_of n t - t.lost)) (tally t.counters)
+
+-- the summary with these counters
+abbrev pub choice_of : ℕ → TallyView → SummaryView
+choice_of n t = record { k = max_k; total = t.total; counters = chosen_of n t }
 
 -- of the n greatest keys only the first are certain, fewer than n: just these weigh more than `most`, which is at most what
 -- k counters leave open

@@ -1,11 +1,12 @@
 //! Laws of the greatest keys. Each function does nothing: its contract is the law.
 
-ghost use Rattle.hh_top.specs.Laws.{ManyAreAll, ReportsAreTops, TopIsExact};
+ghost use Rattle.hh_top.specs.Laws.{ManyAreAll, OnlyOneTop, ReportsAreTops, TopIsExact};
 
 /// The n greatest keys are in order, each with its weight, and no key that is left out comes before
-/// one of them.
+/// one of them. No other list is so.
 pub fn top_is_exact()
-    ensures { TopIsExact }
+    ensures exact { TopIsExact }
+    ensures only { OnlyOneTop }
 {}
 
 /// The keys of a report, above any share, are the first of the greatest keys.

@@ -1,7 +1,7 @@
-//! The keys of the greatest weight, exactly: chosen by a summary's counters, and then counted.
+//! The keys of the greatest weight, exactly: chosen by a tally, and then counted.
 #![tactic(auto)]
 
 mod choice;
 pub mod laws;
 
-pub use choice::{exceeding, floor_of, greatest};
+pub use choice::{choice_of, greatest, greatest_counters, stand_out};

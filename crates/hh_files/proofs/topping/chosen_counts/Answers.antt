@@ -3,13 +3,10 @@ use Rattle.std.specs.Map.{keys_of}
 use Rattle.hh_summaries.specs.Counters.{SummaryView}
 use Rattle.hh_records.specs.Layouts.{texts_known}
 use Rattle.hh_commands.specs.Records.{CountsRecords}
-use Rattle.hh_top.specs.Top.{exceeding}
 use Rattle.hh_files.proofs.topping.chosen_counts.Goals as goal
 
 pub returns-clause-counts : goal.returns-clause-counts
 returns-clause-counts g c =
     let known = texts_known g.S.ReadAt.bytes c.args.records.layout.now c.args.records.sources.now in
-    let s = c.in_ok-summary.summary in
-    subst (λ floor. CountsRecords known (keys_of (exceeding floor s).counters) c.in_ok-counts.counts) c.in_ok-floor.ensures
-    (subst (λ (chosen : SummaryView). CountsRecords known (keys_of chosen.counters) c.in_ok-counts.counts)
-    c.in_ok-chosen.ensures c.in_ok-counts.ensures.counts)
+    subst (λ (choice : SummaryView). CountsRecords known (keys_of choice.counters) c.in_ok-counts.counts)
+    c.in_ok-choice.ensures c.in_ok-counts.ensures.counts

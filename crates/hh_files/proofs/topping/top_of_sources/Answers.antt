@@ -1,12 +1,6 @@
 use Rattle.hh_records.specs.Layouts.{texts_known}
-use Rattle.hh_files.proofs.TopFacts.{keys_counted, records_refuse, top_found, top_refused}
+use Rattle.hh_files.proofs.TopFacts.{records_refuse}
 use Rattle.hh_files.proofs.topping.top_of_sources.Goals as goal
-
-pub greatest-requires : goal.greatest-requires
-greatest-requires g c = record {
-  keys = keys_counted (texts_known g.S.ReadAt.bytes c.args.records.layout.now c.args.records.sources.now) _ _
-      c.in-Ok.ensures.counts;
-}
 
 pub returns-in-Err-clause-refused : goal.returns-in-Err-clause-refused
 returns-in-Err-clause-refused g c =

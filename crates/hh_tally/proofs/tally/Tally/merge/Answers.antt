@@ -1,4 +1,4 @@
-use Rattle.std.proofs.Common.{◌≡◌, ◌+◌, ◌<◌, ◌^◌, sym, ap, ◌∙◌, arith}
+use Rattle.std.proofs.Common.{◌+◌, ◌<◌, ◌^◌, sym, ap, ◌∙◌, arith}
 use Rattle.hh_tally.specs.Tallies.{TallyView}
 use Rattle.hh_tally.proofs.Keeping.{lost_fits, tally_merged}
 use Rattle.hh_tally.proofs.tally.Tally.merge.Goals as goal

@@ -4,11 +4,11 @@ use Rattle.hh_tally.specs.Tallies.{AreBounds, TallyView}
 use Rattle.hh_pool.specs.Passes.{AreRead}
 use Rattle.hh_pool.proofs.TallyFacts.{whole_bounds}
 use Rattle.hh_pool.proofs.Taken.{ok_tells}
-use Rattle.hh_pool.proofs.tallying.tally.Goals as goal
+use Rattle.hh_pool.proofs.tallying.tally_pieces.Goals as goal
 
 pub returns-clause-bounds : goal.returns-clause-bounds
 returns-clause-bounds g c =
-    let context = c.args.context.now.pieces.now in
+    let context = c.args.pieces.now in
     let pieces = g.P.Pieces.pieces context in
     IfOk-weaker _ _ (λ (t : TallyView). g.P.Pieces.known context → AreBounds t (whole_of pieces))
     (λ t made known.
@@ -18,7 +18,7 @@ returns-clause-bounds g c =
 
 pub returns-clause-read : goal.returns-clause-read
 returns-clause-read g c =
-    let context = c.args.context.now.pieces.now in
+    let context = c.args.pieces.now in
     let pieces = g.P.Pieces.pieces context in
     ok_tells {Q = g.P.Pieces.known context → AreRead (g.P.Pieces.reads context) pieces} _ _ (λ t made known i low.
     let (numbers, each, is) = made in
