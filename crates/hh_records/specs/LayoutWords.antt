@@ -2,7 +2,7 @@
 use Rattle.std.specs.Prelude.{◌≡◌, ◌==◌, ◌&&◌, ◌⊎◌, ℕ, Bool, true, false, not, if◌then◌else◌, List, [], ◌∷◌, map, Contains, Option, Some, None, IsSome, option_map, ⊤}
 use Rattle.csv.specs.Writing.{comma}
 use Rattle.hh_records.specs.Formats.{has_quotes, is_json, part_said}
-use Rattle.hh_records.specs.Layouts.{NamesColumn, delimiter_of}
+use Rattle.hh_records.specs.Layouts.{NamesColumn, bad_key, delimiter_of}
 use Rattle.hh_records.specs.declared.format.Format.{Format}
 use Rattle.hh_records.specs.declared.format.Format.TheVariants as format
 use Rattle.hh_records.specs.declared.layout.Column.{Column}
@@ -95,6 +95,7 @@ pub record SaysLayout (words : LayoutWords) (layout : Layout) : Type 0 where
   pub part : part_said layout.part ≡ (words.until.items, words.prefix)
   pub allow_zero : layout.allow_zero ≡ words.allow_zero
   pub decimals : layout.decimals ≡ words.decimals
+  pub bad_as : bad_key layout ≡ option_map (λ key. key.items) words.bad_as
 
 -- the weight's word names no column
 abbrev pub NamesNoWeight : LayoutWords → Type 0

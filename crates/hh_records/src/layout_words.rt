@@ -4,7 +4,7 @@ ghost use Rattle.std.specs.Prelude.{◌≡◌, IfOk, IfErr, IfSome, None, Ok, ma
 ghost use Rattle.hh_records.specs.LayoutWords.{LayoutRefused, NamesKey, NamesNone, NamesNot, SaysColumn, SaysLayout, byte_said};
 
 use crate::format::{Format, KeyPart};
-use crate::layout::{Column, Layout, column_of, delimiter_of};
+use crate::layout::{BadAs, Column, Layout, column_of, delimiter_of};
 use hh_faults::ToolError;
 use hh_stream::KeyHash;
 use std::alloc::{AllocError, Global};
@@ -32,6 +32,9 @@ pub struct LayoutWords {
     pub allow_zero: bool,
     /// The most digits that a weight has after a point. It counts in units of the last of them.
     pub decimals: u8,
+    /// The key, of 1 to 4,096 bytes, that each record counts as that fails a test, of weight 1.
+    /// Nothing says that such a record is refused.
+    pub bad_as: Option<Vec<u8>>,
 }
 
 /// Finds the column that `word` names. Of objects it is the name of a member.
@@ -129,6 +132,10 @@ pub fn layout_of(alloc: Global, words: &LayoutWords) -> Result<Layout, ToolError
         },
         allow_zero: words.allow_zero,
         decimals: words.decimals,
+        bad_as: match &words.bad_as {
+            Some(key) => Some(BadAs::new(alloc, key.as_slice())?),
+            None => None,
+        },
         hash: KeyHash::fixed(),
     })
 }

@@ -175,11 +175,13 @@ fn open_all<R: Read + Drop>(
     Ok(texts)
 }
 
-/// Hands on what the records of open texts add, one text after the other.
+/// Hands on what the records of open texts add, one text after the other, and counts those that are
+/// `bad`.
 fn read_all<R: Read + Drop, T: TakeItems>(
     alloc: Global,
     texts: Vec<Text<R>>,
     taker: &mut T,
+    bad: &mut u64,
     layout: &Layout,
 ) -> Result<(), ReadError>
     requires texts { All IsText texts.items }
@@ -194,7 +196,7 @@ fn read_all<R: Read + Drop, T: TakeItems>(
 {
     let mut number = 0;
     for text in texts {
-        match read_rows(alloc, text, number, taker, layout) {
+        match read_rows(alloc, text, number, taker, bad, layout) {
             Ok(after) => number = after,
             Err(error) => return Err(error),
         }
@@ -330,6 +332,13 @@ fn through_buffers<R: Read + Drop>(
     Ok(all)
 }
 
+/// Notes that a reading of all records had this `count` of bad ones.
+fn note_bad(layout: &Layout, count: u64) {
+    if let Some(bad_as) = &layout.bad_as {
+        bad_as.set_count(count);
+    }
+}
+
 /// Hands the item of each record of readers to a taker of none, in order, and returns the taker.
 fn read_each<R: Read + Drop, T: TakeItems>(
     alloc: Global,
@@ -346,8 +355,12 @@ fn read_each<R: Read + Drop, T: TakeItems>(
 {
     let texts = open_all(alloc, first, others, layout)?;
     let mut taker = taker;
-    match read_all(alloc, texts, &mut taker, layout) {
-        Ok(()) => Ok(taker),
+    let mut bad = 0;
+    match read_all(alloc, texts, &mut taker, &mut bad, layout) {
+        Ok(()) => {
+            note_bad(layout, bad);
+            Ok(taker)
+        }
         Err(error) => Err(TextError::from(error)),
     }
 }
