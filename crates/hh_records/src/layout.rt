@@ -47,17 +47,6 @@ impl BadAs {
             count: Arc::new(alloc, AtomicU64::new(0))?,
         })
     }
-
-    /// Notes that a reading of all records had this `count` of bad ones.
-    pub fn set_count(&self, count: u64) {
-        self.count.store(count, Ordering::SeqCst);
-    }
-
-    /// Notes that a part of the records had this `count` of bad ones, in place of the `last` time.
-    pub fn replace_count(&self, last: u64, count: u64) {
-        self.count
-            .fetch_add(count.wrapping_sub(last), Ordering::SeqCst);
-    }
 }
 
 /// How records are laid out in the texts that they are read from.
@@ -96,6 +85,23 @@ impl Layout {
         ensures { IsPlain result }
     {
         Layout::with_hasher(alloc, KeyHash::fixed())
+    }
+
+    /// Notes that a reading of all records had this `count` of bad ones.
+    pub fn set_bad_count(&self, count: u64) {
+        if let Some(bad_as) = &self.bad_as {
+            bad_as.count.store(count, Ordering::SeqCst);
+        }
+    }
+
+    /// Notes that a piece of the records had this `count` of bad ones, where the `last` one that was
+    /// noted of it is this.
+    pub fn replace_bad_count(&self, last: u64, count: u64) {
+        if let Some(bad_as) = &self.bad_as {
+            bad_as
+                .count
+                .fetch_add(count.wrapping_sub(last), Ordering::SeqCst);
+        }
     }
 
     /// [`plain`](Layout::plain), with keys hashed by `hash`.

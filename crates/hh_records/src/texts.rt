@@ -332,13 +332,6 @@ fn through_buffers<R: Read + Drop>(
     Ok(all)
 }
 
-/// Notes that a reading of all records had this `count` of bad ones.
-fn note_bad(layout: &Layout, count: u64) {
-    if let Some(bad_as) = &layout.bad_as {
-        bad_as.set_count(count);
-    }
-}
-
 /// Hands the item of each record of readers to a taker of none, in order, and returns the taker.
 fn read_each<R: Read + Drop, T: TakeItems>(
     alloc: Global,
@@ -358,7 +351,7 @@ fn read_each<R: Read + Drop, T: TakeItems>(
     let mut bad = 0;
     match read_all(alloc, texts, &mut taker, &mut bad, layout) {
         Ok(()) => {
-            note_bad(layout, bad);
+            layout.set_bad_count(bad);
             Ok(taker)
         }
         Err(error) => Err(TextError::from(error)),
