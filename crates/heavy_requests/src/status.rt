@@ -1,8 +1,8 @@
 //! How a run of the program ends: what it prints on standard error, and its exit status.
 
 use crate::explain::{
-    Lines, explain, explains_faults, names_records, print_contradicted, print_format_hint,
-    print_last_record, print_own_k,
+    Lines, explain, explains_faults, names_records, print_bad, print_contradicted,
+    print_format_hint, print_last_record, print_own_k,
 };
 use crate::inputs::Inputs;
 use crate::record_place::Texts;
@@ -88,6 +88,7 @@ pub fn status_of(
                 print_format_hint(rt, hints, asked);
             }
             print_last_record(rt, hints, asked);
+            print_bad(rt, inputs.bad.count(), asked);
             if let Some(outside) = &compared.outside {
                 print_contradicted(rt, asked, outside);
             }
