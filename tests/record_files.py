@@ -44,6 +44,7 @@ class Layout:
     form: bytes = b""
     until: bytes = b""
     prefix: int | None = None
+    bad_as: bytes | None = None
 
 
 @dataclass
@@ -163,20 +164,28 @@ def weight_in(written: str, layout: Layout) -> int | None:
     return int(Fraction(written) * 10**layout.decimals) if re.fullmatch(f"[0-9]{{1,20}}{pointed}", written) else None
 
 
-def items_of(records: Records) -> list[reference.Item]:
-    """The stream of some texts, or the first refusal: of the words, of a missing file, of a header, of a record."""
+def check_key(word: bytes | None) -> None:
+    """What bad records count as is a key."""
+    if word is not None and not 1 <= len(word) <= 4096:
+        raise reference.Refused("key 1: too long" if word else "key 1: empty")
+
+
+def read(records: Records) -> tuple[list[reference.Item], int]:
+    """The stream of some texts and the number of bad records that count as a key, or the first refusal: of the words, of a
+    missing file, of a header, of a record."""
     layout = records.layout
     delimiter_of(layout.delimiter, layout.form)
     if layout.form == b"--json" and not layout.key:
         raise reference.Refused(BAD_COLUMN, 2)
     for word in [*layout.key, *([] if layout.weight is None else [layout.weight])] if layout.form != b"--json" else []:
         column_of(word, layout.has_header)
+    check_key(layout.bad_as)
     for place, text in records.texts.items():
         if text is None:
             raise reference.Refused(f"file {place}: could not be read", 1)
     rows = [parts for text in records.texts.values() for parts in parts_in(text, layout)]
     items: list[reference.Item] = []
-    total = 0
+    total = bad = 0
     for number, parts in enumerate(rows, 1):
         cause = None
         key, written = parts or ("", "")
@@ -191,12 +200,32 @@ def items_of(records: Records) -> list[reference.Item]:
             cause = None if layout.allow_zero else "zero weight"
         elif total + weight > 2**63 - 1:
             cause = "total too large"
+        if cause and cause != "total too large" and layout.bad_as is not None:
+            key, weight, bad = layout.bad_as.decode("latin-1"), 10**layout.decimals, bad + 1
+            cause = "total too large" if total + weight > 2**63 - 1 else None
         if cause:
             raise reference.Refused(f"record {number}: {cause}")
         if weight:
             items.append((key.encode("latin-1"), weight))
             total += weight
-    return items
+    return items, bad
+
+
+def items_of(records: Records) -> list[reference.Item]:
+    """The stream of some texts, or the first refusal."""
+    return read(records)[0]
+
+
+def bad_line(bad: int, key: bytes | None) -> bytes:
+    """What standard error says of the bad records at the end."""
+    said = b"%d record%s could not be read and count%s as " % (bad, b"" if bad == 1 else b"s", b"s" if bad == 1 else b"")
+    return b"heavy: " + said + reference.shown(key or b"") + b"\n" if bad else b""
+
+
+def with_bad(expected: tuple[int, bytes, bytes], records: Records) -> tuple[int, bytes, bytes]:
+    """What a command says that is expected to answer so, with the line on the bad records."""
+    status, out, err = expected
+    return (0, out, bad_line(read(records)[1], records.layout.bad_as) + err) if status == 0 else expected
 
 
 # ---- random cases
@@ -321,6 +350,13 @@ def some_column(draw: Random, has_header: bool, names: list[bytes]) -> bytes:
     return draw.choice([b"%d", b"%d", b"%d", b"%02d", b"%010d"]) % draw.randrange(1, len(names) + 1)
 
 
+def some_bad_key(draw: Random) -> bytes | None:
+    """What bad records count as, where they do: a new key, or one of the records."""
+    if draw.random() < 0.7:
+        return None
+    return draw.choice([b"", b"k" * 4097]) if draw.random() < 0.02 else draw.choice([b"bad", b"a", b"-", b"x y", b"\xff", b"k" * 4096])
+
+
 def some_layout(draw: Random, names: list[bytes]) -> Layout:
     has_header = draw.random() < 0.5
     layout = Layout(None, has_header, allow_zero=draw.random() < 0.4)
@@ -339,6 +375,7 @@ def some_layout(draw: Random, names: list[bytes]) -> Layout:
         layout.key = [column for column in columns if b"," not in column]
     if draw.random() < 0.6:
         layout.weight = some_column(draw, has_header, names)
+    layout.bad_as = some_bad_key(draw)
     return layout
 
 
@@ -352,6 +389,7 @@ def json_layout(draw: Random) -> Layout:
         layout.decimals = draw.choice([1, 3])
     if draw.random() < 0.2:
         layout.until, layout.prefix = draw.choice([b"?", b"k", b'"', b""]), draw.choice([None, 1, 2, 4096])
+    layout.bad_as = some_bad_key(draw)
     return layout
 
 
@@ -370,6 +408,8 @@ def words_of(draw: Random, layout: Layout) -> list[bytes]:
         groups.append([b"--until", layout.until])
     if layout.prefix is not None:
         groups.append([b"--prefix", b"%d" % layout.prefix])
+    if layout.bad_as is not None:
+        groups.append([b"--bad-as=-"] if layout.bad_as == b"-" else [b"--bad-as", layout.bad_as])
     if layout.decimals or draw.random() < 0.1:
         groups.append([b"--decimals", b"%d" % layout.decimals])
     keys = [b",".join(layout.key)] if layout.key and draw.random() < 0.7 else layout.key
@@ -405,7 +445,8 @@ def case(draw: Random) -> hostile.Case:
     layout = some_layout(draw, names)
     texts = [some_text(draw, layout, names) for _ in range(draw.choice([1, 1, 2, 2, 3, 5]))]
     if draw.random() < 0.3:
-        layout = Layout(layout.delimiter, False, allow_zero=layout.allow_zero, decimals=layout.decimals, form=layout.form)
+        plain = Layout(layout.delimiter, False, allow_zero=layout.allow_zero, decimals=layout.decimals, form=layout.form)
+        layout, plain.bad_as = plain, layout.bad_as
         texts = [some_unquoted_text(draw, layout.delimiter) for _ in texts]
     if draw.random() < 0.2:
         layout = json_layout(draw)
@@ -419,23 +460,24 @@ def case(draw: Random) -> hostile.Case:
     match kind:
         case 0:
             words = ["summarise", "--k", str(k), "--method", draw.choice(["mg", "ss"]), *options]
-            return hostile.Case(words, files, [], given, reference.answer(reference.summarise, records, k, **told))
+            expected = reference.answer(reference.summarise, records, k, **told)
+            return hostile.Case(words, files, [], given, with_bad(expected, records))
         case 1:
             status, saved, _ = reference.answer(reference.summarise, records, k, **told)
             saved = saved if status == 0 else reference.summarise(b"a", k)
             expected = reference.compared(reference.confirm, saved, records, is_plain, **told, decimals=layout.decimals)
-            return hostile.Case(["confirm", *workers, *options], [saved, *files], [], given, expected)
+            return hostile.Case(["confirm", *workers, *options], [saved, *files], [], given, with_bad(expected, records))
         case 2:
             saved = reference.summarise(draw.choice([b"a\nb", b"a\n", b'"a,b"\nothers', b""]), k)
             expected = reference.compared(reference.condense, saved, records, is_plain, **told, decimals=layout.decimals)
-            return hostile.Case(["condense", *workers, *options], [saved, *files], [], given, expected)
+            return hostile.Case(["condense", *workers, *options], [saved, *files], [], given, with_bad(expected, records))
         case 3:
             words = ("--width", draw.choice("158"), "--depth", draw.choice("13"), "--seed", draw.choice("07"))
             expected = reference.answer(hostile_records.table, records, hostile_records.empty_table(words), **told)
-            return hostile.Case(["table", *workers, *words, *options], files, [], given, expected)
+            return hostile.Case(["table", *workers, *words, *options], files, [], given, with_bad(expected, records))
     words = ["report", "--k", str(k), *workers, "--pieces", draw.choice("125"), "--width", "8"]
     expected = reference.answer(reference.report, records, k, **told, decimals=layout.decimals)
-    return hostile.Case([*words, *options], files, [], given, expected)
+    return hostile.Case([*words, *options], files, [], given, with_bad(expected, records))
 
 
 def layout_of(words: list[str]) -> Layout:
@@ -461,6 +503,8 @@ def layout_of(words: list[str]) -> Layout:
                 layout.until = left.pop(0)
             case b"--prefix":
                 layout.prefix = int(left.pop(0))
+            case b"--bad-as":
+                layout.bad_as = left.pop(0)
             case word:
                 raise ValueError(f"no option of records: {word}")
     return layout
@@ -672,6 +716,33 @@ BAD_RECORDS = [
     (["--decimals", "3"], [b"a,9223372036854775\nb\n"], 2, "total too large"),
 ]
 
+# Options beside --bad-as bad, texts, the report of them, and how many records are bad.
+BAD_AS = [
+    # an empty key, one too long, a bad weight, a weight of 0 and a wrong number of fields
+    ([], [b"a,7\n,9\n" + b"k" * 4097 + b",9\na,x\na,0\na,1,1\nb,6\n"], b"a,7\nb,6\nbad,5\n", 5),
+    (["--allow-zero"], [b"a,7\na,0\na,-\n,0\nb,x\n"], b"a,7\nbad,2\n", 2), ([], [b"a\nb\n"], b"a,1\nb,1\n", 0),
+    # one bad record, a key that records have too, and a total that is the largest
+    ([], [b"bad,4\nbad,x\n"], b"bad,5\n", 1), ([], [b"x,9223372036854775806\ny,x\n"], b"x,9223372036854775806\n", 1),
+    # a header, columns, several files, and digits behind a point, of which a bad record has none
+    (["--header", "--key", "k", "--weight", "w"], [b"k,w\na,2\nb\n", b"w,k\nx,a\n3,\n"], b"bad,3\na,2\n", 3),
+    (["--key", "1,2"], [b"a\na,b\n\n" + b"k" * 5000 + b",b\n"], b'bad,2\n"a,b",1\n', 2),
+    (["--decimals", "2"], [b"a,1.5\na,1.505\nb,0.00\n,1\n"], b"bad,3.00\na,1.50\n", 3),
+    # lines, columns that are padded, quotes as other bytes, a part of a key, and objects
+    (["--lines"], [b"a\n" + b"k" * 4097 + b"\na\n"], b"a,2\nbad,1\n", 1), (["--squeeze"], [b" a 1\n   \na 2 3\n"], b"bad,2\na,1\n", 2),
+    (["--no-quotes"], [b'"a,b",1\n"c,2\n'], b'"""c",2\nbad,1\n', 1), (["--until", "?"], [b"a?x\n?b\n"], b"a,1\nbad,1\n", 1),
+    (["--json", "--key", "a", "--weight", "n"], [b'{"a":"x","n":3}\n{"n":1}\nx\n{"a":"x","n":1.5}\n[]\n'], b"bad,4\nx,3\n", 4),
+    # a long field of which no more is kept than a key may have
+    ([], [b"k" * 99_999 + b",1\na," + b"0" * 99_999 + b"\n"], b"bad,2\n", 2), ([], [b'"' + b"k" * 99_999 + b'",1\na'], b"a,1\nbad,1\n", 1),
+]
+
+# Options beside --bad-as bad, texts, and what is refused all the same: a total that is too large, by a record or by what
+# it counts as, and a column that a header lacks.
+NOT_AS_BAD = [
+    ([], [b"x,9223372036854775807\ny\n"], "record 2: total too large"), ([], [b"x,9223372036854775807\ny,x\n"], "record 2: total too large"),
+    (["--decimals", "1"], [b",\nx,922337203685477579.7\n,\n"], "record 3: total too large"), ([], [b"x\n,\ny," + b"9" * 20 + b"\n"], "record 3: total too large"),
+    (["--header", "--key", "x"], [b"a,b\n1,2\n"], NO_COLUMN),
+]
+
 # Options that are refused, whatever the records.
 NO_DELIMITERS = ["", '"', "\r", "\n", ",,", "\\n", "\\tt", "ä", "tab", b"\xff\xff"]
 NO_KEYS = ["", "0", "00", "x", "1,", ",1", "1,x", "1,0", "+1", "1.0", " 1", "0" * 11]
@@ -752,6 +823,45 @@ class RecordFiles(programs.Checks):
             for command in COMMANDS:
                 self.refuses([*command, *options, *names], f"record {number}: {cause}", 3)
             self.refuses(["report", *options, *names[:-1], "-"], f"record {number}: {cause}", 3, texts[-1])
+
+    def test_bad_as(self) -> None:
+        """Records that count as a key since they are bad, and how many they are, by files, pipes and workers."""
+        for options, texts, report, bad in BAD_AS:
+            names, said = self.save(texts), bad_line(bad, b"bad")
+            for workers in ("1", "3"):
+                words = ["report", "--k", "65535", "--workers", workers, *options, "--bad-as", "bad"]
+                self.expect([*words, *names], (0, report, said))
+                self.expect([*words, *names[:-1], "-"], (0, report, said), texts[-1])
+        for options, texts, text in NOT_AS_BAD:
+            names = self.save(texts)
+            for command in (["report"], ["report", "--workers", "1"], ["summarise"], ["table"], ["top", "3"]):
+                self.refuses([*command, *options, "--bad-as", "bad", *names], text, 3)
+        for word, cause in (("", "empty"), ("k" * 4097, "too long")):
+            for command in (["report"], ["summarise"], ["table"], ["top", "3"]):
+                self.refuses([*command, "--bad-as", word, "none"], f"key 1: {cause}", 3)
+        self.refuses(["report", "--bad-as", "bad", "none"], "file 1: could not be read", 1)
+        folder = os.open(self.room, os.O_RDONLY)
+        self.refuses(["report", "--bad-as", "bad"], "input could not be read", 1, stdin=folder)
+        os.close(folder)
+
+    def test_bad_as_by_commands(self) -> None:
+        """Each command counts a bad record once, also where it reads files twice or in pieces."""
+        text = b"".join(b"%s,%d\n" % (b"ab"[i % 2 : i % 2 + 1] if i % 3 else b"", i % 7) for i in range(60_000))
+        items, bad = read(Records(Layout(bad_as=b"c"), {1: text}))
+        mended = b"".join(b"%s,%d\n" % item for item in items)
+        names, said = self.save([text, mended]), bad_line(bad, b"c")
+        self.check("there are bad records in each piece", bad > 20_000, bad)
+        self.save_summary(mended)
+        for command in (
+            ["report", "--k", "9"], ["report", "--k", "1", "--pieces", "2"], ["summarise", "--k", "9"], ["table", "--width", "9"],
+            ["top", "1"], ["top", "9"], ["confirm", "saved"], ["condense", "saved"],
+        ):
+            for workers in ("1", "2", "4"):
+                words = [command[0], "--workers", workers, *command[1:]]
+                whole = self.heavy([*words, names[1]])
+                self.check(f"{words} has an answer", whole[0] == 0, whole)
+                self.expect([*words, "--bad-as", "c", names[0]], (0, whole[1], said))
+                self.expect([*words, "--bad-as", "c", *([] if "saved" in words else ["-"])], (0, whole[1], said), text)
 
     def test_decimals(self) -> None:
         """Saved files of weights with a point, by hand: 0.625, 3 and 2.75 of 6.375 are two counters of 2.375 and 2.125."""

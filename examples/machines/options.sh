@@ -30,8 +30,8 @@ k='' rows='' decimals='' of_condense='' has_header=''
 while [ $# -gt 0 ]; do
   count=1
   case $1 in
-    -k | --k | -t | --threshold | -n | --top | -d | --delimiter | --key | --weight | --decimals | --until | --prefix) count=2 ;;
-    -[ktnd]?* | --k=* | --threshold=* | --top=* | --delimiter=* | --key=* | --weight=* | --decimals=* | --until=* | --prefix=*) ;;
+    -k | --k | -t | --threshold | -n | --top | -d | --delimiter | --key | --weight | --decimals | --until | --prefix | --bad-as) count=2 ;;
+    -[ktnd]?* | --k=* | --threshold=* | --top=* | --delimiter=* | --key=* | --weight=* | --decimals=* | --until=* | --prefix=* | --bad-as=*) ;;
     -H | --header | --allow-zero | --share | --no-quotes | --squeeze | --lines | --json) ;;
     -H*)
       # other letters behind one that takes no value

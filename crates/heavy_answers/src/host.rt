@@ -8,6 +8,7 @@ use heavy_host::FileSource;
 use heavy_requests::{Inputs, OpenFile, OpenInput, Reader};
 use hh_faults::ToolError;
 use hh_pieces::ReadAt;
+use hh_records::Layout;
 use hh_stream::KeyHash;
 use std::io::Read;
 
@@ -61,6 +62,10 @@ pub trait Host: FileSource {
     /// with a quote and is long, for the note on it that is printed at the end.
     fn note_last_record(&self, file: &Self::File);
 
+    /// Watches how many bad records a reading by `layout` counts as its key, for the line on them
+    /// that is printed at the end.
+    fn watch_bad(&self, layout: &Layout);
+
     /// How keys are hashed in this run.
     fn hash(&self) -> KeyHash;
 }
@@ -104,6 +109,10 @@ impl<'a> Host for Inputs<'a> {
 
     fn note_last_record(&self, file: &OpenFile<'a>) {
         Inputs::note_last_record(*self, file);
+    }
+
+    fn watch_bad(&self, layout: &Layout) {
+        self.bad.watch(layout);
     }
 
     /// Words of this run, where the system has random numbers for them, and else those that all

@@ -82,6 +82,7 @@ fn layout_on<H: Host>(host: &H, words: &RecordWords) -> Result<Layout, ToolError
 {
     let mut layout = layout_of(host.alloc(), &words.layout)?;
     layout.hash = host.hash();
+    host.watch_bad(&layout);
     Ok(layout)
 }
 

@@ -127,9 +127,9 @@ reading = flag (codes "explain") ∷ flag (codes "progress") ∷ []
 -- how records are read; `-d` and `-H` are letters of two
 abbrev pub columns : List Rule
 columns = with_letter 100 (option (codes "delimiter")) ∷ with_letter 72 (flag (codes "header")) ∷ options (codes "key")
-    ∷ option (codes "weight") ∷ flag (codes "allow-zero") ∷ digit (codes "decimals") ∷ option (codes "until")
-    ∷ number (codes "prefix") ∷ flag (codes "no-quotes") ∷ flag (codes "squeeze") ∷ flag (codes "lines")
-    ∷ flag (codes "json") ∷ []
+    ∷ option (codes "weight") ∷ flag (codes "allow-zero") ∷ option (codes "bad-as") ∷ digit (codes "decimals")
+    ∷ option (codes "until") ∷ number (codes "prefix") ∷ flag (codes "no-quotes") ∷ flag (codes "squeeze")
+    ∷ flag (codes "lines") ∷ flag (codes "json") ∷ []
 
 -- the form in which rows are printed
 abbrev pub output : Words → List Rule

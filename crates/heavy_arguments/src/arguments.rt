@@ -52,6 +52,8 @@ pub const WEIGHT: &str = "weight";
 
 pub const ALLOW_ZERO: &str = "allow-zero";
 
+pub const BAD_AS: &str = "bad-as";
+
 /// The options that say how a record is written.
 pub const NO_QUOTES: &str = "no-quotes";
 
@@ -252,7 +254,7 @@ const RECORD_FILES: Argument = Argument::Given(
 );
 
 /// The options that say how records are read.
-const COLUMN_ARGUMENTS: [Argument; 12] = [
+const COLUMN_ARGUMENTS: [Argument; 13] = [
     Argument::Short(
         'd',
         Kind::Byte,
@@ -279,6 +281,11 @@ const COLUMN_ARGUMENTS: [Argument; 12] = [
         Kind::Flag,
         ALLOW_ZERO,
         "A record of weight 0 or - adds nothing, and is no fault",
+    ),
+    Argument::Given(
+        Kind::Text("KEY"),
+        BAD_AS,
+        "Count each record that can't be read as one item of KEY, of weight 1, and tell how many",
     ),
     Argument::Given(
         Kind::Digit,

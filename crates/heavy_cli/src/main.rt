@@ -6,7 +6,7 @@ use heavy_answers::answer;
 use heavy_host::hold_closed;
 use heavy_progress::{Begin, NOTHING, RowCount, RowWriter};
 use heavy_requests::{
-    Inputs, Unread, UsageError, read_request, shared_progress, status_after, status_of,
+    BadCount, Inputs, Unread, UsageError, read_request, shared_progress, status_after, status_of,
     status_of_usage,
 };
 use hh_commands::Comparison;
@@ -26,9 +26,17 @@ fn main(rt: HostRuntime) -> ExitCode {
     };
     let mut compared = Comparison::new(!asked.records.are_plain());
     let (unread, hints) = (Unread::new(), Cell::new(NOTHING));
-    let begin = Begin::new(rt.alloc());
+    let (begin, bad) = (Begin::new(rt.alloc()), BadCount::new());
     let progress = shared_progress(&rt, &asked);
-    let inputs = Inputs::new(&rt, &asked, progress.as_ref(), &unread, &hints, &begin);
+    let inputs = Inputs::new(
+        &rt,
+        &asked,
+        progress.as_ref(),
+        &unread,
+        &hints,
+        &begin,
+        &bad,
+    );
     let rows = RowCount::new();
     let mut out = Out::new(RowWriter::new(rt.stdout(), &rows));
     let outcome = answer(&rt, &inputs, &asked, &mut out, &mut compared);

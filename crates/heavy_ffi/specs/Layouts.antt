@@ -36,6 +36,7 @@ pub record AreLayoutWords (o : TextLayout) (columns : List (List ℕ)) (words : 
   pub prefix : words.prefix ≡ None
   pub allow_zero : words.allow_zero ≡ o.allow_zero == 1
   pub decimals : words.decimals ≡ o.decimals
+  pub bad_as : words.bad_as ≡ None
 
 -- such words say this layout
 abbrev pub IsLayout : TextLayout → List (List ℕ) → Layout → Type 0

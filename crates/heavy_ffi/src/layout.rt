@@ -76,6 +76,7 @@ fn words_of(
         prefix: None,
         allow_zero: layout.allow_zero == 1,
         decimals: layout.decimals,
+        bad_as: None,
     })
 }
 

@@ -129,6 +129,7 @@ pub record AreRecordWords (found : Found) (records : RecordWords) : Type 0 where
       ≡ option_map word_of (first_value found (codes "weight"))
   pub zeros : one_text found (codes "allow-zero") ≡ Some (codes "true") → records.layout.allow_zero ≡ true
   pub no_zeros : one_text found (codes "allow-zero") ≡ None → records.layout.allow_zero ≡ false
+  pub bad_as : option_map (λ w. w.items) records.layout.bad_as ≡ option_map word_of (first_value found (codes "bad-as"))
   pub decimals : AreDecimals found records.layout.decimals
   pub format : IsFormat found records.layout.format
   pub until : records.layout.until.items ≡ first_word [] found (codes "until")

@@ -658,6 +658,9 @@ pub fn explain(texts: Texts<'_>, fault: &ToolError, compared: &Comparison, unrea
             tell_record(texts, *number, *cause);
         }
         ToolError::NoColumn => tell_columns(texts),
+        ToolError::BadKey { .. } if asked.records.layout.bad_as.is_some() => {
+            let _ = eprintln!(rt; "  --bad-as takes a key of 1 to 4096 bytes");
+        }
         ToolError::BadColumn if asked.records.layout.format.is_json() => {
             let _ = eprintln!(rt; "  --json wants --key: the name of a member, or a JSON pointer");
         }
@@ -695,6 +698,22 @@ pub fn print_format_hint(rt: &HostRuntime, hints: FormatHints, asked: &Invocatio
     if let Some(number) = hints.open {
         let name = input_name(asked, number);
         let _ = eprintln!(rt; "heavy: note: a quote is open at the end of {name}");
+    }
+}
+
+/// Prints how many records counted as a key since they could not be read, if any did.
+pub fn print_bad(rt: &HostRuntime, bad: u64, asked: &Invocation) {
+    let Some(key) = &asked.records.layout.bad_as else {
+        return;
+    };
+    let (records, count) = if bad == 1 {
+        ("record", "counts")
+    } else {
+        ("records", "count")
+    };
+    if bad > 0 {
+        let key = Name(key.as_slice());
+        let _ = eprintln!(rt; "heavy: {bad} {records} could not be read and {count} as {key}");
     }
 }
 

@@ -4,6 +4,7 @@ ghost use Rattle.std.specs.Prelude.{◌≡◌, ◌⊎◌, IfErr, None, ⊤};
 ghost use Rattle.std.specs.Io.{ReadsAtMost};
 ghost use Rattle.heavy_requests.specs.Inputs.{FailsToOpen, names_standard};
 
+use crate::bad_count::BadCount;
 use crate::explain::explains_faults;
 use crate::kept_pipe::{KeptPipe, keep_pipe};
 use crate::request::{Invocation, RecordWords};
@@ -319,6 +320,8 @@ pub struct Inputs<'a> {
     pub unread: &'a Unread,
     /// What was seen in the inputs.
     pub hints: &'a Cell<FormatHints>,
+    /// How many records were bad and counted as a key.
+    pub bad: &'a BadCount,
     /// The first bytes of an input that can't be read again.
     pub begin: &'a Begin,
     /// Whether these may be printed, and are kept.
@@ -343,6 +346,7 @@ impl<'a> Inputs<'a> {
         unread: &'a Unread,
         hints: &'a Cell<FormatHints>,
         begin: &'a Begin,
+        bad: &'a BadCount,
     ) -> Inputs<'a> {
         let layout = &asked.records.layout;
         Inputs {
@@ -351,6 +355,7 @@ impl<'a> Inputs<'a> {
             unread,
             hints,
             begin,
+            bad,
             keeps_begin: explains_faults(rt, asked) || !asked.records.are_plain(),
             form: Form {
                 delimiter: asked.records.parting_byte().unwrap_or(b','),

@@ -2,6 +2,7 @@
 //! what it prints on standard error, and its exit status.
 #![tactic(auto)]
 
+mod bad_count;
 mod explain;
 mod fields;
 mod inputs;
@@ -12,6 +13,7 @@ mod status;
 mod unread;
 mod usage_report;
 
+pub use bad_count::BadCount;
 pub use explain::explains_faults;
 pub use inputs::{Inputs, OpenFile, OpenInput, Reader, is_standard, shared_progress};
 pub use kept_pipe::KeptPipe;

@@ -14,8 +14,8 @@ use crate::usage_report::{UsageReport, usage_report_of};
 use clap::error::ErrorKind;
 use clap::{ArgMatches, Error};
 use heavy_arguments::{
-    ALLOW_ZERO, DECIMALS, DELIMITER, DEPTH, EXPLAIN, GREATEST, HEADER, JSON, K, KEY, LINES, MEMORY,
-    NAMES, NO_QUOTES, OUTPUT, PIECES, PREFIX, PROGRESS, RECORDS, SEED, SHARE, SQUEEZE,
+    ALLOW_ZERO, BAD_AS, DECIMALS, DELIMITER, DEPTH, EXPLAIN, GREATEST, HEADER, JSON, K, KEY, LINES,
+    MEMORY, NAMES, NO_QUOTES, OUTPUT, PIECES, PREFIX, PROGRESS, RECORDS, SEED, SHARE, SQUEEZE,
     SUMMARY_WORKERS, TOP, UNTIL, WEIGHT, WIDTH, WORKERS, command_line,
 };
 use heavy_host::{WordSource, after_first, bytes_of, read_words, texts_of};
@@ -61,6 +61,7 @@ impl RecordWords {
             && layout.prefix.is_none()
             && layout.format == Format::Csv
             && !layout.allow_zero
+            && layout.bad_as.is_none()
             && layout.decimals == 0
     }
 
@@ -318,6 +319,7 @@ fn record_words(alloc: Global, found: &ArgMatches) -> Result<RecordWords, AllocE
         prefix: found.get_one(PREFIX),
         allow_zero: found.get_flag(ALLOW_ZERO),
         decimals: decimals_of(found),
+        bad_as: word_given(alloc, found, BAD_AS)?,
     };
     Ok(RecordWords {
         files: words(alloc, found, RECORDS)?,

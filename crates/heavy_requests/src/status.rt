@@ -1,7 +1,7 @@
 //! How a run of the program ends: what it prints on standard error, and its exit status.
 
 use crate::explain::{
-    Lines, explain, explains_faults, names_records, print_contradicted, print_few_keys,
+    Lines, explain, explains_faults, names_records, print_bad, print_contradicted, print_few_keys,
     print_format_hint, print_last_record, print_own_k,
 };
 use crate::inputs::Inputs;
@@ -90,6 +90,7 @@ pub fn status_of(
                 print_few_keys(rt, asked, rows);
             }
             print_last_record(rt, hints, asked);
+            print_bad(rt, inputs.bad.count(), asked);
             if let Some(outside) = &compared.outside {
                 print_contradicted(rt, asked, outside);
             }

@@ -4,7 +4,7 @@ use Rattle.std.specs.Prelude.{◌==◌, nat_le, if◌then◌else◌, option_map}
 use Rattle.std.proofs.lemmas.Bool.{eqb-false}
 use Rattle.std.proofs.lemmas.List.Elements.{All-append, All-from_recursion}
 use Rattle.hh_stream.specs.Weights.{Bytes, Entry, max_key_len, max_total, total_of}
-use Rattle.hh_records.specs.Layouts.{added, adding_next, adds, item_by, items_after, joined, stream_with, texts_parts, weight_by}
+use Rattle.hh_records.specs.Layouts.{added, adding_next, adds, adds_instead, adds_itself, bad_key, counted_as, item_by, items_after, joined, stream_with, texts_parts, weight_by}
 use Rattle.hh_records.specs.Streams.{Parts, Reading, item_of_key, item_of_pair, weight_after, weight_or_cause}
 use Rattle.hh_records.specs.declared.layout.Layout.{Layout}
 use Rattle.hh_faults.specs.declared.records.BadRecordCause.{BadRecordCause}
@@ -56,6 +56,26 @@ added_weigh true (Err cause.ZeroWeight) xs e h =
 added_weigh false (Err cause.ZeroWeight) xs e h = absurd (cc e)
 added_weigh allow (Err c) xs e h = absurd (cc e)
 
+itself_weigh : (layout : Layout) (t : ℕ) (p : Parts) (xs : List Entry) → adds_itself layout t p ≡ Ok xs → All Weighs xs
+itself_weigh layout t p xs e =
+    added_weigh layout.allow_zero (item_by layout t p) xs e (item_weighs layout t p)
+
+-- so it is where a record counts as a key since it is bad
+instead_weigh : (layout : Layout) (t : ℕ) (key : Option Bytes) (c : BadRecordCause) (xs : List Entry)
+    → adds_instead layout t key c ≡ Ok xs → All Weighs xs
+instead_weigh layout t None c xs e = absurd (cc e)
+instead_weigh layout t (Some key) cause.TotalTooLarge xs e = absurd (cc e)
+instead_weigh layout t (Some key) cause.FieldCount xs e = itself_weigh layout t (Some (key, None)) xs e
+instead_weigh layout t (Some key) cause.EmptyKey xs e = itself_weigh layout t (Some (key, None)) xs e
+instead_weigh layout t (Some key) cause.KeyTooLong xs e = itself_weigh layout t (Some (key, None)) xs e
+instead_weigh layout t (Some key) cause.BadWeight xs e = itself_weigh layout t (Some (key, None)) xs e
+instead_weigh layout t (Some key) cause.ZeroWeight xs e = itself_weigh layout t (Some (key, None)) xs e
+
+counted_weigh : (layout : Layout) (t : ℕ) (r : Result (List Entry) BadRecordCause) (xs : List Entry)
+    → counted_as layout t r ≡ Ok xs → (r ≡ Ok xs → All Weighs xs) → All Weighs xs
+counted_weigh layout t (Ok es) xs e h = h e
+counted_weigh layout t (Err c) xs e h = instead_weigh layout t (bad_key layout) c xs e
+
 items_weigh : (layout : Layout) (n t : ℕ) (ps : List Parts) (xs : List Entry) → items_after layout n t ps ≡ Ok xs
     → All Weighs xs
 unfolding items_after
@@ -75,7 +95,7 @@ items_weigh layout n t (p ∷ ps) xs e =
         → All Weighs xs
     by (Ok es) is e more =
         go es (items_after layout (n + 1) (t + total_of es) ps)
-        (added_weigh layout.allow_zero (item_by layout t p) es is (item_weighs layout t p)) (more es) e
+        (counted_weigh layout t (adds_itself layout t p) es is (itself_weigh layout t p es)) (more es) e
     by (Err c) is e more = absurd (cc e)
 
 -- the items that texts read as weigh something

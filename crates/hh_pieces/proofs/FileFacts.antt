@@ -136,17 +136,18 @@ module _ (layout : Layout) where
 
 -- one later piece more of the file with this number
 pub pieces-more : (texts : List (List ℕ)) (number : ℕ) (columns copy : Places) (later : List Span) (i : ℕ) (d : Span)
-    (old now new : List FilePiece) → i < length later → copy ≡ columns
-    → new ≡ now ++ (record { source = number; columns = Some copy; span = get_or later i d }) ∷ []
+    (old now new : List FilePiece) (one : FilePiece) → i < length later → copy ≡ columns
+    → file_piece texts one ≡ (Some copy, span_bytes (get_or texts number []) (get_or later i d))
+    → new ≡ now ++ one ∷ []
     → map (file_piece texts) now
     ≡ map (file_piece texts) old ++ map (λ span. (Some columns, span_bytes (get_or texts number []) span)) (take i later)
     → map (file_piece texts) new
     ≡ map (file_piece texts) old ++ map (λ span. (Some columns, span_bytes (get_or texts number []) span)) (take (i + 1) later)
-pieces-more texts number columns copy later i d old now new less same is so_far =
+pieces-more texts number columns copy later i d old now new one less same it is so_far =
     let piece : Span → Piece = λ span. (Some columns, span_bytes (get_or texts number []) span) in
     let before : List Piece = map (file_piece texts) old in
     let taken : map piece (take (i + 1) later) ≡ map piece (take i later) ++ piece (get_or later i d) ∷ [] =
     ap (map piece) (take_more later i d less) ∙ map-append piece (take i later) (get_or later i d ∷ []) in
     ap (map (file_piece texts)) is ∙ map-append (file_piece texts) now _
-    ∙ rw (same, so_far) (append_assoc before (map piece (take i later)) (piece (get_or later i d) ∷ []))
+    ∙ rw (it, same, so_far) (append_assoc before (map piece (take i later)) (piece (get_or later i d) ∷ []))
     ∙ ap (λ ps. before ++ ps) (sym taken)

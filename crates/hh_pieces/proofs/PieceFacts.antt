@@ -6,7 +6,7 @@ use Rattle.std.proofs.lemmas.Bool.Decides.{nat_tests}
 use Rattle.std.proofs.lemmas.List.{map-append}
 use Rattle.std.proofs.lemmas.List.Sums.{sum_by-append, sum_by-cons}
 use Rattle.hh_stream.specs.Cuttings.{whole_of}
-use Rattle.hh_stream.specs.Weights.{Entry, max_key_len, max_total, total_of}
+use Rattle.hh_stream.specs.Weights.{Bytes, Entry, max_key_len, max_total, total_of}
 use Rattle.hh_records.specs.declared.layout.Layout.{Layout}
 use Rattle.hh_faults.specs.Faults.{text_error}
 use Rattle.hh_faults.specs.declared.records.BadRecordCause.{BadRecordCause}
@@ -17,7 +17,7 @@ use Rattle.hh_faults.specs.declared.records.TextError.{TextError}
 use Rattle.hh_faults.specs.declared.records.TextError.TheVariants as text
 use Rattle.hh_pieces.specs.Laws.{PiecesAreRead}
 use Rattle.hh_records.specs.Formats.{byte_between, has_quotes}
-use Rattle.hh_records.specs.Layouts.{OpenRefused, Places, RowsRefused, added, adding_next, adds, config_of, gathered, headed_parts, item_by, items_after, joined, names_columns, parts_at, places_in, text_parts, texts_parts, weight_by}
+use Rattle.hh_records.specs.Layouts.{OpenRefused, Places, RowsRefused, added, adding_next, adds, adds_instead, adds_itself, bad_key, config_of, counted_as, gathered, headed_parts, item_by, items_after, joined, names_columns, parts_at, places_in, text_parts, texts_parts, weight_by}
 use Rattle.hh_pieces.specs.Chunks.{Follows}
 use Rattle.hh_pieces.specs.Pieces.{InPieces, IsCut, IsInPieces, PieceRefused, all_pieces, first_piece, piece_parts, piece_reading, text_of, with_columns}
 use Rattle.hh_records.specs.Layouts.{columns_of, first_of, rows_in}
@@ -83,11 +83,11 @@ unfolding Moves
 item-moves layout t u None = refl
 item-moves layout t u (Some (k, f)) = key-moves t u k (weight_by layout f)
 
--- what a record adds is the same after another total, where it fits
-adds-moves : (layout : Layout) (t u : ℕ) (p : Parts) (es : List Entry) → adds layout t p ≡ Ok es
-    → u + total_of es ≤ max_total → adds layout u p ≡ Ok es
+-- what a record adds itself is the same after another total, where it fits
+itself-moves : (layout : Layout) (t u : ℕ) (p : Parts) (es : List Entry) → adds_itself layout t p ≡ Ok es
+    → u + total_of es ≤ max_total → adds_itself layout u p ≡ Ok es
 unfolding Moves
-adds-moves layout t u p es e l =
+itself-moves layout t u p es e l =
     by (item_by layout t p) (item_by layout u p) (item-moves layout t u p) e
   where
     by : (r s : Result Entry BadRecordCause) → Moves weight_in u r s → added layout.allow_zero r ≡ Ok es
@@ -103,6 +103,57 @@ adds-moves layout t u p es e l =
     by (Err cause.BadWeight) s h e = rw h e
     by (Err cause.ZeroWeight) s h e = rw h e
     by (Err cause.TotalTooLarge) s h e = cc e
+
+-- so is what a bad record adds instead
+instead-moves : (layout : Layout) (t u : ℕ) (key : Option Bytes) (c : BadRecordCause) (es : List Entry)
+    → adds_instead layout t key c ≡ Ok es → u + total_of es ≤ max_total → adds_instead layout u key c ≡ Ok es
+instead-moves layout t u None c es e l = cc e
+instead-moves layout t u (Some key) cause.TotalTooLarge es e l = cc e
+instead-moves layout t u (Some key) cause.FieldCount es e l = itself-moves layout t u (Some (key, None)) es e l
+instead-moves layout t u (Some key) cause.EmptyKey es e l = itself-moves layout t u (Some (key, None)) es e l
+instead-moves layout t u (Some key) cause.KeyTooLong es e l = itself-moves layout t u (Some (key, None)) es e l
+instead-moves layout t u (Some key) cause.BadWeight es e l = itself-moves layout t u (Some (key, None)) es e l
+instead-moves layout t u (Some key) cause.ZeroWeight es e l = itself-moves layout t u (Some (key, None)) es e l
+
+-- a test that a record fails whatever the total
+failed-moves : (layout : Layout) (t u : ℕ) (c : BadRecordCause) (allow : Bool) (es : List Entry)
+    → counted_as layout t (added allow (Err c)) ≡ Ok es → u + total_of es ≤ max_total
+    → counted_as layout u (added allow (Err c)) ≡ Ok es
+failed-moves layout t u cause.ZeroWeight true es e l = e
+failed-moves layout t u cause.ZeroWeight false es e l = instead-moves layout t u (bad_key layout) cause.ZeroWeight es e l
+failed-moves layout t u cause.FieldCount allow es e l = instead-moves layout t u (bad_key layout) cause.FieldCount es e l
+failed-moves layout t u cause.EmptyKey allow es e l = instead-moves layout t u (bad_key layout) cause.EmptyKey es e l
+failed-moves layout t u cause.KeyTooLong allow es e l = instead-moves layout t u (bad_key layout) cause.KeyTooLong es e l
+failed-moves layout t u cause.BadWeight allow es e l = instead-moves layout t u (bad_key layout) cause.BadWeight es e l
+failed-moves layout t u cause.TotalTooLarge allow es e l =
+    instead-moves layout t u (bad_key layout) cause.TotalTooLarge es e l
+
+-- a total that is too large is refused
+too-large : (layout : Layout) (t : ℕ) (key : Option Bytes) (es : List Entry)
+    → adds_instead layout t key cause.TotalTooLarge ≡ Ok es → ⊥
+too-large layout t None es e = cc e
+too-large layout t (Some key) es e = cc e
+
+-- and so is what a record adds
+adds-moves : (layout : Layout) (t u : ℕ) (p : Parts) (es : List Entry) → adds layout t p ≡ Ok es
+    → u + total_of es ≤ max_total → adds layout u p ≡ Ok es
+unfolding Moves
+adds-moves layout t u p es e l =
+    by (item_by layout t p) (item_by layout u p) (item-moves layout t u p) e
+  where
+    by : (r s : Result Entry BadRecordCause) → Moves weight_in u r s
+        → counted_as layout t (added layout.allow_zero r) ≡ Ok es → counted_as layout u (added layout.allow_zero s) ≡ Ok es
+    by (Ok a) s h e =
+        let one : a ∷ [] ≡ es = cc e in
+        let sum = sum_by-cons weight_in a [] in
+        let fits : u + a.1 ≤ max_total = omega (arith, l, sum, ap total_of one) in
+        rw (h fits) e
+    by (Err cause.FieldCount) s h e = rw h (failed-moves layout t u cause.FieldCount layout.allow_zero es e l)
+    by (Err cause.EmptyKey) s h e = rw h (failed-moves layout t u cause.EmptyKey layout.allow_zero es e l)
+    by (Err cause.KeyTooLong) s h e = rw h (failed-moves layout t u cause.KeyTooLong layout.allow_zero es e l)
+    by (Err cause.BadWeight) s h e = rw h (failed-moves layout t u cause.BadWeight layout.allow_zero es e l)
+    by (Err cause.ZeroWeight) s h e = rw h (failed-moves layout t u cause.ZeroWeight layout.allow_zero es e l)
+    by (Err cause.TotalTooLarge) s h e = absurd (too-large layout t (bad_key layout) es e)
 
 -- so is what records add, whatever their numbers
 pub items-move : (layout : Layout) (n m t u : ℕ) (ps : List Parts) (xs : List Entry) → items_after layout n t ps ≡ Ok xs

@@ -15,6 +15,7 @@ use hh_records::Layout;
 use hh_stream::{PieceFault, TakeItems};
 use std::alloc::{AllocError, Global};
 use std::io::Read;
+use std::sync::atomic::{AtomicU64, Ordering};
 
 // How many bytes of a piece are in memory at once, where no record is longer.
 const CHUNK_LEN: usize = 262_144;
@@ -54,6 +55,7 @@ fn take_chunk<T: TakeItems>(
     layout: &Layout,
     columns: &mut Option<Columns>,
     held: &[u8],
+    bad: &mut u64,
     taker: &mut T,
 ) -> Result<usize, PieceFault>
     requires bounded { T.weight_taken taker.old ≤ max_total }
@@ -69,7 +71,7 @@ fn take_chunk<T: TakeItems>(
     };
     let chunk = &held[..count];
     if columns.is_some() {
-        return match read_piece(alloc, layout, columns.as_ref(), chunk, taker) {
+        return match read_piece(alloc, layout, columns.as_ref(), chunk, bad, taker) {
             Ok(()) => Ok(count),
             Err(error) => Err(piece_fault(error)),
         };
@@ -79,7 +81,7 @@ fn take_chunk<T: TakeItems>(
         Ok(None) => return Ok(0),
         Err(error) => return Err(piece_fault(error)),
     };
-    match read_piece(alloc, layout, None, chunk, taker) {
+    match read_piece(alloc, layout, None, chunk, bad, taker) {
         Ok(()) => {}
         Err(error) => return Err(piece_fault(error)),
     }
@@ -93,6 +95,7 @@ fn feed_bytes<T: TakeItems>(
     layout: &Layout,
     columns: Option<&Columns>,
     piece: &[u8],
+    bad: &mut u64,
     taker: &mut T,
 ) -> Result<(), PieceFault>
     ensures items { OnOk result
@@ -103,7 +106,7 @@ fn feed_bytes<T: TakeItems>(
     if !ends_outside_quotes(piece, layout.format, layout.delimiter) {
         return Err(PieceFault::Refused);
     }
-    match read_piece(alloc, layout, columns, piece, taker) {
+    match read_piece(alloc, layout, columns, piece, bad, taker) {
         Ok(()) => Ok(()),
         Err(error) => Err(piece_fault(error)),
     }
@@ -118,6 +121,7 @@ fn feed_window<R: Read, T: TakeItems>(
     window: &mut Window,
     piece: &mut R,
     most: usize,
+    bad: &mut u64,
     taker: &mut T,
 ) -> Result<(), PieceFault>
     requires empty { held_in window.old ≡ [] }
@@ -137,9 +141,9 @@ fn feed_window<R: Read, T: TakeItems>(
             return Err(PieceFault::Refused);
         };
         if count == 0 {
-            return feed_bytes(alloc, layout, columns.as_ref(), window.held(), taker);
+            return feed_bytes(alloc, layout, columns.as_ref(), window.held(), bad, taker);
         }
-        let taken = take_chunk(alloc, layout, columns, window.held(), taker)?;
+        let taken = take_chunk(alloc, layout, columns, window.held(), bad, taker)?;
         window.remove(taken);
     }
     Err(PieceFault::Refused)
@@ -148,13 +152,15 @@ fn feed_window<R: Read, T: TakeItems>(
 /// Hands the items of `piece`, which has about `len` bytes left, to `taker`. Without `columns` the
 /// first records choose them. Each byte is read once, into a buffer that grows only for a record
 /// that is longer than it. A record of [`MOST_HELD`] bytes is refused; after an error `taker` may
-/// hold any number of the items.
+/// hold any number of the items. Without one, `last_bad` has how many records were bad, and so has
+/// the layout in its sum.
 pub(crate) fn feed_left<R: Read, T: TakeItems>(
     alloc: Global,
     layout: &Layout,
     columns: Option<&Columns>,
     piece: &mut R,
     len: usize,
+    last_bad: &AtomicU64,
     taker: &mut T,
 ) -> Result<(), PieceFault>
     ensures items { OnOk result
@@ -168,5 +174,22 @@ pub(crate) fn feed_left<R: Read, T: TakeItems>(
     let most = len.saturating_add(1);
     let mut columns = copy_columns(alloc, columns)?;
     let mut window = Window::new(alloc, most.min(CHUNK_LEN))?;
-    feed_window(alloc, layout, &mut columns, &mut window, piece, most, taker)
+    let mut bad = 0;
+    match feed_window(
+        alloc,
+        layout,
+        &mut columns,
+        &mut window,
+        piece,
+        most,
+        &mut bad,
+        taker,
+    ) {
+        Ok(()) => {
+            let last = last_bad.swap(bad, Ordering::SeqCst);
+            layout.replace_bad_count(last, bad);
+            Ok(())
+        }
+        Err(fault) => Err(fault),
+    }
 }

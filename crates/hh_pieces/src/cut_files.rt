@@ -19,6 +19,7 @@ use hh_stream::{PieceFault, TakeItems};
 use memchr::memchr;
 use std::alloc::{AllocError, Global};
 use std::marker::Model;
+use std::sync::atomic::AtomicU64;
 
 /// The bytes of a file from a place up to another.
 #[derive(Clone, Copy)]
@@ -34,6 +35,8 @@ pub(crate) struct FilePiece {
     pub(crate) source: usize,
     pub(crate) columns: Option<Columns>,
     pub(crate) span: Span,
+    /// How many of its records were bad when it was read last.
+    pub(crate) bad: AtomicU64,
 }
 
 /// Files in pieces, or other sources of bytes that are read at any place. In contracts it is how
@@ -151,6 +154,7 @@ fn add_later(
             source: number,
             columns,
             span: *span,
+            bad: AtomicU64::new(0),
         })?;
     }
     Ok(())
@@ -189,6 +193,7 @@ fn add_source<S: ReadAt>(
         source: number,
         columns: None,
         span: *first,
+        bad: AtomicU64::new(0),
     })?;
     add_later(alloc, pieces, number, &columns, later)?;
     Ok(true)
@@ -257,6 +262,7 @@ impl<'t, S: ReadAt> CutFiles<'t, S> {
         let Some(pieces) = pieces_of(alloc, layout, sources, count)? else {
             return Ok(None);
         };
+        layout.set_bad_count(0);
         Ok(Some(CutFiles {
             layout,
             sources,
@@ -304,6 +310,14 @@ impl<'t, S: ReadAt> CutFiles<'t, S> {
         let len = len.min(to).saturating_sub(from).min(usize::MAX as u64) as usize;
         let mut bytes = read_between(source, from, to);
         let columns = part.columns.as_ref();
-        feed_left(alloc, self.layout, columns, &mut bytes, len, taker)
+        feed_left(
+            alloc,
+            self.layout,
+            columns,
+            &mut bytes,
+            len,
+            &part.bad,
+            taker,
+        )
     }
 }

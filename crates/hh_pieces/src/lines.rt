@@ -9,8 +9,8 @@ ghost use Rattle.hh_records.specs.Layouts.{PartsRefused, RowsRefused, adds, item
 ghost use Rattle.hh_pieces.specs.Lines as spec;
 ghost use Rattle.hh_pieces.specs.Lines.{HasNoReturn, IsUnquoted, filled_lines, parts_in_line};
 
-use hh_faults::{BadRecordCause, ReadError};
-use hh_records::{Format, Layout, RecordFault, numbered_fault, take_item};
+use hh_faults::ReadError;
+use hh_records::{Format, Layout, RecordFault, numbered_fault, take_parts};
 use hh_stream::TakeItems;
 use memchr::{memchr, memchr2};
 use std::alloc::Global;
@@ -121,6 +121,7 @@ fn take_line<T: TakeItems>(
     taker: &mut T,
     line: &[u8],
     separator: Option<u8>,
+    bad: &mut u64,
     layout: &Layout,
 ) -> Result<(), RecordFault>
     requires bounded { T.weight_taken taker.old ≤ max_total }
@@ -133,19 +134,17 @@ fn take_line<T: TakeItems>(
         PartsRefused layout.now (T.weight_taken taker.old)
         (parts_in_line separator line.now) fault) }
 {
-    match line_parts(line, separator) {
-        Some((key, field)) => take_item(alloc, taker, key, field, layout),
-        None => Err(RecordFault::Bad(BadRecordCause::FieldCount)),
-    }
+    take_parts(alloc, taker, line_parts(line, separator), bad, layout)
 }
 
 /// Hands on what each line of a text adds, blank ones aside, where a line is cut into fields at
-/// `separator`.
+/// `separator`, and counts those that are `bad`.
 pub(crate) fn read_lines<T: TakeItems>(
     alloc: Global,
     text: &[u8],
     separator: Option<u8>,
     taker: &mut T,
+    bad: &mut u64,
     layout: &Layout,
 ) -> Result<(), ReadError>
     requires bounded { T.weight_taken taker.old ≤ max_total }
@@ -165,7 +164,7 @@ pub(crate) fn read_lines<T: TakeItems>(
         let end = line_end(text, from, has_no_return);
         if from < end {
             number += 1;
-            match take_line(alloc, taker, &text[from..end], separator, layout) {
+            match take_line(alloc, taker, &text[from..end], separator, bad, layout) {
                 Ok(()) => {}
                 Err(fault) => return Err(numbered_fault(number, fault)),
             }

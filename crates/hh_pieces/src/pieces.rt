@@ -207,12 +207,14 @@ fn plain_text<'t>(layout: &Layout, columns: Option<&Columns>, piece: &'t [u8]) -
 /// columns that the first one chose ([`Columns::of_text`]), and has no header.
 ///
 /// Records are those of [`read_records`](crate::read_records), and they are numbered from 1 in each
-/// piece. The first that fails a test, or that the taker has no memory for, ends the reading.
+/// piece. The first that fails a test, or that the taker has no memory for, ends the reading. Those
+/// that count as the key of the layout are counted in `bad`.
 pub fn read_piece<T: TakeItems>(
     alloc: Global,
     layout: &Layout,
     columns: Option<&Columns>,
     piece: &[u8],
+    bad: &mut u64,
     taker: &mut T,
 ) -> Result<(), TextError>
     ensures items { OnOk result
@@ -228,20 +230,21 @@ pub fn read_piece<T: TakeItems>(
     let _ = taker.total();
     if let Some(text) = plain_text(layout, columns, piece) {
         let separator = separator_of(layout.format, layout.delimiter);
-        return match read_lines(alloc, text, separator, taker, layout) {
+        return match read_lines(alloc, text, separator, taker, bad, layout) {
             Ok(()) => Ok(()),
             Err(error) => Err(TextError::from(error)),
         };
     }
-    read_left(alloc, layout, columns, piece, taker)
+    read_left(alloc, layout, columns, piece, bad, taker)
 }
 
-/// Hands on the items of what a reader has left.
+/// Hands on the items of what a reader has left, and counts those of `bad` records.
 pub(crate) fn read_left<R: Read + Drop, T: TakeItems>(
     alloc: Global,
     layout: &Layout,
     columns: Option<&Columns>,
     piece: R,
+    bad: &mut u64,
     taker: &mut T,
 ) -> Result<(), TextError>
     ensures items { OnOk result
@@ -261,7 +264,7 @@ pub(crate) fn read_left<R: Read + Drop, T: TakeItems>(
         Ok(None) => return Ok(()),
         Err(error) => return Err(error),
     };
-    match read_rows(alloc, text, 0, taker, layout) {
+    match read_rows(alloc, text, 0, taker, bad, layout) {
         Ok(_) => Ok(()),
         Err(error) => Err(TextError::from(error)),
     }

@@ -22,7 +22,7 @@ use Rattle.hh_faults.specs.declared.records.BadRecordCause.{BadRecordCause}
 use Rattle.hh_faults.specs.declared.records.BadRecordCause.TheVariants as cause
 use Rattle.hh_records.specs.declared.records.RecordFault.{RecordFault}
 use Rattle.hh_records.specs.declared.records.RecordFault.TheVariants as fault
-use Rattle.hh_records.specs.Layouts.{ChoiceRefused, IsPlain, IsStart, OpenRefused, Opens, PartsRefused, RowsRefused, added, adding_next, adds, between, by_columns, choice_fault, chosen_places, columns_among, config_of, configured, field_names, gathered, headed_parts, items_after, joined, member_names, names_columns, parts_at, parts_by, places_in, text_parts, texts_parts}
+use Rattle.hh_records.specs.Layouts.{ChoiceRefused, IsPlain, IsStart, OpenRefused, Opens, PartsRefused, RowsRefused, added, adding_next, adds, adds_instead, adds_itself, between, by_columns, choice_fault, chosen_places, columns_among, config_of, configured, counted_as, field_names, gathered, headed_parts, items_after, joined, member_names, names_columns, parts_at, parts_by, places_in, text_parts, texts_parts}
 use Rattle.hh_records.specs.declared.layout.ChoiceFault.{ChoiceFault}
 use Rattle.hh_records.specs.declared.layout.ChoiceFault.TheVariants as choice
 use Rattle.hh_records.specs.declared.layout.ChosenLayout.{ChosenLayout}
@@ -413,11 +413,21 @@ unadded cause.ZeroWeight = refl
 unadded cause.TotalTooLarge = refl
 
 -- a layout of whole numbers but 0
-module _ (layout : Layout) (no_zero : layout.allow_zero ≡ false) (whole : layout.decimals ≡ 0) where
+module _ (layout : Layout) (no_zero : layout.allow_zero ≡ false) (whole : layout.decimals ≡ 0)
+    (no_bad : layout.bad_as ≡ None) where
+  plain-itself : (t : ℕ) (p : Parts) → adds_itself layout t p ≡ added false (item_of_parts t p)
+  plain-itself t None = refl
+  plain-itself t (Some (k, None)) = rw (no_zero, whole) refl
+  plain-itself t (Some (k, Some f)) = rw (no_zero, whole, units-whole f) refl
+
+  -- where bad records count as no key
+  as-they-are : (t : ℕ) (r : Result (List Entry) BadRecordCause) → counted_as layout t r ≡ r
+  as-they-are t (Ok es) = refl
+  as-they-are t (Err c) =
+      ap (λ bad. adds_instead layout t (option_map (λ bad. bad.key.items) bad) c) no_bad
+
   plain-adds : (t : ℕ) (p : Parts) → adds layout t p ≡ added false (item_of_parts t p)
-  plain-adds t None = refl
-  plain-adds t (Some (k, None)) = rw (no_zero, whole) refl
-  plain-adds t (Some (k, Some f)) = rw (no_zero, whole, units-whole f) refl
+  plain-adds t p = as-they-are t (adds_itself layout t p) ∙ plain-itself t p
 
   -- what records add are their items
   same-items : (n : ℕ) (xs : List Entry) (rows : List Fields)
@@ -479,4 +489,4 @@ plain-layouts layout text plain =
     let rows = records default_config (strip_bom text) in
     ap (option_map (items_after layout 1 0)) (plain-parts layout plain text)
     ∙ ap Some (sym (joined-none (items_after layout 1 0 (map parts_of rows)))
-    ∙ same-items layout plain.no_zero plain.whole 1 [] rows)
+    ∙ same-items layout plain.no_zero plain.whole plain.no_bad 1 [] rows)

@@ -1,8 +1,8 @@
 -- Layouts of records that are said in words.
-use Rattle.std.specs.Prelude.{◌≡◌, ◌==◌, ◌&&◌, ◌⊎◌, ℕ, Bool, true, false, not, if◌then◌else◌, List, [], ◌∷◌, map, Contains, Option, Some, None, IsSome, option_map, ⊤}
+use Rattle.std.specs.Prelude.{◌≡◌, ◌==◌, ◌<◌, ◌≤◌, ◌&&◌, ◌⊎◌, ℕ, Bool, true, false, not, if◌then◌else◌, List, [], ◌∷◌, map, Contains, length, Option, Some, None, IfSome, IsSome, option_map, ⊤}
 use Rattle.csv.specs.Writing.{comma}
 use Rattle.hh_records.specs.Formats.{has_quotes, is_json, part_said}
-use Rattle.hh_records.specs.Layouts.{NamesColumn, delimiter_of}
+use Rattle.hh_records.specs.Layouts.{NamesColumn, bad_key, delimiter_of}
 use Rattle.hh_records.specs.declared.format.Format.{Format}
 use Rattle.hh_records.specs.declared.format.Format.TheVariants as format
 use Rattle.hh_records.specs.declared.layout.Column.{Column}
@@ -10,7 +10,10 @@ use Rattle.hh_records.specs.declared.layout.Column.TheVariants as column
 use Rattle.hh_records.specs.declared.layout.Layout.{Layout}
 use Rattle.hh_faults.specs.declared.error.ToolError.{ToolError}
 use Rattle.hh_faults.specs.declared.error.ToolError.TheVariants as tool
+use Rattle.hh_faults.specs.declared.error.KeyCause.{KeyCause}
+use Rattle.hh_faults.specs.declared.error.KeyCause.TheVariants as key
 use Rattle.hh_records.specs.declared.layout_words.LayoutWords.{LayoutWords}
+use Rattle.hh_stream.specs.Weights.{max_key_len}
 
 -- the byte between the fields of a format where no word names one: a comma or, where several are one,
 -- a space
@@ -85,6 +88,14 @@ key_words words = map (λ word. word.items) words.key.items
 abbrev pub weight_word : LayoutWords → Option (List ℕ)
 weight_word words = option_map (λ word. word.items) words.weight
 
+-- the key that bad records count as, where there is one
+abbrev pub bad_word : LayoutWords → Option (List ℕ)
+bad_word words = option_map (λ word. word.items) words.bad_as
+
+-- a word is as long as a key
+abbrev pub HasKeyLength : List ℕ → Type 0
+HasKeyLength word = (0 < length word) × (length word ≤ max_key_len)
+
 -- the words say this layout
 pub record SaysLayout (words : LayoutWords) (layout : Layout) : Type 0 where
   pub format : layout.format ≡ words.format
@@ -95,6 +106,8 @@ pub record SaysLayout (words : LayoutWords) (layout : Layout) : Type 0 where
   pub part : part_said layout.part ≡ (words.until.items, words.prefix)
   pub allow_zero : layout.allow_zero ≡ words.allow_zero
   pub decimals : layout.decimals ≡ words.decimals
+  pub bad_as : bad_key layout ≡ bad_word words
+  pub bad_as_fits : IfSome (bad_word words) HasKeyLength
 
 -- the weight's word names no column
 abbrev pub NamesNoWeight : LayoutWords → Type 0
@@ -104,11 +117,18 @@ NamesNoWeight words = (word : List ℕ) × (weight_word words ≡ Some word) × 
 abbrev pub LacksKey : LayoutWords → Type 0
 LacksKey words = (is_json words.format ≡ true) × (words.key.items ≡ [])
 
--- what a refusal of such words says: that the delimiter is bad or, where it is good, that a column is
+-- what bad records were to count as is no key, for this cause
+abbrev pub IsNoKey : KeyCause → Option (List ℕ) → Type 0
+IsNoKey key.Empty word = IsSome word × IfSome word (λ w. length w ≡ 0)
+IsNoKey key.TooLong word = IsSome word × IfSome word (λ w. max_key_len < length w)
+
+-- what a refusal of such words says: that the delimiter is bad or, where it is good, that a column is;
+-- or that what bad records were to count as is no key
 abbrev pub LayoutRefused : LayoutWords → ToolError → Type 0
 LayoutRefused words tool.BadDelimiter = byte_said words ≡ None
 LayoutRefused words tool.BadColumn =
     IsSome (byte_said words)
     × (LacksKey words ⊎ (NamesNot (naming words) (key_words words) ⊎ NamesNoWeight words))
+LayoutRefused words (tool.BadKey n c) = (n ≡ 1) × IsNoKey c (bad_word words)
 LayoutRefused words tool.Memory = ⊤
 LayoutRefused words _ = ⊥

@@ -13,7 +13,7 @@ use Rattle.csv.specs.declared.parser.State.TheVariants as st
 use Rattle.csv.specs.declared.reader.Reader.{Reader}
 use Rattle.csv.specs.declared.reader.Trim.TheVariants as trim
 use Rattle.hh_stream.specs.Digits.{is_number, value_of}
-use Rattle.hh_stream.specs.Weights.{Entry, total_of}
+use Rattle.hh_stream.specs.Weights.{Bytes, Entry, total_of}
 use Rattle.hh_records.specs.Decimals.{units_of}
 use Rattle.hh_records.specs.Formats.{Names, Part, byte_between, fields_by, has_quotes, is_json, is_whole_field, names_said, part_of, part_said, with_part}
 use Rattle.hh_records.specs.Streams.{Fields, Known, Parts, Reading, ReadsAs, item_of_key, parts_of}
@@ -118,9 +118,34 @@ abbrev pub item_by : Layout → ℕ → Parts → Result Entry BadRecordCause
 item_by layout t None = Err cause.FieldCount
 item_by layout t (Some p) = item_of_key t p.0 (weight_by layout p.1)
 
+-- what a record adds by its own key and weight after a total of t, or the first test that it fails
+abbrev pub adds_itself : Layout → ℕ → Parts → Result (List Entry) BadRecordCause
+adds_itself layout t p = added layout.allow_zero (item_by layout t p)
+
+-- the items of a key of this weight: none where it weighs 0
+abbrev pub items_of_weight : Bytes → ℕ → List Entry
+items_of_weight key w = if w == 0 then [] else (key, w) ∷ []
+
+-- the key that each record counts as that fails a test, where there is one
+abbrev pub bad_key : Layout → Option Bytes
+bad_key layout = option_map (λ bad. bad.key.items) layout.bad_as
+
+-- what a record adds after a total of t that fails a test: it counts as a record of this key and no
+-- weight's field, so of weight 1, but where the total would be too large, which depends on the records
+-- before it
+abbrev pub adds_instead : Layout → ℕ → Option Bytes → BadRecordCause → Result (List Entry) BadRecordCause
+adds_instead layout t None c = Err c
+adds_instead layout t (Some key) cause.TotalTooLarge = Err cause.TotalTooLarge
+adds_instead layout t (Some key) c = adds_itself layout t (Some (key, None))
+
+-- what a record adds after a total of t, where this is what it adds itself
+abbrev pub counted_as : Layout → ℕ → Result (List Entry) BadRecordCause → Result (List Entry) BadRecordCause
+counted_as layout t (Ok es) = Ok es
+counted_as layout t (Err c) = adds_instead layout t (bad_key layout) c
+
 -- what a record adds after a total of t, or the first test that it fails
 abbrev pub adds : Layout → ℕ → Parts → Result (List Entry) BadRecordCause
-adds layout t p = added layout.allow_zero (item_by layout t p)
+adds layout t p = counted_as layout t (adds_itself layout t p)
 
 abbrev pub joined : List Entry → Reading → Reading
 joined es (Ok xs) = Ok (es ++ xs)
@@ -253,6 +278,7 @@ pub record IsPlain (layout : Layout) : Type 0 where
   pub no_key : layout.key.items ≡ []
   pub no_weight : layout.weight ≡ None
   pub no_zero : layout.allow_zero ≡ false
+  pub no_bad : layout.bad_as ≡ None
   pub whole : layout.decimals ≡ 0
 
 -- what a refusal to choose says
@@ -285,6 +311,11 @@ texts_parts layout texts = gathered (text_parts layout) texts
 -- what texts read as by a layout, or nothing where a header lacks a column
 abbrev pub stream_with : Layout → List (List ℕ) → Option Reading
 stream_with layout texts = option_map (items_after layout 1 0) (texts_parts layout texts)
+
+-- what a refusal of a record says, where this is what it adds
+abbrev pub InsteadRefused : Result (List Entry) BadRecordCause → RecordFault → Type 0
+InsteadRefused added (fault.Bad c) = added ≡ Err c
+InsteadRefused added fault.Memory = ⊤
 
 -- what a refusal of a record says
 abbrev pub PartsRefused : Layout → ℕ → Parts → RecordFault → Type 0

@@ -14,6 +14,8 @@ use crate::records::number_in;
 use csv::ByteRecord;
 use hh_stream::KeyHash;
 use std::alloc::{AllocError, Global};
+use std::sync::Arc;
+use std::sync::atomic::{AtomicU64, Ordering};
 
 /// A column of records.
 #[derive(Drop)]
@@ -22,6 +24,29 @@ pub enum Column {
     Number(usize),
     /// The first column that the header gives this name.
     Name(Vec<u8>),
+}
+
+/// What each record counts as that fails a test: an item of a key, of weight 1.
+///
+/// A record is refused all the same where the total of all weights would be too large.
+#[derive(Drop)]
+pub struct BadAs {
+    /// The key, of 1 to 4,096 bytes.
+    pub key: Vec<u8>,
+    /// How many such records the last reading had. No answer depends on it.
+    pub count: Arc<AtomicU64, Global>,
+}
+
+impl BadAs {
+    /// Counts bad records as items of `key`.
+    pub fn new(alloc: Global, key: &[u8]) -> Result<BadAs, AllocError>
+        ensures { IfOk result (λ bad. bad.key.items ≡ key.now) }
+    {
+        Ok(BadAs {
+            key: Vec::from_slice(alloc, key)?,
+            count: Arc::new(alloc, AtomicU64::new(0))?,
+        })
+    }
 }
 
 /// How records are laid out in the texts that they are read from.
@@ -46,6 +71,8 @@ pub struct Layout {
     /// The most digits that a weight has after a point. It counts in units of the last of them:
     /// with 3 the weight `0.125` is 125, and 1 is 1,000.
     pub decimals: u8,
+    /// What each record counts as that fails a test. Where it is nothing, such a record is refused.
+    pub bad_as: Option<BadAs>,
     /// How the keys are hashed where they are looked up. No answer depends on it: it decides how
     /// fast keys are found that others chose.
     pub hash: KeyHash,
@@ -58,6 +85,23 @@ impl Layout {
         ensures { IsPlain result }
     {
         Layout::with_hasher(alloc, KeyHash::fixed())
+    }
+
+    /// Notes that a reading of all records had this `count` of bad ones.
+    pub fn set_bad_count(&self, count: u64) {
+        if let Some(bad_as) = &self.bad_as {
+            bad_as.count.store(count, Ordering::SeqCst);
+        }
+    }
+
+    /// Notes that a piece of the records had this `count` of bad ones, where the `last` one that was
+    /// noted of it is this.
+    pub fn replace_bad_count(&self, last: u64, count: u64) {
+        if let Some(bad_as) = &self.bad_as {
+            bad_as
+                .count
+                .fetch_add(count.wrapping_sub(last), Ordering::SeqCst);
+        }
     }
 
     /// [`plain`](Layout::plain), with keys hashed by `hash`.
@@ -74,6 +118,7 @@ impl Layout {
             part: KeyPart::whole(alloc),
             allow_zero: false,
             decimals: 0,
+            bad_as: None,
             hash,
         }
     }

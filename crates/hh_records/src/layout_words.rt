@@ -1,12 +1,12 @@
 //! How words say where the keys and the weights of records stand.
 
-ghost use Rattle.std.specs.Prelude.{◌≡◌, IfOk, IfErr, IfSome, None, Ok, map};
-ghost use Rattle.hh_records.specs.LayoutWords.{LayoutRefused, NamesKey, NamesNone, NamesNot, SaysColumn, SaysLayout, byte_said};
+ghost use Rattle.std.specs.Prelude.{◌≡◌, IfOk, IfErr, IfSome, None, Ok, map, option_map};
+ghost use Rattle.hh_records.specs.LayoutWords.{HasKeyLength, LayoutRefused, NamesKey, NamesNone, NamesNot, SaysColumn, SaysLayout, bad_word, byte_said};
 
 use crate::format::{Format, KeyPart};
-use crate::layout::{Column, Layout, column_of, delimiter_of};
-use hh_faults::ToolError;
-use hh_stream::KeyHash;
+use crate::layout::{BadAs, Column, Layout, column_of, delimiter_of};
+use hh_faults::{KeyCause, ToolError};
+use hh_stream::{KeyHash, MAX_KEY_LEN};
 use std::alloc::{AllocError, Global};
 
 /// Where the keys and the weights of records stand, in words.
@@ -32,6 +32,9 @@ pub struct LayoutWords {
     pub allow_zero: bool,
     /// The most digits that a weight has after a point. It counts in units of the last of them.
     pub decimals: u8,
+    /// The key, of 1 to 4,096 bytes, that each record counts as that fails a test, of weight 1.
+    /// Nothing says that such a record is refused.
+    pub bad_as: Option<Vec<u8>>,
 }
 
 /// Finds the column that `word` names. Of objects it is the name of a member.
@@ -90,9 +93,33 @@ fn delimiter_said(words: &LayoutWords) -> Option<u8>
     }
 }
 
+/// Gives what bad records count as by `words`, which is a key ([`ToolError::BadKey`], with number
+/// 1).
+fn bad_as_said(alloc: Global, words: &LayoutWords) -> Result<Option<BadAs>, ToolError>
+    ensures said { IfOk result (λ bad.
+        option_map (λ bad. bad.key.items) bad ≡ bad_word words.now) }
+    ensures fits { IfOk result (λ _. IfSome (bad_word words.now) HasKeyLength) }
+    ensures refused { IfErr result (LayoutRefused words.now) }
+{
+    let Some(key) = &words.bad_as else {
+        return Ok(None);
+    };
+    let (number, len) = (1, key.len());
+    if len == 0 {
+        let cause = KeyCause::Empty;
+        return Err(ToolError::BadKey { number, cause });
+    }
+    if len > MAX_KEY_LEN {
+        let cause = KeyCause::TooLong;
+        return Err(ToolError::BadKey { number, cause });
+    }
+    Ok(Some(BadAs::new(alloc, key.as_slice())?))
+}
+
 /// Gives the layout that `words` say. The delimiter is tested first, then the key's columns, of
 /// which objects need one, then the weight's ([`ToolError::BadDelimiter`],
-/// [`ToolError::BadColumn`]). Keys are hashed by the words that all runs have.
+/// [`ToolError::BadColumn`]), and then the key that bad records count as ([`ToolError::BadKey`]).
+/// Keys are hashed by the words that all runs have.
 pub fn layout_of(alloc: Global, words: &LayoutWords) -> Result<Layout, ToolError>
     ensures layout { IfOk result (SaysLayout words.now) }
     ensures refused { IfErr result (LayoutRefused words.now) }
@@ -114,6 +141,7 @@ pub fn layout_of(alloc: Global, words: &LayoutWords) -> Result<Layout, ToolError
             column => column,
         },
     };
+    let bad_as = bad_as_said(alloc, words)?;
     Ok(Layout {
         format: words.format,
         delimiter,
@@ -129,6 +157,7 @@ pub fn layout_of(alloc: Global, words: &LayoutWords) -> Result<Layout, ToolError
         },
         allow_zero: words.allow_zero,
         decimals: words.decimals,
+        bad_as,
         hash: KeyHash::fixed(),
     })
 }

@@ -18,9 +18,9 @@ pub use decimals::pointed;
 pub use format::{Format, KeyPart, MemberNames};
 pub use hh_faults::{BadRecordCause, ReadError, TextError};
 pub use hh_stream::TakeItems;
-pub use layout::{ChosenLayout, Column, ColumnIndices, Layout, column_of, delimiter_of};
+pub use layout::{BadAs, ChosenLayout, Column, ColumnIndices, Layout, column_of, delimiter_of};
 pub use layout_words::{LayoutWords, layout_of};
 pub use records::{
-    RecordFault, number_in, numbered_fault, read_items, read_rows, read_stream, take_item,
+    RecordFault, number_in, numbered_fault, read_items, read_rows, read_stream, take_parts,
 };
 pub use texts::{ReadRecords, Records, Text, open, read_records, read_texts};

@@ -1,15 +1,16 @@
 //! Records of keys and weights, read one by one.
 
-ghost use Rattle.std.specs.Prelude.{length, Some, ◌≡◌, ◌+◌, ◌<◌, ◌≤◌, ◌^◌, false, true, min, Ok, MatchOption, IfSome, IfOk, IfErr, OnOk, option_map};
+ghost use Rattle.std.specs.Prelude.{length, Err, Some, ◌≡◌, ◌+◌, ◌<◌, ◌≤◌, ◌^◌, false, true, min, Ok, MatchOption, IfSome, IfOk, IfErr, OnOk, option_map};
 ghost use Rattle.csv.specs.Reading.{stops_reader};
 ghost use Rattle.csv.specs.Records.{fields_of};
 ghost use Rattle.csv.specs.Writing.{default_writer, row_body};
-ghost use Rattle.hh_stream.specs.Weights.{max_total};
+ghost use Rattle.hh_stream.specs.Weights.{max_key_len, max_total};
 ghost use Rattle.hh_stream.specs.Digits.{is_number, value_of};
 ghost use Rattle.hh_stream.specs.Taking.{Takes};
 ghost use Rattle.hh_records.specs.Formats.{part_said, with_part};
 ghost use Rattle.hh_records.specs.Layouts.{parts_by, chosen_columns};
-ghost use Rattle.hh_records.specs.Layouts.{IsText, PartsRefused, RowsRefused, adds, chosen_places, fields_at, is_hyphen, items_after, parts_at, parts_left, weight_at, weight_by};
+ghost use Rattle.hh_records.specs.Layouts.{InsteadRefused, IsText, PartsRefused, RowsRefused, adds, adds_instead, adds_itself, bad_key, chosen_places, fields_at, is_hyphen, items_after, items_of_weight, parts_at, parts_left, weight_at, weight_by};
+ghost use Rattle.hh_records.specs.declared.records.RecordFault.TheVariants.{Memory};
 ghost use Rattle.hh_records.specs.Streams.{fault_of, numbered_fault, parts_of, ReadRefused, ReadsAs, text_known};
 ghost use Rattle.hh_records.specs.Taking.{TakesItems};
 
@@ -90,45 +91,125 @@ fn parts_of(row: &ByteRecord) -> Option<(&[u8], Option<&[u8]>)>
     Some((key, row.get(1)))
 }
 
-/// Hands on what a record adds: its item or, where it weighs 0 and that is allowed, nothing.
-pub fn take_item<T: TakeItems>(
+/// Gives the weight that a record adds to its key after this `total`, which is 0 only where that is
+/// allowed, or the first test that the record fails.
+fn weight_added(
+    key: &[u8],
+    field: Option<&[u8]>,
+    total: u64,
+    layout: &Layout,
+) -> Result<u64, BadRecordCause>
+    requires bounded { total ≤ max_total }
+    ensures weight { IfOk result (λ weight. adds_itself layout.now total
+        (Some (key.now, option_map (λ f. f.now) field.entry))
+        ≡ Ok (items_of_weight key.now weight)) }
+    ensures bounded { IfOk result (λ weight. total + weight ≤ max_total) }
+    ensures some { IfOk result (λ _. 0 < length key.now) }
+    ensures few { IfOk result (λ _. length key.now ≤ max_key_len) }
+    ensures refused { IfErr result (λ cause. adds_itself layout.now total
+        (Some (key.now, option_map (λ f. f.now) field.entry)) ≡ Err cause) }
+{
+    if key.is_empty() {
+        return Err(BadRecordCause::EmptyKey);
+    }
+    if key.len() > MAX_KEY_LEN {
+        return Err(BadRecordCause::KeyTooLong);
+    }
+    let Some(weight) = weight_in(field, layout) else {
+        return Err(BadRecordCause::BadWeight);
+    };
+    if weight == 0 && !layout.allow_zero {
+        return Err(BadRecordCause::ZeroWeight);
+    }
+    if weight > MAX_TOTAL - total {
+        return Err(BadRecordCause::TotalTooLarge);
+    }
+    Ok(weight)
+}
+
+/// Hands on an item of `key`, or nothing where its `weight` is 0.
+fn take_weight<T: TakeItems>(
     alloc: Global,
     taker: &mut T,
     key: &[u8],
-    field: Option<&[u8]>,
+    weight: u64,
+) -> Result<(), RecordFault>
+    requires some { 0 < length key.now }
+    requires few { length key.now ≤ max_key_len }
+    requires bounded { T.weight_taken taker.old + weight ≤ max_total }
+    ensures taken { OnOk result
+        (Takes T.with_item T.weight_taken taker.old taker.new (λ xs.
+        xs ≡ items_of_weight key.now weight)) }
+    ensures bounded { OnOk result (T.weight_taken taker.new ≤ max_total) }
+    ensures refused { IfErr result (λ fault. fault ≡ Memory) }
+{
+    if weight == 0 {
+        return Ok(());
+    }
+    match taker.take(alloc, key, weight) {
+        Ok(()) => Ok(()),
+        Err(AllocError) => Err(RecordFault::Memory),
+    }
+}
+
+/// Hands on what a record adds that fails a test of this `cause`: where bad records count as a key,
+/// an item of it, of weight 1, and then counts one more `bad` record.
+fn take_bad<T: TakeItems>(
+    alloc: Global,
+    taker: &mut T,
+    cause: BadRecordCause,
+    bad: &mut u64,
+    layout: &Layout,
+) -> Result<(), RecordFault>
+    requires bounded { T.weight_taken taker.old ≤ max_total }
+    ensures taken { OnOk result
+        (Takes T.with_item T.weight_taken taker.old taker.new (λ xs.
+        adds_instead layout.now (T.weight_taken taker.old) (bad_key layout.now) cause ≡ Ok xs)) }
+    ensures bounded { OnOk result (T.weight_taken taker.new ≤ max_total) }
+    ensures refused { IfErr result (λ fault. InsteadRefused
+        (adds_instead layout.now (T.weight_taken taker.old) (bad_key layout.now) cause) fault) }
+{
+    let Some(bad_as) = &layout.bad_as else {
+        return Err(RecordFault::Bad(cause));
+    };
+    if matches!(cause, BadRecordCause::TotalTooLarge) {
+        return Err(RecordFault::Bad(cause));
+    }
+    let key = bad_as.key.as_slice();
+    match weight_added(key, None, taker.total(), layout) {
+        Ok(weight) => {
+            *bad = bad.saturating_add(1);
+            take_weight(alloc, taker, key, weight)
+        }
+        Err(cause) => Err(RecordFault::Bad(cause)),
+    }
+}
+
+/// Hands on what a record of this key and weight's field adds, or one that hasn't the fields for
+/// them. It counts one more `bad` record where it counts as an item of another key.
+pub fn take_parts<T: TakeItems>(
+    alloc: Global,
+    taker: &mut T,
+    parts: Option<(&[u8], Option<&[u8]>)>,
+    bad: &mut u64,
     layout: &Layout,
 ) -> Result<(), RecordFault>
     requires bounded { T.weight_taken taker.old ≤ max_total }
     ensures taken { OnOk result
         (Takes T.with_item T.weight_taken taker.old taker.new (λ xs.
         adds layout.now (T.weight_taken taker.old)
-        (Some (key.now, option_map (λ f. f.now) field.entry)) ≡ Ok xs)) }
+        (option_map (λ p. (p.0.now, option_map (λ f. f.now) p.1)) parts.entry) ≡ Ok xs)) }
     ensures bounded { OnOk result (T.weight_taken taker.new ≤ max_total) }
     ensures refused { IfErr result (λ fault.
         PartsRefused layout.now (T.weight_taken taker.old)
-        (Some (key.now, option_map (λ f. f.now) field.entry)) fault) }
+        (option_map (λ p. (p.0.now, option_map (λ f. f.now) p.1)) parts.entry) fault) }
 {
-    if key.is_empty() {
-        return Err(RecordFault::Bad(BadRecordCause::EmptyKey));
-    }
-    if key.len() > MAX_KEY_LEN {
-        return Err(RecordFault::Bad(BadRecordCause::KeyTooLong));
-    }
-    let Some(weight) = weight_in(field, layout) else {
-        return Err(RecordFault::Bad(BadRecordCause::BadWeight));
+    let Some((key, field)) = parts else {
+        return take_bad(alloc, taker, BadRecordCause::FieldCount, bad, layout);
     };
-    if weight == 0 {
-        if layout.allow_zero {
-            return Ok(());
-        }
-        return Err(RecordFault::Bad(BadRecordCause::ZeroWeight));
-    }
-    if weight > MAX_TOTAL - taker.total() {
-        return Err(RecordFault::Bad(BadRecordCause::TotalTooLarge));
-    }
-    match taker.take(alloc, key, weight) {
-        Ok(()) => Ok(()),
-        Err(AllocError) => Err(RecordFault::Memory),
+    match weight_added(key, field, taker.total(), layout) {
+        Ok(weight) => take_weight(alloc, taker, key, weight),
+        Err(cause) => take_bad(alloc, taker, cause, bad, layout),
     }
 }
 
@@ -183,6 +264,7 @@ fn take_chosen<T: TakeItems>(
     row: &ByteRecord,
     chosen: &ColumnIndices,
     part: &KeyPart,
+    bad: &mut u64,
     layout: &Layout,
 ) -> Result<(), RecordFault>
     requires bounded { T.weight_taken taker.old ≤ max_total }
@@ -198,17 +280,17 @@ fn take_chosen<T: TakeItems>(
         fault) }
 {
     let Some(field) = weight_field(row, chosen.weight) else {
-        return Err(RecordFault::Bad(BadRecordCause::FieldCount));
+        return take_parts(alloc, taker, None, bad, layout);
     };
     if chosen.key.len() == 1 {
         let Some(key) = row.get(chosen.key[0]) else {
-            return Err(RecordFault::Bad(BadRecordCause::FieldCount));
+            return take_parts(alloc, taker, None, bad, layout);
         };
-        return take_item(alloc, taker, part.of(key), field, layout);
+        return take_parts(alloc, taker, Some((part.of(key), field)), bad, layout);
     }
     match joined_key(alloc, row, chosen.key.as_slice(), part) {
-        Ok(Some(key)) => take_item(alloc, taker, key.as_slice(), field, layout),
-        Ok(None) => Err(RecordFault::Bad(BadRecordCause::FieldCount)),
+        Ok(Some(key)) => take_parts(alloc, taker, Some((key.as_slice(), field)), bad, layout),
+        Ok(None) => take_parts(alloc, taker, None, bad, layout),
         Err(AllocError) => Err(RecordFault::Memory),
     }
 }
@@ -219,6 +301,7 @@ fn take_fields<T: TakeItems>(
     taker: &mut T,
     row: &ByteRecord,
     chosen: &ChosenLayout,
+    bad: &mut u64,
     layout: &Layout,
 ) -> Result<(), RecordFault>
     requires bounded { T.weight_taken taker.old ≤ max_total }
@@ -234,10 +317,18 @@ fn take_fields<T: TakeItems>(
         (fields_of row.now)) fault) }
 {
     match &chosen.columns {
-        Some(columns) => take_chosen(alloc, taker, row, columns, &chosen.part, layout),
+        Some(columns) => take_chosen(alloc, taker, row, columns, &chosen.part, bad, layout),
         None => match parts_of(row) {
-            Some((key, field)) => take_item(alloc, taker, chosen.part.of(key), field, layout),
-            None => Err(RecordFault::Bad(BadRecordCause::FieldCount)),
+            Some((key, field)) => {
+                take_parts(
+                    alloc,
+                    taker,
+                    Some((chosen.part.of(key), field)),
+                    bad,
+                    layout,
+                )
+            }
+            None => take_parts(alloc, taker, None, bad, layout),
         },
     }
 }
@@ -249,6 +340,7 @@ fn take_record<T: TakeItems>(
     row: &ByteRecord,
     spare: &mut Spare,
     chosen: &ChosenLayout,
+    bad: &mut u64,
     layout: &Layout,
 ) -> Result<(), RecordFault>
     requires bounded { T.weight_taken taker.old ≤ max_total }
@@ -262,7 +354,7 @@ fn take_record<T: TakeItems>(
         (parts_at (chosen_places chosen.now) (fields_of row.now)) fault) }
 {
     match fields_by(alloc, chosen.format, &chosen.names, row, spare) {
-        Ok(fields) => take_fields(alloc, taker, fields, chosen, layout),
+        Ok(fields) => take_fields(alloc, taker, fields, chosen, bad, layout),
         Err(AllocError) => Err(RecordFault::Memory),
     }
 }
@@ -294,13 +386,14 @@ pub(crate) fn fault_of(fault: &ErrorKind) -> ReadError
 }
 
 /// Hands on what each record that `rows` has left adds, by the places of its key and weight, and
-/// counts all records, with the number of those `before`.
+/// counts all records, with the number of those `before`, and those that are `bad`.
 fn take_rows<R: Read, T: TakeItems>(
     alloc: Global,
     rows: &mut Reader<Retrying<R>>,
     chosen: &ChosenLayout,
     before: u64,
     taker: &mut T,
+    bad: &mut u64,
     layout: &Layout,
 ) -> Result<u64, ReadError>
     requires text { IsText (record { rows = rows.old; chosen = chosen.now }) }
@@ -325,7 +418,7 @@ fn take_rows<R: Read, T: TakeItems>(
             Err(error) => return Err(fault_of(error.kind())),
         }
         number += 1;
-        match take_record(alloc, taker, &row, &mut spare, chosen, layout) {
+        match take_record(alloc, taker, &row, &mut spare, chosen, bad, layout) {
             Ok(()) => {}
             Err(fault) => return Err(numbered_fault(number, fault)),
         }
@@ -334,12 +427,13 @@ fn take_rows<R: Read, T: TakeItems>(
 }
 
 /// Hands on what each record of `text` adds, and counts all records, with the number of those
-/// `before`.
+/// `before`, and those that are `bad` and count as the key of the layout.
 pub fn read_rows<R: Read + Drop, T: TakeItems>(
     alloc: Global,
     text: Text<R>,
     before: u64,
     taker: &mut T,
+    bad: &mut u64,
     layout: &Layout,
 ) -> Result<u64, ReadError>
     requires text { IsText text }
@@ -355,7 +449,7 @@ pub fn read_rows<R: Read + Drop, T: TakeItems>(
         (parts_left R.remaining text) error) }
 {
     let Text { mut rows, chosen } = text;
-    take_rows(alloc, &mut rows, &chosen, before, taker, layout)
+    take_rows(alloc, &mut rows, &chosen, before, taker, bad, layout)
 }
 
 /// Hands the item of each record of a reader to a taker of none, in order, and returns the taker.

@@ -175,11 +175,13 @@ fn open_all<R: Read + Drop>(
     Ok(texts)
 }
 
-/// Hands on what the records of open texts add, one text after the other.
+/// Hands on what the records of open texts add, one text after the other, and counts those that are
+/// `bad`.
 fn read_all<R: Read + Drop, T: TakeItems>(
     alloc: Global,
     texts: Vec<Text<R>>,
     taker: &mut T,
+    bad: &mut u64,
     layout: &Layout,
 ) -> Result<(), ReadError>
     requires texts { All IsText texts.items }
@@ -194,7 +196,7 @@ fn read_all<R: Read + Drop, T: TakeItems>(
 {
     let mut number = 0;
     for text in texts {
-        match read_rows(alloc, text, number, taker, layout) {
+        match read_rows(alloc, text, number, taker, bad, layout) {
             Ok(after) => number = after,
             Err(error) => return Err(error),
         }
@@ -346,8 +348,12 @@ fn read_each<R: Read + Drop, T: TakeItems>(
 {
     let texts = open_all(alloc, first, others, layout)?;
     let mut taker = taker;
-    match read_all(alloc, texts, &mut taker, layout) {
-        Ok(()) => Ok(taker),
+    let mut bad = 0;
+    match read_all(alloc, texts, &mut taker, &mut bad, layout) {
+        Ok(()) => {
+            layout.set_bad_count(bad);
+            Ok(taker)
+        }
         Err(error) => Err(TextError::from(error)),
     }
 }
