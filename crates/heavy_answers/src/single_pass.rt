@@ -3,7 +3,8 @@
 ghost use Rattle.std.specs.Prelude.{◌≡◌, true, IfErr, IfOk, OnOk};
 ghost use Rattle.hh_workers.specs.Workers.{max_workers};
 ghost use Rattle.hh_stream.specs.Ranges.{in_range};
-ghost use Rattle.hh_records.specs.Layouts.{records_known, texts_known};
+ghost use Rattle.hh_records.specs.Layouts.{records_known};
+ghost use Rattle.hh_pieces.specs.Sources.{sources_known};
 ghost use Rattle.heavy_answers.specs.Answers.{MakesInOnePass, OfRecords};
 ghost use Rattle.heavy_answers.specs.Refusals.{FailsInOnePass, ReadingFails};
 
@@ -72,11 +73,11 @@ fn answer_by_workers<T: Threads + Wait + Sync, F: ReadAt + Sync>(
     compared: &mut Comparison,
 ) -> Result<Vec<u8>, ToolError>
     ensures made { IfOk result (λ bytes. MakesInOnePass command.now compared.old.refuses
-        compared.new.outside workers records.entry.layout.now
-        (texts_known F.bytes records.entry.layout.now records.entry.sources.now) bytes.items) }
+        compared.new.outside workers records.entry.layout.now (sources_known F.bytes records.entry)
+        bytes.items) }
     ensures workers { OnOk result (in_range workers max_workers ≡ true) }
     ensures refused { IfErr result (FailsInOnePass command.now compared.old.refuses workers
-        (texts_known F.bytes records.entry.layout.now records.entry.sources.now)) }
+        (sources_known F.bytes records.entry)) }
 {
     match command {
         SinglePass::Summarise { k, .. } => summarise_files(threads, alloc, *k, workers, records),

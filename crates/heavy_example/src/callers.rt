@@ -13,7 +13,7 @@ ghost use Rattle.hh_saved.specs.Reading.{saved_of};
 ghost use Rattle.hh_saved.specs.declared.saved.Saved.TheVariants.{Cells, Counters};
 ghost use Rattle.csv.specs.Records.{fields_of};
 ghost use Rattle.hh_json.specs.Fields.{json_fields};
-ghost use Rattle.hh_records.specs.Layouts.{texts_known};
+ghost use Rattle.hh_pieces.specs.Sources.{sources_known};
 ghost use Rattle.hh_records.specs.Layouts.{delimited};
 ghost use Rattle.hh_records.specs.Streams.{ReadsAs, text_known};
 ghost use Rattle.csv.specs.Writing.{comma};
@@ -243,9 +243,8 @@ pub fn table_of_files<T: Threads + Wait + Sync, S: ReadAt + Sync>(
     alloc: Global,
     records: SourceRecords<'_, S>,
 ) -> Result<Vec<u8>, ToolError>
-    ensures { IfOk result (λ bytes.
-        SavesStream (λ xs. Cells (table_of (drawn_family 0 4) 1024 xs))
-        (texts_known S.bytes records.entry.layout.now records.entry.sources.now) bytes.items) }
+    ensures { IfOk result (λ bytes. SavesStream (λ xs. Cells (table_of (drawn_family 0 4) 1024 xs))
+        (sources_known S.bytes records.entry) bytes.items) }
 {
     table_files(rt, alloc, 1024, 4, 0, 2, records)
 }

@@ -3,7 +3,7 @@
 ghost use Rattle.std.specs.Prelude.{◌≡◌, All, IfOk, IfErr, OnOk, true};
 ghost use Rattle.hh_stream.specs.Ranges.{in_range};
 ghost use Rattle.hh_workers.specs.Workers.{max_workers};
-ghost use Rattle.hh_records.specs.Layouts.{texts_known};
+ghost use Rattle.hh_pieces.specs.Sources.{sources_known};
 ghost use Rattle.hh_commands.specs.Bounds.{ComparesBounds};
 ghost use Rattle.hh_commands.specs.Condense.{CondensesRows, TellsAbove};
 ghost use Rattle.hh_files.specs.FilePasses.{CondenseFilesRefused};
@@ -43,17 +43,15 @@ pub fn condense_files<T: Threads + Wait + Sync, S: ReadAt + Sync>(
     records: SourceRecords<'_, S>,
     compared: &mut Comparison,
 ) -> Result<Vec<u8>, ToolError>
-    ensures rows { IfOk result (λ rows.
-        CondensesRows records.entry.layout.now.decimals file.now
-        (texts_known S.bytes records.entry.layout.now records.entry.sources.now) rows.items) }
+    ensures rows { IfOk result (λ rows. CondensesRows records.entry.layout.now.decimals file.now
+        (sources_known S.bytes records.entry) rows.items) }
     ensures bounds { OnOk result (ComparesBounds compared.old.refuses Bounds.High file.now
-        (texts_known S.bytes records.entry.layout.now records.entry.sources.now)
-        compared.new.outside) }
+        (sources_known S.bytes records.entry) compared.new.outside) }
     ensures refused { IfErr result (CondenseFilesRefused compared.old.refuses workers file.now
-        (texts_known S.bytes records.entry.layout.now records.entry.sources.now)) }
+        (sources_known S.bytes records.entry)) }
     ensures workers { OnOk result (in_range workers max_workers ≡ true) }
-    ensures explained { IfErr result (TellsAbove file.now
-        (texts_known S.bytes records.entry.layout.now records.entry.sources.now) compared.new) }
+    ensures explained { IfErr result (TellsAbove file.now (sources_known S.bytes records.entry)
+        compared.new) }
     ensures still { OnOk result (All S.still records.entry.sources.now) }
     ensures early { StopsAtHead 1 file.now result }
 {

@@ -3,7 +3,7 @@
 ghost use Rattle.std.specs.Prelude.{◌≡◌, All, IfOk, IfErr, OnOk, true};
 ghost use Rattle.hh_stream.specs.Ranges.{in_range};
 ghost use Rattle.hh_workers.specs.Workers.{max_workers};
-ghost use Rattle.hh_records.specs.Layouts.{texts_known};
+ghost use Rattle.hh_pieces.specs.Sources.{sources_known};
 ghost use Rattle.hh_commands.specs.Bounds.{ComparesBounds};
 ghost use Rattle.hh_commands.specs.Confirm.{ConfirmsPrinted, TellsCompared};
 ghost use Rattle.hh_files.specs.FilePasses.{ConfirmFilesRefused};
@@ -47,16 +47,14 @@ pub fn confirm_files<T: Threads + Wait + Sync, S: ReadAt + Sync>(
     compared: &mut Comparison,
 ) -> Result<Vec<u8>, ToolError>
     ensures rows { IfOk result (λ text. ConfirmsPrinted rows.now share.now file.now
-        (texts_known S.bytes records.entry.layout.now records.entry.sources.now) text.items) }
+        (sources_known S.bytes records.entry) text.items) }
     ensures bounds { OnOk result (ComparesBounds compared.old.refuses Bounds.Both file.now
-        (texts_known S.bytes records.entry.layout.now records.entry.sources.now)
-        compared.new.outside) }
-    ensures refused { IfErr result
-        (ConfirmFilesRefused compared.old.refuses share.now workers file.now
-        (texts_known S.bytes records.entry.layout.now records.entry.sources.now)) }
+        (sources_known S.bytes records.entry) compared.new.outside) }
+    ensures refused { IfErr result (ConfirmFilesRefused compared.old.refuses share.now workers
+        file.now (sources_known S.bytes records.entry)) }
     ensures workers { OnOk result (in_range workers max_workers ≡ true) }
-    ensures explained { IfErr result (TellsCompared file.now
-        (texts_known S.bytes records.entry.layout.now records.entry.sources.now) compared.new) }
+    ensures explained { IfErr result (TellsCompared file.now (sources_known S.bytes records.entry)
+        compared.new) }
     ensures still { OnOk result (All S.still records.entry.sources.now) }
     ensures early { StopsAtHead 1 file.now result }
 {

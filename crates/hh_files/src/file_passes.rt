@@ -7,7 +7,7 @@ ghost use Rattle.hh_stream.specs.Weights.{max_total};
 ghost use Rattle.hh_summaries.specs.Counters.{IsCounters};
 ghost use Rattle.hh_counters.specs.Counting.{count_of};
 ghost use Rattle.hh_workers.specs.Workers.{max_workers};
-ghost use Rattle.hh_records.specs.Layouts.{texts_known};
+ghost use Rattle.hh_pieces.specs.Sources.{sources_known};
 ghost use Rattle.hh_files.specs.FilePasses.{items_of_weights, weighted};
 ghost use Rattle.hh_commands.specs.Records.{CountsRecords};
 ghost use Rattle.hh_records.specs.Refusals.{RecordsRefused};
@@ -102,8 +102,7 @@ fn counts_in_pieces<T: Threads + Wait + Sync, S: ReadAt + Sync>(
     requires some { 0 < length candidates.now }
     requires workers { in_range workers max_workers ≡ true }
     ensures counts { IfOk result (λ counts. IfSome counts (CountsRecords
-        (texts_known S.bytes records.entry.layout.now records.entry.sources.now)
-        (keys_of summary.now.counters))) }
+        (sources_known S.bytes records.entry) (keys_of summary.now.counters))) }
     ensures counters { IfOk result (λ counts. IfSome counts (λ _.
         IsCounters summary.now.counters)) }
 {
@@ -135,8 +134,7 @@ fn counts_side_by_side<T: Threads + Wait + Sync, S: ReadAt + Sync>(
 ) -> Result<Option<Counts>, AllocError>
     requires workers { in_range workers max_workers ≡ true }
     ensures counts { IfOk result (λ counts. IfSome counts (CountsRecords
-        (texts_known S.bytes records.entry.layout.now records.entry.sources.now)
-        (keys_of summary.now.counters))) }
+        (sources_known S.bytes records.entry) (keys_of summary.now.counters))) }
     ensures counters { IfOk result (λ counts. IfSome counts (λ _.
         IsCounters summary.now.counters)) }
 {
@@ -158,13 +156,11 @@ pub(crate) fn count_sources<T: Threads + Wait + Sync, S: ReadAt + Sync>(
     records: SourceRecords<'_, S>,
 ) -> Result<Counts, ToolError>
     requires workers { in_range workers max_workers ≡ true }
-    ensures counts { IfOk result (CountsRecords
-        (texts_known S.bytes records.entry.layout.now records.entry.sources.now)
-        (keys_of summary.now.counters)) }
+    ensures counts { IfOk result (CountsRecords (sources_known S.bytes records.entry) (keys_of
+        summary.now.counters)) }
     ensures counters { IfOk result (λ _. IsCounters summary.now.counters) }
     ensures still { OnOk result (All S.still records.entry.sources.now) }
-    ensures refused { IfErr result (RecordsRefused
-        (texts_known S.bytes records.entry.layout.now records.entry.sources.now)) }
+    ensures refused { IfErr result (RecordsRefused (sources_known S.bytes records.entry)) }
 {
     let counts = match counts_side_by_side(rt, alloc, summary, workers, records)? {
         Some(counts) => counts,

@@ -6,7 +6,7 @@ ghost use Rattle.hh_summaries.specs.Report.{IsShare};
 ghost use Rattle.hh_stream.specs.Cuttings.{max_pieces};
 ghost use Rattle.hh_stream.specs.Ranges.{in_range};
 ghost use Rattle.hh_stream.specs.Weights.{Entry, total_of};
-ghost use Rattle.hh_records.specs.Layouts.{texts_known};
+ghost use Rattle.hh_pieces.specs.Sources.{sources_known};
 ghost use Rattle.hh_records.specs.Refusals.{RecordsRefused};
 ghost use Rattle.hh_workers.specs.Workers.{max_workers};
 ghost use Rattle.hh_reports.specs.Report.{AreOptions, ReportsKeys};
@@ -61,9 +61,8 @@ fn keys_side_by_side<T: Threads + Wait + Sync, S: ReadAt + Sync>(
     settings: &Options,
 ) -> Result<Option<(u64, Vec<Heavy>)>, AllocError>
     requires workers { in_range workers max_workers ≡ true }
-    ensures { IfOk result (λ keys. IfSome keys (λ keys.
-        FindsKeys (texts_known S.bytes records.entry.layout.now records.entry.sources.now)
-        settings.now.p settings.now.q keys.0 keys.1.items)) }
+    ensures { IfOk result (λ keys. IfSome keys (λ keys. FindsKeys
+        (sources_known S.bytes records.entry) settings.now.p settings.now.q keys.0 keys.1.items)) }
 {
     let most = piece_count(workers, records.sources.len());
     let Some(files) = CutFiles::new(alloc, records.layout, records.sources, most)? else {
@@ -116,12 +115,10 @@ fn keys_of_sources<T: Threads + Wait + Sync, S: ReadAt + Sync>(
     requires enough { prepared.now.q ≤ prepared.now.p * (k + 1) }
     requires p { prepared.now.settings.p ≡ prepared.now.p }
     requires q { prepared.now.settings.q ≡ prepared.now.q }
-    ensures keys { IfOk result (λ keys.
-        FindsKeys (texts_known S.bytes records.entry.layout.now records.entry.sources.now)
+    ensures keys { IfOk result (λ keys. FindsKeys (sources_known S.bytes records.entry)
         prepared.now.p prepared.now.q keys.0 keys.1.items) }
     ensures still { OnOk result (All S.still records.entry.sources.now) }
-    ensures refused { IfErr result (RecordsRefused
-        (texts_known S.bytes records.entry.layout.now records.entry.sources.now)) }
+    ensures refused { IfErr result (RecordsRefused (sources_known S.bytes records.entry)) }
 {
     let Prepared { settings, p, q, .. } = prepared;
     let keys = match keys_side_by_side(rt, alloc, records, workers, settings)? {
@@ -139,14 +136,11 @@ fn reported_of_files<T: Threads + Wait + Sync, S: ReadAt + Sync>(
     options: &ReportOptions,
     records: SourceRecords<'_, S>,
 ) -> Result<(u64, Vec<Heavy>), ToolError>
-    ensures keys { IfOk result (λ keys. AreOptions options.now
-        × IfKnown (texts_known S.bytes records.entry.layout.now records.entry.sources.now)
-        ((xs : List Entry) × (keys.0 ≡ total_of xs) × ReportsKeys options.now
-        (texts_known S.bytes records.entry.layout.now records.entry.sources.now)
-        xs keys.1.items)) }
+    ensures keys { IfOk result (λ keys. AreOptions options.now × IfKnown
+        (sources_known S.bytes records.entry) ((xs : List Entry) × (keys.0 ≡ total_of xs) ×
+        ReportsKeys options.now (sources_known S.bytes records.entry) xs keys.1.items)) }
     ensures still { OnOk result (All S.still records.entry.sources.now) }
-    ensures refused { IfErr result (StartRefused options.now
-        (texts_known S.bytes records.entry.layout.now records.entry.sources.now)) }
+    ensures refused { IfErr result (StartRefused options.now (sources_known S.bytes records.entry)) }
     ensures bad_option { IfSome (bad_option options.now) (λ fault. result ≡ Err fault) }
 {
     match prepare(alloc, options, records.layout.hash) {
@@ -178,12 +172,10 @@ pub fn report_files<T: Threads + Wait + Sync, F: ReadAt + Sync, S: Sink>(
 ) -> Result<(), ToolError>
     requires { S.has_failed sink.old ≡ false }
     ensures reported { OnOk result (IsPrintedOfFiles rows.now options.now
-        (texts_known F.bytes records.entry.layout.now records.entry.sources.now)
-        (S.taken sink.old) (S.taken sink.new)) }
+        (sources_known F.bytes records.entry) (S.taken sink.old) (S.taken sink.new)) }
     ensures still { OnOk result (All F.still records.entry.sources.now) }
     ensures refused { IfErr result (λ fault. FilesRefused rows.now options.now
-        (texts_known F.bytes records.entry.layout.now records.entry.sources.now)
-        (S.taken sink.old) (S.taken sink.new) fault) }
+        (sources_known F.bytes records.entry) (S.taken sink.old) (S.taken sink.new) fault) }
     ensures bad_option { IfSome (bad_option options.now) (λ fault. result ≡ Err fault) }
     ensures flushed { OnOk result (S.is_flushed sink.new ≡ true) }
     ensures failed { S.has_failed sink.new ≡ failed_by result }

@@ -5,7 +5,7 @@ ghost use Rattle.hh_stream.specs.Ranges.{in_range};
 ghost use Rattle.hh_summaries.specs.Counters.{max_k, sketch_of};
 ghost use Rattle.hh_workers.specs.Workers.{max_workers};
 ghost use Rattle.hh_saved.specs.declared.saved.Saved.TheVariants.{Counters};
-ghost use Rattle.hh_records.specs.Layouts.{texts_known};
+ghost use Rattle.hh_pieces.specs.Sources.{sources_known};
 ghost use Rattle.hh_records.specs.Refusals.{RecordsRefused, RefusedAfter};
 ghost use Rattle.hh_commands.specs.Records.{SavesStream};
 ghost use Rattle.hh_files.specs.SummaryFiles.{SavesSummary, SummarisesRecords};
@@ -38,7 +38,7 @@ fn summary_side_by_side<T: Threads + Wait + Sync, S: ReadAt + Sync>(
     requires k { in_range k max_k ≡ true }
     requires workers { in_range workers max_workers ≡ true }
     ensures { IfOk result (λ summary. IfSome summary (SummarisesRecords k
-        (texts_known S.bytes records.entry.layout.now records.entry.sources.now))) }
+        (sources_known S.bytes records.entry))) }
 {
     let most = piece_count(workers, records.sources.len());
     let Some(files) = CutFiles::new(alloc, records.layout, records.sources, most)? else {
@@ -74,11 +74,9 @@ fn summary_of_sources<T: Threads + Wait + Sync, S: ReadAt + Sync>(
 ) -> Result<Summary, ToolError>
     requires k { in_range k max_k ≡ true }
     requires workers { in_range workers max_workers ≡ true }
-    ensures summary { IfOk result (SummarisesRecords k
-        (texts_known S.bytes records.entry.layout.now records.entry.sources.now)) }
+    ensures summary { IfOk result (SummarisesRecords k (sources_known S.bytes records.entry)) }
     ensures still { OnOk result (All S.still records.entry.sources.now) }
-    ensures refused { IfErr result (RecordsRefused
-        (texts_known S.bytes records.entry.layout.now records.entry.sources.now)) }
+    ensures refused { IfErr result (RecordsRefused (sources_known S.bytes records.entry)) }
 {
     let summary = match summary_side_by_side(rt, alloc, k, workers, records)? {
         Some(summary) => summary,
@@ -113,14 +111,13 @@ pub fn summarise_files<T: Threads + Wait + Sync, S: ReadAt + Sync>(
     workers: u64,
     records: SourceRecords<'_, S>,
 ) -> Result<Vec<u8>, ToolError>
-    ensures saved { IfOk result (λ bytes. SavesSummary k
-        (texts_known S.bytes records.entry.layout.now records.entry.sources.now) bytes.items) }
-    ensures one_worker { workers ≡ 1 → IfOk result (λ bytes.
-        SavesStream (λ xs. Counters (sketch_of k xs))
-        (texts_known S.bytes records.entry.layout.now records.entry.sources.now) bytes.items) }
+    ensures saved { IfOk result (λ bytes. SavesSummary k (sources_known S.bytes records.entry)
+        bytes.items) }
+    ensures one_worker { workers ≡ 1 → IfOk result (λ bytes. SavesStream (λ xs. Counters (sketch_of
+        k xs)) (sources_known S.bytes records.entry) bytes.items) }
     ensures still { OnOk result (All S.still records.entry.sources.now) }
     ensures refused { IfErr result (RefusedAfter (bad_summary_of_files k workers)
-        (texts_known S.bytes records.entry.layout.now records.entry.sources.now)) }
+        (sources_known S.bytes records.entry)) }
     ensures bad_option { IfSome (bad_summary_of_files k workers)
         (λ fault. result ≡ Err fault) }
 {

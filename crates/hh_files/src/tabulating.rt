@@ -5,7 +5,7 @@ ghost use Rattle.hh_stream.specs.Ranges.{in_range};
 ghost use Rattle.hh_countmin.specs.Family.{drawn_family, max_depth, max_width};
 ghost use Rattle.hh_countmin.specs.Table.{table_of};
 ghost use Rattle.hh_workers.specs.Workers.{max_workers};
-ghost use Rattle.hh_records.specs.Layouts.{texts_known};
+ghost use Rattle.hh_pieces.specs.Sources.{sources_known};
 ghost use Rattle.hh_saved.specs.declared.saved.Saved.TheVariants.{Cells};
 ghost use Rattle.hh_commands.specs.Records.{SavesStream};
 ghost use Rattle.hh_records.specs.Refusals.{RecordsRefused, RefusedAfter};
@@ -37,8 +37,7 @@ fn table_side_by_side<T: Threads + Wait + Sync, S: ReadAt + Sync>(
     requires width { in_range width max_width ≡ true }
     requires workers { in_range workers max_workers ≡ true }
     ensures { IfOk result (λ table. IfSome table (TabulatesRecords
-        (texts_known S.bytes records.entry.layout.now records.entry.sources.now)
-        family.now width)) }
+        (sources_known S.bytes records.entry) family.now width)) }
 {
     let most = piece_count(workers, records.sources.len());
     let Some(files) = CutFiles::new(alloc, records.layout, records.sources, most)? else {
@@ -67,12 +66,10 @@ fn table_of_sources<T: Threads + Wait + Sync, S: ReadAt + Sync>(
     requires depth { in_range depth max_depth ≡ true }
     requires width { in_range width max_width ≡ true }
     requires workers { in_range workers max_workers ≡ true }
-    ensures table { IfOk result (TabulatesRecords
-        (texts_known S.bytes records.entry.layout.now records.entry.sources.now)
+    ensures table { IfOk result (TabulatesRecords (sources_known S.bytes records.entry)
         (drawn_family seed depth) width) }
     ensures still { OnOk result (All S.still records.entry.sources.now) }
-    ensures refused { IfErr result (RecordsRefused
-        (texts_known S.bytes records.entry.layout.now records.entry.sources.now)) }
+    ensures refused { IfErr result (RecordsRefused (sources_known S.bytes records.entry)) }
 {
     let family = Family::of_seed(alloc, seed, depth)?;
     let table = match table_side_by_side(rt, alloc, &family, width, workers, records)? {
@@ -105,12 +102,11 @@ pub fn table_files<T: Threads + Wait + Sync, S: ReadAt + Sync>(
     workers: u64,
     records: SourceRecords<'_, S>,
 ) -> Result<Vec<u8>, ToolError>
-    ensures saved { IfOk result (λ bytes.
-        SavesStream (λ xs. Cells (table_of (drawn_family seed depth) width xs))
-        (texts_known S.bytes records.entry.layout.now records.entry.sources.now) bytes.items) }
+    ensures saved { IfOk result (λ bytes. SavesStream (λ xs. Cells (table_of (drawn_family seed
+        depth) width xs)) (sources_known S.bytes records.entry) bytes.items) }
     ensures still { OnOk result (All S.still records.entry.sources.now) }
     ensures refused { IfErr result (RefusedAfter (bad_table_of_files depth width workers)
-        (texts_known S.bytes records.entry.layout.now records.entry.sources.now)) }
+        (sources_known S.bytes records.entry)) }
     ensures bad_table { IfSome (bad_table_of_files depth width workers)
         (λ fault. result ≡ Err fault) }
 {

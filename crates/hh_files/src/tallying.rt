@@ -4,7 +4,7 @@ ghost use Rattle.std.specs.Prelude.{◌≡◌, All, true, IfOk, IfErr, IfSome, O
 ghost use Rattle.hh_stream.specs.Ranges.{in_range};
 ghost use Rattle.hh_tally.specs.Tallies.{IsRoom};
 ghost use Rattle.hh_workers.specs.Workers.{max_workers};
-ghost use Rattle.hh_records.specs.Layouts.{texts_known};
+ghost use Rattle.hh_pieces.specs.Sources.{sources_known};
 ghost use Rattle.hh_records.specs.Refusals.{RecordsRefused};
 ghost use Rattle.hh_files.specs.TopFiles.{TalliesRecords};
 
@@ -32,7 +32,7 @@ fn tally_side_by_side<T: Threads + Wait + Sync, S: ReadAt + Sync>(
     requires room { IsRoom room }
     requires workers { in_range workers max_workers ≡ true }
     ensures { IfOk result (λ tally. IfSome tally (TalliesRecords room
-        (texts_known S.bytes records.entry.layout.now records.entry.sources.now))) }
+        (sources_known S.bytes records.entry))) }
 {
     let most = piece_count(workers, records.sources.len());
     let Some(files) = CutFiles::new(alloc, records.layout, records.sources, most)? else {
@@ -74,11 +74,9 @@ pub(crate) fn tally_of_sources<T: Threads + Wait + Sync, S: ReadAt + Sync>(
 ) -> Result<Tally, ToolError>
     requires room { IsRoom room }
     requires workers { in_range workers max_workers ≡ true }
-    ensures tally { IfOk result (TalliesRecords room
-        (texts_known S.bytes records.entry.layout.now records.entry.sources.now)) }
+    ensures tally { IfOk result (TalliesRecords room (sources_known S.bytes records.entry)) }
     ensures still { OnOk result (All S.still records.entry.sources.now) }
-    ensures refused { IfErr result (RecordsRefused
-        (texts_known S.bytes records.entry.layout.now records.entry.sources.now)) }
+    ensures refused { IfErr result (RecordsRefused (sources_known S.bytes records.entry)) }
 {
     let tally = match tally_side_by_side(rt, alloc, room, workers, records)? {
         Some(tally) => tally,

@@ -6,7 +6,7 @@ ghost use Rattle.hh_stream.specs.Ranges.{in_range};
 ghost use Rattle.hh_summaries.specs.Counters.{max_k};
 ghost use Rattle.hh_top.specs.Top.{chosen_of};
 ghost use Rattle.hh_workers.specs.Workers.{max_workers};
-ghost use Rattle.hh_records.specs.Layouts.{texts_known};
+ghost use Rattle.hh_pieces.specs.Sources.{sources_known};
 ghost use Rattle.hh_records.specs.Refusals.{RecordsRefused};
 ghost use Rattle.hh_commands.specs.Records.{CountsRecords};
 ghost use Rattle.hh_files.specs.TopFiles.{FindsTop, PrintsTop, TalliesRecords};
@@ -40,11 +40,10 @@ fn grown_tally<T: Threads + Wait + Sync, S: ReadAt + Sync>(
 ) -> Result<Tally, ToolError>
     requires workers { in_range workers max_workers ≡ true }
     ensures tally { IfOk result (λ tally. TalliesRecords tally.room
-        (texts_known S.bytes records.entry.layout.now records.entry.sources.now) tally) }
+        (sources_known S.bytes records.entry) tally) }
     ensures share { IfOk result (λ tally. 2 * (max_k + 1) ≤ tally.room.few) }
     ensures still { OnOk result (All S.still records.entry.sources.now) }
-    ensures refused { IfErr result (RecordsRefused
-        (texts_known S.bytes records.entry.layout.now records.entry.sources.now)) }
+    ensures refused { IfErr result (RecordsRefused (sources_known S.bytes records.entry)) }
 {
     let first = Room::for_counters(MAX_K);
     let room = Room::for_memory(memory / workers);
@@ -73,12 +72,10 @@ fn chosen_counts<T: Threads + Wait + Sync, S: ReadAt + Sync>(
 ) -> Result<Counts, ToolError>
     requires workers { in_range workers max_workers ≡ true }
     requires share { 2 * (max_k + 1) ≤ tally.now.room.few }
-    ensures counts { IfOk result (CountsRecords
-        (texts_known S.bytes records.entry.layout.now records.entry.sources.now)
-        (keys_of (chosen_of n tally.now))) }
+    ensures counts { IfOk result (CountsRecords (sources_known S.bytes records.entry) (keys_of
+        (chosen_of n tally.now))) }
     ensures still { OnOk result (All S.still records.entry.sources.now) }
-    ensures refused { IfErr result (RecordsRefused
-        (texts_known S.bytes records.entry.layout.now records.entry.sources.now)) }
+    ensures refused { IfErr result (RecordsRefused (sources_known S.bytes records.entry)) }
 {
     let choice = choice_of(alloc, tally, n)?;
     let counts = count_sources(rt, alloc, &choice, workers, records)?;
@@ -101,14 +98,12 @@ fn top_of_tally<T: Threads + Wait + Sync, S: ReadAt + Sync>(
     requires workers { in_range workers max_workers ≡ true }
     requires share { 2 * (max_k + 1) ≤ tally.now.room.few }
     requires tally { TalliesRecords tally.now.room
-        (texts_known S.bytes records.layout.now records.sources.now) tally.now }
+        (sources_known S.bytes records) tally.now }
     requires still { All S.still records.sources.now }
-    ensures keys { IfOk result (λ keys.
-        FindsTop n (texts_known S.bytes records.entry.layout.now records.entry.sources.now)
+    ensures keys { IfOk result (λ keys. FindsTop n (sources_known S.bytes records.entry)
         tally.now.total keys.items) }
     ensures still { OnOk result (All S.still records.entry.sources.now) }
-    ensures refused { IfErr result (TopRefused n
-        (texts_known S.bytes records.entry.layout.now records.entry.sources.now)) }
+    ensures refused { IfErr result (TopRefused n (sources_known S.bytes records.entry)) }
 {
     if tally.is_exact() {
         return Ok(greatest_counters(alloc, tally, n)?);
@@ -130,12 +125,10 @@ fn top_of_sources<T: Threads + Wait + Sync, S: ReadAt + Sync>(
     records: SourceRecords<'_, S>,
 ) -> Result<(u64, Vec<Heavy>), ToolError>
     requires workers { in_range workers max_workers ≡ true }
-    ensures keys { IfOk result (λ keys.
-        FindsTop n (texts_known S.bytes records.entry.layout.now records.entry.sources.now)
-        keys.0 keys.1.items) }
+    ensures keys { IfOk result (λ keys. FindsTop n (sources_known S.bytes records.entry) keys.0
+        keys.1.items) }
     ensures still { OnOk result (All S.still records.entry.sources.now) }
-    ensures refused { IfErr result (TopRefused n
-        (texts_known S.bytes records.entry.layout.now records.entry.sources.now)) }
+    ensures refused { IfErr result (TopRefused n (sources_known S.bytes records.entry)) }
 {
     let tally = match grown_tally(rt, alloc, n, workers, memory, records) {
         Ok(tally) => tally,
@@ -174,11 +167,10 @@ pub fn top_files<T: Threads + Wait + Sync, S: ReadAt + Sync>(
     memory: u64,
     records: SourceRecords<'_, S>,
 ) -> Result<Vec<u8>, ToolError>
-    ensures rows { IfOk result (λ text. PrintsTop rows.now n
-        (texts_known S.bytes records.entry.layout.now records.entry.sources.now) text.items) }
+    ensures rows { IfOk result (λ text. PrintsTop rows.now n (sources_known S.bytes records.entry)
+        text.items) }
     ensures still { OnOk result (All S.still records.entry.sources.now) }
-    ensures refused { IfErr result (TopFilesRefused n workers
-        (texts_known S.bytes records.entry.layout.now records.entry.sources.now)) }
+    ensures refused { IfErr result (TopFilesRefused n workers (sources_known S.bytes records.entry)) }
 {
     if !in_range(workers, MAX_WORKERS) {
         return Err(ToolError::BadWorkers);

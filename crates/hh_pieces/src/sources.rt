@@ -1,8 +1,8 @@
 //! Records in files, or in other bytes that are read at any place.
 
 ghost use Rattle.std.specs.Prelude.{◌≡◌, All, IfErr, IfOk, IfSome, IsOk, OnOk};
-ghost use Rattle.hh_records.specs.Layouts.{TextsRefused, every, texts_known};
-ghost use Rattle.hh_pieces.specs.Sources.{IsKnownStill};
+ghost use Rattle.hh_records.specs.Layouts.{TextsRefused, every};
+ghost use Rattle.hh_pieces.specs.Sources.{IsKnownStill, sources_known};
 ghost use Rattle.hh_records.specs.Taking.{TakesItems};
 
 use crate::read_at::{FromPlace, ReadAt, read_all};
@@ -52,7 +52,7 @@ fn readers_of<'s, S: ReadAt>(
 }
 
 impl<'s, S: ReadAt> ReadRecords for SourceRecords<'s, S> {
-    ghost known = { λ records. texts_known S.bytes records.layout.now records.sources.now };
+    ghost known = { λ records. sources_known S.bytes records };
 
     ghost hasher = { λ records. records.layout.now.hash };
 

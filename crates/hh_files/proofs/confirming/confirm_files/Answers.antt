@@ -1,5 +1,5 @@
 use Rattle.std.proofs.Common.{arith, sym}
-use Rattle.hh_records.specs.Layouts.{texts_known}
+use Rattle.hh_pieces.specs.Sources.{sources_known}
 use Rattle.hh_commands.specs.declared.compared.Bounds.TheVariants as bounds
 use Rattle.hh_commands.proofs.BoundsFacts.{bounds_compared}
 use Rattle.hh_files.proofs.ConfirmFacts.{confirming_refused, rows_confirmed, told_confirmed}
@@ -13,7 +13,7 @@ confirmed_text-requires-clause-share g c =
 
 pub returns-clause-rows : goal.returns-clause-rows
 returns-clause-rows g c =
-    rows_confirmed _ (texts_known g.S.ReadAt.bytes c.args.records.layout.now c.args.records.sources.now)
+    rows_confirmed _ (sources_known g.S.ReadAt.bytes c.args.records)
     c.in_ok-summary.summary c.in_ok-summary.ensures.summary c.in_ok-counts.counts c.in_ok-counts.ensures.counts
     c.args.rows.now c.args.share.now c.in-Some.share
     (rw c.k.ensures.k at (sym c.in-Some.ensures)) c.confirmed_text.result c.confirmed_text.ensures.total
@@ -21,14 +21,14 @@ returns-clause-rows g c =
 
 pub returns-clause-bounds : goal.returns-clause-bounds
 returns-clause-bounds g c =
-    bounds_compared _ (texts_known g.S.ReadAt.bytes c.args.records.layout.now c.args.records.sources.now)
+    bounds_compared _ (sources_known g.S.ReadAt.bytes c.args.records)
     c.in_ok-summary.summary c.in_ok-summary.ensures.summary c.in_ok-counts.counts c.in_ok-counts.ensures.counts
     c.args.compared.now.refuses c.confirmed_text.new.compared bounds.Both c.confirmed_text.result
     c.confirmed_text.ensures.bounds
 
 pub returns-clause-refused : goal.returns-clause-refused
 returns-clause-refused g c =
-    confirming_refused _ (texts_known g.S.ReadAt.bytes c.args.records.layout.now c.args.records.sources.now)
+    confirming_refused _ (sources_known g.S.ReadAt.bytes c.args.records)
     c.in_ok-summary.summary c.in_ok-summary.ensures.summary c.in_ok-counts.counts c.in_ok-counts.ensures.counts
     c.args.compared.now.refuses c.confirmed_text.new.compared c.args.share.now c.args.workers c.in-Some.share
     (rw c.k.ensures.k at (sym c.in-Some.ensures)) (sym c.if-not-in_range.ensures) c.confirmed_text.result
@@ -36,6 +36,6 @@ returns-clause-refused g c =
 
 pub returns-clause-explained : goal.returns-clause-explained
 returns-clause-explained g c =
-    told_confirmed _ (texts_known g.S.ReadAt.bytes c.args.records.layout.now c.args.records.sources.now)
+    told_confirmed _ (sources_known g.S.ReadAt.bytes c.args.records)
     c.in_ok-summary.summary c.in_ok-summary.ensures.summary c.in_ok-counts.counts c.in_ok-counts.ensures.counts
     c.args.compared.now.refuses c.confirmed_text.new.compared c.confirmed_text.result c.confirmed_text.ensures.refused
