@@ -24,7 +24,7 @@ LENGTH = 136
 PATHS = 100_000
 # written at once
 BLOCK = 100_000
-JQ = "reduce inputs as $r ({}; .[$r.path] += $r.bytes) | to_entries[] | \"\\(.key),\\(.value)\""
+GROUP_BY = "{ w[$1] += $2 } END { for (key in w) print key \",\" w[key] }"
 PYTHON = """import collections, json, sys
 weights = collections.Counter()
 for line in sys.stdin.buffer:
@@ -97,7 +97,7 @@ def main() -> None:
         words = ["--json", "--key", "path", "--weight", "bytes", str(objects)]
         shell = ["sh", "-c", f"{sys.executable} -c '{PYTHON}' < {objects}"]
         compare(runs, {f"heavy {n}": [*report, "--workers", str(n), *words] for n in (1, 4)}, there({
-            "jq": ["jq", "-rn", JQ, str(objects)],
+            "jq, mawk": ["sh", "-c", f"jq -r '[.path, .bytes] | @tsv' {objects} | mawk '{GROUP_BY}'"],
             "Miller": ["mlr", "--ijsonl", "--ocsv", "stats1", "-a", "sum", "-f", "bytes", "-g", "path", str(objects)],
             "Python": shell,
         }))
