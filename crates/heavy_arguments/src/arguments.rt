@@ -117,6 +117,13 @@ pub const MEMORY: Number = Number {
     default: 64,
 };
 
+/// The memory of `top`, for what a pipe gave and for counters.
+pub const TOP_MEMORY: Number = Number {
+    name: "memory",
+    help: "Megabytes of a pipe to keep in memory, and of counters that grow [default: 256]",
+    default: 256,
+};
+
 const GREATEST_HELP: &str = "How many keys, from 1 on";
 
 /// The word that says how many of the greatest keys are printed.
@@ -369,7 +376,7 @@ const TOP_ARGUMENTS: [Argument; 9] = [
     OUTPUT_FORM,
     NAMES_FLAG,
     Argument::Number(WORKERS),
-    Argument::Number(MEMORY),
+    Argument::Number(TOP_MEMORY),
     Argument::Given(Kind::Count, "N", GREATEST_HELP),
     RECORD_FILES,
 ];
