@@ -7,7 +7,7 @@ use Rattle.hh_faults.specs.declared.error.ToolError.{ToolError}
 use Rattle.hh_faults.specs.declared.error.ToolError.TheVariants as tool
 use Rattle.hh_records.specs.Streams.{Known}
 use Rattle.hh_records.specs.declared.layout.Layout.{Layout}
-use Rattle.hh_reports.specs.Report.{AreWritten, PrintsRows, WriteRefused, bad_option}
+use Rattle.hh_reports.specs.Report.{AreWritten, PrintsRows, WriteRefused}
 use Rattle.hh_files.specs.ReportFiles.{PrintsFileRows}
 use Rattle.hh_rows.specs.Sinks.{TakesFirst}
 use Rattle.hh_rows.specs.declared.printed.RowOptions.{RowOptions}
@@ -15,7 +15,7 @@ use Rattle.hh_rows.specs.declared.report_options.ReportOptions.{ReportOptions}
 use Rattle.heavy_requests.specs.declared.request.RecordWords.{RecordWords}
 use Rattle.heavy_answers.specs.Answers.{ByPlan, OfRecords, PrintsReport}
 use Rattle.heavy_answers.specs.Columns.{InForm, report_columns}
-use Rattle.heavy_answers.specs.Refusals.{OpenRefused, ReportFails, RowsFail, kept_fault}
+use Rattle.heavy_answers.specs.Refusals.{BeginRefused, ReportFails, RowsFail, kept_fault}
 
 -- known bytes stay where nothing is written
 pub keeps_self : (known : Option (List ℕ)) → Keeps known known
@@ -69,9 +69,8 @@ module _ (output : Output) (o : ReportOptions) (known : Known) (rows : RowOption
 
 -- what refuses a report before it is made refuses one that is kept
 pub unkept_early : (unopened : List ℕ → ℕ → ToolError → Type 0) (words : RecordWords) (o : ReportOptions) (e : ToolError)
-    → (OpenRefused unopened words 0 e ⊎ (bad_option o ≡ Some e))
-    → (OpenRefused unopened words 0 (kept_fault e) ⊎ (bad_option o ≡ Some (kept_fault e)))
-unkept_early unopened words o (tool.WriteFault n) it = inl (inl (inl refl))
+    → BeginRefused unopened o words e → BeginRefused unopened o words (kept_fault e)
+unkept_early unopened words o (tool.WriteFault n) it = inl (inl refl)
 unkept_early unopened words o e it = it
 
 -- the same of a report of records that was kept

@@ -60,11 +60,14 @@ IsUnopened unopened (name ∷ names) saved e = (place : ℕ) × IsUnopenedAt uno
 abbrev pub IsUnkept : ToolError → Type 0
 IsUnkept e = (e ≡ tool.Memory) ⊎ (e ≡ tool.ReadFault)
 
--- the records that the words name can't be had: there is no memory, an input can't be kept, the words say no layout, or an
--- input is not opened
+-- the inputs that the words name can't be opened: there is no memory, the words say no layout, or an input is not opened
 abbrev pub OpenRefused : (List ℕ → ℕ → ToolError → Type 0) → RecordWords → ℕ → ToolError → Type 0
 OpenRefused unopened words saved e =
-    IsUnkept e ⊎ LayoutRefused words.layout e ⊎ IsUnopened unopened (map (λ w. w.items) words.files.items) saved e
+    (e ≡ tool.Memory) ⊎ LayoutRefused words.layout e ⊎ IsUnopened unopened (map (λ w. w.items) words.files.items) saved e
+
+-- the records that the words name can't be had: the inputs can't be opened, or one can't be kept
+abbrev pub SourcesRefused : (List ℕ → ℕ → ToolError → Type 0) → RecordWords → ℕ → ToolError → Type 0
+SourcesRefused unopened words saved e = OpenRefused unopened words saved e ⊎ IsUnkept e
 
 -- the records that the words name, where the number of workers is not refused, fail so
 pub record RecordsFail (opens : Bool → List ℕ → Option (List ℕ) → Type 0) (words : RecordWords) (workers : ℕ) (Fails : Known → Type 0) : Type 0 where
@@ -77,7 +80,7 @@ pub record RecordsFail (opens : Bool → List ℕ → Option (List ℕ) → Type
 abbrev pub ReadingFails : (Bool → List ℕ → Option (List ℕ) → Type 0) → (List ℕ → ℕ → ToolError → Type 0) → RecordWords → ℕ → ℕ
     → (Known → ToolError → Type 0) → ToolError → Type 0
 ReadingFails opens unopened words saved workers Fails e =
-    OpenRefused unopened words saved e ⊎ RecordsFail opens words workers (λ known. Fails known e)
+    SourcesRefused unopened words saved e ⊎ RecordsFail opens words workers (λ known. Fails known e)
 
 -- what a refusal to condense says, by workers over files or by one thread
 abbrev pub CondenseFails : Bool → ℕ → List ℕ → Known → ToolError → Type 0
@@ -109,12 +112,13 @@ SummaryFails opens unopened words k method workers e =
     (NamesNoMethod method × (e ≡ tool.BadMethod))
     ⊎ ReadingFails opens unopened words 0 workers (RefusedAfter (bad_summary_of_files k workers)) e
 
--- the greatest keys are refused: the records can't be had, or the workers are refused before anything is read; or the library
--- refuses them
+-- the greatest keys are refused: the inputs can't be opened, the workers are refused before anything is read, or behind them
+-- an input can't be kept; or the library refuses them
 abbrev pub TopFails : (Bool → List ℕ → Option (List ℕ) → Type 0) → (List ℕ → ℕ → ToolError → Type 0) → RecordWords → ℕ → ℕ
     → ToolError → Type 0
 TopFails opens unopened words n workers e =
     OpenRefused unopened words 0 e ⊎ ((in_range workers max_workers ≡ false) × (e ≡ tool.BadWorkers))
+    ⊎ ((in_range workers max_workers ≡ true) × IsUnkept e)
     ⊎ OfRecords opens words (λ _ known. TopFilesRefused n workers known e)
 
 -- the file in this place can't be read, which is reported by its number
@@ -172,11 +176,16 @@ RowsFail output options rows by_plan known old new e =
     ByPlan by_plan (WriteRefused options known (InForm output rows (PrintsRows rows options known)) old new e)
     (WriteRefused options known (InForm output rows (PrintsFileRows rows options known)) old new e)
 
--- the report is refused with nothing written: the records can't be had, or an option is refused; or the library refuses it
+-- the report can't begin: the inputs can't be opened, an option is refused, or behind the options an input can't be kept
+abbrev pub BeginRefused : (List ℕ → ℕ → ToolError → Type 0) → ReportOptions → RecordWords → ToolError → Type 0
+BeginRefused unopened options words e =
+    OpenRefused unopened words 0 e ⊎ (bad_option options ≡ Some e) ⊎ ((bad_option options ≡ None) × IsUnkept e)
+
+-- the report is refused with nothing written, since it can't begin; or the library refuses it
 abbrev pub ReportFails : (Bool → List ℕ → Option (List ℕ) → Type 0) → (List ℕ → ℕ → ToolError → Type 0) → Output → ReportOptions
     → RowOptions → Bool → RecordWords → Option (List ℕ) → Option (List ℕ) → ToolError → Type 0
 ReportFails opens unopened output options rows by_plan words old new e =
-    ((OpenRefused unopened words 0 e ⊎ (bad_option options ≡ Some e)) × Keeps old new)
+    (BeginRefused unopened options words e × Keeps old new)
     ⊎ OfRecords opens words (λ _ known. RowsFail output options rows by_plan known old new e)
 
 -- what was asked for is refused so

@@ -9,6 +9,7 @@ ghost use Rattle.heavy_requests.specs.Inputs.{names_standard};
 ghost use Rattle.heavy_answers.specs.Inputs.{Agree, AreInputs, AreRecords, IsReadOnce};
 ghost use Rattle.heavy_answers.specs.Inputs.{input_names};
 ghost use Rattle.heavy_answers.specs.Refusals.{IsUnkept, IsUnopened, IsUnopenedAt, OpenRefused};
+ghost use Rattle.heavy_answers.specs.Refusals.{SourcesRefused};
 
 use crate::host::Host;
 use heavy_requests::{RecordWords, is_standard};
@@ -234,7 +235,7 @@ pub(crate) fn open_once<H: Host>(
     requires alone { is_alone ≡ true → in_range workers max_workers ≡ true }
     ensures records { IfOk result (IsReadOnce (H.opens host.now) H.Reader.remaining H.File.bytes
         words.now workers) }
-    ensures refused { IfErr result (OpenRefused (H.unopened host.now) words.now saved) }
+    ensures refused { IfErr result (SourcesRefused (H.unopened host.now) words.now saved) }
 {
     let opened = open(host, words, saved)?;
     if !is_alone && opened.inputs.iter().all(|input| host.is_disk_file(input)) {
