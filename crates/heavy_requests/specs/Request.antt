@@ -162,9 +162,9 @@ pub record AreKeys (found : Found) (file : List ℕ) (keys : List (List ℕ)) : 
 
 -- what the command with a name asks for, but for a report
 abbrev pub Answers : Text → Found → Command → Type 0
-Answers name found (Top n rows workers) =
+Answers name found (Top n rows workers memory) =
     (name ≡ codes "top") × IsNumberOf found (codes "N") 1 n × AreRowOptions found rows
-    × IsNumberOf found (codes "workers") 4 workers
+    × IsNumberOf found (codes "workers") 4 workers × IsNumberOf found (codes "memory") 256 memory
 Answers name found (Summarise k method workers) =
     (name ≡ codes "summarise") × AreSummaryOptions found k method.items workers
 Answers name found (Table width depth seed workers) =
@@ -211,6 +211,11 @@ AsksFor name found (Report options rows by_plan) =
     IsReportName name × AreOptions found options × AreRowOptions found rows × (by_plan ≡ asks_plan found)
 AsksFor name found (Answer command) = Answers name found command
 
+-- how many megabytes of a pipe the command with a name keeps in memory
+pub record IsMemoryOf (name : Text) (found : Found) (memory : ℕ) : Type 0 where
+  pub top : name ≡ codes "top" → IsNumberOf found (codes "memory") 256 memory
+  pub other : name ≢ codes "top" → IsNumberOf found (codes "memory") 64 memory
+
 -- these words ask for it: in their texts the program's command line has this command, with its name and its arguments
 pub record IsAskedBy (words : List (List ℕ)) (asked : Invocation) : Type 0 where
   pub program : App
@@ -227,7 +232,7 @@ pub record IsAskedBy (words : List (List ℕ)) (asked : Invocation) : Type 0 whe
   pub explained : one_text found (codes "explain") ≡ Some (codes "true") → asked.explains ≡ true
   pub unexplained : one_text found (codes "explain") ≡ None → asked.explains ≡ false
   pub output : IsOutput found asked.output
-  pub memory : IsNumberOf found (codes "memory") 64 asked.memory
+  pub memory : IsMemoryOf name found asked.memory
 
 -- these words may be refused so: the program's command line doesn't take their texts, or memory was refused
 abbrev pub MayRefuse : List (List ℕ) → UsageError → Type 0

@@ -5,9 +5,10 @@ ghost use Rattle.clap.specs.Words.{Text, first_value, found_of, kind_of};
 ghost use Rattle.heavy_host.specs.Words.{word_of};
 ghost use Rattle.heavy_requests.specs.Request.{AreDecimals, AreOptions, AreRecordWords};
 ghost use Rattle.heavy_requests.specs.Request.{AreRowOptions, AsksFor, GivesShare, IsAskedBy, IsFormat, IsOutput};
-ghost use Rattle.heavy_requests.specs.Request.{IsAskedFrom, IsReportName, NamesForm, NamesTree};
-ghost use Rattle.heavy_requests.specs.Request.{MayRefuse, MayRefuseFrom, all_columns, all_words, asks_plan};
-ghost use Rattle.heavy_requests.specs.Request.{between_commas, columns_in, first_word};
+ghost use Rattle.heavy_requests.specs.Request.{IsAskedFrom, IsMemoryOf, IsReportName, NamesForm};
+ghost use Rattle.heavy_requests.specs.Request.{MayRefuse, MayRefuseFrom, NamesTree, all_columns};
+ghost use Rattle.heavy_requests.specs.Request.{all_words, asks_plan, between_commas, columns_in};
+ghost use Rattle.heavy_requests.specs.Request.{first_word};
 
 use crate::fields::split_fields;
 use crate::usage_report::{UsageReport, usage_report_of};
@@ -16,7 +17,7 @@ use clap::{ArgMatches, Error};
 use heavy_arguments::{
     ALLOW_ZERO, BAD_AS, DECIMALS, DELIMITER, DEPTH, EXPLAIN, GREATEST, HEADER, JSON, K, KEY, LINES,
     MEMORY, NAMES, NO_QUOTES, OUTPUT, PIECES, PREFIX, PROGRESS, RECORDS, SEED, SHARE, SQUEEZE,
-    SUMMARY_WORKERS, TOP, UNTIL, WEIGHT, WIDTH, WORKERS, command_line,
+    SUMMARY_WORKERS, TOP, TOP_MEMORY, UNTIL, WEIGHT, WIDTH, WORKERS, command_line,
 };
 use heavy_host::{WordSource, after_first, bytes_of, read_words, texts_of};
 use hh_output::{Form, Output};
@@ -103,8 +104,8 @@ impl Request {
     }
 
     /// Gives the most passes in which workers read the files of records, by the command line alone:
-    /// 0 if they read none. A report needs two, or one if its keys are few; the greatest keys need
-    /// two.
+    /// 0 if they read none. A report needs two, or one if its keys are few; so do the greatest keys,
+    /// which need one more where counters grow.
     pub fn passes(&self) -> u64 {
         match self {
             Request::Report { by_plan: true, .. } => 0,
@@ -121,11 +122,12 @@ impl Request {
 /// kept as bytes, which need not be UTF-8.
 #[derive(Drop)]
 pub enum Command {
-    /// The `n` greatest keys of records.
+    /// The `n` greatest keys of records, by counters that grow up to `memory` megabytes.
     Top {
         n: u64,
         rows: RowOptions,
         workers: u64,
+        memory: u64,
     },
     /// The saved summary of records.
     Summarise {
@@ -433,6 +435,7 @@ fn top(found: &ArgMatches) -> Request
         n: GREATEST.of(found),
         rows: rows_of(found),
         workers: WORKERS.of(found),
+        memory: TOP_MEMORY.of(found),
     })
 }
 
@@ -518,6 +521,16 @@ fn request_of(alloc: Global, name: &str, found: &ArgMatches) -> Result<Request, 
     }
 }
 
+/// Reads how many megabytes of a pipe the command `name` keeps in memory.
+fn memory_of(name: &str, found: &ArgMatches) -> u64
+    ensures { IsMemoryOf name.now (found_of found.now) result }
+{
+    match name {
+        "top" => TOP_MEMORY.of(found),
+        _ => MEMORY.of(found),
+    }
+}
+
 /// Says why `words` ask for nothing, where `clap` gave this `error`.
 fn usage_error(alloc: Global, words: &[Vec<u8>], error: Error) -> UsageError
     ensures { kind_of error ≡ ErrorKind.OutOfMemory → result ≡ UsageError.Memory }
@@ -550,7 +563,7 @@ fn request_in(alloc: Global, words: &[Vec<u8>]) -> Result<Invocation, UsageError
         tells_progress: found.get_flag(PROGRESS),
         explains: found.get_flag(EXPLAIN),
         output: output_of(found),
-        memory: MEMORY.of(found),
+        memory: memory_of(name, found),
     })
 }
 

@@ -31,7 +31,7 @@ returns-clause-asked c = record {
   explained = c.get_flag-2.ensures.value;
   unexplained = c.get_flag-2.ensures.none;
   output = c.output_of.ensures;
-  memory = c.of.ensures;
+  memory = c.memory_of.ensures;
 }
 
 pub returns-in-Err-clause-refused : goal.returns-in-Err-clause-refused
