@@ -21,6 +21,8 @@ use Rattle.hh_commands.specs.Describe.{description}
 use Rattle.hh_commands.specs.List.{ListsRows}
 use Rattle.hh_commands.specs.Merge.{merged_files}
 use Rattle.hh_commands.specs.Records.{SavesStream}
+use Rattle.hh_commands.specs.Summarise.{word_of}
+use Rattle.hh_commands.specs.declared.commands.summarise.Method.{Method}
 use Rattle.hh_commands.specs.declared.compared.Bounds.TheVariants as bounds
 use Rattle.hh_commands.specs.declared.compared.Outside.{Outside}
 use Rattle.hh_output.specs.declared.output.Output.{Output}
@@ -97,13 +99,17 @@ PrintsReport output options rows by_plan known old new =
 abbrev pub OfSaved : (List ℕ → Option (List ℕ) → Type 0) → List ℕ → (List ℕ → Type 0) → Type 0
 OfSaved gives name Holds = (file : List ℕ) × gives name (Some file) × Holds file
 
+-- a method has this name
+abbrev pub NamesMethod : List ℕ → Type 0
+NamesMethod word = (method : Method) × (word ≡ word_of method)
+
 -- the bytes answer the command
 abbrev pub AnswersCommand : (List ℕ → Option (List ℕ) → Type 0) → (Bool → List ℕ → Option (List ℕ) → Type 0) → Command → RecordWords
     → Bool → Option Outside → List ℕ → Type 0
 AnswersCommand gives opens (Top n rows workers) words refuses outside bytes =
     OfRecords opens words (λ _ known. PrintsTop rows n known bytes)
 AnswersCommand gives opens (Summarise k method workers) words refuses outside bytes =
-    OfRecords opens words (λ _ known. SavesByWorkers k workers known bytes)
+    NamesMethod method.items × OfRecords opens words (λ _ known. SavesByWorkers k workers known bytes)
 AnswersCommand gives opens (Table width depth seed workers) words refuses outside bytes =
     OfRecords opens words (λ _ known. SavesTable width depth seed known bytes)
 AnswersCommand gives opens (Merge first others) words refuses outside bytes =

@@ -1,6 +1,6 @@
 //! The columns of the rows that are printed, and the form of what is written.
 
-ghost use Rattle.std.specs.Prelude.{◌≡◌, IfOk, map, option_map, true};
+ghost use Rattle.std.specs.Prelude.{◌≡◌, ◌↔◌, IfOk, map, option_map, true};
 ghost use Rattle.hh_output.specs.Outputs.{plain_output};
 ghost use Rattle.heavy_answers.specs.Columns.{bytes_in, columns_of, report_columns};
 
@@ -22,7 +22,7 @@ const VALUES: Names = &[b"name", b"value"];
 
 /// Whether rows are printed as CSV, with no names of columns.
 pub(crate) fn is_plain(output: &Output) -> bool
-    ensures { result ≡ true → output.now ≡ plain_output }
+    ensures { (result ≡ true) ↔ (output.now ≡ plain_output) }
 {
     *output == Output::plain()
 }

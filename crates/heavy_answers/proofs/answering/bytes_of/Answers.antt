@@ -1,9 +1,12 @@
 use Rattle.std.proofs.Common.{inr}
-use Rattle.heavy_answers.proofs.AnswerLemmas.{if_err_by, if_err_more, if_ok_by}
+use Rattle.heavy_answers.proofs.AnswerLemmas.{if_err_by, if_err_more, if_ok_by, if_ok_more}
 use Rattle.heavy_answers.proofs.answering.bytes_of.Goals as goal
 
 pub returns-in_ok-method-in-Summarise-clause-made : goal.returns-in_ok-method-in-Summarise-clause-made
-returns-in_ok-method-in-Summarise-clause-made g c = rw c.in-Summarise.is c.in_one_pass.ensures.made
+returns-in_ok-method-in-Summarise-clause-made g c =
+    let named = c.in_ok-method-in-Summarise.ensures.method in
+    rw c.in-Summarise.is (if_ok_more c.in_one_pass.result
+    (λ bytes made. ((c.in_ok-method-in-Summarise.method, rw c.deref.ensures.value at named), made)) c.in_one_pass.ensures.made)
 
 pub returns-in_ok-method-in-Summarise-clause-refused : goal.returns-in_ok-method-in-Summarise-clause-refused
 returns-in_ok-method-in-Summarise-clause-refused g c =
