@@ -106,7 +106,7 @@ NamesMethod word = (method : Method) × (word ≡ word_of method)
 -- the bytes answer the command
 abbrev pub AnswersCommand : (List ℕ → Option (List ℕ) → Type 0) → (Bool → List ℕ → Option (List ℕ) → Type 0) → Command → RecordWords
     → Bool → Option Outside → List ℕ → Type 0
-AnswersCommand gives opens (Top n rows workers) words refuses outside bytes =
+AnswersCommand gives opens (Top n rows workers memory) words refuses outside bytes =
     OfRecords opens words (λ _ known. PrintsTop rows n known bytes)
 AnswersCommand gives opens (Summarise k method workers) words refuses outside bytes =
     NamesMethod method.items × OfRecords opens words (λ _ known. SavesByWorkers k workers known bytes)

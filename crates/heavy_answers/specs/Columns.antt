@@ -21,7 +21,7 @@ value_columns = codes "name" ∷ codes "value" ∷ []
 
 -- the names of the columns of the rows that a command prints; a saved file has none
 abbrev pub columns_of : Command → Option (List (List ℕ))
-columns_of (Top n rows workers) = Some (report_columns rows)
+columns_of (Top n rows workers memory) = Some (report_columns rows)
 columns_of (Summarise k method workers) = None
 columns_of (Table width depth seed workers) = None
 columns_of (Merge first others) = None

@@ -141,7 +141,7 @@ SavedFails gives name Fails e =
 -- a command is refused: by its options, by a file that can't be read, or as the library refuses what it is asked for
 abbrev pub CommandFails : (List ℕ → Option (List ℕ) → Type 0) → (Bool → List ℕ → Option (List ℕ) → Type 0)
     → (List ℕ → ℕ → ToolError → Type 0) → Command → RecordWords → Bool → ToolError → Type 0
-CommandFails gives opens unopened (Top n rows workers) words refuses e = TopFails opens unopened words n workers e
+CommandFails gives opens unopened (Top n rows workers memory) words refuses e = TopFails opens unopened words n workers e
 CommandFails gives opens unopened (Summarise k method workers) words refuses e =
     SummaryFails opens unopened words k method.items workers e
 CommandFails gives opens unopened (Table width depth seed workers) words refuses e =

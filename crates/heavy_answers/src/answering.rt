@@ -63,14 +63,19 @@ fn merged<H: Host>(host: &H, first: &[u8], others: &[Vec<u8>]) -> Result<Vec<u8>
     merge_bytes(host.alloc(), &files)
 }
 
-/// Makes the rows of the `n` greatest keys of the records that `words` name. All inputs are opened
-/// first, then `workers` is tested, and only then is anything read.
+// How many bytes a megabyte has.
+const MEGABYTE: u64 = 1_000_000;
+
+/// Makes the rows of the `n` greatest keys of the records that `words` name, by counters that grow
+/// up to `memory` megabytes. All inputs are opened first, then `workers` is tested, and only then
+/// is anything read.
 fn top<T: Threads + Wait + Sync, H: Host>(
     threads: &T,
     host: &H,
     n: u64,
     rows: &RowOptions,
     workers: u64,
+    memory: u64,
     words: &RecordWords,
 ) -> Result<Vec<u8>, ToolError>
     ensures made { IfOk result (λ bytes. OfRecords (H.opens host.now) words.now
@@ -83,7 +88,16 @@ fn top<T: Threads + Wait + Sync, H: Host>(
         return Err(ToolError::BadWorkers);
     }
     let files = into_kept(host, opened)?;
-    let bytes = top_files(threads, host.alloc(), n, rows, workers, files.records())?;
+    let most = memory.saturating_mul(MEGABYTE);
+    let bytes = top_files(
+        threads,
+        host.alloc(),
+        n,
+        rows,
+        workers,
+        most,
+        files.records(),
+    )?;
     files.note_last_record(host);
     Ok(bytes)
 }
@@ -104,7 +118,12 @@ fn bytes_of<T: Threads + Wait + Sync, H: Host>(
 {
     let alloc = host.alloc();
     match command {
-        Command::Top { n, rows, workers } => top(threads, host, *n, rows, *workers, words),
+        Command::Top {
+            n,
+            rows,
+            workers,
+            memory,
+        } => top(threads, host, *n, rows, *workers, *memory, words),
         Command::Summarise { k, method, workers } => {
             let method = Method::of(method)?;
             let command = SinglePass::Summarise { k: *k, method };
