@@ -212,14 +212,17 @@ class CommandLine(programs.Checks):
             self.check(f"top {words}", (status, out, err[:6]) == (2, b"", b"error:"), err)
 
     def test_top_left_open(self) -> None:
-        """Of one key more than there are counters, which all weigh 1, none is certain; of as many all are. A key that weighs
-        more is certain."""
-        ones = [b"k%05d\n" % number for number in range(65_536)]
+        """Of one key more than there are counters at first, which all weigh 1, none is certain where these can't grow; of as many
+        all are. A key that weighs more is certain."""
+        ones = [b"k%06d\n" % number for number in range(131_073)]
+        few = ["top", "--explain", "--memory", "1"]
         told = "of the greatest keys only %d are certain\n  the next key weighs at most 1"
-        self.expect(["top", "2"], (0, b"k00001,1\nk00002,1\n", b""), b"".join(ones[1:]))
-        self.refuses(["top", "--explain", "1"], told % 0, 3, b"".join(ones))
-        self.expect(["top", "1"], (0, b"big,2\n", b""), b"".join(ones) + b"big,2\n")
-        self.refuses(["top", "--explain", "2"], told % 1, 3, b"".join(ones) + b"big,2\n")
+        self.expect([*few, "2"], (0, b"k000001,1\nk000002,1\n", b""), b"".join(ones[1:]))
+        self.refuses([*few, "1"], told % 0, 3, b"".join(ones))
+        self.expect(["top", "2"], (0, b"k000000,1\nk000001,1\n", b""), b"".join(ones))
+        self.expect([*few, "1"], (0, b"big,2\n", b""), b"".join(ones) + b"big,2\n")
+        self.refuses([*few, "2"], told % 1, 3, b"".join(ones) + b"big,2\n")
+        self.expect(["top", "2"], (0, b"big,2\nk000000,1\n", b""), b"".join(ones) + b"big,2\n")
 
     def test_letters(self) -> None:
         """Options by their letters, with the value in the same word or in the next, and several in one word."""

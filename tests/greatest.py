@@ -1,6 +1,7 @@
 #!/usr/bin/env python3
 """The greatest keys of records, set beside an exact dictionary: of few keys, of keys that tie at the last place that is printed,
-and of more keys than there are counters, where the program may refuse. Then what it says is compared with the dictionary.
+and of more keys than there are counters at first. These grow; where --memory doesn't let them, the program may refuse. Then what
+it says is compared with the dictionary.
 
 usage: tests/greatest.py [CASES [SEED]]
 
@@ -18,6 +19,8 @@ import programs
 from report_files import quoted
 
 COUNTERS = 65_535
+# how many keys each worker has counters for, before these grow
+FIRST_KEYS = 131_072
 # what a refusal says, and its second line
 REFUSED = re.compile(rb"heavy: of the greatest keys only (\d+) are certain\n  the next key weighs at most (\d+)\n")
 SPECIAL = [b"a,b", b'say "so"', b"two\nlines", b"k" * 300, b"\xff"]
@@ -37,8 +40,8 @@ def few_items(random: Random) -> list[tuple[bytes, int]]:
 
 
 def many_items(random: Random) -> list[tuple[bytes, int]]:
-    """Items of about as many keys as there are counters, or of more, with some that weigh more."""
-    count = COUNTERS + random.choice([-1, 0, 1, 2, 1_000, 90_000])
+    """Items of about as many keys as there are counters at first, or of more, with some that weigh more."""
+    count = FIRST_KEYS + random.choice([-1, 0, 1, 2, 1_000, 90_000])
     items = [(b"%d" % number, random.choice([1, 1, 1, 2])) for number in range(count)]
     items += [(b"big%d" % number, random.choice([3, 10, 10, 1_000])) for number in range(random.choice([0, 1, 20]))]
     random.shuffle(items)
@@ -66,12 +69,12 @@ def text_of(rows: list[tuple[bytes, int]]) -> bytes:
     return b"".join(b"%s,%d\n" % (quoted(key.replace(b'"', b'""')), weight) for key, weight in rows)
 
 
-def is_right(ended: programs.Ended, n: int, rows: list[tuple[bytes, int]]) -> bool:
-    """Whether a run printed the n first rows; or refused them, where the counters may have left them open."""
+def is_right(ended: programs.Ended, n: int, rows: list[tuple[bytes, int]], most_keys: int) -> bool:
+    """Whether a run printed the n first rows; or refused them, where there are more than most_keys keys."""
     if ended.status == 0:
         return ended.out == text_of(rows[:n]) and ended.err == b""
     told = REFUSED.fullmatch(ended.err)
-    if ended.status != 3 or ended.out != b"" or told is None or len(rows) <= COUNTERS:
+    if ended.status != 3 or ended.out != b"" or told is None or len(rows) <= most_keys:
         return False
     certain, most = int(told[1]), int(told[2])
     above = sum(weight > most for _, weight in rows)
@@ -91,7 +94,9 @@ class Greatest(programs.Checks):
             items = many_items(random) if random.random() < 0.2 else few_items(random)
             rows = ranked(items)
             n = place_of(random, rows)
-            words = [program, "top", "--explain", "--workers", random.choice(["1", "2", "4"]), str(n)]
+            # by default there is memory for more keys than come
+            memory, most_keys = random.choice([([], len(rows)), (["--memory", "1"], FIRST_KEYS)])
+            words = [program, "top", "--explain", "--workers", random.choice(["1", "2", "4"]), *memory, str(n)]
             count = random.choice([0, 1, 1, 3])
             if count == 0:
                 ended = programs.run(words, text_of(items))
@@ -100,11 +105,35 @@ class Greatest(programs.Checks):
                 for place, path in enumerate(paths):
                     Path(path).write_bytes(text_of(items[place::count]))
                 ended = programs.run([*words, *paths])
-            holds = is_right(ended, n, rows)
+            holds = is_right(ended, n, rows, most_keys)
             refused += ended.status != 0
             differed += not holds
             self.check(f"top {n}, again by tests/greatest.py 1 {own}", holds, (words, ended.status, ended.out[:200], ended.err[:200]))
         print(f"seed {seed}: {cases} cases, {refused} of them refused, {differed} differ")
+
+    def test_grown(self) -> None:
+        """Counters that grow until the greatest keys are certain, or as far as --memory lets them."""
+        program = programs.built("heavy_cli")
+        equal = [(b"%d" % number, 1) for number in range(200_000)]
+        # ten keys that weigh as much as their own number of others do, behind as many keys
+        behind = [(b"%d" % number, 1) for number in range(400_000)] + [(b"big%d" % number, 3) for number in range(10)]
+        path = Path(f"{self.room}/grown.csv")
+        for items, n, words, grows in (
+            (equal, 10, [], True),
+            (equal, 10, ["--workers", "1"], True),
+            (equal, 100_000, ["--workers", "2"], True),
+            (equal, 300_000, ["--memory", "128"], True),
+            (equal, 10, ["--memory", "1"], False),
+            (equal, 10, ["--memory", "1", "--workers", "1"], False),
+            (behind, 11, ["--memory", "64", "--workers", "1"], True),
+            (behind, 11, ["--memory", "40", "--workers", "1"], False),
+        ):
+            rows = ranked(items)
+            path.write_bytes(text_of(items))
+            for named, text in (([str(path)], b""), ([], text_of(items))):
+                ended = programs.run([program, "top", "--explain", *words, str(n), *named], text)
+                holds = is_right(ended, n, rows, 0) and (ended.status == 0) == grows
+                self.check(f"top {n} {' '.join(words)}", holds, (named, ended.status, ended.out[:200], ended.err[:200]))
 
 
 if __name__ == "__main__":
