@@ -25,6 +25,7 @@ complete -c heavy -n '__fish_seen_subcommand_from report top summarise table con
 complete -c heavy -n '__fish_seen_subcommand_from report top summarise table condense confirm' -l key -x -d 'The column of the key, by number or name; several, as 4,5 or \'"a, b",c\', are one key'
 complete -c heavy -n '__fish_seen_subcommand_from report top summarise table condense confirm' -l weight -x -d 'The column of the weight; with --key alone each record weighs 1'
 complete -c heavy -n '__fish_seen_subcommand_from report top summarise table condense confirm' -l allow-zero -d 'A record of weight 0 or - adds nothing, and is no fault'
+complete -c heavy -n '__fish_seen_subcommand_from report top summarise table condense confirm' -l bad-as -x -d 'Count each record that can\'t be read as one item of KEY, of weight 1, and tell how many'
 complete -c heavy -n '__fish_seen_subcommand_from report top summarise table condense confirm' -l decimals -x -d 'Weights may have a point and up to D digits behind it, D from 0 to 9'
 complete -c heavy -n '__fish_seen_subcommand_from report top summarise table condense confirm' -l until -x -d 'The key ends before the first of these bytes in its last column, as ? in a path'
 complete -c heavy -n '__fish_seen_subcommand_from report top summarise table condense confirm' -l prefix -x -d 'The key has at most the first N bytes of its last column, as 13 of a time to the hour'
