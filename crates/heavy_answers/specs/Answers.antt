@@ -1,6 +1,6 @@
 -- What answers a request, by the bytes that are given of the files that it names.
 use Rattle.std.specs.Io.KnownBytes.{Appends}
-use Rattle.std.specs.Prelude.{ℕ, ◌≡◌, ◌⊎◌, Bool, true, false, List, ◌∷◌, Option, Some, Ok, map}
+use Rattle.std.specs.Prelude.{ℕ, ◌≡◌, ◌⊎◌, Bool, true, false, List, ◌∷◌, Option, Some, None, Ok, map}
 use Rattle.hh_summaries.specs.Counters.{sketch_of}
 use Rattle.hh_countmin.specs.Family.{drawn_family}
 use Rattle.hh_countmin.specs.Table.{table_of}
@@ -37,10 +37,22 @@ use Rattle.heavy_requests.specs.declared.request.Invocation.{Invocation}
 use Rattle.heavy_requests.specs.declared.request.RecordWords.{RecordWords}
 use Rattle.heavy_requests.specs.declared.request.Request.{Request}
 use Rattle.heavy_requests.specs.declared.request.Request.TheVariants.{Report, Answer}
-use Rattle.heavy_answers.specs.Columns.{InForm, bytes_in, columns_of}
+use Rattle.heavy_answers.specs.Columns.{InForm, bound_columns, bytes_in, report_columns, value_columns, weight_columns}
 use Rattle.heavy_answers.specs.Inputs.{AreRecords}
 use Rattle.heavy_answers.specs.declared.single_pass.SinglePass.{SinglePass}
 use Rattle.heavy_answers.specs.declared.single_pass.SinglePass.TheVariants as one
+
+-- the names of the columns of the rows that a command prints; a saved file has none
+abbrev pub columns_of : Command → Option (List (List ℕ))
+columns_of (Top n rows workers memory) = Some (report_columns rows)
+columns_of (Summarise k method workers) = None
+columns_of (Table width depth seed workers) = None
+columns_of (Merge first others) = None
+columns_of (Ask name keys decimals) = Some bound_columns
+columns_of (ListKeys name decimals) = Some bound_columns
+columns_of (Describe name) = Some value_columns
+columns_of (Condense name workers) = Some weight_columns
+columns_of (Confirm name share rows workers) = Some (report_columns rows)
 
 -- of the records that the words name this is made
 pub record OfRecords (opens : Bool → List ℕ → Option (List ℕ) → Type 0) (words : RecordWords) (Makes : Layout → Known → Type 0) : Type 0 where

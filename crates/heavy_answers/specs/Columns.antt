@@ -3,8 +3,6 @@ use Rattle.std.specs.Prelude.{ℕ, ◌≡◌, List, [], ◌∷◌, Option, Some,
 use Rattle.hh_output.specs.Outputs.{rows_in}
 use Rattle.hh_output.specs.declared.output.Output.{Output}
 use Rattle.hh_rows.specs.declared.printed.RowOptions.{RowOptions}
-use Rattle.heavy_requests.specs.declared.request.Command.{Command}
-use Rattle.heavy_requests.specs.declared.request.Command.TheVariants.{Top, Summarise, Table, Merge, Ask, List as ListKeys, Describe, Condense, Confirm}
 
 -- the names of columns: of keys and their weights, of a report, of keys and their bounds, and of what is in a saved file
 abbrev pub weight_columns : List (List ℕ)
@@ -18,18 +16,6 @@ bound_columns = codes "key" ∷ codes "low" ∷ codes "high" ∷ []
 
 abbrev pub value_columns : List (List ℕ)
 value_columns = codes "name" ∷ codes "value" ∷ []
-
--- the names of the columns of the rows that a command prints; a saved file has none
-abbrev pub columns_of : Command → Option (List (List ℕ))
-columns_of (Top n rows workers memory) = Some (report_columns rows)
-columns_of (Summarise k method workers) = None
-columns_of (Table width depth seed workers) = None
-columns_of (Merge first others) = None
-columns_of (Ask name keys decimals) = Some bound_columns
-columns_of (ListKeys name decimals) = Some bound_columns
-columns_of (Describe name) = Some value_columns
-columns_of (Condense name workers) = Some weight_columns
-columns_of (Confirm name share rows workers) = Some (report_columns rows)
 
 -- rows of columns with these names in the form that is asked for, or a saved file as it is
 abbrev pub bytes_in : Output → Option (List (List ℕ)) → List ℕ → List ℕ

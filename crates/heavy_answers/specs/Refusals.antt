@@ -36,8 +36,8 @@ use Rattle.heavy_requests.specs.declared.request.Invocation.{Invocation}
 use Rattle.heavy_requests.specs.declared.request.RecordWords.{RecordWords}
 use Rattle.heavy_requests.specs.declared.request.Request.{Request}
 use Rattle.heavy_requests.specs.declared.request.Request.TheVariants.{Report, Answer}
-use Rattle.heavy_answers.specs.Answers.{AnswersCommand, ByPlan, OfRecords}
-use Rattle.heavy_answers.specs.Columns.{InForm, bytes_in, columns_of}
+use Rattle.heavy_answers.specs.Answers.{AnswersCommand, ByPlan, OfRecords, columns_of}
+use Rattle.heavy_answers.specs.Columns.{InForm, bytes_in}
 use Rattle.heavy_answers.specs.Inputs.{AreRecords, standard_name}
 use Rattle.heavy_answers.specs.declared.single_pass.SinglePass.{SinglePass}
 use Rattle.heavy_answers.specs.declared.single_pass.SinglePass.TheVariants as one

@@ -1,16 +1,16 @@
 //! The calls of the libraries that answer a request.
 
-ghost use Rattle.std.specs.Prelude.{◌≡◌, ◌⊎◌, ◌∷◌, ℕ, map, None, Some, false, true, IfErr, IfOk, OnOk};
+ghost use Rattle.std.specs.Prelude.{◌≡◌, ◌⊎◌, ◌∷◌, ℕ, map, option_map, None, Some, false, true, IfErr, IfOk, OnOk};
 ghost use Rattle.hh_commands.specs.Files.{Refuses};
 ghost use Rattle.hh_commands.specs.Merge.{merged_files};
 ghost use Rattle.heavy_answers.specs.Answers.{AnswersCommand, IsAnswered, MakesMerge, OfRecords};
-ghost use Rattle.heavy_answers.specs.Answers.{PrintsReport};
+ghost use Rattle.heavy_answers.specs.Answers.{PrintsReport, columns_of};
 ghost use Rattle.heavy_answers.specs.Refusals.{CommandFails, FilesFail, IsRefused, ReportFails};
 ghost use Rattle.heavy_answers.specs.Refusals.{TopFails, kept_fault};
 ghost use Rattle.hh_files.specs.TopFiles.{PrintsTop};
 ghost use Rattle.hh_output.specs.Outputs.{plain_output};
 
-use crate::columns::{bytes_in, is_plain, report_columns};
+use crate::columns::{BOUNDS, Names, VALUES, WEIGHTS, bytes_in, is_plain, report_columns};
 use crate::host::Host;
 use crate::kept::Kept;
 use crate::opening::{into_kept, open, open_records};
@@ -100,6 +100,20 @@ fn top<T: Threads + Wait + Sync, H: Host>(
     )?;
     files.note_last_record(host);
     Ok(bytes)
+}
+
+/// Gives the names of the columns of the rows that `command` prints. A saved file has none.
+fn columns_of(command: &Command) -> Option<Names>
+    ensures { option_map (λ names. map (λ name. name.now) names.now) result
+        ≡ columns_of command.now }
+{
+    match command {
+        Command::Summarise { .. } | Command::Table { .. } | Command::Merge { .. } => None,
+        Command::Ask { .. } | Command::List { .. } => Some(BOUNDS),
+        Command::Describe { .. } => Some(VALUES),
+        Command::Condense { .. } => Some(WEIGHTS),
+        Command::Top { rows, .. } | Command::Confirm { rows, .. } => Some(report_columns(rows)),
+    }
 }
 
 /// Makes the whole output of `command`, over the records that `words` name if it reads any. It
@@ -283,7 +297,7 @@ pub fn answer<T: Threads + Wait + Sync, H: Host, S: Sink>(
         }
         Request::Answer(command) => {
             let bytes = bytes_of(threads, host, command, &asked.records, compared)?;
-            let bytes = bytes_in(host.alloc(), &asked.output, command, bytes)?;
+            let bytes = bytes_in(host.alloc(), &asked.output, columns_of(command), bytes)?;
             put(sink, &bytes)?;
             Ok(())
         }
