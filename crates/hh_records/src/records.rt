@@ -93,6 +93,7 @@ fn parts_of(row: &ByteRecord) -> Option<(&[u8], Option<&[u8]>)>
 
 /// Gives the weight that a record adds to its key after this `total`, which is 0 only where that is
 /// allowed, or the first test that the record fails.
+#[inline(always)]
 fn weight_added(
     key: &[u8],
     field: Option<&[u8]>,
@@ -128,6 +129,7 @@ fn weight_added(
 }
 
 /// Hands on an item of `key`, or nothing where its `weight` is 0.
+#[inline(always)]
 fn take_weight<T: TakeItems>(
     alloc: Global,
     taker: &mut T,
@@ -154,6 +156,7 @@ fn take_weight<T: TakeItems>(
 
 /// Hands on what a record adds that fails a test of this `cause`: where bad records count as a key,
 /// an item of it, of weight 1, and then counts one more `bad` record.
+#[cold]
 fn take_bad<T: TakeItems>(
     alloc: Global,
     taker: &mut T,
@@ -187,6 +190,7 @@ fn take_bad<T: TakeItems>(
 
 /// Hands on what a record of this key and weight's field adds, or one that hasn't the fields for
 /// them. It counts one more `bad` record where it counts as an item of another key.
+#[inline(always)]
 pub fn take_parts<T: TakeItems>(
     alloc: Global,
     taker: &mut T,
