@@ -42,7 +42,7 @@ pub(crate) fn bytes_in(
     bytes: Vec<u8>,
 ) -> Result<Vec<u8>, AllocError>
     ensures { IfOk result (λ all. all.items ≡ bytes_in output.now
-        (option_map (λ names. map (λ name. name.now) names.now) names) bytes.items) }
+        (option_map (λ names. map (λ name. name.now) names.now) names.entry) bytes.items) }
 {
     match names {
         Some(names) => converted(alloc, output, names, bytes),
