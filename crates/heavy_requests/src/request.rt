@@ -103,9 +103,9 @@ impl Request {
         }
     }
 
-    /// Gives the most passes in which workers read the files of records, by the command line alone:
-    /// 0 if they read none. A report needs two, or one if its keys are few; so do the greatest keys,
-    /// which need one more where counters grow.
+    /// Gives the passes in which workers read the files of records, by the command line alone: 0 if
+    /// they read none. A report needs two, or one if its keys are few, and so do the greatest keys.
+    /// Where their counters grow they need a third, which is not counted.
     pub fn passes(&self) -> u64 {
         match self {
             Request::Report { by_plan: true, .. } => 0,

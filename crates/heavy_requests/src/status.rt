@@ -71,8 +71,8 @@ pub fn status_of_usage(rt: &HostRuntime, report: &UsageReport) -> ExitCode {
     }
 }
 
-/// Prints what came of what was asked for, of which `rows` were written, and gives its status. Where
-/// files of records are not what they were before, the first one has the fault.
+/// Prints what came of what was asked for, of which `rows` were written, and gives its status.
+/// Where files of records are not what they were before, the first one has the fault.
 pub fn status_of(
     inputs: Inputs<'_>,
     asked: &Invocation,

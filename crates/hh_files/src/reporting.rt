@@ -140,7 +140,8 @@ fn reported_of_files<T: Threads + Wait + Sync, S: ReadAt + Sync>(
         (sources_known S.bytes records.entry) ((xs : List Entry) × (keys.0 ≡ total_of xs) ×
         ReportsKeys options.now (sources_known S.bytes records.entry) xs keys.1.items)) }
     ensures still { OnOk result (All S.still records.entry.sources.now) }
-    ensures refused { IfErr result (StartRefused options.now (sources_known S.bytes records.entry)) }
+    ensures refused { IfErr result
+        (StartRefused options.now (sources_known S.bytes records.entry)) }
     ensures bad_option { IfSome (bad_option options.now) (λ fault. result ≡ Err fault) }
 {
     match prepare(alloc, options, records.layout.hash) {

@@ -113,8 +113,9 @@ pub fn summarise_files<T: Threads + Wait + Sync, S: ReadAt + Sync>(
 ) -> Result<Vec<u8>, ToolError>
     ensures saved { IfOk result (λ bytes. SavesSummary k (sources_known S.bytes records.entry)
         bytes.items) }
-    ensures one_worker { workers ≡ 1 → IfOk result (λ bytes. SavesStream (λ xs. Counters (sketch_of
-        k xs)) (sources_known S.bytes records.entry) bytes.items) }
+    ensures one_worker { workers ≡ 1 → IfOk result (λ bytes.
+        SavesStream (λ xs. Counters (sketch_of k xs)) (sources_known S.bytes records.entry)
+        bytes.items) }
     ensures still { OnOk result (All S.still records.entry.sources.now) }
     ensures refused { IfErr result (RefusedAfter (bad_summary_of_files k workers)
         (sources_known S.bytes records.entry)) }

@@ -170,7 +170,8 @@ pub fn top_files<T: Threads + Wait + Sync, S: ReadAt + Sync>(
     ensures rows { IfOk result (λ text. PrintsTop rows.now n (sources_known S.bytes records.entry)
         text.items) }
     ensures still { OnOk result (All S.still records.entry.sources.now) }
-    ensures refused { IfErr result (TopFilesRefused n workers (sources_known S.bytes records.entry)) }
+    ensures refused { IfErr result
+        (TopFilesRefused n workers (sources_known S.bytes records.entry)) }
 {
     if !in_range(workers, MAX_WORKERS) {
         return Err(ToolError::BadWorkers);

@@ -94,8 +94,8 @@ impl Layout {
         }
     }
 
-    /// Notes that a piece of the records had this `count` of bad ones, where the `last` one that was
-    /// noted of it is this.
+    /// Notes that a piece of the records had this `count` of bad ones, in place of the `last` count
+    /// that was noted of it.
     pub fn replace_bad_count(&self, last: u64, count: u64) {
         if let Some(bad_as) = &self.bad_as {
             bad_as

@@ -48,8 +48,8 @@ impl Room {
         }
     }
 
-    /// Room for a tally in `memory` bytes, a few more or less: for a key in 128 of them, and up to a
-    /// quarter of them for the bytes of the keys. It is no smaller than
+    /// Room for a tally in `memory` bytes, a few more or less: for a key in 128 of them, and up to
+    /// a quarter of them for the bytes of the keys. It is no smaller than
     /// [`for_counters`](Room::for_counters) makes it for the most counters of a summary.
     pub fn for_memory(memory: u64) -> Room
         ensures room { result ≡ room_in memory }
