@@ -70,22 +70,22 @@ module _ (d : ℕ) where
   abbrev pub Reaches : State → ℕ → List ℕ → State → ℕ → Type 0
   Reaches s n xs t m = (ys : List ℕ) → clipped (delimited d) s n (xs ++ ys) ≡ xs ++ clipped (delimited d) t m ys
 
-  reaches-then : (s t u : State) (n m k : ℕ) (xs ys : List ℕ) → Reaches s n xs t m → Reaches t m ys u k → Reaches s n (xs ++ ys) u k
+  pub reaches-then : (s t u : State) (n m k : ℕ) (xs ys : List ℕ) → Reaches s n xs t m → Reaches t m ys u k → Reaches s n (xs ++ ys) u k
   reaches-then s t u n m k xs ys h i zs =
       rw (append_assoc xs ys zs, append_assoc xs ys (clipped (delimited d) u k zs))
       (h (ys ++ zs) ∙ ap (λ (l : List ℕ). xs ++ l) (i zs))
 
-  reaches-byte : (s : State) (n c : ℕ) → n < most_field
+  pub reaches-byte : (s : State) (n c : ℕ) → n < most_field
       → Reaches s n (c ∷ []) (step (delimited d) s c).0 (size_after (step (delimited d) s c).1 n)
   unfolding clipped
   reaches-byte s n c h ys = rw (kept-low d s n c (lt-ltb n most_field h)) refl
 
-  reaches-more : (s t u : State) (n m k c : ℕ) (xs : List ℕ) → Reaches s n (c ∷ []) t m → Reaches t m xs u k
+  pub reaches-more : (s t u : State) (n m k c : ℕ) (xs : List ℕ) → Reaches s n (c ∷ []) t m → Reaches t m xs u k
       → Reaches s n (c ∷ xs) u k
   reaches-more s t u n m k c xs h i = reaches-then s t u n m k (c ∷ []) xs h i
 
   -- a byte whose step is known
-  reaches-step : (s t : State) (a : Action) (n m c : ℕ) → n < most_field → step (delimited d) s c ≡ (t, a) → size_after a n ≡ m
+  pub reaches-step : (s t : State) (a : Action) (n m c : ℕ) → n < most_field → step (delimited d) s c ≡ (t, a) → size_after a n ≡ m
       → Reaches s n (c ∷ []) t m
   reaches-step s t a n m c h e size = rw (e, size) at (reaches-byte s n c h)
 
@@ -100,7 +100,7 @@ module _ (d : ℕ) where
       reaches-more st.InQuoted st.InQuoted st.InQuoted n (n + 1) (n + length (c ∷ xs)) c xs step (rw next at more)
 
   -- bytes of a field outside quotes
-  joins-step : (s : State) (c : ℕ) → IsOpen s → (c == 34) ≡ false → (c == d) ≡ false → ((c == 13) || (c == 10)) ≡ false
+  pub joins-step : (s : State) (c : ℕ) → IsOpen s → (c == 34) ≡ false → (c == d) ≡ false → ((c == 13) || (c == 10)) ≡ false
       → step (delimited d) s c ≡ (st.InField, act.Copy)
   joins-step st.StartRecord c h q e f = rw (f, q, e) refl
   joins-step st.StartField c h q e f = rw (q, e, f) refl
@@ -132,7 +132,7 @@ module _ (d : ℕ) where
       reaches-more s st.InField st.InField n (n + 1) (n + length (c ∷ b ∷ xs)) c (b ∷ xs) step (rw next at more)
 
   -- any bytes outside quotes
-  abbrev OpenRun : State → ℕ → List ℕ → Type 0
+  abbrev pub OpenRun : State → ℕ → List ℕ → Type 0
   OpenRun s n xs = (t : State) × (m : ℕ) × IsOpen t × Fits m t × (m ≤ n + length xs) × Reaches s n xs t m
 
   open-run : (xs : List ℕ) (s : State) (n : ℕ) → IsOpen s → Fits n s → IsQuoteless xs → n + length xs ≤ most_field → OpenRun s n xs
@@ -151,7 +151,7 @@ module _ (d : ℕ) where
       )
 
   -- a byte that ends a field or a record
-  delimiter-reaches : (s : State) (n c : ℕ) → IsOpen s → (c == 34) ≡ false → ((c == 13) || (c == 10)) ≡ false → (c == d) ≡ true
+  pub delimiter-reaches : (s : State) (n c : ℕ) → IsOpen s → (c == 34) ≡ false → ((c == 13) || (c == 10)) ≡ false → (c == d) ≡ true
       → n < most_field → Reaches s n (c ∷ []) st.StartField 0
   delimiter-reaches s n c h q f e low = reaches-step s st.StartField act.EndField n 0 c low (by s h) refl
     where
@@ -172,7 +172,7 @@ module _ (d : ℕ) where
       by st.InEscape h = absurd h
       by st.InComment h = absurd h
 
-  line-reaches : (s : State) (n c : ℕ) → IsOpen s → Fits n s → (c == 34) ≡ false → ((c == 13) || (c == 10)) ≡ true → (c == d) ≡ false
+  pub line-reaches : (s : State) (n c : ℕ) → IsOpen s → Fits n s → (c == 34) ≡ false → ((c == 13) || (c == 10)) ≡ true → (c == d) ≡ false
       → n < most_field → Reaches s n (c ∷ []) st.StartRecord 0
   line-reaches s n c h fits q f e low = by s h fits
     where
@@ -242,7 +242,7 @@ quoteless-parts : (ys zs : List ℕ) → IsQuoteless (ys ++ zs) → IsQuoteless 
 quoteless-parts [] zs h = (tt, h)
 quoteless-parts (y ∷ ys) zs h = let more = quoteless-parts ys zs h.1 in ((h.0, more.0), more.1)
 
-no-line : (d : ℕ) → separates d ≡ true → ((d == 13) || (d == 10)) ≡ false
+pub no-line : (d : ℕ) → separates d ≡ true → ((d == 13) || (d == 10)) ≡ false
 no-line d e = by (d == 34) (d == 13) (d == 10) e
   where
     by : (a b c : Bool) → (not a && not b && not c && nat_lt d 128) ≡ true → (b || c) ≡ false

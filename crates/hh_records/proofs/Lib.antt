@@ -1,5 +1,6 @@
 mod BufferFacts
 pub mod ByteFacts
+mod ClipEnds
 pub mod ClipFacts
 pub mod ClipLayouts
 pub mod ClipPlaces

@@ -1,5 +1,5 @@
 -- The bytes of a text whose long fields are cut short.
-use Rattle.std.specs.Prelude.{◌≡◌, ◌==◌, ◌&&◌, ◌||◌, ◌+◌, ◌<◌, ◌≤◌, ◌⊎◌, nat_lt, min, not, drop, ℕ, Bool, Option, Some, None, true, false, List, [], ◌∷◌, ◌++◌, length, ⊤, if◌then◌else◌}
+use Rattle.std.specs.Prelude.{◌≡◌, ◌==◌, ◌&&◌, ◌||◌, ◌+◌, ◌<◌, ◌≤◌, ◌⊎◌, nat_lt, min, not, drop, get_or, ℕ, Bool, Option, Some, None, true, false, List, [], ◌∷◌, ◌++◌, length, ⊤, if◌then◌else◌}
 use Rattle.csv.specs.Machine.{is_end, step}
 use Rattle.csv.specs.Reading.{is_bom}
 use Rattle.csv.specs.declared.parser.Action.{Action}
@@ -213,6 +213,13 @@ IsOpen st.InComment = ⊥
 -- whether a byte ends a field or a record, with this one between fields
 abbrev pub ends_at : ℕ → ℕ → Bool
 ends_at d c = (c == d) || (c == 13) || (c == 10)
+
+-- at this place stands a byte that joins a field, then a quote, and then a byte that ends a field or a record: they
+-- end it in quotes and outside of them
+abbrev pub EndsBehind : ℕ → List ℕ → ℕ → Type 0
+EndsBehind d xs at =
+    (at + 2 < length xs) × (ends_at d (get_or xs at 0) ≡ false) × ((get_or xs at 0 == 34) ≡ false)
+    × (get_or xs (at + 1) 0 ≡ 34) × (ends_at d (get_or xs (at + 2) 0) ≡ true)
 
 -- two fields are one, or both too long for a key
 abbrev pub AlikeField : List ℕ → List ℕ → Type 0

@@ -2,19 +2,23 @@
 //! it is. What a layout makes of a record doesn't depend on what is left out.
 
 ghost use Rattle.std.specs.Bool.{OnTrue};
-ghost use Rattle.std.specs.Prelude.{◌≡◌, ◌++◌, ◌∷◌, ◌+◌, ◌-◌, ◌<◌, ◌≤◌, [], get_or, List, ℕ, true, false, length, take, drop, option_map};
+ghost use Rattle.std.specs.Prelude.{◌≡◌, ◌++◌, ◌∷◌, ◌+◌, ◌-◌, ◌<◌, ◌≤◌, [], get_or, List, ℕ, true, false, length, take, drop, option_map, IfSome};
 ghost use Rattle.csv.specs.Machine.{in_field, is_end, start_field, step};
-ghost use Rattle.hh_records.specs.Clips.{GoesPast, IsOpen, IsQuoteless, JoinsField, Tracks, ends_at, may_be_cut};
+ghost use Rattle.hh_records.specs.Clips.{EndsBehind, GoesPast, IsOpen, IsQuoteless, JoinsField, Tracks};
+ghost use Rattle.hh_records.specs.Clips.{ends_at, may_be_cut};
 ghost use Rattle.hh_records.specs.Clips.{action_of, clipped_for, in_record, is_quoted, kept_by, left_at, rest_at, separates, settled, shown, size_after, state_of};
 ghost use Rattle.hh_records.specs.Layouts.{delimited};
 
 use crate::layout::Layout;
-use memchr::memchr;
+use memchr::{memchr, memrchr};
 use std::io;
 use std::io::{Error, ErrorKind, Read};
 
 // The most bytes that are kept of a field: more than a key has, and than the digits of a weight.
 const MOST_FIELD: usize = 16_384;
+
+// The most quotes that are looked at from the end of some bytes, before all are followed from the first.
+const MOST_QUOTES: u64 = 64;
 
 // Each call ends, and so there is a most of reads whose bytes are all left out.
 const MOST_READS: u64 = u64::MAX;
@@ -187,6 +191,13 @@ fn put(buf: &mut [u8], at: usize, byte: Option<u8>) -> usize
     }
 }
 
+/// Whether `byte` ends a field or a record outside quotes.
+fn ends_at(delimiter: u8, byte: u8) -> bool
+    ensures { result ≡ ends_at delimiter byte }
+{
+    byte == delimiter || byte == b'\r' || byte == b'\n'
+}
+
 /// Gives the place after the last byte that ends a field or a record, or 0.
 fn after_separator(delimiter: u8, bytes: &[u8]) -> usize
     ensures within { result ≤ length bytes.now }
@@ -195,13 +206,41 @@ fn after_separator(delimiter: u8, bytes: &[u8]) -> usize
 {
     let mut end = bytes.len();
     while end > 0 {
-        let byte = bytes[end - 1];
-        if byte == delimiter || byte == b'\r' || byte == b'\n' {
+        if ends_at(delimiter, bytes[end - 1]) {
             return end;
         }
         end -= 1;
     }
     0
+}
+
+/// Whether the byte at `at` joins a field, and a quote and a byte that ends the field come next:
+/// these end it in quotes and outside of them.
+fn ends_behind(delimiter: u8, bytes: &[u8], at: usize) -> bool
+    requires within { at < length bytes.now }
+    ensures { OnTrue result (EndsBehind delimiter bytes.now at) }
+{
+    bytes.len() - at > 2
+        && !ends_at(delimiter, bytes[at])
+        && bytes[at] != b'"'
+        && bytes[at + 1] == b'"'
+        && ends_at(delimiter, bytes[at + 2])
+}
+
+/// Gives the last place behind which a field ends in quotes and outside of them, of those before
+/// the last quotes.
+fn last_end(delimiter: u8, bytes: &[u8]) -> Option<usize>
+    ensures { IfSome result (EndsBehind delimiter bytes.now) }
+{
+    let mut end = bytes.len();
+    for _ in 0..MOST_QUOTES {
+        let quote = memrchr(b'"', &bytes[..end])?;
+        if quote > 0 && ends_behind(delimiter, bytes, quote - 1) {
+            return Some(quote - 1);
+        }
+        end = quote;
+    }
+    None
 }
 
 /// Gives how many bytes come before the first quote.
@@ -390,6 +429,43 @@ impl Place {
         (place, run)
     }
 
+    /// The place after the last field that ends in quotes and outside of them, and how many bytes
+    /// that are: what came before it doesn't matter.
+    fn past_fields(self, bytes: &[u8]) -> (Place, usize)
+        requires tracks { Tracks self (length bytes.now) }
+        ensures within { result.1 ≤ length bytes.now }
+        ensures past { GoesPast self (take result.1 bytes.now) result.0 }
+        ensures tracks { Tracks result.0 (length bytes.now - result.1) }
+        ensures delimiter { result.0.delimiter ≡ self.delimiter }
+    {
+        match last_end(self.delimiter, bytes) {
+            None => (self, 0),
+            Some(at) => {
+                if bytes[at + 2] == self.delimiter {
+                    (self.at(Spot::Field, 0), at + 3)
+                } else {
+                    (self.at(Spot::Record, 0), at + 3)
+                }
+            }
+        }
+    }
+
+    /// The place after bytes with quotes that are all kept.
+    fn past_quoted(self, bytes: &[u8]) -> Place
+        requires tracks { Tracks self (length bytes.now) }
+        ensures past { GoesPast self bytes.now result }
+        ensures tracks { Tracks result 0 }
+        ensures delimiter { result.delimiter ≡ self.delimiter }
+    {
+        let (mut place, mut at) = self.past_fields(bytes);
+        while at < bytes.len() {
+            let (next, size) = place.past_run(&bytes[at..]);
+            place = next;
+            at += size;
+        }
+        place
+    }
+
     /// The place after bytes that are all kept.
     fn past_all(self, bytes: &[u8]) -> Place
         requires tracks { Tracks self (length bytes.now) }
@@ -397,14 +473,11 @@ impl Place {
         ensures tracks { Tracks result 0 }
         ensures delimiter { result.delimiter ≡ self.delimiter }
     {
-        let mut place = self;
-        let mut at = 0;
-        while at < bytes.len() {
-            let (next, size) = place.past_run(&bytes[at..]);
-            place = next;
-            at += size;
+        if quote_in(bytes) < bytes.len() {
+            self.past_quoted(bytes)
+        } else {
+            self.past_unquoted(bytes)
         }
-        place
     }
 
     /// Whether all of the next `count` bytes are kept, whatever they are.

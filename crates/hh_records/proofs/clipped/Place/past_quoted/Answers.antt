@@ -1,7 +1,22 @@
-use Rattle.std.proofs.Common.{◌≡◌, ◌+◌, ◌-◌, ◌∙◌, arith, length, take, drop}
+use Rattle.std.proofs.Common.{◌≡◌, ◌+◌, ◌-◌, ◌++◌, ◌∙◌, List, ℕ, ap, append_assoc, arith, length, sym, take, take-append-drop, drop}
 use Rattle.std.proofs.lemmas.List.{length-drop, length-take, take_all}
+use Rattle.hh_records.specs.Clips.{rest_at}
 use Rattle.hh_records.proofs.ClipRuns.{run-more, tracks-less}
-use Rattle.hh_records.proofs.clipped.Place.past_all.Goals as goal
+use Rattle.hh_records.proofs.clipped.Place.past_quoted.Goals as goal
+
+pub loop-at-init : goal.loop-at-init
+loop-at-init c =
+    let e = c.past_fields-at.ensures in
+    let self = c.args.self in
+    let bytes = c.args.bytes.now in
+    let size = c.past_fields-at.result.1 in (
+      e.within,
+      e.tracks,
+      e.delimiter,
+      λ xs. ap (λ (l : List ℕ). rest_at self (l ++ xs)) (sym (take-append-drop size bytes))
+          ∙ ap (λ (l : List ℕ). rest_at self l) (append_assoc (take size bytes) (drop size bytes) xs)
+          ∙ e.past (drop size bytes ++ xs),
+    )
 
 pub loop-at-preserved : goal.loop-at-preserved
 loop-at-preserved c =
