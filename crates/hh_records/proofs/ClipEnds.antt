@@ -76,17 +76,16 @@ module _ (d : ℕ) (apart : separates d ≡ true) where
 
   module _ (n x : ℕ) (room : n + 2 ≤ most_field) (joins : ends_at d x ≡ false) (plain : (x == 34) ≡ false) where
     in-quotes : OpenRun d st.InQuoted n (x ∷ 34 ∷ [])
-    in-quotes =
-        (
-          st.AfterQuote,
-          n + 1,
-          tt,
-          tt,
-          omega arith,
-          reaches-more d st.InQuoted st.InQuoted st.AfterQuote n (n + 1) (n + 1) x (34 ∷ [])
-              (reaches-step d st.InQuoted st.InQuoted act.Copy n (n + 1) x (omega (arith, room)) (rw plain refl) (omega (arith, room)))
-              (reaches-step d st.InQuoted st.AfterQuote act.Skip (n + 1) (n + 1) 34 (omega (arith, room)) refl refl),
-        )
+    in-quotes = (
+      st.AfterQuote,
+      n + 1,
+      tt,
+      tt,
+      omega arith,
+      reaches-more d st.InQuoted st.InQuoted st.AfterQuote n (n + 1) (n + 1) x (34 ∷ [])
+          (reaches-step d st.InQuoted st.InQuoted act.Copy n (n + 1) x (omega (arith, room)) (rw plain refl) (omega (arith, room)))
+          (reaches-step d st.InQuoted st.AfterQuote act.Skip (n + 1) (n + 1) 34 (omega (arith, room)) refl refl),
+    )
 
     outside : (s : State) → IsOpen s → OpenRun d s n (x ∷ 34 ∷ [])
     outside s h =
