@@ -19,7 +19,7 @@ use heavy_host::{ReadFailure, read_file, read_files};
 use heavy_requests::{Command, Invocation, RecordWords, Request};
 use hh_commands::{Comparison, Method, ask_rows, describe_file, list_rows, merge_bytes};
 use hh_faults::ToolError;
-use hh_files::{report_files, top_files};
+use hh_files::{TopOptions, report_files, top_files};
 use hh_output::{Output, converted};
 use hh_reports::{check_options, report_rows};
 use hh_rows::{ReportOptions, RowOptions, Sink, put};
@@ -88,16 +88,12 @@ fn top<T: Threads + Wait + Sync, H: Host>(
         return Err(ToolError::BadWorkers);
     }
     let files = into_kept(host, opened)?;
-    let most = memory.saturating_mul(MEGABYTE);
-    let bytes = top_files(
-        threads,
-        host.alloc(),
+    let options = TopOptions {
         n,
-        rows,
         workers,
-        most,
-        files.records(),
-    )?;
+        memory: memory.saturating_mul(MEGABYTE),
+    };
+    let bytes = top_files(threads, host.alloc(), &options, rows, files.records())?;
     files.note_last_record(host);
     Ok(bytes)
 }

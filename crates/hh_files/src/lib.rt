@@ -17,4 +17,4 @@ pub use confirming::confirm_files;
 pub use reporting::report_files;
 pub use summarising::summarise_files;
 pub use tabulating::table_files;
-pub use topping::top_files;
+pub use topping::{TopOptions, top_files};

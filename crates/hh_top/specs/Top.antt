@@ -30,6 +30,11 @@ pub record IsTop (xs : List Entry) (n : ℕ) (es : List Entry) : Type 0 where
   pub few : length es ≤ n
   pub all : length es < n → (x : Bytes) → 0 < weight_of x xs → Contains es (x, weight_of x xs)
 
+-- what a contract sees of a shortlist: how many of the greatest keys are looked for, and the tally that tells of them
+pub record ShortlistView : Type 0 where
+  pub n : ℕ
+  pub tally : TallyView
+
 -- the n-th greatest counter of a tally, and 0 where it has fewer
 abbrev pub nth_counter : ℕ → TallyView → ℕ
 nth_counter n t = level t.counters (n - 1)

@@ -9,7 +9,7 @@ ghost use Rattle.hh_summaries.specs.Report.{by_rank};
 ghost use Rattle.hh_counters.specs.Counting.{count_of};
 ghost use Rattle.hh_tally.specs.Tallies.{AreBounds};
 ghost use Rattle.hh_top.specs.Top.{GreatestRefused, IsTopFault, choice_of, chosen_of, floor_of};
-ghost use Rattle.hh_top.specs.Top.{most_uncounted, nth_counter, rows_over, stand_out, top};
+ghost use Rattle.hh_top.specs.Top.{rows_over, stand_out, top};
 ghost use Rattle.hh_faults.specs.declared.error.ToolError.TheVariants.{Memory};
 
 use hh_counters::{Counts, Heavy, MAX_K, Summary};
@@ -17,57 +17,134 @@ use hh_faults::ToolError;
 use hh_stream::{Key, TakeItems};
 use hh_tally::Tally;
 use std::alloc::{AllocError, Global};
+use std::marker::Model;
 
-/// The n-th greatest counter of a tally, and 0 where it has fewer.
-fn nth_counter(alloc: Global, tally: &Tally, n: u64) -> Result<u64, AllocError>
-    ensures { IfOk result (λ counter. counter ≡ nth_counter n tally.now) }
-{
-    tally.level(alloc, n.saturating_sub(1) as usize)
+/// A tally, with what its counters tell of the `n` greatest keys: which keys can be among them.
+///
+/// A contract sees `n` and the tally.
+#[derive(Debug, Drop)]
+pub struct Shortlist {
+    n: u64,
+    tally: Tally,
+    // The n-th greatest counter, and 0 where there are fewer.
+    counter: u64,
+    // The most that a key can weigh that isn't counted, where `MAX_K` keys are.
+    most: u64,
 }
 
-/// The most that a key can weigh that isn't counted, where [`MAX_K`] keys are.
-fn most_uncounted(alloc: Global, tally: &Tally) -> Result<u64, AllocError>
-    requires share { 2 * (max_k + 1) ≤ tally.now.room.few }
-    ensures { IfOk result (λ most. most ≡ most_uncounted tally.now) }
-{
-    // It bounds what was lost and the counters.
-    let _total = tally.total();
-    let counter = tally.level(alloc, MAX_K as usize)?;
-    Ok(tally.lost() + counter)
+impl Model for Shortlist {
+    ghost use Rattle.std.specs.Prelude.{◌≡◌, ◌+◌, ◌*◌, ◌≤◌};
+    ghost use Rattle.hh_summaries.specs.Counters.{max_k};
+    ghost use Rattle.hh_top.specs.Top.{ShortlistView, most_uncounted, nth_counter};
+
+    ghost Value = { ShortlistView };
+
+    ghost view = { λ list. record { n = list.n; tally = list.tally } };
+
+    ghost invariant = { λ list. (2 * (max_k + 1) ≤ list.tally.room.few)
+        × (list.counter ≡ nth_counter list.n list.tally)
+        × (list.most ≡ most_uncounted list.tally) };
 }
 
-/// Whether the `n` greatest keys are among those that [`choice_of`] gives to be counted, whatever
-/// these then weigh: `n` counters are above what any other key can weigh.
-pub fn stand_out(alloc: Global, tally: &Tally, n: u64) -> Result<bool, AllocError>
-    requires share { 2 * (max_k + 1) ≤ tally.now.room.few }
-    ensures { IfOk result (λ out. out ≡ stand_out n tally.now) }
-{
-    let most = most_uncounted(alloc, tally)?;
-    let counter = nth_counter(alloc, tally, n)?;
-    Ok(counter > most)
-}
+impl Shortlist {
+    /// Looks through the counters of a tally for the `n` greatest keys. The tally has room for the
+    /// most counters of a summary.
+    pub fn of(alloc: Global, tally: Tally, n: u64) -> Result<Shortlist, AllocError>
+        requires share { 2 * (max_k + 1) ≤ tally.room.few }
+        ensures { IfOk result (λ list. list ≡ record { n = n; tally = tally }) }
+    {
+        // They bound what was lost and the counters.
+        let _total = tally.total();
+        let counter = tally.level(alloc, n.saturating_sub(1) as usize)?;
+        let other = tally.level(alloc, MAX_K as usize)?;
+        let most = tally.lost() + other;
+        Ok(Shortlist {
+            n,
+            tally,
+            counter,
+            most,
+        })
+    }
 
-/// A weight that the `n` greatest keys exceed, as far as counters tell: what a key can weigh that
-/// isn't counted, or one less than the n-th greatest counter.
-fn floor_of(alloc: Global, tally: &Tally, n: u64) -> Result<u64, AllocError>
-    requires share { 2 * (max_k + 1) ≤ tally.now.room.few }
-    ensures { IfOk result (λ floor. floor ≡ floor_of n tally.now) }
-{
-    let most = most_uncounted(alloc, tally)?;
-    let counter = nth_counter(alloc, tally, n)?;
-    Ok(most.max(counter.saturating_sub(1)))
-}
+    /// The tally.
+    pub fn tally(&self) -> &Tally
+        ensures tally { result.now ≡ self.now.tally }
+        ensures share { 2 * (max_k + 1) ≤ self.now.tally.room.few }
+    {
+        &self.tally
+    }
 
-/// A summary whose keys are to be counted for the `n` greatest: those of the tally that can weigh
-/// more than what a key without a counter can, and no less than the n-th greatest counter. They are
-/// at most [`MAX_K`].
-pub fn choice_of(alloc: Global, tally: &Tally, n: u64) -> Result<Summary, AllocError>
-    requires share { 2 * (max_k + 1) ≤ tally.now.room.few }
-    ensures { IfOk result (λ choice. choice ≡ choice_of n tally.now) }
-{
-    let floor = floor_of(alloc, tally, n)?;
-    let entries = tally.above(alloc, floor.saturating_sub(tally.lost()))?;
-    Ok(Summary::from_entries(MAX_K, tally.total(), entries))
+    /// Whether the `n` greatest keys are among those that [`choice`](Shortlist::choice) gives to be
+    /// counted, whatever these then weigh: `n` counters are above what any other key can weigh.
+    pub fn stands_out(&self) -> bool
+        ensures { result ≡ stand_out self.now.n self.now.tally }
+    {
+        self.counter > self.most
+    }
+
+    /// A weight that the `n` greatest keys exceed, as far as counters tell: what a key can weigh
+    /// that isn't counted, or one less than the n-th greatest counter.
+    fn floor(&self) -> u64
+        ensures { result ≡ floor_of self.now.n self.now.tally }
+    {
+        self.most.max(self.counter.saturating_sub(1))
+    }
+
+    /// A summary whose keys are to be counted for the `n` greatest: those of the tally that can
+    /// weigh more than what a key without a counter can, and no less than the n-th greatest
+    /// counter. They are at most [`MAX_K`].
+    pub fn choice(&self, alloc: Global) -> Result<Summary, AllocError>
+        ensures { IfOk result (λ choice. choice ≡ choice_of self.now.n self.now.tally) }
+    {
+        let floor = self.floor();
+        let entries = self
+            .tally
+            .above(alloc, floor.saturating_sub(self.tally.lost()))?;
+        Ok(Summary::from_entries(MAX_K, self.tally.total(), entries))
+    }
+
+    /// The `n` greatest keys of the items that the tally is of, where the keys of
+    /// [`choice`](Shortlist::choice) were counted in the same items.
+    ///
+    /// They are certain where `n` keys weigh more than what a key can that wasn't counted, or where
+    /// no such key weighs anything. Else the refusal has how many keys weigh more than that, and
+    /// that weight. Where the list [`stands_out`](Shortlist::stands_out) they are never refused.
+    pub fn greatest(&self, alloc: Global, counts: &Counts) -> Result<Vec<Heavy>, ToolError>
+        requires keys { counts.now.keys ≡ keys_of (chosen_of self.now.n self.now.tally) }
+        ensures rows { IfOk result (λ rows. (xs : List Entry) → AreBounds self.now.tally xs
+            → counts.now ≡ count_of counts.now.keys xs → rows.items ≡ top self.now.n xs) }
+        ensures refused { IfErr result (λ fault. (xs : List Entry) → AreBounds self.now.tally xs
+            → counts.now ≡ count_of counts.now.keys xs
+            → GreatestRefused xs self.now.n max_k fault) }
+        ensures sure { stand_out self.now.n self.now.tally ≡ true
+            → IfErr result (λ fault. (xs : List Entry) → AreBounds self.now.tally xs
+            → counts.now ≡ count_of counts.now.keys xs → fault ≡ Memory) }
+        ensures kind { IfErr result IsTopFault }
+    {
+        let floor = self.floor();
+        // It bounds what was lost.
+        let _lost = self.tally.lost();
+        let rows = rows_over(alloc, counts, floor)?;
+        if floor > 0 && (rows.len() as u64) < self.n {
+            return Err(ToolError::TopUncertain {
+                certain: rows.len() as u64,
+                most: floor,
+            });
+        }
+        Ok(first_of(rows, self.n))
+    }
+
+    /// The `n` greatest keys of the items that the tally is of, where it lost nothing: then its
+    /// counters are the weights, and no key has to be counted.
+    pub fn greatest_counters(&self, alloc: Global) -> Result<Vec<Heavy>, AllocError>
+        ensures { IfOk result (λ rows. (xs : List Entry) → AreBounds self.now.tally xs
+            → self.now.tally.lost ≡ 0 → rows.items ≡ top self.now.n xs) }
+    {
+        let entries = self.tally.above(alloc, self.counter.saturating_sub(1))?;
+        let mut rows = rows_of(alloc, &entries)?;
+        rank(&mut rows);
+        Ok(first_of(rows, self.n))
+    }
 }
 
 /// Sorts rows with distinct keys by falling weight and then by rising key.
@@ -105,42 +182,6 @@ fn first_of(mut rows: Vec<Heavy>, n: u64) -> Vec<Heavy>
     rows
 }
 
-/// The `n` greatest keys of the items that a tally is of, where the keys of [`choice_of`] were
-/// counted in the same items.
-///
-/// They are certain where `n` keys weigh more than what a key can that wasn't counted, or where no
-/// such key weighs anything. Else the refusal has how many keys weigh more than that, and that
-/// weight. Where they [`stand_out`] they are never refused.
-pub fn greatest(
-    alloc: Global,
-    tally: &Tally,
-    counts: &Counts,
-    n: u64,
-) -> Result<Vec<Heavy>, ToolError>
-    requires share { 2 * (max_k + 1) ≤ tally.now.room.few }
-    requires keys { counts.now.keys ≡ keys_of (chosen_of n tally.now) }
-    ensures rows { IfOk result (λ rows. (xs : List Entry) → AreBounds tally.now xs
-        → counts.now ≡ count_of counts.now.keys xs → rows.items ≡ top n xs) }
-    ensures refused { IfErr result (λ fault. (xs : List Entry) → AreBounds tally.now xs
-        → counts.now ≡ count_of counts.now.keys xs → GreatestRefused xs n max_k fault) }
-    ensures sure { stand_out n tally.now ≡ true → IfErr result (λ fault. (xs : List Entry)
-        → AreBounds tally.now xs → counts.now ≡ count_of counts.now.keys xs
-        → fault ≡ Memory) }
-    ensures kind { IfErr result IsTopFault }
-{
-    let floor = floor_of(alloc, tally, n)?;
-    // It bounds what was lost.
-    let _lost = tally.lost();
-    let rows = rows_over(alloc, counts, floor)?;
-    if floor > 0 && (rows.len() as u64) < n {
-        return Err(ToolError::TopUncertain {
-            certain: rows.len() as u64,
-            most: floor,
-        });
-    }
-    Ok(first_of(rows, n))
-}
-
 /// The entries as rows.
 fn rows_of(alloc: Global, entries: &[(Key, u64)]) -> Result<Vec<Heavy>, AllocError>
     ensures { IfOk result (λ rows. rows.items ≡ entries.now) }
@@ -153,17 +194,4 @@ fn rows_of(alloc: Global, entries: &[(Key, u64)]) -> Result<Vec<Heavy>, AllocErr
         })?;
     }
     Ok(rows)
-}
-
-/// The `n` greatest keys of the items that a tally is of, where it lost nothing: then its counters
-/// are the weights, and no key has to be counted.
-pub fn greatest_counters(alloc: Global, tally: &Tally, n: u64) -> Result<Vec<Heavy>, AllocError>
-    ensures { IfOk result (λ rows. (xs : List Entry) → AreBounds tally.now xs
-        → tally.now.lost ≡ 0 → rows.items ≡ top n xs) }
-{
-    let counter = nth_counter(alloc, tally, n)?;
-    let entries = tally.above(alloc, counter.saturating_sub(1))?;
-    let mut rows = rows_of(alloc, &entries)?;
-    rank(&mut rows);
-    Ok(first_of(rows, n))
 }

@@ -4,4 +4,4 @@
 mod choice;
 pub mod laws;
 
-pub use choice::{choice_of, greatest, greatest_counters, stand_out};
+pub use choice::Shortlist;

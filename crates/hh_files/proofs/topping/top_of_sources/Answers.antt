@@ -4,5 +4,5 @@ use Rattle.hh_files.proofs.topping.top_of_sources.Goals as goal
 
 pub returns-in-Err-clause-refused : goal.returns-in-Err-clause-refused
 returns-in-Err-clause-refused g c =
-    records_refuse c.args.n (sources_known g.S.ReadAt.bytes c.args.records) c.in-Err.fault
+    records_refuse c.args.options.now.n (sources_known g.S.ReadAt.bytes c.args.records) c.in-Err.fault
     c.in-Err.ensures.refused

@@ -1,0 +1,48 @@
+use Rattle.std.proofs.Common.{◌+◌, ◌-◌, ◌*◌, ◌≤◌, ◌⊎◌, ◌≡◌, ◌∙◌, ap, inl, inr, length, subst, take, arith}
+use Rattle.hh_summaries.specs.Counters.{exceeds, max_k, tally}
+use Rattle.hh_summaries.proofs.Reports.{rising-filter}
+use Rattle.hh_summaries.proofs.Weights.{rising-tally}
+use Rattle.hh_tally.specs.Tallies.{IsLoss}
+use Rattle.hh_top.specs.Top.{IsUncertain, ShortlistView, floor_of}
+use Rattle.hh_top.proofs.Chosen.{are_enough, are_top, are_uncertain}
+use Rattle.hh_top.proofs.choice.Shortlist.greatest.Goals as goal
+use Rattle.hh_top.proofs.choice.Shortlist.greatest.Goals.{else-floor-gt0-via-then-floor-gt0+else-len-self, else-floor-gt0-via-else-floor-gt0}
+
+pub rows_over-requires : goal.rows_over-requires
+rows_over-requires c =
+    let n = c.args.self.now.n in
+    let t = c.args.self.now.tally in
+    rw c.requires.keys (rising-filter (exceeds (floor_of n t - t.lost)) (tally t.counters) (rising-tally t.counters))
+
+pub returns-then-len-self-clause-refused : goal.returns-then-len-self-clause-refused
+returns-then-len-self-clause-refused c = λ xs bounds counted.
+    let n = c.args.self.now.n in
+    let t = c.args.self.now.tally in
+    let f = c.floor-floor.result in
+    let same : c.self.inside.n ≡ n = ap (λ (v : ShortlistView). v.n) c.self.view_is in
+    let share = subst (λ (v : ShortlistView). 2 * (max_k + 1) ≤ v.tally.room.few) c.self.view_is c.self.invariant.0 in
+    let loss = subst (λ (v : ShortlistView). IsLoss v.tally.room.few v.tally.total v.tally.lost v.tally.counters)
+    c.self.view_is c.lost-lost.ensures.loss in
+    subst (λ certain. IsUncertain xs n max_k certain f) (omega (arith, c.len-then-len-self.ensures))
+    (are_uncertain n f t c.floor-floor.ensures c.args.counts.now c.requires.keys c.in_ok-rows.rows.items
+    c.in_ok-rows.ensures xs bounds counted share loss (omega (arith, c.if-len-self.true, c.len.ensures, same)))
+
+pub returns-then-len-self-clause-sure : goal.returns-then-len-self-clause-sure
+returns-then-len-self-clause-sure c = λ out xs bounds counted.
+    let n = c.args.self.now.n in
+    let same : c.self.inside.n ≡ n = ap (λ (v : ShortlistView). v.n) c.self.view_is in
+    absurd (are_enough n c.floor-floor.result c.args.self.now.tally c.floor-floor.ensures c.args.counts.now
+    c.requires.keys c.in_ok-rows.rows.items c.in_ok-rows.ensures xs bounds counted out
+    (omega (arith, c.if-len-self.true, c.len.ensures, same)))
+
+pub returns-clause-rows : goal.returns-clause-rows
+returns-clause-rows c = λ xs bounds counted.
+    let n = c.args.self.now.n in
+    let rows = c.in_ok-rows.rows.items in
+    let same : c.self.inside.n ≡ n = ap (λ (v : ShortlistView). v.n) c.self.view_is in
+    let enough : (n ≤ length rows) ⊎ (c.floor-floor.result ≡ 0) = elim c.else-floor-gt0.branch [
+      | else-floor-gt0-via-then-floor-gt0+else-len-self w ↦ inl (omega (arith, w.if-len-self.false, w.len.ensures, same))
+      | else-floor-gt0-via-else-floor-gt0 w ↦ inr (omega (arith, w.if-floor-gt0.false))
+    ] in
+    are_top n c.floor-floor.result c.args.self.now.tally c.floor-floor.ensures c.args.counts.now c.requires.keys rows
+    c.in_ok-rows.ensures xs bounds counted enough _ (c.first_of.ensures ∙ ap (λ m. take m rows) same)
