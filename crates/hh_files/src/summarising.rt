@@ -11,60 +11,22 @@ ghost use Rattle.hh_commands.specs.Records.{SavesStream};
 ghost use Rattle.hh_files.specs.SummaryFiles.{SavesSummary, SummarisesRecords};
 ghost use Rattle.hh_files.specs.SummaryFiles.{bad_summary_of_files};
 
-use crate::file_pieces::FilePieces;
-use hh_commands::{Method, summary_by_monitoring, summary_bytes_from};
+use crate::tallying::tally_of_sources;
+use hh_commands::{Method, summary_bytes_from};
 use hh_counters::laws::misra_gries_is_honest;
 use hh_counters::{MAX_K, Summary};
 use hh_faults::ToolError;
-use hh_pieces::{CutFiles, ReadAt, SourceRecords};
-use hh_pool::{MAX_WORKERS, PieceFault, summarise_pieces};
-use hh_records::ReadRecords;
-use hh_reports::piece_count;
+use hh_pieces::{ReadAt, SourceRecords};
+use hh_pool::MAX_WORKERS;
 use hh_saved::{Saved, write};
 use hh_stream::in_range;
-use std::alloc::{AllocError, Global};
+use hh_tally::Room;
+use std::alloc::Global;
 use std::sync::Wait;
 use std::thread::Threads;
 
-/// The summary of records in files, by workers, where each piece of the files can be read by
-/// itself.
-fn summary_side_by_side<T: Threads + Wait + Sync, S: ReadAt + Sync>(
-    rt: &T,
-    alloc: Global,
-    k: u64,
-    workers: u64,
-    records: SourceRecords<'_, S>,
-) -> Result<Option<Summary>, AllocError>
-    requires k { in_range k max_k ≡ true }
-    requires workers { in_range workers max_workers ≡ true }
-    ensures { IfOk result (λ summary. IfSome summary (SummarisesRecords k
-        (sources_known S.bytes records.entry))) }
-{
-    let most = piece_count(workers, records.sources.len());
-    let Some(files) = CutFiles::new(alloc, records.layout, records.sources, most)? else {
-        return Ok(None);
-    };
-    let pieces = FilePieces::new(files);
-    match summarise_pieces(rt, alloc, &pieces, k, records.layout.hash, workers) {
-        Ok(summary) => Ok(Some(summary)),
-        Err(PieceFault::Refused) => Ok(None),
-        Err(PieceFault::Memory) => Err(AllocError),
-    }
-}
-
-/// Summarises any records by one thread, item by item.
-fn summary_in_turn<R: ReadRecords>(alloc: Global, k: u64, records: R) -> Result<Summary, ToolError>
-    requires { in_range k max_k ≡ true }
-    ensures summary { IfOk result (SummarisesRecords k (R.known records)) }
-    ensures refused { IfErr result (λ fault. RecordsRefused (R.known records) fault) }
-{
-    misra_gries_is_honest();
-    summary_by_monitoring(alloc, k, records)
-}
-
-/// The summary of records in files. Workers read the files in pieces, once; where a piece can't be
-/// read by itself, one thread reads them from their starts. Where a file was changed meanwhile, the
-/// error is [`ToolError::ReadFault`].
+/// The summary of records in files: the `k` greatest counters of their tally, with as much room as
+/// these want for each worker.
 fn summary_of_sources<T: Threads + Wait + Sync, S: ReadAt + Sync>(
     rt: &T,
     alloc: Global,
@@ -78,11 +40,9 @@ fn summary_of_sources<T: Threads + Wait + Sync, S: ReadAt + Sync>(
     ensures still { OnOk result (All S.still records.entry.sources.now) }
     ensures refused { IfErr result (RecordsRefused (sources_known S.bytes records.entry)) }
 {
-    let summary = match summary_side_by_side(rt, alloc, k, workers, records)? {
-        Some(summary) => summary,
-        None => summary_in_turn(alloc, k, records)?,
-    };
-    records.check()?;
+    let room = Room::for_counters(k);
+    let tally = tally_of_sources(rt, alloc, room, workers, records)?;
+    let summary = tally.into_summary(alloc, k)?;
     Ok(summary)
 }
 

@@ -23,4 +23,4 @@ pub use one_pass::{count_pieces, tabulate_pieces};
 pub use options::{Options, OptionsFault};
 pub use outcome::{Outcome, RunError};
 pub use second::{second_pass, second_pass_sequentially};
-pub use tallying::{report_pieces, summarise_pieces, tally_pieces};
+pub use tallying::{report_pieces, tally_pieces};

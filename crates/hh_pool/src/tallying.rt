@@ -1,14 +1,14 @@
-//! A report of pieces of any kind, and a summary of them: each worker tallies the items of its
+//! A tally of pieces of any kind, and a report of them: each worker tallies the items of its
 //! pieces, and the tallies add up. Where any was lost, a second pass of a report counts the keys
 //! that can be heavy.
 
-ghost use Rattle.std.specs.Prelude.{◌≡◌, ◌+◌, ◌<◌, ◌≤◌, ◌++◌, ◌⊎◌, [], true, List, length};
+ghost use Rattle.std.specs.Prelude.{◌≡◌, ◌+◌, ◌<◌, ◌≤◌, ◌⊎◌, true, length};
 ghost use Rattle.std.specs.Prelude.{IfOk, IsErrOf, OnOk};
 ghost use Rattle.std.specs.Map.{keys_of, values_of};
 ghost use Rattle.hh_stream.specs.Ranges.{in_range};
-ghost use Rattle.hh_stream.specs.Weights.{Entry, max_total, total_of};
+ghost use Rattle.hh_stream.specs.Weights.{max_total, total_of};
 ghost use Rattle.hh_stream.specs.Cuttings.{max_pieces, whole_of};
-ghost use Rattle.hh_summaries.specs.Counters.{IsHonest, max_k};
+ghost use Rattle.hh_summaries.specs.Counters.{max_k};
 ghost use Rattle.hh_summaries.specs.Report.{heavy, weights_at};
 ghost use Rattle.hh_tally.specs.Tallies.{AreBounds, IsRoom};
 ghost use Rattle.hh_pool.specs.Passes.{AreRead, MayRefuse};
@@ -19,7 +19,7 @@ ghost use Rattle.hh_workers.specs.Workers.{max_workers};
 use crate::analysis::{check_totals, weigh};
 use crate::first::sum_of_totals;
 use crate::options::Options;
-use hh_counters::{Candidates, Heavy, Summary};
+use hh_counters::{Candidates, Heavy};
 use hh_shared::{SharedSums, SumSeat};
 use hh_stream::{Key, KeyHash, PieceFault, TakeItems};
 use hh_tally::laws::tallies_bound_weights;
@@ -256,42 +256,4 @@ pub fn report_pieces<R: Threads + Wait + Sync, P: Pieces + Sync>(
     let total = tally.total();
     let rows = candidates.select(&weights, total, p, q)?;
     Ok((total, rows))
-}
-
-/// Summarises the items of all pieces with `k` counters, as well as one that is made item by item:
-/// each worker tallies the items of the pieces that it claims, the tallies add up, and the `k`
-/// greatest counters are kept, each less the next one (Agarwal et al. 2012). `hash` decides how
-/// fast keys are found. The counters may differ from run to run, by which worker takes which piece.
-///
-/// Pieces are asked for, workers started and errors told as by [`tally_pieces`]. Where the items
-/// aren't known, the summary is one of some items.
-pub fn summarise_pieces<R: Threads + Wait + Sync, P: Pieces + Sync>(
-    rt: &R,
-    alloc: Global,
-    pieces: &P,
-    k: u64,
-    hash: KeyHash,
-    workers: u64,
-) -> Result<Summary, PieceFault>
-    requires some { 0 < length (P.pieces pieces.now) }
-    requires few { length (P.pieces pieces.now) ≤ max_pieces }
-    requires k { in_range k max_k ≡ true }
-    requires workers { in_range workers max_workers ≡ true }
-    ensures k { IfOk result (λ s. s.k ≡ k) }
-    ensures some { IfOk result (λ s. (xs : List Entry) × IsHonest s.counters s.total xs s.k) }
-    ensures honest { IfOk result (λ s. P.known pieces.now
-        → IsHonest s.counters s.total (whole_of (P.pieces pieces.now)) s.k) }
-    ensures read { OnOk result
-        (P.known pieces.now → AreRead (P.reads pieces.now) (P.pieces pieces.now)) }
-    ensures total { OnOk result
-        (P.known pieces.now → total_of (whole_of (P.pieces pieces.now)) ≤ max_total) }
-    ensures refused { IsErrOf result PieceFault.Refused → P.known pieces.now
-        → MayRefuse (P.refuses pieces.now) (P.pieces pieces.now) }
-{
-    let room = Room::for_counters(k);
-    let tally = tally_pieces(rt, alloc, pieces, room, hash, workers)?;
-    // It bounds the total.
-    let _total = tally.total();
-    let summary = tally.into_summary(alloc, k)?;
-    Ok(summary)
 }

@@ -5,8 +5,9 @@ use crate::fixtures::{
 };
 use hh_counters::Summary;
 use hh_countmin::Table;
-use hh_pool::{CutStream, count_pieces, summarise_pieces, tabulate_pieces};
+use hh_pool::{CutStream, count_pieces, tabulate_pieces, tally_pieces};
 use hh_stream::{Cutting, KeyHash};
+use hh_tally::Room;
 use std::process::Abort;
 use std::sync::Wait;
 use std::thread::Threads;
@@ -42,12 +43,16 @@ fn table_is_filled(rt: HostRuntime) {
     assert!(rt; has_cells(&tabulated(&rt)));
 }
 
-// The summary of the items, with two counters.
+// The summary of the items' tally, with two counters.
 fn summarised<R: AllocGlobal + Threads + Wait + Abort + Sync>(rt: &R) -> Summary {
     let stream = four_items(rt);
     let cutting = Cutting::even(rt.alloc(), stream.len(), 2).expect(rt, "pieces");
     let pieces = CutStream::new(&stream, &cutting);
-    summarise_pieces(rt, rt.alloc(), &pieces, 2, KeyHash::fixed(), 2).expect(rt, "a summary")
+    let room = Room::for_counters(2);
+    let tally = tally_pieces(rt, rt.alloc(), &pieces, room, KeyHash::fixed(), 2).expect(
+        rt, "a tally",
+    );
+    tally.into_summary(rt.alloc(), 2).expect(rt, "a summary")
 }
 
 #[test]
