@@ -174,16 +174,16 @@ weight_of-kept c x (e ∷ xs) some = cond_both (has_counter c e) _ _ (λ l. weig
     (λ h. let none = lacking c x e some (grind (arith, nat_tests, h)) in
     omega (arith, weight_of-cons x e xs, none, weight_of-kept c x xs some))
 
-total_of-entry_of : (y : Bytes) (n : ℕ) → total_of (entry_of y n) ≡ n
+pub total_of-entry_of : (y : Bytes) (n : ℕ) → total_of (entry_of y n) ≡ n
 total_of-entry_of y n = cond_both (nat_lt 0 n) _ _ (λ l. total_of l ≡ n) (λ h. total_of-cons (y, n) [] ∙ omega arith)
     (λ h. grind (arith, nat_tests, h))
 
-weight_of-entry_of : (c : Counters) (x y : Bytes) (n : ℕ) → 0 < weight_of x c → weight_of y c ≡ 0
+pub weight_of-entry_of : (c : Counters) (x y : Bytes) (n : ℕ) → 0 < weight_of x c → weight_of y c ≡ 0
     → weight_of x (entry_of y n) ≡ 0
 weight_of-entry_of c x y n some none = cond_both (nat_lt 0 n) _ _ (λ l. weight_of x l ≡ 0)
     (λ _. omega (arith, weight_of-cons x (y, n) [], lacking c x (y, n) some none)) (λ _. refl)
 
-positive-entry_of : (y : Bytes) (n : ℕ) → AllByRecursion (λ (e : Entry). 0 < e.1) (entry_of y n)
+pub positive-entry_of : (y : Bytes) (n : ℕ) → AllByRecursion (λ (e : Entry). 0 < e.1) (entry_of y n)
 positive-entry_of y n = cond_both (nat_lt 0 n) _ _ (AllByRecursion (λ (e : Entry). 0 < e.1))
     (λ h. (grind (arith, nat_tests, h), tt)) (λ _. tt)
 

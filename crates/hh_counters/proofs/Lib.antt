@@ -11,3 +11,4 @@ pub mod Monitoring
 pub mod Condensing
 pub mod CondensedCounts
 pub mod CountFacts
+pub mod Weighed

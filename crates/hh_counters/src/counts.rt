@@ -1,11 +1,12 @@
 //! The keys of a summary, counted as items come.
 
-ghost use Rattle.std.specs.Prelude.{◌≡◌, ◌+◌, ◌<◌, ◌≤◌, ◌∷◌, [], true, IsOk, IfOk, OnOk, filter, length, slice_index, zip};
+ghost use Rattle.std.specs.Prelude.{◌≡◌, ◌+◌, ◌<◌, ◌≤◌, ◌↔◌, ◌∷◌, [], true, IsOk, IfOk, IfSome};
+ghost use Rattle.std.specs.Prelude.{IsSome, IsTrue, OnOk, filter, length, slice_index, sum, zip};
 ghost use Rattle.std.specs.Map.{keys_of};
 ghost use Rattle.hh_stream.specs.Weights.{max_total, total_of};
 ghost use Rattle.hh_summaries.specs.Counters.{max_k, IsCounters, exceeds};
 ghost use Rattle.hh_summaries.specs.Report.{IsShare, rows_above};
-ghost use Rattle.hh_counters.specs.Counting.{count_of, count_with};
+ghost use Rattle.hh_counters.specs.Counting.{CountsSome, count_of, count_with};
 ghost use Rattle.hh_stream.specs.Ranges.{in_range};
 
 use crate::candidates::Candidates;
@@ -69,6 +70,28 @@ impl Counts {
             candidates,
             weights,
             total: 0,
+        })
+    }
+
+    /// The counts of some items: what each of the candidates weighs in them, and their total. There
+    /// are none where the weights add up to more than the total, as those of no items do.
+    pub fn of_weights(candidates: Candidates, weights: Vec<u64>, total: u64) -> Option<Counts>
+        requires lengths { length weights.items ≡ length candidates }
+        requires bounded { total ≤ max_total }
+        ensures counts { IfSome result (λ counts.
+            counts ≡ record { keys = candidates; weights = weights.items; total = total }) }
+        ensures some { IfSome result CountsSome }
+        ensures within { IsSome result ↔ (sum weights.items ≤ total) }
+    {
+        // It has the order of the keys.
+        let _len = candidates.len();
+        if !are_within(&weights, total) {
+            return None;
+        }
+        Some(Counts {
+            candidates,
+            weights,
+            total,
         })
     }
 
@@ -150,4 +173,18 @@ impl Counts {
         }
         Ok(rows)
     }
+}
+
+// Whether the weights add up to no more than the total.
+fn are_within(weights: &[u64], total: u64) -> bool
+    ensures { IsTrue result ↔ (sum weights.now ≤ total) }
+{
+    let mut left = total;
+    for weight in weights {
+        if *weight > left {
+            return false;
+        }
+        left -= *weight;
+    }
+    true
 }

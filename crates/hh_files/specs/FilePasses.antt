@@ -1,10 +1,7 @@
 -- Files that are read in one pass, by workers.
-use Rattle.std.specs.Prelude.{◌≡◌, ◌-◌, ◌++◌, ℕ, Bool, true, false, List, filter, zip, Option, Some, None}
-use Rattle.std.specs.Map.{keys_of}
+use Rattle.std.specs.Prelude.{◌≡◌, ℕ, Bool, true, false, List, Option, Some, None}
 use Rattle.hh_stream.specs.Ranges.{in_range}
-use Rattle.hh_stream.specs.Weights.{Entry, total_of}
-use Rattle.hh_counters.specs.Condensed.{entry_of, free_name}
-use Rattle.hh_summaries.specs.Counters.{Counters, SummaryView, exceeds}
+use Rattle.hh_summaries.specs.Counters.{SummaryView}
 use Rattle.hh_workers.specs.Workers.{max_workers}
 use Rattle.hh_records.specs.Streams.{Known}
 use Rattle.hh_rows.specs.Thresholds.{threshold_of}
@@ -14,15 +11,6 @@ use Rattle.hh_commands.specs.Confirm.{CompareRefused}
 use Rattle.hh_commands.specs.Files.{RefusedFrom}
 use Rattle.hh_faults.specs.declared.error.ToolError.{ToolError}
 use Rattle.hh_faults.specs.declared.error.ToolError.TheVariants as tool
-
--- the keys of counters that have a weight, each with it
-abbrev pub weighted : Counters → List ℕ → List Entry
-weighted c ns = filter (exceeds 0) (zip (keys_of c) ns)
-
--- items of this total of which the keys of counters have these weights: they, and what else weighs
--- something under a name that has no counter
-abbrev pub items_of_weights : Counters → List ℕ → ℕ → List Entry
-items_of_weights c ns total = weighted c ns ++ entry_of (free_name c) (total - total_of (weighted c ns))
 
 -- what a refusal tells where a number of workers is tested before what follows
 abbrev pub BehindWorkers : Bool → (ToolError → Type 0) → ToolError → Type 0

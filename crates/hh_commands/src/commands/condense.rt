@@ -38,7 +38,7 @@ fn other_name(alloc: Global, number: u64) -> Result<Key, AllocError>
 }
 
 /// The first of the names `others`, `others1`, `others2` and so on that has no counter.
-pub fn free_name(alloc: Global, summary: &Summary) -> Result<Key, AllocError>
+fn free_name(alloc: Global, summary: &Summary) -> Result<Key, AllocError>
     ensures { IfOk result (λ key. key ≡ free_name summary.now.counters) }
 {
     free_name_is_first();
