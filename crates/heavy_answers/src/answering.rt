@@ -16,7 +16,7 @@ use crate::kept::Kept;
 use crate::opening::{into_kept, open, open_records};
 use crate::single_pass::{SinglePass, in_one_pass};
 use heavy_host::{ReadFailure, read_file, read_files};
-use heavy_requests::{Command, Invocation, RecordWords, Request};
+use heavy_requests::{Command, Invocation, MEGABYTE, RecordWords, Request};
 use hh_commands::{Comparison, Method, ask_rows, describe_file, list_rows, merge_bytes};
 use hh_faults::ToolError;
 use hh_files::{TopOptions, report_files, top_files};
@@ -62,9 +62,6 @@ fn merged<H: Host>(host: &H, first: &[u8], others: &[Vec<u8>]) -> Result<Vec<u8>
     let files = read_files(host, first, others).map_err(fault_of)?;
     merge_bytes(host.alloc(), &files)
 }
-
-// How many bytes a megabyte has.
-const MEGABYTE: u64 = 1_000_000;
 
 /// Makes the rows of the `n` greatest keys of the records that `words` name, by counters that grow
 /// up to `memory` megabytes. All inputs are opened first, then `workers` is tested, and only then

@@ -5,7 +5,7 @@ ghost use Rattle.hh_faults.specs.declared.error.ToolError.{ToolError};
 ghost use Rattle.heavy_answers.specs.Refusals.{IsUnkept};
 
 use heavy_host::FileSource;
-use heavy_requests::{Inputs, OpenFile, OpenInput, Reader};
+use heavy_inputs::{Inputs, OpenFile, OpenInput, Reader};
 use hh_faults::ToolError;
 use hh_pieces::ReadAt;
 use hh_records::Layout;
@@ -79,7 +79,7 @@ impl<'a> Host for Inputs<'a> {
     type File = OpenFile<'a>;
 
     ghost use Rattle.std.specs.Prelude.{⊤};
-    ghost use Rattle.heavy_requests.specs.Inputs.{FailsToOpen};
+    ghost use Rattle.heavy_inputs.specs.Inputs.{FailsToOpen};
 
     ghost text = { λ _. None };
 
@@ -112,7 +112,7 @@ impl<'a> Host for Inputs<'a> {
     }
 
     fn watch_bad(&self, layout: &Layout) {
-        self.bad.watch(layout);
+        self.notes.bad.watch(layout);
     }
 
     /// Words of this run, where the system has random numbers for them, and else those that all

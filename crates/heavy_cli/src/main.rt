@@ -3,16 +3,14 @@
 #![tactic(auto)]
 
 use heavy_answers::answer;
+use heavy_explanations::{status_after, status_of, status_of_usage};
 use heavy_host::hold_closed;
-use heavy_progress::{Begin, NOTHING, RowCount, RowWriter};
-use heavy_requests::{
-    BadCount, Inputs, Unread, UsageError, read_request, shared_progress, status_after, status_of,
-    status_of_usage,
-};
+use heavy_inputs::{InputNotes, Inputs, shared_progress};
+use heavy_progress::{RowCount, RowWriter};
+use heavy_requests::{UsageError, read_request};
 use hh_commands::Comparison;
 use hh_faults::ToolError;
 use hh_rows::Out;
-use std::cell::Cell;
 use std::process::ExitCode;
 
 fn main(rt: HostRuntime) -> ExitCode {
@@ -25,18 +23,9 @@ fn main(rt: HostRuntime) -> ExitCode {
         Err(UsageError::Memory) => return status_after(&rt, ToolError::Memory),
     };
     let mut compared = Comparison::new(!asked.records.are_plain());
-    let (unread, hints) = (Unread::new(), Cell::new(NOTHING));
-    let (begin, bad) = (Begin::new(rt.alloc()), BadCount::new());
+    let notes = InputNotes::new(rt.alloc());
     let progress = shared_progress(&rt, &asked);
-    let inputs = Inputs::new(
-        &rt,
-        &asked,
-        progress.as_ref(),
-        &unread,
-        &hints,
-        &begin,
-        &bad,
-    );
+    let inputs = Inputs::new(&rt, &asked, &notes, progress.as_ref());
     let rows = RowCount::new();
     let mut out = Out::new(RowWriter::new(rt.stdout(), &rows));
     let outcome = answer(&rt, &inputs, &asked, &mut out, &mut compared);

@@ -24,6 +24,10 @@ use hh_output::{Form, Output};
 use hh_records::{Format, LayoutWords, delimiter_of};
 use hh_rows::{ReportOptions, RowOptions, Share, Tree};
 use std::alloc::{AllocError, Global};
+use std::io::IsTerminal;
+
+/// How many bytes a megabyte has.
+pub const MEGABYTE: u64 = 1_000_000;
 
 /// What a command line asks for, and how.
 #[derive(Drop)]
@@ -39,6 +43,13 @@ pub struct Invocation {
     /// The most megabytes of a pipe that are kept in memory, where it is read twice. One that gives
     /// more is kept in a temporary file.
     pub memory: u64,
+}
+
+impl Invocation {
+    /// Whether a fault has a second line: where that is asked for, or standard error is a terminal.
+    pub fn explains_faults(&self, rt: &HostRuntime) -> bool {
+        self.explains || rt.stderr().is_terminal()
+    }
 }
 
 /// The words that say which records are read.

@@ -1,10 +1,10 @@
 -- The bytes of inputs that are read at any place.
 use Rattle.std.specs.Prelude.{ℕ, ◌≡◌, ◌⊎◌, ◌==◌, Bool, false, List, [], ◌∷◌, Option, Some, None, if◌then◌else◌}
-use Rattle.heavy_requests.specs.declared.kept_pipe.KeptBytes.{KeptBytes}
-use Rattle.heavy_requests.specs.declared.kept_pipe.KeptBytes.TheVariants as kept
-use Rattle.heavy_requests.specs.declared.kept_pipe.KeptPipe.{KeptPipe}
-use Rattle.heavy_requests.specs.declared.inputs.OpenFile.{OpenFile}
-use Rattle.heavy_requests.specs.declared.inputs.OpenFile.TheVariants as input
+use Rattle.heavy_inputs.specs.declared.kept_pipe.KeptBytes.{KeptBytes}
+use Rattle.heavy_inputs.specs.declared.kept_pipe.KeptBytes.TheVariants as kept
+use Rattle.heavy_inputs.specs.declared.kept_pipe.KeptPipe.{KeptPipe}
+use Rattle.heavy_inputs.specs.declared.open_file.OpenFile.{OpenFile}
+use Rattle.heavy_inputs.specs.declared.open_file.OpenFile.TheVariants as input
 use Rattle.hh_faults.specs.declared.error.ToolError.{ToolError}
 use Rattle.hh_faults.specs.declared.error.ToolError.TheVariants as tool
 

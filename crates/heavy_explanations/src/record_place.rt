@@ -1,8 +1,7 @@
 //! Where a record stands in the texts that it was read from.
 
-use crate::fields::split_fields;
-use crate::request::Invocation;
 use heavy_progress::{Begin, RecordCount};
+use heavy_requests::{Invocation, split_fields};
 use std::alloc::{AllocError, Global};
 use std::fs::{self, File};
 use std::io::Read;
@@ -21,7 +20,7 @@ const MARK: &[u8] = b"\xef\xbb\xbf";
 
 /// A text of records: the name and the number of its input.
 #[derive(Clone, Copy)]
-pub struct Text<'a> {
+pub(crate) struct Text<'a> {
     pub name: &'a [u8],
     /// Its place among the command line's files, from 1 on, and 0 where none is named.
     pub number: u64,
@@ -29,7 +28,7 @@ pub struct Text<'a> {
 
 /// Where a record stands, and how it begins.
 #[derive(Drop)]
-pub struct RecordPlace<'a> {
+pub(crate) struct RecordPlace<'a> {
     /// The text that it stands in.
     pub text: Text<'a>,
     /// The line in which it begins, from 1 on.
@@ -39,7 +38,7 @@ pub struct RecordPlace<'a> {
 
 impl<'a> RecordPlace<'a> {
     /// Gives the first bytes of the record.
-    pub fn begin(&self) -> &[u8] {
+    pub(crate) fn begin(&self) -> &[u8] {
         match self.bytes.get(..MOST_SHOWN) {
             Some(bytes) => bytes,
             None => self.bytes.as_slice(),
@@ -47,12 +46,12 @@ impl<'a> RecordPlace<'a> {
     }
 
     /// Whether the record has more of them.
-    pub fn is_cut(&self) -> bool {
+    pub(crate) fn is_cut(&self) -> bool {
         self.bytes.len() > MOST_SHOWN
     }
 
     /// Splits the record into its fields, where it isn't too long for that.
-    pub fn fields(&self, alloc: Global, delimiter: u8) -> Option<Vec<Vec<u8>>> {
+    pub(crate) fn fields(&self, alloc: Global, delimiter: u8) -> Option<Vec<Vec<u8>>> {
         if self.bytes.len() > MOST_KEPT {
             return None;
         }
@@ -141,7 +140,7 @@ impl Search {
 /// What can be looked at again of the records that `asked` names: files of the disk, and the
 /// `begin` of another input.
 #[derive(Clone, Copy)]
-pub struct Texts<'a> {
+pub(crate) struct Texts<'a> {
     pub rt: &'a HostRuntime,
     pub asked: &'a Invocation,
     pub begin: &'a Begin,
@@ -150,7 +149,7 @@ pub struct Texts<'a> {
 impl<'a> Texts<'a> {
     /// Gives the text at `place`, from 0 on. Where no file is named, standard input is the only
     /// one.
-    pub fn text(self, place: u64) -> Option<Text<'a>> {
+    pub(crate) fn text(self, place: u64) -> Option<Text<'a>> {
         let files = &self.asked.records.files;
         if files.is_empty() && place == 0 {
             return Some(Text {
@@ -171,7 +170,7 @@ impl<'a> Texts<'a> {
     }
 
     /// Gives the byte between two fields of the records, where they may be quoted.
-    pub fn delimiter(self) -> Option<u8> {
+    pub(crate) fn delimiter(self) -> Option<u8> {
         if self.asked.records.layout.format.has_quotes() {
             self.asked.records.parting_byte()
         } else {
@@ -194,7 +193,7 @@ impl<'a> Texts<'a> {
     }
 
     /// Gives the names in the header of `text`, where it has one that can be looked at again.
-    pub fn header_of(self, text: Text<'_>) -> Option<Vec<Vec<u8>>> {
+    pub(crate) fn header_of(self, text: Text<'_>) -> Option<Vec<Vec<u8>>> {
         let search = self.search_in(text, 0)?;
         if !self.asked.records.layout.has_header || search.bytes.is_empty() {
             return None;
@@ -204,7 +203,7 @@ impl<'a> Texts<'a> {
 
     /// Gives the place of the record `number`, from 1 on, if each text up to its own can be looked
     /// at again.
-    pub fn place_of(self, number: u64) -> Option<RecordPlace<'a>> {
+    pub(crate) fn place_of(self, number: u64) -> Option<RecordPlace<'a>> {
         let header = u64::from(self.asked.records.layout.has_header);
         let mut before = number.checked_sub(1)?;
         for place in 0..u64::MAX {

@@ -2,7 +2,7 @@
 
 ghost use Rattle.std.specs.Prelude.{◌≡◌, ◌⊎◌, IfErr, ⊤};
 
-use crate::inputs::Reader;
+use crate::input::Reader;
 use crate::unread::Unread;
 use hh_faults::ToolError;
 use hh_pieces::ReadAt;
@@ -34,7 +34,7 @@ pub struct KeptPipe {
 
 impl KeptPipe {
     ghost use Rattle.std.specs.Prelude.{None, false};
-    ghost use Rattle.heavy_requests.specs.Inputs.{kept_bytes};
+    ghost use Rattle.heavy_inputs.specs.Inputs.{kept_bytes};
 
     /// Whether the pipe came to its end.
     pub fn is_whole(&self) -> bool
@@ -45,7 +45,7 @@ impl KeptPipe {
 }
 
 impl ReadAt for KeptPipe {
-    ghost use Rattle.heavy_requests.specs.Inputs.{kept_bytes};
+    ghost use Rattle.heavy_inputs.specs.Inputs.{kept_bytes};
 
     ghost bytes = { kept_bytes };
 
@@ -74,8 +74,8 @@ impl ReadAt for KeptPipe {
     }
 }
 
-/// Makes a file of the temporary folder, and removes its name at once.
-fn unnamed_file(rt: &HostRuntime) -> io::Result<File> {
+/// Gives a path in the temporary folder, with a random number in its name.
+fn temporary_path(rt: &HostRuntime) -> io::Result<String> {
     let mut random = [0; 8];
     rt.fill_bytes(&mut random)?;
     let number = u64::from_le_bytes(random);
@@ -83,6 +83,12 @@ fn unnamed_file(rt: &HostRuntime) -> io::Result<File> {
         Ok(folder) => format!(in rt.alloc(); "{folder}/heavy-{number:016x}")?,
         Err(_) => format!(in rt.alloc(); "/tmp/heavy-{number:016x}")?,
     };
+    Ok(path)
+}
+
+/// Makes a file of the temporary folder, and removes its name at once.
+fn unnamed_file(rt: &HostRuntime) -> io::Result<File> {
+    let path = temporary_path(rt)?;
     let file = OpenOptions::new()
         .read(true)
         .write(true)

@@ -1,15 +1,15 @@
 //! How a run of the program ends: what it prints on standard error, and its exit status.
 
-use crate::explain::{
-    Lines, explain, explains_faults, names_records, print_bad, print_contradicted, print_few_keys,
-    print_format_hint, print_last_record, print_own_k,
-};
-use crate::inputs::Inputs;
+use crate::comparisons::print_contradicted;
+use crate::escaped::Lines;
+use crate::explain::{explain, names_records};
+use crate::notes::{print_bad, print_few_keys, print_format_hint, print_last_record};
 use crate::record_place::Texts;
-use crate::request::Invocation;
-use crate::usage_report::UsageReport;
+use heavy_inputs::Inputs;
+use heavy_requests::{Invocation, UsageReport};
 use hh_commands::Comparison;
 use hh_faults::ToolError;
+use std::io::IsTerminal;
 use std::process::ExitCode;
 
 /// The exit status of the command line's own faults.
@@ -39,15 +39,22 @@ fn status_explained(
 ) -> ExitCode {
     let rt = inputs.rt;
     let status = status_after(rt, fault);
-    if explains_faults(rt, asked) || names_records(&fault, asked) {
+    if asked.explains_faults(rt) || names_records(&fault, asked) {
         let texts = Texts {
             rt,
             asked,
-            begin: inputs.begin,
+            begin: &inputs.notes.begin,
         };
-        explain(texts, &fault, compared, inputs.unread);
+        explain(texts, &fault, compared, &inputs.notes.unread);
     }
     status
+}
+
+/// Prints that a summary has a k of its own, where one was given and a fault has a second line.
+fn print_own_k(rt: &HostRuntime, report: &UsageReport) {
+    if report.gives_k && (report.explains || rt.stderr().is_terminal()) {
+        let _ = eprintln!(rt; "  the summary has a k of its own, which `heavy describe` tells");
+    }
 }
 
 /// Prints help or a fault of the command line as `clap` words it. In a fault, which may have words
@@ -84,13 +91,13 @@ pub fn status_of(
     match outcome {
         Ok(()) => {
             inputs.look(asked);
-            let hints = inputs.hints.get();
-            if explains_faults(rt, asked) {
+            let hints = inputs.notes.hints.get();
+            if asked.explains_faults(rt) {
                 print_format_hint(rt, hints, asked);
                 print_few_keys(rt, asked, rows);
             }
             print_last_record(rt, hints, asked);
-            print_bad(rt, inputs.bad.count(), asked);
+            print_bad(rt, inputs.notes.bad.count(), asked);
             if let Some(outside) = &compared.outside {
                 print_contradicted(rt, asked, outside);
             }
@@ -102,7 +109,7 @@ pub fn status_of(
             } else {
                 asked.request.saved_before_records().saturating_add(1)
             };
-            let number = inputs.unread.number().max(least);
+            let number = inputs.notes.unread.number().max(least);
             status_explained(inputs, numbered(fault, number), asked, compared)
         }
     }

@@ -1,0 +1,32 @@
+//! What a run notes of its inputs.
+
+use crate::bad_count::BadCount;
+use crate::unread::Unread;
+use heavy_progress::{Begin, FormatHints, NOTHING};
+use std::alloc::Global;
+use std::cell::Cell;
+
+/// What a run notes of its inputs while they are read, for what it prints at its end.
+#[derive(Drop)]
+pub struct InputNotes {
+    /// The input that can't be read, and why.
+    pub unread: Unread,
+    /// What was seen in the inputs.
+    pub hints: Cell<FormatHints>,
+    /// How many records were bad and counted as a key.
+    pub bad: BadCount,
+    /// The first bytes of an input that can't be read again.
+    pub begin: Begin,
+}
+
+impl InputNotes {
+    /// Begins with nothing noted.
+    pub fn new(alloc: Global) -> InputNotes {
+        InputNotes {
+            unread: Unread::new(),
+            hints: Cell::new(NOTHING),
+            bad: BadCount::new(),
+            begin: Begin::new(alloc),
+        }
+    }
+}
