@@ -9,19 +9,25 @@ use hh_stream::Stream;
 use std::process::Abort;
 
 // The candidates of the four records.
-fn candidates_of(rt: &(impl Abort + AllocGlobal)) -> Candidates {
+fn candidates_of(rt: &(impl Abort + AllocGlobal)) -> Candidates
+    ensures { length result ≡ 2 }
+{
     let summary = summary_of(rt, 2, &FOUR_RECORDS);
-    Candidates::of(rt.alloc(), &summary).expect(rt, "candidates")
+    let candidates = Candidates::of(rt.alloc(), &summary).expect(rt, "candidates");
+    assert!(rt; candidates.len() == 2);
+    candidates
 }
 
 fn place_of(rt: &(impl Abort + AllocGlobal), candidates: &Candidates, text: &str) -> Option<usize> {
     candidates.place(&key_of(rt, text.as_bytes()))
 }
 
+const PLACES: [(&str, Option<usize>); 3] = [("a", Some(0)), ("b", Some(1)), ("c", None)];
+
 #[test]
 fn candidates_have_places(rt: HostRuntime) {
     let candidates = candidates_of(&rt);
-    for (text, place) in &[("a", Some(0)), ("b", Some(1)), ("c", None)] {
+    for (text, place) in &PLACES {
         assert_same(&rt, place_of(&rt, &candidates, text), *place);
     }
 }
@@ -38,9 +44,7 @@ fn weights_of(candidates: &Candidates, stream: &Stream) -> [u64; 2]
 #[test]
 fn candidates_are_counted(rt: HostRuntime) {
     let stream = stream_of(&rt, &FOUR_RECORDS);
-    let candidates = candidates_of(&rt);
-    assert!(rt; candidates.len() == 2);
-    assert_same(&rt, weights_of(&candidates, &stream), [6, 3]);
+    assert_same(&rt, weights_of(&candidates_of(&rt), &stream), [6, 3]);
 }
 
 // The rows that are selected of these numbers of two candidates, those above p/q of 11, as
@@ -64,20 +68,21 @@ fn selected(
 
 // Those above 1/q of 11.
 fn selected_above(rt: &(impl Abort + AllocGlobal), numbers: &[u64; 2], q: u64) -> String {
-    let candidates = candidates_of(rt);
-    assert!(rt; candidates.len() == 2);
     assert!(rt; 1 <= q && q <= 4);
-    selected(rt, &candidates, numbers, 1, q)
+    selected(rt, &candidates_of(rt), numbers, 1, q)
 }
+
+// Numbers of both, q, and the rows that are selected.
+const ABOVE: [([u64; 2], u64, &str); 4] = [
+    ([6, 3], 3, "a 6 "),
+    ([6, 6], 3, "a 6 b 6 "),
+    ([4, 7], 3, "b 7 a 4 "),
+    ([6, 3], 4, "a 6 b 3 "),
+];
 
 #[test]
 fn report_lists_candidates_above_a_share(rt: HostRuntime) {
-    for (numbers, q, rows) in &[
-        ([6, 3], 3, "a 6 "),
-        ([6, 6], 3, "a 6 b 6 "),
-        ([4, 7], 3, "b 7 a 4 "),
-        ([6, 3], 4, "a 6 b 3 "),
-    ] {
+    for (numbers, q, rows) in &ABOVE {
         let text = selected_above(&rt, numbers, *q);
         assert_same(&rt, text.as_str(), rows);
     }

@@ -8,6 +8,9 @@ use std::process::Abort;
 
 pub(crate) const FOUR_RECORDS: [(&str, u64); 4] = [("a", 5), ("b", 3), ("c", 2), ("a", 1)];
 
+// Numbers k, and whether they are refused.
+pub(crate) const KS: [(u64, bool); 4] = [(0, true), (1, false), (65_535, false), (65_536, true)];
+
 // Asserts that both are the same. Each assertion makes the proof of its function longer, and a call
 // hardly does.
 pub(crate) fn assert_same<T: Debug + PartialEq + Drop>(rt: &impl Abort, found: T, expected: T) {

@@ -13,22 +13,23 @@ fn hash_of(hash: &KeyHash, text: &str) -> u64 {
     hasher.finish()
 }
 
+const HASHES: [(&str, u64); 8] = [
+    ("a", 0x18ea_93b4_d36e_70ae),
+    ("abc", 0xf34d_33d7_cb81_e398),
+    ("abcd", 0x8428_9a04_6758_414b),
+    ("abcdefg", 0xe55d_d7ca_990d_ce19),
+    ("abcdefgh", 0xee44_fabe_eab9_1c21),
+    ("abcdefghijklmnop", 0x3bbd_5075_59ac_610a),
+    ("abcdefghijklmnopq", 0x0ee5_2e66_2180_ecc4),
+    (
+        "abcdefghijklmnopqrstuvwxyzabcdefghijklmn",
+        0xd553_9112_0d2a_1d61,
+    ),
+];
+
 #[test]
 fn fixed_words_hash_as_computed(rt: HostRuntime) {
-    let rows = [
-        ("a", 0x18ea_93b4_d36e_70ae),
-        ("abc", 0xf34d_33d7_cb81_e398),
-        ("abcd", 0x8428_9a04_6758_414b),
-        ("abcdefg", 0xe55d_d7ca_990d_ce19),
-        ("abcdefgh", 0xee44_fabe_eab9_1c21),
-        ("abcdefghijklmnop", 0x3bbd_5075_59ac_610a),
-        ("abcdefghijklmnopq", 0x0ee5_2e66_2180_ecc4),
-        (
-            "abcdefghijklmnopqrstuvwxyzabcdefghijklmn",
-            0xd553_9112_0d2a_1d61,
-        ),
-    ];
-    for (text, hash) in &rows {
+    for (text, hash) in &HASHES {
         assert_same(&rt, hash_of(&KeyHash::fixed(), text), *hash);
     }
 }

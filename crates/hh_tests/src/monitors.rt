@@ -1,8 +1,11 @@
 //! The forms of Space-Saving on small streams, and side by side on a longer one.
 
-use crate::fixtures::{FOUR_RECORDS, assert_same, assert_shows, key_of, shown, stream_of};
+use crate::fixtures::{
+    FOUR_RECORDS, KS, assert_same, assert_shows, key_of, show_counter, shown, stream_of,
+};
 use hh_counters::{BadK, BucketSaving, Monitor, NewFault, SpaceSaving, Summary, monitored_summary};
 use hh_stream::{Item, Key, Stream};
+use std::fmt::Debug;
 use std::process::Abort;
 
 // The plain form.
@@ -15,10 +18,14 @@ fn buckets(rt: &(impl Abort + AllocGlobal), k: u64) -> BucketSaving {
     BucketSaving::new(rt.alloc(), k).expect(rt, "buckets")
 }
 
+fn add<M: Monitor>(rt: &impl Abort, monitor: &mut M, item: &Item) {
+    monitor.add(item.key(), item.weight()).expect(rt, "an item");
+}
+
 // Adds the items.
 fn add_all<M: Monitor>(rt: &impl Abort, monitor: &mut M, items: &[Item]) {
     for item in items {
-        monitor.add(item.key(), item.weight()).expect(rt, "an item");
+        add(rt, monitor, item);
     }
 }
 
@@ -28,7 +35,7 @@ fn counters<M: Monitor>(rt: &(impl Abort + AllocGlobal), monitor: &M) -> String 
     for byte in b'a'..=b'd' {
         let counter = monitor.get(&key_of(rt, &[byte]));
         if counter > 0 {
-            write!(text, "{} {counter} ", char::from(byte)).expect(rt, "room");
+            show_counter(rt, &mut text, &[byte], counter);
         }
     }
     let (total, least) = (monitor.total(), monitor.least());
@@ -62,35 +69,38 @@ fn each_form(rt: &(impl Abort + AllocGlobal), k: u64, items: &[(&str, u64)]) -> 
     text
 }
 
+// A number k, items, and what is counted and translated of them.
+const SMALL: [(u64, &[(&str, u64)], &str); 5] = [
+    (
+        2,
+        &FOUR_RECORDS,
+        "a 6 b 3 c 2 of 11, least 2 to a 4 b 1 of 11, slack 2",
+    ),
+    (
+        2,
+        &[("a", 5), ("b", 3), ("c", 2), ("a", 1), ("d", 4)],
+        "a 6 b 3 d 6 of 15, least 3 to a 3 d 3 of 15, slack 3",
+    ),
+    (
+        2,
+        &[("a", 5), ("b", 3)],
+        "a 5 b 3 of 8, least 0 to a 5 b 3 of 8, slack 0",
+    ),
+    (
+        1,
+        &[("b", 1), ("a", 1), ("c", 1)],
+        "b 1 c 2 of 3, least 1 to c 1 of 3, slack 1",
+    ),
+    (
+        1,
+        &[("a", 1), ("b", 2), ("a", 3), ("c", 1)],
+        "a 4 c 3 of 7, least 3 to a 1 of 7, slack 3",
+    ),
+];
+
 #[test]
 fn each_form_counts_small_streams(rt: HostRuntime) {
-    for (k, items, expected) in &[
-        (
-            2,
-            FOUR_RECORDS.as_slice(),
-            "a 6 b 3 c 2 of 11, least 2 to a 4 b 1 of 11, slack 2",
-        ),
-        (
-            2,
-            [("a", 5), ("b", 3), ("c", 2), ("a", 1), ("d", 4)].as_slice(),
-            "a 6 b 3 d 6 of 15, least 3 to a 3 d 3 of 15, slack 3",
-        ),
-        (
-            2,
-            [("a", 5), ("b", 3)].as_slice(),
-            "a 5 b 3 of 8, least 0 to a 5 b 3 of 8, slack 0",
-        ),
-        (
-            1,
-            [("b", 1), ("a", 1), ("c", 1)].as_slice(),
-            "b 1 c 2 of 3, least 1 to c 1 of 3, slack 1",
-        ),
-        (
-            1,
-            [("a", 1), ("b", 2), ("a", 3), ("c", 1)].as_slice(),
-            "a 4 c 3 of 7, least 3 to a 1 of 7, slack 3",
-        ),
-    ] {
+    for (k, items, expected) in &SMALL {
         let text = each_form(&rt, *k, items);
         assert_same(&rt, text.as_str(), expected);
     }
@@ -98,7 +108,7 @@ fn each_form_counts_small_streams(rt: HostRuntime) {
 
 #[test]
 fn k_is_1_to_65535(rt: HostRuntime) {
-    for (k, refused) in &[(0, true), (1, false), (65_535, false), (65_536, true)] {
+    for (k, refused) in &KS {
         let plain = SpaceSaving::new(rt.alloc(), *k).err();
         assert_same(&rt, plain, refused.then_some(BadK));
         let buckets = BucketSaving::new(rt.alloc(), *k).err();
@@ -133,48 +143,49 @@ fn agree(plain: &SpaceSaving, buckets: &BucketSaving, keys: &[Key]) -> bool {
         && keys.iter().all(|key| plain.get(key) == buckets.get(key))
 }
 
-// Whether both forms agree after each of the items.
-fn agree_after_each(rt: &(impl Abort + AllocGlobal), items: &[Item], keys: &[Key]) -> bool {
+// Asserts that both forms agree after each of the items.
+fn agree_after_each(rt: &(impl Abort + AllocGlobal), items: &[Item], keys: &[Key]) {
     let mut plain = plain(rt, 10);
     let mut buckets = buckets(rt, 10);
     for item in items {
-        plain.add(item.key(), item.weight()).expect(rt, "an item");
-        buckets.add(item.key(), item.weight()).expect(rt, "an item");
-        if !agree(&plain, &buckets, keys) {
-            return false;
-        }
+        add(rt, &mut plain, item);
+        add(rt, &mut buckets, item);
+        assert_same(rt, agree(&plain, &buckets, keys), true);
     }
-    true
 }
 
 #[test]
 fn buckets_agree_after_each_of_10000_items(rt: HostRuntime) {
     let stream = long_stream(&rt);
     let keys = keys_of_one_byte(&rt);
-    assert!(rt; agree_after_each(&rt, stream.items(), &keys));
+    agree_after_each(&rt, stream.items(), &keys);
 }
 
 // The summary of the 10,000 items, worked out apart: the keys 2, 8, 10, 18, 21, 25, 36, 37, 39, 40.
 const LONG_SUMMARY: &str =
     "\u{2} 6 \u{8} 2 \u{a} 5 \u{12} 4 \u{15} 2 \u{19} 4 $ 3 % 6 ' 4 ( 6 of 39994, slack 3632";
 
-// The summary by the plain form.
-fn plain_summary(rt: &(impl Abort + AllocGlobal), stream: &Stream) -> Summary {
-    let plain = SpaceSaving::new(rt.alloc(), 10).expect(rt, "counters");
-    monitored_summary(plain, stream.items()).expect(rt, "a summary")
+// Asserts that the summary is that one.
+fn assert_long<E: Debug + Drop>(rt: &(impl Abort + AllocGlobal), made: Result<Summary, E>) {
+    assert_shows(rt, &made.expect(rt, "a summary"), LONG_SUMMARY);
 }
 
-// The summary by the form with buckets.
-fn bucket_summary(rt: &(impl Abort + AllocGlobal), stream: &Stream) -> Summary {
+// By the plain form.
+fn plain_is_long(rt: &(impl Abort + AllocGlobal), stream: &Stream) {
+    let plain = SpaceSaving::new(rt.alloc(), 10).expect(rt, "counters");
+    assert_long(rt, monitored_summary(plain, stream.items()));
+}
+
+// By the form with buckets.
+fn buckets_are_long(rt: &(impl Abort + AllocGlobal), stream: &Stream) {
     let buckets = BucketSaving::new(rt.alloc(), 10).expect(rt, "buckets");
-    monitored_summary(buckets, stream.items()).expect(rt, "a summary")
+    assert_long(rt, monitored_summary(buckets, stream.items()));
 }
 
 #[test]
 fn each_form_translates_10000_items(rt: HostRuntime) {
     let stream = long_stream(&rt);
-    let whole = Summary::of_items(rt.alloc(), 10, stream.items()).expect(&rt, "a summary");
-    assert_shows(&rt, &whole, LONG_SUMMARY);
-    assert_shows(&rt, &plain_summary(&rt, &stream), LONG_SUMMARY);
-    assert_shows(&rt, &bucket_summary(&rt, &stream), LONG_SUMMARY);
+    assert_long(&rt, Summary::of_items(rt.alloc(), 10, stream.items()));
+    plain_is_long(&rt, &stream);
+    buckets_are_long(&rt, &stream);
 }

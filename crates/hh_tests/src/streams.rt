@@ -1,7 +1,7 @@
 //! The worked rows on keys, items, streams and cuttings.
 
 use crate::fixtures::{assert_same, key_of};
-use hh_stream::{Cutting, CuttingFault, Item, Key, KeyFault, PushFault, Stream};
+use hh_stream::{Cutting, CuttingFault, Item, Key, KeyFault, PushFault, PushRefused, Stream};
 use std::hash::{BuildHasher, BuildHasherDefault, FoldHasher};
 use std::process::Abort;
 
@@ -11,12 +11,16 @@ fn bytes_of(rt: &(impl Abort + AllocGlobal), len: usize) -> Vec<u8> {
     bytes.expect(rt, "bytes")
 }
 
+// A key of these bytes that is a copy.
+fn copy_of(rt: &(impl Abort + AllocGlobal), bytes: &[u8]) -> Key {
+    key_of(rt, bytes).copy().expect(rt, "a copy")
+}
+
 // Whether a key of `len` bytes has a copy with the same bytes.
 fn has_copy(rt: &(impl Abort + AllocGlobal), len: usize) -> bool {
     let bytes = bytes_of(rt, len);
-    let key = key_of(rt, &bytes);
-    let copy = key.copy().expect(rt, "a copy");
-    copy == key && copy.bytes() == bytes.as_slice()
+    let copy = copy_of(rt, &bytes);
+    copy == key_of(rt, &bytes) && copy.bytes() == bytes.as_slice()
 }
 
 #[test]
@@ -34,37 +38,43 @@ fn keys_of_other_lengths_are_refused(rt: HostRuntime) {
     assert_same(&rt, Key::new(alloc, &long).err(), Some(KeyFault::TooLong));
 }
 
-#[test]
-fn keys_are_ordered_by_bytes(rt: HostRuntime) {
-    let key = key_of(&rt, b"ab");
-    let longer = key_of(&rt, b"aba");
-    let other = key_of(&rt, b"\xff");
-    assert_same(
-        &rt,
-        (key < longer, longer < other, key != longer),
-        (true, true, true),
-    );
+// Whether the first key is less than the second, and another.
+fn is_less(key: &Key, other: &Key) -> (bool, bool) {
+    (key < other, key != other)
 }
 
-fn hash_of(key: &Key) -> u64 {
-    BuildHasherDefault::<FoldHasher>::new().hash_one(key)
+const RISING: [(&[u8], &[u8]); 2] = [(b"ab", b"aba"), (b"aba", b"\xff")];
+
+#[test]
+fn keys_are_ordered_by_bytes(rt: HostRuntime) {
+    for (bytes, greater) in &RISING {
+        let order = is_less(&key_of(&rt, bytes), &key_of(&rt, greater));
+        assert_same(&rt, order, (true, true));
+    }
+}
+
+fn hash_of(key: Key) -> u64 {
+    BuildHasherDefault::<FoldHasher>::new().hash_one(&key)
 }
 
 #[test]
 fn same_keys_have_the_same_hash(rt: HostRuntime) {
-    let key = key_of(&rt, b"ab");
-    let copy = key.copy().expect(&rt, "a copy");
-    assert_same(&rt, hash_of(&copy), hash_of(&key));
-    assert!(rt; hash_of(&key_of(&rt, b"aba")) != hash_of(&key));
+    let hash = hash_of(key_of(&rt, b"ab"));
+    assert_same(&rt, hash_of(copy_of(&rt, b"ab")), hash);
+    assert!(rt; hash_of(key_of(&rt, b"aba")) != hash);
+}
+
+// Asserts that the weight of a key a was 0, and that the key comes back.
+fn assert_back(rt: &impl Abort, pushed: Result<(), PushRefused>) {
+    let refused = pushed.expect_err(rt, "a weight of 0 was taken");
+    assert_same(rt, refused.fault, PushFault::ZeroWeight);
+    assert_same(rt, refused.key.bytes(), b"a".as_slice());
 }
 
 #[test]
 fn refused_push_hands_the_key_back(rt: HostRuntime) {
     let mut stream = Stream::new(rt.alloc());
-    let pushed = stream.push(key_of(&rt, b"a"), 0);
-    let refused = pushed.expect_err(&rt, "a weight of 0 was taken");
-    assert_same(&rt, refused.fault, PushFault::ZeroWeight);
-    assert_same(&rt, refused.key.bytes(), b"a".as_slice());
+    assert_back(&rt, stream.push(key_of(&rt, b"a"), 0));
     assert!(rt; stream.is_empty());
 }
 
@@ -138,15 +148,18 @@ fn pieces_by_lengths(rt: HostRuntime) {
     assert_same(&rt, text.as_str(), "| ");
 }
 
+// The number of items, lengths, and why these are none of a cutting.
+const OTHER_LENGTHS: [(usize, &[usize], CuttingFault); 5] = [
+    (4, &[], CuttingFault::NoPieces),
+    (4, &[3, 2], CuttingFault::WrongSum),
+    (4, &[3], CuttingFault::WrongSum),
+    (4, &[usize::MAX, 5], CuttingFault::WrongSum),
+    (0, &[0; 1025], CuttingFault::TooManyPieces),
+];
+
 #[test]
 fn lengths_add_up(rt: HostRuntime) {
-    for (len, lengths, fault) in &[
-        (4, [].as_slice(), CuttingFault::NoPieces),
-        (4, [3, 2].as_slice(), CuttingFault::WrongSum),
-        (4, [3].as_slice(), CuttingFault::WrongSum),
-        (4, [usize::MAX, 5].as_slice(), CuttingFault::WrongSum),
-        (0, [0; 1025].as_slice(), CuttingFault::TooManyPieces),
-    ] {
+    for (len, lengths, fault) in &OTHER_LENGTHS {
         let refused = Cutting::by_lengths(rt.alloc(), *len, lengths).err();
         assert_same(&rt, refused, Some(*fault));
     }

@@ -3,26 +3,26 @@
 ghost use Rattle.std.specs.Prelude.{◌<◌};
 
 use crate::fixtures::{
-    FOUR_RECORDS, assert_same, assert_shows, key_of, shown, stream_of, summary_of,
+    FOUR_RECORDS, KS, assert_same, assert_shows, key_of, shown, stream_of, summary_of,
 };
 use hh_counters::{AddFault, MergeFault, Summary};
 use hh_stream::{Item, Key, MAX_TOTAL};
 use std::process::Abort;
 
+// Items, and the summary that they leave for k = 2.
+const LEFT: [(&[(&str, u64)], &str); 4] = [
+    (&FOUR_RECORDS, "a 4 b 1 of 11, slack 2"),
+    (&[("a", 1), ("b", 1), ("c", 1)], "of 3, slack 1"),
+    (&[("a", 1), ("b", 1), ("b", 1)], "a 1 b 2 of 3, slack 0"),
+    (
+        &[("a", 5), ("b", 3), ("c", 2), ("a", 1), ("d", 4)],
+        "a 3 d 3 of 15, slack 3",
+    ),
+];
+
 #[test]
 fn items_leave_their_counters(rt: HostRuntime) {
-    for (items, expected) in &[
-        (FOUR_RECORDS.as_slice(), "a 4 b 1 of 11, slack 2"),
-        ([("a", 1), ("b", 1), ("c", 1)].as_slice(), "of 3, slack 1"),
-        (
-            [("a", 1), ("b", 1), ("b", 1)].as_slice(),
-            "a 1 b 2 of 3, slack 0",
-        ),
-        (
-            [("a", 5), ("b", 3), ("c", 2), ("a", 1), ("d", 4)].as_slice(),
-            "a 3 d 3 of 15, slack 3",
-        ),
-    ] {
+    for (items, expected) in &LEFT {
         assert_shows(&rt, &summary_of(&rt, 2, items), expected);
     }
 }
@@ -45,8 +45,12 @@ fn items_are_added_one_by_one(rt: HostRuntime) {
 
 #[test]
 fn k_is_1_to_65535(rt: HostRuntime) {
-    for (k, refused) in &[(0, true), (1, false), (65_535, false), (65_536, true)] {
-        assert!(rt; Summary::new(rt.alloc(), *k).is_err() == *refused, "{k}");
+    for (k, refused) in &KS {
+        assert_same(
+            &rt,
+            (*k, Summary::new(rt.alloc(), *k).is_err()),
+            (*k, *refused),
+        );
     }
 }
 
@@ -95,17 +99,20 @@ fn fits(rt: &(impl Abort + AllocGlobal), k: u64, total: u64, items: &[(&str, u64
     Summary::fits(k, total, &entries_of(rt, items))
 }
 
+// A number k, a total, counters, and whether these fit.
+const FITTING: [(u64, u64, &[(&str, u64)], bool); 7] = [
+    (2, 11, &[("a", 4), ("b", 1)], true),
+    (2, 11, &[("b", 1), ("a", 4)], false),
+    (2, 11, &[("a", 4), ("b", 0)], false),
+    (2, 11, &[("a", 4), ("b", 1), ("c", 1)], false),
+    (2, 4, &[("a", 4), ("b", 1)], false),
+    (2, MAX_TOTAL + 1, &[("a", 4), ("b", 1)], false),
+    (0, 11, &[], false),
+];
+
 #[test]
 fn entries_that_fit_a_summary(rt: HostRuntime) {
-    for (k, total, items, expected) in &[
-        (2, 11, [("a", 4), ("b", 1)].as_slice(), true),
-        (2, 11, [("b", 1), ("a", 4)].as_slice(), false),
-        (2, 11, [("a", 4), ("b", 0)].as_slice(), false),
-        (2, 11, [("a", 4), ("b", 1), ("c", 1)].as_slice(), false),
-        (2, 4, [("a", 4), ("b", 1)].as_slice(), false),
-        (2, MAX_TOTAL + 1, [("a", 4), ("b", 1)].as_slice(), false),
-        (0, 11, [].as_slice(), false),
-    ] {
-        assert!(rt; fits(&rt, *k, *total, items) == *expected);
+    for (k, total, items, expected) in &FITTING {
+        assert_same(&rt, fits(&rt, *k, *total, items), *expected);
     }
 }

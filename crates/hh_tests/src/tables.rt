@@ -4,7 +4,7 @@ use crate::fixtures::{assert_same, key_of};
 use hh_countmin::{
     DrawFault, Family, MODULUS, MergeFault, PartsFault, Table, TableFault, TotalTooLarge,
 };
-use hh_stream::MAX_TOTAL;
+use hh_stream::{Key, MAX_TOTAL};
 use std::process::Abort;
 
 // The family with these rows.
@@ -23,25 +23,28 @@ fn fingerprint_of(rt: &(impl Abort + AllocGlobal), family: &Family, key: &[u8]) 
     family.fingerprint(&key_of(rt, key))
 }
 
-// The cells of a key in two rows of width 4.
-fn cells_of(rt: &(impl Abort + AllocGlobal), family: &Family, key: &[u8]) -> [u64; 2] {
+// The fingerprint of a key, and its cells in two rows of width 4.
+fn places_of(rt: &impl Abort, family: &Family, key: &Key) -> (u64, u64, u64) {
     assert!(rt; family.depth() == 2);
-    let key = key_of(rt, key);
-    [family.cell(0, &key, 4), family.cell(1, &key, 4)]
+    let (first, second) = (family.cell(0, key, 4), family.cell(1, key, 4));
+    (family.fingerprint(key), first, second)
 }
+
+// Keys, and where they fall.
+const PLACES: [(&[u8], (u64, u64, u64)); 5] = [
+    (b"a", (98, 2, 3)),
+    (b"b", (99, 3, 2)),
+    (b"c", (100, 0, 1)),
+    (b"e", (102, 2, 3)),
+    (b"ab", (25187, 3, 2)),
+];
 
 #[test]
 fn short_keys_fall_on_cells(rt: HostRuntime) {
     let family = plain_family(&rt);
-    for (key, fingerprint, cells) in &[
-        (b"a".as_slice(), 98, [2, 3]),
-        (b"b".as_slice(), 99, [3, 2]),
-        (b"c".as_slice(), 100, [0, 1]),
-        (b"e".as_slice(), 102, [2, 3]),
-        (b"ab".as_slice(), 25187, [3, 2]),
-    ] {
-        assert_same(&rt, fingerprint_of(&rt, &family, key), *fingerprint);
-        assert_same(&rt, cells_of(&rt, &family, key), *cells);
+    for (bytes, places) in &PLACES {
+        let key = key_of(&rt, bytes);
+        assert_same(&rt, places_of(&rt, &family, &key), *places);
     }
 }
 
@@ -73,10 +76,15 @@ fn seeds_draw_families(rt: HostRuntime) {
     assert_same(&rt, parts, (9351779398707216, rows));
 }
 
+// Whether two seeds draw the same.
+fn draw_the_same(rt: &(impl Abort + AllocGlobal), seed: u64, other: u64) -> bool {
+    drawn(rt, seed) == drawn(rt, other)
+}
+
 #[test]
 fn same_seeds_draw_the_same_family(rt: HostRuntime) {
-    assert!(rt; drawn(&rt, 7) == drawn(&rt, 7));
-    assert!(rt; drawn(&rt, 7) != drawn(&rt, 3));
+    assert_same(&rt, draw_the_same(&rt, 7, 7), true);
+    assert_same(&rt, draw_the_same(&rt, 7, 3), false);
 }
 
 // The depth of a family that is drawn with this one, or the fault.
@@ -84,35 +92,44 @@ fn depth_of(rt: &impl AllocGlobal, depth: u64) -> Result<u64, DrawFault> {
     Ok(Family::draw(rt.alloc(), 7, depth)?.depth())
 }
 
+const DEPTHS: [(u64, Result<u64, DrawFault>); 3] = [
+    (0, Err(DrawFault::BadDepth)),
+    (16, Ok(16)),
+    (17, Err(DrawFault::BadDepth)),
+];
+
 #[test]
 fn families_have_1_to_16_rows(rt: HostRuntime) {
-    for (depth, expected) in &[
-        (0, Err(DrawFault::BadDepth)),
-        (16, Ok(16)),
-        (17, Err(DrawFault::BadDepth)),
-    ] {
+    for (depth, expected) in &DEPTHS {
         assert_same(&rt, depth_of(&rt, *depth), *expected);
     }
 }
 
-#[test]
-fn families_are_copied(rt: HostRuntime) {
-    let family = plain_family(&rt);
-    let copy = family.copy().expect(&rt, "a copy");
-    assert!(rt; copy == family);
+// Whether the family is the plain one.
+fn is_plain(rt: &(impl Abort + AllocGlobal), family: &Family) -> bool {
+    *family == plain_family(rt)
 }
 
 #[test]
+fn families_are_copied(rt: HostRuntime) {
+    let copy = plain_family(&rt).copy().expect(&rt, "a copy");
+    assert_same(&rt, is_plain(&rt, &copy), true);
+}
+
+// Factors and rows of no family, and why.
+const NO_PARTS: [(u64, &[(u64, u64)], PartsFault); 7] = [
+    (256, &[], PartsFault::BadDepth),
+    (256, &[(1, 0); 17], PartsFault::BadDepth),
+    (256, &[(1, MODULUS)], PartsFault::BadCoefficient),
+    (256, &[(0, 0)], PartsFault::BadCoefficient),
+    (256, &[(MODULUS, 0)], PartsFault::BadCoefficient),
+    (0, &[(1, 0)], PartsFault::BadCoefficient),
+    (MODULUS, &[(1, 0)], PartsFault::BadCoefficient),
+];
+
+#[test]
 fn parts_of_no_family_are_refused(rt: HostRuntime) {
-    for (z, rows, fault) in &[
-        (256, [].as_slice(), PartsFault::BadDepth),
-        (256, [(1, 0); 17].as_slice(), PartsFault::BadDepth),
-        (256, [(1, MODULUS)].as_slice(), PartsFault::BadCoefficient),
-        (256, [(0, 0)].as_slice(), PartsFault::BadCoefficient),
-        (256, [(MODULUS, 0)].as_slice(), PartsFault::BadCoefficient),
-        (0, [(1, 0)].as_slice(), PartsFault::BadCoefficient),
-        (MODULUS, [(1, 0)].as_slice(), PartsFault::BadCoefficient),
-    ] {
+    for (z, rows, fault) in &NO_PARTS {
         let refused = Family::from_parts(rt.alloc(), *z, rows).err();
         assert_same(&rt, refused, Some(*fault));
     }
@@ -165,7 +182,7 @@ fn last_cell(rt: &impl Abort, table: &Table) -> u64 {
 fn tables_have_a_family_and_a_width(rt: HostRuntime) {
     let table = table_of(&rt, &[(b"a", 5), (b"e", 2)]);
     assert_same(&rt, last_cell(&rt, &table), 7);
-    assert!(rt; *table.family() == plain_family(&rt));
+    assert_same(&rt, is_plain(&rt, table.family()), true);
 }
 
 // Merges the table of an item into this one.
@@ -182,27 +199,19 @@ fn merged_cells_hold_the_weights_of_all(rt: HostRuntime) {
     assert_cells(&rt, &table);
 }
 
-// What comes of merging this table into that of one item, and the total then.
-fn merged(rt: &(impl Abort + AllocGlobal), other: &Table) -> (Option<MergeFault>, u64) {
+// Asserts why this table isn't merged into that of one item, whose total stays.
+fn assert_unlike(rt: &(impl Abort + AllocGlobal), other: Table, fault: MergeFault) {
     let mut table = table_of(rt, &[(b"a", 5)]);
-    let fault = table.merge(other).err();
-    (fault, table.total())
+    assert_same(rt, table.merge(&other).err(), Some(fault));
+    assert_same(rt, table.total(), 5);
 }
 
 #[test]
 fn unlike_tables_are_not_merged(rt: HostRuntime) {
     let other = empty_table(&rt, family_of(&rt, 256, &[(1, 0), (3, 2)]), 4);
-    assert_same(
-        &rt,
-        merged(&rt, &other),
-        (Some(MergeFault::DifferentFamily), 5),
-    );
+    assert_unlike(&rt, other, MergeFault::DifferentFamily);
     let wider = empty_table(&rt, plain_family(&rt), 5);
-    assert_same(
-        &rt,
-        merged(&rt, &wider),
-        (Some(MergeFault::DifferentWidth), 5),
-    );
+    assert_unlike(&rt, wider, MergeFault::DifferentWidth);
 }
 
 // The width of a table of this width, or the fault.
@@ -210,13 +219,15 @@ fn width_of(rt: &(impl Abort + AllocGlobal), width: u64) -> Result<u64, TableFau
     Ok(Table::new(rt.alloc(), plain_family(rt), width)?.width())
 }
 
+const WIDTHS: [(u64, Result<u64, TableFault>); 3] = [
+    (0, Err(TableFault::BadWidth)),
+    (65_536, Ok(65_536)),
+    (65_537, Err(TableFault::BadWidth)),
+];
+
 #[test]
 fn widths_are_1_to_65536(rt: HostRuntime) {
-    for (width, expected) in &[
-        (0, Err(TableFault::BadWidth)),
-        (65_536, Ok(65_536)),
-        (65_537, Err(TableFault::BadWidth)),
-    ] {
+    for (width, expected) in &WIDTHS {
         assert_same(&rt, width_of(&rt, *width), *expected);
     }
 }
@@ -231,18 +242,24 @@ fn item_merged(rt: &(impl Abort + AllocGlobal), table: &mut Table) -> Result<(),
     table.merge(&table_of(rt, &[(b"y", 1)]))
 }
 
+// The table of an item that weighs as much as a table can hold.
+fn full_table(rt: &(impl Abort + AllocGlobal)) -> Table {
+    table_of(rt, &[(b"x", MAX_TOTAL)])
+}
+
+// Asserts that the table is that one.
+fn assert_full(rt: &(impl Abort + AllocGlobal), table: &Table) {
+    assert_same(rt, table.cells(), full_table(rt).cells());
+    assert_same(rt, table.total(), MAX_TOTAL);
+}
+
 #[test]
 fn totals_stay_in_range(rt: HostRuntime) {
-    let full = table_of(&rt, &[(b"x", MAX_TOTAL)]);
-    let mut table = table_of(&rt, &[(b"x", MAX_TOTAL)]);
+    let mut table = full_table(&rt);
     assert_same(&rt, item_added(&rt, &mut table), Err(TotalTooLarge));
-    assert_same(
-        &rt,
-        item_merged(&rt, &mut table),
-        Err(MergeFault::TotalTooLarge),
-    );
-    assert_same(&rt, table.cells(), full.cells());
-    assert_same(&rt, table.total(), MAX_TOTAL);
+    let merged = item_merged(&rt, &mut table);
+    assert_same(&rt, merged, Err(MergeFault::TotalTooLarge));
+    assert_full(&rt, &table);
 }
 
 #[test]
@@ -253,11 +270,15 @@ fn cells_fit_where_rows_sum_to_the_total(rt: HostRuntime) {
     assert!(rt; !Table::fits(&family, 4, 8, &one_too_many));
 }
 
+// The table that is made of these cells.
+fn made_of(rt: &impl Abort, family: Family, cells: Vec<u64>) -> Table {
+    assert!(rt; Table::fits(&family, 4, 8, &cells));
+    Table::from_cells(family, 4, 8, cells)
+}
+
 #[test]
 fn cells_make_tables(rt: HostRuntime) {
-    let family = plain_family(&rt);
     let cells = CELLS.to_vec(rt.alloc()).expect(&rt, "cells");
-    assert!(rt; Table::fits(&family, 4, 8, &cells));
-    let table = Table::from_cells(family, 4, 8, cells);
+    let table = made_of(&rt, plain_family(&rt), cells);
     assert_same(&rt, estimate_of(&rt, &table, b"a"), 7);
 }

@@ -4,7 +4,7 @@ ghost use Rattle.std.specs.Prelude.{◌+◌, ◌≤◌};
 ghost use Rattle.hh_tally.specs.Tallies.{IsRoom};
 
 use crate::fixtures::{assert_same, key_of, show_counter};
-use hh_stream::{KeyHash, MAX_TOTAL, TakeItems};
+use hh_stream::{Key, KeyHash, MAX_TOTAL, TakeItems};
 use hh_tally::{MAX_KEYS, Room, Tally};
 use std::process::Abort;
 
@@ -20,16 +20,12 @@ fn take_item(rt: &(impl Abort + AllocGlobal), tally: &mut Tally, number: usize)
         3 => 1,
         _ => number * 17 % 53,
     };
-    let bytes = LETTERS
-        .as_bytes()
-        .get(place..place + 1 + place % 7)
-        .expect(rt, "letters");
-    let key = key_of(rt, bytes);
+    let letters = LETTERS.as_bytes().get(place..place + 1 + place % 7);
+    let key = key_of(rt, letters.expect(rt, "letters"));
     let weight = 1 + number as u64 % 3;
     assert!(rt; weight <= MAX_TOTAL - tally.total());
-    tally
-        .take(rt.alloc(), key.bytes(), weight)
-        .expect(rt, "room");
+    let taken = tally.take(rt.alloc(), key.bytes(), weight);
+    taken.expect(rt, "room");
 }
 
 fn room_of(rt: &impl Abort, keys: usize, few: usize, bytes: usize) -> Room
@@ -58,42 +54,53 @@ fn merged(rt: &(impl Abort + AllocGlobal), one: Tally, other: &Tally) -> Tally {
     one.merge(rt.alloc(), other).expect(rt, "room")
 }
 
-// What was lost, how many counters there are, and the keys that can weigh more than one share of
-// half of the room's few, as "lost 86, 2 counters: A 637 ".
-fn shown(rt: &(impl Abort + AllocGlobal), tally: &Tally, room: Room) -> String
+// The keys that can weigh more than one share of half of the room's few.
+fn contenders_of(rt: &(impl Abort + AllocGlobal), tally: &Tally, room: Room) -> Vec<(Key, u64)>
     requires { IsRoom room }
 {
     let same = Tally::new(rt.alloc(), room, KeyHash::fixed()).expect(rt, "room");
     assert!(rt; tally.has_room_of(&same));
-    let contenders = tally
-        .contenders(rt.alloc(), 1, room.few as u64 / 2)
-        .expect(rt, "room");
+    let contenders = tally.contenders(rt.alloc(), 1, room.few as u64 / 2);
+    contenders.expect(rt, "room")
+}
+
+// What was lost, how many counters there are, and these keys, as "lost 86, 2 counters: A 637 ".
+fn shown(rt: &(impl Abort + AllocGlobal), tally: &Tally, contenders: &[(Key, u64)]) -> String {
     let mut text = String::new(rt.alloc());
     write!(text, "lost {}, {} counters: ", tally.lost(), tally.len()).expect(rt, "room");
-    for (key, counter) in &contenders {
+    for (key, counter) in contenders {
         show_counter(rt, &mut text, key.bytes(), *counter);
     }
     text
 }
 
+// Asserts that the tally shows this text.
+fn assert_tally(rt: &(impl Abort + AllocGlobal), tally: &Tally, room: Room, expected: &str)
+    requires { IsRoom room }
+{
+    let contenders = contenders_of(rt, tally, room);
+    assert_same(rt, shown(rt, tally, &contenders).as_str(), expected);
+}
+
+// How many keys, how few and how many bytes have room, and what is lost and kept of 600 items.
+const LITTLE_ROOM: [(usize, usize, usize, &str); 8] = [
+    (2, 2, 1000, "lost 320, 1 counters: "),
+    (3, 2, 1000, "lost 245, 1 counters: "),
+    (5, 4, 1000, "lost 86, 2 counters: A 637 "),
+    (10, 10, 1000, "lost 34, 4 counters: A 689 BC 211 "),
+    (16, 6, 20, "lost 61, 2 counters: A 662 "),
+    (50, 12, 60, "lost 21, 11 counters: A 702 BC 224 "),
+    (52, 52, 1000, "lost 4, 28 counters: A 719 BC 241 "),
+    (53, 53, 1000, "lost 0, 53 counters: A 723 BC 245 "),
+];
+
 // The room is too small for what comes at nearly each newcomer, at times for its bytes, and in the
 // end large enough.
 #[test]
 fn little_room_loses_as_computed(rt: HostRuntime) {
-    let rows = [
-        (2, 2, 1000, "lost 320, 1 counters: "),
-        (3, 2, 1000, "lost 245, 1 counters: "),
-        (5, 4, 1000, "lost 86, 2 counters: A 637 "),
-        (10, 10, 1000, "lost 34, 4 counters: A 689 BC 211 "),
-        (16, 6, 20, "lost 61, 2 counters: A 662 "),
-        (50, 12, 60, "lost 21, 11 counters: A 702 BC 224 "),
-        (52, 52, 1000, "lost 4, 28 counters: A 719 BC 241 "),
-        (53, 53, 1000, "lost 0, 53 counters: A 723 BC 245 "),
-    ];
-    for (keys, few, bytes, expected) in &rows {
+    for (keys, few, bytes, expected) in &LITTLE_ROOM {
         let room = room_of(&rt, *keys, *few, *bytes);
-        let tally = tally_of(&rt, room, 0, 600);
-        assert_same(&rt, shown(&rt, &tally, room).as_str(), *expected);
+        assert_tally(&rt, &tally_of(&rt, room, 0, 600), room, expected);
     }
 }
 
@@ -108,16 +115,17 @@ fn tally_of_all(rt: &(impl Abort + AllocGlobal), room: Room) -> Tally
     all
 }
 
+// How few of 60 keys and bytes have room, and what is lost and kept of 6,400 items.
+const MERGED: [(usize, &str); 2] = [
+    (6, "lost 237, 9 counters: A 7491 "),
+    (12, "lost 229, 9 counters: A 7499 BC 2379 "),
+];
+
 // Each of the 64 is lowered for the bytes of its keys, which are never too many by themselves.
 #[test]
 fn merged_tallies_lose_as_computed(rt: HostRuntime) {
-    let rows = [
-        (6, "lost 237, 9 counters: A 7491 "),
-        (12, "lost 229, 9 counters: A 7499 BC 2379 "),
-    ];
-    for (few, expected) in &rows {
+    for (few, expected) in &MERGED {
         let room = room_of(&rt, 60, *few, 60);
-        let all = tally_of_all(&rt, room);
-        assert_same(&rt, shown(&rt, &all, room).as_str(), *expected);
+        assert_tally(&rt, &tally_of_all(&rt, room), room, expected);
     }
 }
