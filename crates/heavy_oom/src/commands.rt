@@ -2,7 +2,7 @@
 //! those that take no memory.
 
 use crate::lab::{Lab, Said, marked, no_such_call};
-use crate::show::{Report, Taken};
+use crate::show::Hex;
 use heavy::{ConfirmFault, Method, Out, Sink, ToolError, confirm, put};
 use hh_counters::Summary;
 use hh_stream::Stream;
@@ -10,41 +10,29 @@ use std::test::Fail;
 
 pub fn call(lab: &Lab, name: &str) -> Result<Said, Fail> {
     match name {
-        "confirm" => confirmed(lab, &lab.summary()?, &lab.stream()?),
+        "confirm" => confirmed(lab, &lab.stream()?),
         "confirm many keys" => confirmed_many(lab),
         "put" => written(lab),
         _ => Err(no_such_call(name)),
     }
 }
 
-fn confirmed(lab: &Lab, summary: &Summary, stream: &Stream) -> Result<Said, Fail> {
-    match marked!(lab, confirm(lab.alloc, summary, stream)) {
-        Err(ConfirmFault::Memory) => lab.refused(),
-        made => lab.answer(Report(made?.as_slice())),
-    }
-}
-
 // 20,000 different keys, none of which is heavy.
-fn many_keys(lab: &Lab) -> Result<Stream, Fail> {
-    let mut stream = Stream::new(lab.alloc);
-    for i in 0u32..20_000 {
-        lab.push_one(&mut stream, b'k', &i.to_be_bytes())?;
-    }
-    Ok(stream)
-}
-
 fn confirmed_many(lab: &Lab) -> Result<Said, Fail> {
-    let stream = many_keys(lab)?;
-    let summary = Summary::of_items(lab.alloc, 2, stream.items())?;
-    confirmed(lab, &summary, &stream)
+    let start = lab.bytes(b'k')?;
+    confirmed(lab, &lab.many_keys(start.as_slice(), 20_000)?)
 }
 
-/// Room for what is written, which takes no memory.
-const ROOM: [u8; 16] = [0; 16];
+// Confirms the summary of the stream by the stream.
+fn confirmed(lab: &Lab, stream: &Stream) -> Result<Said, Fail> {
+    let summary = Summary::of_items(lab.alloc, 2, stream.items())?;
+    let made = marked!(lab, confirm(lab.alloc, &summary, stream));
+    lab.tell(made, ConfirmFault::Memory)
+}
 
 // Bytes put into a sink, and the other calls that take no memory.
 fn written(lab: &Lab) -> Result<Said, Fail> {
-    let mut room = ROOM;
+    let mut room = [0u8; 16];
     lab.begin();
     let mut out = Out::new(room.as_mut_slice());
     let done = put(&mut out, b"five!").is_ok();
@@ -52,6 +40,6 @@ fn written(lab: &Lab) -> Result<Said, Fail> {
     let status = ToolError::Memory.status();
     let method = Method::of(b"ss").is_ok();
     lab.end();
-    lab.show(Taken(room.as_slice()))?;
+    lab.show(Hex(&room[..5]))?;
     lab.answer(format_args!("{done} {failed} {status} {method}"))
 }

@@ -1,11 +1,15 @@
 //! The calls of `hh_counters` on summaries.
 
-use crate::lab::{Lab, Said, marked, no_such_call};
+ghost use Rattle.std.specs.Prelude.{◌≡◌, length};
+
+use crate::lab::{Lab, Said, marked};
 use crate::monitors;
 use crate::show::{Counters, Numbers};
 use hh_counters::{AddFault, Candidates, MergeFault, OfItemsFault, Summary};
-use hh_stream::Key;
+use hh_stream::{Key, Stream};
 use std::test::Fail;
+
+const ENTRIES: [(u8, u64); 2] = [(b'a', 4), (b'b', 1)];
 
 pub fn call(lab: &Lab, name: &str) -> Result<Said, Fail> {
     match name {
@@ -14,7 +18,7 @@ pub fn call(lab: &Lab, name: &str) -> Result<Said, Fail> {
         "Summary::merge" => summary_merge(lab),
         "Summary::new" => summary_new(lab),
         "Summary readers" => summary_readers(lab),
-        "Summary::from_entries" => summary_from_entries(lab),
+        "Summary::from_entries" => from_entries(lab, entries(lab)?),
         "Candidates readers" => candidates_readers(lab),
         _ => monitors::call(lab, name),
     }
@@ -35,34 +39,21 @@ fn add_twice(lab: &Lab, summary: &mut Summary, key: &Key) -> Result<Said, Fail> 
 
 fn added(lab: &Lab, summary: &mut Summary, key: &Key) -> Result<Said, Fail> {
     lab.show(Counters(summary))?;
-    match marked!(lab, summary.add(key, 4)) {
-        Ok(()) => lab.answer(Counters(summary)),
-        Err(AddFault::Memory) => lab.refused(),
-        Err(fault) => Err(fault.into()),
-    }
+    let made = marked!(lab, summary.add(key, 4).and(Ok(&*summary)));
+    lab.tell(made, AddFault::Memory)
 }
 
 fn summary_of_items(lab: &Lab) -> Result<Said, Fail> {
     let stream = lab.stream()?;
-    made(
-        lab,
-        marked!(lab, Summary::of_items(lab.alloc, 2, stream.items())),
-    )
-}
-
-fn made(lab: &Lab, made: Result<Summary, OfItemsFault>) -> Result<Said, Fail> {
-    match made {
-        Err(OfItemsFault::Memory) => lab.refused(),
-        made => lab.answer(Counters(&made?)),
-    }
+    let made = marked!(lab, Summary::of_items(lab.alloc, 2, stream.items()));
+    lab.tell(made, OfItemsFault::Memory)
 }
 
 // The summary of c 7.
 fn other_summary(lab: &Lab) -> Result<Summary, Fail> {
-    let key = lab.key(b'c')?;
-    let mut summary = Summary::new(lab.alloc, 2)?;
-    summary.add(&key, 7)?;
-    Ok(summary)
+    let mut stream = Stream::new(lab.alloc);
+    lab.push(&mut stream, b'c', 7)?;
+    Ok(Summary::of_items(lab.alloc, 2, stream.items())?)
 }
 
 // Two summaries, and again where memory was refused.
@@ -81,11 +72,8 @@ fn merge_twice(lab: &Lab, summary: &mut Summary, other: &Summary) -> Result<Said
 fn merged(lab: &Lab, summary: &mut Summary, other: &Summary) -> Result<Said, Fail> {
     lab.show(Counters(summary))?;
     lab.show(Counters(other))?;
-    match marked!(lab, summary.merge(other)) {
-        Ok(()) => lab.answer(Counters(summary)),
-        Err(MergeFault::Memory) => lab.refused(),
-        Err(fault) => Err(fault.into()),
-    }
+    let made = marked!(lab, summary.merge(other).and(Ok(&*summary)));
+    lab.tell(made, MergeFault::Memory)
 }
 
 // The summary that is made without memory.
@@ -94,9 +82,13 @@ fn summary_new(lab: &Lab) -> Result<Said, Fail> {
     lab.answer(Counters(&made?))
 }
 
-// The calls on a summary that take no memory.
 fn summary_readers(lab: &Lab) -> Result<Said, Fail> {
-    let (summary, a) = (lab.summary()?, lab.key(b'a')?);
+    let summary = lab.summary()?;
+    read(lab, &summary, &lab.key(b'a')?)
+}
+
+// The calls on a summary that take no memory.
+fn read(lab: &Lab, summary: &Summary, a: &Key) -> Result<Said, Fail> {
     lab.begin();
     let fits = Summary::fits(2, 0, &[]);
     let numbers = [
@@ -105,45 +97,62 @@ fn summary_readers(lab: &Lab) -> Result<Said, Fail> {
         summary.sum(),
         summary.len() as u64,
         summary.slack(),
-        summary.get(&a),
+        summary.get(a),
     ];
     lab.end();
     let numbers = Numbers(&numbers);
     lab.answer(format_args!("{fits} {numbers}"))
 }
 
+// The keys a and b with these counters.
+fn entries(lab: &Lab) -> Result<Vec<(Key, u64)>, Fail> {
+    let mut entries = Vec::new(lab.alloc);
+    for (letter, counter) in &ENTRIES {
+        entries.push((lab.key(*letter)?, *counter))?;
+    }
+    Ok(entries)
+}
+
 // The summary of counters a 4 and b 1 that are there, and its entries, without memory.
-fn summary_from_entries(lab: &Lab) -> Result<Said, Fail> {
-    let mut entries = Vec::with_capacity(lab.alloc, 2)?;
-    entries.push((lab.key(b'a')?, 4))?;
-    entries.push((lab.key(b'b')?, 1))?;
+fn from_entries(lab: &Lab, entries: Vec<(Key, u64)>) -> Result<Said, Fail> {
     if !Summary::fits(2, 11, entries.as_slice()) {
         return Err(Fail::new("a 4 and b 1 are counters of a total of 11"));
     }
     lab.begin();
     let summary = Summary::from_entries(2, 11, entries);
-    let counter = match summary.len() {
-        0 => 0,
-        _ => summary.entry(0).1,
-    };
+    let counter = first_counter(&summary);
     lab.end();
     lab.show(Counters(&summary))?;
     lab.answer(counter)
 }
 
-// The calls on candidates that take no memory.
+fn first_counter(summary: &Summary) -> u64 {
+    match summary.len() {
+        0 => 0,
+        _ => summary.entry(0).1,
+    }
+}
+
 fn candidates_readers(lab: &Lab) -> Result<Said, Fail> {
-    let (summary, b, stream) = (lab.summary()?, lab.key(b'b')?, lab.stream()?);
-    let candidates = Candidates::of(lab.alloc, &summary)?;
+    let stream = lab.stream()?;
+    count_in(lab, &stream, &lab.key(b'b')?)
+}
+
+fn count_in(lab: &Lab, stream: &Stream, b: &Key) -> Result<Said, Fail> {
+    let candidates = lab.candidates()?;
+    count(lab, &candidates, stream, b)
+}
+
+// The calls on two candidates that take no memory.
+fn count(lab: &Lab, candidates: &Candidates, stream: &Stream, b: &Key) -> Result<Said, Fail>
+    requires { length candidates.now ≡ 2 }
+{
     let mut numbers = [0u64; 2];
     lab.begin();
     let len = candidates.len();
-    let is_second = candidates.place(&b) == Some(1);
-    let mut is_same = false;
-    if len == 2 {
-        candidates.count_piece(stream.items(), &mut numbers);
-        is_same = *candidates.key(1) == b;
-    }
+    let is_second = candidates.place(b) == Some(1);
+    candidates.count_piece(stream.items(), &mut numbers);
+    let is_same = candidates.key(1) == b;
     lab.end();
     let numbers = Numbers(&numbers);
     lab.answer(format_args!("{len} {is_second} {is_same} {numbers}"))

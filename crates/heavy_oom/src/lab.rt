@@ -1,9 +1,12 @@
 //! What the calls are made with, and what is printed of them.
 
-use hh_counters::Summary;
+ghost use Rattle.std.specs.Prelude.{◌≡◌, IfOk, length};
+
+use crate::show::Answer;
+use hh_counters::{Candidates, Summary};
 use hh_stream::{Key, Stream};
 use std::alloc::{AllocError, Global};
-use std::fmt::Display;
+use std::fmt::{Debug, Display};
 use std::hint::black_box;
 use std::test::Fail;
 
@@ -16,6 +19,9 @@ const END: usize = 100_019;
 /// How many bytes a long key has. It takes memory, and a key of one byte takes none.
 const LONG: usize = 40;
 
+/// The letters and weights of the four items.
+const ITEMS: [(u8, u64); 4] = [(b'a', 5), (b'b', 3), (b'c', 2), (b'a', 1)];
+
 /// What a call answers, which is made between its marks.
 macro_rules! marked {
     ($lab:expr, $call:expr) => {{
@@ -27,6 +33,19 @@ macro_rules! marked {
 }
 
 pub(crate) use marked;
+
+/// Makes a call between its marks, and prints what it answered; `$memory` is its fault where memory
+/// is refused.
+macro_rules! told {
+    ($lab:expr, $call:expr, $memory:expr) => {{
+        $lab.begin();
+        let made = $call;
+        $lab.end();
+        $lab.tell(made, $memory)
+    }};
+}
+
+pub(crate) use told;
 
 /// What a call said.
 #[derive(Clone, Copy, PartialEq, Eq)]
@@ -98,6 +117,19 @@ impl<'a> Lab<'a> {
         self.say("memory", Said::Memory)
     }
 
+    /// Prints what a call answered, or that it answered Memory, which is its fault `memory`.
+    pub fn tell<T: Answer + Drop, E: PartialEq + Debug + Drop>(
+        &self,
+        made: Result<T, E>,
+        memory: E,
+    ) -> Result<Said, Fail> {
+        match made {
+            Ok(answer) => answer.tell(self),
+            Err(fault) if fault == memory => self.refused(),
+            Err(fault) => Err(fault.into()),
+        }
+    }
+
     /// Says that memory was refused after `calls` calls of a gate.
     pub fn refused_after(&self, calls: u64) -> Result<Said, Fail> {
         self.say(format_args!("memory after {calls}"), Said::Memory)
@@ -113,16 +145,20 @@ impl<'a> Lab<'a> {
         Ok(Key::new(self.alloc, self.bytes(letter)?.as_slice())?)
     }
 
-    // A key with a number after its letters.
-    fn numbered(&self, letter: u8, number: &[u8]) -> Result<Key, Fail> {
-        let mut bytes = self.bytes(letter)?;
-        bytes.extend_from_slice(number)?;
+    // A key of these bytes and a number.
+    fn numbered(&self, start: &[u8], number: u16) -> Result<Key, Fail> {
+        let mut bytes = Vec::from_slice(self.alloc, start)?;
+        bytes.extend_from_slice(&number.to_be_bytes())?;
         Ok(Key::new(self.alloc, bytes.as_slice())?)
     }
 
-    /// Adds a key with a number after its letters, of weight 1.
-    pub fn push_one(&self, stream: &mut Stream, letter: u8, number: &[u8]) -> Result<(), Fail> {
-        Ok(stream.push(self.numbered(letter, number)?, 1)?)
+    /// As many different keys of weight 1, which begin with the bytes `start`.
+    pub fn many_keys(&self, start: &[u8], count: u16) -> Result<Stream, Fail> {
+        let mut stream = Stream::new(self.alloc);
+        for number in 0..count {
+            stream.push(self.numbered(start, number)?, 1)?;
+        }
+        Ok(stream)
     }
 
     /// Adds an item.
@@ -130,10 +166,10 @@ impl<'a> Lab<'a> {
         Ok(stream.push(self.key(letter)?, weight)?)
     }
 
-    /// The items a 5, b 3, c 2 and a 1.
+    /// The four items.
     pub fn stream(&self) -> Result<Stream, Fail> {
         let mut stream = Stream::new(self.alloc);
-        for (letter, weight) in &[(b'a', 5), (b'b', 3), (b'c', 2), (b'a', 1)] {
+        for (letter, weight) in &ITEMS {
             self.push(&mut stream, *letter, *weight)?;
         }
         Ok(stream)
@@ -142,5 +178,16 @@ impl<'a> Lab<'a> {
     /// The summary of the items for k = 2: a 4, b 1.
     pub fn summary(&self) -> Result<Summary, Fail> {
         Ok(Summary::of_items(self.alloc, 2, self.stream()?.items())?)
+    }
+
+    /// The keys of that summary.
+    pub fn candidates(&self) -> Result<Candidates, Fail>
+        ensures { IfOk result (λ candidates. length candidates ≡ 2) }
+    {
+        let candidates = Candidates::of(self.alloc, &self.summary()?)?;
+        if candidates.len() != 2 {
+            return Err(Fail::new("two keys have counters"));
+        }
+        Ok(candidates)
     }
 }

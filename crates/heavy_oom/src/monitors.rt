@@ -2,7 +2,7 @@
 
 ghost use Rattle.std.specs.Prelude.{◌<◌};
 
-use crate::lab::{Lab, Said, marked, no_such_call};
+use crate::lab::{Lab, Said, marked, no_such_call, told};
 use crate::show::{Counters, Numbers};
 use hh_counters::{AddFault, BucketSaving, Monitor, NewFault, SpaceSaving};
 use hh_stream::{Item, Key};
@@ -48,10 +48,14 @@ fn buckets(lab: &Lab) -> Result<BucketSaving, Fail> {
 // Where c has 1 already, in the bucket of 1: before b is dropped, c moves to the bucket of 3, where
 // b is.
 fn waiting(lab: &Lab) -> Result<BucketSaving, Fail> {
-    let key = lab.key(b'c')?;
     let mut monitor = buckets(lab)?;
-    monitor.add(&key, 1)?;
+    add_one(lab, &mut monitor)?;
     Ok(monitor)
+}
+
+fn add_one<M: Monitor>(lab: &Lab, monitor: &mut M) -> Result<(), Fail> {
+    let key = lab.key(b'c')?;
+    Ok(monitor.add(&key, 1)?)
 }
 
 /// A monitor by all its readers, with the counters of some keys.
@@ -66,12 +70,20 @@ impl<M: Monitor> fmt::Display for Monitored<'_, M> {
         let (k, total) = (self.monitor.k(), self.monitor.total());
         let (len, least) = (self.monitor.len(), self.monitor.least());
         write!(f, "k {k} total {total} len {len} least {least}: ")?;
-        for key in self.keys {
-            let counter = self.monitor.get(key);
-            write!(f, "{counter} ")?;
-        }
-        Ok(())
+        values(f, self.monitor, self.keys)
     }
+}
+
+fn values<W: fmt::Write, M: Monitor>(
+    f: &mut fmt::Formatter<W>,
+    monitor: &M,
+    keys: &[Key],
+) -> fmt::Result {
+    for key in keys {
+        let counter = monitor.get(key);
+        write!(f, "{counter} ")?;
+    }
+    Ok(())
 }
 
 fn add_all<M: Monitor>(monitor: &mut M, items: &[Item]) -> Result<(), AddFault> {
@@ -90,7 +102,7 @@ fn filled<M: Monitor>(lab: &Lab, made: Result<M, Fail>) -> Result<M, Fail> {
 
 fn keys(lab: &Lab) -> Result<Vec<Key>, Fail> {
     let mut keys = Vec::new(lab.alloc);
-    for letter in [b'a', b'b', b'c', b'd'] {
+    for letter in b'a'..=b'd' {
         keys.push(lab.key(letter)?)?;
     }
     Ok(keys)
@@ -106,28 +118,16 @@ fn added<M: Monitor>(
     requires { 0 < weight }
 {
     let mut monitor = filled(lab, made)?;
-    let keys = keys(lab)?;
-    add_twice(
-        lab,
-        &mut monitor,
-        keys.as_slice(),
-        &lab.key(letter)?,
-        weight,
-    )
+    add_twice(lab, &mut monitor, &lab.key(letter)?, weight)
 }
 
-fn add_twice<M: Monitor>(
-    lab: &Lab,
-    monitor: &mut M,
-    keys: &[Key],
-    key: &Key,
-    weight: u64,
-) -> Result<Said, Fail>
+fn add_twice<M: Monitor>(lab: &Lab, monitor: &mut M, key: &Key, weight: u64) -> Result<Said, Fail>
     requires { 0 < weight }
 {
-    match added_once(lab, monitor, keys, key, weight)? {
+    let keys = keys(lab)?;
+    match added_once(lab, monitor, keys.as_slice(), key, weight)? {
         Said::Answer => Ok(Said::Answer),
-        Said::Memory => added_once(lab, monitor, keys, key, weight),
+        Said::Memory => added_once(lab, monitor, keys.as_slice(), key, weight),
     }
 }
 
@@ -152,12 +152,8 @@ fn added_once<M: Monitor>(
 fn translated<M: Monitor>(lab: &Lab, made: Result<M, Fail>) -> Result<Said, Fail> {
     let monitor = filled(lab, made)?;
     let keys = keys(lab)?;
-    translate_twice(lab, monitor, keys.as_slice())
-}
-
-fn translate_twice<M: Monitor>(lab: &Lab, monitor: M, keys: &[Key]) -> Result<Said, Fail> {
-    if let Some(back) = translated_once(lab, monitor, keys)? {
-        let _again = translated_once(lab, back, keys)?;
+    if let Some(back) = translated_once(lab, monitor, keys.as_slice())? {
+        let _again = translated_once(lab, back, keys.as_slice())?;
     }
     Ok(Said::Answer)
 }
@@ -186,23 +182,23 @@ fn space_saving_new(lab: &Lab) -> Result<Said, Fail> {
 }
 
 fn bucket_saving_new(lab: &Lab) -> Result<Said, Fail> {
-    match marked!(lab, BucketSaving::new(lab.alloc, 2)) {
-        Err(NewFault::Memory) => lab.refused(),
-        made => lab.answer(made?.total()),
-    }
+    told!(lab, BucketSaving::new(lab.alloc, 2), NewFault::Memory)
+}
+
+fn readers<M: Monitor>(lab: &Lab, made: Result<M, Fail>) -> Result<Said, Fail> {
+    let monitor = filled(lab, made)?;
+    read(lab, &monitor, &lab.key(b'a')?)
 }
 
 // The calls on a monitor of the four items that take no memory.
-fn readers<M: Monitor>(lab: &Lab, made: Result<M, Fail>) -> Result<Said, Fail> {
-    let monitor = filled(lab, made)?;
-    let a = lab.key(b'a')?;
+fn read<M: Monitor>(lab: &Lab, monitor: &M, a: &Key) -> Result<Said, Fail> {
     lab.begin();
     let numbers = [
         monitor.k(),
         monitor.total(),
         monitor.len() as u64,
         monitor.least(),
-        monitor.get(&a),
+        monitor.get(a),
     ];
     lab.end();
     lab.answer(Numbers(&numbers))

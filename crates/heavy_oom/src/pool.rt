@@ -3,7 +3,7 @@
 ghost use Rattle.std.specs.Prelude.{◌≡◌, ◌*◌, IfOk, length, sum};
 
 use crate::lab::{Lab, Said, marked, no_such_call};
-use crate::show::{Cells, Counters, Numbers, Report};
+use crate::show::{Counters, Report};
 use hh_counters::Candidates;
 use hh_countmin::Family;
 use hh_pool::{
@@ -11,7 +11,7 @@ use hh_pool::{
     second_pass, second_pass_sequentially,
 };
 use hh_shared::SharedSums;
-use hh_stream::{Cutting, Key, Stream};
+use hh_stream::{Cutting, Stream};
 use std::sync::Wait;
 use std::sync::atomic::AtomicU64;
 use std::sync::atomic::Ordering::SeqCst;
@@ -20,19 +20,38 @@ use std::thread::Threads;
 
 pub fn call<R: Threads + Wait + Sync>(rt: &R, lab: &Lab, name: &str) -> Result<Said, Fail> {
     match name {
-        "analyse" => analysed(rt, lab),
+        "analyse" => analysed(rt, lab, &lab.stream()?),
         "analyse many keys" => analysed_many(rt, lab),
         "Plan, Options and OpenGate" => plain_calls(lab),
-        "first_pass" => first_passed(lab),
-        "first_pass_sequentially" => first_passed_sequentially(lab),
-        "second_pass" => second_passed(lab),
-        "second_pass_sequentially" => second_passed_sequentially(lab),
+        _ => passed(lab, name),
+    }
+}
+
+// Makes the call of one pass over the four items, in two pieces.
+fn passed(lab: &Lab, name: &str) -> Result<Said, Fail> {
+    let stream = lab.stream()?;
+    let cutting = Cutting::even(lab.alloc, stream.len(), 2)?;
+    match name {
+        "first_pass" => first_passed(lab, &stream, &cutting),
+        "first_pass_sequentially" => first_passed_sequentially(lab, &stream, &cutting),
+        _ => second(lab, name, &stream, &cutting),
+    }
+}
+
+// Makes the call of the second pass.
+fn second(lab: &Lab, name: &str, stream: &Stream, cutting: &Cutting) -> Result<Said, Fail>
+    requires { sum cutting.now ≡ length stream.now }
+{
+    let candidates = lab.candidates()?;
+    match name {
+        "second_pass" => second_passed(lab, stream, cutting, &candidates),
+        "second_pass_sequentially" => second_alone(lab, stream, cutting, &candidates),
         _ => Err(no_such_call(name)),
     }
 }
 
 // The options of an analysis, and how many cells its table has.
-fn options_and_cells(lab: &Lab, workers: u64) -> Result<(Options, usize), Fail>
+fn options(lab: &Lab, workers: u64) -> Result<(Options, usize), Fail>
     ensures { IfOk result (λ r. r.1 ≡ length r.0.family.rows * r.0.width) }
 {
     let family = Family::from_parts(lab.alloc, 256, &[(1, 0), (3, 1)])?;
@@ -41,52 +60,16 @@ fn options_and_cells(lab: &Lab, workers: u64) -> Result<(Options, usize), Fail>
     Ok((options, cells))
 }
 
-fn options(lab: &Lab, workers: u64) -> Result<Options, Fail> {
-    let (options, _) = options_and_cells(lab, workers)?;
-    Ok(options)
-}
-
-// What the analysis answers, or nothing where memory was refused.
-fn outcome<R: Threads + Wait + Sync, G: Gate + Sync>(
-    rt: &R,
-    lab: &Lab,
-    stream: &Stream,
-    cutting: &Cutting,
-    plan: &Plan,
-    options: &Options,
-    gate: &G,
-) -> Result<Option<Outcome>, Fail>
+// What one worker finds in the first pass.
+fn first_passed(lab: &Lab, stream: &Stream, cutting: &Cutting) -> Result<Said, Fail>
     requires { sum cutting.now ≡ length stream.now }
 {
-    let done = marked!(
-        lab,
-        analyse(rt, lab.alloc, stream, cutting, plan, options, gate)
-    );
-    match done {
-        Ok(outcome) => Ok(Some(outcome)),
-        Err(RunError::Memory) => Ok(None),
-        Err(fault) => Err(fault.into()),
-    }
-}
-
-// The four items, in two pieces.
-fn two_pieces(lab: &Lab) -> Result<(Stream, Cutting), Fail>
-    ensures { IfOk result (λ r. sum r.1 ≡ length r.0) }
-{
-    let stream = lab.stream()?;
-    let cutting = Cutting::even(lab.alloc, stream.len(), 2)?;
-    Ok((stream, cutting))
-}
-
-// What one worker finds in the first pass.
-fn first_passed(lab: &Lab) -> Result<Said, Fail> {
-    let (stream, cutting) = two_pieces(lab)?;
-    let (options, cells) = options_and_cells(lab, 1)?;
+    let (options, cells) = options(lab, 1)?;
     let (sums, seat) = SharedSums::new(lab.alloc, cutting.count(), cells)?;
     let pass = marked!(
         lab,
         first_pass(
-            lab.alloc, &sums, seat, &stream, &cutting, &options, &OpenGate, 0
+            lab.alloc, &sums, seat, stream, cutting, &options, &OpenGate, 0
         )
     );
     match pass {
@@ -96,12 +79,13 @@ fn first_passed(lab: &Lab) -> Result<Said, Fail> {
 }
 
 // What the calling thread finds in the first pass.
-fn first_passed_sequentially(lab: &Lab) -> Result<Said, Fail> {
-    let (stream, cutting) = two_pieces(lab)?;
-    let options = options(lab, 1)?;
+fn first_passed_sequentially(lab: &Lab, stream: &Stream, cutting: &Cutting) -> Result<Said, Fail>
+    requires { sum cutting.now ≡ length stream.now }
+{
+    let (options, _) = options(lab, 1)?;
     let pass = marked!(
         lab,
-        first_pass_sequentially(lab.alloc, &stream, &cutting, &options, &OpenGate)
+        first_pass_sequentially(lab.alloc, stream, cutting, &options, &OpenGate)
     );
     match pass {
         Ok((found, table)) => lab.answer(format_args!("{} {}", found.len(), table.total())),
@@ -109,33 +93,21 @@ fn first_passed_sequentially(lab: &Lab) -> Result<Said, Fail> {
     }
 }
 
-// The two keys whose weights the second pass counts.
-fn two_candidates(lab: &Lab) -> Result<Candidates, Fail>
-    ensures { IfOk result (λ candidates. length candidates ≡ 2) }
-{
-    let candidates = Candidates::of(lab.alloc, &lab.summary()?)?;
-    if candidates.len() != 2 {
-        return Err(Fail::new("two keys have counters"));
-    }
-    Ok(candidates)
-}
-
 // Whether one worker has done the second pass.
-fn second_passed(lab: &Lab) -> Result<Said, Fail> {
-    let (stream, cutting) = two_pieces(lab)?;
-    let candidates = two_candidates(lab)?;
+fn second_passed(
+    lab: &Lab,
+    stream: &Stream,
+    cutting: &Cutting,
+    candidates: &Candidates,
+) -> Result<Said, Fail>
+    requires same_len { sum cutting.now ≡ length stream.now }
+    requires two { length candidates.now ≡ 2 }
+{
     let (sums, seat) = SharedSums::new(lab.alloc, cutting.count(), candidates.len())?;
     let pass = marked!(
         lab,
         second_pass(
-            lab.alloc,
-            &sums,
-            seat,
-            &stream,
-            &cutting,
-            &candidates,
-            &OpenGate,
-            0
+            lab.alloc, &sums, seat, stream, cutting, candidates, &OpenGate, 0
         )
     );
     match pass {
@@ -145,12 +117,17 @@ fn second_passed(lab: &Lab) -> Result<Said, Fail> {
 }
 
 // What the calling thread counts in the second pass.
-fn second_passed_sequentially(lab: &Lab) -> Result<Said, Fail> {
-    let (stream, cutting) = two_pieces(lab)?;
-    let candidates = two_candidates(lab)?;
+fn second_alone(
+    lab: &Lab,
+    stream: &Stream,
+    cutting: &Cutting,
+    candidates: &Candidates,
+) -> Result<Said, Fail>
+    requires { sum cutting.now ≡ length stream.now }
+{
     let pass = marked!(
         lab,
-        second_pass_sequentially(lab.alloc, &stream, &cutting, &candidates, &OpenGate, 1)
+        second_pass_sequentially(lab.alloc, stream, cutting, candidates, &OpenGate, 1)
     );
     match pass {
         Ok((weights, total)) => lab.answer(format_args!("{} {total}", weights.len())),
@@ -170,35 +147,16 @@ fn plain_calls(lab: &Lab) -> Result<Said, Fail> {
     lab.answer(format_args!("{count} {is_made}"))
 }
 
-fn show(lab: &Lab, outcome: &Outcome) -> Result<Said, Fail> {
-    lab.show(Counters(&outcome.summary))?;
-    lab.show(Cells(&outcome.table))?;
-    lab.answer(Report(outcome.heavy.as_slice()))
-}
-
-// A stream in four pieces, for two workers.
-fn in_four_pieces<R: Threads + Wait + Sync>(
-    rt: &R,
-    lab: &Lab,
-    stream: &Stream,
-) -> Result<Option<Outcome>, Fail> {
-    let options = options(lab, 2)?;
+// The stream in four pieces, by two workers.
+fn analysed<R: Threads + Wait + Sync>(rt: &R, lab: &Lab, stream: &Stream) -> Result<Said, Fail> {
+    let (options, _) = options(lab, 2)?;
     let plan = Plan::balanced(lab.alloc, 4)?;
     let cutting = Cutting::even(lab.alloc, stream.len(), 4)?;
-    outcome(rt, lab, stream, &cutting, &plan, &options, &OpenGate)
-}
-
-fn said(lab: &Lab, done: Result<Option<Outcome>, Fail>) -> Result<Said, Fail> {
-    match done? {
-        None => lab.refused(),
-        Some(outcome) => show(lab, &outcome),
-    }
-}
-
-// The four items.
-fn analysed<R: Threads + Wait + Sync>(rt: &R, lab: &Lab) -> Result<Said, Fail> {
-    let stream = lab.stream()?;
-    said(lab, in_four_pieces(rt, lab, &stream))
+    let made = marked!(
+        lab,
+        analyse(rt, lab.alloc, stream, &cutting, &plan, &options, &OpenGate)
+    );
+    lab.tell(made, RunError::Memory)
 }
 
 /// A gate that counts its calls.
@@ -215,46 +173,51 @@ impl Gate for Counting {
 
 // 2,000 different keys of two bytes, and then the item a.
 fn many_items(lab: &Lab) -> Result<Stream, Fail> {
-    let mut stream = Stream::new(lab.alloc);
-    for i in 0u16..2000 {
-        stream.push(Key::new(lab.alloc, &i.to_be_bytes())?, 1)?;
-    }
+    let mut stream = lab.many_keys(b"", 2000)?;
     lab.push(&mut stream, b'a', 1)?;
     Ok(stream)
 }
 
-// The many keys as one piece and the item a as another, for one worker.
-fn in_two_pieces<R: Threads + Wait + Sync>(
+// The many keys as one piece and the item a as another, by one worker, with the number of times
+// that the gate was called.
+fn analysed_many<R: Threads + Wait + Sync>(rt: &R, lab: &Lab) -> Result<Said, Fail> {
+    let stream = many_items(lab)?;
+    let (options, _) = options(lab, 1)?;
+    let plan = Plan::chain(lab.alloc, 2)?;
+    let cutting = Cutting::by_lengths(lab.alloc, stream.len(), &[2000, 1])?;
+    counted(rt, lab, &stream, &cutting, &plan, &options)
+}
+
+fn counted<R: Threads + Wait + Sync>(
     rt: &R,
     lab: &Lab,
     stream: &Stream,
-    gate: &Counting,
-) -> Result<Option<Outcome>, Fail> {
-    let options = options(lab, 1)?;
-    let plan = Plan::chain(lab.alloc, 2)?;
-    let cutting = Cutting::by_lengths(lab.alloc, stream.len(), &[2000, 1])?;
-    outcome(rt, lab, stream, &cutting, &plan, &options, gate)
-}
-
-fn show_many(lab: &Lab, outcome: &Outcome, calls: u64) -> Result<Said, Fail> {
-    lab.show(Counters(&outcome.summary))?;
-    lab.show(Report(outcome.heavy.as_slice()))?;
-    lab.answer(Numbers(&[calls]))
-}
-
-fn said_after(lab: &Lab, done: Result<Option<Outcome>, Fail>, calls: u64) -> Result<Said, Fail> {
-    match done? {
-        None => lab.refused_after(calls),
-        Some(outcome) => show_many(lab, &outcome, calls),
-    }
-}
-
-// With the number of times that the gate was called.
-fn analysed_many<R: Threads + Wait + Sync>(rt: &R, lab: &Lab) -> Result<Said, Fail> {
-    let stream = many_items(lab)?;
+    cutting: &Cutting,
+    plan: &Plan,
+    options: &Options,
+) -> Result<Said, Fail>
+    requires { sum cutting.now ≡ length stream.now }
+{
     let gate = Counting {
         calls: AtomicU64::new(0),
     };
-    let done = in_two_pieces(rt, lab, &stream, &gate);
-    said_after(lab, done, gate.calls.load(SeqCst))
+    let done = marked!(
+        lab,
+        analyse(rt, lab.alloc, stream, cutting, plan, options, &gate)
+    );
+    told_after(lab, done, gate.calls.load(SeqCst))
+}
+
+fn told_after(lab: &Lab, done: Result<Outcome, RunError>, calls: u64) -> Result<Said, Fail> {
+    match done {
+        Ok(outcome) => tell_counted(lab, &outcome, calls),
+        Err(RunError::Memory) => lab.refused_after(calls),
+        Err(fault) => Err(fault.into()),
+    }
+}
+
+fn tell_counted(lab: &Lab, outcome: &Outcome, calls: u64) -> Result<Said, Fail> {
+    lab.show(Counters(&outcome.summary))?;
+    lab.show(Report(outcome.heavy.as_slice()))?;
+    lab.answer(format_args!("{calls} "))
 }

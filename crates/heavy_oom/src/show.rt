@@ -1,13 +1,17 @@
 //! How values are printed.
 
+use crate::lab::{Lab, Said};
 use heavy::Heavy;
-use hh_counters::Summary;
+use hh_counters::{BucketSaving, Monitor, Summary};
 use hh_countmin::{Family, Table};
-use hh_stream::Item;
+use hh_pool::Outcome;
+use hh_saved::Saved;
+use hh_stream::{Cutting, Item, Key};
 use std::fmt;
+use std::test::Fail;
 
 /// Bytes, in hexadecimal.
-#[derive(Clone, Copy)]
+#[derive(Drop)]
 pub struct Hex<'a>(pub &'a [u8]);
 
 impl fmt::Display for Hex<'_> {
@@ -20,29 +24,13 @@ impl fmt::Display for Hex<'_> {
 }
 
 /// Numbers.
-#[derive(Clone, Copy)]
+#[derive(Drop)]
 pub struct Numbers<'a>(pub &'a [u64]);
 
 impl fmt::Display for Numbers<'_> {
     fn fmt<W: fmt::Write>(&self, f: &mut fmt::Formatter<W>) -> fmt::Result {
         for number in self.0 {
             write!(f, "{number} ")?;
-        }
-        Ok(())
-    }
-}
-
-/// The bytes before the first 0.
-#[derive(Clone, Copy)]
-pub struct Taken<'a>(pub &'a [u8]);
-
-impl fmt::Display for Taken<'_> {
-    fn fmt<W: fmt::Write>(&self, f: &mut fmt::Formatter<W>) -> fmt::Result {
-        for byte in self.0 {
-            if *byte == 0 {
-                break;
-            }
-            write!(f, "{byte:02x}")?;
         }
         Ok(())
     }
@@ -55,7 +43,7 @@ fn pair<W: fmt::Write>(f: &mut fmt::Formatter<W>, key: &[u8], number: u64) -> fm
 }
 
 /// The items of a stream.
-#[derive(Clone, Copy)]
+#[derive(Drop)]
 pub struct Items<'a>(pub &'a [Item]);
 
 impl fmt::Display for Items<'_> {
@@ -68,39 +56,47 @@ impl fmt::Display for Items<'_> {
 }
 
 /// A summary by all its readers.
-#[derive(Clone, Copy)]
+#[derive(Drop)]
 pub struct Counters<'a>(pub &'a Summary);
 
 impl fmt::Display for Counters<'_> {
     fn fmt<W: fmt::Write>(&self, f: &mut fmt::Formatter<W>) -> fmt::Result {
         let (k, total, sum) = (self.0.k(), self.0.total(), self.0.sum());
         write!(f, "k {k} total {total} sum {sum}: ")?;
-        for i in 0..self.0.len() {
-            let (key, counter) = self.0.entry(i);
-            pair(f, key.bytes(), counter)?;
-        }
-        Ok(())
+        entries(f, self.0)
     }
 }
 
+fn entries<W: fmt::Write>(f: &mut fmt::Formatter<W>, summary: &Summary) -> fmt::Result {
+    for i in 0..summary.len() {
+        let (key, counter) = summary.entry(i);
+        pair(f, key.bytes(), counter)?;
+    }
+    Ok(())
+}
+
 /// A family of hash functions.
-#[derive(Clone, Copy)]
+#[derive(Drop)]
 pub struct Rows<'a>(pub &'a Family);
 
 impl fmt::Display for Rows<'_> {
     fn fmt<W: fmt::Write>(&self, f: &mut fmt::Formatter<W>) -> fmt::Result {
         let z = self.0.z();
         write!(f, "z {z}: ")?;
-        for r in 0..self.0.depth() {
-            let (factor, addend) = self.0.row(r);
-            write!(f, "{factor} {addend} ")?;
-        }
-        Ok(())
+        coefficients(f, self.0)
     }
 }
 
+fn coefficients<W: fmt::Write>(f: &mut fmt::Formatter<W>, family: &Family) -> fmt::Result {
+    for r in 0..family.depth() {
+        let (factor, addend) = family.row(r);
+        write!(f, "{factor} {addend} ")?;
+    }
+    Ok(())
+}
+
 /// A table, by its total and its cells.
-#[derive(Clone, Copy)]
+#[derive(Drop)]
 pub struct Cells<'a>(pub &'a Table);
 
 impl fmt::Display for Cells<'_> {
@@ -111,7 +107,7 @@ impl fmt::Display for Cells<'_> {
 }
 
 /// The rows of a report.
-#[derive(Clone, Copy)]
+#[derive(Drop)]
 pub struct Report<'a>(pub &'a [Heavy]);
 
 impl fmt::Display for Report<'_> {
@@ -120,5 +116,88 @@ impl fmt::Display for Report<'_> {
             pair(f, row.key.bytes(), row.weight)?;
         }
         Ok(())
+    }
+}
+
+/// What a call answers.
+pub trait Answer {
+    /// Prints the answer.
+    fn tell(&self, lab: &Lab) -> Result<Said, Fail>;
+}
+
+impl Answer for Key {
+    fn tell(&self, lab: &Lab) -> Result<Said, Fail> {
+        lab.answer(Hex(self.bytes()))
+    }
+}
+
+impl Answer for Cutting {
+    fn tell(&self, lab: &Lab) -> Result<Said, Fail> {
+        lab.answer(self.count())
+    }
+}
+
+impl Answer for Summary {
+    fn tell(&self, lab: &Lab) -> Result<Said, Fail> {
+        lab.answer(Counters(self))
+    }
+}
+
+impl Answer for &Summary {
+    fn tell(&self, lab: &Lab) -> Result<Said, Fail> {
+        lab.answer(Counters(self))
+    }
+}
+
+impl Answer for BucketSaving {
+    fn tell(&self, lab: &Lab) -> Result<Said, Fail> {
+        lab.answer(self.total())
+    }
+}
+
+impl Answer for Family {
+    fn tell(&self, lab: &Lab) -> Result<Said, Fail> {
+        lab.answer(Rows(self))
+    }
+}
+
+impl Answer for Table {
+    fn tell(&self, lab: &Lab) -> Result<Said, Fail> {
+        lab.answer(Cells(self))
+    }
+}
+
+impl Answer for Saved {
+    fn tell(&self, lab: &Lab) -> Result<Said, Fail> {
+        match self {
+            Saved::Counters(summary) => lab.answer(Counters(summary)),
+            Saved::Cells(_) => Err(Fail::new("a summary was saved")),
+        }
+    }
+}
+
+impl Answer for Vec<u8> {
+    fn tell(&self, lab: &Lab) -> Result<Said, Fail> {
+        lab.answer(Hex(self.as_slice()))
+    }
+}
+
+impl Answer for Vec<u64> {
+    fn tell(&self, lab: &Lab) -> Result<Said, Fail> {
+        lab.answer(Numbers(self.as_slice()))
+    }
+}
+
+impl Answer for Vec<Heavy> {
+    fn tell(&self, lab: &Lab) -> Result<Said, Fail> {
+        lab.answer(Report(self.as_slice()))
+    }
+}
+
+impl Answer for Outcome {
+    fn tell(&self, lab: &Lab) -> Result<Said, Fail> {
+        lab.show(Counters(&self.summary))?;
+        lab.show(Cells(&self.table))?;
+        lab.answer(Report(self.heavy.as_slice()))
     }
 }

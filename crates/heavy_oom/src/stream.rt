@@ -1,86 +1,67 @@
 //! The calls of `hh_stream`.
 
-use crate::lab::{Lab, Said, marked, no_such_call};
+use crate::lab::{Lab, Said, marked, no_such_call, told};
 use crate::show::{Hex, Items};
-use hh_stream::{Cutting, CuttingFault, Key, KeyFault, PushFault, PushRefused, Stream};
+use hh_stream::{Cutting, CuttingFault, Item, Key, KeyFault, PushFault, PushRefused, Stream};
 use std::alloc::AllocError;
 use std::test::Fail;
 
 pub fn call(lab: &Lab, name: &str) -> Result<Said, Fail> {
+    let a = lab.key(b'a')?;
+    called(lab, name, &a, &mut lab.stream()?)
+}
+
+// Makes the call, with the key a and the four items.
+fn called(lab: &Lab, name: &str, a: &Key, stream: &mut Stream) -> Result<Said, Fail> {
+    let alloc = lab.alloc;
     match name {
-        "Key::new" => key_new(lab),
-        "Key::of_bytes" => key_of_bytes(lab),
-        "Key::copy" => key_copy(lab),
-        "Stream::push" => stream_push(lab),
-        "Cutting::even" => cutting_even(lab),
-        "Cutting::by_lengths" => cutting_by_lengths(lab),
-        "Key and Stream readers" => stream_readers(lab),
-        "Cutting readers" => cutting_readers(lab),
+        "Key::new" => told!(lab, Key::new(alloc, a.bytes()), KeyFault::Memory),
+        "Key::of_bytes" => told!(lab, Key::of_bytes(alloc, a.bytes()), AllocError),
+        "Key::copy" => told!(lab, a.copy(), AllocError),
+        "Stream::push" => push_twice(lab, stream, lab.key(b'd')?),
+        "Cutting::even" => told!(lab, Cutting::even(alloc, 10, 4), CuttingFault::Memory),
+        "Cutting::by_lengths" => by_lengths(lab, &[3, 0, 7]),
+        "Key and Stream readers" => stream_readers(lab, stream, a),
+        "Cutting readers" => cutting_readers(lab, stream),
         _ => Err(no_such_call(name)),
     }
 }
 
+fn by_lengths(lab: &Lab, lengths: &[usize]) -> Result<Said, Fail> {
+    let made = marked!(lab, Cutting::by_lengths(lab.alloc, 10, lengths));
+    lab.tell(made, CuttingFault::Memory)
+}
+
 // The calls on keys, items and streams that take no memory.
-fn stream_readers(lab: &Lab) -> Result<Said, Fail> {
-    let (stream, a) = (lab.stream()?, lab.key(b'a')?);
+fn stream_readers(lab: &Lab, stream: &Stream, a: &Key) -> Result<Said, Fail> {
     lab.begin();
     let none = Stream::new(lab.alloc).len();
     let (len, total) = (stream.len(), stream.total());
-    let is_first = match stream.items().first() {
-        Some(item) => *item.key() == a && item.weight() == 5,
-        None => false,
-    };
+    let is_first = is_first(stream.items(), a);
     let is_one_byte = a.bytes().len() == 1;
     lab.end();
     lab.answer(format_args!("{none} {len} {total} {is_first} {is_one_byte}"))
 }
 
+// Whether the first item is this key with weight 5.
+fn is_first(items: &[Item], key: &Key) -> bool {
+    match items.first() {
+        Some(item) => item.key() == key && item.weight() == 5,
+        None => false,
+    }
+}
+
 // The calls on a cutting that take no memory.
-fn cutting_readers(lab: &Lab) -> Result<Said, Fail> {
-    let stream = lab.stream()?;
+fn cutting_readers(lab: &Lab, stream: &Stream) -> Result<Said, Fail> {
     let cutting = Cutting::even(lab.alloc, stream.len(), 3)?;
     lab.begin();
     let (count, len) = (cutting.count(), cutting.len());
-    let first = cutting.piece(&stream, 0).len();
+    let first = cutting.piece(stream, 0).len();
     lab.end();
     lab.answer(format_args!("{count} {len} {first}"))
 }
 
-fn key_new(lab: &Lab) -> Result<Said, Fail> {
-    let bytes = lab.bytes(b'a')?;
-    made(lab, marked!(lab, Key::new(lab.alloc, bytes.as_slice())))
-}
-
-fn made(lab: &Lab, made: Result<Key, KeyFault>) -> Result<Said, Fail> {
-    match made {
-        Err(KeyFault::Memory) => lab.refused(),
-        made => lab.answer(Hex(made?.bytes())),
-    }
-}
-
-fn key_of_bytes(lab: &Lab) -> Result<Said, Fail> {
-    let key = lab.key(b'a')?;
-    copied(lab, marked!(lab, Key::of_bytes(lab.alloc, key.bytes())))
-}
-
-fn key_copy(lab: &Lab) -> Result<Said, Fail> {
-    let key = lab.key(b'a')?;
-    copied(lab, marked!(lab, key.copy()))
-}
-
-fn copied(lab: &Lab, made: Result<Key, AllocError>) -> Result<Said, Fail> {
-    match made {
-        Err(AllocError) => lab.refused(),
-        Ok(copy) => lab.answer(Hex(copy.bytes())),
-    }
-}
-
-// The fifth item, for which the list grows, and again where memory was refused.
-fn stream_push(lab: &Lab) -> Result<Said, Fail> {
-    let key = lab.key(b'd')?;
-    push_twice(lab, &mut lab.stream()?, key)
-}
-
+// Pushes the fifth item, for which the list grows, and again where memory was refused.
 fn push_twice(lab: &Lab, stream: &mut Stream, key: Key) -> Result<Said, Fail> {
     if let Some(back) = pushed(lab, stream, key)? {
         let _again = pushed(lab, stream, back)?;
@@ -114,22 +95,4 @@ fn handed_back(lab: &Lab, refused: PushRefused) -> Result<Option<Key>, Fail> {
     }
     let _said = lab.refused()?;
     Ok(Some(refused.key))
-}
-
-fn cutting_even(lab: &Lab) -> Result<Said, Fail> {
-    cut(lab, marked!(lab, Cutting::even(lab.alloc, 10, 4)))
-}
-
-fn cutting_by_lengths(lab: &Lab) -> Result<Said, Fail> {
-    cut(
-        lab,
-        marked!(lab, Cutting::by_lengths(lab.alloc, 10, &[3, 0, 7])),
-    )
-}
-
-fn cut(lab: &Lab, made: Result<Cutting, CuttingFault>) -> Result<Said, Fail> {
-    match made {
-        Err(CuttingFault::Memory) => lab.refused(),
-        made => lab.answer(made?.count()),
-    }
 }
