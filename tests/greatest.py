@@ -23,7 +23,7 @@ COUNTERS = 65_535
 FIRST_KEYS = 131_072
 # what a refusal says, and its second line
 REFUSED = re.compile(rb"heavy: of the greatest keys only (\d+) are certain\n  the next key weighs at most (\d+)\n")
-SPECIAL = [b"a,b", b'say "so"', b"two\nlines", b"k" * 300, b"\xff"]
+SPECIAL = [b"a,b", b'say "so"', b"two\nlines", b"k" * 300, b"k" * 4_096, b"\xff"]
 
 
 def chosen() -> tuple[int, int]:
