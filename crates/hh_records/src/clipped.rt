@@ -17,7 +17,8 @@ use std::io::{Error, ErrorKind, Read};
 // The most bytes that are kept of a field: more than a key has, and than the digits of a weight.
 const MOST_FIELD: usize = 16_384;
 
-// The most quotes that are looked at from the end of some bytes, before all are followed from the first.
+// The most quotes that are looked at from the end of some bytes, before all are followed from the
+// first.
 const MOST_QUOTES: u64 = 64;
 
 // Each call ends, and so there is a most of reads whose bytes are all left out.
