@@ -261,21 +261,15 @@ fn push_sums(
     while l < left.len() && r < right.len() {
         let a = &left[l];
         let b = &right[r];
-        match a.0.cmp(&b.0) {
-            Ordering::Less => {
-                push_copy(all, &a.0, a.1)?;
-                l += 1;
-            }
-            Ordering::Greater => {
-                push_copy(all, &b.0, b.1)?;
-                r += 1;
-            }
-            Ordering::Equal => {
-                push_copy(all, &a.0, a.1 + b.1)?;
-                l += 1;
-                r += 1;
-            }
-        }
+        let order = a.0.cmp(&b.0);
+        let (key, number) = match order {
+            Ordering::Less => (&a.0, a.1),
+            Ordering::Equal => (&a.0, a.1 + b.1),
+            Ordering::Greater => (&b.0, b.1),
+        };
+        push_copy(all, key, number)?;
+        l += usize::from(order.is_le());
+        r += usize::from(order.is_ge());
     }
     push_copies(all, &left[l..])?;
     push_copies(all, &right[r..])
