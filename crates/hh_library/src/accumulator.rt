@@ -1,7 +1,7 @@
 //! The value of a saved file as it grows: a summary as a monitor, once many items come.
 
 ghost use Rattle.std.specs.Prelude.{◌≡◌, ◌+◌, ◌<◌, ◌≤◌, [], ◌∷◌, length, None, Ok};
-ghost use Rattle.std.specs.Prelude.{IfErr, IfOk, IsTrue, OnErr, OnOk};
+ghost use Rattle.std.specs.Prelude.{IfErr, IfOk, IsTrue, MatchResult, OnErr, OnOk};
 ghost use Rattle.hh_stream.specs.Weights.{max_key_len, max_total};
 ghost use Rattle.hh_counters.specs.SpaceSaving.{monitor_of};
 ghost use Rattle.hh_saved.specs.Spelling.{Spells};
@@ -51,7 +51,6 @@ impl Model for Accumulator {
 }
 
 /// How the value is held. The numbers are what a summary's stream weighs besides.
-#[derive(Drop)]
 enum Form {
     /// A summary as a monitor that is translated to it.
     Monitored(u64, BucketSaving),
@@ -59,6 +58,17 @@ enum Form {
     Translated(u64, Summary),
     /// The value itself.
     Whole(Saved),
+}
+
+impl Drop for Form {
+    /// Drops what the form holds, of whatever kind: one call wherever a form is dropped.
+    fn drop(self) {
+        match self {
+            Form::Monitored(_, _monitor) => {}
+            Form::Translated(_, _summary) => {}
+            Form::Whole(_saved) => {}
+        }
+    }
 }
 
 /// What may be spent on the items of a summary of no counters before a monitor is made, halved.
@@ -187,20 +197,20 @@ impl Form {
         }
     }
 
-    /// Gives the value, or where memory is refused a form of it.
-    fn into_saved(self, alloc: Global) -> Result<Saved, Form>
+    /// Makes the value itself of a form, or where memory is refused another form of it.
+    fn into_whole(self, alloc: Global) -> Result<Form, Form>
         requires { Grows self }
-        ensures value { IfOk result (λ saved. saved ≡ value_of self) }
+        ensures whole { IfOk result (λ form. form ≡ Whole (value_of self)) }
         ensures same { IfErr result (λ form. value_of form ≡ value_of self) }
         ensures grows { IfErr result Grows }
     {
         match self {
             Form::Monitored(besides, monitor) => match monitor.into_summary() {
-                Ok(summary) => summary_as_value(alloc, besides, summary),
+                Ok(summary) => summary_as_whole(alloc, besides, summary),
                 Err(monitor) => Err(Form::Monitored(besides, monitor)),
             },
-            Form::Translated(besides, summary) => summary_as_value(alloc, besides, summary),
-            Form::Whole(saved) => Ok(saved),
+            Form::Translated(besides, summary) => summary_as_whole(alloc, besides, summary),
+            Form::Whole(saved) => Ok(Form::Whole(saved)),
         }
     }
 
@@ -266,16 +276,8 @@ fn make_ready(alloc: Global, form: &mut Form, spent: u64, hash: KeyHash) -> Resu
     if form.is_ready(spent) {
         return Ok(());
     }
-    match mem::replace(form, Form::placeholder(alloc)).into_monitored(alloc, hash) {
-        Ok(ready) => {
-            *form = ready;
-            Ok(())
-        }
-        Err(other) => {
-            *form = other;
-            Err(AllocError)
-        }
-    }
+    let made = mem::replace(form, Form::placeholder(alloc)).into_monitored(alloc, hash);
+    put(form, made)
 }
 
 /// Makes `form` the value itself.
@@ -285,28 +287,37 @@ fn make_whole(alloc: Global, form: &mut Form) -> Result<(), AllocError>
     ensures same { value_of form.new ≡ value_of form.old }
     ensures grows { Grows form.new }
 {
-    match mem::replace(form, Form::placeholder(alloc)).into_saved(alloc) {
-        Ok(saved) => {
-            *form = Form::Whole(saved);
+    let made = mem::replace(form, Form::placeholder(alloc)).into_whole(alloc);
+    put(form, made)
+}
+
+/// Puts what was `made` in `place`: what was wanted, or where memory was refused another form of it.
+fn put<T: Drop>(place: &mut T, made: Result<T, T>) -> Result<(), AllocError>
+    ensures put { MatchResult made (λ wanted. place.new ≡ wanted) (λ other. place.new ≡ other) }
+    ensures wanted { OnOk result (made ≡ Ok place.new) }
+{
+    match made {
+        Ok(wanted) => {
+            *place = wanted;
             Ok(())
         }
         Err(other) => {
-            *form = other;
+            *place = other;
             Err(AllocError)
         }
     }
 }
 
 /// Gives the `summary` of a stream that weighs `besides` more as a value, or where memory is
-/// refused a form of it.
-fn summary_as_value(alloc: Global, besides: u64, summary: Summary) -> Result<Saved, Form>
+/// refused as it is.
+fn summary_as_whole(alloc: Global, besides: u64, summary: Summary) -> Result<Form, Form>
     requires { besides + summary.total ≤ max_total }
-    ensures value { IfOk result (λ saved. saved ≡ value_of (Translated besides summary)) }
+    ensures value { IfOk result (λ form. form ≡ Whole (value_of (Translated besides summary))) }
     ensures same { IfErr result (λ form. form ≡ Translated besides summary) }
 {
     let mut whole = Summary::from_entries(summary.k(), besides, Vec::new(alloc));
     match whole.merge(&summary) {
-        Ok(()) => Ok(Saved::Counters(whole)),
+        Ok(()) => Ok(Form::Whole(Saved::Counters(whole))),
         Err(_) => Err(Form::Translated(besides, summary)),
     }
 }

@@ -13,12 +13,11 @@ ghost use Rattle.hh_library.specs.LaidOut.{CondensesBounded, ConfirmBoundedRefus
 ghost use Rattle.hh_library.specs.LaidOut.{ConfirmsBounded, ReportsRows, bad_report};
 ghost use Rattle.hh_library.specs.LaidOut.{rows_in_units, text_laid};
 
-use crate::commands::add::add_items_by;
-use crate::commands::add_text::items_in;
+use crate::commands::add_text::{add_stream, check_file};
 use crate::commands::count_items::share_or_least;
 use hh_commands::{
-    Comparison, condensed_part, confirmed_text, count_records, file_of, rows_above,
-    summary_by_monitoring, summary_in,
+    Comparison, condensed_part, confirmed_text, count_records, rows_above, summary_by_monitoring,
+    summary_in,
 };
 use hh_counters::laws::{candidates_suffice, misra_gries_is_honest};
 use hh_counters::{Heavy, MAX_K};
@@ -69,10 +68,9 @@ pub fn add_records<R: ReadRecords>(
     ensures early { StopsAtHead 1 file.now result }
 {
     let hash = records.hash();
-    let _file = file_of(alloc, 1, file)?;
+    check_file(alloc, file)?;
     let stream = stream_of(alloc, records)?;
-    let items = items_in(alloc, &stream)?;
-    add_items_by(alloc, file, &items, hash)
+    add_stream(alloc, file, &stream, hash)
 }
 
 /// All rows with this many digits of a weight after its point, and no shares.
