@@ -1,4 +1,5 @@
 -- The fault of a summary that is not confirmed.
+use Rattle.std.specs.Prelude.{◌≢◌, ℕ, ⊤}
 use Rattle.hh_faults.specs.declared.error.ToolError.{ToolError}
 use Rattle.hh_faults.specs.declared.error.ToolError.TheVariants as tool
 use Rattle.hh_library.specs.declared.commands.confirm.ConfirmFault.{ConfirmFault}
@@ -8,3 +9,9 @@ use Rattle.hh_library.specs.declared.commands.confirm.ConfirmFault.TheVariants a
 abbrev pub confirm_fault : ConfirmFault → ToolError
 confirm_fault confirm.TotalDiffers = tool.TotalDiffers
 confirm_fault confirm.Memory = tool.Memory
+
+-- what a refusal of counted items tells: that their total is not the summary's
+abbrev pub TotalRefused : ℕ → ℕ → ToolError → Type 0
+TotalRefused m n tool.TotalDiffers = m ≢ n
+TotalRefused m n tool.Memory = ⊤
+TotalRefused m n _ = ⊥

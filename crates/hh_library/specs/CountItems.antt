@@ -19,12 +19,16 @@ abbrev pub counters_of : Saved → Result SummaryView ToolError
 counters_of (Counters s) = Ok s
 counters_of (Cells t) = Err tool.NotCounters
 
--- the condensed rows of items by the summary of a file, or the first refusal: of the file, of its kind, and of the items
+-- the condensed rows of items by a summary, or the first refusal of the items
+abbrev pub condensed_in : SummaryView → List Entry → Result (List ℕ) ToolError
+condensed_in s xs = unless (bad_item 1 0 xs) (condensed_text (condensed s.counters xs))
+
+-- the same by the summary of a file, or the first refusal: of the file, of its kind, and of the items
 abbrev pub condensed_items : List ℕ → List Entry → Result (List ℕ) ToolError
 condensed_items file xs = do
   v ← file_of 1 file
   s ← counters_of v
-  unless (bad_item 1 0 xs) (condensed_text (condensed s.counters xs))
+  condensed_in s xs
 
 -- two numbers where they are a threshold for k counters; where none are given, the least threshold, 1/(k + 1)
 abbrev pub share_or_least : Option (ℕ × ℕ) → ℕ → Option (ℕ × ℕ)

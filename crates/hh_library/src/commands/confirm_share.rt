@@ -10,7 +10,6 @@ use hh_commands::summary_in;
 use hh_counters::is_threshold;
 use hh_faults::ToolError;
 use hh_records::Records;
-use hh_rows::report_text;
 use hh_stream::KeyHash;
 use std::alloc::Global;
 use std::io::Read;
@@ -37,6 +36,5 @@ pub fn confirm_share<R: Read + Drop>(
         return Err(ToolError::BadThreshold);
     }
     let records = Records::with_hasher(alloc, reader, hash);
-    let rows = confirm_records(alloc, &summary, p, q, records)?;
-    Ok(report_text(alloc, &rows)?)
+    confirm_records(alloc, &summary, (p, q), records)
 }

@@ -4,14 +4,15 @@ ghost use Rattle.std.specs.Prelude.{◌≡◌, ◌*◌, ◌+◌, ◌≤◌, Ok, 
 ghost use Rattle.hh_summaries.specs.Counters.{max_k};
 ghost use Rattle.hh_summaries.specs.Report.{IsShare};
 ghost use Rattle.hh_stream.specs.Ranges.{in_range};
-ghost use Rattle.hh_library.specs.CountItems.{condensed_items, confirmed_in, confirmed_items, share_or_least};
+ghost use Rattle.hh_library.specs.CountItems.{condensed_in, condensed_items};
+ghost use Rattle.hh_library.specs.CountItems.{confirmed_in, confirmed_items, share_or_least};
 ghost use Rattle.hh_commands.specs.Files.{Refuses, StopsAtHead};
 
+use crate::commands::confirm::counted_text;
 use crate::items::count_items;
-use hh_commands::{condensed_rows, rows_above, summary_in};
+use hh_commands::{condensed_counts, summary_in};
 use hh_counters::{Summary, is_threshold};
 use hh_faults::ToolError;
-use hh_rows::{condensed_text, report_text};
 use hh_stream::KeyHash;
 use std::alloc::Global;
 
@@ -37,9 +38,23 @@ pub fn condense_items(
     ensures early { StopsAtHead 1 file.now result }
 {
     let summary = summary_in(alloc, file)?;
-    let counts = count_items(alloc, &summary, items, hash)?;
-    let rows = condensed_rows(alloc, &summary, &counts)?;
-    Ok(condensed_text(alloc, &rows)?)
+    condensed_items_text(alloc, &summary, items, hash)
+}
+
+/// The condensed rows of items by a summary.
+fn condensed_items_text(
+    alloc: Global,
+    summary: &Summary,
+    items: &[(&[u8], u64)],
+    hash: KeyHash,
+) -> Result<Vec<u8>, ToolError>
+    ensures rows { IfOk result (λ rows. condensed_in summary.now
+        (map (λ item. (item.0.now, item.1)) items.now) ≡ Ok rows.items) }
+    ensures refused { IfErr result (Refuses (condensed_in summary.now
+        (map (λ item. (item.0.now, item.1)) items.now))) }
+{
+    let counts = count_items(alloc, summary, items, hash)?;
+    Ok(condensed_counts(alloc, summary, &counts, 0)?)
 }
 
 /// The share above which keys are confirmed.
@@ -76,11 +91,7 @@ fn confirmed_items_text(
         (map (λ item. (item.0.now, item.1)) items.now))) }
 {
     let counts = count_items(alloc, summary, items, hash)?;
-    if summary.total() != counts.total() {
-        return Err(ToolError::TotalDiffers);
-    }
-    let rows = rows_above(summary, &counts, share.0, share.1)?;
-    Ok(report_text(alloc, &rows)?)
+    counted_text(alloc, summary, share, &counts)
 }
 
 /// [`confirm_share`](crate::confirm_share) over items in memory, each a key and its weight, which

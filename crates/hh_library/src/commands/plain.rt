@@ -23,7 +23,6 @@ use hh_commands::{
 };
 use hh_faults::ToolError;
 use hh_records::Records;
-use hh_rows::report_text;
 use std::alloc::Global;
 use std::io::Read;
 
@@ -113,8 +112,6 @@ pub fn confirm_bytes<R: Read + Drop>(
     ensures early { StopsAtHead 1 file.now result }
 {
     let summary = summary_in(alloc, file)?;
-    let q = summary.k() + 1;
-    let records = Records::of_reader(alloc, reader);
-    let rows = confirm_records(alloc, &summary, 1, q, records)?;
-    Ok(report_text(alloc, &rows)?)
+    let share = (1, summary.k() + 1);
+    confirm_records(alloc, &summary, share, Records::of_reader(alloc, reader))
 }

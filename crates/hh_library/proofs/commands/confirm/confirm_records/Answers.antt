@@ -1,5 +1,8 @@
-use Rattle.std.proofs.Common.{rules}
+use Rattle.std.proofs.lemmas.Result.{MatchResult-weaker}
+use Rattle.hh_library.proofs.CountFacts.{count_refused}
 use Rattle.hh_library.proofs.commands.confirm.confirm_records.Goals as goal
 
-pub returns-then-total-clause-refused : goal.returns-then-total-clause-refused
-returns-then-total-clause-refused c = search rules
+pub returns-clause-refused : goal.returns-clause-refused
+returns-clause-refused g c =
+    MatchResult-weaker c.counted_text.result c.counted_text.ensures.refused (λ _ h. h)
+    (count_refused c.args.summary.now _ c.in_ok-counts.counts c.in_ok-counts.ensures.counts)
