@@ -1,5 +1,5 @@
 -- The bounds of a summary's keys, compared place by place, and what is told of them.
-use Rattle.std.proofs.Common.{◌≡◌, ◌∙◌, ℕ, ◌+◌, ◌<◌, Bool, List, [], length, get_or, Result, Ok, Err, sym, ap, arith}
+use Rattle.std.proofs.Common.{◌≡◌, ◌∙◌, ℕ, ◌+◌, ◌<◌, Bool, List, [], length, get_or, Result, Ok, Err, Some, sym, ap, arith}
 use Rattle.std.specs.Prelude.{IfOk, OnOk}
 use Rattle.std.specs.List.Sorted.{IsStrictlySortedBy}
 use Rattle.std.specs.Map.{keys_of}
@@ -10,12 +10,15 @@ use Rattle.hh_summaries.specs.Report.{weights_at}
 use Rattle.hh_summaries.proofs.Places.{weight_at}
 use Rattle.hh_counters.specs.Counting.{Count, count_of}
 use Rattle.hh_records.specs.Streams.{Known}
+use Rattle.hh_rows.specs.Thresholds.{threshold_of}
+use Rattle.hh_rows.specs.declared.threshold.Share.{Share}
 use Rattle.hh_faults.specs.declared.error.ToolError.{ToolError}
 use Rattle.hh_faults.specs.declared.error.ToolError.TheVariants as tool
 use Rattle.hh_commands.specs.Bounds.{AreWithin, ComparesBounds, IsBeyond, IsOutside, IsWithin, TellsOutside, bounds_of}
-use Rattle.hh_commands.specs.Confirm.{CompareRefused, TellsCompared, TextRefused}
+use Rattle.hh_commands.specs.Condense.{AboveRefused, CondensePartRefused, TellsAbove}
+use Rattle.hh_commands.specs.Confirm.{CompareRefused, ConfirmRowsRefused, TellsCompared, TextRefused}
 use Rattle.hh_commands.specs.Files.{HoldsSummary}
-use Rattle.hh_commands.specs.Records.{CountsRecords}
+use Rattle.hh_commands.specs.Records.{CountsRecords, IsCountOf}
 use Rattle.hh_commands.specs.declared.compared.Bounds.{Bounds}
 use Rattle.hh_commands.specs.declared.compared.Comparison.{Comparison}
 use Rattle.hh_commands.specs.declared.compared.Outside.{Outside}
@@ -90,11 +93,11 @@ module _ (file : List ℕ) (known : Known) (s : SummaryView) (held : HoldsSummar
     (counted : CountsRecords known (keys_of s.counters) counts) (refuses : Bool) (told : Comparison) where
   -- bounds that were compared are those of the file's summary, and of the records
   pub bounds_compared : {A : Type 0} (b : Bounds) (result : Result A ToolError)
-      → IfOk result (λ _. (xs : List Entry) → counts ≡ count_of (keys_of s.counters) xs
+      → IfOk result (λ _. (xs : List Entry) → IsCountOf (keys_of s.counters) xs counts
       → TellsOutside refuses b s xs told.outside)
       → OnOk result (ComparesBounds refuses b file known told.outside)
   bounds_compared b (Ok x) h =
-      let (xs, reads, (weigh, made)) = counted in (s, xs, held, reads, h xs made)
+      let (xs, reads, made) = counted in (s, xs, held, reads, h xs made)
   bounds_compared b (Err e) h = tt
 
   -- so it is with what a refusal to confirm tells
@@ -118,3 +121,30 @@ module _ (file : List ℕ) (known : Known) (s : SummaryView) (held : HoldsSummar
       let (xs, reads, (weigh, made)) = counted in
       let (is, total, o, left, out) = h xs made in (s, xs, o, held, reads, left, out)
   confirm_told e h = tt
+
+  -- and where the summary was tested, and then a share, of which this threshold comes
+  pub rows_refused : (share : Share) (t : ℕ × ℕ) → threshold_of s.k share ≡ Some t → (e : ToolError)
+      → ((xs : List Entry) → counts ≡ count_of (keys_of s.counters) xs → TextRefused refuses s xs told e)
+      → ConfirmRowsRefused refuses share file known e
+  rows_refused share t is tool.TotalDiffers h = (s, held, rw is (confirm_refused tool.TotalDiffers h))
+  rows_refused share t is tool.WeightOutside h = (s, held, rw is (confirm_refused tool.WeightOutside h))
+  rows_refused share t is tool.Memory h = tt
+  rows_refused share t is e h = let (xs, reads, (weigh, made)) = counted in absurd (h xs made)
+
+  -- so it is with what a refusal to condense tells
+  pub part_refused : (e : ToolError)
+      → ((xs : List Entry) → IsCountOf (keys_of s.counters) xs counts → AboveRefused refuses s xs told e)
+      → CondensePartRefused refuses file known e
+  part_refused tool.WeightOutside h =
+      let (xs, reads, made) = counted in
+      let (is, o, left, out) = h xs made in (s, held, (is, xs, o, reads, out))
+  part_refused tool.Memory h = tt
+  part_refused e h = let (xs, reads, made) = counted in absurd (h xs made)
+
+  pub part_told : (e : ToolError)
+      → ((xs : List Entry) → IsCountOf (keys_of s.counters) xs counts → AboveRefused refuses s xs told e)
+      → TellsAbove file known told e
+  part_told tool.WeightOutside h =
+      let (xs, reads, made) = counted in
+      let (is, o, left, out) = h xs made in (s, xs, o, held, reads, left, out)
+  part_told e h = tt

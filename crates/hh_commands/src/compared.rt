@@ -22,7 +22,7 @@ pub enum Bounds {
 
 /// A key of a summary whose weight in some records is outside its bounds. So these aren't the
 /// records that were summarised, nor a part of them.
-#[derive(Debug, Drop)]
+#[derive(Debug)]
 pub struct Outside {
     pub key: Key,
     /// The key's weight in the records.
@@ -33,8 +33,20 @@ pub struct Outside {
     pub high: u64,
 }
 
+impl Drop for Outside {
+    /// Drops the key: one call wherever such a key is dropped.
+    fn drop(self) {
+        let Outside {
+            key: _key,
+            weight: _,
+            low: _,
+            high: _,
+        } = self;
+    }
+}
+
 /// What is compared of a summary and some records, and where they differ.
-#[derive(Debug, Drop)]
+#[derive(Debug)]
 pub struct Comparison {
     /// Whether a key outside its bounds refuses the records. Else it is left in `outside`, and the
     /// rows are made.
@@ -43,6 +55,17 @@ pub struct Comparison {
     pub totals: Option<Totals>,
     /// A key outside its bounds, where there is one.
     pub outside: Option<Outside>,
+}
+
+impl Drop for Comparison {
+    /// Drops what was left: one call wherever a comparison is dropped.
+    fn drop(self) {
+        let Comparison {
+            refuses: _,
+            totals: _,
+            outside: _outside,
+        } = self;
+    }
 }
 
 impl Comparison {

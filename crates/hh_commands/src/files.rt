@@ -8,7 +8,7 @@ ghost use Rattle.hh_commands.specs.Files.{HoldsSummary, Refuses, StopsAtHead, Su
 
 use hh_counters::Summary;
 use hh_faults::{SavedFault, ToolError};
-use hh_saved::{Saved, read};
+use hh_saved::{Saved, read, write};
 use std::alloc::Global;
 
 /// The refusal that a fault of the file with this number is.
@@ -46,4 +46,12 @@ pub fn summary_in(alloc: Global, file: &[u8]) -> Result<Summary, ToolError>
         Ok(Saved::Cells(_)) => Err(ToolError::NotCounters),
         Err(fault) => Err(file_fault(1, fault)),
     }
+}
+
+/// The saved file of a value, which is dropped.
+pub(crate) fn written(alloc: Global, saved: Saved) -> Result<Vec<u8>, ToolError>
+    ensures spelled { IfOk result (λ bytes. Spells Version.Two bytes.items saved) }
+    ensures refused { IfErr result (λ fault. fault ≡ ToolError.Memory) }
+{
+    Ok(write(alloc, &saved)?)
 }

@@ -9,12 +9,12 @@ ghost use Rattle.hh_faults.specs.declared.error.ToolError.{ToolError};
 ghost use Rattle.hh_commands.specs.Files.{Refuses, StopsAtHead};
 ghost use Rattle.hh_commands.specs.Merge.{merge_saved, merged_files};
 
-use crate::files::file_of;
+use crate::files::{file_of, written};
 use hh_counters::Summary;
 use hh_countmin::Table;
 use hh_countmin::laws::equal_families_are_one;
 use hh_faults::{MergeCause, ToolError};
-use hh_saved::{Saved, write};
+use hh_saved::Saved;
 use std::alloc::Global;
 
 /// Merges `other`, the summary of the file with this `number`, into `summary`. After an error
@@ -117,5 +117,5 @@ pub fn merge_bytes(alloc: Global, files: &[Vec<u8>]) -> Result<Vec<u8>, ToolErro
     ensures early { StopsAtHead 1 (slice_index_or (map vec_items files.now) 0 []) result }
 {
     let saved = merge_files(alloc, files)?;
-    Ok(write(alloc, &saved)?)
+    written(alloc, saved)
 }

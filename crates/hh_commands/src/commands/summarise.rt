@@ -8,11 +8,12 @@ ghost use Rattle.hh_commands.specs.Records.{SavesStream};
 ghost use Rattle.hh_records.specs.Refusals.{RecordsRefused, RefusedAfter};
 ghost use Rattle.hh_commands.specs.Summarise.{IsSummaryOf, bad_k, word_of};
 
+use crate::files::written;
 use hh_counters::laws::summaries_follow_items;
 use hh_counters::{BucketSaving, MAX_K, Monitor, Summary};
 use hh_faults::ToolError;
 use hh_records::ReadRecords;
-use hh_saved::{Saved, write};
+use hh_saved::Saved;
 use hh_stream::in_range;
 use std::alloc::Global;
 
@@ -79,5 +80,5 @@ pub fn summary_bytes_from<R: ReadRecords>(
         return Err(ToolError::BadK);
     }
     let summary = summary_by_monitoring(alloc, k, records)?;
-    Ok(write(alloc, &Saved::Counters(summary))?)
+    written(alloc, Saved::Counters(summary))
 }

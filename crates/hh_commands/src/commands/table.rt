@@ -9,11 +9,12 @@ ghost use Rattle.hh_commands.specs.Records.{SavesStream};
 ghost use Rattle.hh_records.specs.Refusals.{RecordsRefused, RefusedAfter};
 ghost use Rattle.hh_commands.specs.Table.{TabulatesRecords, bad_table};
 
+use crate::files::written;
 use hh_countmin::laws::tables_follow_items;
 use hh_countmin::{Family, MAX_DEPTH, MAX_WIDTH, Table};
 use hh_faults::ToolError;
 use hh_records::ReadRecords;
-use hh_saved::{Saved, write};
+use hh_saved::Saved;
 use hh_stream::in_range;
 use std::alloc::{AllocError, Global};
 
@@ -71,5 +72,5 @@ pub fn table_bytes_from<R: ReadRecords>(
         return Err(ToolError::BadWidth);
     }
     let table = table_of_records(alloc, width, depth, seed, records)?;
-    Ok(write(alloc, &Saved::Cells(table))?)
+    written(alloc, Saved::Cells(table))
 }

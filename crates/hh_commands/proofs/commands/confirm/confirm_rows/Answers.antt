@@ -1,4 +1,7 @@
-use Rattle.std.proofs.Common.{rules}
+use Rattle.std.proofs.Common.{◌∙◌, rules, sym}
+use Rattle.std.proofs.lemmas.Result.{IfOk-weaker, MatchResult-weaker}
+use Rattle.hh_commands.specs.declared.compared.Bounds.TheVariants as bounds
+use Rattle.hh_commands.proofs.BoundsFacts.{bounds_compared, confirm_told, rows_refused}
 use Rattle.hh_commands.proofs.commands.confirm.confirm_rows.Goals as goal
 
 pub returns-in_default-clause-refused : goal.returns-in_default-clause-refused
@@ -6,3 +9,28 @@ returns-in_default-clause-refused g c = search rules
 
 pub returns-in_err-counts-clause-refused : goal.returns-in_err-counts-clause-refused
 returns-in_err-counts-clause-refused g c = search rules
+
+pub returns-clause-bounds : goal.returns-clause-bounds
+returns-clause-bounds g c =
+    bounds_compared c.args.file.now (g.R.ReadRecords.known c.args.records) c.in_ok-summary.summary
+    c.in_ok-summary.ensures.summary c.in_ok-counts.counts c.in_ok-counts.ensures.counts
+    c.args.compared.now.refuses
+    c.confirmed_text.new.compared bounds.Both c.confirmed_text.result
+    (IfOk-weaker c.confirmed_text.result _ _ (λ _ tells xs is. tells xs is.1) c.confirmed_text.ensures.bounds)
+
+pub returns-clause-refused : goal.returns-clause-refused
+returns-clause-refused g c =
+    MatchResult-weaker c.confirmed_text.result c.confirmed_text.ensures.refused (λ _ h. h)
+    (rows_refused c.args.file.now (g.R.ReadRecords.known c.args.records) c.in_ok-summary.summary
+    c.in_ok-summary.ensures.summary
+    c.in_ok-counts.counts c.in_ok-counts.ensures.counts c.args.compared.now.refuses
+    c.confirmed_text.new.compared c.args.share.now c.in-Some.share
+    (rw c.k.ensures.k at (sym c.threshold_of.ensures ∙ c.in-Some.is)))
+
+pub returns-clause-explained : goal.returns-clause-explained
+returns-clause-explained g c =
+    MatchResult-weaker c.confirmed_text.result c.confirmed_text.ensures.refused (λ _ h. h)
+    (confirm_told c.args.file.now (g.R.ReadRecords.known c.args.records) c.in_ok-summary.summary
+    c.in_ok-summary.ensures.summary
+    c.in_ok-counts.counts c.in_ok-counts.ensures.counts c.args.compared.now.refuses
+    c.confirmed_text.new.compared)

@@ -1,9 +1,10 @@
+use Rattle.std.proofs.lemmas.Result.{IfOk-weaker}
 use Rattle.hh_countmin.specs.Family.{drawn_family}
 use Rattle.hh_commands.proofs.TableFacts.{spells_table}
 use Rattle.hh_commands.proofs.commands.table.table_bytes_from.Goals as goal
 
 pub returns-clause-saved : goal.returns-clause-saved
 returns-clause-saved g c =
-    spells_table (drawn_family c.args.seed c.args.depth) c.args.width c.in_ok-table.table
-    (g.R.ReadRecords.known c.args.records) c.in_ok-write.field-0.items c.in_ok-table.ensures.table
-    c.in_ok-write.ensures
+    IfOk-weaker c.written.result _ _ (λ bytes. spells_table (drawn_family c.args.seed c.args.depth) c.args.width
+    c.in_ok-table.table (g.R.ReadRecords.known c.args.records) bytes.items c.in_ok-table.ensures.table)
+    c.written.ensures.spelled
