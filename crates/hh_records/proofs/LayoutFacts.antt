@@ -1,13 +1,12 @@
 -- The fields at some places of a record.
 use Rattle.std.proofs.Common.{◌≡◌, ◌<◌, ◌+◌, ◌∷◌, ◌++◌, ◌∙◌, ℕ, zero, suc, List, [], length, Option, Some, None, refl, sym, ap, arith, append_assoc, append-nil}
 use Rattle.std.specs.Prelude.{◌==◌, drop, get_or, false, true, option_map, option_and_then}
-use Rattle.std.specs.Option.{option_zip}
 use Rattle.std.specs.Str.{bytes_eq}
 use Rattle.std.proofs.lemmas.Bool.{ne_eqb}
 use Rattle.csv.specs.Records.{field_at}
 use Rattle.csv.specs.Writing.{default_writer, field_text, fields_text, next_sep, row_body}
 use Rattle.hh_records.specs.Formats.{Part, part_of, with_part}
-use Rattle.hh_records.specs.Layouts.{every, fields_at, key_of, named_from, parts_by, weight_at}
+use Rattle.hh_records.specs.Layouts.{every, fields_at, key_of, named_from}
 use Rattle.hh_records.specs.Streams.{Fields}
 
 module _ {A B : Type 0} (f : A → Option B) where
@@ -82,14 +81,12 @@ body-written old new fs f e g =
     ap Some (g ∙ ap (λ u. u ++ (next_sep default_writer (length fs) ++ field_text default_writer f)) same
     ∙ body-push fs f)
 
--- a record's key of several fields, or of none, and its weight's field
-pub parts-many : (r : Fields) (is : List ℕ) (w : Option ℕ) (part : Part) (k : List ℕ) (f : Option (List ℕ))
-    → (length is ≡ 1 → ⊥)
-    → Some k ≡ option_map (λ fs. row_body default_writer (with_part part fs)) (fields_at r is) → Some f ≡ weight_at r w
-    → parts_by (Some (is, w)) part r ≡ Some (k, f)
+-- a record's key of several fields, or of none
+pub key-many : (r : Fields) (is : List ℕ) (part : Part) (k : Option (List ℕ)) → (length is ≡ 1 → ⊥)
+    → k ≡ option_map (λ fs. row_body default_writer (with_part part fs)) (fields_at r is)
+    → k ≡ option_map (λ fs. key_of (with_part part fs)) (fields_at r is)
 unfolding with_part
-parts-many r is w part k f n e g =
-    rw (← g) (ap (λ o. option_zip o (Some f)) (sym (by (fields_at r is) refl) ∙ sym e))
+key-many r is part k n e = e ∙ by (fields_at r is) refl
   where
     by : (o : Option Fields) → fields_at r is ≡ o
         → option_map (λ fs. row_body default_writer (with_part part fs)) o ≡ option_map (λ fs. key_of (with_part part fs)) o
@@ -99,21 +96,15 @@ parts-many r is w part k f n e g =
     by (Some (f ∷ g ∷ [])) e = refl
     by (Some (f ∷ g ∷ h ∷ fs)) e = refl
 
--- a record's key of one field, and its weight's field
-pub parts-one : (r : Fields) (is : List ℕ) (w : Option ℕ) (part : Part) (i : ℕ) (k : List ℕ) (f : Option (List ℕ))
-    → length is ≡ 1 → i ≡ get_or is 0 i → Some k ≡ field_at r i → Some f ≡ weight_at r w
-    → parts_by (Some (is, w)) part r ≡ Some (part_of part k, f)
+-- a record's key of one field
+pub key-one : (r : Fields) (is : List ℕ) (part : Part) (k : Option (List ℕ)) → length is ≡ 1
+    → k ≡ field_at r (get_or is 0 0)
+    → option_map (part_of part) k ≡ option_map (λ fs. key_of (with_part part fs)) (fields_at r is)
 unfolding every with_part
-parts-one r [] w part i k f one at e g = absurd (omega (arith, one))
-parts-one r (j ∷ []) w part i k f one at e g = rw (← at, ← e, ← g) refl
-parts-one r (j ∷ l ∷ is) w part i k f one at e g = absurd (omega (arith, one))
-
-pub parts-one-none : (r : Fields) (is : List ℕ) (w : Option ℕ) (part : Part) (i : ℕ) → length is ≡ 1
-    → i ≡ get_or is 0 i → None ≡ field_at r i → parts_by (Some (is, w)) part r ≡ None
-unfolding every
-parts-one-none r [] w part i one at e = absurd (omega (arith, one))
-parts-one-none r (j ∷ []) w part i one at e = rw (← at, ← e) refl
-parts-one-none r (j ∷ l ∷ is) w part i one at e = absurd (omega (arith, one))
+key-one r [] part k one e = absurd (omega (arith, one))
+key-one r (j ∷ []) part None one e = rw (← e) refl
+key-one r (j ∷ []) part (Some k) one e = rw (← e) refl
+key-one r (j ∷ l ∷ is) part k one e = absurd (omega (arith, one))
 
 -- ---- the columns of a header
 -- a field that is there stands first in what begins with it

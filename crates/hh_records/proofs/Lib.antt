@@ -15,4 +15,5 @@ pub mod OpenFacts
 pub mod PartFacts
 pub mod ReadFacts
 pub mod TakenFacts
+pub mod WordFacts
 pub mod WrittenFacts

@@ -122,6 +122,25 @@ abbrev pub IsNoKey : KeyCause → Option (List ℕ) → Type 0
 IsNoKey key.Empty word = IsSome word × IfSome word (λ w. length w ≡ 0)
 IsNoKey key.TooLong word = IsSome word × IfSome word (λ w. max_key_len < length w)
 
+-- what a refusal of a word says: that it names no column
+abbrev pub ColumnRefused : Naming → List ℕ → ToolError → Type 0
+ColumnRefused how word tool.BadColumn = NamesNone how word
+ColumnRefused how word tool.Memory = ⊤
+ColumnRefused how word _ = ⊥
+
+-- what a refusal of the key's words says: that one names no column
+abbrev pub KeyRefused : Naming → List (List ℕ) → ToolError → Type 0
+KeyRefused how words tool.BadColumn = NamesNot how words
+KeyRefused how words tool.Memory = ⊤
+KeyRefused how words _ = ⊥
+
+-- what a refusal of the words of columns says: that the key's or the weight's is missing or names none
+abbrev pub ColumnsRefused : LayoutWords → ToolError → Type 0
+ColumnsRefused words tool.BadColumn =
+    LacksKey words ⊎ (NamesNot (naming words) (key_words words) ⊎ NamesNoWeight words)
+ColumnsRefused words tool.Memory = ⊤
+ColumnsRefused words _ = ⊥
+
 -- what a refusal of such words says: that the delimiter is bad or, where it is good, that a column is;
 -- or that what bad records were to count as is no key
 abbrev pub LayoutRefused : LayoutWords → ToolError → Type 0

@@ -1,7 +1,9 @@
 //! How words say where the keys and the weights of records stand.
 
-ghost use Rattle.std.specs.Prelude.{◌≡◌, IfOk, IfErr, IfSome, None, Ok, map, option_map};
-ghost use Rattle.hh_records.specs.LayoutWords.{HasKeyLength, LayoutRefused, NamesKey, NamesNone, NamesNot, SaysColumn, SaysLayout, bad_word, byte_said};
+ghost use Rattle.std.specs.Prelude.{◌≡◌, IfOk, IfErr, IfSome, map, option_map};
+ghost use Rattle.hh_records.specs.Formats.{part_said};
+ghost use Rattle.hh_records.specs.LayoutWords.{ColumnRefused, ColumnsRefused, HasKeyLength, KeyRefused, LayoutRefused, NamesKey, NamesWeight, SaysColumn, SaysLayout};
+ghost use Rattle.hh_records.specs.LayoutWords.{bad_word, byte_said, key_words, naming, weight_word};
 
 use crate::format::{Format, KeyPart};
 use crate::layout::{BadAs, Column, Layout, column_of, delimiter_of};
@@ -37,44 +39,73 @@ pub struct LayoutWords {
     pub bad_as: Option<Vec<u8>>,
 }
 
-/// Finds the column that `word` names. Of objects it is the name of a member.
+/// Gives the column that `word` names ([`ToolError::BadColumn`]). Of objects it is the name of a
+/// member.
 fn column_said(
     alloc: Global,
     word: &[u8],
     is_json: bool,
     has_header: bool,
-) -> Result<Option<Column>, AllocError>
-    ensures named { IfOk result (λ column.
-        IfSome column (SaysColumn (is_json, has_header) word.now)) }
-    ensures unnamed { result ≡ Ok None → NamesNone (is_json, has_header) word.now }
+) -> Result<Column, ToolError>
+    ensures named { IfOk result (SaysColumn (is_json, has_header) word.now) }
+    ensures unnamed { IfErr result (ColumnRefused (is_json, has_header) word.now) }
 {
     if is_json {
-        return Ok(Some(Column::Name(Vec::from_slice(alloc, word)?)));
+        return Ok(Column::Name(Vec::from_slice(alloc, word)?));
     }
-    column_of(alloc, word, has_header)
+    match column_of(alloc, word, has_header)? {
+        Some(column) => Ok(column),
+        None => Err(ToolError::BadColumn),
+    }
 }
 
-/// Gives the columns that `words` name, where each names one.
+/// Gives the columns that `words` name ([`ToolError::BadColumn`]).
 fn key_of(
     alloc: Global,
     words: &[Vec<u8>],
     is_json: bool,
     has_header: bool,
-) -> Result<Option<Vec<Column>>, AllocError>
-    ensures named { IfOk result (λ key. IfSome key (λ key.
-        NamesKey (is_json, has_header) (map (λ word. word.items) words.now) key.items)) }
-    ensures unnamed { result ≡ Ok None
-        → NamesNot (is_json, has_header) (map (λ word. word.items) words.now) }
+) -> Result<Vec<Column>, ToolError>
+    ensures named { IfOk result (λ key.
+        NamesKey (is_json, has_header) (map (λ word. word.items) words.now) key.items) }
+    ensures unnamed { IfErr result
+        (KeyRefused (is_json, has_header) (map (λ word. word.items) words.now)) }
 {
     let mut key = Vec::new(alloc);
     for word in words {
-        match column_said(alloc, word, is_json, has_header) {
-            Ok(Some(column)) => key.push(column)?,
-            Ok(None) => return Ok(None),
-            Err(AllocError) => return Err(AllocError),
+        let column = column_said(alloc, word, is_json, has_header)?;
+        match key.push(column) {
+            Ok(()) => {}
+            Err(_) => return Err(ToolError::Memory),
         }
     }
-    Ok(Some(key))
+    Ok(key)
+}
+
+/// Gives the columns of the key, of which objects need one, and of the weight that `words` name
+/// ([`ToolError::BadColumn`]).
+fn columns_said(
+    alloc: Global,
+    words: &LayoutWords,
+) -> Result<(Vec<Column>, Option<Column>), ToolError>
+    ensures key { IfOk result (λ columns.
+        NamesKey (naming words.now) (key_words words.now) columns.0.items) }
+    ensures weight { IfOk result (λ columns.
+        NamesWeight (naming words.now) (weight_word words.now) columns.1) }
+    ensures refused { IfErr result (ColumnsRefused words.now) }
+{
+    let is_json = words.format.is_json();
+    if is_json && words.key.is_empty() {
+        return Err(ToolError::BadColumn);
+    }
+    let key = key_of(alloc, &words.key, is_json, words.has_header)?;
+    match &words.weight {
+        None => Ok((key, None)),
+        Some(word) => {
+            let weight = column_said(alloc, word, is_json, words.has_header)?;
+            Ok((key, Some(weight)))
+        }
+    }
 }
 
 /// Gives the byte between fields that `words` say.
@@ -116,6 +147,19 @@ fn bad_as_said(alloc: Global, words: &LayoutWords) -> Result<Option<BadAs>, Tool
     Ok(Some(BadAs::new(alloc, key.as_slice())?))
 }
 
+/// Gives the part of the key's last column that counts by `words`.
+fn key_part(alloc: Global, words: &LayoutWords) -> Result<KeyPart, AllocError>
+    ensures { IfOk result (λ part. part_said part ≡ (words.now.until.items, words.now.prefix)) }
+{
+    Ok(KeyPart {
+        until: Vec::from_slice(alloc, words.until.as_slice())?,
+        prefix: match words.prefix {
+            Some(count) => Some(count as usize),
+            None => None,
+        },
+    })
+}
+
 /// Gives the layout that `words` say. The delimiter is tested first, then the key's columns, of
 /// which objects need one, then the weight's ([`ToolError::BadDelimiter`],
 /// [`ToolError::BadColumn`]), and then the key that bad records count as ([`ToolError::BadKey`]).
@@ -127,20 +171,7 @@ pub fn layout_of(alloc: Global, words: &LayoutWords) -> Result<Layout, ToolError
     let Some(delimiter) = delimiter_said(words) else {
         return Err(ToolError::BadDelimiter);
     };
-    let is_json = words.format.is_json();
-    if is_json && words.key.is_empty() {
-        return Err(ToolError::BadColumn);
-    }
-    let Some(key) = key_of(alloc, &words.key, is_json, words.has_header)? else {
-        return Err(ToolError::BadColumn);
-    };
-    let weight = match &words.weight {
-        None => None,
-        Some(word) => match column_said(alloc, word, is_json, words.has_header)? {
-            None => return Err(ToolError::BadColumn),
-            column => column,
-        },
-    };
+    let (key, weight) = columns_said(alloc, words)?;
     let bad_as = bad_as_said(alloc, words)?;
     Ok(Layout {
         format: words.format,
@@ -148,13 +179,7 @@ pub fn layout_of(alloc: Global, words: &LayoutWords) -> Result<Layout, ToolError
         has_header: words.has_header,
         key,
         weight,
-        part: KeyPart {
-            until: Vec::from_slice(alloc, words.until.as_slice())?,
-            prefix: match words.prefix {
-                Some(count) => Some(count as usize),
-                None => None,
-            },
-        },
+        part: key_part(alloc, words)?,
         allow_zero: words.allow_zero,
         decimals: words.decimals,
         bad_as,

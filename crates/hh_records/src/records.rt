@@ -9,14 +9,14 @@ ghost use Rattle.hh_stream.specs.Digits.{is_number, value_of};
 ghost use Rattle.hh_stream.specs.Taking.{Takes};
 ghost use Rattle.hh_records.specs.Formats.{part_said, with_part};
 ghost use Rattle.hh_records.specs.Layouts.{parts_by, chosen_columns};
-ghost use Rattle.hh_records.specs.Layouts.{InsteadRefused, IsText, PartsRefused, RowsRefused, adds, adds_instead, adds_itself, bad_key, chosen_places, fields_at, is_hyphen, items_after, items_of_weight, parts_at, parts_left, weight_at, weight_by};
+ghost use Rattle.hh_records.specs.Layouts.{InsteadRefused, IsText, PartsRefused, RowsRefused, adds, adds_instead, adds_itself, bad_key, chosen_places, fields_at, is_hyphen, items_after, items_of_weight, key_of, parts_at, parts_left, weight_at, weight_by};
 ghost use Rattle.hh_records.specs.declared.records.RecordFault.TheVariants.{Memory};
 ghost use Rattle.hh_records.specs.Streams.{fault_of, numbered_fault, parts_of, ReadRefused, ReadsAs, text_known};
 ghost use Rattle.hh_records.specs.Taking.{TakesItems};
 
 use crate::decimals::{scaled, units_in};
 use crate::format::{KeyPart, Spare, fields_by, part_of_last};
-use crate::layout::{ChosenLayout, ColumnIndices, Layout};
+use crate::layout::{ChosenLayout, Layout};
 use crate::retrying::Retrying;
 use crate::texts::{Records, Text, read_records};
 use csv::{ByteRecord, ErrorKind, Reader, WriterBuilder};
@@ -260,89 +260,110 @@ fn weight_field(row: &ByteRecord, place: Option<usize>) -> Option<Option<&[u8]>>
     }
 }
 
-/// Hands on what a record adds, by the places of its key, of whose last field a `part` counts, and
-/// of its weight.
-fn take_chosen<T: TakeItems>(
+/// The key of a record that has a column for it at each of `places`. Of the last one a `part`
+/// counts. The key of several columns is put into `joined`.
+#[inline(always)]
+fn key_at<'r>(
     alloc: Global,
-    taker: &mut T,
-    row: &ByteRecord,
-    chosen: &ColumnIndices,
+    row: &'r ByteRecord,
+    places: &[usize],
     part: &KeyPart,
-    bad: &mut u64,
-    layout: &Layout,
-) -> Result<(), RecordFault>
-    requires bounded { T.weight_taken taker.old ≤ max_total }
-    ensures taken { OnOk result
-        (Takes T.with_item T.weight_taken taker.old taker.new (λ xs.
-        adds layout.now (T.weight_taken taker.old)
-        (parts_by (chosen_columns (Some chosen.now)) (part_said part.now) (fields_of row.now))
-        ≡ Ok xs)) }
-    ensures bounded { OnOk result (T.weight_taken taker.new ≤ max_total) }
-    ensures refused { IfErr result (λ fault.
-        PartsRefused layout.now (T.weight_taken taker.old)
-        (parts_by (chosen_columns (Some chosen.now)) (part_said part.now) (fields_of row.now))
-        fault) }
+    joined: &'r mut Vec<u8>,
+) -> Result<Option<&'r [u8]>, AllocError>
+    ensures { IfOk result (λ key. option_map (λ k. k.now) key
+        ≡ option_map (λ fs. key_of (with_part (part_said part.now) fs))
+        (fields_at (fields_of row.now) places.now)) }
 {
-    let Some(field) = weight_field(row, chosen.weight) else {
-        return take_parts(alloc, taker, None, bad, layout);
-    };
-    if chosen.key.len() == 1 {
-        let Some(key) = row.get(chosen.key[0]) else {
-            return take_parts(alloc, taker, None, bad, layout);
+    if places.len() == 1 {
+        return match row.get(places[0]) {
+            Some(field) => Ok(Some(part.of(field))),
+            None => Ok(None),
         };
-        return take_parts(alloc, taker, Some((part.of(key), field)), bad, layout);
     }
-    match joined_key(alloc, row, chosen.key.as_slice(), part) {
-        Ok(Some(key)) => take_parts(alloc, taker, Some((key.as_slice(), field)), bad, layout),
-        Ok(None) => take_parts(alloc, taker, None, bad, layout),
-        Err(AllocError) => Err(RecordFault::Memory),
+    match joined_key(alloc, row, places, part)? {
+        Some(key) => {
+            *joined = key;
+            Ok(Some(joined.as_slice()))
+        }
+        None => Ok(None),
     }
 }
 
-/// Hands on what a record of these fields adds.
-fn take_fields<T: TakeItems>(
+/// The key and the weight's field of a record, where it has the fields for them at the places of
+/// `columns` or, where these are nothing, by their number.
+#[inline(always)]
+fn parts_by<'r>(
     alloc: Global,
-    taker: &mut T,
-    row: &ByteRecord,
+    row: &'r ByteRecord,
     chosen: &ChosenLayout,
-    bad: &mut u64,
-    layout: &Layout,
-) -> Result<(), RecordFault>
-    requires bounded { T.weight_taken taker.old ≤ max_total }
-    ensures taken { OnOk result
-        (Takes T.with_item T.weight_taken taker.old taker.new (λ xs.
-        adds layout.now (T.weight_taken taker.old)
-        (parts_by (chosen_columns chosen.now.columns) (part_said chosen.now.part)
-        (fields_of row.now)) ≡ Ok xs)) }
-    ensures bounded { OnOk result (T.weight_taken taker.new ≤ max_total) }
-    ensures refused { IfErr result (λ fault.
-        PartsRefused layout.now (T.weight_taken taker.old)
-        (parts_by (chosen_columns chosen.now.columns) (part_said chosen.now.part)
-        (fields_of row.now)) fault) }
+    joined: &'r mut Vec<u8>,
+) -> Result<Option<(&'r [u8], Option<&'r [u8]>)>, AllocError>
+    ensures { IfOk result (λ parts.
+        option_map (λ p. (p.0.now, option_map (λ f. f.now) p.1)) parts
+        ≡ parts_by (chosen_columns chosen.now.columns) (part_said chosen.now.part)
+        (fields_of row.now)) }
 {
-    match &chosen.columns {
-        Some(columns) => take_chosen(alloc, taker, row, columns, &chosen.part, bad, layout),
-        None => match parts_of(row) {
-            Some((key, field)) => {
-                take_parts(
-                    alloc,
-                    taker,
-                    Some((chosen.part.of(key), field)),
-                    bad,
-                    layout,
-                )
-            }
-            None => take_parts(alloc, taker, None, bad, layout),
-        },
+    let Some(columns) = &chosen.columns else {
+        return match parts_of(row) {
+            Some((key, field)) => Ok(Some((chosen.part.of(key), field))),
+            None => Ok(None),
+        };
+    };
+    let Some(field) = weight_field(row, columns.weight) else {
+        return Ok(None);
+    };
+    match key_at(alloc, row, columns.key.as_slice(), &chosen.part, joined)? {
+        Some(key) => Ok(Some((key, field))),
+        None => Ok(None),
     }
 }
 
-/// Hands on what a record adds that `csv` reads as `row`. `spare` is room for its fields.
+/// Room for a record and what is made of it, which serves one record after the other.
+#[derive(Drop)]
+struct Room {
+    alloc: Global,
+    row: ByteRecord,
+    spare: Spare,
+    joined: Vec<u8>,
+}
+
+impl Room {
+    fn new(alloc: Global) -> Room {
+        Room {
+            alloc,
+            row: ByteRecord::new(alloc),
+            spare: Spare::new(alloc),
+            joined: Vec::new(alloc),
+        }
+    }
+
+    /// The key and the weight's field of the record that was read last, where it has the fields for
+    /// them.
+    #[inline(always)]
+    fn parts(
+        &mut self,
+        chosen: &ChosenLayout,
+    ) -> Result<Option<(&[u8], Option<&[u8]>)>, AllocError>
+        ensures { IfOk result (λ parts.
+            option_map (λ p. (p.0.now, option_map (λ f. f.now) p.1)) parts
+            ≡ parts_at (chosen_places chosen.now) (fields_of self.old.row)) }
+    {
+        let Room {
+            alloc,
+            row,
+            spare,
+            joined,
+        } = self;
+        let fields = fields_by(*alloc, chosen.format, &chosen.names, row, spare)?;
+        parts_by(*alloc, fields, chosen, joined)
+    }
+}
+
+/// Hands on what the record adds that was read last.
+#[inline(always)]
 fn take_record<T: TakeItems>(
-    alloc: Global,
     taker: &mut T,
-    row: &ByteRecord,
-    spare: &mut Spare,
+    room: &mut Room,
     chosen: &ChosenLayout,
     bad: &mut u64,
     layout: &Layout,
@@ -351,14 +372,15 @@ fn take_record<T: TakeItems>(
     ensures taken { OnOk result
         (Takes T.with_item T.weight_taken taker.old taker.new (λ xs.
         adds layout.now (T.weight_taken taker.old)
-        (parts_at (chosen_places chosen.now) (fields_of row.now)) ≡ Ok xs)) }
+        (parts_at (chosen_places chosen.now) (fields_of room.old.row)) ≡ Ok xs)) }
     ensures bounded { OnOk result (T.weight_taken taker.new ≤ max_total) }
     ensures refused { IfErr result (λ fault.
         PartsRefused layout.now (T.weight_taken taker.old)
-        (parts_at (chosen_places chosen.now) (fields_of row.now)) fault) }
+        (parts_at (chosen_places chosen.now) (fields_of room.old.row)) fault) }
 {
-    match fields_by(alloc, chosen.format, &chosen.names, row, spare) {
-        Ok(fields) => take_fields(alloc, taker, fields, chosen, bad, layout),
+    let alloc = room.alloc;
+    match room.parts(chosen) {
+        Ok(parts) => take_parts(alloc, taker, parts, bad, layout),
         Err(AllocError) => Err(RecordFault::Memory),
     }
 }
@@ -392,8 +414,8 @@ pub(crate) fn fault_of(fault: &ErrorKind) -> ReadError
 /// Hands on what each record that `rows` has left adds, by the places of its key and weight, and
 /// counts all records, with the number of those `before`, and those that are `bad`.
 fn take_rows<R: Read, T: TakeItems>(
-    alloc: Global,
     rows: &mut Reader<Retrying<R>>,
+    room: &mut Room,
     chosen: &ChosenLayout,
     before: u64,
     taker: &mut T,
@@ -412,17 +434,15 @@ fn take_rows<R: Read, T: TakeItems>(
         RowsRefused layout.now before (T.weight_taken taker.old)
         (parts_left R.remaining (record { rows = rows.old; chosen = chosen.now })) error) }
 {
-    let mut row = ByteRecord::new(alloc);
-    let mut spare = Spare::new(alloc);
     let mut number = before;
     while number < u64::MAX {
-        match rows.read_byte_record(&mut row) {
+        match rows.read_byte_record(&mut room.row) {
             Ok(true) => {}
             Ok(false) => return Ok(number),
             Err(error) => return Err(fault_of(error.kind())),
         }
         number += 1;
-        match take_record(alloc, taker, &row, &mut spare, chosen, bad, layout) {
+        match take_record(taker, room, chosen, bad, layout) {
             Ok(()) => {}
             Err(fault) => return Err(numbered_fault(number, fault)),
         }
@@ -453,7 +473,8 @@ pub fn read_rows<R: Read + Drop, T: TakeItems>(
         (parts_left R.remaining text) error) }
 {
     let Text { mut rows, chosen } = text;
-    take_rows(alloc, &mut rows, &chosen, before, taker, bad, layout)
+    let mut room = Room::new(alloc);
+    take_rows(&mut rows, &mut room, &chosen, before, taker, bad, layout)
 }
 
 /// Hands the item of each record of a reader to a taker of none, in order, and returns the taker.
