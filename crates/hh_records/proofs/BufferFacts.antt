@@ -1,5 +1,5 @@
 -- Readers that are read through buffers.
-use Rattle.std.proofs.Common.{◌≡◌, ◌≤◌, ◌∙◌, ◌∷◌, [], Option, Some, None, List, ℕ, ap, sym, refl, map}
+use Rattle.std.proofs.Common.{◌≡◌, ◌≤◌, ◌∙◌, ◌∷◌, ◌++◌, [], Option, Some, None, List, ℕ, ap, sym, refl, map}
 use Rattle.std.specs.Prelude.{option_map, option_and_then}
 use Rattle.hh_records.specs.Clips.{clipped_for}
 use Rattle.hh_records.specs.Layouts.{every, names_columns, stream_with, texts_known}
@@ -13,6 +13,15 @@ unfolding every
 every-map f [] = refl
 every-map f (x ∷ xs) =
     ap (λ more. option_and_then (λ y. option_map (λ ys. y ∷ ys) more) (f x)) (every-map f xs)
+
+-- one more of both lists
+pub map-push : {A B C : Type 0} (f : A → C) (g : B → C) (xs : List A) (x : A) (y : B) (ys : List B) (all : List C)
+    → f x ≡ g y → all ≡ map f xs ++ map g (y ∷ ys) → all ≡ map f (xs ++ x ∷ []) ++ map g ys
+map-push {A} {B} {C} f g xs x y ys all same e = e ∙ by xs
+  where
+    by : (xs : List A) → map f xs ++ map g (y ∷ ys) ≡ map f (xs ++ x ∷ []) ++ map g ys
+    by [] = ap (λ c. c ∷ map g ys) (sym same)
+    by (z ∷ zs) = ap (λ more. f z ∷ more) (by zs)
 
 -- where as much is known of each of two lists, as much is known of both
 pub every-alike : {A B C : Type 0} (f : A → Option C) (g : B → Option C) (xs : List A) (ys : List B)

@@ -3,7 +3,7 @@
 ghost use Rattle.std.specs.Prelude.{◌≡◌, [], map, option_map, Some, None, Ok, Err, true, IfOk, IfErr, IfSome};
 ghost use Rattle.csv.specs.Records.{fields_of};
 ghost use Rattle.hh_records.specs.Layouts.{ChoiceRefused, IsPlain, NamesColumn, chosen_columns, chosen_places, columns_among};
-ghost use Rattle.hh_records.specs.Layouts.{delimiter_of, key_places, member_names, name_of, named_from};
+ghost use Rattle.hh_records.specs.Layouts.{delimiter_of, field_names, key_places, member_names, name_of, named_from};
 ghost use Rattle.hh_records.specs.Layouts.{names_columns, place_of, places_in, places_of};
 ghost use Rattle.hh_records.specs.Formats.{names_said};
 ghost use Rattle.std.specs.List.{flat_map};
@@ -335,6 +335,29 @@ fn member_names(alloc: Global, layout: &Layout) -> Result<MemberNames, AllocErro
     })
 }
 
+/// Finds the places of the columns that `layout` names. Of objects the fields are the members of
+/// these `names`, and else those of `header`.
+fn columns_in(
+    alloc: Global,
+    layout: &Layout,
+    names: &MemberNames,
+    header: &ByteRecord,
+) -> Result<Option<ColumnIndices>, ChoiceFault>
+    requires names { names_said names.now ≡ member_names layout.now }
+    ensures columns { IfOk result (λ columns.
+        columns_among layout.now (field_names layout.now (fields_of header.now))
+        ≡ Some (chosen_columns columns)) }
+    ensures missing { result ≡ Err NoColumn → (names_columns layout.now ≡ true)
+        × (columns_among layout.now (field_names layout.now (fields_of header.now)) ≡ None) }
+{
+    if layout.format.is_json() {
+        return columns_among(alloc, layout, &names.to_row(alloc)?);
+    }
+    let mut spare = Spare::new(alloc);
+    let fields = fields_by(alloc, layout.format, names, header, &mut spare)?;
+    columns_among(alloc, layout, fields)
+}
+
 /// Gives how the records of a text are read by `layout` where this is its header, or one of no
 /// fields where it has none.
 pub(crate) fn choose(
@@ -348,13 +371,7 @@ pub(crate) fn choose(
         ChoiceRefused layout.now (fields_of header.now) fault) }
 {
     let names = member_names(alloc, layout)?;
-    let columns = if layout.format.is_json() {
-        columns_among(alloc, layout, &names.to_row(alloc)?)?
-    } else {
-        let mut spare = Spare::new(alloc);
-        let fields = fields_by(alloc, layout.format, &names, header, &mut spare)?;
-        columns_among(alloc, layout, fields)?
-    };
+    let columns = columns_in(alloc, layout, &names, header)?;
     Ok(ChosenLayout {
         format: layout.format,
         names,

@@ -24,7 +24,7 @@ use crate::retrying::Retrying;
 use csv::{ByteRecord, Reader, ReaderBuilder};
 use hh_faults::{ReadError, TextError};
 use hh_stream::{KeyHash, TakeItems};
-use std::alloc::Global;
+use std::alloc::{AllocError, Global};
 use std::io::{BufReader, Read};
 
 impl From<ChoiceFault> for TextError {
@@ -292,17 +292,16 @@ fn through_buffer<R: Read + Drop>(
     layout: &Layout,
     reader: R,
     len: usize,
-) -> Result<Clipped<BufReader<R>>, TextError>
+) -> Result<Clipped<BufReader<R>>, AllocError>
     requires some { 0 < len }
     ensures clipped { IfOk result (λ clipped.
         ⟦<Clipped<BufReader<R>> as Read>⟧.remaining clipped
         ≡ option_map (clipped_for layout.now) (R.remaining reader)) }
     ensures room { IfOk result (λ clipped. reader_capacity clipped.inner ≡ len) }
-    ensures refused { IfErr result (λ error. error ≡ TextError.Memory) }
 {
     match BufReader::with_capacity(alloc, len, reader) {
         Ok(buffered) => Ok(Clipped::new(layout, buffered)),
-        Err(_) => Err(TextError::Memory),
+        Err(_) => Err(AllocError),
     }
 }
 
@@ -313,23 +312,40 @@ fn through_buffers<R: Read + Drop>(
     layout: &Layout,
     readers: Vec<R>,
     len: usize,
-) -> Result<Vec<Clipped<BufReader<R>>>, TextError>
+) -> Result<Vec<Clipped<BufReader<R>>>, AllocError>
     requires some { 0 < len }
-    ensures clipped { IfOk result (λ clipped.
+    ensures { IfOk result (λ clipped.
         every ⟦<Clipped<BufReader<R>> as Read>⟧.remaining clipped.items
         ≡ every (λ reader. option_map (clipped_for layout.now) (R.remaining reader))
         readers.items) }
-    ensures refused { IfErr result (λ error. error ≡ TextError.Memory) }
 {
     let mut all = Vec::new(alloc);
     for reader in readers {
-        let clipped = through_buffer(alloc, layout, reader, len)?;
-        match all.push(clipped) {
-            Ok(()) => {}
-            Err(_) => return Err(TextError::Memory),
-        }
+        all.push(through_buffer(alloc, layout, reader, len)?)?;
     }
     Ok(all)
+}
+
+/// Makes of `first` and of each of `others` one that reads `len` bytes at once, and that cuts the
+/// long fields of its text short, by `layout`.
+fn through_all<R: Read + Drop>(
+    alloc: Global,
+    layout: &Layout,
+    first: R,
+    others: Vec<R>,
+    len: usize,
+) -> Result<(Clipped<BufReader<R>>, Vec<Clipped<BufReader<R>>>), AllocError>
+    requires some { 0 < len }
+    ensures { IfOk result (λ clipped.
+        texts_known ⟦<Clipped<BufReader<R>> as Read>⟧.remaining layout.now
+        (clipped.0 ∷ clipped.1.items)
+        ≡ texts_known R.remaining layout.now (first ∷ others.items)) }
+{
+    // A weight has fewer digits than are kept of a field, as the type of this number says.
+    let _ = decimals(layout);
+    let first = through_buffer(alloc, layout, first, len)?;
+    let others = through_buffers(alloc, layout, others, len)?;
+    Ok((first, others))
 }
 
 /// Hands the item of each record of readers to a taker of none, in order, and returns the taker.
@@ -381,11 +397,10 @@ pub fn read_texts<R: Read + Drop, T: TakeItems>(
         TextsRefused (texts_known R.remaining layout.now (first ∷ others.items)) error) }
 {
     let len = read_len(others.len().saturating_add(1));
-    // A weight has fewer digits than are kept of a field, as the type of this number says.
-    let _ = decimals(layout);
-    let first = through_buffer(alloc, layout, first, len)?;
-    let others = through_buffers(alloc, layout, others, len)?;
-    read_each(alloc, layout, first, others, taker)
+    match through_all(alloc, layout, first, others, len) {
+        Ok((first, others)) => read_each(alloc, layout, first, others, taker),
+        Err(AllocError) => Err(TextError::Memory),
+    }
 }
 
 /// Hands the item of each record to a taker of none, in order, and returns the taker. A layout says
