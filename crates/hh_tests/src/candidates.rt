@@ -18,17 +18,17 @@ fn candidates_of(rt: &(impl Abort + AllocGlobal)) -> Candidates
     candidates
 }
 
-fn place_of(rt: &(impl Abort + AllocGlobal), candidates: &Candidates, text: &str) -> Option<usize> {
-    candidates.place(&key_of(rt, text.as_bytes()))
+fn place_of(rt: &(impl Abort + AllocGlobal), candidates: &Candidates, letter: u8) -> Option<usize> {
+    candidates.place(&key_of(rt, &[letter]))
 }
 
-const PLACES: [(&str, Option<usize>); 3] = [("a", Some(0)), ("b", Some(1)), ("c", None)];
+const PLACES: [(u8, Option<usize>); 3] = [(b'a', Some(0)), (b'b', Some(1)), (b'c', None)];
 
 #[test]
 fn candidates_have_places(rt: HostRuntime) {
     let candidates = candidates_of(&rt);
-    for (text, place) in &PLACES {
-        assert_same(&rt, place_of(&rt, &candidates, text), *place);
+    for (letter, place) in &PLACES {
+        assert_same(&rt, place_of(&rt, &candidates, *letter), *place);
     }
 }
 

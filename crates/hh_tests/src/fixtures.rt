@@ -6,7 +6,8 @@ use hh_stream::{Key, Stream};
 use std::fmt::Debug;
 use std::process::Abort;
 
-pub(crate) const FOUR_RECORDS: [(&str, u64); 4] = [("a", 5), ("b", 3), ("c", 2), ("a", 1)];
+// Keys of one letter, with their weights.
+pub(crate) const FOUR_RECORDS: [(u8, u64); 4] = [(b'a', 5), (b'b', 3), (b'c', 2), (b'a', 1)];
 
 // Numbers k, and whether they are refused.
 pub(crate) const KS: [(u64, bool); 4] = [(0, true), (1, false), (65_535, false), (65_536, true)];
@@ -22,31 +23,25 @@ pub(crate) fn key_of(rt: &(impl Abort + AllocGlobal), bytes: &[u8]) -> Key {
 }
 
 // The stream of these items.
-pub(crate) fn stream_of(rt: &(impl Abort + AllocGlobal), items: &[(&str, u64)]) -> Stream {
+pub(crate) fn stream_of(rt: &(impl Abort + AllocGlobal), items: &[(u8, u64)]) -> Stream {
     let mut stream = Stream::new(rt.alloc());
-    for (text, weight) in items {
-        let key = key_of(rt, text.as_bytes());
+    for (letter, weight) in items {
+        let key = key_of(rt, &[*letter]);
         stream.push(key, *weight).expect(rt, "an item");
     }
     stream
 }
 
 // The summary of these items.
-pub(crate) fn summary_of(
-    rt: &(impl Abort + AllocGlobal),
-    k: u64,
-    items: &[(&str, u64)],
-) -> Summary {
+pub(crate) fn summary_of(rt: &(impl Abort + AllocGlobal), k: u64, items: &[(u8, u64)]) -> Summary {
     let stream = stream_of(rt, items);
     Summary::of_items(rt.alloc(), k, stream.items()).expect(rt, "a summary")
 }
 
 // Writes a key and its counter, as "a 4 ".
 pub(crate) fn show_counter(rt: &impl Abort, text: &mut String, key: &[u8], counter: u64) {
-    for byte in key {
-        text.push(char::from(*byte)).expect(rt, "room");
-    }
-    write!(text, " {counter} ").expect(rt, "room");
+    let key = str::from_utf8(key).expect(rt, "a text");
+    write!(text, "{key} {counter} ").expect(rt, "room");
 }
 
 // The summary as text, as "a 4 b 1 of 11, slack 2".

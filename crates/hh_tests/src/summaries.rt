@@ -10,12 +10,12 @@ use hh_stream::{Item, Key, MAX_TOTAL};
 use std::process::Abort;
 
 // Items, and the summary that they leave for k = 2.
-const LEFT: [(&[(&str, u64)], &str); 4] = [
+const LEFT: [(&[(u8, u64)], &str); 4] = [
     (&FOUR_RECORDS, "a 4 b 1 of 11, slack 2"),
-    (&[("a", 1), ("b", 1), ("c", 1)], "of 3, slack 1"),
-    (&[("a", 1), ("b", 1), ("b", 1)], "a 1 b 2 of 3, slack 0"),
+    (&[(b'a', 1), (b'b', 1), (b'c', 1)], "of 3, slack 1"),
+    (&[(b'a', 1), (b'b', 1), (b'b', 1)], "a 1 b 2 of 3, slack 0"),
     (
-        &[("a", 5), ("b", 3), ("c", 2), ("a", 1), ("d", 4)],
+        &[(b'a', 5), (b'b', 3), (b'c', 2), (b'a', 1), (b'd', 4)],
         "a 3 d 3 of 15, slack 3",
     ),
 ];
@@ -77,7 +77,7 @@ fn total_has_a_largest_value(rt: HostRuntime) {
 #[test]
 fn summaries_with_different_k_do_not_merge(rt: HostRuntime) {
     let mut summary = summary_of(&rt, 2, &FOUR_RECORDS);
-    let wider = summary_of(&rt, 3, &[("b", 2), ("c", 3)]);
+    let wider = summary_of(&rt, 3, &[(b'b', 2), (b'c', 3)]);
     let fault = summary.merge(&wider).err();
     assert_same(&rt, fault, Some(MergeFault::DifferentK));
     assert_shows(&rt, &summary, "a 4 b 1 of 11, slack 2");
@@ -85,28 +85,28 @@ fn summaries_with_different_k_do_not_merge(rt: HostRuntime) {
 }
 
 // Keys with counters, in this order.
-fn entries_of(rt: &(impl Abort + AllocGlobal), items: &[(&str, u64)]) -> Vec<(Key, u64)> {
+fn entries_of(rt: &(impl Abort + AllocGlobal), items: &[(u8, u64)]) -> Vec<(Key, u64)> {
     let mut entries = Vec::new(rt.alloc());
-    for (text, counter) in items {
-        let key = key_of(rt, text.as_bytes());
+    for (letter, counter) in items {
+        let key = key_of(rt, &[*letter]);
         entries.push((key, *counter)).expect(rt, "room");
     }
     entries
 }
 
 // Whether these counters fit a summary.
-fn fits(rt: &(impl Abort + AllocGlobal), k: u64, total: u64, items: &[(&str, u64)]) -> bool {
+fn fits(rt: &(impl Abort + AllocGlobal), k: u64, total: u64, items: &[(u8, u64)]) -> bool {
     Summary::fits(k, total, &entries_of(rt, items))
 }
 
 // A number k, a total, counters, and whether these fit.
-const FITTING: [(u64, u64, &[(&str, u64)], bool); 7] = [
-    (2, 11, &[("a", 4), ("b", 1)], true),
-    (2, 11, &[("b", 1), ("a", 4)], false),
-    (2, 11, &[("a", 4), ("b", 0)], false),
-    (2, 11, &[("a", 4), ("b", 1), ("c", 1)], false),
-    (2, 4, &[("a", 4), ("b", 1)], false),
-    (2, MAX_TOTAL + 1, &[("a", 4), ("b", 1)], false),
+const FITTING: [(u64, u64, &[(u8, u64)], bool); 7] = [
+    (2, 11, &[(b'a', 4), (b'b', 1)], true),
+    (2, 11, &[(b'b', 1), (b'a', 4)], false),
+    (2, 11, &[(b'a', 4), (b'b', 0)], false),
+    (2, 11, &[(b'a', 4), (b'b', 1), (b'c', 1)], false),
+    (2, 4, &[(b'a', 4), (b'b', 1)], false),
+    (2, MAX_TOTAL + 1, &[(b'a', 4), (b'b', 1)], false),
     (0, 11, &[], false),
 ];
 
