@@ -1,9 +1,9 @@
 -- A byte of a field, a quote and a byte that ends the field: what came before them doesn't matter.
 use Rattle.std.proofs.Common.{take-add, drop-cons, length-append, ◌≡◌, ◌≤◌, ◌<◌, ◌+◌, ◌∷◌, ◌++◌, ◌∙◌, ℕ, suc, List, [], length, take, drop, get_or, append_assoc, Bool, true, false, refl, sym, ap, arith}
-use Rattle.std.specs.Prelude.{◌==◌, ◌||◌, ◌&&◌, not, nat_lt}
+use Rattle.std.specs.Prelude.{◌==◌, ◌||◌}
 use Rattle.std.proofs.lemmas.Bool.{eq-eqb, eqb-true, false≢true, ne_eqb}
 use Rattle.std.proofs.lemmas.List.{length-take}
-use Rattle.csv.specs.Machine.{in_field, step}
+use Rattle.csv.specs.Machine.{step}
 use Rattle.csv.specs.declared.parser.Action.TheVariants as act
 use Rattle.csv.specs.declared.parser.State.{State}
 use Rattle.csv.specs.declared.parser.State.TheVariants as st

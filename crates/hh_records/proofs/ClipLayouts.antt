@@ -14,7 +14,7 @@ use Rattle.hh_stream.specs.Weights.{Entry, max_key_len, total_of}
 use Rattle.hh_records.specs.Clips.{AlikeField, AlikeFields, clipped_for, clipped_text, may_be_cut, separates}
 use Rattle.hh_records.specs.Decimals.{is_whole, point_from, units_at, units_of}
 use Rattle.hh_records.specs.Formats.{Part, has_quotes, is_whole_field, part_said, with_part}
-use Rattle.hh_records.specs.Layouts.{Columns, Places, adding_next, adds, by_columns, columns_among, config_of, delimited, every, field_names, fields_at, gathered, headed_parts, is_hyphen, items_after, joined, key_of, parts_at, parts_by, stream_with, text_parts, weight_at, weight_by}
+use Rattle.hh_records.specs.Layouts.{Columns, adding_next, adds, by_columns, columns_among, config_of, delimited, every, field_names, fields_at, gathered, headed_parts, is_hyphen, items_after, joined, key_of, parts_at, parts_by, stream_with, text_parts, weight_at, weight_by}
 use Rattle.hh_records.specs.declared.format.Format.{Format}
 use Rattle.hh_records.specs.declared.format.Format.TheVariants as format
 use Rattle.hh_records.specs.Streams.{Fields, Parts, item_of_key, parts_of}

@@ -7,7 +7,7 @@ use Rattle.hh_faults.specs.declared.error.ToolError.{ToolError}
 use Rattle.hh_faults.specs.declared.error.ToolError.TheVariants as tool
 use Rattle.hh_records.specs.declared.layout.Column.{Column}
 use Rattle.hh_records.specs.declared.layout_words.LayoutWords.{LayoutWords}
-use Rattle.hh_records.specs.LayoutWords.{ColumnRefused, ColumnsRefused, KeyRefused, LayoutRefused, NamesKey, NamesNot, Naming, SaysColumn, byte_said, key_words, naming, weight_word}
+use Rattle.hh_records.specs.LayoutWords.{ColumnRefused, ColumnsRefused, KeyRefused, LayoutRefused, NamesKey, Naming, SaysColumn, byte_said, key_words, naming, weight_word}
 
 -- a word and its column more
 pub names-push : (h : Naming) (words : List (List ℕ)) (columns : List Column) (word : List ℕ) (column : Column)

@@ -340,10 +340,7 @@ impl Room {
     /// The key and the weight's field of the record that was read last, where it has the fields for
     /// them.
     #[inline(always)]
-    fn parts(
-        &mut self,
-        chosen: &ChosenLayout,
-    ) -> Result<Option<(&[u8], Option<&[u8]>)>, AllocError>
+    fn parts(&mut self, chosen: &ChosenLayout) -> Result<Option<(&[u8], Option<&[u8]>)>, AllocError>
         ensures { IfOk result (λ parts.
             option_map (λ p. (p.0.now, option_map (λ f. f.now) p.1)) parts
             ≡ parts_at (chosen_places chosen.now) (fields_of self.old.row)) }

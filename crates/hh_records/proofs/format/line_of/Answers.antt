@@ -1,7 +1,6 @@
 use Rattle.std.proofs.Common.{◌∙◌, ◌∷◌, [], ap}
 use Rattle.bstr.specs.Owned.{joined}
 use Rattle.csv.specs.Records.{fields_of}
-use Rattle.csv.specs.declared.record.ByteRecordIter.{ByteRecordIter}
 use Rattle.hh_records.proofs.FormatFacts.{fields-drained}
 use Rattle.hh_records.proofs.format.line_of.Goals as goal
 

@@ -1,6 +1,5 @@
-use Rattle.std.proofs.Common.{◌<◌, ◌∙◌, length, sym, ap}
+use Rattle.std.proofs.Common.{◌<◌, length}
 use Rattle.csv.specs.Records.{fields_of}
-use Rattle.hh_records.specs.Formats.{is_empty}
 use Rattle.hh_records.proofs.FormatFacts.{squeezed-more}
 use Rattle.hh_records.proofs.LayoutFacts.{field-there}
 use Rattle.hh_records.proofs.format.squeeze.Goals as goal

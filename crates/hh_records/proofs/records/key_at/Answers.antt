@@ -1,4 +1,3 @@
-use Rattle.std.proofs.Common.{◌≡◌}
 use Rattle.csv.specs.Records.{fields_of}
 use Rattle.hh_records.proofs.LayoutFacts.{key-many, key-one}
 use Rattle.hh_records.specs.Formats.{part_said}
