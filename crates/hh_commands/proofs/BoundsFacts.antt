@@ -1,5 +1,5 @@
 -- The bounds of a summary's keys, compared place by place, and what is told of them.
-use Rattle.std.proofs.Common.{◌≡◌, ◌∙◌, ℕ, ◌+◌, ◌<◌, Bool, List, [], length, get_or, Result, Ok, Err, Some, sym, ap, arith}
+use Rattle.std.proofs.Common.{◌≡◌, ◌∙◌, ℕ, ◌+◌, ◌<◌, Bool, List, [], length, get_or, Option, Some, Result, Ok, Err, sym, ap, arith}
 use Rattle.std.specs.Prelude.{IfOk, OnOk}
 use Rattle.std.specs.List.Sorted.{IsStrictlySortedBy}
 use Rattle.std.specs.Map.{keys_of}
@@ -10,14 +10,12 @@ use Rattle.hh_summaries.specs.Report.{weights_at}
 use Rattle.hh_summaries.proofs.Places.{weight_at}
 use Rattle.hh_counters.specs.Counting.{Count, count_of}
 use Rattle.hh_records.specs.Streams.{Known}
-use Rattle.hh_rows.specs.Thresholds.{threshold_of}
-use Rattle.hh_rows.specs.declared.threshold.Share.{Share}
 use Rattle.hh_faults.specs.declared.error.ToolError.{ToolError}
 use Rattle.hh_faults.specs.declared.error.ToolError.TheVariants as tool
 use Rattle.hh_commands.specs.Bounds.{AreWithin, ComparesBounds, IsBeyond, IsOutside, IsWithin, TellsOutside, bounds_of}
 use Rattle.hh_commands.specs.Condense.{AboveRefused, CondensePartRefused, TellsAbove}
-use Rattle.hh_commands.specs.Confirm.{CompareRefused, ConfirmRowsRefused, TellsCompared, TextRefused}
-use Rattle.hh_commands.specs.Files.{HoldsSummary}
+use Rattle.hh_commands.specs.Confirm.{CompareAboveRefused, CompareRefused, TellsCompared, TextRefused}
+use Rattle.hh_commands.specs.Files.{HoldsSummary, RefusedFrom}
 use Rattle.hh_commands.specs.Records.{CountsRecords, IsCountOf}
 use Rattle.hh_commands.specs.declared.compared.Bounds.{Bounds}
 use Rattle.hh_commands.specs.declared.compared.Comparison.{Comparison}
@@ -122,14 +120,14 @@ module _ (file : List ℕ) (known : Known) (s : SummaryView) (held : HoldsSummar
       let (is, total, o, left, out) = h xs made in (s, xs, o, held, reads, left, out)
   confirm_told e h = tt
 
-  -- and where the summary was tested, and then a share, of which this threshold comes
-  pub rows_refused : (share : Share) (t : ℕ × ℕ) → threshold_of s.k share ≡ Some t → (e : ToolError)
+  -- and where the summary was read first, and then a share was tested
+  pub rows_refused : (asked : SummaryView → Option (ℕ × ℕ)) (t : ℕ × ℕ) → asked s ≡ Some t → (e : ToolError)
       → ((xs : List Entry) → counts ≡ count_of (keys_of s.counters) xs → TextRefused refuses s xs told e)
-      → ConfirmRowsRefused refuses share file known e
-  rows_refused share t is tool.TotalDiffers h = (s, held, rw is (confirm_refused tool.TotalDiffers h))
-  rows_refused share t is tool.WeightOutside h = (s, held, rw is (confirm_refused tool.WeightOutside h))
-  rows_refused share t is tool.Memory h = tt
-  rows_refused share t is e h = let (xs, reads, (weigh, made)) = counted in absurd (h xs made)
+      → RefusedFrom file (λ s. CompareAboveRefused refuses (asked s) s known) e
+  rows_refused asked t is tool.TotalDiffers h = (s, held, rw is (confirm_refused tool.TotalDiffers h))
+  rows_refused asked t is tool.WeightOutside h = (s, held, rw is (confirm_refused tool.WeightOutside h))
+  rows_refused asked t is tool.Memory h = tt
+  rows_refused asked t is e h = let (xs, reads, (weigh, made)) = counted in absurd (h xs made)
 
   -- so it is with what a refusal to condense tells
   pub part_refused : (e : ToolError)

@@ -134,8 +134,8 @@ pub fn condensed_part(
     Ok(condensed_counts(alloc, summary, counts, decimals)?)
 }
 
-/// The condensed rows of records by the summary that a file holds, in units of 10^-decimals.
-fn condensed_records<R: ReadRecords>(
+/// [`condense_bytes_from`] of any records, with as many digits after the point as `decimals` says.
+pub fn condensed_records<R: ReadRecords>(
     alloc: Global,
     file: &[u8],
     records: R,

@@ -1,5 +1,6 @@
 use Rattle.std.proofs.Common.{◌∙◌, rules, sym}
 use Rattle.std.proofs.lemmas.Result.{IfOk-weaker, MatchResult-weaker}
+use Rattle.hh_rows.specs.Thresholds.{threshold_of}
 use Rattle.hh_commands.specs.declared.compared.Bounds.TheVariants as bounds
 use Rattle.hh_commands.proofs.BoundsFacts.{bounds_compared, confirm_told, rows_refused}
 use Rattle.hh_commands.proofs.commands.confirm.confirm_rows.Goals as goal
@@ -24,7 +25,7 @@ returns-clause-refused g c =
     (rows_refused c.args.file.now (g.R.ReadRecords.known c.args.records) c.in_ok-summary.summary
     c.in_ok-summary.ensures.summary
     c.in_ok-counts.counts c.in_ok-counts.ensures.counts c.args.compared.now.refuses
-    c.confirmed_text.new.compared c.args.share.now c.in-Some.share
+    c.confirmed_text.new.compared (λ s. threshold_of s.k c.args.share.now) c.in-Some.share
     (rw c.k.ensures.k at (sym c.threshold_of.ensures ∙ c.in-Some.is)))
 
 pub returns-clause-explained : goal.returns-clause-explained
