@@ -16,8 +16,8 @@ ghost use Rattle.hh_library.specs.LaidOut.{rows_in_units, text_laid};
 use crate::commands::add_text::{add_stream, check_file};
 use crate::commands::count_items::share_or_least;
 use hh_commands::{
-    Comparison, condensed_part, confirmed_text, count_records, rows_above, summary_by_monitoring,
-    summary_in,
+    Comparison, condensed_records, confirmed_text, count_records, rows_above,
+    summary_by_monitoring, summary_in,
 };
 use hh_counters::laws::{candidates_suffice, misra_gries_is_honest};
 use hh_counters::{Heavy, MAX_K};
@@ -132,10 +132,8 @@ pub fn condense_bounded<R: ReadRecords>(
     ensures refused { IfErr result (CondenseBoundedRefused file.now (R.known records)) }
     ensures early { StopsAtHead 1 file.now result }
 {
-    let summary = summary_in(alloc, file)?;
-    let counts = count_records(alloc, &summary, records)?;
     let mut compared = Comparison::new(true);
-    condensed_part(alloc, &summary, &counts, decimals, &mut compared)
+    condensed_records(alloc, file, records, decimals, &mut compared)
 }
 
 /// The total of a text's records, and their keys above p/q of it, of which k counters miss none.

@@ -1,6 +1,5 @@
-use Rattle.std.proofs.Common.{◌≡◌, ap}
+use Rattle.std.proofs.Common.{ap}
 use Rattle.std.proofs.lemmas.Result.{MatchResult-weaker}
-use Rattle.hh_stream.specs.Weights.{total_of}
 use Rattle.hh_counters.specs.Counting.{Count}
 use Rattle.hh_library.proofs.CountFacts.{total_refused}
 use Rattle.hh_library.proofs.commands.count_items.confirmed_items_text.Goals as goal

@@ -1,0 +1,20 @@
+use Rattle.std.proofs.Common.{◌≡◌, ap, subst, true}
+use Rattle.std.specs.Prelude.{IfErr}
+use Rattle.hh_commands.specs.Condense.{CondensePartRefused}
+use Rattle.hh_commands.specs.declared.compared.Comparison.{Comparison}
+use Rattle.hh_library.proofs.BoundedFacts.{condenses_bounded}
+use Rattle.hh_library.proofs.commands.laid_out.condense_bounded.Goals as goal
+
+pub returns-clause-rows : goal.returns-clause-rows
+returns-clause-rows g c =
+    condenses_bounded (λ v. v.items) c.args.file.now (g.R.ReadRecords.known c.args.records) c.new-compared.result.refuses
+    (ap (λ (n : Comparison). n.refuses) c.new-compared.ensures) c.args.decimals
+    c.condensed_records.new.compared.outside c.condensed_records.result c.condensed_records.ensures.rows
+    c.condensed_records.ensures.bounds
+
+pub returns-clause-refused : goal.returns-clause-refused
+returns-clause-refused g c =
+    let asked : c.new-compared.result.refuses ≡ true = ap (λ (n : Comparison). n.refuses) c.new-compared.ensures in
+    subst (λ refuses. IfErr c.condensed_records.result
+    (CondensePartRefused refuses c.args.file.now (g.R.ReadRecords.known c.args.records))) asked
+    c.condensed_records.ensures.refused
