@@ -91,11 +91,11 @@ module _ (file : List ℕ) (known : Known) (s : SummaryView) (held : HoldsSummar
     (counted : CountsRecords known (keys_of s.counters) counts) (refuses : Bool) (told : Comparison) where
   -- bounds that were compared are those of the file's summary, and of the records
   pub bounds_compared : {A : Type 0} (b : Bounds) (result : Result A ToolError)
-      → IfOk result (λ _. (xs : List Entry) → IsCountOf (keys_of s.counters) xs counts
+      → IfOk result (λ _. (xs : List Entry) → counts ≡ count_of (keys_of s.counters) xs
       → TellsOutside refuses b s xs told.outside)
       → OnOk result (ComparesBounds refuses b file known told.outside)
   bounds_compared b (Ok x) h =
-      let (xs, reads, made) = counted in (s, xs, held, reads, h xs made)
+      let (xs, reads, (weigh, made)) = counted in (s, xs, held, reads, h xs made)
   bounds_compared b (Err e) h = tt
 
   -- so it is with what a refusal to confirm tells
@@ -129,7 +129,15 @@ module _ (file : List ℕ) (known : Known) (s : SummaryView) (held : HoldsSummar
   rows_refused asked t is tool.Memory h = tt
   rows_refused asked t is e h = let (xs, reads, (weigh, made)) = counted in absurd (h xs made)
 
-  -- so it is with what a refusal to condense tells
+  -- so it is where records are condensed
+  pub part_compared : {A : Type 0} (b : Bounds) (result : Result A ToolError)
+      → IfOk result (λ _. (xs : List Entry) → IsCountOf (keys_of s.counters) xs counts
+      → TellsOutside refuses b s xs told.outside)
+      → OnOk result (ComparesBounds refuses b file known told.outside)
+  part_compared b (Ok x) h = let (xs, reads, made) = counted in (s, xs, held, reads, h xs made)
+  part_compared b (Err e) h = tt
+
+  -- and with what a refusal to condense tells
   pub part_refused : (e : ToolError)
       → ((xs : List Entry) → IsCountOf (keys_of s.counters) xs counts → AboveRefused refuses s xs told e)
       → CondensePartRefused refuses file known e

@@ -22,7 +22,7 @@ pub enum Bounds {
 
 /// A key of a summary whose weight in some records is outside its bounds. So these aren't the
 /// records that were summarised, nor a part of them.
-#[derive(Debug)]
+#[derive(Debug, Drop)]
 pub struct Outside {
     pub key: Key,
     /// The key's weight in the records.
@@ -31,18 +31,6 @@ pub struct Outside {
     pub low: u64,
     /// The most that the key weighs there.
     pub high: u64,
-}
-
-impl Drop for Outside {
-    /// Drops the key: one call wherever such a key is dropped.
-    fn drop(self) {
-        let Outside {
-            key: _key,
-            weight: _,
-            low: _,
-            high: _,
-        } = self;
-    }
 }
 
 /// What is compared of a summary and some records, and where they differ.

@@ -1,11 +1,11 @@
 use Rattle.std.proofs.lemmas.Result.{MatchResult-weaker}
 use Rattle.hh_commands.specs.declared.compared.Bounds.TheVariants as bounds
-use Rattle.hh_commands.proofs.BoundsFacts.{bounds_compared, part_refused, part_told}
+use Rattle.hh_commands.proofs.BoundsFacts.{part_compared, part_refused, part_told}
 use Rattle.hh_commands.proofs.commands.condense.condensed_records.Goals as goal
 
 pub returns-clause-bounds : goal.returns-clause-bounds
 returns-clause-bounds g c =
-    bounds_compared c.args.file.now (g.R.ReadRecords.known c.args.records) c.in_ok-summary.summary
+    part_compared c.args.file.now (g.R.ReadRecords.known c.args.records) c.in_ok-summary.summary
     c.in_ok-summary.ensures.summary c.in_ok-counts.counts c.in_ok-counts.ensures.counts
     c.args.compared.now.refuses
     c.condensed_part.new.compared bounds.High c.condensed_part.result c.condensed_part.ensures.bounds

@@ -1,5 +1,5 @@
 use Rattle.std.proofs.Common.{◌∙◌, rules, sym}
-use Rattle.std.proofs.lemmas.Result.{IfOk-weaker, MatchResult-weaker}
+use Rattle.std.proofs.lemmas.Result.{MatchResult-weaker}
 use Rattle.hh_rows.specs.Thresholds.{threshold_of}
 use Rattle.hh_commands.specs.declared.compared.Bounds.TheVariants as bounds
 use Rattle.hh_commands.proofs.BoundsFacts.{bounds_compared, confirm_told, rows_refused}
@@ -16,8 +16,7 @@ returns-clause-bounds g c =
     bounds_compared c.args.file.now (g.R.ReadRecords.known c.args.records) c.in_ok-summary.summary
     c.in_ok-summary.ensures.summary c.in_ok-counts.counts c.in_ok-counts.ensures.counts
     c.args.compared.now.refuses
-    c.confirmed_text.new.compared bounds.Both c.confirmed_text.result
-    (IfOk-weaker c.confirmed_text.result _ _ (λ _ tells xs is. tells xs is.1) c.confirmed_text.ensures.bounds)
+    c.confirmed_text.new.compared bounds.Both c.confirmed_text.result c.confirmed_text.ensures.bounds
 
 pub returns-clause-refused : goal.returns-clause-refused
 returns-clause-refused g c =
