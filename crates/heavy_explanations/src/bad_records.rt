@@ -1,12 +1,12 @@
 //! Where a bad record stands, and what is wrong with it.
 
 use crate::columns::{Missing, column_place, missing_field};
-use crate::file_names::input_name;
+use crate::escaped::{Name, print_about};
 use crate::first_bytes::{begin_of, other_format};
 use crate::record_place::{RecordPlace, Text, Texts};
 use hh_faults::BadRecordCause;
 use hh_records::LayoutWords;
-use std::fmt;
+use std::fmt::{self, Display};
 
 /// What a weight has to be, and what may stand in its place.
 const WEIGHT: &str = "a weight is a whole number from 1 on; is the first line a header? --header; \
@@ -55,97 +55,106 @@ fn wanted(cause: BadRecordCause, layout: &LayoutWords) -> &'static str {
 #[derive(Clone, Copy)]
 enum Verdict<'a> {
     Wanted(&'static str),
-    /// A record with `count` fields, where another column is named, which may be known.
-    Fields {
-        count: u64,
-        missing: Option<Missing<'a>>,
-    },
+    /// A record with this number of fields, which doesn't have a column.
+    Fields(u64, Missing<'a>),
 }
 
-impl<'a> fmt::Display for Verdict<'a> {
+impl<'a> Display for Verdict<'a> {
     fn fmt<W: fmt::Write>(&self, f: &mut fmt::Formatter<W>) -> fmt::Result {
-        let (count, missing) = match self {
-            Verdict::Wanted(text) => return write!(f, "{text}"),
-            Verdict::Fields { count, missing } => (*count, missing),
-        };
-        let plural = if count == 1 { "" } else { "s" };
-        write!(f, "it has {count} field{plural}, and ")?;
-        match missing {
-            Some(missing) => write!(f, "{missing}"),
-            None => write!(f, "--key or --weight names another"),
+        match self {
+            Verdict::Wanted(text) => f.write_str(text),
+            Verdict::Fields(1, missing) => write!(f, "it has 1 field, and {missing}"),
+            Verdict::Fields(count, missing) => write!(f, "it has {count} fields, and {missing}"),
         }
     }
 }
 
 /// Whether the weight of a record of `text` is `-`.
 fn weight_is_none(texts: Texts<'_>, text: Text<'_>, fields: &[Vec<u8>]) -> bool {
-    let place = match &texts.asked.records.layout.weight {
+    let place = match &texts.records.layout.weight {
         Some(word) => column_place(texts, text, word),
         None => Some(1),
     };
-    match place.and_then(|place| fields.get(place)) {
+    let Some(place) = place else {
+        return false;
+    };
+    match fields.get(place) {
         Some(weight) => weight.as_slice() == b"-".as_slice(),
         None => false,
     }
 }
 
+/// Says what is wrong with a record of `text`, which has these `fields`.
+fn verdict_on_fields<'a>(
+    texts: Texts<'a>,
+    text: Text<'_>,
+    fields: &[Vec<u8>],
+    cause: BadRecordCause,
+) -> Verdict<'a> {
+    let layout = &texts.records.layout;
+    match cause {
+        BadRecordCause::FieldCount if names_columns(layout) => {
+            let count = fields.len() as u64;
+            Verdict::Fields(count, missing_field(texts, text, count))
+        }
+        BadRecordCause::BadWeight if weight_is_none(texts, text, fields) => {
+            Verdict::Wanted("--allow-zero takes a weight of -, as 0")
+        }
+        _ => Verdict::Wanted(wanted(cause, layout)),
+    }
+}
+
 /// Says what is wrong with the record at `place`.
 fn verdict_on<'a>(texts: Texts<'a>, place: &RecordPlace<'_>, cause: BadRecordCause) -> Verdict<'a> {
-    let layout = &texts.asked.records.layout;
-    let wanted = Verdict::Wanted(wanted(cause, layout));
-    if layout.format.has_quotes()
-        && let [b'{' | b'[', ..] = place.begin()
-    {
+    let layout = &texts.records.layout;
+    if layout.format.has_quotes() && matches!(place.begin(), [b'{' | b'[', ..]) {
         return Verdict::Wanted(
             "looks like JSON, and a record is CSV; --json reads an object a line",
         );
     }
-    let fields = match texts.delimiter() {
-        Some(delimiter) => place.fields(texts.rt.alloc(), delimiter),
-        None => None,
-    };
-    let Some(fields) = fields else {
-        return wanted;
-    };
-    let count = fields.len() as u64;
-    match cause {
-        BadRecordCause::FieldCount if names_columns(layout) => Verdict::Fields {
-            count,
-            missing: missing_field(texts, place.text, count),
-        },
-        BadRecordCause::BadWeight if weight_is_none(texts, place.text, &fields) => {
-            Verdict::Wanted("--allow-zero takes a weight of -, as 0")
-        }
-        _ => wanted,
+    match texts.fields_of(place) {
+        Some(fields) => verdict_on_fields(texts, place.text, &fields, cause),
+        None => Verdict::Wanted(wanted(cause, layout)),
     }
 }
 
 /// Names the format that `text` begins as, where it is one that no command reads and the text can
 /// be looked at again.
 fn format_of(texts: Texts<'_>, text: Text<'_>) -> Option<&'static str> {
-    if let Some(bytes) = texts.begin.bytes_of(text.number) {
-        return other_format(&bytes);
+    match texts.begin.bytes_of(text.number) {
+        Some(bytes) => other_format(&bytes),
+        None => other_format(&begin_of(texts.rt, text.name)?),
     }
-    other_format(&begin_of(texts.rt, text.name)?)
+}
+
+/// Prints where a record stands, how it begins and what is wrong with it.
+fn print_verdict(rt: &HostRuntime, place: &RecordPlace<'_>, verdict: Verdict<'_>) {
+    let more = if place.is_cut() { ".." } else { "" };
+    let _ = eprintln!(rt;
+        "  {}, line {}, \"{}\"{more}: {verdict}",
+        place.text.called(),
+        place.line,
+        place.begin().escape_ascii()
+    );
+}
+
+/// Prints where a record stands, how it begins and what is wrong with it. Of a text in another
+/// format it prints that.
+fn tell_place(texts: Texts<'_>, place: &RecordPlace<'_>, cause: BadRecordCause) {
+    match format_of(texts, place.text) {
+        Some(format) => print_about(texts.rt, place.text.called(), " ", format),
+        None => print_verdict(texts.rt, place, verdict_on(texts, place, cause)),
+    }
 }
 
 /// Prints where a bad record stands and how it begins, where its text can be looked at again, and
-/// what is wrong with it. Of a text in another format it prints that.
+/// what is wrong with it.
 pub(crate) fn tell_record(texts: Texts<'_>, number: u64, cause: BadRecordCause) {
-    let rt = texts.rt;
-    let Some(place) = texts.place_of(number) else {
-        let _ = eprintln!(rt; "  {}", wanted(cause, &texts.asked.records.layout));
-        return;
-    };
-    let (name, line) = (input_name(texts.asked, place.text.number), place.line);
-    if let Some(format) = format_of(texts, place.text) {
-        let _ = eprintln!(rt; "  {name} {format}");
-        return;
+    match texts.place_of(number) {
+        Some(place) => tell_place(texts, &place, cause),
+        None => {
+            let wanted = wanted(cause, &texts.records.layout);
+            print_about(texts.rt, Name(b""), "", wanted);
+        }
     }
-    let verdict = verdict_on(texts, &place, cause);
-    let more = if place.is_cut() { ".." } else { "" };
-    let _ = eprintln!(rt;
-        "  {name}, line {line}, \"{}\"{more}: {verdict}",
-        place.begin().escape_ascii()
-    );
 }

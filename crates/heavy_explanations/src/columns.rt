@@ -1,41 +1,50 @@
 //! Which column a record or a header doesn't have.
 
 use crate::escaped::Name;
-use crate::file_names::input_name;
 use crate::record_place::{Text, Texts};
 use hh_records::{Column, column_of};
-use std::fmt;
+use std::fmt::{self, Display};
 
-/// A column that a record doesn't have: the option that names it, its number, and its name, where
-/// the option has that.
+/// A column that a record doesn't have.
 #[derive(Clone, Copy)]
-pub(crate) struct Missing<'a> {
-    option: &'static str,
-    number: u64,
-    name: Option<&'a [u8]>,
+pub(crate) enum Missing<'a> {
+    /// One that isn't known.
+    Unknown,
+    /// The one that an `option` names by its number.
+    Number(&'static str, u64),
+    /// The one with this number that an `option` names by its name.
+    Name(&'static str, u64, Name<'a>),
 }
 
-impl<'a> fmt::Display for Missing<'a> {
+impl<'a> Display for Missing<'a> {
     fn fmt<W: fmt::Write>(&self, f: &mut fmt::Formatter<W>) -> fmt::Result {
-        write!(f, "{} names column {}", self.option, self.number)?;
-        match self.name {
-            Some(name) => write!(f, ", \"{}\"", Name(name)),
-            None => Ok(()),
+        match self {
+            Missing::Unknown => f.write_str("--key or --weight names another"),
+            Missing::Number(option, number) => write!(f, "{option} names column {number}"),
+            Missing::Name(option, number, name) => {
+                write!(f, "{option} names column {number}, \"{name}\"")
+            }
         }
     }
 }
 
+/// Finds the place of `name`, from 0 on, in a `header`.
+fn place_in(header: &[Vec<u8>], name: &[u8]) -> Option<usize> {
+    for (place, field) in header.iter().enumerate() {
+        if field.as_slice() == name {
+            return Some(place);
+        }
+    }
+    None
+}
+
 /// Gives the place, from 0 on, of the column that `word` names in `text`.
 pub(crate) fn column_place(texts: Texts<'_>, text: Text<'_>, word: &[u8]) -> Option<usize> {
-    let has_header = texts.asked.records.layout.has_header;
-    match column_of(texts.rt.alloc(), word, has_header).ok()?? {
-        Column::Number(number) => number.checked_sub(1),
-        Column::Name(column) => {
-            let header = texts.header_of(text)?;
-            header
-                .iter()
-                .position(|field| field.as_slice() == column.as_slice())
-        }
+    let has_header = texts.records.layout.has_header;
+    match column_of(texts.rt.alloc(), word, has_header) {
+        Ok(Some(Column::Number(number))) => number.checked_sub(1),
+        Ok(Some(Column::Name(column))) => place_in(&texts.header_of(text)?, &column),
+        _ => None,
     }
 }
 
@@ -49,42 +58,41 @@ fn missing_at<'a>(
     word: &'a [u8],
 ) -> Option<Missing<'a>> {
     let place = column_place(texts, text, word)? as u64;
+    let number = place.saturating_add(1);
     if place < count {
-        return None;
+        None
+    } else if word.iter().all(|byte| byte.is_ascii_digit()) {
+        Some(Missing::Number(option, number))
+    } else {
+        Some(Missing::Name(option, number, Name(word)))
     }
-    let is_number = word.iter().all(|byte| byte.is_ascii_digit());
-    Some(Missing {
-        option,
-        number: place.saturating_add(1),
-        name: (!is_number).then_some(word),
-    })
 }
 
 /// Finds the first column that a record of `text` with `count` fields doesn't have.
-pub(crate) fn missing_field<'a>(
-    texts: Texts<'a>,
-    text: Text<'_>,
-    count: u64,
-) -> Option<Missing<'a>> {
-    let layout = &texts.asked.records.layout;
+pub(crate) fn missing_field<'a>(texts: Texts<'a>, text: Text<'_>, count: u64) -> Missing<'a> {
+    let layout = &texts.records.layout;
     for word in &layout.key {
-        if let Some(missing) = missing_at(texts, text, count, "--key", word.as_slice()) {
-            return Some(missing);
+        if let Some(missing) = missing_at(texts, text, count, "--key", word) {
+            return missing;
         }
     }
-    let word = layout.weight.as_ref()?;
-    missing_at(texts, text, count, "--weight", word.as_slice())
+    match &layout.weight {
+        Some(word) => {
+            missing_at(texts, text, count, "--weight", word).unwrap_or(Missing::Unknown)
+        }
+        None => Missing::Unknown,
+    }
 }
 
 /// The names of a header, each in quotes.
 #[derive(Clone, Copy)]
 struct Columns<'a>(&'a [Vec<u8>]);
 
-impl<'a> fmt::Display for Columns<'a> {
+impl<'a> Display for Columns<'a> {
     fn fmt<W: fmt::Write>(&self, f: &mut fmt::Formatter<W>) -> fmt::Result {
         let mut between = "";
         for name in self.0 {
-            write!(f, "{between}\"{}\"", Name(name.as_slice()))?;
+            write!(f, "{between}\"{}\"", Name(name))?;
             between = ", ";
         }
         Ok(())
@@ -93,7 +101,7 @@ impl<'a> fmt::Display for Columns<'a> {
 
 /// Finds the first column that `text` doesn't have.
 fn missing_column<'a>(texts: Texts<'a>, text: Text<'_>) -> Option<&'a [u8]> {
-    let layout = &texts.asked.records.layout;
+    let layout = &texts.records.layout;
     for word in &layout.key {
         if column_place(texts, text, word).is_none() {
             return Some(word.as_slice());
@@ -112,10 +120,8 @@ pub(crate) fn tell_columns(texts: Texts<'_>) {
         let Some(text) = texts.text(place) else {
             return;
         };
-        let header = texts.header_of(text);
-        if let (Some(header), Some(column)) = (header, missing_column(texts, text)) {
-            let (name, column) = (input_name(texts.asked, text.number), Name(column));
-            let columns = Columns(&header);
+        if let (Some(header), Some(column)) = (texts.header_of(text), missing_column(texts, text)) {
+            let (name, column, columns) = (text.called(), Name(column), Columns(&header));
             let _ = eprintln!(texts.rt;
                 "  {name} has no column \"{column}\"; its header has {columns}"
             );

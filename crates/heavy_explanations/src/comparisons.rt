@@ -1,17 +1,24 @@
 //! Where a saved summary and records differ.
 
 use crate::escaped::Name;
-use crate::file_names::name_of;
-use heavy_requests::Invocation;
 use hh_commands::Outside;
 use hh_faults::Totals;
 use hh_records::pointed;
 
+/// Prints what the key behind the certain ones weighs at most, with `decimals` digits after the
+/// point.
+pub(crate) fn tell_next(rt: &HostRuntime, most: u64, decimals: u8) {
+    if let Ok(most) = pointed(rt.alloc(), u128::from(most), decimals) {
+        let _ = eprintln!(rt;
+            "  the next key weighs at most {}",
+            most.as_slice().escape_ascii()
+        );
+    }
+}
+
 /// Prints two totals that differ, with `decimals` digits after the point.
-pub(crate) fn tell_totals(rt: &HostRuntime, name: &[u8], totals: Option<Totals>, decimals: u8) {
-    let Some(Totals { summary, records }) = totals else {
-        return;
-    };
+pub(crate) fn tell_totals(rt: &HostRuntime, name: &[u8], totals: Totals, decimals: u8) {
+    let Totals { summary, records } = totals;
     let summary = pointed(rt.alloc(), u128::from(summary), decimals);
     let records = pointed(rt.alloc(), u128::from(records), decimals);
     if let (Ok(summary), Ok(records)) = (summary, records) {
@@ -46,11 +53,4 @@ pub(crate) fn tell_outside(
             weight.as_slice().escape_ascii()
         );
     }
-}
-
-/// Prints that records which a command took aren't those of its summary.
-pub(crate) fn print_contradicted(rt: &HostRuntime, asked: &Invocation, outside: &Outside) {
-    let words = "heavy: note: these aren't the records that were summarised: ";
-    let decimals = asked.records.layout.decimals;
-    tell_outside(rt, words, name_of(asked, 1), outside, decimals);
 }

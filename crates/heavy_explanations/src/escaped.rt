@@ -1,6 +1,19 @@
 //! Texts with their control characters escaped, so that a terminal finds no command.
 
-use std::fmt;
+use std::fmt::{self, Display};
+
+/// Writes `character`, escaped where it is a control character that isn't kept.
+fn write_character<W: fmt::Write>(
+    f: &mut fmt::Formatter<W>,
+    character: char,
+    is_kept: bool,
+) -> fmt::Result {
+    if character.is_control() && !is_kept {
+        character.escape_default().fmt(f)
+    } else {
+        f.write_char(character)
+    }
+}
 
 /// Writes `text` with its control characters escaped, but for its line feeds where it
 /// `keeps_lines`.
@@ -10,11 +23,7 @@ fn write_escaped<W: fmt::Write>(
     keeps_lines: bool,
 ) -> fmt::Result {
     for character in text.chars() {
-        if character.is_control() && !(keeps_lines && character == '\n') {
-            write!(f, "{}", character.escape_default())?;
-        } else {
-            f.write_char(character)?;
-        }
+        write_character(f, character, keeps_lines && character == '\n')?;
     }
     Ok(())
 }
@@ -23,7 +32,7 @@ fn write_escaped<W: fmt::Write>(
 #[derive(Clone, Copy)]
 pub(crate) struct Lines<'a>(pub(crate) &'a str);
 
-impl<'a> fmt::Display for Lines<'a> {
+impl<'a> Display for Lines<'a> {
     fn fmt<W: fmt::Write>(&self, f: &mut fmt::Formatter<W>) -> fmt::Result {
         write_escaped(f, self.0, true)
     }
@@ -33,11 +42,16 @@ impl<'a> fmt::Display for Lines<'a> {
 #[derive(Clone, Copy)]
 pub(crate) struct Name<'a>(pub(crate) &'a [u8]);
 
-impl<'a> fmt::Display for Name<'a> {
+impl<'a> Display for Name<'a> {
     fn fmt<W: fmt::Write>(&self, f: &mut fmt::Formatter<W>) -> fmt::Result {
         match str::from_utf8(self.0) {
             Ok(text) => write_escaped(f, text, false),
-            Err(_) => write!(f, "{}", self.0.escape_ascii()),
+            Err(_) => self.0.escape_ascii().fmt(f),
         }
     }
+}
+
+/// Prints a line about the file `name`: the name, what stands `between`, and `words`.
+pub(crate) fn print_about(rt: &HostRuntime, name: Name<'_>, between: &str, words: &str) {
+    let _ = eprintln!(rt; "  {name}{between}{words}");
 }

@@ -3,18 +3,16 @@
 
 use crate::bad_records::tell_record;
 use crate::columns::tell_columns;
-use crate::comparisons::{tell_outside, tell_totals};
-use crate::escaped::Name;
-use crate::file_names::{input_name, name_of};
+use crate::comparisons::{tell_next, tell_outside, tell_totals};
+use crate::escaped::{Name, print_about};
+use crate::file_names::FileNames;
 use crate::first_bytes::tell_looks;
 use crate::reasons::{tell_unkept, tell_unread};
 use crate::record_place::Texts;
-use crate::thresholds::tell_threshold;
 use heavy_inputs::Unread;
 use heavy_requests::{Command, Invocation, Request};
 use hh_commands::Comparison;
 use hh_faults::ToolError;
-use hh_records::pointed;
 
 /// Whether a command reads records.
 fn reads_records(request: &Request) -> bool {
@@ -40,58 +38,65 @@ pub(crate) fn names_records(fault: &ToolError, asked: &Invocation) -> bool {
     }
 }
 
-/// Prints what the key behind the certain ones weighs at most, with `decimals` digits after the
-/// point.
-fn tell_next(rt: &HostRuntime, most: u64, decimals: u8) {
-    if let Ok(most) = pointed(rt.alloc(), u128::from(most), decimals) {
-        let _ = eprintln!(rt;
-            "  the next key weighs at most {}",
-            most.as_slice().escape_ascii()
-        );
-    }
-}
-
-/// Prints more about the `fault` of what was asked for, where there is more to say.
-pub(crate) fn explain(texts: Texts<'_>, fault: &ToolError, compared: &Comparison, unread: &Unread) {
-    let (rt, asked) = (texts.rt, texts.asked);
+/// Prints more about the `fault` of a file, one of `names`, where there is more to say.
+pub(crate) fn explain_file(
+    rt: &HostRuntime,
+    names: FileNames<'_>,
+    fault: &ToolError,
+    unread: &Unread,
+) {
     match fault {
         ToolError::ReadFault | ToolError::FileFault { .. } if unread.is_unkept() => {
             tell_unkept(rt, unread);
         }
-        ToolError::FileFault { number } => {
-            let Name(name) = input_name(asked, *number);
-            tell_unread(rt, name, unread);
-        }
-        ToolError::BadFile { number, .. } => tell_looks(rt, name_of(asked, *number)),
+        ToolError::FileFault { number } => tell_unread(rt, names.input(*number), unread),
+        ToolError::BadFile { number, .. } => tell_looks(rt, names.name(*number)),
         ToolError::MixedKinds { number } | ToolError::CannotMerge { number, .. } => {
-            let _ = eprintln!(rt; "  {}", Name(name_of(asked, *number)));
+            print_about(rt, Name(names.name(*number)), "", "");
         }
         ToolError::NotCounters => {
-            let _ = eprintln!(rt; "  {} is a Count-Min table", Name(name_of(asked, 1)));
+            print_about(rt, Name(names.name(1)), " ", "is a Count-Min table");
         }
+        _ => {}
+    }
+}
+
+/// Prints more about the `fault` of a summary `name` and records, by what was `compared`, with
+/// `decimals` digits after the point of a weight.
+pub(crate) fn explain_comparison(
+    rt: &HostRuntime,
+    name: &[u8],
+    fault: &ToolError,
+    compared: &Comparison,
+    decimals: u8,
+) {
+    match fault {
         ToolError::TotalDiffers => {
-            let decimals = asked.records.layout.decimals;
-            tell_totals(rt, name_of(asked, 1), compared.totals, decimals);
+            if let Some(totals) = compared.totals {
+                tell_totals(rt, name, totals, decimals);
+            }
         }
         ToolError::WeightOutside => {
             if let Some(outside) = &compared.outside {
-                let decimals = asked.records.layout.decimals;
-                tell_outside(rt, "  ", name_of(asked, 1), outside, decimals);
+                tell_outside(rt, "  ", name, outside, decimals);
             }
         }
-        ToolError::TopUncertain { most, .. } => {
-            tell_next(rt, *most, asked.records.layout.decimals);
-        }
-        ToolError::BadThreshold => tell_threshold(rt, &asked.request),
-        ToolError::BadRecord { number, cause } => {
-            tell_record(texts, *number, *cause);
-        }
+        ToolError::TopUncertain { most, .. } => tell_next(rt, *most, decimals),
+        _ => {}
+    }
+}
+
+/// Prints more about the `fault` of records, where there is more to say.
+pub(crate) fn explain_records(texts: Texts<'_>, fault: &ToolError) {
+    let (rt, layout) = (texts.rt, &texts.records.layout);
+    match fault {
+        ToolError::BadRecord { number, cause } => tell_record(texts, *number, *cause),
         ToolError::NoColumn => tell_columns(texts),
-        ToolError::BadKey { .. } if asked.records.layout.bad_as.is_some() => {
-            let _ = eprintln!(rt; "  --bad-as takes a key of 1 to 4096 bytes");
+        ToolError::BadKey { .. } if layout.bad_as.is_some() => {
+            let _ = rt.eprintln("  --bad-as takes a key of 1 to 4096 bytes");
         }
-        ToolError::BadColumn if asked.records.layout.format.is_json() => {
-            let _ = eprintln!(rt; "  --json wants --key: the name of a member, or a JSON pointer");
+        ToolError::BadColumn if layout.format.is_json() => {
+            let _ = rt.eprintln("  --json wants --key: the name of a member, or a JSON pointer");
         }
         _ => {}
     }

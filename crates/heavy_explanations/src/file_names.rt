@@ -3,52 +3,65 @@
 use crate::escaped::Name;
 use heavy_requests::{Command, Invocation, Request};
 
-/// The name of a file where none is named.
-const NO_NAME: &[u8] = b"";
-
-/// What standard input is called.
-const STANDARD: &[u8] = b"standard input";
-
-/// Gives the name in a `place`, from 0 on.
-fn name_at(names: &[Vec<u8>], place: u64) -> &[u8] {
-    match names.get(place as usize) {
-        Some(name) => name.as_slice(),
-        None => NO_NAME,
+/// Gives what the input of this `name` and `number` is called. Standard input is `-`, or has the
+/// number 0.
+pub(crate) fn input_name(name: &[u8], number: u64) -> Name<'_> {
+    if number == 0 || name == b"-".as_slice() {
+        Name(b"standard input")
+    } else {
+        Name(name)
     }
 }
 
-/// Gives the name of the file `number`, from 1 on: `first`, or else one of the `others`.
-fn name_after<'a>(first: &'a [u8], others: &'a [Vec<u8>], number: u64) -> &'a [u8] {
-    match number.checked_sub(2) {
-        None => first,
-        Some(place) => name_at(others, place),
-    }
+/// The names of the files of a command line.
+#[derive(Clone, Copy)]
+pub(crate) struct FileNames<'a> {
+    /// A saved one, or the first that is merged.
+    first: Option<&'a [u8]>,
+    others: &'a [Vec<u8>],
 }
 
-/// Gives the name of the file `number` that `asked` names. Files of records stand after a saved
-/// one.
-pub(crate) fn name_of(asked: &Invocation, number: u64) -> &[u8] {
-    let records = asked.records.files.as_slice();
-    let Request::Answer(command) = &asked.request else {
-        return name_at(records, number.saturating_sub(1));
-    };
-    match command {
-        Command::Top { .. } | Command::Summarise { .. } | Command::Table { .. } => {
-            name_at(records, number.saturating_sub(1))
+impl<'a> FileNames<'a> {
+    /// Gives those that `asked` names. Files of records stand after a saved one.
+    pub(crate) fn of(asked: &'a Invocation) -> FileNames<'a> {
+        let records = asked.records.files.as_slice();
+        let (first, others) = match &asked.request {
+            Request::Answer(Command::Merge { first, others }) => (first, others.as_slice()),
+            Request::Answer(
+                Command::Ask { file, .. }
+                | Command::List { file, .. }
+                | Command::Describe { file }
+                | Command::Condense { file, .. }
+                | Command::Confirm { file, .. },
+            ) => (file, records),
+            _ => {
+                return FileNames {
+                    first: None,
+                    others: records,
+                };
+            }
+        };
+        FileNames {
+            first: Some(first.as_slice()),
+            others,
         }
-        Command::Merge { first, others } => name_after(first, others, number),
-        Command::Ask { file, .. } => file.as_slice(),
-        Command::List { file, .. } => file.as_slice(),
-        Command::Describe { file } => file.as_slice(),
-        Command::Condense { file, .. } => name_after(file, records, number),
-        Command::Confirm { file, .. } => name_after(file, records, number),
     }
-}
 
-/// Gives the name of the input `number`. Standard input is `-`, or has the number 0.
-pub(crate) fn input_name(asked: &Invocation, number: u64) -> Name<'_> {
-    match name_of(asked, number) {
-        name if number > 0 && name != b"-".as_slice() => Name(name),
-        _ => Name(STANDARD),
+    /// Gives the name of the file `number`, from 1 on.
+    pub(crate) fn name(self, number: u64) -> &'a [u8] {
+        let place = match self.first {
+            Some(first) if number < 2 => return first,
+            Some(_) => number.saturating_sub(2),
+            None => number.saturating_sub(1),
+        };
+        match self.others.get(place as usize) {
+            Some(name) => name.as_slice(),
+            None => b"",
+        }
+    }
+
+    /// Gives what the input `number` is called.
+    pub(crate) fn input(self, number: u64) -> Name<'a> {
+        input_name(self.name(number), number)
     }
 }

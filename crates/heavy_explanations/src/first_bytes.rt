@@ -1,11 +1,51 @@
 //! What a file looks like by its first bytes.
 
-use crate::escaped::Name;
+use crate::escaped::{Name, print_about};
 use std::fs::{self, File};
 use std::io::Read;
 
 /// The most bytes of a file that show what it looks like.
 const BEGIN: u64 = 65_536;
+
+/// A format by the bytes that a file of it begins with, and what is said of such a file.
+type Begins = (&'static [u8], &'static str);
+
+/// The formats that no command reads.
+const OTHERS: [Begins; 7] = [
+    (b"\x1f\x8b", "looks like gzip: `gzip -dc` unpacks it"),
+    (
+        b"\x28\xb5\x2f\xfd",
+        "looks like zstd: `zstd -dc` unpacks it",
+    ),
+    (b"\xfd7zXZ", "looks like xz: `xz -dc` unpacks it"),
+    (b"BZh", "looks like bzip2: `bzip2 -dc` unpacks it"),
+    (b"PK\x03\x04", "looks like a zip archive"),
+    (
+        b"\xff\xfe",
+        "looks like UTF-16: `iconv -f UTF-16 -t UTF-8` makes it UTF-8",
+    ),
+    (
+        b"\xfe\xff",
+        "looks like UTF-16: `iconv -f UTF-16 -t UTF-8` makes it UTF-8",
+    ),
+];
+
+/// Saved files: of the versions that are known here, and of any.
+const SAVED: [Begins; 3] = [
+    (b"HHS1", "begins as a saved file, and is damaged or cut off"),
+    (b"HHS2", "begins as a saved file, and is damaged or cut off"),
+    (b"HHS", "is a saved file of a version that isn't known here"),
+];
+
+/// Gives what is said of the first of `formats` that `bytes` begin as.
+fn said_of(formats: &[Begins], bytes: &[u8]) -> Option<&'static str> {
+    for (begin, said) in formats {
+        if bytes.starts_with(begin) {
+            return Some(*said);
+        }
+    }
+    None
+}
 
 /// Whether `bytes` are those of a text.
 fn are_text(bytes: &[u8]) -> bool {
@@ -14,56 +54,43 @@ fn are_text(bytes: &[u8]) -> bool {
 
 /// Names the format that the bytes of a file begin as, where it is one that no command reads.
 pub(crate) fn other_format(bytes: &[u8]) -> Option<&'static str> {
-    if bytes.starts_with(b"\x1f\x8b") {
-        Some("looks like gzip: `gzip -dc` unpacks it")
-    } else if bytes.starts_with(b"\x28\xb5\x2f\xfd") {
-        Some("looks like zstd: `zstd -dc` unpacks it")
-    } else if bytes.starts_with(b"\xfd7zXZ") {
-        Some("looks like xz: `xz -dc` unpacks it")
-    } else if bytes.starts_with(b"BZh") {
-        Some("looks like bzip2: `bzip2 -dc` unpacks it")
-    } else if bytes.starts_with(b"PK\x03\x04") {
-        Some("looks like a zip archive")
-    } else if bytes.starts_with(b"\xff\xfe") || bytes.starts_with(b"\xfe\xff") {
-        Some("looks like UTF-16: `iconv -f UTF-16 -t UTF-8` makes it UTF-8")
+    said_of(&OTHERS, bytes)
+}
+
+/// Says what the `bytes` of a file that is refused look like.
+fn looks(bytes: &[u8]) -> &'static str {
+    match said_of(&OTHERS, bytes).or(said_of(&SAVED, bytes)) {
+        Some(said) => said,
+        None if bytes.is_empty() => "is empty",
+        None if are_text(bytes) => "looks like text: `heavy summarise` saves records of such",
+        None => "looks like no saved file",
+    }
+}
+
+/// Opens the file `name`, where it is one of the disk. No other file is opened again: a pipe would
+/// have other bytes now, or none for ever.
+pub(crate) fn disk_file(rt: &HostRuntime, name: &[u8]) -> Option<File> {
+    let path = str::from_utf8(name).ok()?;
+    if fs::metadata(rt, path).ok()?.is_file() {
+        File::open(rt, path).ok()
     } else {
         None
     }
 }
 
-/// Says what the `bytes` of a file that is refused look like.
-fn looks(bytes: &[u8]) -> &'static str {
-    if let Some(format) = other_format(bytes) {
-        format
-    } else if bytes.is_empty() {
-        "is empty"
-    } else if bytes.starts_with(b"HHS1") || bytes.starts_with(b"HHS2") {
-        "begins as a saved file, and is damaged or cut off"
-    } else if bytes.starts_with(b"HHS") {
-        "is a saved file of a version that isn't known here"
-    } else if are_text(bytes) {
-        "looks like text: `heavy summarise` saves records of such"
-    } else {
-        "looks like no saved file"
-    }
-}
-
-/// Reads the first bytes of the file `name`, where it is one of the disk. No other file is opened
-/// again: a pipe would have other bytes now, or none for ever.
+/// Reads the first bytes of the file `name`, where it is one of the disk.
 pub(crate) fn begin_of(rt: &HostRuntime, name: &[u8]) -> Option<Vec<u8>> {
-    let path = str::from_utf8(name).ok()?;
-    if !fs::metadata(rt, path).ok()?.is_file() {
-        return None;
-    }
+    let file = disk_file(rt, name)?;
     let mut bytes = Vec::new(rt.alloc());
-    let file = File::open(rt, path).ok()?;
-    file.take(BEGIN).read_to_end(&mut bytes).ok()?;
-    Some(bytes)
+    match file.take(BEGIN).read_to_end(&mut bytes) {
+        Ok(_) => Some(bytes),
+        Err(_) => None,
+    }
 }
 
 /// Prints what the file `name`, which is refused, looks like by its first bytes.
 pub(crate) fn tell_looks(rt: &HostRuntime, name: &[u8]) {
     if let Some(bytes) = begin_of(rt, name) {
-        let _ = eprintln!(rt; "  {} {}", Name(name), looks(&bytes));
+        print_about(rt, Name(name), " ", looks(&bytes));
     }
 }

@@ -1,19 +1,20 @@
 //! Notes that a run prints at its end, on what was read and on few rows.
 
 use crate::escaped::Name;
-use crate::file_names::input_name;
+use crate::file_names::FileNames;
 use crate::thresholds::MOST_COUNTERS;
-use heavy_progress::FormatHints;
+use heavy_progress::{FormatHints, LongRecord};
 use heavy_requests::{Invocation, Request};
 use hh_output::Form;
 use hh_rows::Share;
-use std::fmt;
+use std::fmt::{self, Display};
 
-/// Prints where records that were read look like another format.
-pub(crate) fn print_format_hint(rt: &HostRuntime, hints: FormatHints, asked: &Invocation) {
+/// Prints where records that were read look like another format, and at the end of which of the
+/// inputs with these `names` a quote is open.
+pub(crate) fn print_format_hint(rt: &HostRuntime, hints: FormatHints, names: FileNames<'_>) {
     if hints.are_objects() {
-        let _ = eprintln!(rt;
-            "heavy: note: most lines begin with {{: --json --key NAME reads objects"
+        let _ = rt.eprintln(
+            "heavy: note: most lines begin with {: --json --key NAME reads objects",
         );
     } else if let Some((name, word)) = hints.delimiter() {
         let _ = eprintln!(rt;
@@ -22,31 +23,28 @@ pub(crate) fn print_format_hint(rt: &HostRuntime, hints: FormatHints, asked: &In
         );
     }
     if let Some(number) = hints.open {
-        let name = input_name(asked, number);
+        let name = names.input(number);
         let _ = eprintln!(rt; "heavy: note: a quote is open at the end of {name}");
     }
 }
 
-/// Prints how many records counted as a key since they could not be read, if any did.
-pub(crate) fn print_bad(rt: &HostRuntime, bad: u64, asked: &Invocation) {
-    let Some(key) = &asked.records.layout.bad_as else {
+/// Prints how many records counted as the key `bad_as` since they could not be read, if any did.
+pub(crate) fn print_bad(rt: &HostRuntime, bad: u64, bad_as: &Option<Vec<u8>>) {
+    let Some(key) = bad_as else {
         return;
     };
-    let (records, count) = if bad == 1 {
-        ("record", "counts")
-    } else {
-        ("records", "count")
+    let key = Name(key);
+    let _ = match bad {
+        0 => Ok(()),
+        1 => eprintln!(rt; "heavy: 1 record could not be read and counts as {key}"),
+        _ => eprintln!(rt; "heavy: {bad} records could not be read and count as {key}"),
     };
-    if bad > 0 {
-        let key = Name(key.as_slice());
-        let _ = eprintln!(rt; "heavy: {bad} {records} could not be read and {count} as {key}");
-    }
 }
 
 /// Prints that the last record of an input began with a quote and is long, where one is so.
-pub(crate) fn print_last_record(rt: &HostRuntime, hints: FormatHints, asked: &Invocation) {
-    if let Some(long) = hints.long {
-        let name = input_name(asked, long.number);
+pub(crate) fn print_long(rt: &HostRuntime, long: Option<LongRecord>, names: FileNames<'_>) {
+    if let Some(long) = long {
+        let name = names.input(long.number);
         let (lines, bytes) = (long.size.lines, long.size.bytes);
         let _ = eprintln!(rt;
             "heavy: note: the last record of {name} begins with a quote and has {lines} lines, \
@@ -59,7 +57,7 @@ pub(crate) fn print_last_record(rt: &HostRuntime, hints: FormatHints, asked: &In
 #[derive(Clone, Copy)]
 struct KeysAbove(u64);
 
-impl fmt::Display for KeysAbove {
+impl Display for KeysAbove {
     fn fmt<W: fmt::Write>(&self, f: &mut fmt::Formatter<W>) -> fmt::Result {
         match self.0 {
             0 => f.write_str("no key weighs"),
@@ -69,10 +67,40 @@ impl fmt::Display for KeysAbove {
     }
 }
 
-/// Gives the number of counters that find keys of a tenth of the share that `k` counters find, as
-/// far as there may be as many.
-fn larger_k(k: u64) -> u64 {
-    k.saturating_mul(10).saturating_add(9).min(MOST_COUNTERS)
+/// Prints that few keys are above the share of `k` counters, and what shows more: as many counters
+/// as find keys of a tenth of it, as far as there may be as many, or the `top` greatest keys.
+fn print_above_counters(rt: &HostRuntime, keys: KeysAbove, k: u64, top: u64) {
+    let least = k.saturating_add(1);
+    let next = least
+        .saturating_mul(10)
+        .saturating_sub(1)
+        .min(MOST_COUNTERS);
+    let _ = if k < next {
+        eprintln!(rt;
+            "heavy: note: {keys} more than 1/{least} of the total: --k {next} shows those above \
+            1/{}",
+            next.saturating_add(1)
+        )
+    } else {
+        eprintln!(rt;
+            "heavy: note: {keys} more than 1/{least} of the total: `heavy top {top}` shows the \
+            greatest"
+        )
+    };
+}
+
+/// Prints that few keys are above the `share`, and what shows more.
+fn print_above(rt: &HostRuntime, keys: KeysAbove, share: &Share, k: u64, top: u64) {
+    match share {
+        Share::Text(share) => {
+            let share = Name(share);
+            let _ = eprintln!(rt;
+                "heavy: note: {keys} more than {share} of the total: a smaller --threshold shows \
+                more"
+            );
+        }
+        Share::OfCounters => print_above_counters(rt, keys, k, top),
+    }
 }
 
 /// Prints how many keys a report has, of which `rows` were written, where it has fewer than were
@@ -89,24 +117,7 @@ pub(crate) fn print_few_keys(rt: &HostRuntime, asked: &Invocation, rows: u64) {
     let has_header = asked.output.has_names && asked.output.form != Form::Json;
     let keys = rows.saturating_sub(u64::from(has_header));
     let top = wanted.top.unwrap_or(1);
-    if keys >= top {
-        return;
+    if keys < top {
+        print_above(rt, KeysAbove(keys), &options.threshold, options.k, top);
     }
-    let (k, keys) = (options.k, KeysAbove(keys));
-    let next = larger_k(k);
-    let _ = match &options.threshold {
-        Share::Text(share) => eprintln!(rt;
-            "heavy: note: {keys} more than {} of the total: a smaller --threshold shows more",
-            Name(share.as_slice())
-        ),
-        Share::OfCounters if k < next => eprintln!(rt;
-            "heavy: note: {keys} more than 1/{} of the total: --k {next} shows those above 1/{}",
-            k.saturating_add(1),
-            next.saturating_add(1)
-        ),
-        Share::OfCounters => eprintln!(rt;
-            "heavy: note: {keys} more than 1/{} of the total: `heavy top {top}` shows the greatest",
-            k.saturating_add(1)
-        ),
-    };
 }

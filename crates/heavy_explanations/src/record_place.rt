@@ -1,9 +1,12 @@
 //! Where a record stands in the texts that it was read from.
 
+use crate::escaped::Name;
+use crate::file_names::input_name;
+use crate::first_bytes::disk_file;
 use heavy_progress::{Begin, RecordCount};
-use heavy_requests::{Invocation, split_fields};
+use heavy_requests::{RecordWords, split_fields};
 use std::alloc::{AllocError, Global};
-use std::fs::{self, File};
+use std::fs::File;
 use std::io::Read;
 
 /// The bytes of the buffers in which a file is read.
@@ -18,12 +21,24 @@ const MOST_SHOWN: usize = 60;
 /// What may stand before a text, and is no part of it.
 const MARK: &[u8] = b"\xef\xbb\xbf";
 
+/// Gives the `bytes` of a text without the mark that may stand before it.
+fn without_mark(bytes: &[u8]) -> &[u8] {
+    bytes.strip_prefix(MARK).unwrap_or(bytes)
+}
+
 /// A text of records: the name and the number of its input.
 #[derive(Clone, Copy)]
 pub(crate) struct Text<'a> {
     pub name: &'a [u8],
     /// Its place among the command line's files, from 1 on, and 0 where none is named.
     pub number: u64,
+}
+
+impl<'a> Text<'a> {
+    /// Gives what it is called.
+    pub(crate) fn called(self) -> Name<'a> {
+        input_name(self.name, self.number)
+    }
 }
 
 /// Where a record stands, and how it begins.
@@ -48,14 +63,6 @@ impl<'a> RecordPlace<'a> {
     /// Whether the record has more of them.
     pub(crate) fn is_cut(&self) -> bool {
         self.bytes.len() > MOST_SHOWN
-    }
-
-    /// Splits the record into its fields, where it isn't too long for that.
-    pub(crate) fn fields(&self, alloc: Global, delimiter: u8) -> Option<Vec<Vec<u8>>> {
-        if self.bytes.len() > MOST_KEPT {
-            return None;
-        }
-        split_fields(alloc, delimiter, &self.bytes).ok()
     }
 }
 
@@ -110,39 +117,33 @@ impl Search {
         Ok(false)
     }
 
-    /// Takes the bytes of `file`, up to those with the record. Where the file can't be read or
-    /// there is no memory, there is no search.
-    fn through(mut self, rt: &HostRuntime, mut file: File) -> Option<Search> {
-        let mut buffer = vec![in rt.alloc(); 0u8; BUFFER].ok()?;
+    /// Takes the bytes of `file`, up to those with the record, and says whether they are taken: not
+    /// where the file can't be read or there is no memory.
+    fn take_file(&mut self, alloc: Global, mut file: File) -> Option<()> {
+        let mut buffer = vec![in alloc; 0u8; BUFFER].ok()?;
         for turn in 0..u64::MAX {
             let count = file.read(&mut buffer).ok()?;
             let bytes = buffer.get(..count)?;
-            let text = match bytes.strip_prefix(MARK) {
-                Some(text) if turn == 0 => text,
-                _ => bytes,
+            let text = if turn == 0 {
+                without_mark(bytes)
+            } else {
+                bytes
             };
             if count == 0 || self.take_all(text).ok()? {
-                return Some(self);
+                return Some(());
             }
         }
         None
     }
-
-    /// Takes the first `bytes` of a text, up to those with the record. Where they aren't the
-    /// `whole` text and the record doesn't end in them, there is no search.
-    fn through_begin(mut self, bytes: &[u8], whole: bool) -> Option<Search> {
-        let text = bytes.strip_prefix(MARK).unwrap_or(bytes);
-        let has_come = self.take_all(text).ok()?;
-        (whole || has_come).then_some(self)
-    }
 }
 
-/// What can be looked at again of the records that `asked` names: files of the disk, and the
-/// `begin` of another input.
+/// What can be looked at again of the `records` that a command line names after `saved` files:
+/// files of the disk, and the `begin` of another input.
 #[derive(Clone, Copy)]
 pub(crate) struct Texts<'a> {
     pub rt: &'a HostRuntime,
-    pub asked: &'a Invocation,
+    pub records: &'a RecordWords,
+    pub saved: u64,
     pub begin: &'a Begin,
 }
 
@@ -150,61 +151,73 @@ impl<'a> Texts<'a> {
     /// Gives the text at `place`, from 0 on. Where no file is named, standard input is the only
     /// one.
     pub(crate) fn text(self, place: u64) -> Option<Text<'a>> {
-        let files = &self.asked.records.files;
+        let files = &self.records.files;
         if files.is_empty() && place == 0 {
             return Some(Text {
                 name: b"-",
                 number: 0,
             });
         }
-        let name = files.get(place as usize)?;
-        let before = self
-            .asked
-            .request
-            .saved_before_records()
-            .saturating_add(place);
         Some(Text {
-            name: name.as_slice(),
-            number: before.saturating_add(1),
+            name: files.get(place as usize)?.as_slice(),
+            number: self.saved.saturating_add(place).saturating_add(1),
         })
     }
 
     /// Gives the byte between two fields of the records, where they may be quoted.
     pub(crate) fn delimiter(self) -> Option<u8> {
-        if self.asked.records.layout.format.has_quotes() {
-            self.asked.records.parting_byte()
+        if self.records.layout.format.has_quotes() {
+            self.records.parting_byte()
         } else {
             None
         }
     }
 
+    /// Splits the record at `place` into its fields, where they may be quoted and it isn't too long
+    /// for that.
+    pub(crate) fn fields_of(self, place: &RecordPlace<'_>) -> Option<Vec<Vec<u8>>> {
+        if place.bytes.len() > MOST_KEPT {
+            return None;
+        }
+        split_fields(self.rt.alloc(), self.delimiter()?, &place.bytes).ok()
+    }
+
+    /// Takes the bytes of `text` into `search`, up to those with the record, and says whether they
+    /// are taken: not where the text can't be looked at again.
+    fn take_text(self, text: Text<'_>, search: &mut Search) -> Option<()> {
+        if let Some(bytes) = self.begin.bytes_of(text.number) {
+            let has_come = search.take_all(without_mark(&bytes)).ok()?;
+            return (has_come || self.begin.is_whole()).then_some(());
+        }
+        if text.name == b"-".as_slice() {
+            return None;
+        }
+        search.take_file(self.rt.alloc(), disk_file(self.rt, text.name)?)
+    }
+
     /// Looks in `text` for the record after `before` others, where the text can be looked at
     /// again.
     fn search_in(self, text: Text<'_>, before: u64) -> Option<Search> {
-        let search = Search::new(self.rt, before, self.asked.records.parting_byte()?);
-        if let Some(bytes) = self.begin.bytes_of(text.number) {
-            return search.through_begin(&bytes, self.begin.is_whole());
+        let mut search = Search::new(self.rt, before, self.records.parting_byte()?);
+        match self.take_text(text, &mut search) {
+            Some(()) => Some(search),
+            None => None,
         }
-        let path = str::from_utf8(text.name).ok()?;
-        if text.name == b"-".as_slice() || !fs::metadata(self.rt, path).ok()?.is_file() {
-            return None;
-        }
-        search.through(self.rt, File::open(self.rt, path).ok()?)
     }
 
     /// Gives the names in the header of `text`, where it has one that can be looked at again.
     pub(crate) fn header_of(self, text: Text<'_>) -> Option<Vec<Vec<u8>>> {
-        let search = self.search_in(text, 0)?;
-        if !self.asked.records.layout.has_header || search.bytes.is_empty() {
+        let header = self.search_in(text, 0)?.bytes;
+        if !self.records.layout.has_header || header.is_empty() {
             return None;
         }
-        split_fields(self.rt.alloc(), self.delimiter()?, &search.bytes).ok()
+        split_fields(self.rt.alloc(), self.delimiter()?, &header).ok()
     }
 
     /// Gives the place of the record `number`, from 1 on, if each text up to its own can be looked
     /// at again.
     pub(crate) fn place_of(self, number: u64) -> Option<RecordPlace<'a>> {
-        let header = u64::from(self.asked.records.layout.has_header);
+        let header = u64::from(self.records.layout.has_header);
         let mut before = number.checked_sub(1)?;
         for place in 0..u64::MAX {
             let text = self.text(place)?;

@@ -1,10 +1,12 @@
 //! How a run of the program ends: what it prints on standard error, and its exit status.
 
-use crate::comparisons::print_contradicted;
+use crate::comparisons::tell_outside;
 use crate::escaped::Lines;
-use crate::explain::{explain, names_records};
-use crate::notes::{print_bad, print_few_keys, print_format_hint, print_last_record};
+use crate::explain::{explain_comparison, explain_file, explain_records, names_records};
+use crate::file_names::FileNames;
+use crate::notes::{print_bad, print_few_keys, print_format_hint, print_long};
 use crate::record_place::Texts;
+use crate::thresholds::tell_threshold;
 use heavy_inputs::Inputs;
 use heavy_requests::{Invocation, UsageReport};
 use hh_commands::Comparison;
@@ -29,6 +31,25 @@ pub fn status_after(rt: &HostRuntime, fault: ToolError) -> ExitCode {
     ExitCode::from(fault.status())
 }
 
+/// Prints more about the `fault` of what was `asked` for, by what was noted of the inputs and
+/// `compared`.
+fn explain(inputs: Inputs<'_>, fault: &ToolError, asked: &Invocation, compared: &Comparison) {
+    let (rt, notes, records) = (inputs.rt, inputs.notes, &asked.records);
+    let names = FileNames::of(asked);
+    if let ToolError::BadThreshold = fault {
+        tell_threshold(rt, &asked.request);
+    }
+    explain_file(rt, names, fault, &notes.unread);
+    explain_comparison(rt, names.name(1), fault, compared, records.layout.decimals);
+    let texts = Texts {
+        rt,
+        records,
+        saved: asked.request.saved_before_records(),
+        begin: &notes.begin,
+    };
+    explain_records(texts, fault);
+}
+
 /// Prints a fault of what was asked for, and gives its status. More about it comes where that is
 /// asked for, standard error is a terminal, or the fault is one of records that are named.
 fn status_explained(
@@ -37,15 +58,9 @@ fn status_explained(
     asked: &Invocation,
     compared: &Comparison,
 ) -> ExitCode {
-    let rt = inputs.rt;
-    let status = status_after(rt, fault);
-    if asked.explains_faults(rt) || names_records(&fault, asked) {
-        let texts = Texts {
-            rt,
-            asked,
-            begin: &inputs.notes.begin,
-        };
-        explain(texts, &fault, compared, &inputs.notes.unread);
+    let status = status_after(inputs.rt, fault);
+    if asked.explains_faults(inputs.rt) || names_records(&fault, asked) {
+        explain(inputs, &fault, asked, compared);
     }
     status
 }
@@ -53,7 +68,7 @@ fn status_explained(
 /// Prints that a summary has a k of its own, where one was given and a fault has a second line.
 fn print_own_k(rt: &HostRuntime, report: &UsageReport) {
     if report.gives_k && (report.explains || rt.stderr().is_terminal()) {
-        let _ = eprintln!(rt; "  the summary has a k of its own, which `heavy describe` tells");
+        let _ = rt.eprintln("  the summary has a k of its own, which `heavy describe` tells");
     }
 }
 
@@ -78,6 +93,31 @@ pub fn status_of_usage(rt: &HostRuntime, report: &UsageReport) -> ExitCode {
     }
 }
 
+/// Prints notes on what was read and on what was `compared`, and on the `rows` that were written.
+fn print_notes(inputs: Inputs<'_>, asked: &Invocation, compared: &Comparison, rows: u64) {
+    let (rt, layout) = (inputs.rt, &asked.records.layout);
+    let (hints, names) = (inputs.notes.hints.get(), FileNames::of(asked));
+    if asked.explains_faults(rt) {
+        print_format_hint(rt, hints, names);
+        print_few_keys(rt, asked, rows);
+    }
+    print_long(rt, hints.long, names);
+    print_bad(rt, inputs.notes.bad.count(), &layout.bad_as);
+    if let Some(outside) = &compared.outside {
+        let words = "heavy: note: these aren't the records that were summarised: ";
+        tell_outside(rt, words, names.name(1), outside, layout.decimals);
+    }
+}
+
+/// Gives the number of the first file of records that `asked` names, and 0 where it names none.
+fn first_number(asked: &Invocation) -> u64 {
+    if asked.records.files.is_empty() {
+        0
+    } else {
+        asked.request.saved_before_records().saturating_add(1)
+    }
+}
+
 /// Prints what came of what was asked for, of which `rows` were written, and gives its status.
 /// Where files of records are not what they were before, the first one has the fault.
 pub fn status_of(
@@ -87,29 +127,14 @@ pub fn status_of(
     compared: &Comparison,
     rows: u64,
 ) -> ExitCode {
-    let rt = inputs.rt;
     match outcome {
         Ok(()) => {
             inputs.look(asked);
-            let hints = inputs.notes.hints.get();
-            if asked.explains_faults(rt) {
-                print_format_hint(rt, hints, asked);
-                print_few_keys(rt, asked, rows);
-            }
-            print_last_record(rt, hints, asked);
-            print_bad(rt, inputs.notes.bad.count(), asked);
-            if let Some(outside) = &compared.outside {
-                print_contradicted(rt, asked, outside);
-            }
+            print_notes(inputs, asked, compared, rows);
             ExitCode::SUCCESS
         }
         Err(fault) => {
-            let least = if asked.records.files.is_empty() {
-                0
-            } else {
-                asked.request.saved_before_records().saturating_add(1)
-            };
-            let number = inputs.notes.unread.number().max(least);
+            let number = inputs.notes.unread.number().max(first_number(asked));
             status_explained(inputs, numbered(fault, number), asked, compared)
         }
     }
