@@ -44,15 +44,22 @@ fn tried<R: Threads + Wait + Sync>(rt: &R, lab: &Lab, of: &str, name: &str) -> R
     Ok(())
 }
 
-/// Makes the call that the command line names.
-fn named<R: Threads + Wait + Sync>(rt: &R, host: &HostRuntime) -> Result<(), Fail> {
-    let mut words = env::args(host)?;
-    let (Some(_), Some(of), Some(name), Some(keys)) = (
-        words.next(),
-        words.next(),
-        words.next(),
-        words.next(),
-    ) else {
+/// Gives the words of the command line.
+fn words_of(host: &HostRuntime) -> Result<Vec<String>, Fail> {
+    let mut words = Vec::new(host.alloc());
+    for word in env::args(host)? {
+        words.push(word)?;
+    }
+    Ok(words)
+}
+
+/// Makes the call that these words name.
+fn named<R: Threads + Wait + Sync>(
+    rt: &R,
+    host: &HostRuntime,
+    words: &[String],
+) -> Result<(), Fail> {
+    let [_, of, name, keys, ..] = words else {
         return Err(Fail::new("usage: heavy_oom CRATE CALL short|long"));
     };
     let lab = Lab::new(host, keys.as_str() == "long");
@@ -60,5 +67,5 @@ fn named<R: Threads + Wait + Sync>(rt: &R, host: &HostRuntime) -> Result<(), Fai
 }
 
 fn main(rt: HostRuntime) -> Result<(), Fail> {
-    named(&rt, &rt)
+    named(&rt, &rt, &words_of(&rt)?)
 }

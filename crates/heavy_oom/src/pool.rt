@@ -2,7 +2,7 @@
 
 ghost use Rattle.std.specs.Prelude.{◌≡◌, ◌*◌, IfOk, length, sum};
 
-use crate::lab::{Lab, Said, marked, no_such_call};
+use crate::lab::{Lab, Said, marked, no_such_call, told};
 use crate::show::{Counters, Report};
 use hh_counters::Candidates;
 use hh_countmin::Family;
@@ -12,6 +12,7 @@ use hh_pool::{
 };
 use hh_shared::SharedSums;
 use hh_stream::{Cutting, Stream};
+use std::alloc::AllocError;
 use std::sync::Wait;
 use std::sync::atomic::AtomicU64;
 use std::sync::atomic::Ordering::SeqCst;
@@ -66,16 +67,13 @@ fn first_passed(lab: &Lab, stream: &Stream, cutting: &Cutting) -> Result<Said, F
 {
     let (options, cells) = options(lab, 1)?;
     let (sums, seat) = SharedSums::new(lab.alloc, cutting.count(), cells)?;
-    let pass = marked!(
+    told!(
         lab,
         first_pass(
             lab.alloc, &sums, seat, stream, cutting, &options, &OpenGate, 0
-        )
-    );
-    match pass {
-        Ok((_seat, found)) => lab.answer(found.len()),
-        Err(_) => lab.refused(),
-    }
+        ),
+        AllocError
+    )
 }
 
 // What the calling thread finds in the first pass.
@@ -83,14 +81,11 @@ fn first_passed_sequentially(lab: &Lab, stream: &Stream, cutting: &Cutting) -> R
     requires { sum cutting.now ≡ length stream.now }
 {
     let (options, _) = options(lab, 1)?;
-    let pass = marked!(
+    told!(
         lab,
-        first_pass_sequentially(lab.alloc, stream, cutting, &options, &OpenGate)
-    );
-    match pass {
-        Ok((found, table)) => lab.answer(format_args!("{} {}", found.len(), table.total())),
-        Err(_) => lab.refused(),
-    }
+        first_pass_sequentially(lab.alloc, stream, cutting, &options, &OpenGate),
+        AllocError
+    )
 }
 
 // Whether one worker has done the second pass.
@@ -125,14 +120,11 @@ fn second_alone(
 ) -> Result<Said, Fail>
     requires { sum cutting.now ≡ length stream.now }
 {
-    let pass = marked!(
+    told!(
         lab,
-        second_pass_sequentially(lab.alloc, stream, cutting, candidates, &OpenGate, 1)
-    );
-    match pass {
-        Ok((weights, total)) => lab.answer(format_args!("{} {total}", weights.len())),
-        Err(_) => lab.refused(),
-    }
+        second_pass_sequentially(lab.alloc, stream, cutting, candidates, &OpenGate, 1),
+        AllocError
+    )
 }
 
 // The calls on plans, options and the open gate that take no memory.
@@ -150,13 +142,23 @@ fn plain_calls(lab: &Lab) -> Result<Said, Fail> {
 // The stream in four pieces, by two workers.
 fn analysed<R: Threads + Wait + Sync>(rt: &R, lab: &Lab, stream: &Stream) -> Result<Said, Fail> {
     let (options, _) = options(lab, 2)?;
+    in_four(rt, lab, stream, &options)
+}
+
+// The same, with these options.
+fn in_four<R: Threads + Wait + Sync>(
+    rt: &R,
+    lab: &Lab,
+    stream: &Stream,
+    options: &Options,
+) -> Result<Said, Fail> {
     let plan = Plan::balanced(lab.alloc, 4)?;
     let cutting = Cutting::even(lab.alloc, stream.len(), 4)?;
-    let made = marked!(
+    told!(
         lab,
-        analyse(rt, lab.alloc, stream, &cutting, &plan, &options, &OpenGate)
-    );
-    lab.tell(made, RunError::Memory)
+        analyse(rt, lab.alloc, stream, &cutting, &plan, options, &OpenGate),
+        RunError::Memory
+    )
 }
 
 /// A gate that counts its calls.
@@ -183,31 +185,29 @@ fn many_items(lab: &Lab) -> Result<Stream, Fail> {
 fn analysed_many<R: Threads + Wait + Sync>(rt: &R, lab: &Lab) -> Result<Said, Fail> {
     let stream = many_items(lab)?;
     let (options, _) = options(lab, 1)?;
-    let plan = Plan::chain(lab.alloc, 2)?;
-    let cutting = Cutting::by_lengths(lab.alloc, stream.len(), &[2000, 1])?;
-    counted(rt, lab, &stream, &cutting, &plan, &options)
+    counted(rt, lab, &stream, &options)
 }
 
+// The same, with these items and options.
 fn counted<R: Threads + Wait + Sync>(
     rt: &R,
     lab: &Lab,
     stream: &Stream,
-    cutting: &Cutting,
-    plan: &Plan,
     options: &Options,
-) -> Result<Said, Fail>
-    requires { sum cutting.now ≡ length stream.now }
-{
+) -> Result<Said, Fail> {
+    let plan = Plan::chain(lab.alloc, 2)?;
+    let cutting = Cutting::by_lengths(lab.alloc, stream.len(), &[2000, 1])?;
     let gate = Counting {
         calls: AtomicU64::new(0),
     };
     let done = marked!(
         lab,
-        analyse(rt, lab.alloc, stream, cutting, plan, options, &gate)
+        analyse(rt, lab.alloc, stream, &cutting, &plan, options, &gate)
     );
     told_after(lab, done, gate.calls.load(SeqCst))
 }
 
+// Prints what an analysis answered after this number of calls of its gate.
 fn told_after(lab: &Lab, done: Result<Outcome, RunError>, calls: u64) -> Result<Said, Fail> {
     match done {
         Ok(outcome) => tell_counted(lab, &outcome, calls),
@@ -216,6 +216,7 @@ fn told_after(lab: &Lab, done: Result<Outcome, RunError>, calls: u64) -> Result<
     }
 }
 
+// Prints an outcome and the number of calls.
 fn tell_counted(lab: &Lab, outcome: &Outcome, calls: u64) -> Result<Said, Fail> {
     lab.show(Counters(&outcome.summary))?;
     lab.show(Report(outcome.heavy.as_slice()))?;

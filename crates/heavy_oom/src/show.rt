@@ -6,6 +6,7 @@ use hh_counters::{BucketSaving, Monitor, Summary};
 use hh_countmin::{Family, Table};
 use hh_pool::Outcome;
 use hh_saved::Saved;
+use hh_shared::SumSeat;
 use hh_stream::{Cutting, Item, Key};
 use std::fmt;
 use std::test::Fail;
@@ -199,5 +200,26 @@ impl Answer for Outcome {
         lab.show(Counters(&self.summary))?;
         lab.show(Cells(&self.table))?;
         lab.answer(Report(self.heavy.as_slice()))
+    }
+}
+
+// The first pass of one worker.
+impl Answer for (SumSeat, Vec<(usize, Summary)>) {
+    fn tell(&self, lab: &Lab) -> Result<Said, Fail> {
+        lab.answer(self.1.len())
+    }
+}
+
+// The first pass of the calling thread.
+impl Answer for (Vec<Summary>, Table) {
+    fn tell(&self, lab: &Lab) -> Result<Said, Fail> {
+        lab.answer(format_args!("{} {}", self.0.len(), self.1.total()))
+    }
+}
+
+// The second pass of the calling thread.
+impl Answer for (Vec<u64>, u64) {
+    fn tell(&self, lab: &Lab) -> Result<Said, Fail> {
+        lab.answer(format_args!("{} {}", self.0.len(), self.1))
     }
 }
