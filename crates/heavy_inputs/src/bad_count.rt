@@ -6,6 +6,14 @@ use std::cell::RefCell;
 use std::sync::Arc;
 use std::sync::atomic::{AtomicU64, Ordering};
 
+/// Gives the number that `count` has come to, where there is one.
+fn number_in(count: &Option<Arc<AtomicU64, Global>>) -> u64 {
+    match count {
+        Some(count) => count.load(Ordering::SeqCst),
+        None => 0,
+    }
+}
+
 /// What counts the records that fail a test, where they count as a key.
 #[derive(Drop)]
 pub struct BadCount {
@@ -36,10 +44,7 @@ impl BadCount {
     /// Gives how many there were in the last reading.
     pub fn count(&self) -> u64 {
         match self.count.try_borrow() {
-            Ok(count) => match &*count {
-                Some(count) => count.load(Ordering::SeqCst),
-                None => 0,
-            },
+            Ok(count) => number_in(&count),
             Err(_) => 0,
         }
     }

@@ -58,22 +58,31 @@ impl<'a> DiskFile<'a> {
         }
     }
 
+    /// Reads the bytes at `at` into `buffer`, if they can be read. None are the end.
+    fn piece<'b>(&self, at: u64, buffer: &'b mut [u8]) -> Option<&'b [u8]> {
+        let count = self.file.read_at(buffer, at).ok()?;
+        buffer.get(..count)
+    }
+
     /// Whether the last record may have begun with a quote and be long, by what stands around the
     /// last quote, which ends at `quote_end`. There is no answer where the file can't be read.
-    fn may_end_quoted(&self, alloc: Global, delimiter: u8, quote_end: u64) -> Option<bool> {
-        let mut buffer = vec![in alloc; 0u8; LOOK_LEN].ok()?;
-        let mut guesses = LastRecordGuesses::new(delimiter);
+    fn may_end_quoted(
+        &self,
+        guesses: &mut LastRecordGuesses,
+        buffer: &mut [u8],
+        quote_end: u64,
+    ) -> Option<bool> {
         let mut at = quote_end.saturating_sub(LOOK_LEN as u64);
         if at < MARK_LEN {
             at = 0;
         }
         for _ in 0..u64::MAX {
-            let count = self.file.read_at(&mut buffer, at).ok()?;
-            if count == 0 {
+            let bytes = self.piece(at, buffer)?;
+            if bytes.is_empty() {
                 return Some(guesses.may_be_suspicious());
             }
-            guesses.add(buffer.get(..count)?);
-            at = at.saturating_add(count as u64);
+            guesses.add(bytes);
+            at = at.saturating_add(bytes.len() as u64);
             if at >= quote_end && (guesses.are_plain() || guesses.may_be_open()) {
                 return Some(guesses.may_be_open());
             }
@@ -82,17 +91,15 @@ impl<'a> DiskFile<'a> {
     }
 
     /// Follows all records to the last one, and gives its size where that is to be reported.
-    fn follow(&self, alloc: Global, delimiter: u8) -> Option<RecordSize> {
-        let mut buffer = vec![in alloc; 0u8; LOOK_LEN].ok()?;
-        let mut last = LastRecord::new(delimiter);
+    fn follow(&self, last: &mut LastRecord, buffer: &mut [u8]) -> Option<RecordSize> {
         let mut at = 0u64;
         for _ in 0..u64::MAX {
-            let count = self.file.read_at(&mut buffer, at).ok()?;
-            if count == 0 {
+            let bytes = self.piece(at, buffer)?;
+            if bytes.is_empty() {
                 return last.suspicious();
             }
-            last.add(buffer.get(..count)?);
-            at = at.saturating_add(count as u64);
+            last.add(bytes);
+            at = at.saturating_add(bytes.len() as u64);
         }
         None
     }
@@ -102,10 +109,15 @@ impl<'a> DiskFile<'a> {
     /// around the last quote show that it doesn't isn't read whole.
     pub(crate) fn last_record(&self, alloc: Global, delimiter: u8) -> Option<RecordSize> {
         let quote_end = self.quote_end.load(Ordering::SeqCst);
-        if quote_end == 0 || !self.may_end_quoted(alloc, delimiter, quote_end)? {
+        if quote_end == 0 {
             return None;
         }
-        self.follow(alloc, delimiter)
+        let mut buffer = vec![in alloc; 0u8; LOOK_LEN].ok()?;
+        let mut guesses = LastRecordGuesses::new(delimiter);
+        match self.may_end_quoted(&mut guesses, &mut buffer, quote_end) {
+            Some(true) => self.follow(&mut LastRecord::new(delimiter), &mut buffer),
+            _ => None,
+        }
     }
 }
 

@@ -2,7 +2,6 @@
 
 ghost use Rattle.std.specs.Prelude.{◌≡◌, ◌⊎◌, IfErr, ⊤};
 
-use crate::input::Reader;
 use crate::unread::Unread;
 use hh_faults::ToolError;
 use hh_pieces::ReadAt;
@@ -100,40 +99,39 @@ fn unnamed_file(rt: &HostRuntime) -> io::Result<File> {
 }
 
 /// Writes `first` and then what `pipe` has left to a file, as far as the pipe can be read.
-fn keep_in_file(rt: &HostRuntime, first: &[u8], mut pipe: Reader<'_>) -> io::Result<KeptPipe> {
+fn keep_in_file<R: Read + Drop>(
+    rt: &HostRuntime,
+    first: &[u8],
+    mut pipe: R,
+) -> io::Result<KeptPipe> {
     let mut file = unnamed_file(rt)?;
     file.write_all(first)?;
     let mut buffer = vec![in rt.alloc(); 0u8; COPY_LEN]?;
-    let mut len = first.len() as u64;
+    let (mut len, mut is_whole) = (first.len() as u64, true);
     for _ in 0..u64::MAX {
-        let count = match pipe.read(&mut buffer) {
-            Ok(count) => count,
-            Err(error) if matches!(error.kind(), io::ErrorKind::Interrupted) => continue,
-            Err(_) => {
-                return Ok(KeptPipe {
-                    bytes: KeptBytes::File(file, len),
-                    is_whole: false,
-                });
+        match pipe.read(&mut buffer) {
+            Ok(0) => break,
+            Ok(count) => {
+                file.write_all(buffer.get(..count).unwrap_or(&[]))?;
+                len = len.saturating_add(count as u64);
             }
-        };
-        if count == 0 {
-            break;
+            Err(error) if matches!(error.kind(), io::ErrorKind::Interrupted) => {}
+            Err(_) => {
+                is_whole = false;
+                break;
+            }
         }
-        file.write_all(buffer.get(..count).unwrap_or(&[]))?;
-        len = len.saturating_add(count as u64);
     }
-    Ok(KeptPipe {
-        bytes: KeptBytes::File(file, len),
-        is_whole: true,
-    })
+    let bytes = KeptBytes::File(file, len);
+    Ok(KeptPipe { bytes, is_whole })
 }
 
 /// Reads `pipe` to its end, or as far as it can be read, and keeps what it gave: in memory where
 /// that is at most `most` bytes, and else in a file. Where there is no room for the file, the error
 /// is noted in `unread`.
-pub(crate) fn keep_pipe(
+pub(crate) fn keep_pipe<R: Read + Drop>(
     rt: &HostRuntime,
-    mut pipe: Reader<'_>,
+    mut pipe: R,
     most: u64,
     unread: &Unread,
 ) -> Result<KeptPipe, ToolError>
