@@ -109,17 +109,20 @@ pub fn open<R: Read + Drop>(
     ensures refused { IfErr result (λ error. OpenRefused (names_columns layout.now)
         (option_map (text_parts layout.now) (R.remaining reader)) error) }
 {
-    let mut rows = rows_of(alloc, reader, layout);
-    if layout.has_header {
-        return match after_header(alloc, &mut rows, layout) {
-            Ok(Some(chosen)) => Ok(Some(Text { rows, chosen })),
-            Ok(None) => Ok(None),
-            Err(error) => Err(error),
+    if !layout.has_header {
+        return match choose(alloc, layout, &ByteRecord::new(alloc)) {
+            Ok(chosen) => {
+                let rows = rows_of(alloc, reader, layout);
+                Ok(Some(Text { rows, chosen }))
+            }
+            Err(fault) => Err(TextError::from(fault)),
         };
     }
-    match choose(alloc, layout, &ByteRecord::new(alloc)) {
-        Ok(chosen) => Ok(Some(Text { rows, chosen })),
-        Err(fault) => Err(TextError::from(fault)),
+    let mut rows = rows_of(alloc, reader, layout);
+    match after_header(alloc, &mut rows, layout) {
+        Ok(Some(chosen)) => Ok(Some(Text { rows, chosen })),
+        Ok(None) => Ok(None),
+        Err(error) => Err(error),
     }
 }
 

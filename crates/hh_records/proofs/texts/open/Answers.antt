@@ -14,8 +14,8 @@ returns-in-Ok-clause-columns g c =
     columns-plain g.R.Read.remaining c.args.layout.now (search rules) _ c.new.ensures.fields
     (chosen_places c.in-Ok.chosen) (g.R.Read.remaining c.args.reader) c.in-Ok.ensures.chosen
 
-pub returns-in-Err-choose-clause-refused : goal.returns-in-Err-choose-clause-refused
-returns-in-Err-choose-clause-refused g c =
+pub returns-in-Err-clause-refused : goal.returns-in-Err-clause-refused
+returns-in-Err-clause-refused g c =
     rw c.from.ensures
-    (refused-plain g.R.Read.remaining c.args.layout.now (search rules) _ c.new.ensures.fields c.in-Err-choose.fault
-    (g.R.Read.remaining c.args.reader) c.in-Err-choose.ensures.refused)
+    (refused-plain g.R.Read.remaining c.args.layout.now (search rules) _ c.new.ensures.fields c.in-Err.fault
+    (g.R.Read.remaining c.args.reader) c.in-Err.ensures.refused)
