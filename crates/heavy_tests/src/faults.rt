@@ -29,141 +29,167 @@ fn tell<T: Display>(rt: &(impl Abort + AllocGlobal), faults: &[(T, &str)]) {
     }
 }
 
+const KEYS: [(KeyFault, &str); 3] = [
+    (KeyFault::Empty, "a key has at least 1 byte"),
+    (KeyFault::TooLong, "a key has at most 4096 bytes"),
+    (KeyFault::Memory, MEMORY),
+];
+
+const ITEMS: [(PushFault, &str); 3] = [
+    (PushFault::ZeroWeight, "a weight is at least 1"),
+    (PushFault::TotalTooLarge, TOTAL),
+    (PushFault::Memory, MEMORY),
+];
+
+const CUTTINGS: [(CuttingFault, &str); 4] = [
+    (CuttingFault::NoPieces, "a cutting has at least 1 piece"),
+    (
+        CuttingFault::TooManyPieces,
+        "a cutting has at most 1024 pieces",
+    ),
+    (
+        CuttingFault::WrongSum,
+        "the lengths do not add up to the number of items",
+    ),
+    (CuttingFault::Memory, MEMORY),
+];
+
 #[test]
 fn faults_of_streams(rt: HostRuntime) {
-    let keys = [
-        (KeyFault::Empty, "a key has at least 1 byte"),
-        (KeyFault::TooLong, "a key has at most 4096 bytes"),
-        (KeyFault::Memory, MEMORY),
-    ];
-    tell(&rt, &keys);
-    let items = [
-        (PushFault::ZeroWeight, "a weight is at least 1"),
-        (PushFault::TotalTooLarge, TOTAL),
-        (PushFault::Memory, MEMORY),
-    ];
-    tell(&rt, &items);
-    let sum = "the lengths do not add up to the number of items";
-    let cuttings = [
-        (CuttingFault::NoPieces, "a cutting has at least 1 piece"),
-        (
-            CuttingFault::TooManyPieces,
-            "a cutting has at most 1024 pieces",
-        ),
-        (CuttingFault::WrongSum, sum),
-        (CuttingFault::Memory, MEMORY),
-    ];
-    tell(&rt, &cuttings);
+    tell(&rt, &KEYS);
+    tell(&rt, &ITEMS);
+    tell(&rt, &CUTTINGS);
 }
+
+const BAD_K: [(BadK, &str); 1] = [(BadK, K)];
+
+const NEW: [(NewFault, &str); 2] = [(NewFault::BadK, K), (NewFault::Memory, MEMORY)];
+
+const OF_ITEMS: [(OfItemsFault, &str); 2] = [
+    (OfItemsFault::BadK, K),
+    (OfItemsFault::Memory, MEMORY),
+];
+
+const ADDED: [(AddFault, &str); 2] = [(AddFault::TotalTooLarge, TOTAL), (AddFault::Memory, MEMORY)];
+
+const SUMMARIES: [(MergeFault, &str); 3] = [
+    (MergeFault::DifferentK, "the summaries have different k"),
+    (MergeFault::TotalTooLarge, TOTAL),
+    (MergeFault::Memory, MEMORY),
+];
 
 #[test]
 fn faults_of_summaries(rt: HostRuntime) {
-    tell(&rt, &[(BadK, K)]);
-    tell(&rt, &[(NewFault::BadK, K), (NewFault::Memory, MEMORY)]);
-    tell(
-        &rt,
-        &[(OfItemsFault::BadK, K), (OfItemsFault::Memory, MEMORY)],
-    );
-    tell(
-        &rt,
-        &[(AddFault::TotalTooLarge, TOTAL), (AddFault::Memory, MEMORY)],
-    );
-    let merges = [
-        (MergeFault::DifferentK, "the summaries have different k"),
-        (MergeFault::TotalTooLarge, TOTAL),
-        (MergeFault::Memory, MEMORY),
-    ];
-    tell(&rt, &merges);
+    tell(&rt, &BAD_K);
+    tell(&rt, &NEW);
+    tell(&rt, &OF_ITEMS);
+    tell(&rt, &ADDED);
+    tell(&rt, &SUMMARIES);
 }
+
+const DRAWN: [(DrawFault, &str); 2] = [(DrawFault::BadDepth, DEPTH), (DrawFault::Memory, MEMORY)];
+
+const PARTS: [(PartsFault, &str); 3] = [
+    (PartsFault::BadDepth, DEPTH),
+    (PartsFault::BadCoefficient, "a coefficient is out of range"),
+    (PartsFault::Memory, MEMORY),
+];
+
+const TABLE: [(TableFault, &str); 2] = [
+    (TableFault::BadWidth, WIDTH),
+    (TableFault::Memory, MEMORY),
+];
+
+const TOTALS: [(TotalTooLarge, &str); 1] = [(TotalTooLarge, TOTAL)];
+
+const TABLES: [(hh_countmin::MergeFault, &str); 3] = [
+    (
+        hh_countmin::MergeFault::DifferentFamily,
+        "the tables have different hash families",
+    ),
+    (
+        hh_countmin::MergeFault::DifferentWidth,
+        "the tables have different widths",
+    ),
+    (hh_countmin::MergeFault::TotalTooLarge, TOTAL),
+];
 
 #[test]
 fn faults_of_tables(rt: HostRuntime) {
-    tell(
-        &rt,
-        &[(DrawFault::BadDepth, DEPTH), (DrawFault::Memory, MEMORY)],
-    );
-    let parts = [
-        (PartsFault::BadDepth, DEPTH),
-        (PartsFault::BadCoefficient, "a coefficient is out of range"),
-        (PartsFault::Memory, MEMORY),
-    ];
-    tell(&rt, &parts);
-    tell(
-        &rt,
-        &[(TableFault::BadWidth, WIDTH), (TableFault::Memory, MEMORY)],
-    );
-    tell(&rt, &[(TotalTooLarge, TOTAL)]);
-    let families = "the tables have different hash families";
-    let merges = [
-        (hh_countmin::MergeFault::DifferentFamily, families),
-        (
-            hh_countmin::MergeFault::DifferentWidth,
-            "the tables have different widths",
-        ),
-        (hh_countmin::MergeFault::TotalTooLarge, TOTAL),
-    ];
-    tell(&rt, &merges);
+    tell(&rt, &DRAWN);
+    tell(&rt, &PARTS);
+    tell(&rt, &TABLE);
+    tell(&rt, &TOTALS);
+    tell(&rt, &TABLES);
 }
+
+const OPTIONS: [(OptionsFault, &str); 4] = [
+    (OptionsFault::BadK, K),
+    (OptionsFault::BadWorkers, "workers must be 1 to 64"),
+    (OptionsFault::BadWidth, WIDTH),
+    (
+        OptionsFault::BadThreshold,
+        "threshold must be p/q with 1 <= p <= q <= 4294967296 and p*(k+1) >= q",
+    ),
+];
+
+const PLANS: [(PlanFault, &str); 5] = [
+    (PlanFault::Syntax(3), "syntax at byte 3"),
+    (PlanFault::UnknownPiece(4), "no piece 4"),
+    (PlanFault::RepeatedPiece(5), "piece 5 twice"),
+    (PlanFault::MissingPiece(6), "piece 6 missing"),
+    (PlanFault::Memory, MEMORY),
+];
+
+const RUNS: [(RunError, &str); 2] = [
+    (
+        RunError::PlanMismatch,
+        "the plan has another number of pieces than the cutting",
+    ),
+    (RunError::Memory, MEMORY),
+];
 
 #[test]
 fn faults_of_analyses(rt: HostRuntime) {
-    let threshold = "threshold must be p/q with 1 <= p <= q <= 4294967296 and p*(k+1) >= q";
-    let options = [
-        (OptionsFault::BadK, K),
-        (OptionsFault::BadWorkers, "workers must be 1 to 64"),
-        (OptionsFault::BadWidth, WIDTH),
-        (OptionsFault::BadThreshold, threshold),
-    ];
-    tell(&rt, &options);
-    let plans = [
-        (PlanFault::Syntax(3), "syntax at byte 3"),
-        (PlanFault::UnknownPiece(4), "no piece 4"),
-        (PlanFault::RepeatedPiece(5), "piece 5 twice"),
-        (PlanFault::MissingPiece(6), "piece 6 missing"),
-        (PlanFault::Memory, MEMORY),
-    ];
-    tell(&rt, &plans);
-    let mismatch = "the plan has another number of pieces than the cutting";
-    tell(
-        &rt,
-        &[
-            (RunError::PlanMismatch, mismatch),
-            (RunError::Memory, MEMORY),
-        ],
-    );
+    tell(&rt, &OPTIONS);
+    tell(&rt, &PLANS);
+    tell(&rt, &RUNS);
 }
+
+const READS: [(ReadError, &str); 3] = [
+    (ReadError::ReadFault, "input could not be read"),
+    (
+        ReadError::BadRecord {
+            number: 7,
+            cause: BadRecordCause::ZeroWeight,
+        },
+        "record 7: zero weight",
+    ),
+    (ReadError::Memory, MEMORY),
+];
+
+const SINKS: [(SinkFault, &str); 1] = [(SinkFault, "the sink could not do what it was asked")];
+
+const WRITES: [(WriteFault, &str); 1] = [(WriteFault { written: 3 }, OUTPUT)];
+
+const REPORTS: [(ReportFault, &str); 2] = [
+    (ReportFault::WriteFault { written: 3 }, OUTPUT),
+    (ReportFault::Memory, MEMORY),
+];
+
+const CONFIRMED: [(ConfirmFault, &str); 2] = [
+    (
+        ConfirmFault::TotalDiffers,
+        "the summary's total is not the stream's",
+    ),
+    (ConfirmFault::Memory, MEMORY),
+];
 
 #[test]
 fn faults_of_single_steps(rt: HostRuntime) {
-    let (number, cause) = (7, BadRecordCause::ZeroWeight);
-    let reads = [
-        (ReadError::ReadFault, "input could not be read"),
-        (
-            ReadError::BadRecord { number, cause },
-            "record 7: zero weight",
-        ),
-        (ReadError::Memory, MEMORY),
-    ];
-    tell(&rt, &reads);
-    tell(
-        &rt,
-        &[(SinkFault, "the sink could not do what it was asked")],
-    );
-    let written = 3;
-    tell(&rt, &[(WriteFault { written }, OUTPUT)]);
-    tell(
-        &rt,
-        &[
-            (ReportFault::WriteFault { written }, OUTPUT),
-            (ReportFault::Memory, MEMORY),
-        ],
-    );
-    let total = "the summary's total is not the stream's";
-    tell(
-        &rt,
-        &[
-            (ConfirmFault::TotalDiffers, total),
-            (ConfirmFault::Memory, MEMORY),
-        ],
-    );
+    tell(&rt, &READS);
+    tell(&rt, &SINKS);
+    tell(&rt, &WRITES);
+    tell(&rt, &REPORTS);
+    tell(&rt, &CONFIRMED);
 }

@@ -105,13 +105,23 @@ fn with_many_keys(rt: &(impl Abort + AllocGlobal), record: &str) -> String {
     text
 }
 
+/// Writes a report of these records to what is `taken`, and gives the refusal.
+fn report_to<F: ReadAt + Sync>(
+    rt: &(impl Abort + AllocGlobal + Threads + Wait + Sync),
+    records: SourceRecords<'_, F>,
+    taken: &mut Vec<u8>,
+) -> Option<ToolError> {
+    let mut out = Out::new(FaultyWriter::new(Manner::taking(99), taken));
+    let rows = RowOptions::plain();
+    report_files(rt, rt.alloc(), &options(), &rows, records, &mut out).err()
+}
+
 /// What is written of a report of such a file, which is read twice, the refusal, and how many calls
 /// there were.
 fn report_of(
     rt: &(impl Abort + AllocGlobal + Threads + Wait + Sync),
     course: Course,
 ) -> (Vec<u8>, Option<ToolError>, u64) {
-    let alloc = rt.alloc();
     let calls = AtomicU64::new(0);
     let sources = [ManyRecords {
         course,
@@ -119,16 +129,13 @@ fn report_of(
         first: with_many_keys(rt, "a,5000"),
         second: with_many_keys(rt, "a,6000"),
     }];
-    let layout = Layout::plain(alloc);
+    let layout = Layout::plain(rt.alloc());
     let records = SourceRecords {
         layout: &layout,
         sources: &sources,
     };
-    let mut taken = Vec::new(alloc);
-    let mut out = Out::new(FaultyWriter::new(Manner::taking(99), &mut taken));
-    let rows = RowOptions::plain();
-    let fault = report_files(rt, alloc, &options(), &rows, records, &mut out).err();
-    drop(out);
+    let mut taken = Vec::new(rt.alloc());
+    let fault = report_to(rt, records, &mut taken);
     (taken, fault, calls.load(Ordering::SeqCst))
 }
 
@@ -157,57 +164,116 @@ fn file_that_is_not_the_same_twice_is_refused(rt: HostRuntime) {
 /// Records of a file that workers read.
 const TEXT: &[u8] = b"a,5\nb,1\na,2\n";
 
-/// The summary of the records with one counter, in which a has 6.
-fn summary_file(rt: &(impl Abort + AllocGlobal)) -> Vec<u8> {
-    summary_bytes(rt.alloc(), 1, Method::MisraGries, TEXT).expect(rt, "a summary")
+/// What is made of files.
+#[derive(Clone, Copy)]
+enum Verb {
+    Report,
+    /// By this many workers.
+    Summarise(u64),
+    Table,
+    Condense,
+    Confirm,
 }
 
-/// The file of the records, alone.
-fn one_source(rt: &(impl Abort + AllocGlobal)) -> [Vec<u8>; 1] {
-    [Vec::from_slice(rt.alloc(), TEXT).expect(rt, "a file")]
+const VERBS: [Verb; 6] = [
+    Verb::Report,
+    Verb::Summarise(1),
+    Verb::Summarise(2),
+    Verb::Table,
+    Verb::Condense,
+    Verb::Confirm,
+];
+
+/// The summary of these records, with one counter.
+fn summary_of(rt: &(impl Abort + AllocGlobal), bytes: &[u8]) -> Vec<u8> {
+    summary_bytes(rt.alloc(), 1, Method::MisraGries, bytes).expect(rt, "a summary")
 }
 
-#[test]
-fn files_are_condensed_by_workers(rt: HostRuntime) {
-    let file = summary_file(&rt);
-    let (sources, layout) = (one_source(&rt), Layout::plain(rt.alloc()));
+/// What is written of a report of these records.
+fn reported<F: ReadAt + Sync>(
+    rt: &(impl Abort + AllocGlobal + Threads + Wait + Sync),
+    records: SourceRecords<'_, F>,
+) -> Result<Vec<u8>, ToolError> {
+    let mut taken = Vec::new(rt.alloc());
+    match report_to(rt, records, &mut taken) {
+        None => Ok(taken),
+        Some(fault) => Err(fault),
+    }
+}
+
+/// The summary of `bytes`, condensed over these records.
+fn condensed<F: ReadAt + Sync>(
+    rt: &(impl Abort + AllocGlobal + Threads + Wait + Sync),
+    bytes: &[u8],
+    records: SourceRecords<'_, F>,
+) -> Result<Vec<u8>, ToolError> {
+    let (file, mut compared) = (summary_of(rt, bytes), Comparison::new(true));
+    condense_files(rt, rt.alloc(), &file, 2, records, &mut compared)
+}
+
+/// The summary of `bytes`, confirmed over these records.
+fn confirmed<F: ReadAt + Sync>(
+    rt: &(impl Abort + AllocGlobal + Threads + Wait + Sync),
+    bytes: &[u8],
+    records: SourceRecords<'_, F>,
+) -> Result<Vec<u8>, ToolError> {
+    let (file, mut compared) = (summary_of(rt, bytes), Comparison::new(true));
+    let (share, rows) = (Share::OfCounters, RowOptions::plain());
+    confirm_files(
+        rt,
+        rt.alloc(),
+        &file,
+        &share,
+        &rows,
+        2,
+        records,
+        &mut compared,
+    )
+}
+
+/// What is made of these records or, with the summary of `bytes`, over them.
+fn made_by<F: ReadAt + Sync>(
+    rt: &(impl Abort + AllocGlobal + Threads + Wait + Sync),
+    verb: Verb,
+    bytes: &[u8],
+    records: SourceRecords<'_, F>,
+) -> Result<Vec<u8>, ToolError> {
+    match verb {
+        Verb::Report => reported(rt, records),
+        Verb::Summarise(workers) => summarise_files(rt, rt.alloc(), 1, workers, records),
+        Verb::Table => table_files(rt, rt.alloc(), 4, 2, 3, 2, records),
+        Verb::Condense => condensed(rt, bytes, records),
+        Verb::Confirm => confirmed(rt, bytes, records),
+    }
+}
+
+/// What is made of a file of the records, alone.
+fn made_of_text(rt: &(impl Abort + AllocGlobal + Threads + Wait + Sync), verb: Verb) -> Vec<u8> {
+    let file = Vec::from_slice(rt.alloc(), TEXT).expect(rt, "a file");
+    let (sources, layout) = ([file], Layout::plain(rt.alloc()));
     let records = SourceRecords {
         layout: &layout,
         sources: &sources,
     };
-    let compared = &mut Comparison::new(true);
-    let rows = condense_files(&rt, rt.alloc(), &file, 2, records, compared).expect(&rt, "rows");
+    made_by(rt, verb, TEXT, records).expect(rt, "bytes")
+}
+
+#[test]
+fn files_are_condensed_by_workers(rt: HostRuntime) {
+    let rows = made_of_text(&rt, Verb::Condense);
     assert_same(&rt, rows.as_slice(), b"a,7\nothers,1\n".as_slice());
 }
 
 #[test]
 fn files_are_confirmed_by_workers(rt: HostRuntime) {
-    let file = summary_file(&rt);
-    let (sources, layout) = (one_source(&rt), Layout::plain(rt.alloc()));
-    let records = SourceRecords {
-        layout: &layout,
-        sources: &sources,
-    };
-    let (share, rows) = (Share::OfCounters, RowOptions::plain());
-    let compared = &mut Comparison::new(true);
-    let text = confirm_files(&rt, rt.alloc(), &file, &share, &rows, 2, records, compared);
-    assert_same(
-        &rt,
-        text.expect(&rt, "rows").as_slice(),
-        b"a,7\n".as_slice(),
-    );
+    let rows = made_of_text(&rt, Verb::Confirm);
+    assert_same(&rt, rows.as_slice(), b"a,7\n".as_slice());
 }
 
 #[test]
 fn files_are_tabulated_by_workers(rt: HostRuntime) {
-    let alloc = rt.alloc();
-    let (sources, layout) = (one_source(&rt), Layout::plain(alloc));
-    let records = SourceRecords {
-        layout: &layout,
-        sources: &sources,
-    };
-    let table = table_files(&rt, alloc, 4, 2, 3, 2, records).expect(&rt, "a table");
-    let expected = table_bytes(alloc, 4, 2, 3, TEXT).expect(&rt, "a table");
+    let table = made_of_text(&rt, Verb::Table);
+    let expected = table_bytes(rt.alloc(), 4, 2, 3, TEXT).expect(&rt, "a table");
     assert_same(&rt, table.as_slice(), expected.as_slice());
 }
 
@@ -242,58 +308,18 @@ impl ReadAt for LiveFile {
     }
 }
 
-/// What is made of files.
-#[derive(Clone, Copy)]
-enum Verb {
-    Report,
-    /// By this many workers.
-    Summarise(u64),
-    Table,
-    Condense,
-    Confirm,
-}
-
-const VERBS: [Verb; 6] = [
-    Verb::Report,
-    Verb::Summarise(1),
-    Verb::Summarise(2),
-    Verb::Table,
-    Verb::Condense,
-    Verb::Confirm,
-];
-
-/// The summary of what the growing file has in the end, with one counter.
-fn grown_summary(rt: &(impl Abort + AllocGlobal)) -> Vec<u8> {
-    summary_bytes(rt.alloc(), 1, Method::MisraGries, GROWN).expect(rt, "a summary")
-}
-
 /// What is made of such a file.
 fn made_of(
     rt: &(impl Abort + AllocGlobal + Threads + Wait + Sync),
     verb: Verb,
     is_changed: bool,
 ) -> Result<Vec<u8>, ToolError> {
-    let alloc = rt.alloc();
-    let (sources, layout) = ([LiveFile { is_changed }], Layout::plain(alloc));
+    let (sources, layout) = ([LiveFile { is_changed }], Layout::plain(rt.alloc()));
     let records = SourceRecords {
         layout: &layout,
         sources: &sources,
     };
-    let (file, share, rows) = (grown_summary(rt), Share::OfCounters, RowOptions::plain());
-    let compared = &mut Comparison::new(true);
-    match verb {
-        Verb::Report => {
-            let mut taken = Vec::new(alloc);
-            let mut out = Out::new(FaultyWriter::new(Manner::taking(99), &mut taken));
-            report_files(rt, alloc, &options(), &rows, records, &mut out)?;
-            drop(out);
-            Ok(taken)
-        }
-        Verb::Summarise(workers) => summarise_files(rt, alloc, 1, workers, records),
-        Verb::Table => table_files(rt, alloc, 4, 2, 3, 2, records),
-        Verb::Condense => condense_files(rt, alloc, &file, 2, records, compared),
-        Verb::Confirm => confirm_files(rt, alloc, &file, &share, &rows, 2, records, compared),
-    }
+    made_by(rt, verb, GROWN, records)
 }
 
 /// What is made of the bytes that the growing file has in the end.
@@ -302,7 +328,7 @@ fn made_of_grown(rt: &(impl Abort + AllocGlobal), verb: Verb) -> Vec<u8> {
         Verb::Report | Verb::Condense | Verb::Confirm => {
             Vec::from_slice(rt.alloc(), b"a,7\n").expect(rt, "rows")
         }
-        Verb::Summarise(_) => grown_summary(rt),
+        Verb::Summarise(_) => summary_of(rt, GROWN),
         Verb::Table => table_bytes(rt.alloc(), 4, 2, 3, GROWN).expect(rt, "a table"),
     }
 }
