@@ -291,7 +291,7 @@ fn make_whole(alloc: Global, form: &mut Form) -> Result<(), AllocError>
     put(form, made)
 }
 
-/// Puts what was `made` in `place`: what was wanted, or where memory was refused another form of it.
+/// Puts what was `made` in `place`: what was wanted, or another form where memory was refused.
 fn put<T: Drop>(place: &mut T, made: Result<T, T>) -> Result<(), AllocError>
     ensures put { MatchResult made (λ wanted. place.new ≡ wanted) (λ other. place.new ≡ other) }
     ensures wanted { OnOk result (made ≡ Ok place.new) }
