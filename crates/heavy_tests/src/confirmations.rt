@@ -15,10 +15,8 @@ fn summary_of(rt: &(impl Abort + AllocGlobal), stream: &Stream) -> Summary {
 fn shown(rt: &(impl Abort + AllocGlobal), rows: &[Heavy]) -> String {
     let mut text = String::new(rt.alloc());
     for row in rows {
-        for byte in row.key.bytes() {
-            text.push(char::from(*byte)).expect(rt, "room");
-        }
-        write!(text, " {} ", row.weight).expect(rt, "room");
+        let key = str::from_utf8(row.key.bytes()).expect(rt, "a text");
+        write!(text, "{key} {} ", row.weight).expect(rt, "room");
     }
     text
 }
