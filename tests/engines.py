@@ -150,7 +150,7 @@ def waited(what: str, holds) -> None:
     while not holds():
         if time.monotonic() > end:
             raise TimeoutError(f"waited in vain for {what}")
-        time.sleep(0.02)
+        time.sleep(0.1)
 
 
 def stop(processes: list[subprocess.Popen]) -> None:

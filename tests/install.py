@@ -80,7 +80,7 @@ printf '#!/bin/sh\\necho "built: $*"\\n' > "$2"
 chmod +x "$2"
 """
 BEGIN = b"heavy: proving and building the program, once and after each change of its sources\n"
-SOON = 20  # seconds
+SOON = 120  # seconds
 
 
 class Copy:

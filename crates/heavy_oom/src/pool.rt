@@ -145,7 +145,7 @@ fn analysed<R: Threads + Wait + Sync>(rt: &R, lab: &Lab, stream: &Stream) -> Res
     in_four(rt, lab, stream, &options)
 }
 
-// The same, with these options.
+// Analyses `stream` in four pieces by `options`.
 fn in_four<R: Threads + Wait + Sync>(
     rt: &R,
     lab: &Lab,
@@ -188,7 +188,7 @@ fn analysed_many<R: Threads + Wait + Sync>(rt: &R, lab: &Lab) -> Result<Said, Fa
     counted(rt, lab, &stream, &options)
 }
 
-// The same, with these items and options.
+// Analyses `stream`, the 2,001 items in two pieces, by `options`, and counts the calls of its gate.
 fn counted<R: Threads + Wait + Sync>(
     rt: &R,
     lab: &Lab,

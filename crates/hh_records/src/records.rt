@@ -289,8 +289,8 @@ fn key_at<'r>(
     }
 }
 
-/// The key and the weight's field of a record, where it has the fields for them at the places of
-/// `columns` or, where these are nothing, by their number.
+/// The key and the weight's field of a record, where it has the fields for them: at the places of
+/// the columns of `chosen` or, where it has none, by their number.
 #[inline(always)]
 fn parts_by<'r>(
     alloc: Global,
