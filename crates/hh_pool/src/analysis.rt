@@ -24,7 +24,7 @@ use hh_countmin::Table;
 use hh_countmin::laws::{cells_are_cell_sums, estimate_is_never_below, tables_fit};
 use hh_stream::laws::pieces_make_the_whole;
 use hh_stream::{Cutting, KeyHash, PieceFault, Stream};
-use hh_workers::{CutStream, Gate, PassContext, Pieces, Plan, only_memory, share_work};
+use hh_workers::{CutStream, Gate, Pieces, Plan, only_memory, share_work};
 use std::alloc::{AllocError, Global};
 use std::sync::Wait;
 use std::thread::Threads;
@@ -32,26 +32,31 @@ use std::thread::Threads;
 /// The first pass: the summaries of the pieces, in order, and the table of all items.
 fn summarise<R: Threads + Wait + Sync, P: Pieces + Sync, G: Gate + Sync>(
     rt: &R,
-    context: &PassContext<P, G>,
+    alloc: Global,
+    pieces: &P,
+    gate: &G,
     options: &Options,
 ) -> Result<(Vec<Summary>, Table), PieceFault>
-    requires some { 0 < length (P.pieces context.now.pieces.now) }
-    requires few { length (P.pieces context.now.pieces.now) ≤ max_pieces }
+    requires some { 0 < length (P.pieces pieces.now) }
+    requires few { length (P.pieces pieces.now) ≤ max_pieces }
     ensures count { IfOk result (λ r.
-        length r.0.items ≡ length (P.pieces context.now.pieces.now)) }
-    ensures summaries { let pieces = context.now.pieces.now in IfOk result (λ r. P.known pieces
-        → r.0.items ≡ map (sketch_of options.now.k) (P.pieces pieces)) }
-    ensures table { let options = options.now in let pieces = context.now.pieces.now in
-        IfOk result (λ r. P.known pieces
-        → r.1 ≡ table_of options.family options.width (whole_of (P.pieces pieces))) }
-    ensures refused { let pieces = context.now.pieces.now in
-        IsErrOf result PieceFault.Refused → P.known pieces
-        → MayRefuse (P.refuses pieces) (P.pieces pieces) }
+        length r.0.items ≡ length (P.pieces pieces.now)) }
+    ensures summaries { IfOk result (λ r. P.known pieces.now
+        → r.0.items ≡ map (sketch_of options.now.k) (P.pieces pieces.now)) }
+    ensures table { let options = options.now in IfOk result (λ r. P.known pieces.now
+        → r.1 ≡ table_of options.family options.width (whole_of (P.pieces pieces.now))) }
+    ensures refused { IsErrOf result PieceFault.Refused → P.known pieces.now
+        → MayRefuse (P.refuses pieces.now) (P.pieces pieces.now) }
 {
     cells_are_cell_sums();
-    let pass = FirstPass { context, options };
+    let pass = FirstPass {
+        alloc,
+        pieces,
+        gate,
+        options,
+    };
     let cells = (options.family().depth() * options.width()) as usize;
-    match share_work(rt, context.alloc, &pass, cells, options.workers())? {
+    match share_work(rt, alloc, &pass, cells, options.workers())? {
         Some((cells, found)) => {
             let summaries = pass.in_order(found.summaries)?;
             Ok((summaries, table_of_cells(options, found.total, cells)?))
@@ -85,29 +90,32 @@ fn table_of_cells(options: &Options, total: u64, cells: Vec<u64>) -> Result<Tabl
 /// there are candidates.
 pub(crate) fn weigh<R: Threads + Wait + Sync, P: Pieces + Sync, G: Gate + Sync>(
     rt: &R,
-    context: &PassContext<P, G>,
+    alloc: Global,
+    pieces: &P,
+    gate: &G,
     candidates: &Candidates,
     workers: u64,
 ) -> Result<(Vec<u64>, u64), PieceFault>
-    requires some { 0 < length (P.pieces context.now.pieces.now) }
-    requires few { length (P.pieces context.now.pieces.now) ≤ max_pieces }
+    requires some { 0 < length (P.pieces pieces.now) }
+    requires few { length (P.pieces pieces.now) ≤ max_pieces }
     requires workers { in_range workers max_workers ≡ true }
     requires few_keys { length candidates.now ≤ max_k }
     ensures count { IfOk result (λ r. length r.0.items ≡ length candidates.now) }
-    ensures weights { let pieces = context.now.pieces.now in IfOk result (λ r. P.known pieces
-        → r.0.items ≡ weights_at candidates.now (whole_of (P.pieces pieces))) }
-    ensures total { let pieces = context.now.pieces.now in IfOk result (λ r. P.known pieces
-        → 0 < length candidates.now → r.1 ≡ total_of (whole_of (P.pieces pieces))) }
+    ensures weights { IfOk result (λ r. P.known pieces.now
+        → r.0.items ≡ weights_at candidates.now (whole_of (P.pieces pieces.now))) }
+    ensures total { IfOk result (λ r. P.known pieces.now
+        → 0 < length candidates.now → r.1 ≡ total_of (whole_of (P.pieces pieces.now))) }
     ensures bounded { IfOk result (λ r. r.1 ≤ max_total) }
-    ensures refused { let pieces = context.now.pieces.now in
-        IsErrOf result PieceFault.Refused → P.known pieces
-        → MayRefuse (P.refuses pieces) (P.pieces pieces) }
+    ensures refused { IsErrOf result PieceFault.Refused → P.known pieces.now
+        → MayRefuse (P.refuses pieces.now) (P.pieces pieces.now) }
 {
     let pass = SecondPass {
-        context,
+        alloc,
+        pieces,
+        gate,
         candidates,
     };
-    match share_work(rt, context.alloc, &pass, candidates.len(), workers)? {
+    match share_work(rt, alloc, &pass, candidates.len(), workers)? {
         Some(weighed) => Ok(weighed),
         None => pass.sequential(workers),
     }
@@ -156,28 +164,28 @@ fn candidates(
 /// The summaries of the pieces, merged as the plan says, and the table of all items.
 fn merge_pieces<R: Threads + Wait + Sync, P: Pieces + Sync, G: Gate + Sync>(
     rt: &R,
-    context: &PassContext<P, G>,
+    alloc: Global,
+    pieces: &P,
+    gate: &G,
     plan: &Plan,
     options: &Options,
 ) -> Result<(Summary, Table), PieceFault>
-    requires plan { IsMergeTree plan.now (length (P.pieces context.now.pieces.now)) }
-    requires some { 0 < length (P.pieces context.now.pieces.now) }
-    requires few { length (P.pieces context.now.pieces.now) ≤ max_pieces }
-    ensures summary { let pieces = context.now.pieces.now in let lists = P.pieces pieces in
-        IfOk result (λ merged. P.known pieces
+    requires plan { IsMergeTree plan.now (length (P.pieces pieces.now)) }
+    requires some { 0 < length (P.pieces pieces.now) }
+    requires few { length (P.pieces pieces.now) ≤ max_pieces }
+    ensures summary { let lists = P.pieces pieces.now in
+        IfOk result (λ merged. P.known pieces.now
         → IsMerged plan.now options.now.k lists (whole_of lists) merged.0) }
-    ensures table { let options = options.now in let pieces = context.now.pieces.now in
-        IfOk result (λ merged. P.known pieces → merged.1
-        ≡ table_of options.family options.width (whole_of (P.pieces pieces))) }
-    ensures refused { let pieces = context.now.pieces.now in
-        IsErrOf result PieceFault.Refused → P.known pieces
-        → MayRefuse (P.refuses pieces) (P.pieces pieces) }
+    ensures table { let options = options.now in IfOk result (λ merged. P.known pieces.now
+        → merged.1 ≡ table_of options.family options.width (whole_of (P.pieces pieces.now))) }
+    ensures refused { IsErrOf result PieceFault.Refused → P.known pieces.now
+        → MayRefuse (P.refuses pieces.now) (P.pieces pieces.now) }
 {
     misra_gries_is_honest();
-    let (summaries, table) = summarise(rt, context, options)?;
+    let (summaries, table) = summarise(rt, alloc, pieces, gate, options)?;
     // It bounds the sum of the summaries' totals.
     let _total = table.total();
-    match merge_by(context.alloc, plan, summaries) {
+    match merge_by(alloc, plan, summaries) {
         Ok(summary) => Ok((summary, table)),
         Err(MergeFault::Memory) => Err(PieceFault::Memory),
         // Only pieces that changed while they were read come to this.
@@ -207,27 +215,28 @@ pub(crate) fn check_totals(
 /// that of the first.
 fn heavy_among<R: Threads + Wait + Sync, P: Pieces + Sync, G: Gate + Sync>(
     rt: &R,
-    context: &PassContext<P, G>,
+    alloc: Global,
+    pieces: &P,
+    gate: &G,
     candidates: &Candidates,
     total: u64,
     options: &Options,
 ) -> Result<Vec<Heavy>, PieceFault>
-    requires some { 0 < length (P.pieces context.now.pieces.now) }
-    requires few { length (P.pieces context.now.pieces.now) ≤ max_pieces }
+    requires some { 0 < length (P.pieces pieces.now) }
+    requires few { length (P.pieces pieces.now) ≤ max_pieces }
     requires few_keys { length candidates.now ≤ max_k }
-    requires total { let pieces = context.now.pieces.now in
-        P.known pieces → total ≡ total_of (whole_of (P.pieces pieces)) }
-    requires enough { let pieces = context.now.pieces.now in P.known pieces
-        → AreEnough candidates.now (whole_of (P.pieces pieces)) options.now.p options.now.q }
-    ensures heavy { let pieces = context.now.pieces.now in let xs = whole_of (P.pieces pieces) in
-        IfOk result (λ rows. P.known pieces
+    requires total { P.known pieces.now → total ≡ total_of (whole_of (P.pieces pieces.now)) }
+    requires enough { P.known pieces.now
+        → AreEnough candidates.now (whole_of (P.pieces pieces.now)) options.now.p options.now.q }
+    ensures heavy { let xs = whole_of (P.pieces pieces.now) in
+        IfOk result (λ rows. P.known pieces.now
         → rows.items ≡ heavy xs options.now.p options.now.q) }
-    ensures refused { let pieces = context.now.pieces.now in
-        IsErrOf result PieceFault.Refused → P.known pieces
-        → MayRefuse (P.refuses pieces) (P.pieces pieces) }
+    ensures refused { IsErrOf result PieceFault.Refused → P.known pieces.now
+        → MayRefuse (P.refuses pieces.now) (P.pieces pieces.now) }
 {
     let (p, q) = options.threshold();
-    let (weights, counted) = weigh(rt, context, candidates, options.workers())?;
+    let workers = options.workers();
+    let (weights, counted) = weigh(rt, alloc, pieces, gate, candidates, workers)?;
     check_totals(candidates, counted, total)?;
     Ok(candidates.select(&weights, total, p, q)?)
 }
@@ -235,60 +244,61 @@ fn heavy_among<R: Threads + Wait + Sync, P: Pieces + Sync, G: Gate + Sync>(
 /// The keys above the options' threshold, by a second pass over those that can be.
 fn heavy_keys<R: Threads + Wait + Sync, P: Pieces + Sync, G: Gate + Sync>(
     rt: &R,
-    context: &PassContext<P, G>,
+    alloc: Global,
+    pieces: &P,
+    gate: &G,
     summary: &Summary,
     table: &Table,
     options: &Options,
 ) -> Result<Vec<Heavy>, PieceFault>
-    requires some { 0 < length (P.pieces context.now.pieces.now) }
-    requires few { length (P.pieces context.now.pieces.now) ≤ max_pieces }
-    requires same_k { P.known context.now.pieces.now → summary.now.k ≡ options.now.k }
-    requires total { let pieces = context.now.pieces.now in
-        P.known pieces → summary.now.total ≡ total_of (whole_of (P.pieces pieces)) }
-    requires honest { let s = summary.now in let pieces = context.now.pieces.now in
-        P.known pieces → IsHonest s.counters s.total (whole_of (P.pieces pieces)) s.k }
-    requires table { let options = options.now in let pieces = context.now.pieces.now in
-        P.known pieces → table.now
-        ≡ table_of options.family options.width (whole_of (P.pieces pieces)) }
+    requires some { 0 < length (P.pieces pieces.now) }
+    requires few { length (P.pieces pieces.now) ≤ max_pieces }
+    requires same_k { P.known pieces.now → summary.now.k ≡ options.now.k }
+    requires total { P.known pieces.now
+        → summary.now.total ≡ total_of (whole_of (P.pieces pieces.now)) }
+    requires honest { let s = summary.now in P.known pieces.now
+        → IsHonest s.counters s.total (whole_of (P.pieces pieces.now)) s.k }
+    requires table { let options = options.now in P.known pieces.now → table.now
+        ≡ table_of options.family options.width (whole_of (P.pieces pieces.now)) }
     requires few_keys { length summary.now.counters ≤ max_k }
     requires rows { 1 ≤ length table.now.family.rows }
-    ensures heavy { let pieces = context.now.pieces.now in let xs = whole_of (P.pieces pieces) in
-        IfOk result (λ rows. P.known pieces
+    ensures heavy { let xs = whole_of (P.pieces pieces.now) in
+        IfOk result (λ rows. P.known pieces.now
         → rows.items ≡ heavy xs options.now.p options.now.q) }
-    ensures refused { let pieces = context.now.pieces.now in
-        IsErrOf result PieceFault.Refused → P.known pieces
-        → MayRefuse (P.refuses pieces) (P.pieces pieces) }
+    ensures refused { IsErrOf result PieceFault.Refused → P.known pieces.now
+        → MayRefuse (P.refuses pieces.now) (P.pieces pieces.now) }
 {
     let (p, q) = options.threshold();
-    let candidates = candidates(context.alloc, summary, table, p, q, options.hash())?;
-    heavy_among(rt, context, &candidates, summary.total(), options)
+    let candidates = candidates(alloc, summary, table, p, q, options.hash())?;
+    let total = summary.total();
+    heavy_among(rt, alloc, pieces, gate, &candidates, total, options)
 }
 
 /// The outcome, where the plan has as many pieces as there are.
 fn run_passes<R: Threads + Wait + Sync, P: Pieces + Sync, G: Gate + Sync>(
     rt: &R,
-    context: &PassContext<P, G>,
+    alloc: Global,
+    pieces: &P,
+    gate: &G,
     plan: &Plan,
     options: &Options,
 ) -> Result<Outcome, PieceFault>
-    requires plan { IsMergeTree plan.now (length (P.pieces context.now.pieces.now)) }
-    requires some { 0 < length (P.pieces context.now.pieces.now) }
-    requires few { length (P.pieces context.now.pieces.now) ≤ max_pieces }
-    ensures summary { let pieces = context.now.pieces.now in let lists = P.pieces pieces in
-        IfOk result (λ outcome. P.known pieces
+    requires plan { IsMergeTree plan.now (length (P.pieces pieces.now)) }
+    requires some { 0 < length (P.pieces pieces.now) }
+    requires few { length (P.pieces pieces.now) ≤ max_pieces }
+    ensures summary { let lists = P.pieces pieces.now in
+        IfOk result (λ outcome. P.known pieces.now
         → IsMerged plan.now options.now.k lists (whole_of lists) outcome.summary) }
-    ensures table { let options = options.now in let pieces = context.now.pieces.now in
-        IfOk result (λ outcome. P.known pieces → outcome.table
-        ≡ table_of options.family options.width (whole_of (P.pieces pieces))) }
-    ensures heavy { let pieces = context.now.pieces.now in let xs = whole_of (P.pieces pieces) in
-        IfOk result (λ outcome. P.known pieces
+    ensures table { let options = options.now in IfOk result (λ outcome. P.known pieces.now
+        → outcome.table ≡ table_of options.family options.width (whole_of (P.pieces pieces.now))) }
+    ensures heavy { let xs = whole_of (P.pieces pieces.now) in
+        IfOk result (λ outcome. P.known pieces.now
         → outcome.heavy.items ≡ heavy xs options.now.p options.now.q) }
-    ensures refused { let pieces = context.now.pieces.now in
-        IsErrOf result PieceFault.Refused → P.known pieces
-        → MayRefuse (P.refuses pieces) (P.pieces pieces) }
+    ensures refused { IsErrOf result PieceFault.Refused → P.known pieces.now
+        → MayRefuse (P.refuses pieces.now) (P.pieces pieces.now) }
 {
-    let (summary, table) = merge_pieces(rt, context, plan, options)?;
-    let heavy = heavy_keys(rt, context, &summary, &table, options)?;
+    let (summary, table) = merge_pieces(rt, alloc, pieces, gate, plan, options)?;
+    let heavy = heavy_keys(rt, alloc, pieces, gate, &summary, &table, options)?;
     Ok(Outcome {
         summary,
         table,
@@ -344,12 +354,7 @@ pub fn analyse<R: Threads + Wait + Sync, G: Gate + Sync>(
     let _total = stream.total();
     let pieces = CutStream::new(stream, cutting);
     check_counts(plan, pieces.count())?;
-    let context = PassContext {
-        alloc,
-        pieces: &pieces,
-        gate,
-    };
-    match only_memory(run_passes(rt, &context, plan, options)) {
+    match only_memory(run_passes(rt, alloc, &pieces, gate, plan, options)) {
         Ok(outcome) => Ok(outcome),
         Err(_) => Err(RunError::Memory),
     }

@@ -23,15 +23,16 @@ use hh_shared::{SharedSums, SumSeat};
 use hh_stream::laws::pieces_make_the_whole;
 use hh_stream::{Cutting, KeyHash, MAX_TOTAL, PieceFault, Stream, TakeItems};
 use hh_workers::{
-    CutStream, Gate, Pass, PassContext, Pieces, add_numbers, only_memory, run_sequentially,
-    run_worker,
+    CutStream, Gate, Pass, Pieces, add_numbers, only_memory, run_sequentially, run_worker,
 };
 use std::alloc::{AllocError, Global};
 
 /// What each worker of the first pass goes over, and by which options.
 #[derive(Drop)]
 pub(crate) struct FirstPass<'a, P, G> {
-    pub(crate) context: &'a PassContext<'a, P, G>,
+    pub(crate) alloc: Global,
+    pub(crate) pieces: &'a P,
+    pub(crate) gate: &'a G,
     pub(crate) options: &'a Options,
 }
 
@@ -61,13 +62,10 @@ pub fn first_pass<G: Gate>(
     pieces_make_the_whole();
     // It bounds the weights of the pieces.
     let _total = stream.total();
-    let context = PassContext {
+    let pass = FirstPass {
         alloc,
         pieces: &CutStream::new(stream, cutting),
         gate,
-    };
-    let pass = FirstPass {
-        context: &context,
         options,
     };
     let (seat, summarised) = only_memory(run_worker(&pass, sums, seat, worker))?;
@@ -92,13 +90,10 @@ pub fn first_pass_sequentially<G: Gate>(
     pieces_make_the_whole();
     // It bounds the weights of the pieces.
     let _total = stream.total();
-    let context = PassContext {
+    let pass = FirstPass {
         alloc,
         pieces: &CutStream::new(stream, cutting),
         gate,
-    };
-    let pass = FirstPass {
-        context: &context,
         options,
     };
     only_memory(pass.sequential())
@@ -191,23 +186,21 @@ pub(crate) struct Summarised {
 impl<'a, P: Pieces, G: Gate> FirstPass<'a, P, G> {
     // The summary of a piece, by Space-Saving in buckets, and the table with the piece's items.
     fn summarise(&self, table: Table, piece: usize) -> Result<(Summary, Table), PieceFault>
-        requires { piece < length (P.pieces self.now.context.now.pieces.now) }
-        ensures summarised { let pieces = self.now.context.now.pieces.now in IfOk result (λ r.
+        requires { piece < length (P.pieces self.now.pieces.now) }
+        ensures summarised { let pieces = self.now.pieces.now in IfOk result (λ r.
             IsSummarised (λ xs. P.known pieces → xs ≡ piece_of (P.pieces pieces) piece)
             self.now.options.now.k r.0 table r.1) }
-        ensures reads { let pieces = self.now.context.now.pieces.now in
+        ensures reads { let pieces = self.now.pieces.now in
             OnOk result (P.known pieces → P.reads pieces piece) }
-        ensures refused { let pieces = self.now.context.now.pieces.now in
+        ensures refused { let pieces = self.now.pieces.now in
             IsErrOf result PieceFault.Refused → P.known pieces → P.refuses pieces piece
             ⊎ (max_total < table.total + total_of (piece_of (P.pieces pieces) piece)) }
     {
         summaries_follow_items();
         tables_follow_items();
         let hash = self.options.hash();
-        let mut sketches = Sketches::beside(table, self.context.alloc, self.options.k(), hash)?;
-        self.context
-            .pieces
-            .feed(self.context.alloc, piece, &mut sketches)?;
+        let mut sketches = Sketches::beside(table, self.alloc, self.options.k(), hash)?;
+        self.pieces.feed(self.alloc, piece, &mut sketches)?;
         sketches.into_parts()
     }
 
@@ -216,15 +209,15 @@ impl<'a, P: Pieces, G: Gate> FirstPass<'a, P, G> {
         &self,
         mut found: Vec<(usize, Summary)>,
     ) -> Result<Vec<Summary>, AllocError>
-        requires { let pieces = self.now.context.now.pieces.now in P.known pieces
+        requires { let pieces = self.now.pieces.now in P.known pieces
             → AreSummaries self.now.options.now.k (P.pieces pieces) found.items }
         ensures count { IfOk result (λ summaries. length summaries.items ≡ length found.items) }
-        ensures summaries { let pieces = self.now.context.now.pieces.now in
+        ensures summaries { let pieces = self.now.pieces.now in
             IfOk result (λ summaries. P.known pieces
             → summaries.items ≡ map (sketch_of self.now.options.now.k) (P.pieces pieces)) }
     {
         found.sort_unstable_by(|a, b| a.0.cmp(&b.0));
-        let mut summaries = Vec::new(self.context.alloc);
+        let mut summaries = Vec::new(self.alloc);
         for (_, summary) in found {
             summaries.push(summary)?;
         }
@@ -234,15 +227,15 @@ impl<'a, P: Pieces, G: Gate> FirstPass<'a, P, G> {
     /// Makes the summaries of the pieces, in order, and the table of all items in the calling
     /// thread, without sums.
     pub(crate) fn sequential(&self) -> Result<(Vec<Summary>, Table), PieceFault>
-        ensures count { let pieces = self.now.context.now.pieces.now in
+        ensures count { let pieces = self.now.pieces.now in
             IfOk result (λ r. length r.0.items ≡ length (P.pieces pieces)) }
-        ensures summaries { let pieces = self.now.context.now.pieces.now in
+        ensures summaries { let pieces = self.now.pieces.now in
             IfOk result (λ r. P.known pieces
             → r.0.items ≡ map (sketch_of self.now.options.now.k) (P.pieces pieces)) }
         ensures table { let options = self.now.options.now in
-            let pieces = self.now.context.now.pieces.now in IfOk result (λ r. P.known pieces
+            let pieces = self.now.pieces.now in IfOk result (λ r. P.known pieces
             → r.1 ≡ table_of options.family options.width (whole_of (P.pieces pieces))) }
-        ensures refused { let pieces = self.now.context.now.pieces.now in
+        ensures refused { let pieces = self.now.pieces.now in
             IsErrOf result PieceFault.Refused → P.known pieces
             → MayRefuse (P.refuses pieces) (P.pieces pieces) }
     {
@@ -260,30 +253,30 @@ impl<'a, P: Pieces, G: Gate> Pass for FirstPass<'a, P, G> {
     ghost use Rattle.hh_pool.specs.Passes.{AreFirstPasses, HaveTaken, MayRefuse};
     ghost use Rattle.hh_pool.specs.Progress.{HoldsItems, IsFirstMade};
 
-    ghost pieces = { λ p. length (P.pieces p.context.now.pieces.now) };
+    ghost pieces = { λ p. length (P.pieces p.pieces.now) };
 
     ghost cells = { λ p. length p.options.now.family.rows * p.options.now.width };
 
-    ghost is_made = { λ p numbers made. let pieces = p.context.now.pieces.now in
+    ghost is_made = { λ p numbers made. let pieces = p.pieces.now in
         HoldsItems p.options.now numbers made.summaries.items made.table × (P.known pieces
         → IsFirstMade (P.reads pieces) (P.pieces pieces) p.options.now numbers
         made.summaries.items made.table) };
 
-    ghost all_done = { λ p seat kept. let pieces = p.context.now.pieces.now in
+    ghost all_done = { λ p seat kept. let pieces = p.pieces.now in
         (length kept.summaries.items ≡ length seat.claims) × (P.known pieces
         → AreFirstPasses (P.pieces pieces) p.options.now seat kept.summaries.items
         × HaveTaken (P.reads pieces) (P.pieces pieces) seat.claims kept.total) };
 
-    ghost may_refuse = { λ p. let pieces = p.context.now.pieces.now in P.known pieces
+    ghost may_refuse = { λ p. let pieces = p.pieces.now in P.known pieces
         → MayRefuse (P.refuses pieces) (P.pieces pieces) };
 
     fn count(&self) -> usize {
-        self.context.pieces.count()
+        self.pieces.count()
     }
 
     fn begin(&self) -> Result<LocalSketches, AllocError> {
-        let table = empty_table(self.context.alloc, self.options)?;
-        let summaries = Vec::new(self.context.alloc);
+        let table = empty_table(self.alloc, self.options)?;
+        let summaries = Vec::new(self.alloc);
         Ok(LocalSketches { summaries, table })
     }
 
@@ -293,7 +286,7 @@ impl<'a, P: Pieces, G: Gate> Pass for FirstPass<'a, P, G> {
         worker: u64,
         piece: usize,
     ) -> Result<LocalSketches, PieceFault> {
-        self.context.gate.before(1, worker, piece as u64);
+        self.gate.before(1, worker, piece as u64);
         let LocalSketches {
             mut summaries,
             table,

@@ -17,7 +17,7 @@ use crate::tabulate::tabulate;
 use hh_counters::Candidates;
 use hh_countmin::{Family, Table};
 use hh_stream::PieceFault;
-use hh_workers::{OpenGate, PassContext, Pieces};
+use hh_workers::{OpenGate, Pieces};
 use std::alloc::Global;
 use std::sync::Wait;
 use std::thread::Threads;
@@ -50,12 +50,7 @@ pub fn count_pieces<R: Threads + Wait + Sync, P: Pieces + Sync>(
     ensures refused { IsErrOf result PieceFault.Refused → P.known pieces.now
         → MayRefuse (P.refuses pieces.now) (P.pieces pieces.now) }
 {
-    let context = PassContext {
-        alloc,
-        pieces,
-        gate: &OpenGate,
-    };
-    weigh(rt, &context, candidates, workers)
+    weigh(rt, alloc, pieces, &OpenGate, candidates, workers)
 }
 
 /// The Count-Min table of the items of all pieces (Cormode and Muthukrishnan 2005). Each worker
@@ -86,12 +81,7 @@ pub fn tabulate_pieces<R: Threads + Wait + Sync, P: Pieces + Sync>(
     ensures refused { IsErrOf result PieceFault.Refused → P.known pieces.now
         → MayRefuse (P.refuses pieces.now) (P.pieces pieces.now) }
 {
-    let context = PassContext {
-        alloc,
-        pieces,
-        gate: &OpenGate,
-    };
-    let table = tabulate(rt, &context, family, width, workers)?;
+    let table = tabulate(rt, alloc, pieces, &OpenGate, family, width, workers)?;
     // It bounds the total.
     let _total = table.total();
     Ok(table)

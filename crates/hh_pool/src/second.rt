@@ -16,15 +16,16 @@ use hh_shared::{SharedSums, SumSeat};
 use hh_stream::laws::pieces_make_the_whole;
 use hh_stream::{Cutting, PieceFault, Stream, TakeItems};
 use hh_workers::{
-    CutStream, Gate, Pass, PassContext, Pieces, add_numbers, only_memory, run_sequentially,
-    run_worker,
+    CutStream, Gate, Pass, Pieces, add_numbers, only_memory, run_sequentially, run_worker,
 };
 use std::alloc::{AllocError, Global};
 
 /// What each worker of the second pass works on.
 #[derive(Drop)]
 pub(crate) struct SecondPass<'a, 'c, P, G> {
-    pub(crate) context: &'a PassContext<'a, P, G>,
+    pub(crate) alloc: Global,
+    pub(crate) pieces: &'a P,
+    pub(crate) gate: &'a G,
     pub(crate) candidates: &'c Candidates,
 }
 
@@ -53,13 +54,10 @@ pub fn second_pass<G: Gate>(
     pieces_make_the_whole();
     // It bounds the weights of the pieces.
     let _total = stream.total();
-    let context = PassContext {
+    let pass = SecondPass {
         alloc,
         pieces: &CutStream::new(stream, cutting),
         gate,
-    };
-    let pass = SecondPass {
-        context: &context,
         candidates,
     };
     let (seat, _) = only_memory(run_worker(&pass, sums, seat, worker))?;
@@ -85,13 +83,10 @@ pub fn second_pass_sequentially<G: Gate>(
     pieces_make_the_whole();
     // It bounds the weights of the pieces.
     let _total = stream.total();
-    let context = PassContext {
+    let pass = SecondPass {
         alloc,
         pieces: &CutStream::new(stream, cutting),
         gate,
-    };
-    let pass = SecondPass {
-        context: &context,
         candidates,
     };
     only_memory(pass.sequential(workers))
@@ -100,18 +95,18 @@ pub fn second_pass_sequentially<G: Gate>(
 impl<'a, 'c, P: Pieces, G: Gate> SecondPass<'a, 'c, P, G> {
     // Counts the candidates of a piece, which isn't read where there are none.
     fn count_piece(&self, counts: &mut CandidateCounts, piece: usize) -> Result<(), PieceFault>
-        requires { piece < length (P.pieces self.now.context.now.pieces.now) }
-        ensures counted { let pieces = self.now.context.now.pieces.now in OnOk result
+        requires { piece < length (P.pieces self.now.pieces.now) }
+        ensures counted { let pieces = self.now.pieces.now in OnOk result
             (IsCountedOn (λ xs. P.known pieces → xs ≡ piece_of (P.pieces pieces) piece)
             self.now.candidates.now counts.old counts.new) }
-        ensures refused { let pieces = self.now.context.now.pieces.now in
+        ensures refused { let pieces = self.now.pieces.now in
             IsErrOf result PieceFault.Refused → P.known pieces → P.refuses pieces piece
             ⊎ (max_total < counts.old.total + total_of (piece_of (P.pieces pieces) piece)) }
     {
         if self.candidates.is_empty() {
             return Ok(());
         }
-        self.context.pieces.feed(self.context.alloc, piece, counts)
+        self.pieces.feed(self.alloc, piece, counts)
     }
 
     /// What the calling thread counts without sums: the candidates' weights in all pieces, and the
@@ -119,14 +114,14 @@ impl<'a, 'c, P: Pieces, G: Gate> SecondPass<'a, 'c, P, G> {
     pub(crate) fn sequential(&self, workers: u64) -> Result<(Vec<u64>, u64), PieceFault>
         ensures count { IfOk result (λ r.
             length r.0.items ≡ length self.now.candidates.now) }
-        ensures weights { let pieces = self.now.context.now.pieces.now in
+        ensures weights { let pieces = self.now.pieces.now in
             IfOk result (λ r. P.known pieces
             → r.0.items ≡ weights_at self.now.candidates.now (whole_of (P.pieces pieces))) }
-        ensures total { let pieces = self.now.context.now.pieces.now in IfOk result (λ r.
+        ensures total { let pieces = self.now.pieces.now in IfOk result (λ r.
             P.known pieces → 0 < length self.now.candidates.now
             → r.1 ≡ total_of (whole_of (P.pieces pieces))) }
         ensures bounded { IfOk result (λ r. r.1 ≤ max_total) }
-        ensures refused { let pieces = self.now.context.now.pieces.now in
+        ensures refused { let pieces = self.now.pieces.now in
             IsErrOf result PieceFault.Refused → P.known pieces
             → MayRefuse (P.refuses pieces) (P.pieces pieces) }
     {
@@ -146,28 +141,28 @@ impl<'a, 'c, P: Pieces, G: Gate> Pass for SecondPass<'a, 'c, P, G> {
     ghost use Rattle.hh_pool.specs.Passes.{AreSecondPasses, HaveCounted, MayRefuse, items_at};
     ghost use Rattle.hh_pool.specs.Progress.{AreCounted, HasCounted};
 
-    ghost pieces = { λ p. length (P.pieces p.context.now.pieces.now) };
+    ghost pieces = { λ p. length (P.pieces p.pieces.now) };
 
     ghost cells = { λ p. length p.candidates.now };
 
-    ghost is_made = { λ p numbers counts. let pieces = p.context.now.pieces.now in
+    ghost is_made = { λ p numbers counts. let pieces = p.pieces.now in
         HasCounted p.candidates.now numbers counts × (P.known pieces
         → AreCounted p.candidates.now (items_at (P.pieces pieces) numbers) counts) };
 
-    ghost all_done = { λ p seat total. let pieces = p.context.now.pieces.now in
+    ghost all_done = { λ p seat total. let pieces = p.pieces.now in
         (total ≤ max_total) × (P.known pieces
         → AreSecondPasses (P.pieces pieces) p.candidates.now seat
         × HaveCounted (P.pieces pieces) p.candidates.now seat.claims total) };
 
-    ghost may_refuse = { λ p. let pieces = p.context.now.pieces.now in P.known pieces
+    ghost may_refuse = { λ p. let pieces = p.pieces.now in P.known pieces
         → MayRefuse (P.refuses pieces) (P.pieces pieces) };
 
     fn count(&self) -> usize {
-        self.context.pieces.count()
+        self.pieces.count()
     }
 
     fn begin(&self) -> Result<CandidateCounts<'c>, AllocError> {
-        CandidateCounts::new(self.context.alloc, self.candidates)
+        CandidateCounts::new(self.alloc, self.candidates)
     }
 
     fn take(
@@ -176,7 +171,7 @@ impl<'a, 'c, P: Pieces, G: Gate> Pass for SecondPass<'a, 'c, P, G> {
         worker: u64,
         piece: usize,
     ) -> Result<CandidateCounts<'c>, PieceFault> {
-        self.context.gate.before(2, worker, piece as u64);
+        self.gate.before(2, worker, piece as u64);
         self.count_piece(&mut made, piece)?;
         Ok(made)
     }

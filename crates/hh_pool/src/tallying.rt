@@ -24,7 +24,7 @@ use hh_shared::{SharedSums, SumSeat};
 use hh_stream::{Key, KeyHash, PieceFault, TakeItems};
 use hh_tally::laws::tallies_bound_weights;
 use hh_tally::{Room, Tally};
-use hh_workers::{Gate, OpenGate, Pass, PassContext, Pieces, found_or_made, share_work};
+use hh_workers::{Gate, OpenGate, Pass, Pieces, found_or_made, share_work};
 use std::alloc::{AllocError, Global};
 use std::sync::Wait;
 use std::thread::Threads;
@@ -32,7 +32,9 @@ use std::thread::Threads;
 /// The pass in which each worker tallies the items of the pieces that it claims.
 #[derive(Drop)]
 struct TallyPass<'a, P, G> {
-    context: &'a PassContext<'a, P, G>,
+    alloc: Global,
+    pieces: &'a P,
+    gate: &'a G,
     room: Room,
     hash: KeyHash,
     ghost room_fits: { IsRoom room },
@@ -41,18 +43,18 @@ struct TallyPass<'a, P, G> {
 impl<'a, P: Pieces, G: Gate> TallyPass<'a, P, G> {
     // Takes the items of a piece.
     fn take_piece(&self, tally: &mut Tally, piece: usize) -> Result<(), PieceFault>
-        requires { piece < length (P.pieces self.now.context.now.pieces.now) }
-        ensures taken { let pieces = self.now.context.now.pieces.now in OnOk result
+        requires { piece < length (P.pieces self.now.pieces.now) }
+        ensures taken { let pieces = self.now.pieces.now in OnOk result
             (IsTallied (λ xs. P.known pieces → xs ≡ piece_of (P.pieces pieces) piece)
             tally.old tally.new) }
-        ensures reads { let pieces = self.now.context.now.pieces.now in
+        ensures reads { let pieces = self.now.pieces.now in
             OnOk result (P.known pieces → P.reads pieces piece) }
-        ensures refused { let pieces = self.now.context.now.pieces.now in
+        ensures refused { let pieces = self.now.pieces.now in
             IsErrOf result PieceFault.Refused → P.known pieces → P.refuses pieces piece
             ⊎ (max_total < tally.old.total + total_of (piece_of (P.pieces pieces) piece)) }
     {
         tallies_bound_weights();
-        self.context.pieces.feed(self.context.alloc, piece, tally)
+        self.pieces.feed(self.alloc, piece, tally)
     }
 }
 
@@ -65,33 +67,33 @@ impl<'a, P: Pieces, G: Gate> Pass for TallyPass<'a, P, G> {
     ghost use Rattle.hh_pool.specs.Passes.{MayRefuse};
     ghost use Rattle.hh_pool.specs.Tallied.{BoundsSome, HasTallied};
 
-    ghost pieces = { λ p. length (P.pieces p.context.now.pieces.now) };
+    ghost pieces = { λ p. length (P.pieces p.pieces.now) };
 
     ghost cells = { λ _. 0 };
 
-    ghost is_made = { λ p numbers tally. let pieces = p.context.now.pieces.now in
+    ghost is_made = { λ p numbers tally. let pieces = p.pieces.now in
         (tally.room ≡ p.room) × BoundsSome tally × (P.known pieces
         → HasTallied (P.reads pieces) (P.pieces pieces) numbers tally) };
 
-    ghost all_done = { λ p seat tally. let pieces = p.context.now.pieces.now in
+    ghost all_done = { λ p seat tally. let pieces = p.pieces.now in
         (tally.room ≡ p.room) × BoundsSome tally × (P.known pieces
         → HasTallied (P.reads pieces) (P.pieces pieces) seat.claims tally) };
 
-    ghost may_refuse = { λ p. let pieces = p.context.now.pieces.now in P.known pieces
+    ghost may_refuse = { λ p. let pieces = p.pieces.now in P.known pieces
         → MayRefuse (P.refuses pieces) (P.pieces pieces) };
 
     fn count(&self) -> usize {
-        self.context.pieces.count()
+        self.pieces.count()
     }
 
     fn begin(&self) -> Result<Tally, AllocError> {
         tallies_bound_weights();
-        let tally = Tally::new(self.context.alloc, self.room, self.hash)?;
+        let tally = Tally::new(self.alloc, self.room, self.hash)?;
         Ok(tally)
     }
 
     fn take(&self, mut made: Tally, worker: u64, piece: usize) -> Result<Tally, PieceFault> {
-        self.context.gate.before(1, worker, piece as u64);
+        self.gate.before(1, worker, piece as u64);
         self.take_piece(&mut made, piece)?;
         // The contract of `total` bounds the tally's total.
         let _total = made.total();
@@ -109,7 +111,7 @@ impl<'a, P: Pieces, G: Gate> Pass for TallyPass<'a, P, G> {
             return Err(PieceFault::Refused);
         }
         sum_of_totals(one.total(), other.total())?;
-        let both = one.merge(self.context.alloc, &other)?;
+        let both = one.merge(self.alloc, &other)?;
         Ok(both)
     }
 }
@@ -144,13 +146,10 @@ pub fn tally_pieces<R: Threads + Wait + Sync, P: Pieces + Sync>(
         → MayRefuse (P.refuses pieces.now) (P.pieces pieces.now) }
 {
     tallies_bound_weights();
-    let context = PassContext {
+    let pass = TallyPass {
         alloc,
         pieces,
         gate: &OpenGate,
-    };
-    let pass = TallyPass {
-        context: &context,
         room,
         hash,
     };
@@ -168,36 +167,36 @@ fn counters_of(alloc: Global, contenders: &[(Key, u64)]) -> Result<Vec<u64>, All
 /// Gives the weight of each of the `contenders`, which are the `candidates` with their counters, in
 /// the items of all pieces: the counter if `tally` lost nothing, else what a second pass counts. If
 /// that finds another total than the first pass, the error is [`PieceFault::Refused`].
-fn weights_of<R: Threads + Wait + Sync, P: Pieces + Sync, G: Gate + Sync>(
+fn weights_of<R: Threads + Wait + Sync, P: Pieces + Sync>(
     rt: &R,
-    context: &PassContext<P, G>,
+    alloc: Global,
+    pieces: &P,
     tally: &Tally,
     contenders: &[(Key, u64)],
     candidates: &Candidates,
     workers: u64,
 ) -> Result<Vec<u64>, PieceFault>
-    requires some { 0 < length (P.pieces context.now.pieces.now) }
-    requires few { length (P.pieces context.now.pieces.now) ≤ max_pieces }
+    requires some { 0 < length (P.pieces pieces.now) }
+    requires few { length (P.pieces pieces.now) ≤ max_pieces }
     requires workers { in_range workers max_workers ≡ true }
     requires keys { candidates.now ≡ keys_of contenders.now }
     requires few_keys { length candidates.now ≤ max_k }
-    requires total { let pieces = context.now.pieces.now in
-        P.known pieces → tally.now.total ≡ total_of (whole_of (P.pieces pieces)) }
-    requires exact { let pieces = context.now.pieces.now in P.known pieces → tally.now.lost ≡ 0
+    requires total { P.known pieces.now
+        → tally.now.total ≡ total_of (whole_of (P.pieces pieces.now)) }
+    requires exact { P.known pieces.now → tally.now.lost ≡ 0
         → values_of contenders.now
-        ≡ weights_at (keys_of contenders.now) (whole_of (P.pieces pieces)) }
+        ≡ weights_at (keys_of contenders.now) (whole_of (P.pieces pieces.now)) }
     ensures count { IfOk result (λ weights. length weights.items ≡ length candidates.now) }
-    ensures weights { let pieces = context.now.pieces.now in IfOk result (λ weights.
-        P.known pieces
-        → weights.items ≡ weights_at candidates.now (whole_of (P.pieces pieces))) }
-    ensures refused { let pieces = context.now.pieces.now in
-        IsErrOf result PieceFault.Refused → P.known pieces
-        → MayRefuse (P.refuses pieces) (P.pieces pieces) }
+    ensures weights { IfOk result (λ weights.
+        P.known pieces.now
+        → weights.items ≡ weights_at candidates.now (whole_of (P.pieces pieces.now))) }
+    ensures refused { IsErrOf result PieceFault.Refused → P.known pieces.now
+        → MayRefuse (P.refuses pieces.now) (P.pieces pieces.now) }
 {
     if tally.is_exact() {
-        return Ok(counters_of(context.alloc, contenders)?);
+        return Ok(counters_of(alloc, contenders)?);
     }
-    let (weights, counted) = weigh(rt, context, candidates, workers)?;
+    let (weights, counted) = weigh(rt, alloc, pieces, &OpenGate, candidates, workers)?;
     check_totals(candidates, counted, tally.total())?;
     Ok(weights)
 }
@@ -240,14 +239,10 @@ pub fn report_pieces<R: Threads + Wait + Sync, P: Pieces + Sync>(
     let tally = tally_pieces(rt, alloc, pieces, room, hash, options.workers())?;
     let contenders = tally.contenders(alloc, p, q)?;
     let candidates = Candidates::of_entries(alloc, &contenders, hash)?;
-    let context = PassContext {
-        alloc,
-        pieces,
-        gate: &OpenGate,
-    };
     let weights = weights_of(
         rt,
-        &context,
+        alloc,
+        pieces,
         &tally,
         &contenders,
         &candidates,

@@ -11,7 +11,7 @@ mod workers;
 
 pub use gate::{Gate, OpenGate};
 pub use parsing::PlanFault;
-pub use pass::{Pass, PassContext, add_numbers, run_sequentially, run_worker};
+pub use pass::{Pass, add_numbers, run_sequentially, run_worker};
 pub use pieces::{CutStream, Pieces, only_memory};
 pub use plan::{Plan, Tree};
 pub use workers::{MAX_WORKERS, found_or_made, share_work};

@@ -10,15 +10,7 @@ ghost use Rattle.hh_workers.specs.Workers.{HasTriedUpTo};
 
 use hh_shared::{SharedSums, SumSeat};
 use hh_stream::PieceFault;
-use std::alloc::{AllocError, Global};
-
-/// What every pass goes over: pieces, and the gate that hears of each.
-#[derive(Drop)]
-pub struct PassContext<'a, P, G> {
-    pub alloc: Global,
-    pub pieces: &'a P,
-    pub gate: &'a G,
-}
+use std::alloc::AllocError;
 
 /// A pass over pieces, of which each worker makes something by itself.
 pub trait Pass {

@@ -13,7 +13,7 @@ pub returns-in-Err-DifferentK-clause-refused : goal.returns-in-Err-DifferentK-cl
 returns-in-Err-DifferentK-clause-refused g c is known =
     let refused = rw c.in-Err-DifferentK.field-0-is at c.in-Err-DifferentK.ensures.refused in
     let total = ap (λ (t : TableView). t.total) (c.in_ok-summaries.ensures.table known) in
-    absurd (no_refusal _ _ (g.P.Pieces.pieces c.args.context.now.pieces.now) _ _ c.requires.plan
+    absurd (no_refusal _ _ (g.P.Pieces.pieces c.args.pieces.now) _ _ c.requires.plan
     (omega (arith, total, c.total-total.ensures.total, c.total-total.ensures.fits.total_in_range))
     (c.in_ok-summaries.ensures.summaries known) refused)
 
@@ -21,15 +21,15 @@ pub returns-clause-refused : goal.returns-clause-refused
 returns-clause-refused g c is known =
     let refused = rw c.in-Err-TotalTooLarge.field-0-is at c.in-Err-TotalTooLarge.ensures.refused in
     let total = ap (λ (t : TableView). t.total) (c.in_ok-summaries.ensures.table known) in
-    absurd (no_refusal _ _ (g.P.Pieces.pieces c.args.context.now.pieces.now) _ _ c.requires.plan
+    absurd (no_refusal _ _ (g.P.Pieces.pieces c.args.pieces.now) _ _ c.requires.plan
     (omega (arith, total, c.total-total.ensures.total, c.total-total.ensures.fits.total_in_range))
     (c.in_ok-summaries.ensures.summaries known) refused)
 
 pub returns-in-Ok-clause-summary : goal.returns-in-Ok-clause-summary
 returns-in-Ok-clause-summary g c = λ known.
-    let pieces = g.P.Pieces.pieces c.args.context.now.pieces.now in
+    let lists = g.P.Pieces.pieces c.args.pieces.now in
     let by = c.in-Ok.ensures in
     let of : IsMergeOf c.args.plan.now c.in_ok-summaries.summaries.items c.in-Ok.summary =
     record { same_k = by.k; total = by.total; counters = by.counters; honest = by.honest } in
-    merged_is c.misra_gries_is_honest.ensures _ _ pieces (whole_of pieces) _ _ c.requires.some refl
+    merged_is c.misra_gries_is_honest.ensures _ _ lists (whole_of lists) _ _ c.requires.some refl
     (c.in_ok-summaries.ensures.summaries known) of

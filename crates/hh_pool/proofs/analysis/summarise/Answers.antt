@@ -9,9 +9,9 @@ use Rattle.hh_pool.proofs.analysis.summarise.Goals as goal
 
 pub in_order-requires : goal.in_order-requires
 in_order-requires g c known =
-    let pieces = g.P.Pieces.pieces c.args.context.now.pieces.now in
+    let lists = g.P.Pieces.pieces c.args.pieces.now in
     let shared = rw c.in-Some.is at c.in_ok-cells.ensures.done in
-    each_summary c.args.options.now.k pieces shared.seat.claims _ (shared.done.1 known).0.summaries shared.each
+    each_summary c.args.options.now.k lists shared.seat.claims _ (shared.done.1 known).0.summaries shared.each
 
 -- how many cells the sums have
 cells-of : (settings : Settings) {cells depth width : ℕ} {family : Coefficients} → cells ≡ depth * width
@@ -21,23 +21,23 @@ cells-of settings e d f w = e ∙ (λ i. (d ∙ ap (λ (f : Coefficients). lengt
 
 pub returns-in_err-table_of_cells-in-Some-clause-refused : goal.returns-in_err-table_of_cells-in-Some-clause-refused
 returns-in_err-table_of_cells-in-Some-clause-refused g c is known =
-    let pieces = g.P.Pieces.pieces c.args.context.now.pieces.now in
+    let lists = g.P.Pieces.pieces c.args.pieces.now in
     let options = c.args.options.now in
     let shared = rw c.in-Some.is at c.in_ok-cells.ensures.done in
     let done = shared.done.1 known in
     let size = cells-of options shared.len c.depth.ensures.depth c.family.ensures.family c.width.ensures.width in
-    let parts = closed_table c.cells_are_cell_sums.ensures _ pieces options shared.seat _ _ c.in-Some.cells.items done
+    let parts = closed_table c.cells_are_cell_sums.ensures _ lists options shared.seat _ _ c.in-Some.cells.items done
     shared.each size (λ cell inside. shared.sums cell (omega (arith, inside, shared.len, size))) in
     let refused : IsErrOf c.table_of_cells.result fault.Refused = search rules in
-    absurd (c.table_of_cells.ensures.refused refused (whole_of pieces) parts.0 done.1.bounded parts.1)
+    absurd (c.table_of_cells.ensures.refused refused (whole_of lists) parts.0 done.1.bounded parts.1)
 
 pub returns-in_ok-table_of_cells-in-Some-clause-table : goal.returns-in_ok-table_of_cells-in-Some-clause-table
 returns-in_ok-table_of_cells-in-Some-clause-table g c = λ known.
-    let pieces = g.P.Pieces.pieces c.args.context.now.pieces.now in
+    let lists = g.P.Pieces.pieces c.args.pieces.now in
     let options = c.args.options.now in
     let shared = rw c.in-Some.is at c.in_ok-cells.ensures.done in
     let size = cells-of options shared.len c.depth.ensures.depth c.family.ensures.family c.width.ensures.width in
-    let parts = closed_table c.cells_are_cell_sums.ensures _ pieces options shared.seat _ _ c.in-Some.cells.items
+    let parts = closed_table c.cells_are_cell_sums.ensures _ lists options shared.seat _ _ c.in-Some.cells.items
     (shared.done.1 known) shared.each size (λ cell inside. shared.sums cell (omega (arith, inside, shared.len, size))) in
     c.in_ok-table_of_cells-in-Some.ensures.table ∙ (λ i. record {
       family = options.family;
@@ -48,9 +48,9 @@ returns-in_ok-table_of_cells-in-Some-clause-table g c = λ known.
 
 pub returns-in_ok-table_of_cells-in-Some-clause-count : goal.returns-in_ok-table_of_cells-in-Some-clause-count
 returns-in_ok-table_of_cells-in-Some-clause-count g c =
-    let pieces = g.P.Pieces.pieces c.args.context.now.pieces.now in
+    let lists = g.P.Pieces.pieces c.args.pieces.now in
     let shared = rw c.in-Some.is at c.in_ok-cells.ensures.done in
-    let all = all-length (length pieces) shared.seat.claims shared.each.distinct shared.each.all in
+    let all = all-length (length lists) shared.seat.claims shared.each.distinct shared.each.all in
     omega (arith, all, c.in_ok-summaries-in-Some.ensures.count, shared.done.0)
 
 pub returns-in_err-cells-clause-count : goal.returns-in_err-cells-clause-count

@@ -30,7 +30,7 @@ loop-summary-preserved g c =
 pub returns-clause-summaries : goal.returns-clause-summaries
 returns-clause-summaries g c = λ known.
     let k = c.args.self.now.options.now.k in
-    let pieces = g.P.Pieces.pieces c.args.self.now.context.now.pieces.now in
+    let lists = g.P.Pieces.pieces c.args.self.now.pieces.now in
     let ours = c.requires known in
     let none = nil_from_length c.loop-summary.summary-iterator.rest.items
     (omega (arith, c.in-None.ensures.steps.0, c.loop-summary.summary-iterator.rest.ok)) in
@@ -39,8 +39,8 @@ returns-clause-summaries g c = λ known.
     let taken = c.loop-summary.summaries.items in
     sym (c.loop-summary.invariant ∙ (ap (λ found. taken ++ alone found) none ∙ append-nil taken))
     ∙ (ap alone c.into_iter-summary-iterator.ensures.into_iter_gives.0
-    ∙ (ordered (λ i. sketch_of k (piece_of pieces i)) (length pieces) c.args.found.items _ ours.theirs ours.distinct ours.all
-    c.sort_unstable_by.ensures.permutation sorted ∙ by_number k pieces))
+    ∙ (ordered (λ i. sketch_of k (piece_of lists i)) (length lists) c.args.found.items _ ours.theirs ours.distinct ours.all
+    c.sort_unstable_by.ensures.permutation sorted ∙ by_number k lists))
 
 pub returns-clause-count : goal.returns-clause-count
 returns-clause-count g c =

@@ -6,20 +6,20 @@ use Rattle.hh_pool.proofs.first.FirstPass.sequential.Goals as goal
 
 pub in_order-requires : goal.in_order-requires
 in_order-requires g c known =
-    let pieces = g.P.Pieces.pieces c.args.self.now.context.now.pieces.now in
+    let lists = g.P.Pieces.pieces c.args.self.now.pieces.now in
     let (numbers, each, made) = c.in_ok-summaries.ensures.made in
-    each_summary c.args.self.now.options.now.k pieces numbers _ (made.1 known).summaries each
+    each_summary c.args.self.now.options.now.k lists numbers _ (made.1 known).summaries each
 
 pub returns-clause-count : goal.returns-clause-count
 returns-clause-count g c =
-    let pieces = g.P.Pieces.pieces c.args.self.now.context.now.pieces.now in
+    let lists = g.P.Pieces.pieces c.args.self.now.pieces.now in
     let (numbers, each, made) = c.in_ok-summaries.ensures.made in
-    let all = all-length (length pieces) numbers each.distinct each.all in
+    let all = all-length (length lists) numbers each.distinct each.all in
     omega (arith, all, made.0.one_each, c.in_ok-in_order.ensures.count)
 
 pub returns-clause-table : goal.returns-clause-table
 returns-clause-table g c = λ known.
-    let pieces = g.P.Pieces.pieces c.args.self.now.context.now.pieces.now in
+    let lists = g.P.Pieces.pieces c.args.self.now.pieces.now in
     let options = c.args.self.now.options.now in
     let (numbers, each, made) = c.in_ok-summaries.ensures.made in
-    (made.1 known).table ∙ whole_table pieces options.family options.width numbers each
+    (made.1 known).table ∙ whole_table lists options.family options.width numbers each

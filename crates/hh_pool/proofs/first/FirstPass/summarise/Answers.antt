@@ -21,7 +21,7 @@ returns-clause-summarised g c =
     let all = follows monitor_with (monitor_of k) (λ xs e. sym ((law k xs e).1)) [] piece in
     let monitor = ap (λ (s : Sketches). s.monitor) taken ∙ (ap (λ m. fold monitor_with m piece) begins ∙ all) in
     let last = c.feed.new.taker in
-    let pieces = c.args.self.now.context.now.pieces.now in
+    let pieces = c.args.self.now.pieces.now in
     IfOk-weaker _ (λ (r : SummaryView × TableView). (r.0 ≡ translation_of last.monitor) × (r.1 ≡ last.table))
     (λ (r : SummaryView × TableView). IsSummarised (λ (xs : List Entry). g.P.Pieces.known pieces → xs ≡ piece_of (g.P.Pieces.pieces pieces) c.args.piece)
     k r.0 c.args.table r.1) (λ r parts. record {

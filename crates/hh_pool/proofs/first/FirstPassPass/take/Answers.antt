@@ -10,12 +10,12 @@ use Rattle.hh_pool.proofs.first.FirstPassPass.take.Goals as goal
 
 pub returns-in_err-summary-clause-refused : goal.returns-in_err-summary-clause-refused
 returns-in_err-summary-clause-refused g c is numbers distinct made known =
-    let context = c.args.self.now.context.now.pieces.now in
-    let pieces = g.P.Pieces.pieces context in
+    let pieces = c.args.self.now.pieces.now in
+    let lists = g.P.Pieces.pieces pieces in
     let total = ap (λ (t : TableView). t.total) (made.1 known).table in
     let refused : IsErrOf c.summarise.result fault.Refused = search rules in
-    next_refused (g.P.Pieces.refuses context) pieces c.args.piece (total_of (items_at pieces numbers)) c.args.made.table.total
-    c.requires (more_total pieces numbers c.args.piece distinct) (omega (arith, total))
+    next_refused (g.P.Pieces.refuses pieces) lists c.args.piece (total_of (items_at lists numbers)) c.args.made.table.total
+    c.requires (more_total lists numbers c.args.piece distinct) (omega (arith, total))
     (c.summarise.ensures.refused refused known)
 
 pub returns-clause-more : goal.returns-clause-more
@@ -23,16 +23,16 @@ returns-clause-more g c numbers distinct made =
     let summarised = c.in_ok-summary.ensures.summarised in (
       holds_more _ _ _ _ _ _ _ _ _ c.in-Ok.ensures.items made.0 summarised,
       λ known.
-          let context = c.args.self.now.context.now.pieces.now in
-          let pieces = g.P.Pieces.pieces context in
+          let pieces = c.args.self.now.pieces.now in
+          let lists = g.P.Pieces.pieces pieces in
           let options = c.args.self.now.options.now in
-          let before = items_at pieces numbers in
+          let before = items_at lists numbers in
           let kept = c.in-Ok.ensures.items
           ∙ ap (λ s. c.args.made.summaries.items ++ (c.args.piece, s) ∷ [])
           (summarised.summary ∙ ap (sketch_of options.k) (summarised.given known)) in
           let table = summarised.table options.family options.width before (made.1 known).table
           ∙ ap (λ xs. table_of options.family options.width (before ++ xs)) (summarised.given known) in
-          first_more (g.P.Pieces.reads context) pieces options numbers c.args.piece _ _ _ _ (c.in_ok-summary.ensures.reads known)
+          first_more (g.P.Pieces.reads pieces) lists options numbers c.args.piece _ _ _ _ (c.in_ok-summary.ensures.reads known)
           kept table (made.1 known),
     )
 

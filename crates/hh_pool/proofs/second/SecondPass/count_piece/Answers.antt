@@ -7,13 +7,13 @@ use Rattle.hh_pool.proofs.second.SecondPass.count_piece.Goals as goal
 
 pub returns-then-is_empty-clause-counted : goal.returns-then-is_empty-clause-counted
 returns-then-is_empty-clause-counted g c =
-    let pieces = g.P.Pieces.pieces c.args.self.now.context.now.pieces.now in
+    let lists = g.P.Pieces.pieces c.args.self.now.pieces.now in
     let keys = c.args.self.now.candidates.now in
     let none : length keys ≡ 0 = grind (arith, nat_tests) in
     record {
-      xs = piece_of pieces c.args.piece;
+      xs = piece_of lists c.args.piece;
       given = λ known. refl;
-      on = λ ys p. still_counted keys ys (piece_of pieces c.args.piece) c.args.counts.now none p;
+      on = λ ys p. still_counted keys ys (piece_of lists c.args.piece) c.args.counts.now none p;
     }
 
 pub returns-clause-counted : goal.returns-clause-counted

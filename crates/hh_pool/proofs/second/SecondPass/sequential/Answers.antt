@@ -6,13 +6,13 @@ use Rattle.hh_pool.proofs.second.SecondPass.sequential.Goals as goal
 
 pub returns-clause-weights : goal.returns-clause-weights
 returns-clause-weights g c = λ known.
-    let pieces = g.P.Pieces.pieces c.args.self.now.context.now.pieces.now in
+    let lists = g.P.Pieces.pieces c.args.self.now.pieces.now in
     let (numbers, each, made) = c.in_ok-counts.ensures.made in
-    c.into_weights.ensures ∙ ((made.1 known).weights ∙ whole_weights pieces c.args.self.now.candidates.now numbers each)
+    c.into_weights.ensures ∙ ((made.1 known).weights ∙ whole_weights lists c.args.self.now.candidates.now numbers each)
 
 pub returns-clause-total : goal.returns-clause-total
 returns-clause-total g c = λ known some.
-    let pieces = g.P.Pieces.pieces c.args.self.now.context.now.pieces.now in
+    let lists = g.P.Pieces.pieces c.args.self.now.pieces.now in
     let (numbers, each, made) = c.in_ok-counts.ensures.made in
     c.total-total.ensures.total ∙ ((made.1 known).whole some
-    ∙ sum_by-all_items (λ (e : Entry). e.1) pieces numbers each.distinct each.all)
+    ∙ sum_by-all_items (λ (e : Entry). e.1) lists numbers each.distinct each.all)

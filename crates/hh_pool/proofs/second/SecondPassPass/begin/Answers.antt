@@ -11,5 +11,5 @@ returns g c =
     let keys = c.args.self.now.candidates.now in
     IfOk-weaker _ (λ (counts : Count). counts ≡ count_of keys [])
     (λ counts. HasCounted keys [] counts
-    × (g.P.Pieces.known c.args.self.now.context.now.pieces.now → AreCounted keys [] counts))
+    × (g.P.Pieces.known c.args.self.now.pieces.now → AreCounted keys [] counts))
     (λ counts is. (counted_begins keys counts is, λ known. none_counted keys counts is)) c.new.ensures

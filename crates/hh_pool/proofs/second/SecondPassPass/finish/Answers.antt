@@ -11,17 +11,17 @@ add_numbers-requires-clause-holds_a_claim g c cell some =
 
 pub returns-clause-done : goal.returns-clause-done
 returns-clause-done g c =
-    let pieces = g.P.Pieces.pieces c.args.self.now.context.now.pieces.now in
+    let lists = g.P.Pieces.pieces c.args.self.now.pieces.now in
     let keys = c.args.self.now.candidates.now in
     let seat = c.args.seat.now in
     let unchanged = c.add_numbers.ensures.unchanged in (
       c.total-total.ensures.bounded,
       λ known.
           let made = c.requires.made.1 known in (
-            second_ends pieces keys seat _ c.args.made unchanged
+            second_ends lists keys seat _ c.args.made unchanged
                 (λ cell. c.add_numbers.ensures.added cell
                 ∙ ap (λ xs. cell_total cell seat.adds + get_or xs cell 0) (c.deref.ensures.value ∙ c.into_weights.ensures))
                 c.requires.tried made,
-            second_counted pieces keys seat _ c.args.made _ unchanged c.requires.tried.distinct made c.total-total.ensures.total,
+            second_counted lists keys seat _ c.args.made _ unchanged c.requires.tried.distinct made c.total-total.ensures.total,
           ),
     )

@@ -8,18 +8,18 @@ use Rattle.hh_pool.proofs.second.SecondPassPass.take.Goals as goal
 
 pub returns-in_err-count_piece-clause-refused : goal.returns-in_err-count_piece-clause-refused
 returns-in_err-count_piece-clause-refused g c is numbers distinct made known =
-    let context = c.args.self.now.context.now.pieces.now in
-    let pieces = g.P.Pieces.pieces context in
+    let pieces = c.args.self.now.pieces.now in
+    let lists = g.P.Pieces.pieces pieces in
     let refused : IsErrOf c.count_piece.result fault.Refused = search rules in
-    next_refused (g.P.Pieces.refuses context) pieces c.args.piece (total_of (items_at pieces numbers)) c.args.made.total
-    c.requires (more_total pieces numbers c.args.piece distinct) (made.1 known).total
+    next_refused (g.P.Pieces.refuses pieces) lists c.args.piece (total_of (items_at lists numbers)) c.args.made.total
+    c.requires (more_total lists numbers c.args.piece distinct) (made.1 known).total
     (c.count_piece.ensures.refused refused known)
 
 pub returns-clause-more : goal.returns-clause-more
 returns-clause-more g c numbers distinct made =
-    let pieces = g.P.Pieces.pieces c.args.self.now.context.now.pieces.now in
+    let lists = g.P.Pieces.pieces c.args.self.now.pieces.now in
     let counted = c.in_ok-count_piece.ensures.counted in (
       counted_more _ _ _ _ _ _ made.0 counted,
-      λ known. second_more pieces c.args.self.now.candidates.now numbers c.args.piece _
+      λ known. second_more lists c.args.self.now.candidates.now numbers c.args.piece _
           (counted_known _ _ _ _ _ _ counted (counted.given known) (made.1 known)),
     )

@@ -16,8 +16,8 @@ returns-clause-both g c a b apart p q =
       ap (λ (t : TallyView). t.room) is ∙ p.0,
       some_joined c.tallies_bound_weights.ensures.merge c.args.one c.args.other c.in_ok-both.both is p.1 q.1,
       λ known.
-          let context = c.args.self.now.context.now.pieces.now in
-          tally_joined (g.P.Pieces.reads context) (g.P.Pieces.pieces context) c.tallies_bound_weights.ensures.merge
+          let pieces = c.args.self.now.pieces.now in
+          tally_joined (g.P.Pieces.reads pieces) (g.P.Pieces.pieces pieces) c.tallies_bound_weights.ensures.merge
           a.claims b.claims c.args.one c.args.other c.in_ok-both.both is
           (omega (
             arith,

@@ -8,11 +8,11 @@ use Rattle.hh_pool.proofs.tallying.TallyPassPass.take.Goals as goal
 
 pub returns-in_err-take_piece-clause-refused : goal.returns-in_err-take_piece-clause-refused
 returns-in_err-take_piece-clause-refused g c is numbers distinct made known =
-    let context = c.args.self.now.context.now.pieces.now in
-    let pieces = g.P.Pieces.pieces context in
+    let pieces = c.args.self.now.pieces.now in
+    let lists = g.P.Pieces.pieces pieces in
     let refused : IsErrOf c.take_piece.result fault.Refused = search rules in
-    next_refused (g.P.Pieces.refuses context) pieces c.args.piece (total_of (items_at pieces numbers)) c.args.made.total
-    c.requires (more_total pieces numbers c.args.piece distinct) (omega (arith, (made.2 known).bounds.counted))
+    next_refused (g.P.Pieces.refuses pieces) lists c.args.piece (total_of (items_at lists numbers)) c.args.made.total
+    c.requires (more_total lists numbers c.args.piece distinct) (omega (arith, (made.2 known).bounds.counted))
     (c.take_piece.ensures.refused refused known)
 
 pub returns-clause-more : goal.returns-clause-more
@@ -21,8 +21,8 @@ returns-clause-more g c numbers distinct made =
       taken.room ∙ made.0,
       some_more _ _ taken made.1,
       λ known.
-          let context = c.args.self.now.context.now.pieces.now in
-          tally_more (g.P.Pieces.reads context) (g.P.Pieces.pieces context) numbers c.args.piece c.args.made _
+          let pieces = c.args.self.now.pieces.now in
+          tally_more (g.P.Pieces.reads pieces) (g.P.Pieces.pieces pieces) numbers c.args.piece c.args.made _
           (tallied_known known _ _ _ taken) distinct (c.in_ok-take_piece.ensures.reads known)
           (omega (arith, c.total-total.ensures.total, c.total-total.ensures.bounded)) (made.2 known),
     )
