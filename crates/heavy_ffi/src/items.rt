@@ -1,7 +1,8 @@
 //! Items whose keys lie in one slice, one after the other.
 
-ghost use Rattle.std.specs.Prelude.{◌≡◌, ℕ, List, map, length, None, IfErr, IfOk};
+ghost use Rattle.std.specs.Prelude.{◌≡◌, ℕ, List, length, None, IfErr, IfOk};
 ghost use Rattle.hh_stream.specs.Weights.{Entry};
+ghost use Rattle.hh_library.specs.Add.{entries};
 ghost use Rattle.hh_commands.specs.Files.{Refuses, StopsAtHead, file_of};
 ghost use Rattle.hh_faults.specs.declared.error.ToolError.{ToolError};
 ghost use Rattle.heavy_ffi.specs.Items.{AnswersItems, bad_end, items_of, shape_fault};
@@ -20,8 +21,7 @@ fn items_of<'a>(
     ends: &[u64],
     weights: &[u64],
 ) -> Result<Vec<(&'a [u8], u64)>, AllocError>
-    ensures { IfOk result (λ items. map (λ item. (item.0.now, item.1)) items.items
-        ≡ items_of keys.now ends.now weights.now) }
+    ensures { IfOk result (λ items. entries items.items ≡ items_of keys.now ends.now weights.now) }
 {
     let mut items: Vec<(&[u8], u64)> = Vec::with_capacity(alloc, ends.len())?;
     let mut from = 0;
@@ -94,10 +94,8 @@ pub(crate) trait ItemsCall: Drop {
         file: &[u8],
         items: &[(&[u8], u64)],
     ) -> Result<Vec<u8>, ToolError>
-        ensures given { IfOk result (λ bytes. gives self file.now
-            (map (λ item. (item.0.now, item.1)) items.now) bytes.items) }
-        ensures refused { IfErr result (refuses self file.now
-            (map (λ item. (item.0.now, item.1)) items.now)) }
+        ensures given { IfOk result (λ bytes. gives self file.now (entries items.now) bytes.items) }
+        ensures refused { IfErr result (refuses self file.now (entries items.now)) }
         ensures early { StopsAtHead 1 file.now result };
 
     // the file is tested before the items

@@ -1,5 +1,6 @@
 -- Items, added to a saved summary or table.
-use Rattle.std.specs.Prelude.{◌≡◌, ◌==◌, ◌+◌, not, nat_le, ℕ, List, [], ◌∷◌, ◌++◌, length, fold, Option, Some, None, Result, Ok, if◌then◌else◌}
+use Rattle.std.specs.Prelude.{◌≡◌, ◌==◌, ◌+◌, not, nat_le, ℕ, List, [], ◌∷◌, ◌++◌, length, fold, map, Option, Some, None, Result, Ok, if◌then◌else◌}
+use Rattle.std.specs.Borrow.{Bor}
 use Rattle.hh_stream.specs.Weights.{Entry, max_key_len, max_total}
 use Rattle.hh_summaries.specs.Counters.{SummaryView, sketch_of, sketch_with}
 use Rattle.hh_countmin.specs.Family.{Coefficients, drawn_family}
@@ -15,6 +16,10 @@ use Rattle.hh_commands.specs.Summarise.{bad_k}
 use Rattle.hh_commands.specs.Table.{bad_table}
 use Rattle.hh_faults.specs.declared.error.ToolError.{ToolError}
 use Rattle.hh_faults.specs.declared.error.ToolError.TheVariants as tool
+
+-- items whose keys are lent
+abbrev pub entries : List (Bor (List ℕ) × ℕ) → List Entry
+entries items = map (λ item. (item.0.now, item.1)) items
 
 -- what is wrong with item n, after a total of t: the first of its key's length, its weight, and the total
 abbrev pub item_fault : ℕ → ℕ → Entry → Option ToolError

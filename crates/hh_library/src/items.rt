@@ -1,10 +1,10 @@
 //! Items in memory: what is wrong with one, and the keys of a summary counted in them.
 
-ghost use Rattle.std.specs.Prelude.{◌≡◌, ◌≤◌, ◌<◌, ◌+◌, None, IfOk, IfErr, map};
+ghost use Rattle.std.specs.Prelude.{◌≡◌, ◌≤◌, ◌<◌, ◌+◌, None, IfOk, IfErr};
 ghost use Rattle.std.specs.Map.{keys_of};
 ghost use Rattle.hh_stream.specs.Weights.{max_total};
 ghost use Rattle.hh_summaries.specs.Counters.{IsCounters};
-ghost use Rattle.hh_library.specs.Add.{bad_item, item_fault};
+ghost use Rattle.hh_library.specs.Add.{bad_item, item_fault, entries};
 ghost use Rattle.hh_commands.specs.Ask.{unless};
 ghost use Rattle.hh_commands.specs.Files.{Refuses};
 ghost use Rattle.hh_commands.specs.Records.{IsCountOf};
@@ -43,13 +43,12 @@ pub(crate) fn count_items(
     items: &[(&[u8], u64)],
     hash: KeyHash,
 ) -> Result<Counts, ToolError>
-    ensures passes { IfOk result (λ counts.
-        bad_item 1 0 (map (λ item. (item.0.now, item.1)) items.now) ≡ None) }
-    ensures counts { IfOk result (λ counts. IsCountOf (keys_of summary.now.counters)
-        (map (λ item. (item.0.now, item.1)) items.now) counts) }
+    ensures passes { IfOk result (λ counts. bad_item 1 0 (entries items.now) ≡ None) }
+    ensures counts { IfOk result
+        (IsCountOf (keys_of summary.now.counters) (entries items.now)) }
     ensures counters { IfOk result (λ counts. IsCounters summary.now.counters) }
     ensures refused { IfErr result (Refuses
-        (unless (bad_item 1 0 (map (λ item. (item.0.now, item.1)) items.now)) summary.now)) }
+        (unless (bad_item 1 0 (entries items.now)) summary.now)) }
 {
     counts_follow_items();
     let mut counts = Counts::with_hasher(alloc, summary, hash)?;

@@ -1,7 +1,7 @@
 //! Summaries that begin empty, and saved files that grow by items.
 
-ghost use Rattle.std.specs.Prelude.{◌≡◌, IfErr, IfOk, IfSome, OnOk, Ok, Err, map};
-ghost use Rattle.hh_library.specs.Add.{AddsItems, GoesOn, IsAdded, IsEmpty, TableGoesOn};
+ghost use Rattle.std.specs.Prelude.{◌≡◌, IfErr, IfOk, IfSome, OnOk, Ok, Err};
+ghost use Rattle.hh_library.specs.Add.{AddsItems, GoesOn, IsAdded, IsEmpty, TableGoesOn, entries};
 ghost use Rattle.hh_library.specs.Add.{added, added_to, empty_of};
 ghost use Rattle.hh_commands.specs.Files.{Refuses, StopsAtHead};
 ghost use Rattle.hh_commands.specs.Summarise.{bad_k};
@@ -32,10 +32,8 @@ pub fn empty_summary(alloc: Global, k: u64) -> Result<Vec<u8>, ToolError>
 
 /// Adds items in order, numbered from 1.
 fn add_all(alloc: Global, value: &mut Accumulator, items: &[(&[u8], u64)]) -> Result<(), ToolError>
-    ensures added { OnOk result
-        (added_to value.old (map (λ item. (item.0.now, item.1)) items.now) ≡ Ok value.new) }
-    ensures refused { IfErr result (Refuses
-        (added_to value.old (map (λ item. (item.0.now, item.1)) items.now))) }
+    ensures added { OnOk result (added_to value.old (entries items.now) ≡ Ok value.new) }
+    ensures refused { IfErr result (Refuses (added_to value.old (entries items.now))) }
 {
     for i in 0..items.len() {
         let (key, weight) = items[i];
@@ -53,14 +51,10 @@ fn add_all(alloc: Global, value: &mut Accumulator, items: &[(&[u8], u64)]) -> Re
 /// numbered from 1 ([`ToolError::BadRecord`]): a key has 1 to 4,096 bytes, a weight is at least 1,
 /// and the total at most 2^63 - 1.
 pub fn add_items(alloc: Global, file: &[u8], items: &[(&[u8], u64)]) -> Result<Vec<u8>, ToolError>
-    ensures saved { IfOk result (λ bytes.
-        IsAdded file.now (map (λ item. (item.0.now, item.1)) items.now) bytes.items) }
-    ensures stream { IfOk result (λ bytes.
-        GoesOn file.now (map (λ item. (item.0.now, item.1)) items.now) bytes.items) }
-    ensures table { IfOk result (λ bytes.
-        TableGoesOn file.now (map (λ item. (item.0.now, item.1)) items.now) bytes.items) }
-    ensures refused { IfErr result (Refuses
-        (added file.now (map (λ item. (item.0.now, item.1)) items.now))) }
+    ensures saved { IfOk result (λ bytes. IsAdded file.now (entries items.now) bytes.items) }
+    ensures stream { IfOk result (λ bytes. GoesOn file.now (entries items.now) bytes.items) }
+    ensures table { IfOk result (λ bytes. TableGoesOn file.now (entries items.now) bytes.items) }
+    ensures refused { IfErr result (Refuses (added file.now (entries items.now))) }
     ensures early { StopsAtHead 1 file.now result }
 {
     add_items_by(alloc, file, items, KeyHash::fixed())
@@ -74,10 +68,8 @@ pub fn add_items_by(
     items: &[(&[u8], u64)],
     hash: KeyHash,
 ) -> Result<Vec<u8>, ToolError>
-    ensures saved { IfOk result (λ bytes.
-        AddsItems file.now (map (λ item. (item.0.now, item.1)) items.now) bytes.items) }
-    ensures refused { IfErr result (Refuses
-        (added file.now (map (λ item. (item.0.now, item.1)) items.now))) }
+    ensures saved { IfOk result (λ bytes. AddsItems file.now (entries items.now) bytes.items) }
+    ensures refused { IfErr result (Refuses (added file.now (entries items.now))) }
     ensures early { StopsAtHead 1 file.now result }
 {
     summaries_follow_items();

@@ -1,8 +1,8 @@
 //! Saved files that grow by the records of a text.
 
-ghost use Rattle.std.specs.Prelude.{◌≡◌, IfErr, IfOk, Ok, OnOk, map};
+ghost use Rattle.std.specs.Prelude.{◌≡◌, IfErr, IfOk, Ok, OnOk};
 ghost use Rattle.hh_saved.specs.declared.saved.Saved.{Saved};
-ghost use Rattle.hh_library.specs.Add.{AddsItems, added};
+ghost use Rattle.hh_library.specs.Add.{AddsItems, added, entries};
 ghost use Rattle.hh_library.specs.AddText.{AddTextRefused, AddsText};
 ghost use Rattle.hh_commands.specs.Files.{Refuses, StopsAtHead, file_of};
 
@@ -30,8 +30,7 @@ pub(crate) fn items_in<'a>(
     alloc: Global,
     stream: &'a Stream,
 ) -> Result<Vec<(&'a [u8], u64)>, AllocError>
-    ensures { IfOk result (λ items.
-        map (λ item. (item.0.now, item.1)) items.items ≡ stream.now) }
+    ensures { IfOk result (λ items. entries items.items ≡ stream.now) }
 {
     let mut items: Vec<(&[u8], u64)> = Vec::new(alloc);
     for item in stream.items() {

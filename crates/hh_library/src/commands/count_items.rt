@@ -1,11 +1,12 @@
 //! Items in memory, condensed and confirmed by a saved summary.
 
-ghost use Rattle.std.specs.Prelude.{◌≡◌, ◌*◌, ◌+◌, ◌≤◌, Ok, Some, true, IfOk, IfErr, IfSome, map};
+ghost use Rattle.std.specs.Prelude.{◌≡◌, ◌*◌, ◌+◌, ◌≤◌, Ok, Some, true, IfOk, IfErr, IfSome};
 ghost use Rattle.hh_summaries.specs.Counters.{max_k};
 ghost use Rattle.hh_summaries.specs.Report.{IsShare};
 ghost use Rattle.hh_stream.specs.Ranges.{in_range};
 ghost use Rattle.hh_library.specs.CountItems.{condensed_in, condensed_items};
 ghost use Rattle.hh_library.specs.CountItems.{confirmed_in, confirmed_items, share_or_least};
+ghost use Rattle.hh_library.specs.Add.{entries};
 ghost use Rattle.hh_commands.specs.Files.{Refuses, StopsAtHead};
 
 use crate::commands::confirm::counted_text;
@@ -32,9 +33,8 @@ pub fn condense_items(
     hash: KeyHash,
 ) -> Result<Vec<u8>, ToolError>
     ensures rows { IfOk result (λ rows.
-        condensed_items file.now (map (λ item. (item.0.now, item.1)) items.now) ≡ Ok rows.items) }
-    ensures refused { IfErr result (Refuses
-        (condensed_items file.now (map (λ item. (item.0.now, item.1)) items.now))) }
+        condensed_items file.now (entries items.now) ≡ Ok rows.items) }
+    ensures refused { IfErr result (Refuses (condensed_items file.now (entries items.now))) }
     ensures early { StopsAtHead 1 file.now result }
 {
     let summary = summary_in(alloc, file)?;
@@ -48,10 +48,9 @@ fn condensed_items_text(
     items: &[(&[u8], u64)],
     hash: KeyHash,
 ) -> Result<Vec<u8>, ToolError>
-    ensures rows { IfOk result (λ rows. condensed_in summary.now
-        (map (λ item. (item.0.now, item.1)) items.now) ≡ Ok rows.items) }
-    ensures refused { IfErr result (Refuses (condensed_in summary.now
-        (map (λ item. (item.0.now, item.1)) items.now))) }
+    ensures rows { IfOk result (λ rows.
+        condensed_in summary.now (entries items.now) ≡ Ok rows.items) }
+    ensures refused { IfErr result (Refuses (condensed_in summary.now (entries items.now))) }
 {
     let counts = count_items(alloc, summary, items, hash)?;
     Ok(condensed_counts(alloc, summary, &counts, 0)?)
@@ -85,10 +84,10 @@ fn confirmed_items_text(
     hash: KeyHash,
 ) -> Result<Vec<u8>, ToolError>
     requires { IsShare share.0 share.1 }
-    ensures rows { IfOk result (λ rows. confirmed_in summary.now (Some share)
-        (map (λ item. (item.0.now, item.1)) items.now) ≡ Ok rows.items) }
-    ensures refused { IfErr result (Refuses (confirmed_in summary.now (Some share)
-        (map (λ item. (item.0.now, item.1)) items.now))) }
+    ensures rows { IfOk result (λ rows.
+        confirmed_in summary.now (Some share) (entries items.now) ≡ Ok rows.items) }
+    ensures refused { IfErr result (Refuses
+        (confirmed_in summary.now (Some share) (entries items.now))) }
 {
     let counts = count_items(alloc, summary, items, hash)?;
     counted_text(alloc, summary, share, &counts)
@@ -108,10 +107,10 @@ pub fn confirm_items(
     items: &[(&[u8], u64)],
     hash: KeyHash,
 ) -> Result<Vec<u8>, ToolError>
-    ensures rows { IfOk result (λ rows. confirmed_items share file.now
-        (map (λ item. (item.0.now, item.1)) items.now) ≡ Ok rows.items) }
-    ensures refused { IfErr result (Refuses (confirmed_items share file.now
-        (map (λ item. (item.0.now, item.1)) items.now))) }
+    ensures rows { IfOk result (λ rows.
+        confirmed_items share file.now (entries items.now) ≡ Ok rows.items) }
+    ensures refused { IfErr result (Refuses
+        (confirmed_items share file.now (entries items.now))) }
     ensures early { StopsAtHead 1 file.now result }
 {
     let summary = summary_in(alloc, file)?;
