@@ -12,7 +12,7 @@ pub use hh_commands::{
 };
 pub use hh_counters::Heavy;
 pub use hh_faults::{
-    BadRecordCause, KeyCause, MergeCause, ReadError, ToolError, Totals, TreeFault, WriteFault,
+    BadRecordCause, KeyCause, MergeCause, TextError, ToolError, Totals, TreeFault, WriteFault,
 };
 pub use hh_files::{condense_files, confirm_files, report_files, summarise_files, table_files};
 pub use hh_library::{

@@ -32,7 +32,7 @@ use hh_commands::{Method, describe_file};
 use hh_counters::Heavy;
 use hh_counters::laws::counters_bound_weights;
 use hh_countmin::Table;
-use hh_faults::{ReadError, SavedFault, TextError, ToolError};
+use hh_faults::{SavedFault, TextError, ToolError};
 use hh_files::table_files;
 use hh_json::members;
 use hh_library::{add_items, summary_bytes};
@@ -129,7 +129,7 @@ pub fn client_and_bytes(alloc: Global, line: &[u8]) -> Result<ByteRecord, AllocE
 }
 
 /// The total weight of the records of a reader.
-pub fn total_of_records<R: Read + Drop>(alloc: Global, reader: R) -> Result<u64, ReadError>
+pub fn total_of_records<R: Read + Drop>(alloc: Global, reader: R) -> Result<u64, TextError>
     ensures { IfOk result (λ total. (xs : List Entry)
         × ReadsAs (text_known (R.remaining reader)) (Ok xs)
         × (total ≡ total_of xs)) }

@@ -1,7 +1,7 @@
 //! The texts of the libraries' own faults; those of the program are shown by runs of it.
 
 use crate::fixtures::assert_same;
-use heavy::{BadRecordCause, ConfirmFault, ReadError, ReportFault, SinkFault, WriteFault};
+use heavy::{BadRecordCause, ConfirmFault, ReportFault, SinkFault, TextError, WriteFault};
 use hh_counters::{AddFault, BadK, MergeFault, NewFault, OfItemsFault};
 use hh_countmin::{DrawFault, PartsFault, TableFault, TotalTooLarge};
 use hh_pool::{OptionsFault, PlanFault, RunError};
@@ -156,16 +156,17 @@ fn faults_of_analyses(rt: HostRuntime) {
     tell(&rt, &RUNS);
 }
 
-const READS: [(ReadError, &str); 3] = [
-    (ReadError::ReadFault, "input could not be read"),
+const READS: [(TextError, &str); 4] = [
+    (TextError::ReadFault, "input could not be read"),
+    (TextError::NoColumn, "no such column"),
     (
-        ReadError::BadRecord {
+        TextError::BadRecord {
             number: 7,
             cause: BadRecordCause::ZeroWeight,
         },
         "record 7: zero weight",
     ),
-    (ReadError::Memory, MEMORY),
+    (TextError::Memory, MEMORY),
 ];
 
 const SINKS: [(SinkFault, &str); 1] = [(SinkFault, "the sink could not do what it was asked")];

@@ -1,11 +1,11 @@
 //! What stops a command, with its text and its exit status.
 
 ghost use Rattle.std.specs.Prelude.{◌≡◌};
-ghost use Rattle.hh_faults.specs.Faults.{read_fault, text_fault};
+ghost use Rattle.hh_faults.specs.Faults.{text_fault};
 ghost use Rattle.hh_faults.specs.Status.{status_of};
 ghost use Rattle.hh_faults.specs.declared.error.ToolError.TheVariants.{Memory, WriteFault as NotWritten};
 
-use crate::records::{BadRecordCause, ReadError, TextError};
+use crate::records::{BadRecordCause, TextError};
 use crate::saved::SavedFault;
 use std::alloc::AllocError;
 use thiserror::Error;
@@ -160,18 +160,6 @@ impl From<AllocError> for ToolError {
 
     fn from(_: AllocError) -> ToolError {
         ToolError::Memory
-    }
-}
-
-impl From<ReadError> for ToolError {
-    ghost from_gives = { λ error fault. fault ≡ read_fault error };
-
-    fn from(error: ReadError) -> ToolError {
-        match error {
-            ReadError::ReadFault => ToolError::ReadFault,
-            ReadError::BadRecord { number, cause } => ToolError::BadRecord { number, cause },
-            ReadError::Memory => ToolError::Memory,
-        }
     }
 }
 

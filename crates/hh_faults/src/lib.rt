@@ -7,5 +7,5 @@ mod records;
 mod saved;
 
 pub use error::{KeyCause, MergeCause, ToolError, Totals, TreeFault, WriteFault};
-pub use records::{BadRecordCause, ReadError, TextError};
+pub use records::{BadRecordCause, TextError};
 pub use saved::SavedFault;

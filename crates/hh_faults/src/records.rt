@@ -1,8 +1,9 @@
 //! Why records are not read.
 
 ghost use Rattle.std.specs.Prelude.{◌≡◌};
-ghost use Rattle.hh_faults.specs.Faults.{text_error};
+ghost use Rattle.hh_faults.specs.declared.records.TextError.TheVariants.{Memory};
 
+use std::alloc::AllocError;
 use thiserror::Error;
 
 /// Why a record is refused, in the order of the tests.
@@ -29,21 +30,7 @@ pub enum BadRecordCause {
     TotalTooLarge,
 }
 
-/// Why a text was not read as a stream.
-#[derive(Clone, Copy, Debug, PartialEq, Eq, Error)]
-pub enum ReadError {
-    /// The reader failed.
-    #[error("input could not be read")]
-    ReadFault,
-    /// The record with this number, from 1 on, failed a test.
-    #[error("record {number}: {cause}")]
-    BadRecord { number: u64, cause: BadRecordCause },
-    /// The allocator had no memory.
-    #[error("out of memory")]
-    Memory,
-}
-
-/// Why the records of a text were not read by a layout.
+/// Why the records of a text were not read.
 #[derive(Clone, Copy, Debug, PartialEq, Eq, Error)]
 pub enum TextError {
     /// The reader failed.
@@ -60,14 +47,10 @@ pub enum TextError {
     Memory,
 }
 
-impl From<ReadError> for TextError {
-    ghost from_gives = { λ error fault. fault ≡ text_error error };
+impl From<AllocError> for TextError {
+    ghost from_gives = { λ _ error. error ≡ Memory };
 
-    fn from(error: ReadError) -> TextError {
-        match error {
-            ReadError::ReadFault => TextError::ReadFault,
-            ReadError::BadRecord { number, cause } => TextError::BadRecord { number, cause },
-            ReadError::Memory => TextError::Memory,
-        }
+    fn from(_: AllocError) -> TextError {
+        TextError::Memory
     }
 }

@@ -1,6 +1,6 @@
 -- The records of a text without quotes, or where a quote is a byte as any other, line by line.
 use Rattle.std.proofs.Common.{◌≡◌, ◌⊎◌, ◌∷◌, ◌++◌, ◌∙◌, inl, inr, ℕ, List, [], get_or, map, Bool, true, false, Option, Some, None, refl, sym, ap, append-nil, append_assoc}
-use Rattle.std.specs.Prelude.{⊤, ◌==◌, ◌&&◌, not, option_map, if◌then◌else◌}
+use Rattle.std.specs.Prelude.{◌==◌, ◌&&◌, not, option_map, if◌then◌else◌}
 use Rattle.std.specs.Bool.{OnTrue}
 use Rattle.std.specs.List.{AllByRecursion, join_with_byte, onto_first, slice_split}
 use Rattle.std.proofs.lemmas.List.Splits.{join_with_byte-slice_split}

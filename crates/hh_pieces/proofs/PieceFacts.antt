@@ -8,11 +8,8 @@ use Rattle.std.proofs.lemmas.List.Sums.{sum_by-append, sum_by-cons}
 use Rattle.hh_stream.specs.Cuttings.{whole_of}
 use Rattle.hh_stream.specs.Weights.{Bytes, Entry, max_key_len, max_total, total_of}
 use Rattle.hh_records.specs.declared.layout.Layout.{Layout}
-use Rattle.hh_faults.specs.Faults.{text_error}
 use Rattle.hh_faults.specs.declared.records.BadRecordCause.{BadRecordCause}
 use Rattle.hh_faults.specs.declared.records.BadRecordCause.TheVariants as cause
-use Rattle.hh_faults.specs.declared.records.ReadError.{ReadError}
-use Rattle.hh_faults.specs.declared.records.ReadError.TheVariants as read
 use Rattle.hh_faults.specs.declared.records.TextError.{TextError}
 use Rattle.hh_faults.specs.declared.records.TextError.TheVariants as text
 use Rattle.hh_pieces.specs.Laws.{PiecesAreRead}
@@ -229,15 +226,16 @@ module _ (layout : Layout) (columns : Option Places) where
   open-refused (Some bytes) t text.Memory h = tt
 
   -- and one to read the records of an open one
-  pub rows-refused : (bytes : Option (List ℕ)) (t : ℕ) (left : Option (List Parts)) (error : ReadError)
+  pub rows-refused : (bytes : Option (List ℕ)) (t : ℕ) (left : Option (List Parts)) (error : TextError)
       → IfSome (option_map (piece_parts layout columns) bytes)
       (λ known. (ps : List Parts) × (left ≡ Some ps) × (known ≡ Some ps))
-      → RowsRefused layout 0 t left error → IfSome bytes (λ bytes. PieceRefused layout columns bytes t (text_error error))
+      → RowsRefused layout 0 t left error → IfSome bytes (λ bytes. PieceRefused layout columns bytes t error)
   rows-refused None t left error h refused = tt
-  rows-refused (Some bytes) t left read.ReadFault h refused = tt
-  rows-refused (Some bytes) t left (read.BadRecord n c) (ps, is, e) refused =
+  rows-refused (Some bytes) t left text.ReadFault h refused = tt
+  rows-refused (Some bytes) t left text.NoColumn h refused = absurd refused
+  rows-refused (Some bytes) t left (text.BadRecord n c) (ps, is, e) refused =
       rw e (ap Some (rw is at refused))
-  rows-refused (Some bytes) t left read.Memory h refused = tt
+  rows-refused (Some bytes) t left text.Memory h refused = tt
 
 -- ---- the records of pieces
 module _ {A B : Type 0} (f : A → Option (List B)) where

@@ -9,7 +9,7 @@ ghost use Rattle.hh_records.specs.Layouts.{PartsRefused, RowsRefused, adds, item
 ghost use Rattle.hh_pieces.specs.Lines as spec;
 ghost use Rattle.hh_pieces.specs.Lines.{HasNoReturn, IsUnquoted, filled_lines, parts_in_line};
 
-use hh_faults::ReadError;
+use hh_faults::TextError;
 use hh_records::{Format, Layout, RecordFault, numbered_fault, take_parts};
 use hh_stream::TakeItems;
 use memchr::{memchr, memchr2};
@@ -146,7 +146,7 @@ pub(crate) fn read_lines<T: TakeItems>(
     taker: &mut T,
     bad: &mut u64,
     layout: &Layout,
-) -> Result<(), ReadError>
+) -> Result<(), TextError>
     requires bounded { T.weight_taken taker.old ≤ max_total }
     ensures items { OnOk result
         (Takes T.with_item T.weight_taken taker.old taker.new (λ xs.

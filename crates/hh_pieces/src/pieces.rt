@@ -230,10 +230,8 @@ pub fn read_piece<T: TakeItems>(
     let _ = taker.total();
     if let Some(text) = plain_text(layout, columns, piece) {
         let separator = separator_of(layout.format, layout.delimiter);
-        return match read_lines(alloc, text, separator, taker, bad, layout) {
-            Ok(()) => Ok(()),
-            Err(error) => Err(TextError::from(error)),
-        };
+        read_lines(alloc, text, separator, taker, bad, layout)?;
+        return Ok(());
     }
     read_left(alloc, layout, columns, piece, bad, taker)
 }
@@ -266,6 +264,6 @@ pub(crate) fn read_left<R: Read + Drop, T: TakeItems>(
     };
     match read_rows(alloc, text, 0, taker, bad, layout) {
         Ok(_) => Ok(()),
-        Err(error) => Err(TextError::from(error)),
+        Err(error) => Err(error),
     }
 }

@@ -6,12 +6,12 @@ use Rattle.csv.specs.declared.parser.Config.{Config}
 use Rattle.csv.specs.declared.parser.State.{State}
 use Rattle.csv.specs.declared.parser.State.TheVariants as st
 use Rattle.csv.specs.declared.reader.Reader.{Reader}
-use Rattle.hh_records.specs.declared.layout.ChoiceFault.{ChoiceFault}
-use Rattle.hh_records.specs.declared.layout.ChoiceFault.TheVariants as choice
+use Rattle.hh_faults.specs.declared.records.TextError.{TextError}
+use Rattle.hh_faults.specs.declared.records.TextError.TheVariants as text
 use Rattle.hh_records.specs.declared.layout.ChosenLayout.{ChosenLayout}
 use Rattle.hh_records.specs.declared.layout.Layout.{Layout}
 use Rattle.hh_records.specs.declared.retrying.Retrying.{Retrying}
-use Rattle.hh_records.specs.Layouts.{ChoiceRefused, FindsColumns, IsStart, OpenRefused, Opens, Places, between, choice_fault, chosen_places, config_of, names_columns, parts_at, places_in, rows_in, text_parts, unread}
+use Rattle.hh_records.specs.Layouts.{ColumnsRefused, FindsColumns, IsStart, OpenRefused, Opens, Places, between, chosen_places, config_of, names_columns, parts_at, places_in, rows_in, text_parts, unread}
 use Rattle.hh_records.specs.Streams.{Fields, Parts}
 use Rattle.hh_records.proofs.ReadFacts.{header-missed, header-taken}
 
@@ -76,7 +76,9 @@ module _ {R : Type 0} (remaining : R → Option (List ℕ)) (layout : Layout) (p
       rw (plain, at) refl
 
   -- so a layout that is refused without a header is refused with the text
-  pub refused-plain : (x : ChoiceFault) (o : Option (List ℕ)) → ChoiceRefused layout f x
-      → OpenRefused (names_columns layout) (option_map (text_parts layout) o) (choice_fault x)
-  refused-plain choice.Memory o h = tt
-  refused-plain choice.NoColumn o h = (h.0, none-plain o h.1)
+  pub refused-plain : (x : TextError) (o : Option (List ℕ)) → ColumnsRefused layout (places_in layout f) x
+      → OpenRefused (names_columns layout) (option_map (text_parts layout) o) x
+  refused-plain text.Memory o h = tt
+  refused-plain text.NoColumn o h = (h.0, none-plain o h.1)
+  refused-plain text.ReadFault o h = absurd h
+  refused-plain (text.BadRecord n c) o h = absurd h

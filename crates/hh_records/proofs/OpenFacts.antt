@@ -5,11 +5,8 @@ use Rattle.std.proofs.lemmas.List.Sums.{sum_by-append}
 use Rattle.hh_stream.specs.Weights.{Entry, total_of}
 use Rattle.hh_records.specs.declared.layout.Layout.{Layout}
 use Rattle.hh_faults.specs.declared.records.BadRecordCause.{BadRecordCause}
-use Rattle.hh_faults.specs.declared.records.ReadError.{ReadError}
-use Rattle.hh_faults.specs.declared.records.ReadError.TheVariants as read
 use Rattle.hh_records.specs.declared.texts.Records.{Records}
 use Rattle.hh_records.specs.declared.texts.Text.{Text}
-use Rattle.hh_faults.specs.Faults.{text_error}
 use Rattle.hh_faults.specs.declared.records.TextError.{TextError}
 use Rattle.hh_faults.specs.declared.records.TextError.TheVariants as text
 use Rattle.hh_records.specs.Laws.{PlainLayoutsReadStreams}
@@ -270,12 +267,13 @@ module _ {R : Type 0} (remaining : R → Option (List ℕ)) (layout : Layout) (t
                   ∙ rw (number, total) refl,
             )
 
-    pub texts-refused : (x : ReadError) → TextsSoFar (one ∷ rest) xs n
+    pub texts-refused : (x : TextError) → TextsSoFar (one ∷ rest) xs n
         → RowsRefused layout n (t + total_of xs) (parts_left remaining one) x
         → RowsRefused layout 0 t (all_left remaining all) x
-    texts-refused read.ReadFault h k = tt
-    texts-refused read.Memory h k = tt
-    texts-refused (read.BadRecord m c) h k = by (all_left remaining all) h k
+    texts-refused text.ReadFault h k = tt
+    texts-refused text.Memory h k = tt
+    texts-refused text.NoColumn h k = k
+    texts-refused (text.BadRecord m c) h k = by (all_left remaining all) h k
       where
         known : (o : Option (List Parts)) (rs : List Parts) → o ≡ Some rs
             → IfSome o (λ rs. items_after layout (n + 1) (t + total_of xs) rs ≡ Err (m, c))
@@ -335,14 +333,15 @@ module _ {R : Type 0} (remaining : R → Option (List ℕ)) (layout : Layout) (r
       → IfSome (option_map (stream_with layout) (every remaining readers)) (λ s. s ≡ Some (Ok xs))
   records-read xs = reads-as (Ok xs)
 
-  pub records-refused : (names : Bool) (x : ReadError) → RowsRefused layout 0 0 (all_left remaining texts) x
+  pub records-refused : (names : Bool) (x : TextError) → RowsRefused layout 0 0 (all_left remaining texts) x
       → TextsRefused (record {
         names_columns = names;
         reading = option_map (stream_with layout) (every remaining readers);
-      }) (text_error x)
-  records-refused names read.ReadFault h = tt
-  records-refused names read.Memory h = tt
-  records-refused names (read.BadRecord n c) h = reads-as (Err (n, c)) h
+      }) x
+  records-refused names text.ReadFault h = tt
+  records-refused names text.Memory h = tt
+  records-refused names text.NoColumn h = absurd h
+  records-refused names (text.BadRecord n c) h = reads-as (Err (n, c)) h
 
 pub not-opened : {R : Type 0} (remaining : R → Option (List ℕ)) (layout : Layout) (readers : List R) (names : Bool)
     (x : TextError) → OpenRefused names (option_map (texts_parts layout) (every remaining readers)) x

@@ -20,11 +20,11 @@ use Rattle.hh_stream.specs.Weights.{Entry, total_of}
 use Rattle.hh_records.proofs.DecimalFacts.{units-whole}
 use Rattle.hh_faults.specs.declared.records.BadRecordCause.{BadRecordCause}
 use Rattle.hh_faults.specs.declared.records.BadRecordCause.TheVariants as cause
+use Rattle.hh_faults.specs.declared.records.TextError.{TextError}
+use Rattle.hh_faults.specs.declared.records.TextError.TheVariants as text
 use Rattle.hh_records.specs.declared.records.RecordFault.{RecordFault}
 use Rattle.hh_records.specs.declared.records.RecordFault.TheVariants as fault
-use Rattle.hh_records.specs.Layouts.{ChoiceRefused, IsPlain, IsStart, OpenRefused, Opens, PartsRefused, RowsRefused, added, adding_next, adds, adds_instead, adds_itself, between, by_columns, choice_fault, chosen_places, columns_among, config_of, configured, counted_as, field_names, gathered, headed_parts, items_after, joined, member_names, names_columns, parts_at, parts_by, places_in, text_parts, texts_parts}
-use Rattle.hh_records.specs.declared.layout.ChoiceFault.{ChoiceFault}
-use Rattle.hh_records.specs.declared.layout.ChoiceFault.TheVariants as choice
+use Rattle.hh_records.specs.Layouts.{ColumnsRefused, IsPlain, IsStart, OpenRefused, Opens, PartsRefused, RowsRefused, added, adding_next, adds, adds_instead, adds_itself, between, by_columns, chosen_places, columns_among, config_of, configured, counted_as, field_names, gathered, headed_parts, items_after, joined, member_names, names_columns, parts_at, parts_by, places_in, text_parts, texts_parts}
 use Rattle.hh_records.specs.declared.layout.ChosenLayout.{ChosenLayout}
 use Rattle.hh_records.specs.declared.layout.Layout.{Layout}
 use Rattle.hh_records.specs.declared.retrying.Retrying.{Retrying}
@@ -398,10 +398,12 @@ module _ {R : Type 0} (remaining : R → Option (List ℕ)) (layout : Layout) (a
       rw (all, places) refl
 
   -- with a header that lacks a column, or with no memory
-  pub opened-refused : (x : ChoiceFault) (o : Option (List ℕ)) → source_of rem a ≡ o → ReadRecord rem a b true f
-      → ChoiceRefused layout f x → OpenRefused (names_columns layout) (option_map parts o) (choice_fault x)
-  opened-refused choice.Memory o e r h = tt
-  opened-refused choice.NoColumn o e r h = (h.0, opened-not o e r h.1)
+  pub opened-refused : (x : TextError) (o : Option (List ℕ)) → source_of rem a ≡ o → ReadRecord rem a b true f
+      → ColumnsRefused layout (places_in layout f) x → OpenRefused (names_columns layout) (option_map parts o) x
+  opened-refused text.Memory o e r h = tt
+  opened-refused text.NoColumn o e r h = (h.0, opened-not o e r h.1)
+  opened-refused text.ReadFault o e r h = absurd h
+  opened-refused (text.BadRecord n c) o e r h = absurd h
 
 -- ---- the layout of a key and its weight
 unadded : (x : BadRecordCause) → added false (Err x) ≡ Err x

@@ -19,8 +19,6 @@ use Rattle.hh_records.specs.Formats.{Names, Part, byte_between, fields_by, has_q
 use Rattle.hh_records.specs.Streams.{Fields, Known, Parts, Reading, ReadsAs, item_of_key, parts_of}
 use Rattle.hh_records.specs.declared.format.Format.{Format}
 use Rattle.hh_records.specs.declared.format.Format.TheVariants as format
-use Rattle.hh_records.specs.declared.layout.ChoiceFault.{ChoiceFault}
-use Rattle.hh_records.specs.declared.layout.ChoiceFault.TheVariants as choice
 use Rattle.hh_records.specs.declared.layout.ColumnIndices.{ColumnIndices}
 use Rattle.hh_records.specs.declared.layout.Column.{Column}
 use Rattle.hh_records.specs.declared.layout.Column.TheVariants as column
@@ -28,8 +26,6 @@ use Rattle.hh_records.specs.declared.layout.Layout.{Layout}
 use Rattle.hh_records.specs.declared.layout.ChosenLayout.{ChosenLayout}
 use Rattle.hh_faults.specs.declared.records.BadRecordCause.{BadRecordCause}
 use Rattle.hh_faults.specs.declared.records.BadRecordCause.TheVariants as cause
-use Rattle.hh_faults.specs.declared.records.ReadError.{ReadError}
-use Rattle.hh_faults.specs.declared.records.ReadError.TheVariants as read
 use Rattle.hh_records.specs.declared.records.RecordFault.{RecordFault}
 use Rattle.hh_records.specs.declared.records.RecordFault.TheVariants as fault
 use Rattle.hh_records.specs.declared.retrying.Retrying.{Retrying}
@@ -281,11 +277,11 @@ pub record IsPlain (layout : Layout) : Type 0 where
   pub no_bad : layout.bad_as ≡ None
   pub whole : layout.decimals ≡ 0
 
--- what a refusal to choose says
-abbrev pub ChoiceRefused : Layout → Fields → ChoiceFault → Type 0
-ChoiceRefused layout header choice.NoColumn =
-    (names_columns layout ≡ true) × (places_in layout header ≡ None)
-ChoiceRefused layout header choice.Memory = ⊤
+-- what a refusal to find the columns of a layout says, where this is what there is of them
+abbrev pub ColumnsRefused : {A : Type 0} → Layout → Option A → TextError → Type 0
+ColumnsRefused layout found text.NoColumn = (names_columns layout ≡ true) × (found ≡ None)
+ColumnsRefused layout found text.Memory = ⊤
+ColumnsRefused layout found _ = ⊥
 
 -- the records of a text, each as its key and its weight's field; an empty text has no header, and no
 -- records
@@ -353,21 +349,17 @@ parts_left remaining text =
 
 -- what a refusal to read the records of a text says, where this number of others come before them
 -- and a total of t
-abbrev pub RowsRefused : Layout → ℕ → ℕ → Option (List Parts) → ReadError → Type 0
-RowsRefused layout before t left read.ReadFault = ⊤
-RowsRefused layout before t left (read.BadRecord n c) =
+abbrev pub RowsRefused : Layout → ℕ → ℕ → Option (List Parts) → TextError → Type 0
+RowsRefused layout before t left text.ReadFault = ⊤
+RowsRefused layout before t left text.NoColumn = ⊥
+RowsRefused layout before t left (text.BadRecord n c) =
     IfSome left (λ ps. items_after layout (before + 1) t ps ≡ Err (n, c))
-RowsRefused layout before t left read.Memory = ⊤
+RowsRefused layout before t left text.Memory = ⊤
 
 -- the records that a text has left, and none where it was to have a header and has no record
 abbrev pub text_left : {R : Type 0} → (R → Option (List ℕ)) → Option (Text R) → Option (List Parts)
 text_left remaining None = Some []
 text_left remaining (Some text) = parts_left remaining text
-
--- the error that a fault of choosing columns is
-abbrev pub choice_fault : ChoiceFault → TextError
-choice_fault choice.NoColumn = text.NoColumn
-choice_fault choice.Memory = text.Memory
 
 -- what a refusal to open texts says of their records, where they are known
 abbrev pub OpenRefused : Bool → Option (Option (List Parts)) → TextError → Type 0

@@ -1,5 +1,5 @@
 -- The stream that a text of records writes.
-use Rattle.std.specs.Prelude.{◌≡◌, ◌==◌, ◌+◌, nat_le, ℕ, Bool, false, List, [], ◌∷◌, ◌++◌, length, Option, Some, None, IfSome, option_map, Result, Ok, Err, ⊤, if◌then◌else◌}
+use Rattle.std.specs.Prelude.{◌≡◌, ◌==◌, ◌+◌, nat_le, ℕ, Bool, false, List, [], ◌∷◌, ◌++◌, length, Option, Some, None, IfSome, option_map, Result, Ok, Err, if◌then◌else◌}
 use Rattle.csv.specs.Reading.{default_config, records, strip_bom}
 use Rattle.csv.specs.declared.error.ErrorKind.{ErrorKind}
 use Rattle.csv.specs.declared.error.ErrorKind.TheVariants as kind
@@ -7,8 +7,8 @@ use Rattle.hh_stream.specs.Digits.{is_number, value_of}
 use Rattle.hh_stream.specs.Weights.{Bytes, Entry, total_of, max_total, max_key_len}
 use Rattle.hh_faults.specs.declared.records.BadRecordCause.{BadRecordCause}
 use Rattle.hh_faults.specs.declared.records.BadRecordCause.TheVariants as cause
-use Rattle.hh_faults.specs.declared.records.ReadError.{ReadError}
-use Rattle.hh_faults.specs.declared.records.ReadError.TheVariants as read
+use Rattle.hh_faults.specs.declared.records.TextError.{TextError}
+use Rattle.hh_faults.specs.declared.records.TextError.TheVariants as text
 use Rattle.hh_records.specs.declared.records.RecordFault.{RecordFault}
 use Rattle.hh_records.specs.declared.records.RecordFault.TheVariants as fault
 
@@ -101,19 +101,13 @@ text_known left = record {
 abbrev pub ReadsAs : Known → Reading → Type 0
 ReadsAs known reading = IfSome known.reading (λ r. r ≡ Some reading)
 
--- what a refusal says of the records
-abbrev pub ReadRefused : Known → ReadError → Type 0
-ReadRefused known read.ReadFault = ⊤
-ReadRefused known (read.BadRecord n c) = ReadsAs known (Err (n, c))
-ReadRefused known read.Memory = ⊤
-
 -- how a fault of csv's reader ends the reading: its want of memory is Memory, and any other fault
 -- is one of the reader underneath
-abbrev pub fault_of : ErrorKind → ReadError
-fault_of kind.OutOfMemory = read.Memory
-fault_of _ = read.ReadFault
+abbrev pub fault_of : ErrorKind → TextError
+fault_of kind.OutOfMemory = text.Memory
+fault_of _ = text.ReadFault
 
 -- the refusal that has a record's number with its fault
-abbrev pub numbered_fault : ℕ → RecordFault → ReadError
-numbered_fault n (fault.Bad c) = read.BadRecord n c
-numbered_fault n fault.Memory = read.Memory
+abbrev pub numbered_fault : ℕ → RecordFault → TextError
+numbered_fault n (fault.Bad c) = text.BadRecord n c
+numbered_fault n fault.Memory = text.Memory

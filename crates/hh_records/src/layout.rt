@@ -2,16 +2,16 @@
 
 ghost use Rattle.std.specs.Prelude.{◌≡◌, [], map, option_map, Some, None, Ok, Err, true, IfOk, IfErr, IfSome};
 ghost use Rattle.csv.specs.Records.{fields_of};
-ghost use Rattle.hh_records.specs.Layouts.{ChoiceRefused, IsPlain, NamesColumn, chosen_columns, chosen_places, columns_among};
+ghost use Rattle.hh_records.specs.Layouts.{ColumnsRefused, IsPlain, NamesColumn, chosen_columns, chosen_places, columns_among};
 ghost use Rattle.hh_records.specs.Layouts.{delimiter_of, field_names, key_places, member_names, name_of, named_from};
-ghost use Rattle.hh_records.specs.Layouts.{names_columns, place_of, places_in, places_of};
+ghost use Rattle.hh_records.specs.Layouts.{place_of, places_in, places_of};
 ghost use Rattle.hh_records.specs.Formats.{names_said};
 ghost use Rattle.std.specs.List.{flat_map};
-ghost use Rattle.hh_records.specs.declared.layout.ChoiceFault.TheVariants.{Memory, NoColumn};
 
 use crate::format::{Format, KeyPart, MemberNames, Spare, fields_by};
 use crate::records::number_in;
 use csv::ByteRecord;
+use hh_faults::TextError;
 use hh_stream::KeyHash;
 use std::alloc::{AllocError, Global};
 use std::sync::Arc;
@@ -195,12 +195,6 @@ impl ChosenLayout {
     }
 }
 
-/// Why the columns of a layout were not found.
-pub(crate) enum ChoiceFault {
-    NoColumn,
-    Memory,
-}
-
 /// Finds the place of the first field of `header` like `name`.
 fn named(header: &ByteRecord, name: &[u8]) -> Option<usize>
     ensures { result ≡ named_from name.now 0 (fields_of header.now) }
@@ -275,11 +269,11 @@ fn columns_among(
     alloc: Global,
     layout: &Layout,
     header: &ByteRecord,
-) -> Result<Option<ColumnIndices>, ChoiceFault>
+) -> Result<Option<ColumnIndices>, TextError>
     ensures columns { IfOk result (λ columns.
         columns_among layout.now (fields_of header.now) ≡ Some (chosen_columns columns)) }
-    ensures missing { result ≡ Err NoColumn → (names_columns layout.now ≡ true)
-        × (columns_among layout.now (fields_of header.now) ≡ None) }
+    ensures refused { IfErr result
+        (ColumnsRefused layout.now (columns_among layout.now (fields_of header.now))) }
 {
     if layout.key.is_empty() && layout.weight.is_none() {
         return Ok(None);
@@ -287,22 +281,14 @@ fn columns_among(
     let weight = match &layout.weight {
         None => None,
         Some(column) => match place_of(header, column) {
-            None => return Err(ChoiceFault::NoColumn),
+            None => return Err(TextError::NoColumn),
             place => place,
         },
     };
     match key_places(alloc, header, layout.key.as_slice()) {
         Ok(Some(key)) => Ok(Some(ColumnIndices { key, weight })),
-        Ok(None) => Err(ChoiceFault::NoColumn),
-        Err(AllocError) => Err(ChoiceFault::Memory),
-    }
-}
-
-impl From<AllocError> for ChoiceFault {
-    ghost from_gives = { λ _ fault. fault ≡ Memory };
-
-    fn from(_: AllocError) -> ChoiceFault {
-        ChoiceFault::Memory
+        Ok(None) => Err(TextError::NoColumn),
+        Err(AllocError) => Err(TextError::Memory),
     }
 }
 
@@ -342,13 +328,13 @@ fn columns_in(
     layout: &Layout,
     names: &MemberNames,
     header: &ByteRecord,
-) -> Result<Option<ColumnIndices>, ChoiceFault>
+) -> Result<Option<ColumnIndices>, TextError>
     requires names { names_said names.now ≡ member_names layout.now }
     ensures columns { IfOk result (λ columns.
         columns_among layout.now (field_names layout.now (fields_of header.now))
         ≡ Some (chosen_columns columns)) }
-    ensures missing { result ≡ Err NoColumn → (names_columns layout.now ≡ true)
-        × (columns_among layout.now (field_names layout.now (fields_of header.now)) ≡ None) }
+    ensures refused { IfErr result (ColumnsRefused layout.now
+        (columns_among layout.now (field_names layout.now (fields_of header.now)))) }
 {
     if layout.format.is_json() {
         return columns_among(alloc, layout, &names.to_row(alloc)?);
@@ -364,11 +350,11 @@ pub(crate) fn choose(
     alloc: Global,
     layout: &Layout,
     header: &ByteRecord,
-) -> Result<ChosenLayout, ChoiceFault>
+) -> Result<ChosenLayout, TextError>
     ensures chosen { IfOk result (λ chosen.
         places_in layout.now (fields_of header.now) ≡ Some (chosen_places chosen)) }
-    ensures refused { IfErr result (λ fault.
-        ChoiceRefused layout.now (fields_of header.now) fault) }
+    ensures refused { IfErr result
+        (ColumnsRefused layout.now (places_in layout.now (fields_of header.now))) }
 {
     let names = member_names(alloc, layout)?;
     let columns = columns_in(alloc, layout, &names, header)?;

@@ -16,7 +16,7 @@ mod texts;
 
 pub use decimals::pointed;
 pub use format::{Format, KeyPart, MemberNames};
-pub use hh_faults::{BadRecordCause, ReadError, TextError};
+pub use hh_faults::{BadRecordCause, TextError};
 pub use hh_stream::TakeItems;
 pub use layout::{BadAs, ChosenLayout, Column, ColumnIndices, Layout, column_of, delimiter_of};
 pub use layout_words::{LayoutWords, layout_of};

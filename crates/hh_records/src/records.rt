@@ -9,9 +9,9 @@ ghost use Rattle.hh_stream.specs.Digits.{is_number, value_of};
 ghost use Rattle.hh_stream.specs.Taking.{Takes};
 ghost use Rattle.hh_records.specs.Formats.{part_said, with_part};
 ghost use Rattle.hh_records.specs.Layouts.{parts_by, chosen_columns};
-ghost use Rattle.hh_records.specs.Layouts.{InsteadRefused, IsText, PartsRefused, RowsRefused, adds, adds_instead, adds_itself, bad_key, chosen_places, fields_at, is_hyphen, items_after, items_of_weight, key_of, parts_at, parts_left, weight_at, weight_by};
+ghost use Rattle.hh_records.specs.Layouts.{InsteadRefused, IsText, PartsRefused, RowsRefused, TextsRefused, adds, adds_instead, adds_itself, bad_key, chosen_places, fields_at, is_hyphen, items_after, items_of_weight, key_of, parts_at, parts_left, weight_at, weight_by};
 ghost use Rattle.hh_records.specs.declared.records.RecordFault.TheVariants.{Memory};
-ghost use Rattle.hh_records.specs.Streams.{fault_of, numbered_fault, parts_of, ReadRefused, ReadsAs, text_known};
+ghost use Rattle.hh_records.specs.Streams.{fault_of, numbered_fault, parts_of, ReadsAs, text_known};
 ghost use Rattle.hh_records.specs.Taking.{TakesItems};
 
 use crate::decimals::{scaled, units_in};
@@ -20,7 +20,7 @@ use crate::layout::{ChosenLayout, Layout};
 use crate::retrying::Retrying;
 use crate::texts::{Records, Text, read_records};
 use csv::{ByteRecord, ErrorKind, Reader, WriterBuilder};
-use hh_faults::{BadRecordCause, ReadError, TextError};
+use hh_faults::{BadRecordCause, TextError};
 use hh_stream::{MAX_KEY_LEN, MAX_TOTAL, Stream, TakeItems};
 use std::alloc::{AllocError, Global};
 use std::io::Read;
@@ -383,24 +383,24 @@ fn take_record<T: TakeItems>(
 }
 
 /// Gives the error that has the `number` of a record with its `fault`.
-pub fn numbered_fault(number: u64, fault: RecordFault) -> ReadError
+pub fn numbered_fault(number: u64, fault: RecordFault) -> TextError
     ensures { result ≡ numbered_fault number fault }
 {
     match fault {
-        RecordFault::Bad(cause) => ReadError::BadRecord { number, cause },
-        RecordFault::Memory => ReadError::Memory,
+        RecordFault::Bad(cause) => TextError::BadRecord { number, cause },
+        RecordFault::Memory => TextError::Memory,
     }
 }
 
 /// The error that a fault of `csv`'s reader is: its want of memory, or a failure of the reader
 /// underneath.
-pub(crate) fn fault_of(fault: &ErrorKind) -> ReadError
+pub(crate) fn fault_of(fault: &ErrorKind) -> TextError
     requires { stops_reader fault.now ≡ true }
     ensures { result ≡ fault_of fault.now }
 {
     match fault {
-        ErrorKind::Io(_) => ReadError::ReadFault,
-        ErrorKind::OutOfMemory => ReadError::Memory,
+        ErrorKind::Io(_) => TextError::ReadFault,
+        ErrorKind::OutOfMemory => TextError::Memory,
         ErrorKind::UnequalLengths { .. }
         | ErrorKind::Utf8 { .. }
         | ErrorKind::Serialize(_)
@@ -418,7 +418,7 @@ fn take_rows<R: Read, T: TakeItems>(
     taker: &mut T,
     bad: &mut u64,
     layout: &Layout,
-) -> Result<u64, ReadError>
+) -> Result<u64, TextError>
     requires text { IsText (record { rows = rows.old; chosen = chosen.now }) }
     requires bounded { T.weight_taken taker.old ≤ max_total }
     ensures items { IfOk result (λ after.
@@ -444,7 +444,7 @@ fn take_rows<R: Read, T: TakeItems>(
             Err(fault) => return Err(numbered_fault(number, fault)),
         }
     }
-    Err(ReadError::ReadFault)
+    Err(TextError::ReadFault)
 }
 
 /// Hands on what each record of `text` adds, and counts all records, with the number of those
@@ -456,7 +456,7 @@ pub fn read_rows<R: Read + Drop, T: TakeItems>(
     taker: &mut T,
     bad: &mut u64,
     layout: &Layout,
-) -> Result<u64, ReadError>
+) -> Result<u64, TextError>
     requires text { IsText text }
     requires bounded { T.weight_taken taker.old ≤ max_total }
     ensures items { IfOk result (λ after.
@@ -483,20 +483,14 @@ pub fn read_items<R: Read + Drop, T: TakeItems>(
     alloc: Global,
     reader: R,
     taker: T,
-) -> Result<T, ReadError>
+) -> Result<T, TextError>
     requires none { T.weight_taken taker ≡ 0 }
     ensures items { IfOk result (λ taken.
         TakesItems T.with_item (text_known (R.remaining reader)) taker taken) }
     ensures refused { IfErr result (λ error.
-        ReadRefused (text_known (R.remaining reader)) error) }
+        TextsRefused (text_known (R.remaining reader)) error) }
 {
-    match read_records(alloc, Records::of_reader(alloc, reader), taker) {
-        Ok(taken) => Ok(taken),
-        Err(TextError::ReadFault) => Err(ReadError::ReadFault),
-        Err(TextError::NoColumn) => unreachable!("no column is named"),
-        Err(TextError::BadRecord { number, cause }) => Err(ReadError::BadRecord { number, cause }),
-        Err(TextError::Memory) => Err(ReadError::Memory),
-    }
+    read_records(alloc, Records::of_reader(alloc, reader), taker)
 }
 
 /// The stream of a text of records, each a key and, after a comma, its weight. A record of one
@@ -505,11 +499,11 @@ pub fn read_items<R: Read + Drop, T: TakeItems>(
 ///
 /// The first record that fails a test ends the reading: the error has its number, from 1 on, and
 /// the cause. A read that a signal interrupts is tried again.
-pub fn read_stream<R: Read + Drop>(alloc: Global, reader: R) -> Result<Stream, ReadError>
+pub fn read_stream<R: Read + Drop>(alloc: Global, reader: R) -> Result<Stream, TextError>
     ensures stream { IfOk result (λ stream.
         ReadsAs (text_known (R.remaining reader)) (Ok stream)) }
     ensures refused { IfErr result (λ error.
-        ReadRefused (text_known (R.remaining reader)) error) }
+        TextsRefused (text_known (R.remaining reader)) error) }
 {
     read_items(alloc, reader, Stream::new(alloc))
 }

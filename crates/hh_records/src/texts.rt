@@ -9,7 +9,7 @@ ghost use Rattle.hh_records.specs.Clips.{clipped_for};
 ghost use Rattle.hh_records.specs.Layouts.{AllOpen, IsStart, IsText, OpenRefused, Opens, OpensAs};
 ghost use Rattle.hh_stream.specs.Taking.{Takes};
 ghost use Rattle.hh_records.specs.Layouts.{RowsRefused, TextsRefused, all_left};
-ghost use Rattle.hh_records.specs.Layouts.{choice_fault, chosen_places, config_of, every, headed_parts, items_after};
+ghost use Rattle.hh_records.specs.Layouts.{chosen_places, config_of, every, headed_parts, items_after};
 ghost use Rattle.hh_records.specs.Layouts.{names_columns, records_known, texts_known};
 ghost use Rattle.hh_records.specs.Layouts.{text_parts, texts_parts, unread};
 ghost use Rattle.hh_records.specs.Layouts.{FindsColumns, rows_in};
@@ -18,25 +18,14 @@ ghost use Rattle.hh_records.specs.Taking.{TakesItems};
 
 use crate::clipped::Clipped;
 use crate::laws::plain_layouts_read_streams;
-use crate::layout::{ChoiceFault, ChosenLayout, Layout, choose};
+use crate::layout::{ChosenLayout, Layout, choose};
 use crate::records::{fault_of, read_rows};
 use crate::retrying::Retrying;
 use csv::{ByteRecord, Reader, ReaderBuilder};
-use hh_faults::{ReadError, TextError};
+use hh_faults::TextError;
 use hh_stream::{KeyHash, TakeItems};
 use std::alloc::{AllocError, Global};
 use std::io::{BufReader, Read};
-
-impl From<ChoiceFault> for TextError {
-    ghost from_gives = { λ fault error. error ≡ choice_fault fault };
-
-    fn from(fault: ChoiceFault) -> TextError {
-        match fault {
-            ChoiceFault::NoColumn => TextError::NoColumn,
-            ChoiceFault::Memory => TextError::Memory,
-        }
-    }
-}
 
 /// A text whose records are still to come.
 #[derive(Drop)]
@@ -86,11 +75,11 @@ fn after_header<R: Read>(
     match rows.read_byte_record(&mut header) {
         Ok(true) => {}
         Ok(false) => return Ok(None),
-        Err(error) => return Err(TextError::from(fault_of(error.kind()))),
+        Err(error) => return Err(fault_of(error.kind())),
     }
     match choose(alloc, layout, &header) {
         Ok(chosen) => Ok(Some(chosen)),
-        Err(fault) => Err(TextError::from(fault)),
+        Err(fault) => Err(fault),
     }
 }
 
@@ -115,7 +104,7 @@ pub fn open<R: Read + Drop>(
                 let rows = rows_of(alloc, reader, layout);
                 Ok(Some(Text { rows, chosen }))
             }
-            Err(fault) => Err(TextError::from(fault)),
+            Err(fault) => Err(fault),
         };
     }
     let mut rows = rows_of(alloc, reader, layout);
@@ -186,7 +175,7 @@ fn read_all<R: Read + Drop, T: TakeItems>(
     taker: &mut T,
     bad: &mut u64,
     layout: &Layout,
-) -> Result<(), ReadError>
+) -> Result<(), TextError>
     requires texts { All IsText texts.items }
     requires bounded { T.weight_taken taker.old ≤ max_total }
     ensures items { OnOk result
@@ -373,7 +362,7 @@ fn read_each<R: Read + Drop, T: TakeItems>(
             layout.set_bad_count(bad);
             Ok(taker)
         }
-        Err(error) => Err(TextError::from(error)),
+        Err(error) => Err(error),
     }
 }
 

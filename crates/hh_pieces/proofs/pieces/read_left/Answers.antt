@@ -39,7 +39,6 @@ returns-in-Err-clause-refused g c =
 
 pub returns-in-Err-read_rows-clause-refused : goal.returns-in-Err-read_rows-clause-refused
 returns-in-Err-read_rows-clause-refused g c =
-    rw c.from.ensures
-    (rows-refused c.args.layout.now (option_map (λ c. c.now) c.args.columns) (g.R.Read.remaining c.args.piece)
+    rows-refused c.args.layout.now (option_map (λ c. c.now) c.args.columns) (g.R.Read.remaining c.args.piece)
     (g.T.TakeItems.weight_taken c.args.taker.now) _ c.in-Err-read_rows.error
-    (rw c.in-Ok-Some.field-0-is at c.in-Ok-Some.ensures.opened) c.in-Err-read_rows.ensures.refused)
+    (rw c.in-Ok-Some.field-0-is at c.in-Ok-Some.ensures.opened) c.in-Err-read_rows.ensures.refused

@@ -30,10 +30,9 @@ returns-in-Ok-clause-opened g c =
 pub returns-clause-refused : goal.returns-clause-refused
 returns-clause-refused g c =
     let start = c.requires.start in
-    rw c.from-in-Err-choose.ensures
-    (opened-refused g.R.Read.remaining c.args.layout.now c.args.rows.now c.read_byte_record.new.self _ start c.in-Err-choose.fault
+    opened-refused g.R.Read.remaining c.args.layout.now c.args.rows.now c.read_byte_record.new.self _ start c.in-Err-choose.fault
     _ refl (rw c.in-Ok-true.field-0-test at (c.in-Ok-true.ensures.reads start.untrimmed start.ready))
-    c.in-Err-choose.ensures.refused)
+    c.in-Err-choose.ensures.refused
 
 pub returns-in-Ok-false-clause-columns : goal.returns-in-Ok-false-clause-columns
 returns-in-Ok-false-clause-columns g c =

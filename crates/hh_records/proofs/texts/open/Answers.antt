@@ -16,6 +16,5 @@ returns-in-Ok-clause-columns g c =
 
 pub returns-in-Err-clause-refused : goal.returns-in-Err-clause-refused
 returns-in-Err-clause-refused g c =
-    rw c.from.ensures
-    (refused-plain g.R.Read.remaining c.args.layout.now (search rules) _ c.new.ensures.fields c.in-Err.fault
-    (g.R.Read.remaining c.args.reader) c.in-Err.ensures.refused)
+    refused-plain g.R.Read.remaining c.args.layout.now (search rules) _ c.new.ensures.fields c.in-Err.fault
+    (g.R.Read.remaining c.args.reader) c.in-Err.ensures.refused

@@ -22,7 +22,6 @@ read_all-requires g c = record {
 
 pub returns-in-Err-clause-refused : goal.returns-in-Err-clause-refused
 returns-in-Err-clause-refused g c =
-    rw c.from.ensures
-    (records-refused g.R.Read.remaining c.args.layout.now (c.args.first ∷ c.args.others.items) c.in_ok-texts.texts.items
+    records-refused g.R.Read.remaining c.args.layout.now (c.args.first ∷ c.args.others.items) c.in_ok-texts.texts.items
     c.in_ok-texts.ensures.opened (names_columns c.args.layout.now) c.in-Err.error
-    (rw c.requires.none at c.in-Err.ensures.refused))
+    (rw c.requires.none at c.in-Err.ensures.refused)
